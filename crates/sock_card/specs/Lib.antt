@@ -1,0 +1,6 @@
+-- What the contracts of this crate and of those above it cite.
+pub mod Rank
+pub mod Conflict
+pub mod Agreement
+pub mod TimeWait
+pub mod Rows

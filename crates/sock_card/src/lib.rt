@@ -1,0 +1,20 @@
+//! The records of the kernel's socket tables, and the rules that speak of one or two of them.
+//!
+//! An [`Owner`] is a socket as the bind buckets see it: [`bind_conflict`] says which other owner of
+//! its port keeps it from being bound or from listening. A [`Card`] is a socket as lookups see it:
+//! [`rank`] says how well it matches a packet. All are plain numbers, and each function is exactly
+//! its definition in `specs/`; laws say that owners agree whichever comes first, and that what isn't
+//! refused agrees with what was there.
+//!
+//! ```text
+//! if owners.iter().any(|other| bind_conflict(&new, other)) {
+//!     return Reply::Eaddrinuse;
+//! }
+//! ```
+#![tactic(auto)]
+
+pub mod card;
+pub mod owner;
+
+pub use card::{Card, Kind, Packet, rank, tw_expired, tw_replaceable};
+pub use owner::{Owner, State, bind_conflict, overlap, strict_conflict};
