@@ -1,0 +1,31 @@
+//! The outside of the program: a source that is read, a sink that is written, a gate that workers
+//! pass, and the texts of numbers, addresses and ends.
+//!
+//! A `Source` and a `Sink` count their faults and, where they tell their bytes, have them in their
+//! contracts. So a caller proves what was read and written, and that a failure was a fault of the
+//! end that it was handed. `MemSource` and `MemSink` tell all, for tests; `StdSource` and `StdSink`
+//! go over std's readers and writers, and tell what those tell: of standard input and output,
+//! nothing.
+//!
+//! The contract that callers rest on: `read_all` gives all the bytes of a source, up to a limit;
+//! `write_all` writes all of a text, or a front of it where the sink failed.
+//!
+//! ```text
+//! let bytes = read_all(alloc, &mut source, 1_000_000)?;
+//! write_all(&mut sink, &bytes)?;
+//! ```
+#![tactic(auto)]
+
+mod ends;
+mod gate;
+mod memory;
+mod standard;
+mod text;
+mod transfer;
+
+pub use ends::{Failed, Sink, Source};
+pub use gate::{Gate, Open, Who};
+pub use memory::{MemSink, MemSource};
+pub use standard::{StdSink, StdSource};
+pub use text::{get_addr, get_end, get_num, put_addr, put_num, texts_differ};
+pub use transfer::{ReadEnd, read_all, write_all};
