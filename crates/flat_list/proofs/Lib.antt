@@ -1,0 +1,11 @@
+pub mod Written
+pub mod PutSection
+pub mod SocketStep
+pub mod LabelsGrow
+pub mod Puts
+pub mod GivenNames
+pub mod Soundness
+pub mod OneBest
+pub mod PortOrder
+pub mod PortAt
+pub mod Searches

@@ -1,0 +1,9 @@
+use Rattle.std.proofs.Common.{refl}
+use Rattle.sock_card.specs.Conflict.{overlap, refuses}
+use Rattle.sock_card.specs.Rank.{rank}
+use Rattle.flat_list.specs.Step.{step}
+use Rattle.flat_list.proofs.laws.rows.Goals as goal
+
+pub returns : goal.returns
+unfolding step overlap refuses rank
+returns c = record { shared_address = refl; devices = refl; slots = refl; accepted = refl; four_tuple = refl; freed = refl; refusals = refl; four_ports = refl; binds = refl; connects = refl; shared_port = refl; listener = refl; no_slot = refl; words = refl }

@@ -1,0 +1,95 @@
+-- `connect` and `accept`, their refusals in the order in which they are tested. Sources: connect(2), accept(2) and
+-- their errors; inet_stream_connect of net/ipv4/af_inet.c; __inet_hash_connect and __inet_check_established of
+-- net/ipv4/inet_hashtables.c. Our own: `accept` names the listener and both ends itself; which ends EINVAL refuses; a
+-- socket without a port needs a source named; which owners may share a port that `connect` chooses.
+use Rattle.std.specs.Prelude.{ℕ, Bool, true, ◌&&◌, not, Option, None, Some, if◌then◌else◌}
+use Rattle.sock_card.specs.declared.owner.State.{State}
+use Rattle.sock_card.specs.declared.owner.State.TheVariants as states
+use Rattle.flat_list.specs.declared.header.First.TheVariants as firsts
+use Rattle.flat_list.specs.declared.command.End.{End}
+use Rattle.flat_list.specs.declared.command.Reply.TheVariants as replies
+use Rattle.flat_list.specs.declared.socket.Socket.{Socket}
+use Rattle.flat_list.specs.Flat.{Flat}
+use Rattle.flat_list.specs.Outcome.{Outcome, unchanged, changed, added, has_slot, no_slot, Found, search_port}
+use Rattle.flat_list.specs.Owned.{connected_to, connected_at, child_owner, source_of, is_no_end, is_no_accept}
+use Rattle.flat_list.specs.Sockets.{has_twin, is_claimed}
+
+-- the socket, connected from that source to that end
+abbrev pub connected : Socket → ℕ → End → Socket
+connected s source to = record s { owner = connected_to s.owner source to }
+
+-- a socket's own end
+abbrev pub end_of : Socket → End
+end_of s = record { addr = s.owner.addr; port = s.owner.port }
+
+-- the connected socket takes the place of the one that it was
+abbrev pub connect_as : Flat → Socket → Outcome
+connect_as flat new =
+    if not (has_slot flat) then no_slot flat else changed flat new (replies.End (end_of new))
+
+-- from the bound port and that source, if there is one
+abbrev pub connect_from : Flat → Socket → End → Option ℕ → Outcome
+connect_from flat s to None = unchanged flat replies.Einval
+connect_from flat s to (Some source) =
+    let new = connected s source to in
+    if has_twin new.owner flat.sockets then unchanged flat replies.Eaddrnotavail else connect_as flat new
+
+-- `connect` of a Bound socket
+abbrev pub connect_bound : Flat → Socket → Option ℕ → End → Outcome
+connect_bound flat s from to =
+    if is_no_end to then unchanged flat replies.Einval
+    else connect_from flat s to (source_of s.owner.addr from)
+
+-- the socket, connected from that source and a port that was found, to that end
+abbrev pub connected_by_search : Socket → ℕ → End → ℕ → Socket
+connected_by_search s source to port = record s { owner = connected_at s.owner source port to }
+
+-- a port whose owners all had it chosen by `connect`, and with which the four-tuple is no full socket's
+abbrev pub suits_connect : Flat → Socket → ℕ → End → ℕ → Bool
+suits_connect flat s source to port =
+    not (is_claimed port flat.sockets) && not (has_twin (connected_by_search s source to port).owner flat.sockets)
+
+-- from the port that was found, if there is one
+abbrev pub connect_found : Found → Socket → ℕ → End → Option ℕ → Outcome
+connect_found found s source to None = unchanged found.flat replies.Eaddrnotavail
+connect_found found s source to (Some port) = connect_as found.flat (connected_by_search s source to port)
+
+-- from the first port that suits, even distances before odd ones
+abbrev pub connect_search : Flat → ℕ → Socket → End → Option ℕ → Outcome
+connect_search flat n s to None = unchanged flat replies.Einval
+connect_search flat n s to (Some source) =
+    let found = search_port flat n firsts.Even (suits_connect flat s source to) in
+    connect_found found s source to found.port
+
+-- `connect` of an Unbound socket, which has no address to be its source
+abbrev pub connect_unbound : Flat → ℕ → Socket → Option ℕ → End → Outcome
+connect_unbound flat n s from to =
+    if is_no_end to then unchanged flat replies.Einval else connect_search flat n s to (source_of 0 from)
+
+-- `connect` of a socket in that state, in the section of that number
+abbrev pub connect_socket : Flat → ℕ → Socket → State → Option ℕ → End → Outcome
+connect_socket flat n s states.Bound from to = connect_bound flat s from to
+connect_socket flat n s states.Unbound from to = connect_unbound flat n s from to
+connect_socket flat n s _ from to = unchanged flat replies.Eisconn
+
+abbrev pub connect : Flat → ℕ → Option Socket → Option ℕ → End → Outcome
+connect flat n None from to = unchanged flat replies.Ebadf
+connect flat n (Some s) from to = connect_socket flat n s s.owner.state from to
+
+-- the socket of that name which a listener accepts
+abbrev pub child_of : Socket → ℕ → End → End → Socket
+child_of l name from at = record { owner = child_owner l.owner name from at; named = true }
+
+-- the child comes beside its listener; no conflict of owners is looked for
+abbrev pub accept_as : Flat → Socket → Outcome
+accept_as flat child =
+    if has_twin child.owner flat.sockets then unchanged flat replies.Eaddrnotavail
+    else if not (has_slot flat) then no_slot flat
+    else added flat child replies.Ok
+
+-- `accept` under that name, once the child's label is given: after a refusal the label stays given, and names nothing
+abbrev pub accept : Flat → ℕ → Option Socket → End → End → Outcome
+accept flat name None from at = unchanged flat replies.Ebadf
+accept flat name (Some l) from at =
+    if is_no_accept l.owner from at then unchanged flat replies.Einval
+    else accept_as flat (child_of l name from at)

@@ -1,0 +1,14 @@
+-- What the contracts of this crate and of those above it cite.
+pub mod Ports
+pub mod Sections
+pub mod Flat
+pub mod Owned
+pub mod Sockets
+pub mod Outcome
+pub mod Look
+pub mod Connect
+pub mod Step
+pub mod Run
+pub mod Sound
+pub mod Rows
+pub mod Script

@@ -1,0 +1,97 @@
+-- What a command's words, and a socket's own state, make of its owner. Nothing here looks at other sockets, so the
+-- flat list, the buckets of a port's owners and the record of a race can all say a command's outcome by these.
+-- Sources: inet_csk_get_port, inet_csk_listen_start and inet_csk_clone_lock of net/ipv4/inet_connection_sock.c;
+-- tcp_v4_connect of net/ipv4/tcp_ipv4.c; bind(2), listen(2), connect(2), accept(2), ip(7). Which ends `connect` and
+-- `accept` refuse is our own rule.
+use Rattle.std.specs.Prelude.{ℕ, Bool, true, false, ◌==◌, ◌||◌, not, Option, None, Some, if◌then◌else◌, unwrap_or}
+use Rattle.sock_card.specs.declared.owner.Owner.{Owner}
+use Rattle.sock_card.specs.declared.owner.State.TheVariants as states
+use Rattle.sock_card.specs.declared.card.Card.{Card}
+use Rattle.sock_card.specs.declared.card.Kind.{Kind}
+use Rattle.sock_card.specs.declared.card.Packet.{Packet}
+use Rattle.sock_card.specs.Conflict.{is_listening}
+use Rattle.flat_list.specs.declared.command.End.{End}
+
+-- as `socket` makes it: without an end, its origin its own name
+abbrev pub new_owner : ℕ → Option ℕ → Bool → Owner
+new_owner name dev reuseaddr =
+    record {
+      name = name;
+      origin = name;
+      addr = 0;
+      port = 0;
+      remote = 0;
+      rport = 0;
+      dev = unwrap_or dev 0;
+      uid = 0;
+      reuseaddr = reuseaddr;
+      reuseport = false;
+      state = states.Unbound;
+      by_connect = false;
+    }
+
+-- bound to that end
+abbrev pub bound_at : Owner → ℕ → ℕ → Owner
+bound_at a addr port = record a { addr = addr; port = port; state = states.Bound }
+
+-- listening from then on
+abbrev pub as_listener : Owner → Owner
+as_listener a = record a { state = states.Listening }
+
+-- connected from that source to that end: both its ends stand, and it is full
+abbrev pub connected_to : Owner → ℕ → End → Owner
+connected_to a source to =
+    record a { addr = source; remote = to.addr; rport = to.port; state = states.Full }
+
+-- the same from a port that `connect` chose
+abbrev pub connected_at : Owner → ℕ → ℕ → End → Owner
+connected_at a source port to = record (connected_to a source to) { port = port; by_connect = true }
+
+-- the socket of that name which a listener accepts from one end at another: full, and all else as the listener has it,
+-- its origin too
+abbrev pub child_owner : Owner → ℕ → End → End → Owner
+child_owner l name from at =
+    record l {
+      name = name;
+      addr = at.addr;
+      port = at.port;
+      remote = from.addr;
+      rport = from.port;
+      state = states.Full;
+    }
+
+-- the source of `connect` for a socket bound to addr: that address, or where it is 0.0.0.0 the one named; none where
+-- none is named, or another than the bound one
+abbrev pub source_of : ℕ → Option ℕ → Option ℕ
+source_of addr None = if addr == 0 then None else Some addr
+source_of addr (Some from) =
+    if from == 0 then None else if (addr == 0) || (addr == from) then Some from else None
+
+-- an end that nothing can be connected to
+abbrev pub is_no_end : End → Bool
+is_no_end end = (end.addr == 0) || (end.port == 0)
+
+-- this is no listener, or none that could accept from one end at the other
+abbrev pub is_no_accept : Owner → End → End → Bool
+is_no_accept l from at =
+    not (is_listening l.state) || not (at.port == l.port) || (at.addr == 0)
+    || not ((l.addr == 0) || (l.addr == at.addr)) || is_no_end from
+
+-- the card of that kind under which lookups see it
+abbrev pub card_as : Kind → Owner → ℕ → Card
+card_as kind a extra =
+    record {
+      local = a.addr;
+      lport = a.port;
+      remote = a.remote;
+      rport = a.rport;
+      dev = a.dev;
+      kind = kind;
+      name = a.name;
+      extra = extra;
+    }
+
+-- the packet that the words of `look` tell of, from one end to another
+abbrev pub packet_of : End → End → Option ℕ → Packet
+packet_of from to dev =
+    record { src = from.addr; sport = from.port; dst = to.addr; dport = to.port; dev = unwrap_or dev 0 }

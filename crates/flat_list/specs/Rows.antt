@@ -1,0 +1,304 @@
+-- Worked examples, computed by the definitions: each line is a command of section 1 with its reply.
+use Rattle.std.specs.Prelude.{◌≡◌, ℕ, List, [], ◌∷◌, Option, None, Some, map, codes, false, true}
+use Rattle.sock_card.specs.declared.card.Kind.{Kind}
+use Rattle.sock_card.specs.declared.card.Kind.TheVariants as kinds
+use Rattle.flat_list.specs.declared.header.Header.{Header}
+use Rattle.flat_list.specs.declared.command.Command.{Command}
+use Rattle.flat_list.specs.declared.command.Command.TheVariants as commands
+use Rattle.flat_list.specs.declared.command.End.{End}
+use Rattle.flat_list.specs.declared.command.Reply.{Reply}
+use Rattle.flat_list.specs.declared.command.Reply.TheVariants as replies
+use Rattle.flat_list.specs.Flat.{new_flat}
+use Rattle.flat_list.specs.Run.{replies_to}
+use Rattle.flat_list.specs.Sections.{name_at}
+
+pub record Line : Type 0 where
+  pub command : Command
+  pub reply : Reply
+
+abbrev pub says : Command → Reply → Line
+says command reply = record { command = command; reply = reply }
+
+abbrev pub command_of : Line → Command
+command_of line = line.command
+
+abbrev pub reply_of : Line → Reply
+reply_of line = line.reply
+
+-- the lines' commands, one after the other, have the lines' replies
+abbrev pub Answer : Header → List Line → Type 0
+Answer header lines = replies_to (new_flat header) 1 (map command_of lines) ≡ map reply_of lines
+
+-- a header with that many slots
+abbrev pub with_slots : ℕ → Header
+with_slots slots =
+    record {
+      shape = record { slots = slots; bind = 1; hash = 1; listen = 1 };
+      range = record { low = 32768; high = 60999 };
+      seed = 0;
+      offset = None;
+    }
+
+-- a header with that range, and that offset if there is one
+abbrev pub with_range : ℕ → ℕ → Option ℕ → Header
+with_range low high offset = record (with_slots 1024) { range = record { low = low; high = high }; offset = offset }
+
+-- a header with that seed, for four ports
+abbrev pub with_seed : ℕ → Header
+with_seed seed = record (with_range 40000 40003 None) { seed = seed }
+
+-- labels
+abbrev pub a : List ℕ
+a = codes "a"
+
+abbrev pub b : List ℕ
+b = codes "b"
+
+abbrev pub c : List ℕ
+c = codes "c"
+
+abbrev pub d : List ℕ
+d = codes "d"
+
+abbrev pub e : List ℕ
+e = codes "e"
+
+abbrev pub f : List ℕ
+f = codes "f"
+
+-- 0.0.0.0, 10.0.0.1 and 10.0.0.2 at a port
+abbrev pub any : ℕ → End
+any port = record { addr = 0; port = port }
+
+abbrev pub one : ℕ → End
+one port = record { addr = 0x0A000001; port = port }
+
+abbrev pub two : ℕ → End
+two port = record { addr = 0x0A000002; port = port }
+
+abbrev pub socket : List ℕ → Command
+socket label = commands.Socket label None false
+
+abbrev pub on_device : List ℕ → ℕ → Command
+on_device label dev = commands.Socket label (Some dev) false
+
+abbrev pub reusable : List ℕ → Command
+reusable label = commands.Socket label None true
+
+abbrev pub connect : List ℕ → ℕ → Command
+connect label port = commands.Connect label None (two port)
+
+-- from 10.0.0.1, at a port that is searched for
+abbrev pub connect_from : List ℕ → ℕ → Command
+connect_from label port = commands.Connect label (Some 0x0A000001) (two port)
+
+-- from 10.0.0.2:1000 at 10.0.0.1:80
+abbrev pub accept : List ℕ → List ℕ → Command
+accept listener label = commands.Accept listener label (two 1000) (one 80)
+
+-- what a look answers that finds the socket of that name, kind and ends
+abbrev pub found : Kind → ℕ → End → End → Reply
+found kind name end remote =
+    replies.Found (Some (record {
+      local = end.addr;
+      lport = end.port;
+      remote = remote.addr;
+      rport = remote.port;
+      dev = 0;
+      kind = kind;
+      name = name;
+      extra = 0;
+    }))
+
+abbrev pub nowhere : End
+nowhere = record { addr = 0; port = 0 }
+
+-- sockets with `reuseaddr` share an end until one of them listens
+abbrev pub until_one_listens : List Line
+until_one_listens =
+    says (reusable a) replies.Ok
+    ∷ says (reusable b) replies.Ok
+    ∷ says (reusable c) replies.Ok
+    ∷ says (commands.Bind a (one 80)) (replies.Port 80)
+    ∷ says (commands.Bind b (one 80)) (replies.Port 80)
+    ∷ says (commands.Listen a) (replies.Port 80)
+    ∷ says (commands.Listen b) replies.Eaddrinuse
+    ∷ says (commands.Bind c (one 80)) replies.Eaddrinuse
+    ∷ says (commands.Listen a) (replies.Port 80)
+    ∷ []
+
+-- two devices keep sockets apart; a socket without one meets both
+abbrev pub beside_by_device : List Line
+beside_by_device =
+    says (on_device a 1) replies.Ok
+    ∷ says (on_device b 2) replies.Ok
+    ∷ says (socket c) replies.Ok
+    ∷ says (commands.Bind a (one 80)) (replies.Port 80)
+    ∷ says (commands.Bind b (one 80)) (replies.Port 80)
+    ∷ says (commands.Bind c (one 80)) replies.Eaddrinuse
+    ∷ []
+
+-- of two listeners one gets the only slot
+abbrev pub one_slot : List Line
+one_slot =
+    says (socket a) replies.Ok
+    ∷ says (socket b) replies.Ok
+    ∷ says (commands.Bind a (one 80)) (replies.Port 80)
+    ∷ says (commands.Bind b (one 81)) (replies.Port 81)
+    ∷ says (commands.Listen a) (replies.Port 80)
+    ∷ says (commands.Listen b) (replies.Enfile 1 0)
+    ∷ says (commands.Look (two 5) (one 80) None) (found kinds.Listen (name_at 1 0) (one 80) nowhere)
+    ∷ []
+
+-- a packet finds the accepted socket before its listener; a second one of its four-tuple is refused
+abbrev pub accepted_goes_first : List Line
+accepted_goes_first =
+    says (socket a) replies.Ok
+    ∷ says (commands.Bind a (one 80)) (replies.Port 80)
+    ∷ says (commands.Listen a) (replies.Port 80)
+    ∷ says (accept a c) replies.Ok
+    ∷ says (accept a d) replies.Eaddrnotavail
+    ∷ says (commands.Look (two 1000) (one 80) None) (found kinds.Full (name_at 1 1) (one 80) (two 1000))
+    ∷ says (commands.Drop d) replies.Ebadf
+    ∷ says (commands.Drop c) replies.Ok
+    ∷ says (commands.Look (two 1000) (one 80) None) (found kinds.Listen (name_at 1 0) (one 80) nowhere)
+    ∷ []
+
+-- of two sockets at one end one gets the four-tuple
+abbrev pub one_four_tuple : List Line
+one_four_tuple =
+    says (reusable a) replies.Ok
+    ∷ says (reusable b) replies.Ok
+    ∷ says (commands.Bind a (one 90)) (replies.Port 90)
+    ∷ says (commands.Bind b (one 90)) (replies.Port 90)
+    ∷ says (connect a 80) (replies.End (one 90))
+    ∷ says (connect b 80) replies.Eaddrnotavail
+    ∷ []
+
+-- the only slot goes from a listener to a connected socket
+abbrev pub slot_is_freed : List Line
+slot_is_freed =
+    says (socket a) replies.Ok
+    ∷ says (commands.Bind a (one 80)) (replies.Port 80)
+    ∷ says (commands.Listen a) (replies.Port 80)
+    ∷ says (accept a c) (replies.Enfile 1 0)
+    ∷ says (commands.Drop a) replies.Ok
+    ∷ says (accept a d) replies.Ebadf
+    ∷ says (socket b) replies.Ok
+    ∷ says (commands.Bind b (one 90)) (replies.Port 90)
+    ∷ says (connect b 80) (replies.End (one 90))
+    ∷ []
+
+-- each state of a socket refuses what doesn't fit it
+abbrev pub states_refuse : List Line
+states_refuse =
+    says (socket a) replies.Ok
+    ∷ says (connect a 80) replies.Einval
+    ∷ says (commands.Bind a (one 90)) (replies.Port 90)
+    ∷ says (commands.Bind a (one 91)) replies.Einval
+    ∷ says (commands.Connect a (Some 0x0A000003) (two 80)) replies.Einval
+    ∷ says (connect a 80) (replies.End (one 90))
+    ∷ says (commands.Listen a) replies.Einval
+    ∷ says (connect a 81) replies.Eisconn
+    ∷ says (commands.Accept a b (two 81) (one 90)) replies.Einval
+    ∷ says (commands.Drop a) replies.Ok
+    ∷ says (commands.Drop a) replies.Ebadf
+    ∷ says (commands.Drop b) replies.Ebadf
+    ∷ []
+
+-- in a range of four ports from 40000 on, offset 0: `bind` prefers odd distances, and neither it nor `connect` finds a
+-- fifth port
+abbrev pub four_ports : List Line
+four_ports =
+    says (socket a) replies.Ok
+    ∷ says (socket b) replies.Ok
+    ∷ says (socket c) replies.Ok
+    ∷ says (socket d) replies.Ok
+    ∷ says (socket e) replies.Ok
+    ∷ says (socket f) replies.Ok
+    ∷ says (commands.Bind a (any 0)) (replies.Port 40001)
+    ∷ says (commands.Bind b (any 0)) (replies.Port 40003)
+    ∷ says (commands.Bind c (any 0)) (replies.Port 40000)
+    ∷ says (commands.Bind d (any 0)) (replies.Port 40002)
+    ∷ says (commands.Bind e (any 0)) replies.Eaddrinuse
+    ∷ says (connect_from f 80) replies.Eaddrnotavail
+    ∷ []
+
+-- the same from offset 2 on
+abbrev pub binds_from_two : List Line
+binds_from_two =
+    says (socket a) replies.Ok
+    ∷ says (socket b) replies.Ok
+    ∷ says (socket c) replies.Ok
+    ∷ says (socket d) replies.Ok
+    ∷ says (commands.Bind a (any 0)) (replies.Port 40003)
+    ∷ says (commands.Bind b (any 0)) (replies.Port 40001)
+    ∷ says (commands.Bind c (any 0)) (replies.Port 40002)
+    ∷ says (commands.Bind d (any 0)) (replies.Port 40000)
+    ∷ []
+
+-- and `connect`, which prefers even distances
+abbrev pub connects_from_two : List Line
+connects_from_two =
+    says (socket a) replies.Ok
+    ∷ says (socket b) replies.Ok
+    ∷ says (socket c) replies.Ok
+    ∷ says (socket d) replies.Ok
+    ∷ says (connect_from a 80) (replies.End (one 40002))
+    ∷ says (connect_from b 80) (replies.End (one 40000))
+    ∷ says (connect_from c 80) (replies.End (one 40003))
+    ∷ says (connect_from d 80) (replies.End (one 40001))
+    ∷ []
+
+-- in a range of two ports: a port that `connect` chose serves each other end once
+abbrev pub shared_by_connect : List Line
+shared_by_connect =
+    says (socket a) replies.Ok
+    ∷ says (socket b) replies.Ok
+    ∷ says (socket c) replies.Ok
+    ∷ says (socket d) replies.Ok
+    ∷ says (connect_from a 80) (replies.End (one 40000))
+    ∷ says (connect_from b 80) (replies.End (one 40001))
+    ∷ says (connect_from c 80) replies.Eaddrnotavail
+    ∷ says (connect_from d 81) (replies.End (one 40000))
+    ∷ []
+
+-- a listener without a port takes one at each address
+abbrev pub listens_anywhere : List Line
+listens_anywhere =
+    says (socket a) replies.Ok
+    ∷ says (commands.Listen a) (replies.Port 40001)
+    ∷ says (commands.Look (two 5) (record { addr = 0x0A000007; port = 40001 }) None) (found kinds.Listen (name_at 1 0) (any 40001) nowhere)
+    ∷ []
+
+-- with one slot, a listener and a connection that find a port find no slot, and have no port afterwards
+abbrev pub port_without_slot : List Line
+port_without_slot =
+    says (socket a) replies.Ok
+    ∷ says (commands.Bind a (one 80)) (replies.Port 80)
+    ∷ says (commands.Listen a) (replies.Port 80)
+    ∷ says (socket b) replies.Ok
+    ∷ says (commands.Listen b) (replies.Enfile 1 0)
+    ∷ says (connect_from b 80) (replies.Enfile 1 0)
+    ∷ says (commands.Bind b (one 81)) (replies.Port 81)
+    ∷ []
+
+-- in a range of four ports, with words of the section's own generator, which give the offsets 2, 2 and 0: `connect`
+-- without a source draws none, and a `listen` that finds no port has drawn its own
+abbrev pub words_are_drawn : List Line
+words_are_drawn =
+    says (socket a) replies.Ok
+    ∷ says (socket b) replies.Ok
+    ∷ says (socket c) replies.Ok
+    ∷ says (socket d) replies.Ok
+    ∷ says (socket e) replies.Ok
+    ∷ says (commands.Bind a (any 0)) (replies.Port 40003)
+    ∷ says (connect e 80) replies.Einval
+    ∷ says (commands.Bind b (any 40001)) (replies.Port 40001)
+    ∷ says (commands.Bind c (any 40000)) (replies.Port 40000)
+    ∷ says (commands.Bind d (any 40002)) (replies.Port 40002)
+    ∷ says (commands.Listen e) replies.Eaddrinuse
+    ∷ says (commands.Drop a) replies.Ok
+    ∷ says (commands.Drop b) replies.Ok
+    ∷ says (commands.Bind e (any 0)) (replies.Port 40001)
+    ∷ []

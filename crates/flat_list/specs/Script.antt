@@ -1,0 +1,15 @@
+-- What a text says, once it is read: our own.
+use Rattle.std.specs.Prelude.{◌≤◌, ◌<◌, ◌^◌, List, length}
+use Rattle.list_words.specs.Lists.{Each}
+use Rattle.flat_list.specs.declared.header.Header.{Header}
+use Rattle.flat_list.specs.declared.command.Command.{Command}
+
+-- the header's values, and the commands of each section
+pub record Script : Type 0 where
+  pub header : Header
+  pub sections : List (List Command)
+
+-- sections have numbers to 64, and fewer commands than a section can name labels
+pub record IsSmall (script : Script) : Type 0 where
+  pub sections : length script.sections ≤ 64
+  pub commands : Each (λ (commands : List Command). length commands < 2 ^ 24) script.sections

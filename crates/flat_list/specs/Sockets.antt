@@ -1,0 +1,83 @@
+-- Questions about a list of sockets. Which of them take a slot and are seen by lookups follows the tables of
+-- net/ipv4/inet_hashtables.c; which owners of a port refuse another is inet_csk_bind_conflict of
+-- net/ipv4/inet_connection_sock.c, asked of every other owner. That devices don't keep two full sockets of one
+-- four-tuple apart is our own rule, and so is that `connect` shares a port only with owners for whom it chose that.
+use Rattle.std.specs.Prelude.{ℕ, Bool, true, false, ◌==◌, ◌&&◌, not, List, Option, None, Some, if◌then◌else◌, map, filter, find, count_by}
+use Rattle.std.specs.List.{list_any}
+use Rattle.sock_card.specs.declared.card.Kind.{Kind}
+use Rattle.sock_card.specs.declared.card.Kind.TheVariants as kinds
+use Rattle.sock_card.specs.declared.owner.Owner.{Owner}
+use Rattle.sock_card.specs.declared.owner.State.{State}
+use Rattle.sock_card.specs.declared.owner.State.TheVariants as states
+use Rattle.sock_card.specs.Conflict.{refuses, overlap}
+use Rattle.flat_list.specs.declared.socket.Socket.{Socket}
+
+-- the kind under which a socket of that state is looked up, if it is
+abbrev pub kind_of : State → Option Kind
+kind_of states.Listening = Some kinds.Listen
+kind_of states.Full = Some kinds.Full
+kind_of states.TimeWait = Some kinds.TimeWait
+kind_of _ = None
+
+-- a socket that lookups find, and that takes a slot
+abbrev pub is_hashed : State → Bool
+is_hashed states.Listening = true
+is_hashed states.Full = true
+is_hashed states.TimeWait = true
+is_hashed _ = false
+
+-- an owner is a socket that has a port
+abbrev pub is_owner : State → Bool
+is_owner states.Unbound = false
+is_owner _ = true
+
+abbrev pub has_name : ℕ → Socket → Bool
+has_name name s = s.owner.name == name
+
+-- the open socket of that name, which a label still names
+abbrev pub open_named : ℕ → List Socket → Option Socket
+open_named name sockets = find (λ s. has_name name s && s.named) sockets
+
+-- another socket than that of this name, which has a port
+abbrev pub is_other_owner : ℕ → Socket → Bool
+is_other_owner name s = is_owner s.owner.state && not (has_name name s)
+
+-- some other owner refuses this one
+abbrev pub is_refused : Owner → List Socket → Bool
+is_refused a sockets = list_any (λ s. is_other_owner a.name s && refuses a s.owner) sockets
+
+-- some other owner overlaps this one
+abbrev pub is_overlapped : Owner → List Socket → Bool
+is_overlapped a sockets = list_any (λ s. is_other_owner a.name s && overlap a s.owner) sockets
+
+-- some owner has the port, and `connect` didn't choose it for that owner
+abbrev pub is_claimed : ℕ → List Socket → Bool
+is_claimed port sockets =
+    list_any (λ s. is_owner s.owner.state && (s.owner.port == port) && not s.owner.by_connect) sockets
+
+abbrev pub is_full : State → Bool
+is_full states.Full = true
+is_full _ = false
+
+-- the two ends of one are those of the other
+abbrev pub same_tuple : Owner → Owner → Bool
+same_tuple a b = (a.addr == b.addr) && (a.port == b.port) && (a.remote == b.remote) && (a.rport == b.rport)
+
+-- some full socket has the owner's four-tuple
+abbrev pub has_twin : Owner → List Socket → Bool
+has_twin a sockets = list_any (λ s. is_full s.owner.state && same_tuple a s.owner) sockets
+
+-- the new socket where the old one has its name
+abbrev pub replaced : Socket → Socket → Socket
+replaced new s = if has_name new.owner.name s then new else s
+
+-- the sockets with this one in place of the one of its name
+abbrev pub put : Socket → List Socket → List Socket
+put new sockets = map (replaced new) sockets
+
+-- the sockets but those of that name
+abbrev pub without : ℕ → List Socket → List Socket
+without name sockets = filter (λ s. not (has_name name s)) sockets
+
+abbrev pub slots_used : List Socket → ℕ
+slots_used sockets = count_by (λ s. is_hashed s.owner.state) sockets

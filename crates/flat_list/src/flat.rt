@@ -1,0 +1,527 @@
+ghost use Rattle.std.specs.Prelude.{true, ℕ, ◌≡◌, ◌≢◌, ◌+◌, ◌<◌, ◌≤◌, ◌^◌, length, [], find, IfOk, IfErr, IfSome, OnErr};
+ghost use Rattle.flat_list.specs.Ports as ports_spec;
+ghost use Rattle.flat_list.specs.Sections as sections_spec;
+ghost use Rattle.flat_list.specs.Flat as flat_spec;
+ghost use Rattle.flat_list.specs.Connect as connect_spec;
+ghost use Rattle.flat_list.specs.Outcome as outcome_spec;
+ghost use Rattle.flat_list.specs.Step as spec;
+ghost use Rattle.flat_list.specs.Look as look_spec;
+
+use crate::command::{Command, End, Label, Reply};
+use crate::header::{First, Header};
+use crate::owned::{is_no_accept, is_no_end, packet_of, source_of};
+use crate::section::{Section, draw_word, give_label, name_in, section_of};
+use crate::socket::{
+    Socket, at_end, at_port, child_of, connected, connected_by_search, end_of, listening,
+    new_socket,
+};
+use crate::{ports, search};
+use sock_card::{Card, Packet, State};
+use std::alloc::{AllocError, Global};
+use std::marker::Model;
+
+/// The plain engine: the header's values, one list of sockets, and what each section keeps.
+///
+/// A section that has given no label isn't kept. Sections share the sockets, and no labels.
+#[derive(Drop)]
+pub struct Flat {
+    header: Header,
+    sockets: Vec<Socket>,
+    sections: Vec<Section>,
+    alloc: Global,
+}
+
+impl Model for Flat {
+    ghost use Rattle.flat_list.specs.Flat.{Flat as Kept};
+
+    ghost Value = { Kept };
+
+    ghost view = { λ f. record { header = f.header; sockets = f.sockets.items; sections = f.sections.items } };
+}
+
+impl Flat {
+    /// No sockets yet, and no memory taken.
+    pub fn new(alloc: Global, header: &Header) -> Self
+        ensures { result ≡ flat_spec.new_flat header.now }
+    {
+        Flat {
+            header: *header,
+            sockets: Vec::new(alloc),
+            sections: Vec::new(alloc),
+            alloc,
+        }
+    }
+
+    /// The open socket that a label names in its section.
+    fn open_socket(&self, section: u32, label: &Label) -> Option<Socket>
+        ensures socket { result ≡ outcome_spec.open_socket self.now section label.now }
+        ensures kept { IfSome result (λ socket. sections_spec.labels_of section self.now.sections ≢ []) }
+    {
+        match name_in(section, &self.sections, label) {
+            None => None,
+            Some(name) => search::open_named(name, &self.sockets),
+        }
+    }
+
+    fn socket(
+        &mut self,
+        section: u32,
+        label: &Label,
+        dev: Option<u16>,
+        reuseaddr: bool,
+    ) -> Result<Reply, AllocError>
+        requires number { section ≤ 64 }
+        requires room { length (sections_spec.labels_of section self.old.sections) + 1 < 2 ^ 24 }
+        ensures step { IfOk result (λ reply. spec.socket self.old section label.now dev reuseaddr
+            ≡ record { flat = self.new; reply = reply }) }
+        ensures err { OnErr result (self.new ≡ self.old) }
+    {
+        let label = label.try_clone()?;
+        self.sockets.reserve(1)?;
+        let name = give_label(self.alloc, &self.header, &mut self.sections, section, label)?;
+        self.sockets.push(new_socket(name, dev, reuseaddr))?;
+        Ok(Reply::Ok)
+    }
+
+    fn bind(&mut self, section: u32, label: &Label, end: End) -> Reply
+        ensures { spec.bind self.old section (outcome_spec.open_socket self.old section label.now) end
+            ≡ record { flat = self.new; reply = result } }
+    {
+        match self.open_socket(section, label) {
+            None => Reply::Ebadf,
+            Some(socket) => self.bind_socket(section, socket, end),
+        }
+    }
+
+    fn listen(&mut self, section: u32, label: &Label) -> Reply
+        ensures { spec.listen self.old section (outcome_spec.open_socket self.old section label.now)
+            ≡ record { flat = self.new; reply = result } }
+    {
+        match self.open_socket(section, label) {
+            None => Reply::Ebadf,
+            Some(socket) => self.listen_socket(section, socket),
+        }
+    }
+
+    /// Puts a socket in the place of the one of its name.
+    fn put(&mut self, socket: Socket, reply: Reply) -> Reply
+        ensures { outcome_spec.changed self.old socket reply
+            ≡ record { flat = self.new; reply = result } }
+    {
+        search::put(socket, &mut self.sockets);
+        reply
+    }
+
+    /// Where a search begins; where the header names no offset, a word is drawn for it.
+    fn draw(&mut self, section: u32) -> u16
+        requires { sections_spec.labels_of section self.old.sections ≢ [] }
+        ensures { outcome_spec.draw self.old section self.old.header.offset
+            ≡ record { offset = result; flat = self.new } }
+    {
+        let size = ports::size(self.header.range);
+        match self.header.offset {
+            Some(offset) => (u32::from(offset) % size) as u16,
+            None => (draw_word(&mut self.sections, section) % size) as u16,
+        }
+    }
+
+    /// Whether no other owner overlaps the socket at that address and port.
+    fn suits_bind(&self, socket: Socket, addr: u32, port: u16) -> bool
+        ensures { result ≡ spec.suits_bind self.now socket addr port }
+    {
+        !search::is_overlapped(&at_port(socket, addr, port).owner, &self.sockets)
+    }
+
+    /// The first port of a search at that address at which no other owner overlaps.
+    fn free_port(&self, socket: Socket, addr: u32, offset: u16) -> Option<u16>
+        ensures { result ≡ find (spec.suits_bind self.now socket addr) (ports_spec.port_order self.now.header.range offset First.Odd) }
+    {
+        let range = self.header.range;
+        for number in 0..ports::count(range) {
+            let port = ports::port_at(range, offset, First::Odd, number);
+            if self.suits_bind(socket, addr, port) {
+                return Some(port);
+            }
+        }
+        None
+    }
+
+    fn bind_socket(&mut self, section: u32, socket: Socket, end: End) -> Reply
+        requires { sections_spec.labels_of section self.old.sections ≢ [] }
+        ensures { spec.bind_socket self.old section socket socket.owner.state end
+            ≡ record { flat = self.new; reply = result } }
+    {
+        if !matches!(socket.owner.state, State::Unbound) {
+            return Reply::Einval;
+        }
+        if end.port == 0 {
+            return self.bind_search(section, socket, end.addr);
+        }
+        let bound = at_end(socket, end);
+        if search::is_refused(&bound.owner, &self.sockets) {
+            return Reply::Eaddrinuse;
+        }
+        self.put(bound, Reply::Port(end.port))
+    }
+
+    fn bind_search(&mut self, section: u32, socket: Socket, addr: u32) -> Reply
+        requires { sections_spec.labels_of section self.old.sections ≢ [] }
+        ensures { spec.bind_search self.old section socket addr
+            ≡ record { flat = self.new; reply = result } }
+    {
+        let offset = self.draw(section);
+        match self.free_port(socket, addr, offset) {
+            None => Reply::Eaddrinuse,
+            Some(port) => self.put(at_port(socket, addr, port), Reply::Port(port)),
+        }
+    }
+
+    /// Whether a slot is free.
+    fn has_slot(&self) -> bool
+        ensures { result ≡ outcome_spec.has_slot self.now }
+    {
+        search::slots_used(&self.sockets) < self.header.shape.slots as usize
+    }
+
+    /// The reply where no slot is free.
+    fn no_slot(&self) -> Reply
+        ensures { outcome_spec.no_slot self.now ≡ record { flat = self.now; reply = result } }
+    {
+        Reply::Enfile {
+            owned: self.header.shape.slots,
+            held: 0,
+        }
+    }
+
+    fn listen_bound(&mut self, socket: Socket) -> Reply
+        ensures { spec.listen_bound self.old socket ≡ record { flat = self.new; reply = result } }
+    {
+        if search::is_refused(&socket.owner, &self.sockets) {
+            return Reply::Eaddrinuse;
+        }
+        if !self.has_slot() {
+            return self.no_slot();
+        }
+        self.put(listening(socket), Reply::Port(socket.owner.port))
+    }
+
+    fn listen_unbound(&mut self, section: u32, socket: Socket) -> Reply
+        requires { sections_spec.labels_of section self.old.sections ≢ [] }
+        ensures { spec.listen_unbound self.old section socket
+            ≡ record { flat = self.new; reply = result } }
+    {
+        let offset = self.draw(section);
+        match self.free_port(socket, 0, offset) {
+            None => Reply::Eaddrinuse,
+            Some(port) => self.listen_bound(at_port(socket, 0, port)),
+        }
+    }
+
+    fn listen_socket(&mut self, section: u32, socket: Socket) -> Reply
+        requires { sections_spec.labels_of section self.old.sections ≢ [] }
+        ensures { spec.listen_socket self.old section socket socket.owner.state
+            ≡ record { flat = self.new; reply = result } }
+    {
+        match socket.owner.state {
+            State::Unbound => self.listen_unbound(section, socket),
+            State::Bound => self.listen_bound(socket),
+            State::Listening => Reply::Port(socket.owner.port),
+            _ => Reply::Einval,
+        }
+    }
+
+    fn connect(&mut self, section: u32, label: &Label, from: Option<u32>, to: End) -> Reply
+        ensures { connect_spec.connect self.old section (outcome_spec.open_socket self.old section label.now) from to
+            ≡ record { flat = self.new; reply = result } }
+    {
+        match self.open_socket(section, label) {
+            None => Reply::Ebadf,
+            Some(socket) => self.connect_socket(section, socket, from, to),
+        }
+    }
+
+    fn connect_socket(&mut self, section: u32, socket: Socket, from: Option<u32>, to: End) -> Reply
+        requires { sections_spec.labels_of section self.old.sections ≢ [] }
+        ensures { connect_spec.connect_socket self.old section socket socket.owner.state from to
+            ≡ record { flat = self.new; reply = result } }
+    {
+        match socket.owner.state {
+            State::Bound => self.connect_bound(socket, from, to),
+            State::Unbound => self.connect_unbound(section, socket, from, to),
+            _ => Reply::Eisconn,
+        }
+    }
+
+    fn connect_bound(&mut self, socket: Socket, from: Option<u32>, to: End) -> Reply
+        ensures { connect_spec.connect_bound self.old socket from to
+            ≡ record { flat = self.new; reply = result } }
+    {
+        if is_no_end(to) {
+            return Reply::Einval;
+        }
+        let Some(source) = source_of(socket.owner.addr, from) else {
+            return Reply::Einval;
+        };
+        let new = connected(socket, source, to);
+        if search::has_twin(&new.owner, &self.sockets) {
+            return Reply::Eaddrnotavail;
+        }
+        self.connect_as(new)
+    }
+
+    /// Whether the port's owners all had it chosen by `connect`, and the four-tuple is no full socket's.
+    fn suits_connect(&self, socket: Socket, source: u32, to: End, port: u16) -> bool
+        ensures { result ≡ connect_spec.suits_connect self.now socket source to port }
+    {
+        let new = connected_by_search(socket, source, to, port);
+        !search::is_claimed(port, &self.sockets) && !search::has_twin(&new.owner, &self.sockets)
+    }
+
+    /// The first port of a search from which the socket can be connected.
+    fn shared_port(&self, socket: Socket, source: u32, to: End, offset: u16) -> Option<u16>
+        ensures { result ≡ find (connect_spec.suits_connect self.now socket source to) (ports_spec.port_order self.now.header.range offset First.Even) }
+    {
+        let range = self.header.range;
+        for number in 0..ports::count(range) {
+            let port = ports::port_at(range, offset, First::Even, number);
+            if self.suits_connect(socket, source, to, port) {
+                return Some(port);
+            }
+        }
+        None
+    }
+
+    fn connect_unbound(&mut self, section: u32, socket: Socket, from: Option<u32>, to: End) -> Reply
+        requires { sections_spec.labels_of section self.old.sections ≢ [] }
+        ensures { connect_spec.connect_unbound self.old section socket from to
+            ≡ record { flat = self.new; reply = result } }
+    {
+        if is_no_end(to) {
+            return Reply::Einval;
+        }
+        let Some(source) = source_of(0, from) else {
+            return Reply::Einval;
+        };
+        let offset = self.draw(section);
+        match self.shared_port(socket, source, to, offset) {
+            None => Reply::Eaddrnotavail,
+            Some(port) => self.connect_as(connected_by_search(socket, source, to, port)),
+        }
+    }
+
+    fn connect_as(&mut self, new: Socket) -> Reply
+        ensures { connect_spec.connect_as self.old new
+            ≡ record { flat = self.new; reply = result } }
+    {
+        if !self.has_slot() {
+            return self.no_slot();
+        }
+        self.put(new, Reply::End(end_of(&new)))
+    }
+
+    /// The child that a listener accepts, or the refusal.
+    fn child(
+        &self,
+        listener: Option<Socket>,
+        name: u32,
+        from: End,
+        at: End,
+    ) -> Result<Socket, Reply>
+        ensures child { IfOk result (λ child. connect_spec.accept self.now name listener from at
+            ≡ outcome_spec.added self.now child Reply.Ok) }
+        ensures refusal { IfErr result (λ reply. connect_spec.accept self.now name listener from at
+            ≡ outcome_spec.unchanged self.now reply) }
+    {
+        let Some(listener) = listener else {
+            return Err(Reply::Ebadf);
+        };
+        if is_no_accept(&listener.owner, from, at) {
+            return Err(Reply::Einval);
+        }
+        let child = child_of(listener, name, from, at);
+        if search::has_twin(&child.owner, &self.sockets) {
+            return Err(Reply::Eaddrnotavail);
+        }
+        if !self.has_slot() {
+            return Err(self.no_slot());
+        }
+        Ok(child)
+    }
+
+    fn accept(
+        &mut self,
+        section: u32,
+        listener: &Label,
+        label: &Label,
+        from: End,
+        at: End,
+    ) -> Result<Reply, AllocError>
+        requires number { section ≤ 64 }
+        requires room { length (sections_spec.labels_of section self.old.sections) + 1 < 2 ^ 24 }
+        ensures step { IfOk result (λ reply. connect_spec.accept (outcome_spec.with_new_label self.old section label.now) (sections_spec.next_name section self.old.sections) (outcome_spec.open_socket self.old section listener.now) from at
+            ≡ record { flat = self.new; reply = reply }) }
+        ensures err { OnErr result (self.new ≡ self.old) }
+    {
+        let label = label.try_clone()?;
+        self.sockets.reserve(1)?;
+        let listener = self.open_socket(section, listener);
+        let name = give_label(self.alloc, &self.header, &mut self.sections, section, label)?;
+        match self.child(listener, name, from, at) {
+            Err(refusal) => Ok(refusal),
+            Ok(child) => {
+                self.sockets.push(child)?;
+                Ok(Reply::Ok)
+            }
+        }
+    }
+
+    fn drop_socket(&mut self, section: u32, label: &Label) -> Reply
+        ensures { spec.drop self.old (outcome_spec.open_socket self.old section label.now)
+            ≡ record { flat = self.new; reply = result } }
+    {
+        match self.open_socket(section, label) {
+            None => Reply::Ebadf,
+            Some(socket) => {
+                search::remove(socket.owner.name, &mut self.sockets);
+                Reply::Ok
+            }
+        }
+    }
+
+    /// Carries out a command of the section of that number, 1 to 64, and answers its reply.
+    ///
+    /// A refusal leaves all sockets as they were. An `Err`, for want of memory, changes nothing;
+    /// only commands that give a label take memory. Each command goes through the whole list, and a
+    /// search for a port does so for each port that it tries.
+    #[tactic(auto, unfolding(crate::specs::Step::step))]
+    pub fn apply(&mut self, section: u32, command: &Command) -> Result<Reply, AllocError>
+        requires number { section ≤ 64 }
+        requires room { length (sections_spec.labels_of section self.old.sections) + 1 < 2 ^ 24 }
+        ensures step { IfOk result (λ reply. spec.step self.old section command.now
+            ≡ record { flat = self.new; reply = reply }) }
+        ensures err { OnErr result (self.new ≡ self.old) }
+        ensures needs_memory { OnErr result (spec.gives_label command.now ≡ true) }
+        ensures labels { sections_spec.GivesOneAtMost self.old.sections self.new.sections }
+        ensures others { sections_spec.KeepsOthers section self.old.sections self.new.sections }
+    {
+        match command {
+            Command::Socket {
+                label,
+                dev,
+                reuseaddr,
+            } => self.socket(section, label, *dev, *reuseaddr),
+            Command::Bind { label, end } => Ok(self.bind(section, label, *end)),
+            Command::Listen { label } => Ok(self.listen(section, label)),
+            Command::Connect { label, from, to } => Ok(self.connect(section, label, *from, *to)),
+            Command::Accept {
+                listener,
+                label,
+                from,
+                at,
+            } => self.accept(section, listener, label, *from, *at),
+            Command::Drop { label } => Ok(self.drop_socket(section, label)),
+            Command::Look { from, to, dev } => {
+                Ok(Reply::Found(self.look(&packet_of(*from, *to, *dev))))
+            }
+        }
+    }
+
+    /// The label of a socket, by its name; empty where no section has given such a name.
+    pub fn label_of(&self, name: u32) -> &[u8]
+        ensures { result.now ≡ sections_spec.label_of self.now.sections name }
+    {
+        match section_of(name >> 24, &self.sections) {
+            None => &[],
+            Some(section) => section.label_at(name & 0xFF_FFFF),
+        }
+    }
+
+    /// The card of the socket that a packet finds: of those that match best the first, and in a list
+    /// that commands made there is just one.
+    pub fn look(&self, packet: &Packet) -> Option<Card>
+        ensures { result ≡ look_spec.look packet.now self.now.sockets }
+    {
+        search::look(packet, &self.sockets)
+    }
+}
+
+#[cfg(test)]
+mod tests {
+    use super::*;
+    use crate::header::{Range, Shape};
+    use sock_card::Kind;
+    use std::test::Fail;
+
+    const SHAPE: Shape = Shape {
+        slots: 2,
+        bind: 1,
+        hash: 1,
+        listen: 1,
+    };
+
+    const HEADER: Header = Header {
+        shape: SHAPE,
+        range: Range {
+            low: 32768,
+            high: 60999,
+        },
+        seed: 0,
+        offset: None,
+    };
+
+    const HERE: End = End {
+        addr: 0x0A00_0001,
+        port: 80,
+    };
+
+    const THERE: End = End {
+        addr: 0x0A00_0002,
+        port: 5,
+    };
+
+    fn label(alloc: Global, text: &[u8]) -> Result<Label, AllocError> {
+        Label::from_bytes(alloc, text)
+    }
+
+    /// Lets a socket of section 1 listen.
+    fn listen_here(alloc: Global, flat: &mut Flat) -> Result<Reply, AllocError>
+        requires { flat.old.sections ≡ [] }
+        ensures { (m : ℕ) → length (sections_spec.labels_of m flat.new.sections) ≤ 3 }
+    {
+        let socket = Command::Socket {
+            label: label(alloc, b"a")?,
+            dev: None,
+            reuseaddr: false,
+        };
+        flat.apply(1, &socket)?;
+        let bind = Command::Bind {
+            label: label(alloc, b"a")?,
+            end: HERE,
+        };
+        flat.apply(1, &bind)?;
+        let listen = Command::Listen {
+            label: label(alloc, b"a")?,
+        };
+        flat.apply(1, &listen)
+    }
+
+    #[test]
+    fn an_accepted_socket_is_found_and_labelled(rt: HostRuntime) -> Result<(), Fail> {
+        let alloc = rt.alloc();
+        let mut flat = Flat::new(alloc, &HEADER);
+        assert_eq!(rt; listen_here(alloc, &mut flat)?, Reply::Port(80));
+        let accept = Command::Accept {
+            listener: label(alloc, b"a")?,
+            label: label(alloc, b"c")?,
+            from: THERE,
+            at: HERE,
+        };
+        assert_eq!(rt; flat.apply(1, &accept)?, Reply::Ok);
+        let card = flat
+            .look(&packet_of(THERE, HERE, None))
+            .ok_or("none found")?;
+        assert_eq!(rt; card.kind, Kind::Full);
+        assert_eq!(rt; flat.label_of(card.name), b"c".as_slice());
+        Ok(())
+    }
+}

@@ -1,0 +1,41 @@
+//! What the definitions of the flat list imply of every list that commands reach.
+
+ghost use Rattle.std.specs.Prelude.{None, Some};
+ghost use Rattle.flat_list.specs.Rows.{Answer, with_slots, with_range, with_seed, until_one_listens, beside_by_device, one_slot, accepted_goes_first, one_four_tuple, slot_is_freed, states_refuse, four_ports, binds_from_two, connects_from_two, shared_by_connect, listens_anywhere, port_without_slot, words_are_drawn};
+ghost use Rattle.flat_list.specs.Ports as ports;
+ghost use Rattle.flat_list.specs.Sound as law;
+
+/// A list that commands reach is sound: the empty one is, and each command leaves it so.
+pub fn soundness()
+    ensures starts { law.StartsSound }
+    ensures stays { law.StaysSound }
+    ensures runs { law.RunsSound }
+{}
+
+/// A packet's lookup has one socket to choose from, at most.
+pub fn one_best()
+    ensures { law.FindsOneAtMost }
+{}
+
+/// A search tries each port of its range once, wherever it begins.
+pub fn port_order()
+    ensures { ports.TriesEachOnce }
+{}
+
+/// The definitions give the worked examples.
+pub fn rows()
+    ensures shared_address { Answer (with_slots 1024) until_one_listens }
+    ensures devices { Answer (with_slots 1024) beside_by_device }
+    ensures slots { Answer (with_slots 1) one_slot }
+    ensures accepted { Answer (with_slots 1024) accepted_goes_first }
+    ensures four_tuple { Answer (with_slots 1024) one_four_tuple }
+    ensures freed { Answer (with_slots 1) slot_is_freed }
+    ensures refusals { Answer (with_slots 1024) states_refuse }
+    ensures four_ports { Answer (with_range 40000 40003 (Some 0)) four_ports }
+    ensures binds { Answer (with_range 40000 40003 (Some 2)) binds_from_two }
+    ensures connects { Answer (with_range 40000 40003 (Some 2)) connects_from_two }
+    ensures shared_port { Answer (with_range 40000 40001 None) shared_by_connect }
+    ensures listener { Answer (with_range 40000 40001 None) listens_anywhere }
+    ensures no_slot { Answer (with_slots 1) port_without_slot }
+    ensures words { Answer (with_seed 7) words_are_drawn }
+{}

@@ -1,0 +1,36 @@
+//! The plain engine of the socket tables: one list of sockets, searched by filters.
+//!
+//! The kernel keeps a TCP socket in a bucket of its port's owners, and, once it listens or is
+//! connected, in a chain of a hash table. Here all sockets stand in one list, and each question of
+//! `bind`, `listen` and a packet's lookup is asked of every one of them. That is slow, and easy to
+//! believe: faster tables are proved to answer as this list does.
+//!
+//! Where a script leaves the choice of a port to the system, the ports of the header's range are tried
+//! in an order that begins at the header's offset, or at the next word of the section's generator.
+//!
+//! [`Flat::apply`] carries out one command of a section of a script, and [`Flat::look`] finds a
+//! packet's socket; both answer exactly what `specs/` says.
+//!
+//! ```text
+//! let mut flat = Flat::new(alloc, &header);
+//! let reply = flat.apply(1, &Command::Socket { label, dev: None, reuseaddr: false })?;
+//! ```
+#![tactic(auto)]
+
+pub mod command;
+pub mod flat;
+pub mod header;
+pub mod laws;
+pub mod owned;
+pub mod ports;
+pub mod script;
+pub mod search;
+pub mod section;
+pub mod socket;
+
+pub use command::{Command, End, Label, Reply};
+pub use flat::Flat;
+pub use header::{First, Header, Range, Shape};
+pub use script::Script;
+pub use section::Section;
+pub use socket::Socket;

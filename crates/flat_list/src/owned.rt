@@ -1,0 +1,152 @@
+//! What a command's words, and a socket's own state, make of its owner: no other socket counts here.
+
+ghost use Rattle.std.specs.Prelude.{◌≡◌};
+ghost use Rattle.flat_list.specs.Owned as spec;
+
+use crate::command::End;
+use sock_card::{Card, Kind, Owner, Packet, State};
+
+/// The owner that `socket` makes: without an end, and its origin its own name.
+pub fn new_owner(name: u32, dev: Option<u16>, reuseaddr: bool) -> Owner
+    ensures { result ≡ spec.new_owner name dev reuseaddr }
+{
+    Owner {
+        name,
+        origin: name,
+        addr: 0,
+        port: 0,
+        remote: 0,
+        rport: 0,
+        dev: dev.unwrap_or(0),
+        uid: 0,
+        reuseaddr,
+        reuseport: false,
+        state: State::Unbound,
+        by_connect: false,
+    }
+}
+
+/// The owner, bound to that address and port.
+pub fn bound_at(owner: Owner, addr: u32, port: u16) -> Owner
+    ensures { result ≡ spec.bound_at owner addr port }
+{
+    Owner {
+        addr,
+        port,
+        state: State::Bound,
+        ..owner
+    }
+}
+
+/// The owner, listening from then on.
+pub fn as_listener(owner: Owner) -> Owner
+    ensures { result ≡ spec.as_listener owner }
+{
+    Owner {
+        state: State::Listening,
+        ..owner
+    }
+}
+
+/// The owner, connected from that source to that end, and full.
+pub fn connected_to(owner: Owner, source: u32, to: End) -> Owner
+    ensures { result ≡ spec.connected_to owner source to }
+{
+    Owner {
+        addr: source,
+        remote: to.addr,
+        rport: to.port,
+        state: State::Full,
+        ..owner
+    }
+}
+
+/// The owner, connected from that source and a port that `connect` chose to that end, and full.
+pub fn connected_at(owner: Owner, source: u32, port: u16, to: End) -> Owner
+    ensures { result ≡ spec.connected_at owner source port to }
+{
+    Owner {
+        port,
+        by_connect: true,
+        ..connected_to(owner, source, to)
+    }
+}
+
+/// The owner of that name which a listener accepts from one end at another.
+///
+/// It keeps the listener's origin, device, user and options.
+pub fn child_owner(listener: Owner, name: u32, from: End, at: End) -> Owner
+    ensures { result ≡ spec.child_owner listener name from at }
+{
+    Owner {
+        name,
+        addr: at.addr,
+        port: at.port,
+        remote: from.addr,
+        rport: from.port,
+        state: State::Full,
+        ..listener
+    }
+}
+
+/// The source that `connect` takes for a socket bound to `addr`, if it can take one.
+///
+/// A bound address is the source, and `from` may repeat it; where it is 0.0.0.0, `from` names one.
+pub fn source_of(addr: u32, from: Option<u32>) -> Option<u32>
+    ensures { result ≡ spec.source_of addr from }
+{
+    match from {
+        None if addr != 0 => Some(addr),
+        Some(from) if from != 0 && (addr == 0 || addr == from) => Some(from),
+        _ => None,
+    }
+}
+
+/// Whether an end has no address or no port, so that nothing can be connected to it.
+pub fn is_no_end(end: End) -> bool
+    ensures { result ≡ spec.is_no_end end }
+{
+    end.addr == 0 || end.port == 0
+}
+
+/// Whether this is no listener, or none that could accept from one end at the other.
+pub fn is_no_accept(listener: &Owner, from: End, at: End) -> bool
+    ensures { result ≡ spec.is_no_accept listener.now from at }
+{
+    let listens = matches!(listener.state, State::Listening);
+    let is_there = at.port == listener.port
+        && at.addr != 0
+        && (listener.addr == 0 || listener.addr == at.addr);
+    !listens || !is_there || is_no_end(from)
+}
+
+/// The card of that kind under which lookups see the owner.
+///
+/// `extra` is a listener's group and 1, the stamp of a TIME_WAIT, else 0.
+pub fn card_as(kind: Kind, owner: &Owner, extra: u32) -> Card
+    ensures { result ≡ spec.card_as kind owner.now extra }
+{
+    Card {
+        local: owner.addr,
+        lport: owner.port,
+        remote: owner.remote,
+        rport: owner.rport,
+        dev: owner.dev,
+        kind,
+        name: owner.name,
+        extra,
+    }
+}
+
+/// The packet from one end to another that came in at a device, 0 where none is told.
+pub fn packet_of(from: End, to: End, dev: Option<u16>) -> Packet
+    ensures { result ≡ spec.packet_of from to dev }
+{
+    Packet {
+        src: from.addr,
+        sport: from.port,
+        dst: to.addr,
+        dport: to.port,
+        dev: dev.unwrap_or(0),
+    }
+}

@@ -1,0 +1,91 @@
+ghost use Rattle.std.specs.Prelude.{◌≡◌};
+ghost use Rattle.flat_list.specs.Connect as connect_spec;
+ghost use Rattle.flat_list.specs.Step as spec;
+
+use crate::command::End;
+use crate::owned;
+use sock_card::Owner;
+
+/// A socket of the flat list: its owner, and whether a label still names it.
+#[derive(Clone, Copy, Debug, PartialEq, Eq)]
+pub struct Socket {
+    pub owner: Owner,
+    pub named: bool,
+}
+
+/// The socket that `socket` makes.
+pub fn new_socket(name: u32, dev: Option<u16>, reuseaddr: bool) -> Socket
+    ensures { result ≡ spec.new_socket name dev reuseaddr }
+{
+    Socket {
+        owner: owned::new_owner(name, dev, reuseaddr),
+        named: true,
+    }
+}
+
+/// The socket, bound to that end.
+pub fn at_end(socket: Socket, end: End) -> Socket
+    ensures { result ≡ spec.at_end socket end }
+{
+    Socket {
+        owner: owned::bound_at(socket.owner, end.addr, end.port),
+        ..socket
+    }
+}
+
+/// The socket, bound to that address and a port that was found.
+pub fn at_port(socket: Socket, addr: u32, port: u16) -> Socket
+    ensures { result ≡ spec.at_port socket addr port }
+{
+    at_end(socket, End { addr, port })
+}
+
+/// The socket, listening from then on.
+pub fn listening(socket: Socket) -> Socket
+    ensures { result ≡ spec.listening socket }
+{
+    Socket {
+        owner: owned::as_listener(socket.owner),
+        ..socket
+    }
+}
+
+/// The socket, connected from that source to that end.
+pub fn connected(socket: Socket, source: u32, to: End) -> Socket
+    ensures { result ≡ connect_spec.connected socket source to }
+{
+    Socket {
+        owner: owned::connected_to(socket.owner, source, to),
+        ..socket
+    }
+}
+
+/// The socket, connected from that source and a port that `connect` chose to that end.
+pub fn connected_by_search(socket: Socket, source: u32, to: End, port: u16) -> Socket
+    ensures { result ≡ connect_spec.connected_by_search socket source to port }
+{
+    Socket {
+        owner: owned::connected_at(socket.owner, source, port, to),
+        ..socket
+    }
+}
+
+/// The socket of that name which a listener accepts from one end at another.
+pub fn child_of(listener: Socket, name: u32, from: End, at: End) -> Socket
+    ensures { result ≡ connect_spec.child_of listener name from at }
+{
+    Socket {
+        owner: owned::child_owner(listener.owner, name, from, at),
+        named: true,
+    }
+}
+
+/// A socket's own end.
+pub fn end_of(socket: &Socket) -> End
+    ensures { result ≡ connect_spec.end_of socket.now }
+{
+    End {
+        addr: socket.owner.addr,
+        port: socket.owner.port,
+    }
+}
