@@ -1,0 +1,177 @@
+-- Words have one form at most.
+use Rattle.std.proofs.Common.{◌≡◌, ℕ, ◌∙◌, List, [], ◌∷◌, ◌++◌, Bool, true, false, Option, Some, None, cond, ◌==◌, codes, slice_get, arith, sym, refl, ap}
+use Rattle.std.proofs.lemmas.Fmt.{decimal_injective}
+use Rattle.flat_list.specs.declared.command.End.{End}
+use Rattle.flat_list.specs.declared.command.Command.{Command}
+use Rattle.flat_list.specs.declared.command.Command.TheVariants as commands
+use Rattle.flat_list.specs.declared.header.Shape.{Shape}
+use Rattle.flat_list.specs.declared.header.Range.{Range}
+use Rattle.sock_script.specs.declared.line.Line.{Line}
+use Rattle.sock_script.specs.declared.line.Line.TheVariants as lines
+use Rattle.sock_script.specs.Forms.{HasForm, command_words, CommandFits, EndFits, DeviceFits, ShapeFits, SourceFits, RangeFits, range_words, shape_words, device_words, flag_words, source_words}
+use Rattle.sock_script.proofs.Verbs.{word_code, verb_code, never}
+use Rattle.sock_script.proofs.Words.{second_is, third_is, past_two, past_three, flag-lacks_dev, flag-last, device-last}
+use Rattle.inet_io.specs.Texts.{end_text}
+use Rattle.inet_io.proofs.EndTexts.{addr_text_injective, end_text_injective}
+
+-- the words don't begin with that one
+abbrev Lacks : List ℕ → List (List ℕ) → Type 0
+Lacks word words = slice_get words 0 ≡ Some word → ⊥
+
+-- an optional device is read in one way
+one_device : (d e : Option ℕ) (vs ws : List (List ℕ)) → DeviceFits d → DeviceFits e → Lacks (codes "dev") vs → Lacks (codes "dev") ws → device_words d ++ vs ≡ device_words e ++ ws → (d ≡ e) × (vs ≡ ws)
+one_device None None vs ws x y p q h = (refl, h)
+one_device None (Some e) vs ws x y p q h = absurd (p (ap (λ w. slice_get w 0) h))
+one_device (Some d) None vs ws x y p q h = absurd (q (ap (λ w. slice_get w 0) (sym h)))
+one_device (Some d) (Some e) vs ws x y p q h =
+    (ap Some (decimal_injective d e (omega arith) (omega arith) (second_is _ _ _ _ _ _ h)), past_two _ _ _ _ _ _ h)
+
+-- and so is a flag
+one_flag : (flag : List ℕ) (r s : Bool) (vs ws : List (List ℕ)) → Lacks flag vs → Lacks flag ws → flag_words flag r ++ vs ≡ flag_words flag s ++ ws → (r ≡ s) × (vs ≡ ws)
+one_flag flag false false vs ws p q h = (refl, h)
+one_flag flag true true vs ws p q h = (refl, cc)
+one_flag flag false true vs ws p q h = absurd (p (ap (λ w. slice_get w 0) h))
+one_flag flag true false vs ws p q h = absurd (q (ap (λ w. slice_get w 0) (sym h)))
+
+-- and the address behind `from`
+one_source : (d e : Option ℕ) (vs ws : List (List ℕ)) → SourceFits d → SourceFits e → Lacks (codes "from") vs → Lacks (codes "from") ws → source_words d ++ vs ≡ source_words e ++ ws → (d ≡ e) × (vs ≡ ws)
+one_source None None vs ws x y p q h = (refl, h)
+one_source None (Some e) vs ws x y p q h = absurd (p (ap (λ w. slice_get w 0) h))
+one_source (Some d) None vs ws x y p q h = absurd (q (ap (λ w. slice_get w 0) (sym h)))
+one_source (Some d) (Some e) vs ws x y p q h =
+    (ap Some (addr_text_injective d e x y (second_is _ _ _ _ _ _ h)), past_two _ _ _ _ _ _ h)
+
+-- an end is read in one way
+one_end : (e f : End) → EndFits e → EndFits f → end_text e.addr e.port ≡ end_text f.addr f.port → e ≡ f
+one_end e f x y h =
+    let both = end_text_injective e.addr e.port f.addr f.port x.0 y.0 x.1 y.1 h in
+    let P : ℕ → ℕ → End = λ a p. record { addr = a; port = p } in
+    ap (λ a. P a e.port) both.0 ∙ ap (P f.addr) both.1
+
+-- so are the words of each command that has more than a label
+one_socket : (l m : List ℕ) (d e : Option ℕ) (r s : Bool) → DeviceFits d → DeviceFits e → command_words (commands.Socket l d r) ≡ command_words (commands.Socket m e s) → commands.Socket l d r ≡ commands.Socket m e s
+one_socket l m d e r s x y h =
+    let label = second_is _ _ _ _ _ _ h in
+    let dev = one_device d e _ _ x y (flag-lacks_dev r) (flag-lacks_dev s) (past_two _ _ _ _ _ _ h) in
+    let flag = one_flag _ r s [] [] (λ w. cc) (λ w. cc) (sym (flag-last _ r) ∙ dev.1 ∙ flag-last _ s) in
+    ap (λ t. commands.Socket t d r) label ∙ ap (λ t. commands.Socket m t r) dev.0 ∙ ap (commands.Socket m e) flag.0
+
+one_connect : (l m : List ℕ) (d e : Option ℕ) (a b : End) → CommandFits (commands.Connect l d a) → CommandFits (commands.Connect m e b) → command_words (commands.Connect l d a) ≡ command_words (commands.Connect m e b) → commands.Connect l d a ≡ commands.Connect m e b
+one_connect l m d e a b x y h =
+    let label = second_is _ _ _ _ _ _ h in
+    let from = one_source d e _ _ x.1 y.1 (λ w. cc) (λ w. cc) (past_two _ _ _ _ _ _ h) in
+    let to = one_end a b x.2 y.2 (second_is _ _ _ _ _ _ from.1) in
+    ap (λ t. commands.Connect t d a) label ∙ ap (λ t. commands.Connect m t a) from.0 ∙ ap (commands.Connect m e) to
+
+-- the labels and ends of an accept
+accept_texts : (verb from at p q u v i j m n : List ℕ) → verb ∷ p ∷ q ∷ from ∷ u ∷ at ∷ v ∷ [] ≡ verb ∷ i ∷ j ∷ from ∷ m ∷ at ∷ n ∷ []
+    → (p ≡ i) × (q ≡ j) × (u ≡ m) × (v ≡ n)
+accept_texts verb from at p q u v i j m n e = (cc, cc, cc, cc)
+
+one_accept : (k l m n : List ℕ) (a b c d : End) → CommandFits (commands.Accept k l a b) → CommandFits (commands.Accept m n c d) → command_words (commands.Accept k l a b) ≡ command_words (commands.Accept m n c d) → commands.Accept k l a b ≡ commands.Accept m n c d
+one_accept k l m n a b c d x y h =
+    let words = accept_texts _ _ _ _ _ _ _ _ _ _ _ h in
+    let from = one_end a c x.2 y.2 words.2 in
+    let at = one_end b d x.3 y.3 words.3 in
+    ap (λ t. commands.Accept t l a b) words.0 ∙ ap (λ t. commands.Accept m t a b) words.1
+    ∙ ap (λ t. commands.Accept m n t b) from ∙ ap (commands.Accept m n c) at
+
+one_look : (a b c d : End) (e f : Option ℕ) → CommandFits (commands.Look a b e) → CommandFits (commands.Look c d f) → command_words (commands.Look a b e) ≡ command_words (commands.Look c d f) → commands.Look a b e ≡ commands.Look c d f
+one_look a b c d e f x y h =
+    let from = one_end a c x.0 y.0 (second_is _ _ _ _ _ _ h) in
+    let to = one_end b d x.1 y.1 (third_is _ _ _ _ _ _ _ _ h) in
+    let dev = one_device e f [] [] x.2 y.2 (λ w. cc) (λ w. cc) (sym (device-last e) ∙ past_three _ _ _ _ _ _ _ _ h ∙ device-last f) in
+    ap (λ t. commands.Look t b e) from ∙ ap (λ t. commands.Look c t e) to ∙ ap (commands.Look c d) dev.0
+
+-- a command's words are no other's
+one_command : (c k : Command) → command_words c ≡ command_words k → CommandFits c → CommandFits k → c ≡ k
+one_command (commands.Socket l d r) (commands.Socket m e s) h x y = one_socket l m d e r s x.1 y.1 h
+one_command (commands.Bind l e) (commands.Bind m f) h x y =
+    ap (λ t. commands.Bind t e) (second_is _ _ _ _ _ _ h) ∙ ap (commands.Bind m) (one_end e f x.1 y.1 (third_is _ _ _ _ _ _ _ _ h))
+one_command (commands.Listen l) (commands.Listen m) h x y = ap commands.Listen (second_is _ _ _ _ _ _ h)
+one_command (commands.Connect l d a) (commands.Connect m e b) h x y = one_connect l m d e a b x y h
+one_command (commands.Accept k l a b) (commands.Accept m n c d) h x y = one_accept k l m n a b c d x y h
+one_command (commands.Drop l) (commands.Drop m) h x y = ap commands.Drop (second_is _ _ _ _ _ _ h)
+one_command (commands.Look a b e) (commands.Look c d f) h x y = one_look a b c d e f x y h
+one_command c k h x y = absurd (never (verb_code (command_words c)) (verb_code (command_words k)) (ap verb_code h) refl)
+
+-- the numbers of a table line
+shape_texts : (t s b h l : List ℕ) (p q u v i j m n : List ℕ) → t ∷ s ∷ p ∷ b ∷ q ∷ h ∷ u ∷ l ∷ v ∷ [] ≡ t ∷ s ∷ i ∷ b ∷ j ∷ h ∷ m ∷ l ∷ n ∷ []
+    → (p ≡ i) × (q ≡ j) × (u ≡ m) × (v ≡ n)
+shape_texts t s b h l p q u v i j m n e = (cc, cc, cc, cc)
+
+-- a shape's words are no other's
+one_shape : (a b : Shape) → ShapeFits a → ShapeFits b → shape_words a ≡ shape_words b → a ≡ b
+one_shape a b x y h =
+    let words = shape_texts _ _ _ _ _ _ _ _ _ _ _ _ _ h in
+    let slots = decimal_injective a.slots b.slots (omega (arith, x.slots.1)) (omega (arith, y.slots.1)) words.0 in
+    let bind = decimal_injective a.bind b.bind (omega (arith, x.bind.1)) (omega (arith, y.bind.1)) words.1 in
+    let hash = decimal_injective a.hash b.hash (omega (arith, x.hash.1)) (omega (arith, y.hash.1)) words.2 in
+    let listen = decimal_injective a.listen b.listen (omega (arith, x.listen.1)) (omega (arith, y.listen.1)) words.3 in
+    let P : ℕ → ℕ → ℕ → ℕ → Shape = λ s t u v. record { slots = s; bind = t; hash = u; listen = v } in
+    ap (λ s. P s a.bind a.hash a.listen) slots ∙ ap (λ t. P b.slots t a.hash a.listen) bind
+    ∙ ap (λ u. P b.slots b.bind u a.listen) hash ∙ ap (P b.slots b.bind b.hash) listen
+
+-- and a range's
+one_range : (a b : Range) → RangeFits a → RangeFits b → range_words a ≡ range_words b → a ≡ b
+one_range a b x y h =
+    let low = decimal_injective a.low b.low (omega (arith, x.order, x.high)) (omega (arith, y.order, y.high)) (second_is _ _ _ _ _ _ h) in
+    let high = decimal_injective a.high b.high (omega (arith, x.high)) (omega (arith, y.high)) (third_is _ _ _ _ _ _ _ _ h) in
+    let P : ℕ → ℕ → Range = λ l h. record { low = l; high = h } in
+    ap (λ l. P l a.high) low ∙ ap (P b.low) high
+
+-- the kind of line that a first word begins: 1 a table's, 2 a section's, 3 a range's, 4 a seed's, 5 an offset's, 6 a command
+abbrev verb_kind : ℕ → ℕ
+verb_kind verb =
+    cond (verb == word_code 0 (codes "table")) 1
+    (cond (verb == word_code 0 (codes "script")) 2
+    (cond (verb == word_code 0 (codes "range")) 3
+    (cond (verb == word_code 0 (codes "seed")) 4
+    (cond (verb == word_code 0 (codes "offset")) 5 6))))
+
+-- the kind of line that words are, where 0 is a line that is passed over
+abbrev words_kind : List (List ℕ) → ℕ
+words_kind [] = 0
+words_kind ([] ∷ ws) = 0
+words_kind ((b ∷ bs) ∷ ws) = cond (b == 35) 0 (verb_kind (word_code 0 (b ∷ bs)))
+
+-- the same of a line
+abbrev line_kind : Line → ℕ
+line_kind lines.PassedOver = 0
+line_kind (lines.Table shape) = 1
+line_kind (lines.Section number) = 2
+line_kind (lines.Range range) = 3
+line_kind (lines.Seed seed) = 4
+line_kind (lines.Offset offset) = 5
+line_kind (lines.Command command) = 6
+
+-- no command begins like a header line, a section or a comment
+command-kind : (c : Command) → words_kind (command_words c) ≡ 6
+command-kind (commands.Socket label dev reuseaddr) = refl
+command-kind c = refl
+
+-- a line and its words are of one kind
+has_kind : (w : List (List ℕ)) (l : Line) → HasForm w l → words_kind w ≡ line_kind l
+has_kind [] lines.PassedOver h = refl
+has_kind ([] ∷ ws) lines.PassedOver h = absurd h
+has_kind ((b ∷ bs) ∷ ws) lines.PassedOver h = ap (λ x. words_kind ((x ∷ bs) ∷ ws)) h
+has_kind w (lines.Table shape) h = ap words_kind h.0
+has_kind w (lines.Section number) h = ap words_kind h.0
+has_kind w (lines.Range range) h = ap words_kind h.0
+has_kind w (lines.Seed seed) h = ap words_kind h.0
+has_kind w (lines.Offset offset) h = ap words_kind h.0
+has_kind w (lines.Command command) h = ap words_kind h.0 ∙ command-kind command
+
+-- words are one line at most
+pub one_form : (w : List (List ℕ)) (l m : Line) → HasForm w l → HasForm w m → l ≡ m
+one_form w lines.PassedOver lines.PassedOver h k = refl
+one_form w (lines.Table a) (lines.Table b) h k = ap lines.Table (one_shape a b h.1 k.1 (sym h.0 ∙ k.0))
+one_form w (lines.Section n) (lines.Section m) h k =
+    ap lines.Section (decimal_injective n m (omega (arith, h.2)) (omega (arith, k.2)) (second_is _ _ _ _ _ _ (sym h.0 ∙ k.0)))
+one_form w (lines.Range a) (lines.Range b) h k = ap lines.Range (one_range a b h.1 k.1 (sym h.0 ∙ k.0))
+one_form w (lines.Seed n) (lines.Seed m) h k =
+    ap lines.Seed (decimal_injective n m (omega (arith, h.1)) (omega (arith, k.1)) (second_is _ _ _ _ _ _ (sym h.0 ∙ k.0)))
+one_form w (lines.Offset n) (lines.Offset m) h k =
+    ap lines.Offset (decimal_injective n m (omega (arith, h.1)) (omega (arith, k.1)) (second_is _ _ _ _ _ _ (sym h.0 ∙ k.0)))
+one_form w (lines.Command c) (lines.Command d) h k = ap lines.Command (one_command c d (sym h.0 ∙ k.0) h.1 k.1)
+one_form w l m h k = absurd (never (line_kind l) (line_kind m) (sym (has_kind w l h) ∙ has_kind w m k) refl)

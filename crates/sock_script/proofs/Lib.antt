@@ -1,0 +1,16 @@
+pub mod Words
+pub mod Powers
+pub mod Verbs
+pub mod Determined
+pub mod FirstWord
+pub mod Fronts
+pub mod Labels
+pub mod LastSection
+pub mod ListsBetween
+pub mod ReadLines
+pub mod RunTurns
+pub mod Scripts
+pub mod SectionsApart
+pub mod Small
+pub mod SoundLists
+pub mod Turns

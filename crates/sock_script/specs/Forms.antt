@@ -1,0 +1,124 @@
+-- The forms of a script's lines: a grammar of our own.
+-- A line is passed over, or its words are the spelling of a value that is in range. Numbers are spelled in decimal digits without
+-- a leading zero, which is `decimal`, and addresses and ends as `addr_text` and `end_text` say.
+use Rattle.std.specs.Prelude.{◌≡◌, ℕ, ◌^◌, ◌%◌, ◌<◌, ◌≤◌, Bool, true, false, ◌==◌, ◌||◌, ◌&&◌, nat_le, IsTrue, List, [], ◌∷◌, ◌++◌, length, codes, decimal, Option, Some, None}
+use Rattle.std.specs.Char.{is_ascii_alphanumeric}
+use Rattle.std.specs.List.{list_all}
+use Rattle.std.specs.Int.{IsPowerOfTwo}
+use Rattle.inet_io.specs.Texts.{addr_text, end_text}
+use Rattle.flat_list.specs.declared.command.End.{End}
+use Rattle.flat_list.specs.declared.header.Shape.{Shape}
+use Rattle.flat_list.specs.declared.header.Range.{Range}
+use Rattle.flat_list.specs.Ports.{size}
+use Rattle.flat_list.specs.declared.command.Command.{Command}
+use Rattle.flat_list.specs.declared.command.Command.TheVariants as commands
+use Rattle.sock_script.specs.declared.line.Line.{Line}
+use Rattle.sock_script.specs.declared.line.Line.TheVariants as lines
+
+-- `dev` and the device, where one is named
+abbrev pub device_words : Option ℕ → List (List ℕ)
+device_words None = []
+device_words (Some dev) = codes "dev" ∷ decimal dev ∷ []
+
+-- `from` and the address, where one is named
+abbrev pub source_words : Option ℕ → List (List ℕ)
+source_words None = []
+source_words (Some addr) = codes "from" ∷ addr_text addr ∷ []
+
+-- a word that is there where the flag is set
+abbrev pub flag_words : List ℕ → Bool → List (List ℕ)
+flag_words word false = []
+flag_words word true = word ∷ []
+
+-- how a command is spelled
+abbrev pub command_words : Command → List (List ℕ)
+command_words (commands.Socket label dev reuseaddr) =
+    codes "socket" ∷ label ∷ (device_words dev ++ flag_words (codes "reuseaddr") reuseaddr)
+command_words (commands.Bind label end) = codes "bind" ∷ label ∷ end_text end.addr end.port ∷ []
+command_words (commands.Listen label) = codes "listen" ∷ label ∷ []
+command_words (commands.Connect label from to) =
+    codes "connect" ∷ label ∷ (source_words from ++ codes "to" ∷ end_text to.addr to.port ∷ [])
+command_words (commands.Accept listener label from at) =
+    codes "accept" ∷ listener ∷ label ∷ codes "from" ∷ end_text from.addr from.port
+    ∷ codes "at" ∷ end_text at.addr at.port ∷ []
+command_words (commands.Drop label) = codes "drop" ∷ label ∷ []
+command_words (commands.Look from to dev) =
+    codes "look" ∷ end_text from.addr from.port ∷ end_text to.addr to.port ∷ device_words dev
+
+-- how the tables' shape is spelled
+abbrev pub shape_words : Shape → List (List ℕ)
+shape_words shape =
+    codes "table" ∷ codes "slots" ∷ decimal shape.slots ∷ codes "bind" ∷ decimal shape.bind
+    ∷ codes "hash" ∷ decimal shape.hash ∷ codes "listen" ∷ decimal shape.listen ∷ []
+
+-- how the range of ports is spelled
+abbrev pub range_words : Range → List (List ℕ)
+range_words range = codes "range" ∷ decimal range.low ∷ decimal range.high ∷ []
+
+-- an ASCII letter or digit, `_` (byte 95) or `-` (byte 45)
+abbrev pub is_label_byte : ℕ → Bool
+is_label_byte b = is_ascii_alphanumeric b || (b == 95) || (b == 45)
+
+-- 1 to 16 such bytes
+abbrev pub is_label : List ℕ → Bool
+is_label label = nat_le 1 (length label) && nat_le (length label) 16 && list_all is_label_byte label
+
+-- any address of 32 bits, and any port of 16
+abbrev pub EndFits : End → Type 0
+EndFits end = (end.addr < 2 ^ 32) × (end.port < 2 ^ 16)
+
+-- no device, or one from 1 to 65535
+abbrev pub DeviceFits : Option ℕ → Type 0
+DeviceFits None = Unit {0}
+DeviceFits (Some dev) = (1 ≤ dev) × (dev < 2 ^ 16)
+
+-- no address, or one of 32 bits
+abbrev pub SourceFits : Option ℕ → Type 0
+SourceFits None = Unit {0}
+SourceFits (Some addr) = addr < 2 ^ 32
+
+-- what stands in a command is in range
+abbrev pub CommandFits : Command → Type 0
+CommandFits (commands.Socket label dev reuseaddr) = IsTrue (is_label label) × DeviceFits dev
+CommandFits (commands.Bind label end) = IsTrue (is_label label) × EndFits end
+CommandFits (commands.Listen label) = IsTrue (is_label label)
+CommandFits (commands.Connect label from to) = IsTrue (is_label label) × SourceFits from × EndFits to
+CommandFits (commands.Accept listener label from at) =
+    IsTrue (is_label listener) × IsTrue (is_label label) × EndFits from × EndFits at
+CommandFits (commands.Drop label) = IsTrue (is_label label)
+CommandFits (commands.Look from to dev) = EndFits from × EndFits to × DeviceFits dev
+
+-- a power of two, from 1 to `most`
+abbrev pub IsPowerTo : ℕ → ℕ → Type 0
+IsPowerTo most n = IsPowerOfTwo n × (n ≤ most)
+
+-- how many slots and buckets there may be
+pub record ShapeFits (shape : Shape) : Type 0 where
+  pub slots : (1 ≤ shape.slots) × (shape.slots ≤ 65536)
+  pub bind : IsPowerTo 256 shape.bind
+  pub hash : IsPowerTo 65536 shape.hash
+  pub listen : IsPowerTo 4096 shape.listen
+
+-- ports from 1 to 65535, the lowest first, and of even number
+pub record RangeFits (range : Range) : Type 0 where
+  pub low : 1 ≤ range.low
+  pub order : range.low < range.high
+  pub high : range.high < 2 ^ 16
+  pub even : size range % 2 ≡ 0
+
+-- no word, or a first word that begins with `#`, which is byte 35
+abbrev pub IsPassedOver : List (List ℕ) → Type 0
+IsPassedOver [] = Unit {0}
+IsPassedOver ([] ∷ words) = ⊥
+IsPassedOver ((b ∷ bs) ∷ words) = b ≡ 35
+
+-- the words are that line
+abbrev pub HasForm : List (List ℕ) → Line → Type 0
+HasForm words lines.PassedOver = IsPassedOver words
+HasForm words (lines.Table shape) = (words ≡ shape_words shape) × ShapeFits shape
+HasForm words (lines.Range range) = (words ≡ range_words range) × RangeFits range
+HasForm words (lines.Seed seed) = (words ≡ codes "seed" ∷ decimal seed ∷ []) × (seed < 2 ^ 32)
+HasForm words (lines.Offset offset) = (words ≡ codes "offset" ∷ decimal offset ∷ []) × (offset < 2 ^ 16)
+HasForm words (lines.Section number) =
+    (words ≡ codes "script" ∷ decimal number ∷ []) × (1 ≤ number) × (number ≤ 64)
+HasForm words (lines.Command command) = (words ≡ command_words command) × CommandFits command

@@ -1,0 +1,146 @@
+-- Which texts are scripts, and what script a text is: a grammar of our own. No parsing stands here: a line has the form of
+-- the words that spell it, and the rules over earlier lines are a relation on what those have made.
+use Rattle.std.specs.Prelude.{◌≡◌, ℕ, ◌+◌, ◌-◌, ◌≤◌, List, [], ◌∷◌, ◌++◌, length, take, Option, Some, None, Bool, true, false, ◌&&◌, not, bytes_eq, IsTrue, unwrap_or}
+use Rattle.std.specs.List.{list_any, filter_map}
+use Rattle.flat_list.specs.declared.header.Header.{Header}
+use Rattle.flat_list.specs.declared.header.Shape.{Shape}
+use Rattle.flat_list.specs.declared.header.Range.{Range}
+use Rattle.flat_list.specs.declared.command.Command.{Command}
+use Rattle.flat_list.specs.declared.command.Command.TheVariants as commands
+use Rattle.flat_list.specs.Script.{Script}
+use Rattle.sock_script.specs.declared.parse.Mode.{Mode}
+use Rattle.sock_script.specs.declared.parse.Mode.TheVariants as modes
+use Rattle.sock_script.specs.declared.line.Line.{Line}
+use Rattle.sock_script.specs.declared.line.Line.TheVariants as lines
+use Rattle.sock_script.specs.Words.{lines_of, words_of}
+use Rattle.sock_script.specs.Forms.{HasForm}
+
+-- the label that a command gives to a new socket
+abbrev pub given_label : Command → Option (List ℕ)
+given_label (commands.Socket label dev reuseaddr) = Some label
+given_label (commands.Accept listener label from at) = Some label
+given_label _ = None
+
+-- the labels that some commands have given
+abbrev pub labels_of : List Command → List (List ℕ)
+labels_of section = filter_map given_label section
+
+-- no label, or one that those commands haven't given
+abbrev pub is_new : Option (List ℕ) → List Command → Bool
+is_new None section = true
+is_new (Some label) section = not (list_any (bytes_eq label) (labels_of section))
+
+-- lookups are asked for only where sections run one after the other
+abbrev pub is_allowed : Mode → Command → Bool
+is_allowed modes.Race (commands.Look from to dev) = false
+is_allowed _ _ = true
+
+-- a command may follow the others of its section
+abbrev pub may_stand : Mode → List Command → Command → Bool
+may_stand mode section command = is_allowed mode command && is_new (given_label command) section
+
+-- a command may come: there is a section, and it may follow the others of the last one
+abbrev pub MayCome : Mode → List (List Command) → Command → Type 0
+MayCome mode [] command = ⊥
+MayCome mode (section ∷ []) command = IsTrue (may_stand mode section command)
+MayCome mode (section ∷ next ∷ rest) command = MayCome mode (next ∷ rest) command
+
+-- the sections with one more command in the last
+abbrev pub with_command : Command → List (List Command) → List (List Command)
+with_command command [] = []
+with_command command (section ∷ []) = (section ++ command ∷ []) ∷ []
+with_command command (section ∷ next ∷ rest) = section ∷ with_command command (next ∷ rest)
+
+-- what lines have made: what each kind of header line says, if one came, and the sections
+pub record Draft : Type 0 where
+  pub table : Option Shape
+  pub range : Option Range
+  pub seed : Option ℕ
+  pub offset : Option ℕ
+  pub sections : List (List Command)
+
+-- before the first line
+abbrev pub nothing_yet : Draft
+nothing_yet = record { table = None; range = None; seed = None; offset = None; sections = [] }
+
+-- A header line may come once, before the first section: `said` is what one of its kind has said.
+abbrev pub IsHeaderTurn : {A : Type 0} → Option A → Draft → Type 0
+IsHeaderTurn said old = (said ≡ None) × (old.sections ≡ [])
+
+-- The line may follow the lines that made `old`, and makes `new` of it.
+abbrev pub Follows : Mode → Draft → Line → Draft → Type 0
+Follows mode old lines.PassedOver new = new ≡ old
+Follows mode old (lines.Table shape) new =
+    IsHeaderTurn old.table old × (new ≡ record old { table = Some shape })
+Follows mode old (lines.Range range) new =
+    IsHeaderTurn old.range old × (new ≡ record old { range = Some range })
+Follows mode old (lines.Seed seed) new =
+    IsHeaderTurn old.seed old × (new ≡ record old { seed = Some seed })
+Follows mode old (lines.Offset offset) new =
+    IsHeaderTurn old.offset old × (new ≡ record old { offset = Some offset })
+Follows mode old (lines.Section number) new =
+    (number ≡ length old.sections + 1) × (new ≡ record old { sections = old.sections ++ [] ∷ [] })
+Follows mode old (lines.Command command) new =
+    MayCome mode old.sections command × (new ≡ record old { sections = with_command command old.sections })
+
+-- the line of that text makes `new` of `old`
+abbrev pub ReadsLine : Mode → Draft → List ℕ → Draft → Type 0
+ReadsLine mode old text new = (line : Line) × HasForm (words_of text) line × Follows mode old line new
+
+-- the lines of those texts make `new` of `old`, one after the other
+abbrev pub Reads : Mode → Draft → List (List ℕ) → Draft → Type 0
+Reads mode old [] new = new ≡ old
+Reads mode old (text ∷ texts) new =
+    (next : Draft) × ReadsLine mode old text next × Reads mode next texts new
+
+-- a list of lines that is in the grammar
+abbrev pub IsInside : Mode → List (List ℕ) → Type 0
+IsInside mode texts = (draft : Draft) × Reads mode nothing_yet texts draft
+
+-- line n, counted from 1, is the first outside the grammar
+pub record IsFirstOutside (mode : Mode) (texts : List (List ℕ)) (n : ℕ) : Type 0 where
+  pub within : (1 ≤ n) × (n ≤ length texts)
+  pub before : IsInside mode (take (n - 1) texts)
+  pub outside : ¬ (IsInside mode (take n texts))
+
+-- how large the tables are where no line says it
+abbrev pub default_shape : Shape
+default_shape = record { slots = 1024; bind = 16; hash = 256; listen = 32 }
+
+-- which ports are searched where no line says it
+abbrev pub default_range : Range
+default_range = record { low = 32768; high = 60999 }
+
+-- what the header lines have said, with the defaults for what none said
+abbrev pub header_of : Draft → Header
+header_of draft =
+    record {
+      shape = unwrap_or draft.table default_shape;
+      range = unwrap_or draft.range default_range;
+      seed = unwrap_or draft.seed 0;
+      offset = draft.offset;
+    }
+
+-- the script that lines have made
+abbrev pub script_of : Draft → Script
+script_of draft = record { header = header_of draft; sections = draft.sections }
+
+-- the text is this script
+abbrev pub IsScript : Mode → List ℕ → Script → Type 0
+IsScript mode text script =
+    (draft : Draft) × Reads mode nothing_yet (lines_of text) draft × (script ≡ script_of draft)
+
+-- a text is one script at most
+abbrev pub IsDetermined : Type 0
+IsDetermined =
+    (mode : Mode) (text : List ℕ) (a b : Script) → IsScript mode text a → IsScript mode text b → a ≡ b
+
+-- lines of which one is the first outside are not in the grammar
+abbrev pub ExcludesScripts : Type 0
+ExcludesScripts =
+    (mode : Mode) (texts : List (List ℕ)) (n : ℕ) → IsFirstOutside mode texts n → ¬ (IsInside mode texts)
+
+-- one line at most is the first outside
+abbrev pub HasOneFirst : Type 0
+HasOneFirst =
+    (mode : Mode) (texts : List (List ℕ)) (m n : ℕ) → IsFirstOutside mode texts m → IsFirstOutside mode texts n → m ≡ n

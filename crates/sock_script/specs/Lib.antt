@@ -1,0 +1,7 @@
+-- What the contracts of this crate and of those above it cite.
+pub mod Words
+pub mod Forms
+pub mod Seen
+pub mod Grammar
+pub mod Output
+pub mod Steps

@@ -1,0 +1,310 @@
+ghost use Rattle.std.specs.Prelude.{◌≡◌, ◌↔◌, ◌+◌, ◌++◌, ◌∷◌, [], IsTrue, bytes_eq, length, map, IfOk, OnOk, OnErr};
+ghost use Rattle.std.specs.List.{list_any};
+ghost use Rattle.std.specs.Option.{option_copied, option_to_list};
+ghost use Rattle.sock_script.specs.declared.parse.Mode.{Mode as AnyMode};
+ghost use Rattle.sock_script.specs.Grammar as spec;
+ghost use Rattle.sock_script.specs.Steps.{NotesLabel, Adds};
+
+use crate::line::Line;
+use crate::parse::Mode;
+use flat_list::{Command, Header, Label, Range, Script, Shape};
+use std::alloc::{AllocError, Global};
+use std::collections::BTreeSet;
+use std::marker::Model;
+use std::mem;
+
+/// The label that a command gives to a new socket.
+fn given_label(command: &Command) -> Option<&Label>
+    ensures { option_copied result ≡ spec.given_label command.now }
+{
+    match command {
+        Command::Socket { label, .. } | Command::Accept { label, .. } => Some(label),
+        _ => None,
+    }
+}
+
+/// Whether a script of that mode may ask for it.
+fn is_allowed(mode: Mode, command: &Command) -> bool
+    ensures { result ≡ spec.is_allowed mode command.now }
+{
+    !(matches!(mode, Mode::Race) && matches!(command, Command::Look { .. }))
+}
+
+/// Puts the label that a command gives among the others.
+fn note_label(
+    alloc: Global,
+    labels: &mut BTreeSet<Vec<u8>>,
+    command: &Command,
+) -> Result<(), AllocError>
+    ensures noted { OnOk result (NotesLabel labels.old command.now labels.new) }
+    ensures err { OnErr result (labels.new ≡ labels.old) }
+{
+    if let Some(label) = given_label(command) {
+        labels.insert(Vec::from_slice(alloc, label.as_bytes())?)?;
+    }
+    Ok(())
+}
+
+/// The section whose commands are being read.
+#[derive(Drop)]
+struct OpenSection {
+    commands: Vec<Command>,
+    /// The labels that the commands give, so that finding one again takes no scan.
+    labels: BTreeSet<Vec<u8>>,
+}
+
+impl Model for OpenSection {
+    ghost use Rattle.std.specs.Prelude.{List};
+    ghost use Rattle.flat_list.specs.declared.command.Command.{Command as AnyCommand};
+    ghost use Rattle.sock_script.specs.Grammar.{labels_of};
+    ghost use Rattle.sock_script.specs.Steps.{IsSetOf};
+
+    ghost Value = { List AnyCommand };
+
+    ghost view = { λ s. s.commands.items };
+
+    ghost invariant = { λ s. IsSetOf s.labels (labels_of s.commands.items) };
+}
+
+impl OpenSection {
+    fn new(alloc: Global) -> Self
+        ensures { result ≡ [] }
+    {
+        OpenSection {
+            commands: Vec::new(alloc),
+            labels: BTreeSet::new(alloc),
+        }
+    }
+
+    fn has_given(&self, label: &Label) -> bool
+        ensures { result ≡ list_any (bytes_eq label.now) (spec.labels_of self.now) }
+    {
+        self.labels.contains(label.as_bytes())
+    }
+
+    fn is_new(&self, command: &Command) -> bool
+        ensures { result ≡ spec.is_new (spec.given_label command.now) self.now }
+    {
+        match given_label(command) {
+            None => true,
+            Some(label) => !self.has_given(label),
+        }
+    }
+
+    /// Whether a command may stand at the section's end.
+    fn may_stand(&self, mode: Mode, command: &Command) -> bool
+        ensures { result ≡ spec.may_stand mode self.now command.now }
+    {
+        is_allowed(mode, command) && self.is_new(command)
+    }
+
+    /// Adds a command. An `Err` changes nothing.
+    fn add(&mut self, alloc: Global, command: Command) -> Result<(), AllocError>
+        ensures added { OnOk result (self.new ≡ self.old ++ command ∷ []) }
+        ensures err { OnErr result (self.new ≡ self.old) }
+    {
+        self.commands.reserve(1)?;
+        note_label(alloc, &mut self.labels, &command)?;
+        self.commands.push(command)?;
+        Ok(())
+    }
+
+    fn into_commands(self) -> Vec<Command>
+        ensures { result.items ≡ self }
+    {
+        self.commands
+    }
+}
+
+/// The sections, where the last is still being read.
+fn sections_of(
+    finished: Vec<Vec<Command>>,
+    last: Option<OpenSection>,
+) -> Result<Vec<Vec<Command>>, AllocError>
+    ensures { IfOk result (λ sections. map (λ v. v.items) sections.items ≡ map (λ v. v.items) finished.items ++ option_to_list last) }
+{
+    let mut sections = finished;
+    if let Some(section) = last {
+        sections.push(section.into_commands())?;
+    }
+    Ok(sections)
+}
+
+const DEFAULT_SHAPE: Shape = Shape {
+    slots: 1024,
+    bind: 16,
+    hash: 256,
+    listen: 32,
+};
+
+const DEFAULT_RANGE: Range = Range {
+    low: 32768,
+    high: 60999,
+};
+
+/// What the lines read so far have made.
+#[derive(Drop)]
+pub struct Draft {
+    table: Option<Shape>,
+    range: Option<Range>,
+    seed: Option<u32>,
+    offset: Option<u16>,
+    /// The sections before the last.
+    finished: Vec<Vec<Command>>,
+    /// The last section, once there is one.
+    last: Option<OpenSection>,
+    alloc: Global,
+}
+
+impl Model for Draft {
+    ghost use Rattle.std.specs.Prelude.{◌≡◌, ◌++◌, [], map, IfNone};
+    ghost use Rattle.std.specs.Option.{option_to_list};
+    ghost use Rattle.sock_script.specs.Grammar.{Draft as Made};
+
+    ghost Value = { Made };
+
+    ghost view = { λ d. record { table = d.table; range = d.range; seed = d.seed; offset = d.offset; sections = map (λ v. v.items) d.finished.items ++ option_to_list d.last } };
+
+    ghost invariant = { λ d. IfNone d.last (d.finished.items ≡ []) };
+}
+
+impl Draft {
+    /// Before the first line. Takes no memory.
+    pub fn new(alloc: Global) -> Self
+        ensures { result ≡ spec.nothing_yet }
+    {
+        Draft {
+            table: None,
+            range: None,
+            seed: None,
+            offset: None,
+            finished: Vec::new(alloc),
+            last: None,
+            alloc,
+        }
+    }
+
+    fn section_count(&self) -> usize
+        ensures { result ≡ length self.now.sections }
+    {
+        match &self.last {
+            None => self.finished.len(),
+            Some(_) => self.finished.len() + 1,
+        }
+    }
+
+    /// Whether a header line may come of whose kind one has said that, if any has.
+    fn is_header_turn<T: Drop>(&self, said: Option<T>) -> bool
+        ensures { IsTrue result ↔ spec.IsHeaderTurn said self.now }
+    {
+        said.is_none() && self.section_count() == 0
+    }
+
+    /// Adds a table line, where it may follow.
+    fn add_table(&mut self, shape: Shape) -> bool
+        ensures { (mode : AnyMode) → Adds mode self.old (Line.Table shape) self.new result }
+    {
+        let turn = self.is_header_turn(self.table);
+        if turn {
+            self.table = Some(shape);
+        }
+        turn
+    }
+
+    /// Adds a range line, where it may follow.
+    fn add_range(&mut self, range: Range) -> bool
+        ensures { (mode : AnyMode) → Adds mode self.old (Line.Range range) self.new result }
+    {
+        let turn = self.is_header_turn(self.range);
+        if turn {
+            self.range = Some(range);
+        }
+        turn
+    }
+
+    /// Adds a seed line, where it may follow.
+    fn add_seed(&mut self, seed: u32) -> bool
+        ensures { (mode : AnyMode) → Adds mode self.old (Line.Seed seed) self.new result }
+    {
+        let turn = self.is_header_turn(self.seed);
+        if turn {
+            self.seed = Some(seed);
+        }
+        turn
+    }
+
+    /// Adds an offset line, where it may follow.
+    fn add_offset(&mut self, offset: u16) -> bool
+        ensures { (mode : AnyMode) → Adds mode self.old (Line.Offset offset) self.new result }
+    {
+        let turn = self.is_header_turn(self.offset);
+        if turn {
+            self.offset = Some(offset);
+        }
+        turn
+    }
+
+    /// Begins a section, where its number is the next.
+    fn begin_section(&mut self, number: u32) -> Result<bool, AllocError>
+        ensures { IfOk result (λ follows. (mode : AnyMode) → Adds mode self.old (Line.Section number) self.new follows) }
+    {
+        if number as usize != self.section_count() + 1 {
+            return Ok(false);
+        }
+        let next = OpenSection::new(self.alloc);
+        if let Some(section) = mem::replace(&mut self.last, Some(next)) {
+            self.finished.push(section.into_commands())?;
+        }
+        Ok(true)
+    }
+
+    /// Adds a command to the last section, where it may stand there.
+    fn add_command(&mut self, mode: Mode, command: Command) -> Result<bool, AllocError>
+        ensures { IfOk result (λ follows. Adds mode self.old (Line.Command command) self.new follows) }
+    {
+        let Some(section) = &mut self.last else {
+            return Ok(false);
+        };
+        if !section.may_stand(mode, &command) {
+            return Ok(false);
+        }
+        section.add(self.alloc, command)?;
+        Ok(true)
+    }
+
+    /// Adds a line, where it may follow, and says whether.
+    pub fn add(&mut self, mode: Mode, line: Line) -> Result<bool, AllocError>
+        ensures { IfOk result (λ follows. Adds mode self.old line self.new follows) }
+    {
+        match line {
+            Line::PassedOver => Ok(true),
+            Line::Table(shape) => Ok(self.add_table(shape)),
+            Line::Range(range) => Ok(self.add_range(range)),
+            Line::Seed(seed) => Ok(self.add_seed(seed)),
+            Line::Offset(offset) => Ok(self.add_offset(offset)),
+            Line::Section(number) => self.begin_section(number),
+            Line::Command(command) => self.add_command(mode, command),
+        }
+    }
+
+    /// What the header lines have said, with the defaults for what none said.
+    fn header(&self) -> Header
+        ensures { result ≡ spec.header_of self.now }
+    {
+        Header {
+            shape: self.table.unwrap_or(DEFAULT_SHAPE),
+            range: self.range.unwrap_or(DEFAULT_RANGE),
+            seed: self.seed.unwrap_or(0),
+            offset: self.offset,
+        }
+    }
+
+    /// The script that the lines have made.
+    pub fn into_script(self) -> Result<Script, AllocError>
+        ensures { IfOk result (λ script. script ≡ spec.script_of self) }
+    {
+        let header = self.header();
+        let sections = sections_of(self.finished, self.last)?;
+        Ok(Script::new(header, sections))
+    }
+}

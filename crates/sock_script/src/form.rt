@@ -1,0 +1,513 @@
+//! The line that some words are: one function for each form, over readers of one word.
+//!
+//! A reader takes a word off the front and gives its value and the words after it. Each form is
+//! read by one pass over its words, and takes memory for its labels alone.
+ghost use Rattle.std.specs.Prelude.{◌≡◌, ◌≢◌, ◌<◌, ◌≤◌, ◌+◌, ◌-◌, ◌%◌, ◌^◌, ◌∷◌, ◌++◌, ◌↔◌, [], Bool, ℕ, List, IfOk, IfSome, IfNone, IsTrue, Option, slice_get, codes, decimal};
+ghost use Rattle.std.specs.List.{list_all};
+ghost use Rattle.inet_io.specs.Texts.{addr_text, end_text};
+ghost use Rattle.sock_script.specs.Seen.{texts};
+ghost use Rattle.sock_script.specs.Forms as spec;
+ghost use Rattle.sock_script.specs.Forms.{HasForm, DeviceFits, EndFits, IsPowerTo, SourceFits, device_words, flag_words, source_words};
+ghost use Rattle.sock_script.specs.declared.line.Line.{Line};
+ghost use Rattle.sock_script.specs.declared.line.Line.TheVariants as lines;
+ghost use Rattle.flat_list.specs.declared.command.Command.{Command};
+ghost use Rattle.flat_list.specs.declared.command.Command.TheVariants as commands;
+ghost use Rattle.flat_list.specs.declared.command.End.{End};
+ghost use Rattle.flat_list.specs.declared.header.Shape.{Shape};
+ghost use Rattle.flat_list.specs.declared.header.Range.{Range};
+
+use crate::line::Line;
+use flat_list::{Command, End, Label, Range, Shape};
+use inet_io::{get_addr, get_end, get_num};
+use std::alloc::{AllocError, Global};
+
+fn is_label_byte(b: u8) -> bool
+    ensures { result ≡ spec.is_label_byte b }
+{
+    b.is_ascii_alphanumeric() || b == b'_' || b == b'-'
+}
+
+fn all_label_bytes(word: &[u8]) -> bool
+    ensures { result ≡ list_all spec.is_label_byte word.now }
+{
+    word.iter().all(|b| is_label_byte(*b))
+}
+
+fn is_label(word: &[u8]) -> bool
+    ensures { result ≡ spec.is_label word.now }
+{
+    (1..=16).contains(&word.len()) && all_label_bytes(word)
+}
+
+fn is_word(word: &[u8], other: &[u8]) -> bool
+    ensures { IsTrue result ↔ (word.now ≡ other.now) }
+{
+    word == other
+}
+
+/// The words after a first word that is that one.
+fn after<'a>(first: &[u8], words: &'a [&'a [u8]]) -> Option<&'a [&'a [u8]]>
+    ensures some { IfSome result (λ rest. texts words.now ≡ first.now ∷ texts rest.now) }
+    ensures none { IfNone result ((rest : List (List ℕ)) → texts words.now ≡ first.now ∷ rest → ⊥) }
+{
+    let (word, rest) = words.split_first()?;
+    is_word(word, first).then_some(rest)
+}
+
+/// A label as the first word, and the words after it.
+fn label_first<'a>(words: &'a [&'a [u8]]) -> Option<(&'a [u8], &'a [&'a [u8]])>
+    ensures some { IfSome result (λ r. (texts words.now ≡ r.0.now ∷ texts r.1.now) × IsTrue (spec.is_label r.0.now)) }
+    ensures none { IfNone result ((label : List ℕ) (rest : List (List ℕ)) → texts words.now ≡ label ∷ rest → IsTrue (spec.is_label label) → ⊥) }
+{
+    let (label, rest) = words.split_first()?;
+    is_label(label).then_some((label, rest))
+}
+
+/// A label as the only word.
+fn label_alone<'a>(words: &'a [&'a [u8]]) -> Option<&'a [u8]>
+    ensures some { IfSome result (λ label. (texts words.now ≡ label.now ∷ []) × IsTrue (spec.is_label label.now)) }
+    ensures none { IfNone result ((label : List ℕ) → texts words.now ≡ label ∷ [] → IsTrue (spec.is_label label) → ⊥) }
+{
+    let (label, rest) = label_first(words)?;
+    rest.is_empty().then_some(label)
+}
+
+/// A number from `least` to `most` as the first word, and the words after it.
+fn number_first<'a>(least: u32, most: u32, words: &'a [&'a [u8]]) -> Option<(u32, &'a [&'a [u8]])>
+    ensures some { IfSome result (λ r. (texts words.now ≡ decimal r.0 ∷ texts r.1.now) × (least ≤ r.0) × (r.0 ≤ most)) }
+    ensures none { IfNone result ((n : ℕ) (rest : List (List ℕ)) → texts words.now ≡ decimal n ∷ rest → least ≤ n → n ≤ most → ⊥) }
+{
+    let (word, rest) = words.split_first()?;
+    let n = get_num(word, u64::from(least), u64::from(most))?;
+    Some((n as u32, rest))
+}
+
+/// That word and a number from `least` to `most` as the first words, and the words after them.
+fn number_after<'a>(
+    first: &[u8],
+    least: u32,
+    most: u32,
+    words: &'a [&'a [u8]],
+) -> Option<(u32, &'a [&'a [u8]])>
+    ensures some { IfSome result (λ r. (texts words.now ≡ first.now ∷ decimal r.0 ∷ texts r.1.now) × (least ≤ r.0) × (r.0 ≤ most)) }
+    ensures none { IfNone result ((n : ℕ) (rest : List (List ℕ)) → texts words.now ≡ first.now ∷ decimal n ∷ rest → least ≤ n → n ≤ most → ⊥) }
+{
+    number_first(least, most, after(first, words)?)
+}
+
+/// That word and a power of two to `most` as the first words, and the words after them.
+fn power_after<'a>(first: &[u8], most: u32, words: &'a [&'a [u8]]) -> Option<(u32, &'a [&'a [u8]])>
+    ensures some { IfSome result (λ r. (texts words.now ≡ first.now ∷ decimal r.0 ∷ texts r.1.now) × IsPowerTo most r.0) }
+    ensures none { IfNone result ((n : ℕ) (rest : List (List ℕ)) → texts words.now ≡ first.now ∷ decimal n ∷ rest → IsPowerTo most n → ⊥) }
+{
+    let (n, rest) = number_after(first, 1, most, words)?;
+    if !n.is_power_of_two() {
+        return None;
+    }
+    Some((n, rest))
+}
+
+/// An end as the first word, and the words after it.
+fn end_first<'a>(words: &'a [&'a [u8]]) -> Option<(End, &'a [&'a [u8]])>
+    ensures some { IfSome result (λ r. (texts words.now ≡ end_text r.0.addr r.0.port ∷ texts r.1.now) × EndFits r.0) }
+    ensures none { IfNone result ((end : End) (rest : List (List ℕ)) → texts words.now ≡ end_text end.addr end.port ∷ rest → EndFits end → ⊥) }
+{
+    let (word, rest) = words.split_first()?;
+    let (addr, port) = get_end(word, 0)?;
+    Some((End { addr, port }, rest))
+}
+
+/// That word and an end as the first words, and the words after them.
+fn end_after<'a>(first: &[u8], words: &'a [&'a [u8]]) -> Option<(End, &'a [&'a [u8]])>
+    ensures some { IfSome result (λ r. (texts words.now ≡ first.now ∷ end_text r.0.addr r.0.port ∷ texts r.1.now) × EndFits r.0) }
+    ensures none { IfNone result ((end : End) (rest : List (List ℕ)) → texts words.now ≡ first.now ∷ end_text end.addr end.port ∷ rest → EndFits end → ⊥) }
+{
+    end_first(after(first, words)?)
+}
+
+/// That word and an address as the first words, and the words after them.
+fn address_after<'a>(first: &[u8], words: &'a [&'a [u8]]) -> Option<(u32, &'a [&'a [u8]])>
+    ensures some { IfSome result (λ r. texts words.now ≡ first.now ∷ addr_text r.0 ∷ texts r.1.now) }
+    ensures none { IfNone result ((addr : ℕ) (rest : List (List ℕ)) → texts words.now ≡ first.now ∷ addr_text addr ∷ rest → addr < 2 ^ 32 → ⊥) }
+{
+    let (word, rest) = after(first, words)?.split_first()?;
+    let addr = get_addr(word)?;
+    Some((addr, rest))
+}
+
+/// The device that the words begin with, where they do, and the words after it.
+fn device_first<'a>(words: &'a [&'a [u8]]) -> (Option<u16>, &'a [&'a [u8]])
+    ensures spelled { texts words.now ≡ device_words result.0 ++ texts result.1.now }
+    ensures fits { DeviceFits result.0 }
+
+    // However they are read, the same words are left, if no `dev` comes next.
+    ensures only { (dev : Option ℕ) (rest : List (List ℕ)) → texts words.now ≡ device_words dev ++ rest → DeviceFits dev → slice_get rest 0 ≢ Some (codes "dev") → rest ≡ texts result.1.now }
+{
+    match number_after(b"dev", 1, 65535, words) {
+        Some((dev, rest)) => (Some(dev as u16), rest),
+        None => (None, words),
+    }
+}
+
+/// The address that the words begin with behind `from`, where they do, and the words after it.
+fn source_first<'a>(words: &'a [&'a [u8]]) -> (Option<u32>, &'a [&'a [u8]])
+    ensures spelled { texts words.now ≡ source_words result.0 ++ texts result.1.now }
+    ensures fits { SourceFits result.0 }
+
+    // However they are read, the same words are left, if no `from` comes next.
+    ensures only { (from : Option ℕ) (rest : List (List ℕ)) → texts words.now ≡ source_words from ++ rest → SourceFits from → slice_get rest 0 ≢ Some (codes "from") → rest ≡ texts result.1.now }
+{
+    match address_after(b"from", words) {
+        Some((addr, rest)) => (Some(addr), rest),
+        None => (None, words),
+    }
+}
+
+/// Whether that flag is the first word, and the words after it.
+fn flag_first<'a>(flag: &[u8], words: &'a [&'a [u8]]) -> (bool, &'a [&'a [u8]])
+    ensures spelled { texts words.now ≡ flag_words flag.now result.0 ++ texts result.1.now }
+
+    // However they are read, the same words are left, if the flag doesn't come next.
+    ensures only { (set : Bool) (rest : List (List ℕ)) → texts words.now ≡ flag_words flag.now set ++ rest → slice_get rest 0 ≢ Some flag.now → rest ≡ texts result.1.now }
+{
+    match after(flag, words) {
+        Some(rest) => (true, rest),
+        None => (false, words),
+    }
+}
+
+/// The command of the words after `socket`.
+fn socket_of(alloc: Global, words: &[&[u8]]) -> Result<Option<Command>, AllocError>
+    ensures some { IfOk result (λ o. IfSome o (λ c. HasForm (codes "socket" ∷ texts words.now) (lines.Command c))) }
+    ensures none { IfOk result (λ o. IfNone o ((c : Command) → HasForm (codes "socket" ∷ texts words.now) (lines.Command c) → ⊥)) }
+{
+    let Some((label, words)) = label_first(words) else {
+        return Ok(None);
+    };
+    let (dev, words) = device_first(words);
+    let (reuseaddr, words) = flag_first(b"reuseaddr", words);
+    if !words.is_empty() {
+        return Ok(None);
+    }
+    let label = Label::from_bytes(alloc, label)?;
+    Ok(Some(Command::Socket {
+        label,
+        dev,
+        reuseaddr,
+    }))
+}
+
+/// The command of the words after `bind`.
+fn bind_of(alloc: Global, words: &[&[u8]]) -> Result<Option<Command>, AllocError>
+    ensures some { IfOk result (λ o. IfSome o (λ c. HasForm (codes "bind" ∷ texts words.now) (lines.Command c))) }
+    ensures none { IfOk result (λ o. IfNone o ((c : Command) → HasForm (codes "bind" ∷ texts words.now) (lines.Command c) → ⊥)) }
+{
+    let Some((label, words)) = label_first(words) else {
+        return Ok(None);
+    };
+    let Some((end, words)) = end_first(words) else {
+        return Ok(None);
+    };
+    if !words.is_empty() {
+        return Ok(None);
+    }
+    let label = Label::from_bytes(alloc, label)?;
+    Ok(Some(Command::Bind { label, end }))
+}
+
+/// The command of the words after `listen`.
+fn listen_of(alloc: Global, words: &[&[u8]]) -> Result<Option<Command>, AllocError>
+    ensures some { IfOk result (λ o. IfSome o (λ c. HasForm (codes "listen" ∷ texts words.now) (lines.Command c))) }
+    ensures none { IfOk result (λ o. IfNone o ((c : Command) → HasForm (codes "listen" ∷ texts words.now) (lines.Command c) → ⊥)) }
+{
+    let Some(label) = label_alone(words) else {
+        return Ok(None);
+    };
+    let label = Label::from_bytes(alloc, label)?;
+    Ok(Some(Command::Listen { label }))
+}
+
+/// The command of the words after `connect`.
+fn connect_of(alloc: Global, words: &[&[u8]]) -> Result<Option<Command>, AllocError>
+    ensures some { IfOk result (λ o. IfSome o (λ c. HasForm (codes "connect" ∷ texts words.now) (lines.Command c))) }
+    ensures none { IfOk result (λ o. IfNone o ((c : Command) → HasForm (codes "connect" ∷ texts words.now) (lines.Command c) → ⊥)) }
+{
+    let Some((label, words)) = label_first(words) else {
+        return Ok(None);
+    };
+    let (from, words) = source_first(words);
+    let Some((to, words)) = end_after(b"to", words) else {
+        return Ok(None);
+    };
+    if !words.is_empty() {
+        return Ok(None);
+    }
+    let label = Label::from_bytes(alloc, label)?;
+    Ok(Some(Command::Connect { label, from, to }))
+}
+
+/// The command of the words after `accept`.
+fn accept_of(alloc: Global, words: &[&[u8]]) -> Result<Option<Command>, AllocError>
+    ensures some { IfOk result (λ o. IfSome o (λ c. HasForm (codes "accept" ∷ texts words.now) (lines.Command c))) }
+    ensures none { IfOk result (λ o. IfNone o ((c : Command) → HasForm (codes "accept" ∷ texts words.now) (lines.Command c) → ⊥)) }
+{
+    let Some((listener, words)) = label_first(words) else {
+        return Ok(None);
+    };
+    let Some((label, words)) = label_first(words) else {
+        return Ok(None);
+    };
+    let Some((from, words)) = end_after(b"from", words) else {
+        return Ok(None);
+    };
+    let Some((at, words)) = end_after(b"at", words) else {
+        return Ok(None);
+    };
+    if !words.is_empty() {
+        return Ok(None);
+    }
+    let listener = Label::from_bytes(alloc, listener)?;
+    let label = Label::from_bytes(alloc, label)?;
+    Ok(Some(Command::Accept {
+        listener,
+        label,
+        from,
+        at,
+    }))
+}
+
+/// The command of the words after `drop`.
+fn drop_of(alloc: Global, words: &[&[u8]]) -> Result<Option<Command>, AllocError>
+    ensures some { IfOk result (λ o. IfSome o (λ c. HasForm (codes "drop" ∷ texts words.now) (lines.Command c))) }
+    ensures none { IfOk result (λ o. IfNone o ((c : Command) → HasForm (codes "drop" ∷ texts words.now) (lines.Command c) → ⊥)) }
+{
+    let Some(label) = label_alone(words) else {
+        return Ok(None);
+    };
+    let label = Label::from_bytes(alloc, label)?;
+    Ok(Some(Command::Drop { label }))
+}
+
+/// The command of the words after `look`.
+fn look_of(words: &[&[u8]]) -> Option<Command>
+    ensures some { IfSome result (λ c. HasForm (codes "look" ∷ texts words.now) (lines.Command c)) }
+    ensures none { IfNone result ((c : Command) → HasForm (codes "look" ∷ texts words.now) (lines.Command c) → ⊥) }
+{
+    let (from, words) = end_first(words)?;
+    let (to, words) = end_first(words)?;
+    let (dev, words) = device_first(words);
+    if !words.is_empty() {
+        return None;
+    }
+    Some(Command::Look { from, to, dev })
+}
+
+/// The command that the words are.
+fn command_of(alloc: Global, words: &[&[u8]]) -> Result<Option<Command>, AllocError>
+    ensures some { IfOk result (λ o. IfSome o (λ c. HasForm (texts words.now) (lines.Command c))) }
+    ensures none { IfOk result (λ o. IfNone o ((c : Command) → HasForm (texts words.now) (lines.Command c) → ⊥)) }
+{
+    if let Some(words) = after(b"socket", words) {
+        return socket_of(alloc, words);
+    }
+    if let Some(words) = after(b"bind", words) {
+        return bind_of(alloc, words);
+    }
+    if let Some(words) = after(b"listen", words) {
+        return listen_of(alloc, words);
+    }
+    if let Some(words) = after(b"connect", words) {
+        return connect_of(alloc, words);
+    }
+    if let Some(words) = after(b"accept", words) {
+        return accept_of(alloc, words);
+    }
+    if let Some(words) = after(b"drop", words) {
+        return drop_of(alloc, words);
+    }
+    if let Some(words) = after(b"look", words) {
+        return Ok(look_of(words));
+    }
+    Ok(None)
+}
+
+/// The shape of the tables that the words tell.
+fn table_of(words: &[&[u8]]) -> Option<Shape>
+    ensures some { IfSome result (λ shape. HasForm (texts words.now) (lines.Table shape)) }
+    ensures none { IfNone result ((shape : Shape) → HasForm (texts words.now) (lines.Table shape) → ⊥) }
+{
+    let words = after(b"table", words)?;
+    let (slots, words) = number_after(b"slots", 1, 65536, words)?;
+    let (bind, words) = power_after(b"bind", 256, words)?;
+    let (hash, words) = power_after(b"hash", 65536, words)?;
+    let (listen, words) = power_after(b"listen", 4096, words)?;
+    if !words.is_empty() {
+        return None;
+    }
+    Some(Shape {
+        slots,
+        bind,
+        hash,
+        listen,
+    })
+}
+
+/// Whether `low` is below `high` and the ports between them, with both, are of even number.
+fn is_range(low: u32, high: u32) -> bool
+    ensures { IsTrue result ↔ ((low < high) × ((high - low + 1) % 2 ≡ 0)) }
+{
+    low < high && (high - low) % 2 == 1
+}
+
+/// The range of ports that the words tell.
+fn range_of(words: &[&[u8]]) -> Option<Range>
+    ensures some { IfSome result (λ range. HasForm (texts words.now) (lines.Range range)) }
+    ensures none { IfNone result ((range : Range) → HasForm (texts words.now) (lines.Range range) → ⊥) }
+{
+    let (low, words) = number_after(b"range", 1, 65535, words)?;
+    let (high, words) = number_first(1, 65535, words)?;
+    if !words.is_empty() {
+        return None;
+    }
+    if !is_range(low, high) {
+        return None;
+    }
+    Some(Range {
+        low: low as u16,
+        high: high as u16,
+    })
+}
+
+/// The number behind that word, up to `most`, where no other words follow.
+fn number_behind(first: &[u8], most: u32, words: &[&[u8]]) -> Option<u32>
+    ensures some { IfSome result (λ n. (texts words.now ≡ first.now ∷ decimal n ∷ []) × (n ≤ most)) }
+    ensures none { IfNone result ((n : ℕ) → texts words.now ≡ first.now ∷ decimal n ∷ [] → n ≤ most → ⊥) }
+{
+    let (number, words) = number_after(first, 0, most, words)?;
+    words.is_empty().then_some(number)
+}
+
+/// The seed that the words tell.
+fn seed_of(words: &[&[u8]]) -> Option<u32>
+    ensures some { IfSome result (λ seed. HasForm (texts words.now) (lines.Seed seed)) }
+    ensures none { IfNone result ((seed : ℕ) → HasForm (texts words.now) (lines.Seed seed) → ⊥) }
+{
+    number_behind(b"seed", u32::MAX, words)
+}
+
+/// The offset that the words tell.
+fn offset_of(words: &[&[u8]]) -> Option<u16>
+    ensures some { IfSome result (λ offset. HasForm (texts words.now) (lines.Offset offset)) }
+    ensures none { IfNone result ((offset : ℕ) → HasForm (texts words.now) (lines.Offset offset) → ⊥) }
+{
+    let offset = number_behind(b"offset", 65535, words)?;
+    Some(offset as u16)
+}
+
+/// The number of the section that the words begin.
+fn section_of(words: &[&[u8]]) -> Option<u32>
+    ensures some { IfSome result (λ number. HasForm (texts words.now) (lines.Section number)) }
+    ensures none { IfNone result ((number : ℕ) → HasForm (texts words.now) (lines.Section number) → ⊥) }
+{
+    let (number, words) = number_after(b"script", 1, 64, words)?;
+    if words.is_empty() { Some(number) } else { None }
+}
+
+/// Whether a line of these words is passed over.
+fn is_passed_over(words: &[&[u8]]) -> bool
+    ensures { IsTrue result ↔ HasForm (texts words.now) lines.PassedOver }
+{
+    match words {
+        [] => true,
+        [first, ..] => first.first() == Some(&b'#'),
+    }
+}
+
+/// The line that the words are.
+///
+/// Takes memory for a label alone, and time for the bytes of the words.
+pub fn line_of(alloc: Global, words: &[&[u8]]) -> Result<Option<Line>, AllocError>
+    ensures some { IfOk result (λ o. IfSome o (λ line. HasForm (texts words.now) line)) }
+    ensures none { IfOk result (λ o. IfNone o ((line : Line) → HasForm (texts words.now) line → ⊥)) }
+{
+    if is_passed_over(words) {
+        return Ok(Some(Line::PassedOver));
+    }
+    if let Some(shape) = table_of(words) {
+        return Ok(Some(Line::Table(shape)));
+    }
+    if let Some(range) = range_of(words) {
+        return Ok(Some(Line::Range(range)));
+    }
+    if let Some(seed) = seed_of(words) {
+        return Ok(Some(Line::Seed(seed)));
+    }
+    if let Some(offset) = offset_of(words) {
+        return Ok(Some(Line::Offset(offset)));
+    }
+    if let Some(number) = section_of(words) {
+        return Ok(Some(Line::Section(number)));
+    }
+    match command_of(alloc, words)? {
+        Some(command) => Ok(Some(Line::Command(command))),
+        None => Ok(None),
+    }
+}
+
+#[cfg(test)]
+mod tests {
+    use super::*;
+    use std::test::Fail;
+
+    #[test]
+    fn a_line_of_each_form_is_read(rt: HostRuntime) -> Result<(), Fail> {
+        let lines: [&[&[u8]]; 13] = [
+            &[b"#socket"],
+            &[
+                b"table", b"slots", b"65536", b"bind", b"256", b"hash", b"1", b"listen", b"4096",
+            ],
+            &[b"range", b"32768", b"60999"],
+            &[b"seed", b"0"],
+            &[b"offset", b"0"],
+            &[b"script", b"64"],
+            &[b"socket", b"a-1", b"dev", b"7", b"reuseaddr"],
+            &[b"bind", b"a-1", b"10.0.0.1:80"],
+            &[b"listen", b"a-1"],
+            &[
+                b"connect",
+                b"b",
+                b"from",
+                b"10.0.0.2",
+                b"to",
+                b"10.0.0.1:80",
+            ],
+            &[
+                b"accept",
+                b"a-1",
+                b"c",
+                b"from",
+                b"10.0.0.2:0",
+                b"at",
+                b"10.0.0.1:80",
+            ],
+            &[b"drop", b"b"],
+            &[b"look", b"10.0.0.2:0", b"10.0.0.1:80", b"dev", b"65535"],
+        ];
+        for words in lines {
+            assert!(rt; line_of(rt.alloc(), words)?.is_some());
+        }
+        Ok(())
+    }
+
+    #[test]
+    fn a_line_of_a_million_words_is_refused(rt: HostRuntime) -> Result<(), Fail> {
+        let mut words: Vec<&[u8]> = Vec::new(rt.alloc());
+        words.push(b"socket")?;
+        words.push(b"a")?;
+        for _ in 0..1_000_000 {
+            words.push(b"reuseaddr")?;
+        }
+        assert!(rt; line_of(rt.alloc(), &words)?.is_none());
+        Ok(())
+    }
+}

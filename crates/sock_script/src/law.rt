@@ -1,0 +1,23 @@
+//! What the grammar implies of every text, and the output's definition of every script.
+
+ghost use Rattle.sock_script.specs.Grammar as law;
+ghost use Rattle.sock_script.specs.Output.{ListsSound, TextsSound};
+
+/// A text is one script at most.
+pub fn one_script()
+    ensures { law.IsDetermined }
+{}
+
+/// Lines have one first line outside the grammar at most, and where they have one they are no script,
+/// however they go on.
+pub fn one_bad_line()
+    ensures no_script { law.ExcludesScripts }
+    ensures one { law.HasOneFirst }
+{}
+
+/// Each list between a script's commands is sound: no two bound sockets of different origin conflict,
+/// no two full sockets have one four-tuple, and no two sockets have one name.
+pub fn sound_lists()
+    ensures scripts { ListsSound }
+    ensures texts { TextsSound }
+{}

@@ -1,0 +1,32 @@
+//! Scripts of socket commands: the grammar by which a text is read as one, and what is written when
+//! it is run.
+//!
+//! A script has sections of commands, one a line, which make, bind and connect sockets, name them
+//! by labels, and look packets up; before the first section lines may say how large the tables are,
+//! and how a port is searched for where a command names none.
+//! [`parse::parse`] reads a text as a script, or names the first line that is outside the grammar.
+//! Both answers are exact: `specs/Grammar.antt` says which script a text is, and the laws in [`law`]
+//! that it is one at most. [`run::run`] runs a script on `flat_list`, the plain engine, and gives
+//! one line for each command, as `specs/Output.antt` says.
+//!
+//! ```text
+//! let script = parse::parse(alloc, b"script 1\nsocket a\nbind a 0.0.0.0:80\n", Mode::Run)?;
+//! let lines = run::run(alloc, &script)?;
+//! // 1 socket a ok
+//! // 1 bind a ok 80
+//! ```
+#![tactic(auto)]
+
+mod draft;
+pub mod form;
+pub mod law;
+pub mod line;
+mod output;
+pub mod parse;
+pub mod run;
+#[cfg(test)]
+mod tests;
+mod word;
+
+pub use line::Line;
+pub use parse::{Mode, ScriptEnd};

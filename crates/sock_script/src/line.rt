@@ -1,0 +1,19 @@
+use flat_list::{Command, Range, Shape};
+
+/// A line of a script.
+#[derive(Debug, Drop)]
+pub enum Line {
+    /// A line with no word, or a comment.
+    PassedOver,
+    /// How large the tables are.
+    Table(Shape),
+    /// Which ports are searched where a command names none.
+    Range(Range),
+    /// What the sections' generators of offsets begin with.
+    Seed(u32),
+    /// The offset of every search for a port.
+    Offset(u16),
+    /// The section of that number begins.
+    Section(u32),
+    Command(Command),
+}

@@ -1,0 +1,87 @@
+ghost use Rattle.std.specs.Prelude.{◌≡◌, ◌≤◌, ◌^◌, ℕ, length, IfOk, IfErr, Err};
+ghost use Rattle.flat_list.specs.Script.{IsSmall};
+ghost use Rattle.sock_script.specs.Words.{lines_of};
+ghost use Rattle.sock_script.specs.Grammar.{IsScript, IsFirstOutside, Reads, nothing_yet};
+ghost use Rattle.sock_script.specs.Steps.{LineAnswer, EndAnswer};
+
+use crate::draft::Draft;
+use crate::{form, word};
+use flat_list::Script;
+use std::alloc::{AllocError, Global};
+
+/// What a script is read for.
+#[derive(Clone, Copy, Debug, PartialEq, Eq)]
+pub enum Mode {
+    /// Its sections run one after the other.
+    Run,
+    /// Its sections run beside each other, and no line asks for a lookup.
+    Race,
+}
+
+/// Why a text is no script.
+#[derive(Clone, Copy, Debug, PartialEq, Eq)]
+pub enum ScriptEnd {
+    /// The line of that number, from 1, is the first outside the grammar.
+    BadLine(u64),
+    /// There is no memory for what the text says.
+    Memory,
+}
+
+impl From<AllocError> for ScriptEnd {
+    ghost use Rattle.std.specs.Prelude.{◌≡◌};
+    ghost use Rattle.sock_script.specs.declared.parse.ScriptEnd.TheVariants.{Memory};
+
+    ghost from_gives = { λ _ e. e ≡ Memory };
+
+    fn from(_: AllocError) -> Self {
+        ScriptEnd::Memory
+    }
+}
+
+/// Reads one line, where it may follow, and says whether.
+///
+/// A line that is passed over costs a look at its first bytes.
+fn read_line(alloc: Global, mode: Mode, draft: &mut Draft, line: &[u8]) -> Result<bool, AllocError>
+    ensures { IfOk result (LineAnswer mode draft.old line.now draft.new) }
+{
+    if word::is_passed_over(line) {
+        return Ok(true);
+    }
+    let words = word::words_of(alloc, line)?;
+    match form::line_of(alloc, &words)? {
+        Some(line) => draft.add(mode, line),
+        None => Ok(false),
+    }
+}
+
+/// Reads the lines of a text to its end.
+fn read_lines(alloc: Global, text: &[u8], mode: Mode) -> Result<Draft, ScriptEnd>
+    ensures read { IfOk result (λ draft. Reads mode nothing_yet (lines_of text.now) draft) }
+    ensures bad { IfErr result (EndAnswer mode (lines_of text.now)) }
+{
+    let mut draft = Draft::new(alloc);
+    let mut number = 0;
+    for line in text.split(|b| word::is_line_feed(*b)) {
+        number += 1;
+        if !read_line(alloc, mode, &mut draft, line)? {
+            return Err(ScriptEnd::BadLine(number));
+        }
+    }
+    Ok(draft)
+}
+
+/// Reads a text as a script: a grammar of our own, which `specs/` spells out.
+///
+/// Lines end in a line feed, before which one carriage return is dropped; words are parted by
+/// spaces and tabs. A line with no word, or whose first word begins with `#`, is passed over, and
+/// counts as a line. Takes memory for the commands, and none for lines that are passed over; the
+/// time is about that of one look at each byte, and that of finding each label among those that its
+/// section has given.
+pub fn parse(alloc: Global, text: &[u8], mode: Mode) -> Result<Script, ScriptEnd>
+    ensures script { IfOk result (λ script. IsScript mode text.now script) }
+    ensures bad { (n : ℕ) → result ≡ Err (ScriptEnd.BadLine n) → IsFirstOutside mode (lines_of text.now) n }
+    ensures small { length text.now ≤ 2 ^ 24 → IfOk result IsSmall }
+{
+    let draft = read_lines(alloc, text, mode)?;
+    Ok(draft.into_script()?)
+}

@@ -1,0 +1,195 @@
+use crate::parse::{Mode, ScriptEnd, parse};
+use crate::run::run;
+use std::alloc::{AllocError, Global};
+use std::test::Fail;
+
+/// The first bad line, 0 for want of memory, and none where the text is a script.
+fn bad_line(alloc: Global, text: &[u8], mode: Mode) -> Option<u64> {
+    match parse(alloc, text, mode) {
+        Ok(_) => None,
+        Err(ScriptEnd::BadLine(n)) => Some(n),
+        Err(ScriptEnd::Memory) => Some(0),
+    }
+}
+
+/// So many section lines.
+fn sections(alloc: Global, count: u32) -> Result<String, AllocError> {
+    let mut text = String::new(alloc);
+    for i in 0..count {
+        write!(text, "script {}\n", i.wrapping_add(1))?;
+    }
+    Ok(text)
+}
+
+#[test]
+fn each_command_has_its_line(rt: HostRuntime) -> Result<(), Fail> {
+    let text = b"script 1\nsocket a\nsocket b\nbind a 0.0.0.0:80\nbind b 10.0.0.1:80\n";
+    let script = parse(rt.alloc(), text, Mode::Run)?;
+    let out = run(rt.alloc(), &script)?;
+    let wanted = b"1 socket a ok\n1 socket b ok\n1 bind a ok 80\n1 bind b EADDRINUSE\n";
+    assert!(rt; out.as_slice() == wanted.as_slice());
+    Ok(())
+}
+
+#[test]
+fn connected_sockets_have_their_lines(rt: HostRuntime) -> Result<(), Fail> {
+    let text = b"table slots 3 bind 1 hash 1 listen 1
+script 1
+socket a
+bind a 10.0.0.1:80
+listen a
+accept a c from 10.0.0.2:1000 at 10.0.0.1:80
+accept a d from 10.0.0.2:1000 at 10.0.0.1:80
+script 2
+socket k
+connect k to 10.0.0.2:80
+bind k 10.0.0.1:90
+connect k to 10.0.0.2:80
+connect k to 10.0.0.2:81
+look 10.0.0.2:80 10.0.0.1:90
+look 10.0.0.2:80 10.0.0.1:80
+look 10.0.0.2:80 10.0.0.1:91
+socket l
+bind l 255.0.0.1:65535
+connect l from 255.0.0.1 to 10.0.0.3:80
+drop k
+drop k
+";
+    let script = parse(rt.alloc(), text, Mode::Run)?;
+    let out = run(rt.alloc(), &script)?;
+    let wanted = b"1 socket a ok
+1 bind a ok 80
+1 listen a ok 80
+1 accept c ok
+1 accept d EADDRNOTAVAIL
+2 socket k ok
+2 connect k EINVAL
+2 bind k ok 90
+2 connect k ok 10.0.0.1:90
+2 connect k EISCONN
+2 look full 2.k
+2 look listen 1.a
+2 look none
+2 socket l ok
+2 bind l ok 65535
+2 connect l ENFILE 3 0
+2 drop k ok
+2 drop k EBADF
+";
+    assert!(rt; out.as_slice() == wanted.as_slice());
+    Ok(())
+}
+
+#[test]
+fn ports_are_searched_as_the_header_says(rt: HostRuntime) -> Result<(), Fail> {
+    let text = b"offset 5
+range 1000 1003
+script 1
+socket a
+bind a 0.0.0.0:0
+socket b
+bind b 10.0.0.1:0
+socket c
+listen c
+socket d
+connect d from 10.0.0.1 to 10.0.0.2:80
+socket e
+bind e 10.0.0.1:0
+";
+    let script = parse(rt.alloc(), text, Mode::Run)?;
+    let out = run(rt.alloc(), &script)?;
+    let wanted = b"1 socket a ok
+1 bind a ok 1001
+1 socket b ok
+1 bind b ok 1003
+1 socket c ok
+1 listen c ok 1000
+1 socket d ok
+1 connect d ok 10.0.0.1:1002
+1 socket e ok
+1 bind e EADDRINUSE
+";
+    assert!(rt; out.as_slice() == wanted.as_slice());
+    Ok(())
+}
+
+#[test]
+fn bytes_and_line_ends(rt: HostRuntime) -> Result<(), Fail> {
+    let cases: [(&[u8], Option<u64>); 8] = [
+        (b"", None),
+        (b"#\0\xff\n \t\nscript 1\r\n\tsocket  a \r\n#", None),
+        (b"script 1\nsocket a\0\n", Some(2)),
+        (b"script 1\nsocket \xc3\xa4\n", Some(2)),
+        (b"script 1\r\r\n", Some(1)),
+        (b"script 1\n\rsocket a\n", Some(2)),
+        (b"script 1\nsocket a", None),
+        (b"script 1\nsocket", Some(2)),
+    ];
+    for (text, line) in cases {
+        assert_eq!(rt; bad_line(rt.alloc(), text, Mode::Run), line);
+    }
+    Ok(())
+}
+
+#[test]
+fn rules_over_earlier_lines(rt: HostRuntime) -> Result<(), Fail> {
+    let cases: [(&[u8], Option<u64>); 9] = [
+        (b"bind a 1.2.3.4:5", Some(1)),
+        (
+            b"table slots 2 bind 1 hash 1 listen 1\nscript 1\nscript 2\n",
+            None,
+        ),
+        (b"script 1\ntable slots 2 bind 1 hash 1 listen 1\n", Some(2)),
+        (
+            b"table slots 2 bind 1 hash 1 listen 1\ntable slots 2 bind 1 hash 1 listen 1\n",
+            Some(2),
+        ),
+        (b"script 2\n", Some(1)),
+        (b"script 1\nsocket a\n# two\nscript 3\n", Some(4)),
+        (b"script 1\nsocket a\nsocket b\n\nsocket a\n", Some(5)),
+        (b"script 1\nsocket a\nscript 2\nsocket a\n", None),
+        (
+            b"script 1\naccept a b from 1.2.3.4:5 at 1.2.3.4:6\nsocket b\n",
+            Some(3),
+        ),
+    ];
+    for (text, line) in cases {
+        assert_eq!(rt; bad_line(rt.alloc(), text, Mode::Run), line);
+    }
+    Ok(())
+}
+
+#[test]
+fn header_lines_come_once_and_first(rt: HostRuntime) -> Result<(), Fail> {
+    let cases: [(&[u8], Option<u64>); 5] = [
+        (
+            b"seed 4294967295\noffset 65535\n# any order\nrange 1 65534\ntable slots 2 bind 1 hash 1 listen 1\nscript 1\n",
+            None,
+        ),
+        (b"offset 7\nrange 1000 2000\nscript 1\n", Some(2)),
+        (b"range 1001 1000\nscript 1\n", Some(1)),
+        (b"seed 1\noffset 2\nseed 1\n", Some(3)),
+        (b"seed 1\nscript 1\noffset 2\n", Some(3)),
+    ];
+    for (text, line) in cases {
+        assert_eq!(rt; bad_line(rt.alloc(), text, Mode::Run), line);
+    }
+    Ok(())
+}
+
+#[test]
+fn sections_are_sixty_four_at_most(rt: HostRuntime) -> Result<(), Fail> {
+    let most = sections(rt.alloc(), 64)?;
+    assert_eq!(rt; bad_line(rt.alloc(), most.as_bytes(), Mode::Run), None);
+    let more = sections(rt.alloc(), 65)?;
+    assert_eq!(rt; bad_line(rt.alloc(), more.as_bytes(), Mode::Run), Some(65));
+    Ok(())
+}
+
+#[test]
+fn a_race_has_no_look(rt: HostRuntime) -> Result<(), Fail> {
+    let text = b"script 1\nsocket a\nlook 10.0.0.2:5 10.0.0.1:80\n";
+    assert_eq!(rt; bad_line(rt.alloc(), text, Mode::Run), None);
+    assert_eq!(rt; bad_line(rt.alloc(), text, Mode::Race), Some(3));
+    Ok(())
+}
