@@ -1,0 +1,5 @@
+-- What the contracts of this crate cite.
+pub mod Words
+pub mod Status
+pub mod Table
+pub mod Verdict
