@@ -1,0 +1,6 @@
+//! Tests of the top call: worked scripts, other words, ends that move a few bytes a call and fail in
+//! mid-stream, an input as long as the limit, and the ends over std.
+#![tactic(auto)]
+
+#[cfg(test)]
+mod tests;
