@@ -1,0 +1,42 @@
+-- A bucket is sound after each allowed call.
+use Rattle.std.proofs.Common.{◌≡◌, [], ◌∷◌, ◌++◌, refl, sym, ◌∙◌, ap}
+use Rattle.std.proofs.lemmas.List.{map-append}
+use Rattle.bind_buckets.specs.declared.request.Request.{Request}
+use Rattle.bind_buckets.specs.declared.request.Request.TheVariants as requests
+use Rattle.bind_buckets.specs.declared.request.Entry.{Entry}
+use Rattle.bind_buckets.specs.OwnerStep.{owner_step, empty}
+use Rattle.bind_buckets.specs.Journal.{OwnersAgree}
+use Rattle.bind_buckets.specs.HeldBy.{CanCarryOut}
+use Rattle.bind_buckets.specs.Bucket.{Bucket, IsAllowed, IsSound, called, step_of, entry_of, entries_of}
+use Rattle.bind_buckets.proofs.Journals.{replayed_push, legal_push}
+use Rattle.bind_buckets.proofs.StaysAgreed.{step_agrees, step_ports}
+use Rattle.bind_buckets.proofs.StaysGrouped.{step_eight, step_fits}
+
+pub sound_called : (b : Bucket) (request : Request) → IsSound b → IsAllowed b request → IsSound (called b request)
+sound_called b request s allowed =
+    let n = b.number in
+    let es = entries_of b.journal in
+    let e : Entry = record { request = request; answer = (step_of b request).answer } in
+    let grown : entries_of (called b request).journal ≡ es ++ e ∷ [] = map-append entry_of b.journal _ in
+    let agree : OwnersAgree (step_of b request).held.owners = step_agrees b request allowed s.agree in
+    record {
+      number = s.number;
+      buckets = s.buckets;
+      legal = rw grown (legal_push n empty es e s.legal (rw (← s.replay) refl) (rw (← s.replay) agree));
+      replay = rw grown (sym (replayed_push n empty es e ∙ ap (λ h. (owner_step n h request).held) (sym s.replay)));
+      agree = agree;
+      ports = step_ports b request allowed s.ports;
+      places = step_eight b request s.places;
+      members = step_fits b request allowed s.members;
+    }
+
+pub can_carry_out : (b : Bucket) (request : Request) → IsAllowed b request → CanCarryOut b.number b.held request
+can_carry_out b (requests.Bind a) h = tt
+can_carry_out b (requests.BindAuto a) h = tt
+can_carry_out b (requests.MayListen name) h = tt
+can_carry_out b (requests.Listen name slot) h = h
+can_carry_out b (requests.Free port) h = tt
+can_carry_out b (requests.ConnectAuto a) h = tt
+can_carry_out b (requests.ConnectBound name local remote rport) h = tt
+can_carry_out b (requests.Inherit parent name local remote rport) h = tt
+can_carry_out b (requests.Remove name) h = tt

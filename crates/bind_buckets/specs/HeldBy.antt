@@ -1,0 +1,20 @@
+-- What the owners and groups of a bucket mean, as its code keeps them: our own rule.
+use Rattle.std.specs.Prelude.{◌≡◌, ℕ}
+use Rattle.bind_buckets.specs.declared.held.Held.{Held as Inside}
+use Rattle.bind_buckets.specs.declared.request.Answer.{Answer}
+use Rattle.bind_buckets.specs.declared.request.Request.{Request}
+use Rattle.bind_buckets.specs.declared.request.Request.TheVariants as requests
+use Rattle.bind_buckets.specs.OwnerStep.{Held, After, owner_step}
+use Rattle.bind_buckets.specs.Bucket.{IsGroup}
+
+abbrev pub held_by : Inside → Held
+held_by h = record { owners = h.owners.items; groups = h.groups }
+
+-- that is left, and answered
+abbrev pub IsStep : After → Inside → Answer → Type 0
+IsStep after new answer = after ≡ record { held = held_by new; answer = answer }
+
+-- a socket that is to listen may
+abbrev pub CanCarryOut : ℕ → Held → Request → Type 0
+CanCarryOut number h (requests.Listen name slot) = IsGroup (owner_step number h (requests.MayListen name)).answer
+CanCarryOut number h _ = Unit {0}

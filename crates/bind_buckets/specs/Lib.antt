@@ -1,0 +1,11 @@
+pub mod First
+pub mod Members
+pub mod OwnerStep
+pub mod Journal
+pub mod Bucket
+pub mod HeldBy
+pub mod Kept
+pub mod Fields
+pub mod Answers
+pub mod Followed
+pub mod Rows

@@ -1,0 +1,94 @@
+//! The members of one group of listeners.
+
+ghost use Rattle.std.specs.Prelude.{◌≡◌, ◌≤◌, ◌<◌, [], length, position, nat_lt, true};
+ghost use Rattle.bind_buckets.specs.Members as spec;
+ghost use Rattle.bind_buckets.specs.OwnerStep as step_spec;
+
+use arrayvec::ArrayVec;
+use std::marker::Model;
+
+/// The members of a group, at most sixteen: of each the slot of its card in the upper half of the
+/// number, and its name in the lower.
+#[derive(Drop)]
+pub struct Group {
+    members: ArrayVec<u64, 16>,
+}
+
+impl Model for Group {
+    ghost use Rattle.std.specs.Prelude.{ℕ, ◌≤◌, List, length};
+
+    ghost Value = { List ℕ };
+
+    ghost view = { λ g. g.members.items };
+
+    ghost invariant = { λ g. length g.members.items ≤ 16 };
+}
+
+fn is_named(name: u32, member: u64) -> bool
+    ensures { result ≡ spec.is_named name member }
+{
+    member % 0x1_0000_0000 == u64::from(name)
+}
+
+fn place_of(name: u32, members: &[u64]) -> Option<usize>
+    ensures { result ≡ position (spec.is_named name) members.now }
+{
+    members.iter().position(|member| is_named(name, *member))
+}
+
+impl Group {
+    pub fn new() -> Self
+        ensures { result ≡ [] }
+    {
+        Group {
+            members: ArrayVec::new(),
+        }
+    }
+
+    pub fn members(&self) -> &[u64]
+        ensures members { result.now ≡ self.now }
+        ensures most { length result.now ≤ 16 }
+    {
+        self.members.as_slice()
+    }
+
+    pub fn is_free(&self) -> bool
+        ensures { result ≡ step_spec.is_free self.now }
+    {
+        self.members.is_empty()
+    }
+
+    pub fn has_room(&self) -> bool
+        ensures { result ≡ nat_lt (length self.now) 16 }
+    {
+        self.members.len() < 16
+    }
+
+    pub fn has_member(&self, name: u32) -> bool
+        ensures { result ≡ spec.has_member name self.now }
+    {
+        self.members
+            .as_slice()
+            .iter()
+            .any(|member| is_named(name, *member))
+    }
+
+    /// Appends a member.
+    pub fn join(&mut self, slot: u32, name: u32)
+        requires { length self.old < 16 }
+        ensures { self.new ≡ spec.joined_by (spec.member slot name) self.old }
+    {
+        self.members
+            .push(u64::from(slot) * 0x1_0000_0000 + u64::from(name));
+    }
+
+    /// Takes out the member of that name, in whose place the last one stands then.
+    pub fn leave(&mut self, name: u32)
+        requires { spec.has_member name self.old ≡ true }
+        ensures { self.new ≡ spec.left_by name self.old }
+    {
+        if let Some(place) = place_of(name, self.members.as_slice()) {
+            self.members.swap_remove(place);
+        }
+    }
+}

@@ -1,0 +1,309 @@
+//! What a bucket holds, and what each request makes of it.
+
+ghost use Rattle.std.specs.Prelude.{◌≡◌, ◌+◌, ◌≤◌, ◌<◌, true, false, vec_len, vec_capacity, find, remove};
+ghost use Rattle.sock_card.specs.Conflict as conflict_spec;
+ghost use Rattle.bind_buckets.specs.OwnerStep as spec;
+ghost use Rattle.bind_buckets.specs.First.{change_first};
+ghost use Rattle.bind_buckets.specs.Members as members_spec;
+ghost use Rattle.bind_buckets.specs.Bucket.{IsGroup, brings_owner};
+ghost use Rattle.bind_buckets.specs.HeldBy.{held_by, IsStep, CanCarryOut};
+
+use crate::group::Group;
+use crate::request::{Answer, Request};
+use crate::search::{
+    group_place, holder, overlapping, owner_place, place_for, refusing, refusing_other,
+};
+use sock_card::{Owner, State};
+use std::alloc::Global;
+
+/// The owners of a bucket's ports, oldest first, and the groups at its eight places.
+#[derive(Drop)]
+pub struct Held {
+    pub owners: Vec<Owner>,
+    pub groups: [Group; 8],
+}
+
+fn connected(owner: Owner, local: u32, remote: u32, rport: u16) -> Owner
+    ensures { result ≡ spec.connected local remote rport owner }
+{
+    Owner {
+        addr: local,
+        remote,
+        rport,
+        state: State::Full,
+        ..owner
+    }
+}
+
+fn child(listener: Owner, name: u32, local: u32, remote: u32, rport: u16) -> Owner
+    ensures { result ≡ spec.child name local remote rport listener }
+{
+    let named = Owner { name, ..listener };
+    connected(named, local, remote, rport)
+}
+
+fn as_listener(owner: Owner) -> Owner
+    ensures { result ≡ spec.as_listener owner }
+{
+    Owner {
+        state: State::Listening,
+        ..owner
+    }
+}
+
+impl Held {
+    pub fn new(alloc: Global) -> Self
+        ensures empty { held_by result ≡ spec.empty }
+        ensures len { vec_len result.owners ≡ 0 }
+    {
+        Held {
+            owners: Vec::new(alloc),
+            groups: [
+                Group::new(),
+                Group::new(),
+                Group::new(),
+                Group::new(),
+                Group::new(),
+                Group::new(),
+                Group::new(),
+                Group::new(),
+            ],
+        }
+    }
+
+    fn admit(&mut self, owner: Owner) -> Answer
+        requires { vec_len self.old.owners < vec_capacity self.old.owners }
+        ensures step { IsStep (spec.with_owner (held_by self.old) owner) self.new result }
+        ensures capacity { vec_capacity self.new.owners ≡ vec_capacity self.old.owners }
+        ensures more { vec_len self.new.owners ≡ vec_len self.old.owners + 1 }
+    {
+        self.owners.push_reserved(owner);
+        Answer::Done
+    }
+
+    fn bind(&mut self, owner: Owner) -> Answer
+        requires { vec_len self.old.owners < vec_capacity self.old.owners }
+        ensures step { IsStep
+            (spec.admitted (held_by self.old) owner
+            (find (conflict_spec.refuses owner) self.old.owners.items))
+            self.new result }
+        ensures capacity { vec_capacity self.new.owners ≡ vec_capacity self.old.owners }
+        ensures most { vec_len self.new.owners ≤ vec_len self.old.owners + 1 }
+        ensures least { vec_len self.old.owners ≤ vec_len self.new.owners }
+    {
+        match refusing(&owner, &self.owners) {
+            Some(other) => Answer::InUse(other.name),
+            None => self.admit(owner),
+        }
+    }
+
+    fn bind_auto(&mut self, owner: Owner) -> Answer
+        requires { vec_len self.old.owners < vec_capacity self.old.owners }
+        ensures step { IsStep
+            (spec.admitted (held_by self.old) owner
+            (find (conflict_spec.overlap owner) self.old.owners.items))
+            self.new result }
+        ensures capacity { vec_capacity self.new.owners ≡ vec_capacity self.old.owners }
+        ensures most { vec_len self.new.owners ≤ vec_len self.old.owners + 1 }
+        ensures least { vec_len self.old.owners ≤ vec_len self.new.owners }
+    {
+        match overlapping(&owner, &self.owners) {
+            Some(other) => Answer::InUse(other.name),
+            None => self.admit(owner),
+        }
+    }
+
+    fn free(&self, port: u16) -> Answer
+        ensures { IsStep
+            (spec.kept (held_by self.now) (spec.free_answer (find (spec.holds port) self.now.owners.items)))
+            self.now result }
+    {
+        match holder(port, &self.owners) {
+            Some(owner) => Answer::NotFree(owner.name),
+            None => Answer::Done,
+        }
+    }
+
+    fn connect_bound(&mut self, name: u32, local: u32, remote: u32, rport: u16) -> Answer
+        ensures step { IsStep
+            (spec.named (held_by self.old) name
+            (λ _. spec.changed (held_by self.old) name (spec.connected local remote rport) self.old.groups))
+            self.new result }
+        ensures capacity { vec_capacity self.new.owners ≡ vec_capacity self.old.owners }
+        ensures len { vec_len self.new.owners ≡ vec_len self.old.owners }
+    {
+        match owner_place(name, &self.owners) {
+            None => Answer::Strange(name),
+            Some(place) => {
+                self.owners[place] = connected(self.owners[place], local, remote, rport);
+                Answer::Done
+            }
+        }
+    }
+
+    fn inherit(&mut self, parent: u32, name: u32, local: u32, remote: u32, rport: u16) -> Answer
+        requires { vec_len self.old.owners < vec_capacity self.old.owners }
+        ensures step { IsStep
+            (spec.named (held_by self.old) parent
+            (λ listener. spec.with_owner (held_by self.old) (spec.child name local remote rport listener)))
+            self.new result }
+        ensures capacity { vec_capacity self.new.owners ≡ vec_capacity self.old.owners }
+        ensures most { vec_len self.new.owners ≤ vec_len self.old.owners + 1 }
+        ensures least { vec_len self.old.owners ≤ vec_len self.new.owners }
+    {
+        match owner_place(parent, &self.owners) {
+            None => Answer::Strange(parent),
+            Some(place) => {
+                let listener = self.owners[place];
+                self.admit(child(listener, name, local, remote, rport))
+            }
+        }
+    }
+
+    fn group_answer(&self, number: u32, owner: &Owner) -> Answer
+        requires { number < 256 }
+        ensures { result ≡ spec.group_answer number (held_by self.now) (spec.place_for (held_by self.now) owner.now) }
+    {
+        match place_for(owner, &self.owners, &self.groups) {
+            None => Answer::GroupsFull,
+            Some(place) => {
+                if self.groups[place].has_room() {
+                    Answer::Group(Some(8 * number + place as u32))
+                } else {
+                    Answer::GroupFull
+                }
+            }
+        }
+    }
+
+    fn listener_answer(&self, number: u32, owner: &Owner, place: usize) -> Answer
+        requires number { number < 256 }
+        requires place { place < vec_len self.now.owners }
+        ensures { result ≡ spec.listener_answer number (held_by self.now) owner.now
+            (find (conflict_spec.refuses owner.now) (remove self.now.owners.items place)) }
+    {
+        match refusing_other(owner, place, &self.owners) {
+            Some(other) => Answer::InUse(other.name),
+            None => {
+                if owner.reuseport {
+                    self.group_answer(number, owner)
+                } else {
+                    Answer::Group(None)
+                }
+            }
+        }
+    }
+
+    fn may_listen(&self, number: u32, name: u32) -> Answer
+        requires { number < 256 }
+        ensures { IsStep
+            (spec.named (held_by self.now) name (spec.may_listen number (held_by self.now) name))
+            self.now result }
+    {
+        match owner_place(name, &self.owners) {
+            None => Answer::Strange(name),
+            Some(place) => self.listener_answer(number, &self.owners[place], place),
+        }
+    }
+
+    /// Puts a listener into its mates' group, or into the first that is free.
+    fn join(&mut self, owner: &Owner, name: u32, slot: u32)
+        requires { IsGroup (spec.group_answer 0 (held_by self.old) (spec.place_for (held_by self.old) owner.now)) }
+        ensures groups { self.new.groups
+            ≡ spec.with_member (spec.place_for (held_by self.old) owner.now)
+            (members_spec.member slot name) self.old.groups }
+        ensures owners { self.new.owners ≡ self.old.owners }
+    {
+        if let Some(place) = place_for(owner, &self.owners, &self.groups) {
+            let group = &mut self.groups[place];
+            group.join(slot, name);
+        }
+    }
+
+    fn listen(&mut self, number: u32, name: u32, slot: u32) -> Answer
+        requires { IsGroup (spec.named (held_by self.old) name (spec.may_listen number (held_by self.old) name)).answer }
+        ensures step { IsStep
+            (spec.named (held_by self.old) name (spec.listening (held_by self.old) name slot))
+            self.new result }
+        ensures capacity { vec_capacity self.new.owners ≡ vec_capacity self.old.owners }
+        ensures len { vec_len self.new.owners ≡ vec_len self.old.owners }
+    {
+        match owner_place(name, &self.owners) {
+            None => Answer::Strange(name),
+            Some(place) => {
+                let owner = self.owners[place];
+                if owner.reuseport {
+                    self.join(&owner, name, slot);
+                }
+                self.owners[place] = as_listener(owner);
+                Answer::Done
+            }
+        }
+    }
+
+    /// Takes the member of that name out of its group, if it is in one.
+    fn leave(&mut self, name: u32)
+        ensures groups { self.new.groups
+            ≡ change_first (members_spec.has_member name) (members_spec.left_by name) self.old.groups }
+        ensures owners { self.new.owners ≡ self.old.owners }
+    {
+        if let Some(place) = group_place(name, &self.groups) {
+            let group = &mut self.groups[place];
+            group.leave(name);
+        }
+    }
+
+    fn remove(&mut self, name: u32) -> Answer
+        ensures step { IsStep
+            (spec.named (held_by self.old) name (λ _. spec.removed (held_by self.old) name))
+            self.new result }
+        ensures capacity { vec_capacity self.new.owners ≡ vec_capacity self.old.owners }
+        ensures most { vec_len self.new.owners ≤ vec_len self.old.owners }
+        ensures least { vec_len self.old.owners ≤ vec_len self.new.owners + 1 }
+    {
+        match owner_place(name, &self.owners) {
+            None => Answer::Strange(name),
+            Some(place) => {
+                self.owners.remove(place);
+                self.leave(name);
+                Answer::Done
+            }
+        }
+    }
+
+    /// Carries out a request to the bucket of that number, and answers it.
+    #[tactic(auto, unfolding(crate::specs::OwnerStep::owner_step))]
+    pub fn carry_out(&mut self, number: u32, request: Request) -> Answer
+        requires number { number < 256 }
+        requires room { brings_owner request ≡ true → vec_len self.old.owners < vec_capacity self.old.owners }
+        requires allowed { CanCarryOut number (held_by self.old) request }
+        ensures step { IsStep (spec.owner_step number (held_by self.old) request) self.new result }
+        ensures capacity { vec_capacity self.new.owners ≡ vec_capacity self.old.owners }
+        ensures most { vec_len self.new.owners ≤ vec_len self.old.owners + 1 }
+        ensures least { vec_len self.old.owners ≤ vec_len self.new.owners + 1 }
+        ensures none { brings_owner request ≡ false → vec_len self.new.owners ≤ vec_len self.old.owners }
+    {
+        match request {
+            Request::Bind(owner) => self.bind(owner),
+            Request::BindAuto(owner) => self.bind_auto(owner),
+            Request::MayListen { name } => self.may_listen(number, name),
+            Request::Listen { name, slot } => self.listen(number, name, slot),
+            Request::Free { port } => self.free(port),
+            Request::ConnectAuto(owner) => self.admit(owner),
+            Request::ConnectBound {
+                name,
+                local,
+                remote,
+                rport,
+            } => self.connect_bound(name, local, remote, rport),
+            Request::Inherit {
+                parent,
+                name,
+                local,
+                remote,
+                rport,
+            } => self.inherit(parent, name, local, remote, rport),
+            Request::Remove { name } => self.remove(name),
+        }
+    }
+}

@@ -1,0 +1,35 @@
+//! The bind buckets of TCP sockets: who owns which port.
+//!
+//! Linux hashes each local port to a bucket (`struct inet_bind_bucket` in
+//! `net/ipv4/inet_hashtables.c`), which keeps the sockets that own the port. `bind` and `listen` ask
+//! there whether another owner stands in the way, searches for a port whether it may be taken, and
+//! listeners with `SO_REUSEPORT` find their group there (`net/core/sock_reuseport.c`). A [`Bucket`] is
+//! one such bucket: its owners, oldest first; the groups at its eight places, of sixteen members each;
+//! and a journal with one [`Note`] for each call, refused ones too.
+//!
+//! Each call's contract says that the bucket afterwards, its answer and its note are what
+//! `owner_step` of `specs/` makes of the bucket before. What every bucket keeps is `IsSound`: its
+//! journal is lawful, replaying it gives the owners and groups that stand, any two owners agree, and
+//! each owner's port is one of the bucket's. Only [`Bucket::reserve`] takes memory; the other calls
+//! use the room that it made.
+//!
+//! ```text
+//! let mut bucket = Bucket::new(alloc, number, buckets);
+//! bucket.reserve()?;
+//! bucket.bind(owner)?;
+//! let group = bucket.may_listen(owner.name)?;
+//! bucket.listen(owner.name, slot);
+//! ```
+#![tactic(auto)]
+
+pub mod bucket;
+mod group;
+mod held;
+pub mod laws;
+pub mod request;
+mod search;
+#[cfg(test)]
+mod tests;
+
+pub use bucket::Bucket;
+pub use request::{Answer, Entry, InUse, ListenEnd, Mark, NotFree, Note, Request, Strange};

@@ -1,0 +1,108 @@
+//! What a bucket is asked, what it answers, and how both stand in its journal.
+
+use sock_card::Owner;
+
+/// A call on a bucket, as its journal keeps it.
+///
+/// `Bind`, `BindAuto` and `ConnectAuto` bring an owner, and `Free` speaks of all owners of a port. The
+/// others speak of the first owner of a name.
+///
+/// `local` is an address of the socket's own end, `remote` and `rport` are the other's.
+#[derive(Clone, Copy, Debug, PartialEq, Eq)]
+pub enum Request {
+    Bind(Owner),
+    BindAuto(Owner),
+    MayListen {
+        name: u32,
+    },
+    Listen {
+        name: u32,
+        slot: u32,
+    },
+    Free {
+        port: u16,
+    },
+    ConnectAuto(Owner),
+    ConnectBound {
+        name: u32,
+        local: u32,
+        remote: u32,
+        rport: u16,
+    },
+    Inherit {
+        parent: u32,
+        name: u32,
+        local: u32,
+        remote: u32,
+        rport: u16,
+    },
+    Remove {
+        name: u32,
+    },
+}
+
+/// What a request is answered.
+#[derive(Clone, Copy, Debug, PartialEq, Eq)]
+pub enum Answer {
+    /// It was carried out.
+    Done,
+    /// The socket may listen, in the group of that number or in none.
+    Group(Option<u32>),
+    /// The owner of that name refuses it.
+    InUse(u32),
+    /// The group has sixteen members.
+    GroupFull,
+    /// The bucket has eight groups.
+    GroupsFull,
+    /// No owner has that name.
+    Strange(u32),
+    /// The owner of that name has the port, and `connect` didn't choose it.
+    NotFree(u32),
+}
+
+/// A request and its answer.
+#[derive(Clone, Copy, Debug, PartialEq, Eq)]
+pub struct Entry {
+    pub request: Request,
+    pub answer: Answer,
+}
+
+/// What tells a note from all others: its number, and whose call it was.
+#[derive(Clone, Copy, Debug, PartialEq, Eq)]
+pub struct Mark {
+    pub number: u64,
+    pub caller: u32,
+}
+
+/// One call, as the journal keeps it.
+#[derive(Clone, Copy, Debug, PartialEq, Eq)]
+pub struct Note {
+    pub number: u64,
+    pub caller: u32,
+    pub entry: Entry,
+}
+
+/// The owner of that name keeps another from the port.
+#[derive(Clone, Copy, Debug, PartialEq, Eq)]
+pub struct InUse(pub u32);
+
+/// No owner has that name.
+#[derive(Clone, Copy, Debug, PartialEq, Eq)]
+pub struct Strange(pub u32);
+
+/// The owner of that name keeps `connect` from its port.
+#[derive(Clone, Copy, Debug, PartialEq, Eq)]
+pub struct NotFree(pub u32);
+
+/// Why a socket can't listen.
+#[derive(Clone, Copy, Debug, PartialEq, Eq)]
+pub enum ListenEnd {
+    /// The owner of that name keeps it from the port.
+    InUse(u32),
+    /// Its group has sixteen members.
+    GroupFull,
+    /// It needs a group of its own, and the bucket has eight.
+    GroupsFull,
+    /// No owner has that name.
+    Strange(u32),
+}
