@@ -1,0 +1,4 @@
+mod PortsLeft
+mod BindHash
+mod Told
+mod Searching

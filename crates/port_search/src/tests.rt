@@ -1,0 +1,113 @@
+//! Runs of searches over four ports and two buckets.
+
+ghost use Rattle.port_search.specs.Search.{IsBindHash};
+
+use crate::ports::Ports;
+use crate::search::{Attempt, SearchEnd, find_bind, find_connect};
+use bind_buckets::Bucket;
+use flat_list::{First, Range};
+use sock_card::{Owner, State};
+use std::test::Fail;
+
+fn ports(offset: u16, first: First) -> Ports {
+    Ports::new(
+        Range {
+            low: 40000,
+            high: 40003,
+        },
+        offset,
+        first,
+    )
+}
+
+/// A socket that is to be bound to 0.0.0.0.
+fn socket(name: u32) -> Owner {
+    Owner {
+        name,
+        origin: name,
+        addr: 0,
+        port: 0,
+        remote: 0,
+        rport: 0,
+        dev: 0,
+        uid: 0,
+        reuseaddr: true,
+        reuseport: true,
+        state: State::Bound,
+        by_connect: false,
+    }
+}
+
+fn bind(buckets: &mut [Bucket], offset: u16) -> Result<u16, SearchEnd>
+    requires { IsBindHash buckets.old }
+    ensures { IsBindHash buckets.new }
+{
+    find_bind(buckets, ports(offset, First::Odd), socket(1))
+}
+
+/// Connects a socket; the four-tuples of these ports are taken.
+fn connect(buckets: &mut [Bucket], taken: &[u16]) -> Result<(u16, u16), SearchEnd>
+    requires { IsBindHash buckets.old }
+    ensures { IsBindHash buckets.new }
+{
+    find_connect(buckets, ports(2, First::Even), socket(2), |port| {
+        if taken.contains(&port) {
+            Attempt::Taken(1)
+        } else {
+            Attempt::Done(port)
+        }
+    })
+}
+
+#[test]
+fn bind_prefers_odd_distances(rt: HostRuntime) -> Result<(), Fail> {
+    let mut buckets = [Bucket::new(rt.alloc(), 0, 2), Bucket::new(rt.alloc(), 1, 2)];
+    assert_eq!(rt; bind(&mut buckets, 0), Ok(40001));
+    assert_eq!(rt; bind(&mut buckets, 0), Ok(40003));
+    assert_eq!(rt; bind(&mut buckets, 0), Ok(40000));
+    assert_eq!(rt; bind(&mut buckets, 0), Ok(40002));
+    assert_eq!(rt; bind(&mut buckets, 0), Err(SearchEnd::NoPort));
+    Ok(())
+}
+
+#[test]
+fn bind_begins_at_the_offset(rt: HostRuntime) -> Result<(), Fail> {
+    let mut buckets = [Bucket::new(rt.alloc(), 0, 2), Bucket::new(rt.alloc(), 1, 2)];
+    assert_eq!(rt; bind(&mut buckets, 2), Ok(40003));
+    assert_eq!(rt; bind(&mut buckets, 2), Ok(40001));
+    assert_eq!(rt; bind(&mut buckets, 2), Ok(40002));
+    assert_eq!(rt; bind(&mut buckets, 2), Ok(40000));
+    Ok(())
+}
+
+#[test]
+fn connect_shares_its_ports(rt: HostRuntime) -> Result<(), Fail> {
+    let mut buckets = [Bucket::new(rt.alloc(), 0, 2), Bucket::new(rt.alloc(), 1, 2)];
+    assert_eq!(rt; connect(&mut buckets, &[]), Ok((40002, 40002)));
+    assert_eq!(rt; connect(&mut buckets, &[]), Ok((40002, 40002)));
+    assert_eq!(rt; connect(&mut buckets, &[40002]), Ok((40000, 40000)));
+    assert_eq!(rt; connect(&mut buckets, &[40002, 40000]), Ok((40003, 40003)));
+    let all = [40000, 40001, 40002, 40003];
+    assert_eq!(rt; connect(&mut buckets, &all), Err(SearchEnd::NoPort));
+    Ok(())
+}
+
+#[test]
+fn connect_passes_over_bound_ports(rt: HostRuntime) -> Result<(), Fail> {
+    let mut buckets = [Bucket::new(rt.alloc(), 0, 2), Bucket::new(rt.alloc(), 1, 2)];
+    assert_eq!(rt; bind(&mut buckets, 2), Ok(40003));
+    assert_eq!(rt; connect(&mut buckets, &[40002, 40000]), Ok((40001, 40001)));
+    assert_eq!(rt; bind(&mut buckets, 2), Ok(40002));
+    assert_eq!(rt; connect(&mut buckets, &[]), Ok((40000, 40000)));
+    Ok(())
+}
+
+#[test]
+fn a_search_ends_without_slots(rt: HostRuntime) -> Result<(), Fail> {
+    let mut buckets = [Bucket::new(rt.alloc(), 0, 1)];
+    let end = find_connect::<u16, _>(&mut buckets, ports(0, First::Even), socket(1), |_| {
+        Attempt::Full { owned: 7, held: 0 }
+    });
+    assert_eq!(rt; end, Err(SearchEnd::Full { owned: 7, held: 0 }));
+    Ok(())
+}
