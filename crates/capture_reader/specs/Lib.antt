@@ -1,0 +1,7 @@
+-- What the contracts of this crate and of those above it cite.
+pub mod Numbers
+pub mod Header
+pub mod Items
+pub mod Captures
+pub mod Grammar
+pub mod Rows

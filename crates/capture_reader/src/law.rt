@@ -1,0 +1,23 @@
+//! What the grammar implies of every text.
+
+ghost use Rattle.std.specs.Prelude.{◌≡◌, [], ◌∷◌};
+ghost use Rattle.capture_reader.specs.Grammar as law;
+ghost use Rattle.capture_reader.specs.Rows.{found, judged};
+
+use crate::packet::Item;
+
+/// A text is one capture at most, for one device.
+pub fn one_capture()
+    ensures { law.IsDetermined }
+{}
+
+/// A text is a capture exactly where it has no bytes or begins with a header.
+pub fn some_capture()
+    ensures each { law.TakesEach }
+    ensures no_other { law.TakesNoOther }
+{}
+
+/// The definition of items gives the worked examples.
+pub fn item_rows()
+    ensures { judged ≡ found ∷ found ∷ found ∷ Item.Skip ∷ Item.Skip ∷ Item.Short ∷ [] }
+{}
