@@ -1,0 +1,13 @@
+pub mod Sums
+pub mod ViewLists
+pub mod OfCallers
+pub mod Updates
+pub mod ShareSteps
+pub mod TurnSteps
+pub mod EntrySteps
+pub mod KnowledgeSteps
+pub mod CallerSteps
+pub mod Whole
+pub mod Steps
+pub mod Closing
+pub mod Uses

@@ -1,0 +1,143 @@
+//! The steps that passes make.
+
+ghost use Rattle.std.specs.Prelude.{◌≡◌, ℕ, ◌+◌, ◌-◌, ◌^◌, ◌<◌, ◌≤◌, [], ◌∷◌, ◌++◌, length, map, None};
+ghost use Rattle.list_words.specs.Lists.{Each};
+ghost use Rattle.turn_table.specs.declared.note.Note.{Note};
+ghost use Rattle.turn_table.specs.Values.{Fits};
+ghost use Rattle.turn_table.specs.Journals.{Ascends, AsFound, number, by_caller, notes_at};
+ghost use Rattle.turn_table.specs.Views.{cut, newcomer, heard, joined, looked, taking, drawing, giving, added};
+ghost use Rattle.turn_table.specs.Passes as words;
+ghost use Rattle.turn_table.specs.Passes.{IsPassOf, IsFree, HasTurn, known};
+
+use crate::journaled::Journaled;
+use crate::pass::{Turn, TurnPass, Turns};
+use crate::rule::{Both, Cut, Draw, Give, See, Take, Tell};
+use std::sync::Wait;
+use std::thread::yield_now;
+
+impl<V: Journaled> Turns<V> {
+    /// Waits for the turn of a place, and takes its value out.
+    ///
+    /// What the pass has seen afterwards is the count at that moment. It takes no memory.
+    pub fn take_turn<R: Wait>(&self, rt: &R, pass: &mut TurnPass<V>, place: usize) -> Turn<V>
+        requires table { IsPassOf self.now pass.old }
+        requires place { place < words.places self.now }
+        requires free { IsFree pass.old }
+        requires part { 0 < words.parts pass.old }
+        ensures table { IsPassOf self.now pass.new }
+        ensures turn { HasTurn pass.new place × (result.place ≡ place) }
+        ensures value { Fits V.notes V.is_replay V.made_for V.may_make (words.home self.now) place (words.places self.now) result.value }
+        ensures view { known pass.new ≡ taking (known pass.old) place (words.seen pass.new) (V.notes result.value) }
+        ensures later { words.seen pass.old ≤ words.seen pass.new }
+        ensures rising { Ascends (words.seen pass.new) (map number (V.notes result.value)) }
+        ensures own { by_caller (words.caller pass.old) (V.notes result.value) ≡ by_caller (words.caller pass.old) (notes_at place (words.given pass.old)) }
+        ensures sole { words.caller pass.old ≡ 0 → words.splits pass.old ≡ 0 → V.notes result.value ≡ notes_at place (words.given pass.old) }
+        ensures before { AsFound (words.finds pass.old) place (V.notes result.value) }
+    {
+        for _ in rt.forever() {
+            let found = self
+                .table
+                .shared
+                .compare_exchange::<Take<V>>(&mut pass.seat, 1 + place, 0, 1);
+            if found == 0 {
+                let value = self
+                    .table
+                    .shared
+                    .exchange(&mut pass.seat, place, None)
+                    .unwrap();
+                return Turn { value, place };
+            }
+            yield_now();
+        }
+        unreachable!()
+    }
+
+    /// The number of the next entry of the value that is out. It takes no memory.
+    pub fn draw(&self, pass: &mut TurnPass<V>, turn: &Turn<V>) -> u64
+        requires table { IsPassOf self.now pass.old }
+        requires turn { HasTurn pass.old turn.now.place }
+        requires few { words.draws pass.old < 2 ^ 48 }
+        ensures table { IsPassOf self.now pass.new }
+        ensures turn { HasTurn pass.new turn.now.place }
+        ensures later { words.seen pass.old ≤ result }
+        ensures view { known pass.new ≡ drawing (known pass.old) result }
+    {
+        let _place = turn.place;
+        self.table.shared.fetch_add::<Draw<V>>(&mut pass.seat, 0, 1)
+    }
+
+    /// Gives a turn back. The value's new entries have the numbers that were drawn for them, in order,
+    /// and this pass as their caller. It takes no memory.
+    pub fn give(&self, pass: &mut TurnPass<V>, turn: Turn<V>)
+        requires table { IsPassOf self.now pass.old }
+        requires place { turn.place < words.places self.now }
+        requires turn { HasTurn pass.old turn.place }
+        requires value { Fits V.notes V.is_replay V.made_for V.may_make (words.home self.now) turn.place (words.places self.now) turn.value }
+        requires grown { V.notes turn.value ≡ words.found pass.old ++ added (known pass.old) (V.notes turn.value) }
+        requires numbered { map number (added (known pass.old) (V.notes turn.value)) ≡ words.drawn pass.old }
+        requires caller { Each (λ (x : Note V.Entry). x.caller ≡ words.caller pass.old) (added (known pass.old) (V.notes turn.value)) }
+        ensures table { IsPassOf self.now pass.new }
+        ensures free { IsFree pass.new }
+        ensures view { known pass.new ≡ giving (known pass.old) turn.place (added (known pass.old) (V.notes turn.value)) }
+    {
+        let Turn { value, place } = turn;
+        let shared = &self.table.shared;
+        drop(shared.exchange(&mut pass.seat, place, Some(value)));
+        shared.store::<Give<V>>(&mut pass.seat, 1 + place, 0);
+    }
+}
+
+impl<V: Journaled> TurnPass<V> {
+    /// How many numbers were drawn. Those that this pass drew or found are below it. It takes no memory.
+    pub fn now(&mut self, turns: &Turns<V>) -> u64
+        requires { IsPassOf turns.now self.old }
+        ensures table { IsPassOf turns.now self.new }
+        ensures hand { words.hand self.new ≡ words.hand self.old }
+        ensures later { words.seen self.old ≤ result }
+        ensures view { known self.new ≡ looked (known self.old) result }
+        ensures whole { words.parts self.old ≡ 16384 → result ≡ length (words.given self.old) + length (words.drawn self.old) }
+    {
+        turns.table.shared.load::<See<V>>(&mut self.seat, 0)
+    }
+
+    /// Splits off a pass for another thread, as the next caller. It takes no memory.
+    pub fn split(&mut self, turns: &Turns<V>) -> TurnPass<V>
+        requires table { IsPassOf turns.now self.old }
+        requires first { (words.caller self.old ≡ 0) × (0 < words.parts self.old) }
+        requires few { words.splits self.old < 2 ^ 14 - 2 }
+        ensures table { IsPassOf turns.now self.new × IsPassOf turns.now result }
+        ensures hand { (words.hand self.new ≡ words.hand self.old) × IsFree result }
+        ensures old { known self.new ≡ cut (known self.old) }
+        ensures new { known result ≡ newcomer (words.about self.old) (words.splits self.old + 1) (words.seen self.old) }
+    {
+        TurnPass {
+            seat: turns.table.shared.split_seat::<Cut>(&mut self.seat),
+        }
+    }
+
+    /// What this pass has seen, for another to join. It can do nothing else, and takes no memory.
+    pub fn note(&mut self, turns: &Turns<V>) -> TurnPass<V>
+        requires { IsPassOf turns.now self.old }
+        ensures table { IsPassOf turns.now self.new × IsPassOf turns.now result }
+        ensures hand { (words.hand self.new ≡ words.hand self.old) × IsFree result }
+        ensures old { known self.new ≡ known self.old }
+        ensures new { known result ≡ heard (words.about self.old) (words.seen self.old) }
+    {
+        TurnPass {
+            seat: turns.table.shared.split_seat::<Tell>(&mut self.seat),
+        }
+    }
+
+    /// Joins another pass: this one has then seen, found and given what either has. It takes no memory.
+    pub fn join(&mut self, turns: &Turns<V>, other: TurnPass<V>)
+        requires table { IsPassOf turns.now self.old × IsPassOf turns.now other }
+        requires part { 0 < words.parts self.old }
+        requires free { IsFree other }
+        ensures table { IsPassOf turns.now self.new }
+        ensures hand { words.hand self.new ≡ words.hand self.old }
+        ensures view { known self.new ≡ joined (known self.old) (known other) }
+    {
+        let TurnPass { seat } = other;
+        turns.table.shared.join_seat::<Both>(&mut self.seat, seat);
+    }
+}
