@@ -14,3 +14,4 @@ mod RoomToGo
 mod Filtered
 mod ToldByOwn
 mod GroupNumber
+pub mod Called

@@ -4,7 +4,8 @@ use Rattle.std.proofs.lemmas.Bool.{false≢true}
 use Rattle.std.proofs.Math.ListN.{set}
 use Rattle.sock_card.specs.declared.owner.Owner.{Owner}
 use Rattle.bind_buckets.specs.declared.request.Answer.TheVariants as answers
-use Rattle.bind_buckets.specs.OwnerStep.{Held, After, has_name, named, spoken, kept, changed, listening, as_listener, with_member, place_for}
+use Rattle.sock_card.specs.Became.{as_listener}
+use Rattle.bind_buckets.specs.OwnerStep.{Held, After, has_name, named, spoken, kept, changed, listening, with_member, place_for}
 use Rattle.bind_buckets.specs.Members.{member}
 use Rattle.bind_buckets.proofs.FirstPlace.{found_at, absent, changes_at}
 

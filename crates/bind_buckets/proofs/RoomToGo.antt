@@ -7,7 +7,7 @@ use Rattle.std.proofs.lemmas.List.{length-append}
 use Rattle.bind_buckets.specs.declared.request.Answer.TheVariants as answers
 use Rattle.bind_buckets.specs.declared.request.InUse.{InUse}
 use Rattle.bind_buckets.specs.declared.request.Strange.{Strange}
-use Rattle.bind_buckets.specs.OwnerStep.{Held, After, has_name, admitted, spoken, removed}
+use Rattle.bind_buckets.specs.OwnerStep.{Held, After, admitted, spoken}
 use Rattle.bind_buckets.specs.Bucket.{entries_after, newcomers_after}
 use Rattle.bind_buckets.specs.Answers.{answer_of_bind, answer_of_name, TakesIfOk, TakesIfErr}
 
@@ -20,10 +20,14 @@ length-drop_first is [] s e = absurd (cc)
 length-drop_first is (x ∷ xs) s e =
     shorter_by x s xs (drop_first is xs) (find is xs) (is x) (length-drop_first is xs s) e
 
-pub room_to_go : (h : Held) (name n : ℕ) (o : Option Owner) → find (has_name name) h.owners ≡ o → (o ≡ None → 1 ≤ n) → length h.owners ≤ length (spoken h name o (λ _. removed h name)).held.owners → 1 ≤ n
-room_to_go h name n None q room le = room refl
-room_to_go h name n (Some a) q room le =
-    absurd (omega (arith, length-drop_first (has_name name) h.owners a q))
+-- a call on a name by which the first owner goes that passes a test
+module _ (h : Held) (name : ℕ) (is : Owner → Bool) (speak : Owner → After) (drops : (a : Owner) → (speak a).held.owners ≡ drop_first is h.owners) where
+  pub goes : (a : Owner) → find is h.owners ≡ Some a → length (speak a).held.owners + 1 ≡ length h.owners
+  goes a q = rw (drops a) (length-drop_first is h.owners a q)
+
+  pub room_to_go : (n : ℕ) (o : Option Owner) → find is h.owners ≡ o → (o ≡ None → 1 ≤ n) → length h.owners ≤ length (spoken h name o speak).held.owners → 1 ≤ n
+  room_to_go n None q room le = room refl
+  room_to_go n (Some a) q room le = absurd (omega (arith, goes a q))
 
 used_by : (e old new : ℕ) (b : Bool) → b ≡ ltb new old → old ≤ new → 1 ≤ e → cond b e (e - 1) + 1 ≡ e
 used_by e old new true is le h = absurd (grind (arith, nat_tests))
@@ -85,9 +89,10 @@ module _ (h : Held) (name : ℕ) (speak : Owner → After) where
   spoken_came n (Some a) (Ok u) done lt room e = came n h.owners _ (lt a) room
   spoken_came n (Some a) (Err end) done lt room e = absurd (let is = done a in cc)
 
-pub gone : (h : Held) (name n : ℕ) (o : Option Owner) (r : Result (Unit {0}) Strange) → find (has_name name) h.owners ≡ o → (o ≡ None → 1 ≤ n) → answer_of_name r ≡ (spoken h name o (λ _. removed h name)).answer
-    → TakesIfErr r n (entries_after n h.owners (spoken h name o (λ _. removed h name)).held.owners)
-gone h name n None (Ok u) q room e = absurd (cc)
-gone h name n None (Err end) q room e = used n h.owners h.owners (omega arith) (room refl)
-gone h name n (Some a) (Ok u) q room e = unused n h.owners _ (length-drop_first (has_name name) h.owners a q)
-gone h name n (Some a) (Err end) q room e = absurd (cc)
+module _ (h : Held) (name : ℕ) (is : Owner → Bool) (speak : Owner → After) (drops : (a : Owner) → (speak a).held.owners ≡ drop_first is h.owners) (is_done : (a : Owner) → (speak a).answer ≡ answers.Done) where
+  pub gone : (n : ℕ) (o : Option Owner) (r : Result (Unit {0}) Strange) → find is h.owners ≡ o → (o ≡ None → 1 ≤ n) → answer_of_name r ≡ (spoken h name o speak).answer
+      → TakesIfErr r n (entries_after n h.owners (spoken h name o speak).held.owners)
+  gone n None (Ok u) q room e = absurd (cc)
+  gone n None (Err end) q room e = used n h.owners h.owners (omega arith) (room refl)
+  gone n (Some a) (Ok u) q room e = unused n h.owners _ (goes h name is speak drops a q)
+  gone n (Some a) (Err end) q room e = absurd (let done = is_done a in cc)

@@ -1,5 +1,5 @@
 -- Each allowed request keeps all owners in agreement, and their ports in the bucket.
-use Rattle.std.proofs.Common.{◌≡◌, ℕ, Bool, true, false, List, [], ◌∷◌, find, Some, None, Option, IfSome, ◌++◌, refl, ◌∙◌, ap, subst, ◌⊎◌, ⊎_elim}
+use Rattle.std.proofs.Common.{◌≡◌, ℕ, Bool, true, false, not, ◌&&◌, ◌||◌, ◌==◌, List, [], ◌∷◌, find, Some, None, Option, IfSome, ◌++◌, refl, ◌∙◌, ap, subst, ◌⊎◌, ⊎_elim}
 use Rattle.list_words.specs.Lists.{Each}
 use Rattle.list_words.proofs.EachLemmas.{each_weaken, each_push, each_found, some_same}
 use Rattle.list_words.proofs.PairsLemmas.{pairs_push, pairs_found}
@@ -7,12 +7,13 @@ use Rattle.sock_card.specs.declared.owner.Owner.{Owner}
 use Rattle.sock_card.specs.declared.owner.State.{State}
 use Rattle.sock_card.specs.declared.owner.State.TheVariants as states
 use Rattle.sock_card.specs.Agreement.{Narrows}
-use Rattle.sock_card.specs.Conflict.{agree, refuses, overlap, is_time_wait}
+use Rattle.sock_card.specs.Conflict.{agree, refuses, overlap, is_listening, is_time_wait, both_reuse_addr, both_reuse_port}
 use Rattle.sock_card.proofs.Agreement.{agrees_both_ways, agrees_unless_refused, overlaps_who_refuses, agrees_by_origin, agrees_where_narrowed}
 use Rattle.bind_buckets.specs.declared.request.Request.{Request}
 use Rattle.bind_buckets.specs.declared.request.Request.TheVariants as requests
 use Rattle.bind_buckets.specs.First.{change_first, drop_first}
-use Rattle.bind_buckets.specs.OwnerStep.{Held, After, owner_step, has_name, holds, admitted, spoken, may_listen, as_listener, connected, child, listening, changed, with_owner, removed}
+use Rattle.sock_card.specs.Became.{as_listener, connected, child, as_waiting}
+use Rattle.bind_buckets.specs.OwnerStep.{Held, After, owner_step, has_name, holds, admitted, spoken, may_listen, listening, changed, with_owner, removed, without_waiting, waits_as}
 use Rattle.bind_buckets.specs.Journal.{OwnersAgree}
 use Rattle.bind_buckets.specs.Bucket.{Bucket, IsAllowed, IsGroup, StandsAt, is_port_of, step_of}
 use Rattle.bind_buckets.proofs.FirstPairs.{each_unless_found, each_drop, each_change, pairs_drop, pairs_first, pairs_change}
@@ -75,6 +76,21 @@ narrows_child name local remote rport a s = record {
   waiting = ap is_time_wait s.state;
 }
 
+-- o who overlaps, ra both reuseaddr, l and m who listens, rp both reuseport, u same user, t and v who waits
+still_agree : (o ra l m rp u t v x y : Bool) → (not o || ra && not (l && m) || rp && (u || t || v) || x || y) ≡ true → (not o || ra && not (false && m) || rp && (u || true || v) || x || y) ≡ true
+still_agree false ra l m rp u t v x y h = refl
+still_agree true true l m rp u t v x y h = refl
+still_agree true false l m true true t v x y h = refl
+still_agree true false l m true false t v x y h = refl
+still_agree true false l m false u t v x y h = h
+
+-- an owner in TIME_WAIT agrees with all that it agreed with before
+agrees_waiting : (a b : Owner) → Agree a b → Agree (as_waiting a) b
+unfolding agree overlap
+agrees_waiting a b h =
+    still_agree (overlap a b) (both_reuse_addr a b) (is_listening a.state) (is_listening b.state) (both_reuse_port a b)
+    (a.uid == b.uid) (is_time_wait a.state) (is_time_wait b.state) (a.origin == b.origin) (a.by_connect && b.by_connect) h
+
 -- the first of that name becomes what agrees with all that it agreed with
 changed_agrees : (f : Owner → Owner) (owners : List Owner) (name : ℕ) (a : Owner) → ((b : Owner) → Agree a b → Agree (f a) b) → OwnersAgree owners → find (has_name name) owners ≡ Some a → OwnersAgree (change_first (has_name name) f owners)
 changed_agrees f owners name a same p found =
@@ -126,6 +142,14 @@ step_agrees b (requests.Inherit parent name local remote rport) allowed p =
     let h = b.held in
     spoken_keeps OwnersAgree h parent (λ listener. with_owner h (child name local remote rport listener)) (find (has_name parent) h.owners) p
     (λ a e. child_agrees h.owners parent name local remote rport a (stands states.Listening local _ a e allowed) p e)
+step_agrees b (requests.ToTimeWait name) allowed p =
+    let h = b.held in
+    spoken_keeps OwnersAgree h name (λ _. changed h name as_waiting h.groups) (find (has_name name) h.owners) p
+    (λ a e. changed_agrees as_waiting h.owners name a (agrees_waiting a) p e)
+step_agrees b (requests.RemoveWaiting name) allowed p =
+    let h = b.held in
+    spoken_keeps OwnersAgree h name (λ _. without_waiting h name) (find (waits_as name) h.owners) p
+    (λ a e. pairs_drop (waits_as name) Agree h.owners p)
 step_agrees b (requests.Remove name) allowed p =
     let h = b.held in
     spoken_keeps OwnersAgree h name (λ _. removed h name) (find (has_name name) h.owners) p
@@ -162,6 +186,14 @@ step_ports b (requests.Inherit parent name local remote rport) allowed p =
     let h = b.held in
     spoken_keeps (PortsOf b) h parent (λ listener. with_owner h (child name local remote rport listener)) (find (has_name parent) h.owners) p
     (λ a e. each_push (HasPort b) h.owners (child name local remote rport a) p (each_found (HasPort b) (has_name parent) h.owners a p e))
+step_ports b (requests.ToTimeWait name) allowed p =
+    let h = b.held in
+    spoken_keeps (PortsOf b) h name (λ _. changed h name as_waiting h.groups) (find (has_name name) h.owners) p
+    (λ a e. each_change (has_name name) (HasPort b) as_waiting h.owners (λ x q. q) p)
+step_ports b (requests.RemoveWaiting name) allowed p =
+    let h = b.held in
+    spoken_keeps (PortsOf b) h name (λ _. without_waiting h name) (find (waits_as name) h.owners) p
+    (λ a e. each_drop (waits_as name) (HasPort b) h.owners p)
 step_ports b (requests.Remove name) allowed p =
     let h = b.held in
     spoken_keeps (PortsOf b) h name (λ _. removed h name) (find (has_name name) h.owners) p

@@ -11,7 +11,8 @@ use Rattle.bind_buckets.specs.declared.request.Request.TheVariants as requests
 use Rattle.bind_buckets.specs.declared.request.Answer.TheVariants as answers
 use Rattle.bind_buckets.specs.First.{change_first}
 use Rattle.bind_buckets.specs.Members.{member, has_member, joined_by, left_by}
-use Rattle.bind_buckets.specs.OwnerStep.{Held, After, owner_step, has_name, admitted, spoken, may_listen, listener_answer, group_answer, listening, with_member, place_for, members_at, changed, connected, with_owner, child, removed, others}
+use Rattle.sock_card.specs.Became.{connected, child, as_waiting}
+use Rattle.bind_buckets.specs.OwnerStep.{Held, After, owner_step, has_name, admitted, spoken, may_listen, listener_answer, group_answer, listening, with_member, place_for, members_at, changed, with_owner, removed, without_waiting, waits_as, others}
 use Rattle.bind_buckets.specs.Bucket.{Bucket, IsAllowed, IsGroup, step_of}
 use Rattle.bind_buckets.proofs.FirstPairs.{each_change}
 use Rattle.bind_buckets.proofs.CanListen.{group_if_shared}
@@ -80,6 +81,12 @@ step_fits b (requests.ConnectBound name local remote rport) allowed p =
 step_fits b (requests.Inherit parent name local remote rport) allowed p =
     let h = b.held in
     spoken_keeps (Each Fits) h parent (λ listener. with_owner h (child name local remote rport listener)) (find (has_name parent) h.owners) p (λ a e. p)
+step_fits b (requests.ToTimeWait name) allowed p =
+    let h = b.held in
+    spoken_keeps (Each Fits) h name (λ _. changed h name as_waiting h.groups) (find (has_name name) h.owners) p (λ a e. p)
+step_fits b (requests.RemoveWaiting name) allowed p =
+    let h = b.held in
+    spoken_keeps (Each Fits) h name (λ _. without_waiting h name) (find (waits_as name) h.owners) p (λ a e. p)
 step_fits b (requests.Remove name) allowed p =
     let h = b.held in
     spoken_keeps (Each Fits) h name (λ _. removed h name) (find (has_name name) h.owners) p
@@ -122,6 +129,12 @@ step_eight b (requests.ConnectBound name local remote rport) p =
 step_eight b (requests.Inherit parent name local remote rport) p =
     let h = b.held in
     spoken_keeps AreEight h parent (λ listener. with_owner h (child name local remote rport listener)) (find (has_name parent) h.owners) p (λ a e. p)
+step_eight b (requests.ToTimeWait name) p =
+    let h = b.held in
+    spoken_keeps AreEight h name (λ _. changed h name as_waiting h.groups) (find (has_name name) h.owners) p (λ a e. p)
+step_eight b (requests.RemoveWaiting name) p =
+    let h = b.held in
+    spoken_keeps AreEight h name (λ _. without_waiting h name) (find (waits_as name) h.owners) p (λ a e. p)
 step_eight b (requests.Remove name) p =
     let h = b.held in
     spoken_keeps AreEight h name (λ _. removed h name) (find (has_name name) h.owners) p

@@ -39,4 +39,6 @@ can_carry_out b (requests.Free port) h = tt
 can_carry_out b (requests.ConnectAuto a) h = tt
 can_carry_out b (requests.ConnectBound name local remote rport) h = tt
 can_carry_out b (requests.Inherit parent name local remote rport) h = tt
+can_carry_out b (requests.ToTimeWait name) h = tt
 can_carry_out b (requests.Remove name) h = tt
+can_carry_out b (requests.RemoveWaiting name) h = tt

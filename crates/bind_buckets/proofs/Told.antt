@@ -13,9 +13,10 @@ use Rattle.bind_buckets.specs.declared.request.Strange.{Strange}
 use Rattle.bind_buckets.specs.declared.request.ListenEnd.{ListenEnd}
 use Rattle.bind_buckets.specs.declared.request.ListenEnd.TheVariants as ends
 use Rattle.bind_buckets.specs.First.{change_first}
-use Rattle.bind_buckets.specs.OwnerStep.{Held, After, owner_step, has_name, with_last, changed, admitted, spoken, may_listen, listener_answer, group_answer, group_number, listening, as_listener, place_for, members_at, others}
+use Rattle.sock_card.specs.Became.{as_listener}
+use Rattle.bind_buckets.specs.OwnerStep.{Held, After, owner_step, has_name, waits_as, with_last, changed, without_waiting, admitted, spoken, may_listen, listener_answer, group_answer, group_number, listening, place_for, members_at, others}
 use Rattle.bind_buckets.specs.Bucket.{Bucket, IsGroup, CanListen, called, answer_to, step_of}
-use Rattle.bind_buckets.specs.Answers.{answer_of_bind, answer_of_name, answer_of_listen, answer_of_end, IsOfBind, IsOfName, IsOfListen, told_of, KnowsOrSays, Hinders}
+use Rattle.bind_buckets.specs.Answers.{answer_of_bind, answer_of_name, answer_of_listen, answer_of_end, IsOfBind, IsOfName, IsOfListen, told_of, KnowsOrSays, KnowsWaitingOrSays, Hinders}
 use Rattle.bind_buckets.proofs.StaysGrouped.{each_read, Fits}
 
 module _ (h : Held) (a : Owner) where
@@ -62,9 +63,19 @@ module _ (h : Held) (name : ℕ) (speak : Owner → After) (is_done : (a : Owner
   strange_by (Some a) (Ok u) q e = rw q refl
   strange_by (Some a) (Err end) q e = absurd (let done = is_done a in cc)
 
+  pub strange_unless_waiting : (o : Option Owner) (r : Result (Unit {0}) Strange) → find (waits_as name) h.owners ≡ o → answer_of_name r ≡ (spoken h name o speak).answer → KnowsWaitingOrSays name h.owners r
+  strange_unless_waiting None (Ok u) q e = absurd (cc)
+  strange_unless_waiting None (Err end) q e = let same : end.0 ≡ name = cc in record { named = same; none = q }
+  strange_unless_waiting (Some a) (Ok u) q e = rw q refl
+  strange_unless_waiting (Some a) (Err end) q e = absurd (let done = is_done a in cc)
+
 pub same_groups : (h : Held) (name : ℕ) (f : Owner → Owner) (o : Option Owner) → (spoken h name o (λ _. changed h name f h.groups)).held.groups ≡ h.groups
 same_groups h name f None = refl
 same_groups h name f (Some a) = refl
+
+pub groups_without : (h : Held) (name : ℕ) (o : Option Owner) → (spoken h name o (λ _. without_waiting h name)).held.groups ≡ h.groups
+groups_without h name None = refl
+groups_without h name (Some a) = refl
 
 cond_listens : (b : Bool) (x y : Answer) → IsOfListen x → IsOfListen y → IsOfListen (cond b x y)
 cond_listens true x y p q = p

@@ -1,18 +1,19 @@
 -- The owners of some names after a journal, from the entries about them.
 use Rattle.std.proofs.Common.{◌≡◌, ℕ, Bool, true, false, cond, List, [], ◌∷◌, ◌++◌, filter, find, Some, None, Option, refl, sym, ◌∙◌, ap, append-nil}
 use Rattle.std.specs.Option.{option_map, option_to_list}
-use Rattle.std.proofs.lemmas.Bool.{eqb-true}
+use Rattle.std.proofs.lemmas.Bool.{eqb-true, and_parts}
 use Rattle.std.proofs.lemmas.List.Elements.{filter-append}
 use Rattle.list_words.specs.Lists.{Each}
 use Rattle.sock_card.specs.declared.owner.Owner.{Owner}
-use Rattle.sock_card.specs.Conflict.{overlap, refuses}
+use Rattle.sock_card.specs.Conflict.{overlap, refuses, is_time_wait}
 use Rattle.bind_buckets.specs.declared.request.Request.{Request}
 use Rattle.bind_buckets.specs.declared.request.Request.TheVariants as requests
 use Rattle.bind_buckets.specs.declared.request.Answer.{Answer}
 use Rattle.bind_buckets.specs.declared.request.Answer.TheVariants as answers
 use Rattle.bind_buckets.specs.declared.request.Entry.{Entry}
 use Rattle.bind_buckets.specs.First.{change_first, drop_first}
-use Rattle.bind_buckets.specs.OwnerStep.{Held, owner_step, has_name, holds, free_answer, admitted, spoken, may_listen, listening, as_listener, connected, child, changed, with_owner, removed, empty}
+use Rattle.sock_card.specs.Became.{as_listener, connected, child, as_waiting}
+use Rattle.bind_buckets.specs.OwnerStep.{Held, owner_step, has_name, holds, free_answer, admitted, spoken, may_listen, listening, changed, with_owner, removed, without_waiting, waits_as, empty}
 use Rattle.bind_buckets.specs.Journal.{IsLegalFrom, replayed_from, replayed}
 use Rattle.bind_buckets.specs.Followed.{done_by, told, told_from, speaks_of, IsWhole, is_mine, is_about, ToldByTheirOwn, FirstIsTold}
 use Rattle.bind_buckets.proofs.Filtered.{filter_change, filter_drop, find_filtered, unseen_change, unseen_drop}
@@ -53,6 +54,14 @@ remove_told : (h : Held) (name : ℕ) (o : Option Owner) → let after = spoken 
 remove_told h name None = refl
 remove_told h name (Some a) = refl
 
+wait_told : (h : Held) (name : ℕ) (o : Option Owner) → let after = spoken h name o (λ _. changed h name as_waiting h.groups) in after.held.owners ≡ told h.owners (requests.ToTimeWait name) after.answer
+wait_told h name None = refl
+wait_told h name (Some a) = refl
+
+reaped_told : (h : Held) (name : ℕ) (o : Option Owner) → let after = spoken h name o (λ _. without_waiting h name) in after.held.owners ≡ told h.owners (requests.RemoveWaiting name) after.answer
+reaped_told h name None = refl
+reaped_told h name (Some a) = refl
+
 -- a step's owners are told by its answer
 step_told : (n : ℕ) (h : Held) (request : Request) → (owner_step n h request).held.owners ≡ told h.owners request (owner_step n h request).answer
 unfolding owner_step
@@ -66,7 +75,9 @@ step_told n h (requests.ConnectBound name local remote rport) =
     connect_told h name local remote rport (find (has_name name) h.owners)
 step_told n h (requests.Inherit parent name local remote rport) =
     inherit_told h parent name local remote rport (find (has_name parent) h.owners) refl
+step_told n h (requests.ToTimeWait name) = wait_told h name (find (has_name name) h.owners)
 step_told n h (requests.Remove name) = remove_told h name (find (has_name name) h.owners)
+step_told n h (requests.RemoveWaiting name) = reaped_told h name (find (waits_as name) h.owners)
 
 replay_told : (n : ℕ) (h : Held) (es : List Entry) → IsLegalFrom n h es → (replayed_from n h es).owners ≡ told_from h.owners es
 replay_told n h [] legal = refl
@@ -82,6 +93,9 @@ module _ (mine : ℕ → Bool) where
   named_mine : (name : ℕ) (b : Bool) → mine name ≡ b → (a : Owner) → has_name name a ≡ true → m a ≡ b
   named_mine name b h a is = ap mine (eqb-true _ _ is) ∙ h
 
+  waiting_mine : (name : ℕ) (b : Bool) → mine name ≡ b → (a : Owner) → waits_as name a ≡ true → m a ≡ b
+  waiting_mine name b h a is = named_mine name b h a (and_parts (has_name name a) (is_time_wait a.state) is).0
+
   push_by : (owners : List Owner) (a : Owner) (b : Bool) → m a ≡ b → filter m (owners ++ a ∷ []) ≡ cond b (filter m owners ++ a ∷ []) (filter m owners)
   push_by owners a true q = rw (filter-append, q) refl
   push_by owners a false q = rw (filter-append, q) (append-nil (filter m owners))
@@ -95,6 +109,10 @@ module _ (mine : ℕ → Bool) where
   drop_seen : (owners : List Owner) (name : ℕ) (b : Bool) → mine name ≡ b → filter m (drop_first (has_name name) owners) ≡ cond b (drop_first (has_name name) (filter m owners)) (filter m owners)
   drop_seen owners name true q = filter_drop m (has_name name) (named_mine name true q) owners
   drop_seen owners name false q = unseen_drop m (has_name name) (named_mine name false q) owners
+
+  waiting_drop_seen : (owners : List Owner) (name : ℕ) (b : Bool) → mine name ≡ b → filter m (drop_first (waits_as name) owners) ≡ cond b (drop_first (waits_as name) (filter m owners)) (filter m owners)
+  waiting_drop_seen owners name true q = filter_drop m (waits_as name) (waiting_mine name true q) owners
+  waiting_drop_seen owners name false q = unseen_drop m (waits_as name) (waiting_mine name false q) owners
 
   cond_same : (b : Bool) (owners : List Owner) → owners ≡ cond b owners owners
   cond_same true owners = refl
@@ -130,7 +148,9 @@ module _ (mine : ℕ → Bool) where
       change_seen (connected local remote rport) owners name (mine name) (λ a. refl) refl
   done_seen (requests.Inherit parent name local remote rport) owners whole =
       inherit_seen owners parent name local remote rport (mine name) refl whole
+  done_seen (requests.ToTimeWait name) owners whole = change_seen as_waiting owners name (mine name) (λ a. refl) refl
   done_seen (requests.Remove name) owners whole = drop_seen owners name (mine name) refl
+  done_seen (requests.RemoveWaiting name) owners whole = waiting_drop_seen owners name (mine name) refl
 
   -- owners of the names that are looked at, after a request
   step_seen : (request : Request) (answer : Answer) (owners : List Owner) → IsWhole mine request → Seen request answer owners

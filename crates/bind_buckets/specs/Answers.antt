@@ -11,7 +11,7 @@ use Rattle.bind_buckets.specs.declared.request.NotFree.{NotFree}
 use Rattle.bind_buckets.specs.declared.request.Strange.{Strange}
 use Rattle.bind_buckets.specs.declared.request.ListenEnd.{ListenEnd}
 use Rattle.bind_buckets.specs.declared.request.ListenEnd.TheVariants as ends
-use Rattle.bind_buckets.specs.OwnerStep.{Held, has_name, holds, others, place_for, members_at}
+use Rattle.bind_buckets.specs.OwnerStep.{Held, has_name, waits_as, holds, others, place_for, members_at}
 
 -- the name of the first owner that refuses this one
 abbrev pub refusal : Owner → List Owner → Option ℕ
@@ -94,6 +94,16 @@ pub record IsStrange (name : ℕ) (owners : List Owner) (end : Strange) : Type 0
 abbrev pub KnowsOrSays : ℕ → List Owner → Result (Unit {0}) Strange → Type 0
 KnowsOrSays name owners (Ok done) = IsSome (find (has_name name) owners)
 KnowsOrSays name owners (Err end) = IsStrange name owners end
+
+-- no owner of the name that was asked for is in TIME_WAIT
+pub record IsNotWaiting (name : ℕ) (owners : List Owner) (end : Strange) : Type 0 where
+  pub named : end.0 ≡ name
+  pub none : find (waits_as name) owners ≡ None
+
+-- an owner of the name is in TIME_WAIT, or Strange says of which name none is
+abbrev pub KnowsWaitingOrSays : ℕ → List Owner → Result (Unit {0}) Strange → Type 0
+KnowsWaitingOrSays name owners (Ok done) = IsSome (find (waits_as name) owners)
+KnowsWaitingOrSays name owners (Err end) = IsNotWaiting name owners end
 
 -- one of so many is taken, but where the call is refused
 abbrev pub TakesIfOk : {E : Type 0} → Result (Unit {0}) E → ℕ → ℕ → Type 0

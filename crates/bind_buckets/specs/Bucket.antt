@@ -13,7 +13,7 @@ use Rattle.bind_buckets.specs.declared.request.Entry.{Entry}
 use Rattle.bind_buckets.specs.declared.request.Note.{Note}
 use Rattle.bind_buckets.specs.declared.request.Mark.{Mark}
 use Rattle.bind_buckets.specs.OwnerStep.{Held, After, owner_step, empty, has_name, members_at}
-use Rattle.bind_buckets.specs.Journal.{IsLegal, replayed, OwnersAgree}
+use Rattle.bind_buckets.specs.Journal.{IsLegal, replayed, OwnersAgree, Standing}
 
 -- the number of the bucket among so many, what it holds, its journal, the mark of the next note, and the room that is
 -- left, in entries of the journal and in newcomers among the owners
@@ -121,13 +121,19 @@ IsAllowed b (requests.Free port) = Unit {0}
 IsAllowed b (requests.ConnectAuto a) = ComesByConnect b a
 IsAllowed b (requests.ConnectBound name local remote rport) = NamesOne states.Bound local name b
 IsAllowed b (requests.Inherit parent name local remote rport) = NamesOne states.Listening local parent b
+IsAllowed b (requests.ToTimeWait name) = Unit {0}
 IsAllowed b (requests.Remove name) = Unit {0}
+IsAllowed b (requests.RemoveWaiting name) = Unit {0}
 
 abbrev pub entry_of : Note → Entry
 entry_of note = note.entry
 
 abbrev pub entries_of : List Note → List Entry
 entries_of journal = map entry_of journal
+
+-- what the bucket holds, and what it was asked
+abbrev pub standing_of : Bucket → Standing
+standing_of b = record { held = b.held; entries = entries_of b.journal }
 
 -- the members of the group of that number, in this bucket
 abbrev pub members_of : Bucket → ℕ → List ℕ

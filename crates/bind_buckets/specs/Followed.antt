@@ -9,7 +9,8 @@ use Rattle.bind_buckets.specs.declared.request.Answer.{Answer}
 use Rattle.bind_buckets.specs.declared.request.Answer.TheVariants as answers
 use Rattle.bind_buckets.specs.declared.request.Entry.{Entry}
 use Rattle.bind_buckets.specs.First.{change_first, drop_first}
-use Rattle.bind_buckets.specs.OwnerStep.{has_name, as_listener, connected, child}
+use Rattle.sock_card.specs.Became.{as_listener, connected, child, as_waiting}
+use Rattle.bind_buckets.specs.OwnerStep.{has_name, waits_as}
 use Rattle.bind_buckets.specs.Journal.{IsLegal, replayed}
 
 -- the owners after a request that is carried out
@@ -24,7 +25,9 @@ done_by owners (requests.ConnectBound name local remote rport) =
     change_first (has_name name) (connected local remote rport) owners
 done_by owners (requests.Inherit parent name local remote rport) =
     owners ++ option_to_list (option_map (child name local remote rport) (find (has_name parent) owners))
+done_by owners (requests.ToTimeWait name) = change_first (has_name name) as_waiting owners
 done_by owners (requests.Remove name) = drop_first (has_name name) owners
+done_by owners (requests.RemoveWaiting name) = drop_first (waits_as name) owners
 
 -- the owners after a request that is answered so
 abbrev pub told : List Owner → Request → Answer → List Owner
@@ -45,7 +48,9 @@ speaks_of mine (requests.Free port) = false
 speaks_of mine (requests.ConnectAuto a) = mine a.name
 speaks_of mine (requests.ConnectBound name local remote rport) = mine name
 speaks_of mine (requests.Inherit parent name local remote rport) = mine name
+speaks_of mine (requests.ToTimeWait name) = mine name
 speaks_of mine (requests.Remove name) = mine name
+speaks_of mine (requests.RemoveWaiting name) = mine name
 
 -- among the names that are looked at, a child's has its parent's beside it
 abbrev pub IsWhole : (ℕ → Bool) → Request → Type 0

@@ -1,9 +1,10 @@
 -- Which journals of a bucket are lawful, and what they leave: our own rule.
-use Rattle.std.specs.Prelude.{◌≡◌, ℕ, true, List, [], ◌∷◌}
+use Rattle.std.specs.Prelude.{◌≡◌, ℕ, true, List, [], ◌∷◌, ◌++◌}
 use Rattle.list_words.specs.Lists.{Pairs}
 use Rattle.sock_card.specs.declared.owner.Owner.{Owner}
 use Rattle.sock_card.specs.Conflict.{agree}
 use Rattle.bind_buckets.specs.declared.request.Entry.{Entry}
+use Rattle.bind_buckets.specs.declared.request.Request.{Request}
 use Rattle.bind_buckets.specs.OwnerStep.{Held, owner_step, empty}
 
 -- any two owners may stand beside each other
@@ -28,3 +29,14 @@ replayed_from number h (entry ∷ rest) = replayed_from number (owner_step numbe
 -- what a journal leaves
 abbrev pub replayed : ℕ → List Entry → Held
 replayed number entries = replayed_from number empty entries
+
+-- what a bucket holds, and the entries of its journal
+pub record Standing : Type 0 where
+  pub held : Held
+  pub entries : List Entry
+
+-- the bucket of that number after one request more
+abbrev pub asked : ℕ → Standing → Request → Standing
+asked number s request =
+    let next = owner_step number s.held request in
+    record { held = next.held; entries = s.entries ++ record { request = request; answer = next.answer } ∷ [] }

@@ -6,8 +6,8 @@ use Rattle.std.specs.Prelude.{ℕ, ◌+◌, ◌*◌, Bool, ◌==◌, ◌&&◌, n
 use Rattle.std.specs.List.{slice_index_or}
 use Rattle.std.specs.Option.{option_or, option_and_then}
 use Rattle.sock_card.specs.declared.owner.Owner.{Owner}
-use Rattle.sock_card.specs.declared.owner.State.TheVariants as states
-use Rattle.sock_card.specs.Conflict.{overlap, refuses, is_listening, both_reuse_port}
+use Rattle.sock_card.specs.Conflict.{overlap, refuses, is_listening, is_time_wait, both_reuse_port}
+use Rattle.sock_card.specs.Became.{as_listener, connected, child, as_waiting}
 use Rattle.bind_buckets.specs.declared.request.Request.{Request}
 use Rattle.bind_buckets.specs.declared.request.Request.TheVariants as requests
 use Rattle.bind_buckets.specs.declared.request.Answer.{Answer}
@@ -107,18 +107,6 @@ others h name = drop_first (has_name name) h.owners
 abbrev pub may_listen : ℕ → Held → ℕ → Owner → After
 may_listen number h name a = kept h (listener_answer number h a (find (refuses a) (others h name)))
 
-abbrev pub as_listener : Owner → Owner
-as_listener a = record a { state = states.Listening }
-
--- full, with both its ends
-abbrev pub connected : ℕ → ℕ → ℕ → Owner → Owner
-connected local remote rport a =
-    record a { addr = local; remote = remote; rport = rport; state = states.Full }
-
--- the socket of that name which a listener accepts: all else is as the listener has it, its origin too
-abbrev pub child : ℕ → ℕ → ℕ → ℕ → Owner → Owner
-child name local remote rport listener = connected local remote rport (record listener { name = name })
-
 -- the groups, with one member more at that place
 abbrev pub with_member : Option ℕ → ℕ → List (List ℕ) → List (List ℕ)
 with_member None m groups = groups
@@ -144,6 +132,15 @@ removed h name =
       answer = answers.Done;
     }
 
+-- an owner of that name in TIME_WAIT
+abbrev pub waits_as : ℕ → Owner → Bool
+waits_as name a = has_name name a && is_time_wait a.state
+
+-- the first owner of that name in TIME_WAIT leaves
+abbrev pub without_waiting : Held → ℕ → After
+without_waiting h name =
+    record { held = record h { owners = drop_first (waits_as name) h.owners }; answer = answers.Done }
+
 -- the request of the bucket of that number
 unfoldable pub owner_step : ℕ → Held → Request → After
 owner_step number h (requests.Bind a) = admitted h a (find (refuses a) h.owners)
@@ -156,4 +153,7 @@ owner_step number h (requests.ConnectBound name local remote rport) =
     named h name (λ _. changed h name (connected local remote rport) h.groups)
 owner_step number h (requests.Inherit parent name local remote rport) =
     named h parent (λ listener. with_owner h (child name local remote rport listener))
+owner_step number h (requests.ToTimeWait name) = named h name (λ _. changed h name as_waiting h.groups)
 owner_step number h (requests.Remove name) = named h name (λ _. removed h name)
+owner_step number h (requests.RemoveWaiting name) =
+    spoken h name (find (waits_as name) h.owners) (λ _. without_waiting h name)

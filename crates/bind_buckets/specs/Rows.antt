@@ -81,6 +81,23 @@ SearchIsStrict =
     (takes 1 1 true false ∷ requests.BindAuto (bound 2 1 true false) ∷ requests.Free 80 ∷ requests.Free 81 ∷ [])
     ≡ answers.Done ∷ answers.InUse 1 ∷ answers.NotFree 1 ∷ answers.Done ∷ []
 
+-- a full socket closes: while it waits it keeps its port from a newcomer, and then the port is free
+abbrev pub WaitingKeepsPort : Type 0
+WaitingKeepsPort =
+    answers_from 0 empty
+    (takes 1 1 false false ∷ requests.ConnectBound 1 0x0A000001 0x0A000002 1000 ∷ requests.RemoveWaiting 1
+    ∷ requests.ToTimeWait 1 ∷ takes 2 1 false false ∷ requests.RemoveWaiting 1 ∷ takes 2 1 false false ∷ [])
+    ≡ answers.Done ∷ answers.Done ∷ answers.Strange 1
+    ∷ answers.Done ∷ answers.InUse 1 ∷ answers.Done ∷ answers.Done ∷ []
+
+-- another user's socket takes a port beside one in TIME_WAIT, where both have `reuseport`
+abbrev pub SharesWithWaiting : Type 0
+SharesWithWaiting =
+    answers_from 0 empty
+    (takes 1 1 false true ∷ requests.ConnectBound 1 0x0A000001 0x0A000002 1000 ∷ takes 2 2 false true
+    ∷ requests.ToTimeWait 1 ∷ takes 2 2 false true ∷ [])
+    ≡ answers.Done ∷ answers.Done ∷ answers.InUse 1 ∷ answers.Done ∷ answers.Done ∷ []
+
 -- the first of three members leaves, and the last takes its place
 abbrev pub LastTakesPlace : Type 0
 LastTakesPlace =

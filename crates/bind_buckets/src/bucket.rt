@@ -2,12 +2,13 @@
 
 ghost use Rattle.std.specs.Prelude.{◌≡◌, ◌+◌, ◌-◌, ◌/◌, ◌≤◌, ◌<◌, true, nat_lt, if◌then◌else◌, OnOk, OnErr, IfErr, IfOk, find, None, IfSome};
 ghost use Rattle.std.specs.Option.{option_copied};
-ghost use Rattle.bind_buckets.specs.OwnerStep.{has_name, with_last, as_listener, connected, child};
+ghost use Rattle.sock_card.specs.Became.{as_listener, connected, child, as_waiting};
+ghost use Rattle.bind_buckets.specs.OwnerStep.{has_name, with_last, waits_as};
 ghost use Rattle.bind_buckets.specs.First.{change_first, drop_first};
 ghost use Rattle.bind_buckets.specs.Members.{has_member, left_by};
 ghost use Rattle.bind_buckets.specs.Bucket as spec;
 ghost use Rattle.bind_buckets.specs.Bucket.{called, answer_to, CanListen, CanConnect, NamesOne};
-ghost use Rattle.bind_buckets.specs.Answers.{answer_of_bind, answer_of_free, answer_of_name, answer_of_listen, IsOfBind, IsOfFree, IsOfName, IsOfListen, told_of, holder_told, refusal, overlapping, holder, AllByConnect, KnowsOrSays, TakesIfOk, TakesIfErr, IsWhy};
+ghost use Rattle.bind_buckets.specs.Answers.{answer_of_bind, answer_of_free, answer_of_name, answer_of_listen, IsOfBind, IsOfFree, IsOfName, IsOfListen, told_of, holder_told, refusal, overlapping, holder, AllByConnect, KnowsOrSays, KnowsWaitingOrSays, TakesIfOk, TakesIfErr, IsWhy};
 
 use crate::held::Held;
 use crate::request::{Answer, Entry, InUse, ListenEnd, Mark, NotFree, Note, Request, Strange};
@@ -378,6 +379,26 @@ impl Bucket {
         }))
     }
 
+    /// Puts the first owner of that name into TIME_WAIT (`tcp_time_wait`): its socket is closed, and it
+    /// keeps its port until [`Bucket::remove_waiting`].
+    ///
+    /// No conflict is looked for, since it wants no more than it had. It goes through the owners up
+    /// to that one.
+    pub fn to_time_wait(&mut self, name: u32) -> Result<(), Strange>
+        requires entry { 1 ≤ self.old.entries }
+        ensures after { self.new ≡ called self.old (Request.ToTimeWait name) }
+        ensures answer { answer_of_name result ≡ answer_to self.old (Request.ToTimeWait name) }
+        ensures waits { OnOk result (self.new.held.owners
+            ≡ change_first (has_name name) as_waiting self.old.held.owners) }
+        ensures groups { self.new.held.groups ≡ self.old.held.groups }
+        ensures kept { OnErr result (self.new.held ≡ self.old.held) }
+        ensures strange { KnowsOrSays name self.old.held.owners result }
+        ensures entries { self.new.entries + 1 ≡ self.old.entries }
+        ensures newcomers { self.new.newcomers ≡ self.old.newcomers }
+    {
+        name_result(self.carry_out(Request::ToTimeWait { name }))
+    }
+
     /// Takes out the first owner of that name (`inet_put_port`), and the member of that name from
     /// its group, in whose place the last one stands then (`reuseport_detach_sock`).
     ///
@@ -397,6 +418,26 @@ impl Bucket {
         ensures newcomers { self.new.newcomers ≡ self.old.newcomers }
     {
         name_result(self.carry_out(Request::Remove { name }))
+    }
+
+    /// Takes out the first owner of that name that is in TIME_WAIT (`inet_twsk_bind_unhash`), if it
+    /// hasn't gone already; an owner of that name in another state stays.
+    ///
+    /// It uses the entry that was kept for the owner. It goes through the owners once; later ones
+    /// move up.
+    pub fn remove_waiting(&mut self, name: u32) -> Result<(), Strange>
+        requires { find (waits_as name) self.old.held.owners ≡ None → 1 ≤ self.old.entries }
+        ensures after { self.new ≡ called self.old (Request.RemoveWaiting name) }
+        ensures answer { answer_of_name result ≡ answer_to self.old (Request.RemoveWaiting name) }
+        ensures gone { OnOk result (self.new.held.owners
+            ≡ drop_first (waits_as name) self.old.held.owners) }
+        ensures groups { self.new.held.groups ≡ self.old.held.groups }
+        ensures kept { OnErr result (self.new.held ≡ self.old.held) }
+        ensures strange { KnowsWaitingOrSays name self.old.held.owners result }
+        ensures entries { TakesIfErr result self.old.entries self.new.entries }
+        ensures newcomers { self.new.newcomers ≡ self.old.newcomers }
+    {
+        name_result(self.carry_out(Request::RemoveWaiting { name }))
     }
 
     /// The members of the group of that number, each the slot of its card times 2^32, and its name.

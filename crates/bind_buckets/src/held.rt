@@ -2,6 +2,7 @@
 
 ghost use Rattle.std.specs.Prelude.{◌≡◌, ◌+◌, ◌≤◌, ◌<◌, true, false, vec_len, vec_capacity, find, remove};
 ghost use Rattle.sock_card.specs.Conflict as conflict_spec;
+ghost use Rattle.sock_card.specs.Became as became;
 ghost use Rattle.bind_buckets.specs.OwnerStep as spec;
 ghost use Rattle.bind_buckets.specs.First.{change_first};
 ghost use Rattle.bind_buckets.specs.Members as members_spec;
@@ -12,8 +13,9 @@ use crate::group::Group;
 use crate::request::{Answer, Request};
 use crate::search::{
     group_place, holder, overlapping, owner_place, place_for, refusing, refusing_other,
+    waiting_place,
 };
-use sock_card::{Owner, State};
+use sock_card::{Owner, as_listener, as_waiting, child, connected};
 use std::alloc::Global;
 
 /// The owners of a bucket's ports, oldest first, and the groups at its eight places.
@@ -21,34 +23,6 @@ use std::alloc::Global;
 pub struct Held {
     pub owners: Vec<Owner>,
     pub groups: [Group; 8],
-}
-
-fn connected(owner: Owner, local: u32, remote: u32, rport: u16) -> Owner
-    ensures { result ≡ spec.connected local remote rport owner }
-{
-    Owner {
-        addr: local,
-        remote,
-        rport,
-        state: State::Full,
-        ..owner
-    }
-}
-
-fn child(listener: Owner, name: u32, local: u32, remote: u32, rport: u16) -> Owner
-    ensures { result ≡ spec.child name local remote rport listener }
-{
-    let named = Owner { name, ..listener };
-    connected(named, local, remote, rport)
-}
-
-fn as_listener(owner: Owner) -> Owner
-    ensures { result ≡ spec.as_listener owner }
-{
-    Owner {
-        state: State::Listening,
-        ..owner
-    }
 }
 
 impl Held {
@@ -127,7 +101,7 @@ impl Held {
     fn connect_bound(&mut self, name: u32, local: u32, remote: u32, rport: u16) -> Answer
         ensures step { IsStep
             (spec.named (held_by self.old) name
-            (λ _. spec.changed (held_by self.old) name (spec.connected local remote rport) self.old.groups))
+            (λ _. spec.changed (held_by self.old) name (became.connected local remote rport) self.old.groups))
             self.new result }
         ensures capacity { vec_capacity self.new.owners ≡ vec_capacity self.old.owners }
         ensures len { vec_len self.new.owners ≡ vec_len self.old.owners }
@@ -145,7 +119,7 @@ impl Held {
         requires { vec_len self.old.owners < vec_capacity self.old.owners }
         ensures step { IsStep
             (spec.named (held_by self.old) parent
-            (λ listener. spec.with_owner (held_by self.old) (spec.child name local remote rport listener)))
+            (λ listener. spec.with_owner (held_by self.old) (became.child name local remote rport listener)))
             self.new result }
         ensures capacity { vec_capacity self.new.owners ≡ vec_capacity self.old.owners }
         ensures most { vec_len self.new.owners ≤ vec_len self.old.owners + 1 }
@@ -271,6 +245,41 @@ impl Held {
         }
     }
 
+    fn to_time_wait(&mut self, name: u32) -> Answer
+        ensures step { IsStep
+            (spec.named (held_by self.old) name
+            (λ _. spec.changed (held_by self.old) name became.as_waiting self.old.groups))
+            self.new result }
+        ensures capacity { vec_capacity self.new.owners ≡ vec_capacity self.old.owners }
+        ensures len { vec_len self.new.owners ≡ vec_len self.old.owners }
+    {
+        match owner_place(name, &self.owners) {
+            None => Answer::Strange(name),
+            Some(place) => {
+                self.owners[place] = as_waiting(self.owners[place]);
+                Answer::Done
+            }
+        }
+    }
+
+    fn remove_waiting(&mut self, name: u32) -> Answer
+        ensures step { IsStep
+            (spec.spoken (held_by self.old) name (find (spec.waits_as name) self.old.owners.items)
+            (λ _. spec.without_waiting (held_by self.old) name))
+            self.new result }
+        ensures capacity { vec_capacity self.new.owners ≡ vec_capacity self.old.owners }
+        ensures most { vec_len self.new.owners ≤ vec_len self.old.owners }
+        ensures least { vec_len self.old.owners ≤ vec_len self.new.owners + 1 }
+    {
+        match waiting_place(name, &self.owners) {
+            None => Answer::Strange(name),
+            Some(place) => {
+                self.owners.remove(place);
+                Answer::Done
+            }
+        }
+    }
+
     /// Carries out a request to the bucket of that number, and answers it.
     #[tactic(auto, unfolding(crate::specs::OwnerStep::owner_step))]
     pub fn carry_out(&mut self, number: u32, request: Request) -> Answer
@@ -303,7 +312,9 @@ impl Held {
                 remote,
                 rport,
             } => self.inherit(parent, name, local, remote, rport),
+            Request::ToTimeWait { name } => self.to_time_wait(name),
             Request::Remove { name } => self.remove(name),
+            Request::RemoveWaiting { name } => self.remove_waiting(name),
         }
     }
 }

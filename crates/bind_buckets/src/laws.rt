@@ -25,5 +25,7 @@ pub fn rows()
     ensures child { row.KeepsChildsPort }
     ensures beside_child { row.SharesChildsAddress }
     ensures strict { row.SearchIsStrict }
+    ensures waiting { row.WaitingKeepsPort }
+    ensures beside_waiting { row.SharesWithWaiting }
     ensures leaver { row.LastTakesPlace }
 {}

@@ -4,8 +4,9 @@ use sock_card::Owner;
 
 /// A call on a bucket, as its journal keeps it.
 ///
-/// `Bind`, `BindAuto` and `ConnectAuto` bring an owner, and `Free` speaks of all owners of a port. The
-/// others speak of the first owner of a name.
+/// `Bind`, `BindAuto` and `ConnectAuto` bring an owner, and `Free` speaks of all owners of a port.
+/// `RemoveWaiting` speaks of the first owner of a name that is in TIME_WAIT, the others of the first
+/// owner of a name.
 ///
 /// `local` is an address of the socket's own end, `remote` and `rport` are the other's.
 #[derive(Clone, Copy, Debug, PartialEq, Eq)]
@@ -36,7 +37,13 @@ pub enum Request {
         remote: u32,
         rport: u16,
     },
+    ToTimeWait {
+        name: u32,
+    },
     Remove {
+        name: u32,
+    },
+    RemoveWaiting {
         name: u32,
     },
 }
@@ -54,7 +61,7 @@ pub enum Answer {
     GroupFull,
     /// The bucket has eight groups.
     GroupsFull,
-    /// No owner has that name.
+    /// No owner has that name; of `RemoveWaiting`, none in TIME_WAIT.
     Strange(u32),
     /// The owner of that name has the port, and `connect` didn't choose it.
     NotFree(u32),

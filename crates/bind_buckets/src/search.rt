@@ -16,6 +16,20 @@ pub fn owner_place(name: u32, owners: &[Owner]) -> Option<usize>
     owners.iter().position(|o| o.name == name)
 }
 
+fn waits_as(name: u32, owner: &Owner) -> bool
+    ensures { result ≡ spec.waits_as name owner.now }
+{
+    owner.name == name && matches!(owner.state, State::TimeWait)
+}
+
+/// Where the first owner of that name stands that is in TIME_WAIT.
+pub fn waiting_place(name: u32, owners: &[Owner]) -> Option<usize>
+    ensures place { result ≡ position (spec.waits_as name) owners.now }
+    ensures bound { IfSome result (λ place. place < length owners.now) }
+{
+    owners.iter().position(|o| waits_as(name, o))
+}
+
 /// The first owner that keeps this one from its port.
 pub fn refusing(owner: &Owner, owners: &[Owner]) -> Option<Owner>
     ensures { result ≡ find (conflict_spec.refuses owner.now) owners.now }

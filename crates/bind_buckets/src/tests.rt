@@ -207,6 +207,44 @@ fn a_child_shares_its_address(rt: HostRuntime) -> Result<(), Fail> {
     Ok(())
 }
 
+fn close(bucket: &mut Bucket, name: u32) -> Result<Result<(), Strange>, AllocError> {
+    bucket.reserve()?;
+    Ok(bucket.to_time_wait(name))
+}
+
+fn reap(bucket: &mut Bucket, name: u32) -> Result<Result<(), Strange>, AllocError> {
+    bucket.reserve()?;
+    Ok(bucket.remove_waiting(name))
+}
+
+#[test]
+fn a_waiting_socket_keeps_its_port(rt: HostRuntime) -> Result<(), Fail> {
+    let mut bucket = Bucket::new(rt.alloc(), 0, 1);
+    assert_eq!(rt; connect(&mut bucket, connecting(1, 80))?, Ok(()));
+    assert_eq!(rt; reap(&mut bucket, 1)?, Err(Strange(1)));
+    assert_eq!(rt; close(&mut bucket, 2)?, Err(Strange(2)));
+    assert_eq!(rt; close(&mut bucket, 1)?, Ok(()));
+    assert_eq!(rt; bind(&mut bucket, socket(2, 80))?, Err(InUse(1)));
+    assert_eq!(rt; reap(&mut bucket, 1)?, Ok(()));
+    assert_eq!(rt; bind(&mut bucket, socket(2, 80))?, Ok(()));
+    Ok(())
+}
+
+#[test]
+fn another_socket_of_a_waiting_ones_name_stays(rt: HostRuntime) -> Result<(), Fail> {
+    let mut bucket = Bucket::new(rt.alloc(), 0, 1);
+    assert_eq!(rt; connect(&mut bucket, connecting(1, 80))?, Ok(()));
+    assert_eq!(rt; connect(&mut bucket, connecting(1, 80))?, Ok(()));
+    assert_eq!(rt; close(&mut bucket, 1)?, Ok(()));
+    assert_eq!(rt; reap(&mut bucket, 1)?, Ok(()));
+    assert_eq!(rt; reap(&mut bucket, 1)?, Err(Strange(1)));
+    assert_eq!(rt;
+        bucket.owner(1).map(|o| matches!(o.state, State::Full)),
+        Some(true)
+    );
+    Ok(())
+}
+
 #[test]
 fn the_last_member_takes_the_leavers_place(rt: HostRuntime) -> Result<(), Fail> {
     let mut bucket = Bucket::new(rt.alloc(), 0, 1);

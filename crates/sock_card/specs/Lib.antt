@@ -3,4 +3,5 @@ pub mod Rank
 pub mod Conflict
 pub mod Agreement
 pub mod TimeWait
+pub mod Became
 pub mod Rows

@@ -17,4 +17,7 @@ pub mod card;
 pub mod owner;
 
 pub use card::{Card, Kind, Packet, rank, tw_expired, tw_replaceable};
-pub use owner::{Owner, State, bind_conflict, overlap, strict_conflict};
+pub use owner::{
+    Owner, State, as_listener, as_waiting, bind_conflict, child, connected, overlap,
+    strict_conflict,
+};

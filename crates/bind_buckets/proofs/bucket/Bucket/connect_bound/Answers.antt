@@ -1,5 +1,6 @@
 use Rattle.std.proofs.Common.{◌≡◌, find, refl, ◌∙◌, arith}
-use Rattle.bind_buckets.specs.OwnerStep.{owner_step, After, has_name, changed, connected}
+use Rattle.sock_card.specs.Became.{connected}
+use Rattle.bind_buckets.specs.OwnerStep.{owner_step, After, has_name, changed}
 use Rattle.bind_buckets.specs.First.{change_first}
 use Rattle.bind_buckets.proofs.Told.{name_answers, spoken_ok, spoken_err, strange_by, same_groups}
 use Rattle.bind_buckets.proofs.RoomToGo.{spoken_used, spoken_settled}

@@ -1,5 +1,6 @@
 use Rattle.std.proofs.Common.{◌≡◌, find, refl, ◌∙◌, IfSome, arith}
-use Rattle.bind_buckets.specs.OwnerStep.{owner_step, After, has_name, with_last, with_owner, child}
+use Rattle.sock_card.specs.Became.{child}
+use Rattle.bind_buckets.specs.OwnerStep.{owner_step, After, has_name, with_last, with_owner}
 use Rattle.bind_buckets.proofs.Told.{name_answers, spoken_ok, spoken_err, strange_by}
 use Rattle.bind_buckets.proofs.RoomToGo.{spoken_used, spoken_came, longer}
 use Rattle.bind_buckets.proofs.bucket.Bucket.inherit.Goals as goal

@@ -1,5 +1,6 @@
 use Rattle.std.proofs.Common.{find, arith}
-use Rattle.bind_buckets.specs.OwnerStep.{owner_step, has_name, listening, as_listener}
+use Rattle.sock_card.specs.Became.{as_listener}
+use Rattle.bind_buckets.specs.OwnerStep.{owner_step, has_name, listening}
 use Rattle.bind_buckets.proofs.Told.{listens}
 use Rattle.bind_buckets.proofs.RoomToGo.{spoken_used, spoken_settled}
 use Rattle.bind_buckets.proofs.StaysGrouped.{length-change_first}

@@ -11,7 +11,7 @@ pub carry_out-requires-clause-room : goal.carry_out-requires-clause-room
 unfolding owner_step
 carry_out-requires-clause-room c =
     let h = c.args.self.now.held in
-    record { entry = room_to_go h c.args.name c.args.self.now.entries (find (has_name c.args.name) h.owners) refl c.requires; newcomer = λ brings. absurd (false≢true brings) }
+    record { entry = room_to_go h c.args.name (has_name c.args.name) (λ _. removed h c.args.name) (λ a. refl) c.args.self.now.entries (find (has_name c.args.name) h.owners) refl c.requires; newcomer = λ brings. absurd (false≢true brings) }
 
 pub name_result-requires : goal.name_result-requires
 unfolding owner_step
@@ -54,7 +54,7 @@ returns-clause-entries c =
     let b = c.args.self.now in
     let h = b.held in
     rw c.carry_out.ensures.after
-    (gone h c.args.name b.entries (find (has_name c.args.name) h.owners) c.name_result.result refl c.requires (c.name_result.ensures ∙ c.carry_out.ensures.answer))
+    (gone h c.args.name (has_name c.args.name) (λ _. removed h c.args.name) (λ a. refl) (λ a. refl) b.entries (find (has_name c.args.name) h.owners) c.name_result.result refl c.requires (c.name_result.ensures ∙ c.carry_out.ensures.answer))
 
 pub returns-clause-newcomers : goal.returns-clause-newcomers
 unfolding owner_step

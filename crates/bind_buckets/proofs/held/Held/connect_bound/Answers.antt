@@ -1,5 +1,6 @@
 use Rattle.std.proofs.Common.{sym, ◌∙◌}
-use Rattle.bind_buckets.specs.OwnerStep.{connected}
+use Rattle.sock_card.specs.Became.{connected}
+use Rattle.bind_buckets.specs.OwnerStep.{}
 use Rattle.bind_buckets.proofs.Named.{changes_there, speaks_of_none}
 use Rattle.bind_buckets.proofs.held.Held.connect_bound.Goals as goal
 
