@@ -1,5 +1,5 @@
 -- A command gives one label at most, in its own section.
-use Rattle.std.proofs.Common.{◌≡◌, ◌≢◌, ℕ, ◌+◌, ◌≤◌, ◌==◌, ◌∙◌, List, [], ◌∷◌, ◌++◌, length, Bool, true, false, not, cond, if◌then◌else◌, Some, None, Option, find, unwrap_or, arith, refl, sym, ap, subst, ◌⊎◌, inl, inr, length-append, Result, Ok, Err, IfOk, OnErr}
+use Rattle.std.proofs.Common.{◌≡◌, ◌≢◌, ℕ, ◌+◌, ◌≤◌, ◌==◌, ◌∙◌, List, [], ◌∷◌, ◌++◌, length, Bool, true, false, not, nat_lt, cond, if◌then◌else◌, Some, None, Option, find, unwrap_or, arith, refl, sym, ap, subst, ◌⊎◌, inl, inr, length-append, Result, Ok, Err, IfOk, OnErr}
 use Rattle.std.specs.Option.{option_map}
 use Rattle.std.proofs.lemmas.Bool.{cases_Bool, eqb-true, eq-eqb, eqb-false, ne_eqb, cond_both}
 use Rattle.sock_card.specs.declared.owner.State.{State}
@@ -14,12 +14,13 @@ use Rattle.flat_list.specs.declared.command.Command.TheVariants as commands
 use Rattle.flat_list.specs.declared.command.Reply.{Reply}
 use Rattle.flat_list.specs.declared.command.Reply.TheVariants as replies
 use Rattle.flat_list.specs.Flat.{Flat}
-use Rattle.flat_list.specs.Outcome.{added, with_new_label, Outcome, unchanged, changed, open_socket, has_slot, no_slot, draw, Found, search_port}
-use Rattle.flat_list.specs.Sections.{with_given, with_drawn, past_word, next_name, GivesOneAtMost, KeepsOthers, Section, section_of, labels_of, new_section, put_section, has_number, with_label}
+use Rattle.flat_list.specs.Outcome.{added, removed, with_new_label, Outcome, unchanged, changed, open_socket, has_slot, no_slot, draw, Found, search_port}
+use Rattle.flat_list.specs.Sections.{moment_of, at_moment, with_moment, with_given, with_drawn, past_word, next_name, GivesOneAtMost, KeepsOthers, Section, section_of, labels_of, new_section, put_section, has_number, with_label}
 use Rattle.flat_list.specs.Sockets.{is_refused, has_twin}
-use Rattle.flat_list.specs.Connect.{connected, end_of, connect, connect_as, connect_from, connect_found, connect_search, connect_socket, connected_by_search, suits_connect, child_of, accept, accept_as}
+use Rattle.flat_list.specs.Groups.{Group}
+use Rattle.flat_list.specs.Connect.{connected, end_of, replacing, is_taken_in, connect, connect_as, connect_from, connect_found, connect_search, connect_socket, connected_by_search, suits_connect, child_of, accept, accept_as}
 use Rattle.flat_list.specs.Owned.{source_of, is_no_end, is_no_accept}
-use Rattle.flat_list.specs.Step.{drop, step, at_end, at_port, bind, bind_given, bind_found, bind_search, bind_socket, search_bind, listening, listen, listen_bound, listen_found, listen_socket}
+use Rattle.flat_list.specs.Step.{drop, step, at_end, at_port, bind, bind_given, bind_found, bind_search, bind_socket, search_bind, listen, listens_in, listen_as, groups_with, listen_bound, listen_found, listen_socket, waiting, close, close_full, close_socket, at, reap}
 
 find_put : (m : ℕ) (s : Section) (xs : List Section) → find (has_number m) (put_section s xs) ≡ (if has_number m s then Some s else find (has_number m) xs)
 find_put m s [] = refl
@@ -68,6 +69,24 @@ drawn_if header n m xs (inl e) =
     let same : n ≡ m = sym (numbered header n xs) ∙ eqb-true (section_of header n xs).number m e in
     labels_put m (past_word (section_of header n xs)) xs true e ∙ labels_are header n xs ∙ ap (λ k. labels_of k xs) same
 drawn_if header n m xs (inr e) = labels_put m (past_word (section_of header n xs)) xs false e
+
+-- the moment of a section stays as it draws a word
+moment_put : (header : Header) (n : ℕ) (s : Section) (xs : List Section) → s.number ≡ n → moment_of header n (put_section s xs) ≡ s.moment
+moment_put header n s xs e = ap (λ o. (unwrap_or o (new_section header n)).moment) (rw (eq-eqb s.number n e) at (find_put n s xs))
+
+pub drawn_moment : (header : Header) (n : ℕ) (xs : List Section) → moment_of header n (with_drawn header n xs) ≡ moment_of header n xs
+drawn_moment header n xs = moment_put header n (past_word (section_of header n xs)) xs (numbered header n xs)
+
+-- a moment that is set changes no labels
+moment_if : (header : Header) (n m moment : ℕ) (xs : List Section) → (has_number m (section_of header n xs) ≡ true) ⊎ (has_number m (section_of header n xs) ≡ false) → labels_of m (with_moment header n moment xs) ≡ labels_of m xs
+moment_if header n m moment xs (inl e) =
+    let same : n ≡ m = sym (numbered header n xs) ∙ eqb-true (section_of header n xs).number m e in
+    labels_put m (at_moment moment (section_of header n xs)) xs true e ∙ labels_are header n xs ∙ ap (λ k. labels_of k xs) same
+moment_if header n m moment xs (inr e) = labels_put m (at_moment moment (section_of header n xs)) xs false e
+
+pub moment_keeps : (header : Header) (n moment : ℕ) (xs : List Section) (m : ℕ) → labels_of m (with_moment header n moment xs) ≡ labels_of m xs
+moment_keeps header n moment xs m =
+    moment_if header n m moment xs (cases_Bool (has_number m (section_of header n xs)))
 
 -- all sections have the labels that they had
 abbrev pub KeepsLabels : Flat → Flat → Type 0
@@ -121,15 +140,19 @@ abbrev Keeps : Flat → Outcome → Type 0
 Keeps flat o = KeepsLabels flat o.flat
 
 -- an outcome over a list with the same labels
+listen_as_keeps : (first flat : Flat) (s : Socket) (groups : Option (List Group)) → KeepsLabels first flat → Keeps first (listen_as flat s groups)
+listen_as_keeps first flat s None keeps = keeps
+listen_as_keeps first flat s (Some groups) keeps =
+    cond_both (not (has_slot flat)) (no_slot flat) (listens_in flat s groups) (Keeps first) (λ _. keeps) (λ _. keeps)
+
 listen_bound_keeps : (first flat : Flat) (s : Socket) → KeepsLabels first flat → Keeps first (listen_bound flat s)
 listen_bound_keeps first flat s keeps =
-    let slot : Outcome = if not (has_slot flat) then no_slot flat else changed flat (listening s) (replies.Port s.owner.port) in
-    cond_both (is_refused s.owner flat.sockets) (unchanged flat replies.Eaddrinuse) slot (Keeps first) (λ _. keeps)
-    (λ _. cond_both (not (has_slot flat)) (no_slot flat) (changed flat (listening s) (replies.Port s.owner.port)) (Keeps first) (λ _. keeps) (λ _. keeps))
+    cond_both (is_refused s.owner flat.sockets) (unchanged flat replies.Eaddrinuse) (listen_as flat s (groups_with flat s)) (Keeps first) (λ _. keeps)
+    (λ _. listen_as_keeps first flat s (groups_with flat s) keeps)
 
 connect_as_keeps : (first flat : Flat) (new : Socket) → KeepsLabels first flat → Keeps first (connect_as flat new)
 connect_as_keeps first flat new keeps =
-    cond_both (not (has_slot flat)) (no_slot flat) (changed flat new (replies.End (end_of new))) (Keeps first) (λ _. keeps) (λ _. keeps)
+    cond_both (not (has_slot flat)) (no_slot flat) (changed (replacing flat new.owner) new (replies.End (end_of new))) (Keeps first) (λ _. keeps) (λ _. keeps)
 
 bind_found_keeps : (first : Flat) (found : Found) (s : Socket) (addr : ℕ) (port : Option ℕ) → KeepsLabels first found.flat → Keeps first (bind_found found s addr port)
 bind_found_keeps first found s addr None keeps = keeps
@@ -165,22 +188,22 @@ listen_keeps_all : (flat : Flat) (n : ℕ) (o : Option Socket) → Keeps flat (l
 listen_keeps_all flat n None = λ m. refl
 listen_keeps_all flat n (Some s) = listen_keeps flat n s s.owner.state
 
-connect_from_keeps : (flat : Flat) (s : Socket) (to : End) (source : Option ℕ) → Keeps flat (connect_from flat s to source)
-connect_from_keeps flat s to None = λ m. refl
-connect_from_keeps flat s to (Some source) =
+connect_from_keeps : (flat : Flat) (n : ℕ) (s : Socket) (to : End) (source : Option ℕ) → Keeps flat (connect_from flat n s to source)
+connect_from_keeps flat n s to None = λ m. refl
+connect_from_keeps flat n s to (Some source) =
     let new : Socket = connected s source to in
-    cond_both (has_twin new.owner flat.sockets) (unchanged flat replies.Eaddrnotavail) (connect_as flat new) (Keeps flat) (λ _ m. refl) (λ _. connect_as_keeps flat flat new (λ m. refl))
+    cond_both (is_taken_in flat n new) (unchanged flat replies.Eaddrnotavail) (connect_as flat new) (Keeps flat) (λ _ m. refl) (λ _. connect_as_keeps flat flat new (λ m. refl))
 
 connect_search_keeps : (flat : Flat) (n : ℕ) (s : Socket) (to : End) (source : Option ℕ) → Keeps flat (connect_search flat n s to source)
 connect_search_keeps flat n s to None = λ m. refl
 connect_search_keeps flat n s to (Some source) =
-    let found : Found = search_port flat n firsts.Even (suits_connect flat s source to) in
+    let found : Found = search_port flat n firsts.Even (suits_connect flat n s source to) in
     connect_found_keeps flat found s source to found.port (draw_keeps flat n flat.header.offset)
 
 connect_keeps : (flat : Flat) (n : ℕ) (s : Socket) (t : State) (from : Option ℕ) (to : End) → Keeps flat (connect_socket flat n s t from to)
 connect_keeps flat n s states.Bound from to =
-    cond_both (is_no_end to) (unchanged flat replies.Einval) (connect_from flat s to (source_of s.owner.addr from)) (Keeps flat) (λ _ m. refl)
-    (λ _. connect_from_keeps flat s to (source_of s.owner.addr from))
+    cond_both (is_no_end to) (unchanged flat replies.Einval) (connect_from flat n s to (source_of s.owner.addr from)) (Keeps flat) (λ _ m. refl)
+    (λ _. connect_from_keeps flat n s to (source_of s.owner.addr from))
 connect_keeps flat n s states.Unbound from to =
     cond_both (is_no_end to) (unchanged flat replies.Einval) (connect_search flat n s to (source_of 0 from)) (Keeps flat) (λ _ m. refl)
     (λ _. connect_search_keeps flat n s to (source_of 0 from))
@@ -196,9 +219,9 @@ Has sections o = o.flat.sections ≡ sections
 
 accept_as_keeps : (flat : Flat) (child : Socket) → Has flat.sections (accept_as flat child)
 accept_as_keeps flat child =
-    let slot : Outcome = if not (has_slot flat) then no_slot flat else added flat child replies.Ok in
-    cond_both (has_twin child.owner flat.sockets) (unchanged flat replies.Eaddrnotavail) slot (Has flat.sections) (λ _. refl)
-    (λ _. cond_both (not (has_slot flat)) (no_slot flat) (added flat child replies.Ok) (Has flat.sections) (λ _. refl) (λ _. refl))
+    let done : Outcome = added (replacing flat child.owner) child replies.Ok in
+    cond_both (has_twin child.owner flat.sockets) (unchanged flat replies.Eaddrnotavail) (if not (has_slot flat) then no_slot flat else done) (Has flat.sections) (λ _. refl)
+    (λ _. cond_both (not (has_slot flat)) (no_slot flat) done (Has flat.sections) (λ _. refl) (λ _. refl))
 
 accept_keeps_all : (flat : Flat) (name : ℕ) (o : Option Socket) (from at : End) → Has flat.sections (accept flat name o from at)
 accept_keeps_all flat name None from at = refl
@@ -210,12 +233,31 @@ drop_keeps_all : (flat : Flat) (o : Option Socket) → Keeps flat (drop flat o)
 drop_keeps_all flat None = λ m. refl
 drop_keeps_all flat (Some s) = λ m. refl
 
+close_full_keeps : (flat : Flat) (n : ℕ) (s : Socket) → Keeps flat (close_full flat n s)
+close_full_keeps flat n s =
+    cond_both (has_slot flat) (changed flat (waiting s (moment_of flat.header n flat.sections)) replies.TimeWait) (removed flat s (replies.NoSlot flat.header.shape.slots 0)) (Keeps flat)
+    (λ _ m. refl) (λ _ m. refl)
+
+close_keeps : (flat : Flat) (n : ℕ) (s : Socket) (t : State) → Keeps flat (close_socket flat n s t)
+close_keeps flat n s states.Full = close_full_keeps flat n s
+close_keeps flat n s _ = λ m. refl
+
+close_keeps_all : (flat : Flat) (n : ℕ) (o : Option Socket) → Keeps flat (close flat n o)
+close_keeps_all flat n None = λ m. refl
+close_keeps_all flat n (Some s) = close_keeps flat n s s.owner.state
+
+at_keeps_all : (flat : Flat) (n moment : ℕ) → Keeps flat (at flat n moment)
+at_keeps_all flat n moment =
+    cond_both (nat_lt moment (moment_of flat.header n flat.sections)) (unchanged flat replies.Einval)
+    (unchanged (record flat { sections = with_moment flat.header n moment flat.sections }) replies.Ok) (Keeps flat)
+    (λ _ m. refl) (λ _. moment_keeps flat.header n moment flat.sections)
+
 gives_of : (n : ℕ) (flat : Flat) (o : Outcome) → Keeps flat o → GivesAt n flat.sections o.flat.sections
 gives_of n flat o keeps = keeps_at n flat o.flat keeps
 
 pub gives_at_one : (flat : Flat) (n : ℕ) (c : Command) → GivesAt n flat.sections (step flat n c).flat.sections
 unfolding step
-gives_at_one flat n (commands.Socket label dev reuseaddr) = given_gives flat.header n label flat.sections
+gives_at_one flat n (commands.Socket label uid dev reuseaddr reuseport) = given_gives flat.header n label flat.sections
 gives_at_one flat n (commands.Bind label end) = gives_of n flat (bind flat n (open_socket flat n label) end) (bind_keeps_all flat n (open_socket flat n label) end)
 gives_at_one flat n (commands.Listen label) = gives_of n flat (listen flat n (open_socket flat n label)) (listen_keeps_all flat n (open_socket flat n label))
 gives_at_one flat n (commands.Connect label from to) =
@@ -224,6 +266,10 @@ gives_at_one flat n (commands.Accept listener label from at) =
     let name : ℕ = next_name n flat.sections in
     subst (GivesAt n flat.sections) (sym (accept_keeps_all (with_new_label flat n label) name (open_socket flat n listener) from at)) (given_gives flat.header n label flat.sections)
 gives_at_one flat n (commands.Drop label) = gives_of n flat (drop flat (open_socket flat n label)) (drop_keeps_all flat (open_socket flat n label))
+gives_at_one flat n (commands.Close label) =
+    gives_of n flat (close flat n (open_socket flat n label)) (close_keeps_all flat n (open_socket flat n label))
+gives_at_one flat n (commands.At moment) = gives_of n flat (at flat n moment) (at_keeps_all flat n moment)
+gives_at_one flat n commands.Reap = gives_of n flat (reap flat n) (λ m. refl)
 gives_at_one flat n (commands.Look from to dev) = keeps_at n flat flat (λ m. refl)
 
 -- what a command does to labels: one more at most in each section, and none in others than its own

@@ -8,7 +8,7 @@ use Rattle.std.proofs.Math.ListN.{set}
 use Rattle.std.specs.List.{position_or_len}
 use Rattle.std.proofs.lemmas.List.Folds.{find_at}
 use Rattle.flat_list.specs.declared.header.Header.{Header}
-use Rattle.flat_list.specs.Sections.{Section, section_of, labels_of, new_section, put_section, has_number, GivesLabel, with_label, with_drawn, past_word, name_at, name_in}
+use Rattle.flat_list.specs.Sections.{Section, section_of, labels_of, new_section, put_section, has_number, GivesLabel, with_label, with_drawn, past_word, at_moment, with_moment, name_at, name_in}
 use Rattle.list_words.proofs.EachLemmas.{found_passes}
 use Rattle.flat_list.proofs.LabelsGrow.{labels_are}
 
@@ -103,3 +103,16 @@ names_found n xs s label h =
     let same : s.number ≡ n = eqb-true s.number n (found_passes (has_number n) xs s h) in
     let labels : labels_of n xs ≡ s.labels = ap (λ o. unwrap_or (option_map (λ t. t.labels) o) []) h in
     rw (labels, same) refl
+
+-- the section that is written at its place, at another moment
+pub moment_at : (header : Header) (n i moment : ℕ) (xs : List Section) (old new : Section) → position (has_number n) xs ≡ Some i → old ≡ get_or xs i old → new ≡ at_moment moment old → set xs i new ≡ with_moment header n moment xs
+moment_at header n i moment xs old new h read set =
+    let at = section_at header n i xs h in
+    let is : old ≡ section_of header n xs = read_at header n i xs old h read in
+    rw (set, is) (sym (at.put (at_moment moment (section_of header n xs)) at.number))
+
+-- the section that comes last, at a moment
+pub moment_first : (header : Header) (n moment : ℕ) (xs : List Section) (new : Section) → position (has_number n) xs ≡ None → new ≡ at_moment moment (new_section header n) → xs ++ new ∷ [] ≡ with_moment header n moment xs
+moment_first header n moment xs new h set =
+    let is : section_of header n xs ≡ new_section header n = section_absent header n xs h in
+    rw (set, is) (sym (put_absent n xs h (at_moment moment (new_section header n)) refl))

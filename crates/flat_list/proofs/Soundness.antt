@@ -1,10 +1,12 @@
 -- Each command leaves a sound list sound.
-use Rattle.std.proofs.Common.{◌⊎◌, inl, ◌≡◌, ◌≢◌, ℕ, ◌+◌, ◌^◌, ◌<◌, ◌==◌, ◌&&◌, ◌||◌, Bool, true, false, not, cond, if◌then◌else◌, List, [], ◌∷◌, ◌++◌, length, Some, None, Option, option_and_then, refl, sym, ap, ◌∙◌, inr, find, count_by, arith}
-use Rattle.std.proofs.lemmas.Bool.{true≢false, ne_eqb, cond_both, eqb-true, or_parts}
+use Rattle.std.proofs.Common.{◌⊎◌, inl, ◌≡◌, ◌≢◌, ℕ, ◌+◌, ◌*◌, ◌/◌, ◌^◌, ◌<◌, ◌==◌, nat_lt, map, filter, subst, ◌&&◌, ◌||◌, Bool, true, false, not, cond, if◌then◌else◌, List, [], ◌∷◌, ◌++◌, length, Some, None, Option, option_and_then, refl, sym, ap, ◌∙◌, inr, find, count_by, arith}
+use Rattle.std.specs.List.{list_any, range_with_len}
+use Rattle.std.specs.Option.{option_map}
+use Rattle.std.proofs.lemmas.Bool.{true≢false, ne_eqb, cond_both, eqb-true, or_parts, and_parts}
 use Rattle.std.proofs.lemmas.Bool.Decides.{nat_tests}
 use Rattle.std.proofs.lemmas.List.Sums.{sum_by-cons}
 use Rattle.list_words.specs.Lists.{Each}
-use Rattle.list_words.proofs.EachLemmas.{each_push, each_both, each_filter, each_weaken, each_of_all, each_found, each_unless_any, found_passes}
+use Rattle.list_words.proofs.EachLemmas.{each_push, each_filter, each_weaken, each_of_all, each_found, each_unless_any, found_passes, some_same}
 use Rattle.list_words.proofs.PairsLemmas.{pairs_push, pairs_filter, pairs_found}
 use Rattle.sock_card.specs.declared.owner.Owner.{Owner}
 use Rattle.sock_card.specs.declared.owner.State.{State}
@@ -19,22 +21,36 @@ use Rattle.flat_list.specs.declared.command.End.{End}
 use Rattle.flat_list.specs.declared.command.Reply.{Reply}
 use Rattle.flat_list.specs.declared.command.Reply.TheVariants as replies
 use Rattle.flat_list.specs.declared.socket.Socket.{Socket}
-use Rattle.flat_list.specs.Connect.{connected, connected_by_search, end_of, connect_as, connect_from, connect_found, connect_search, suits_connect, connect_socket, connect, child_of, accept_as, accept}
+use Rattle.flat_list.specs.declared.owned.Options.{Options}
+use Rattle.flat_list.specs.Groups.{Group, has_member, bucket_of, is_used, free_number, is_full_group, join, join_group, with_group}
+use Rattle.flat_list.specs.Connect.{replacing, is_taken_in, connected, connected_by_search, end_of, connect_as, connect_from, connect_found, connect_search, suits_connect, connect_socket, connect, child_of, accept_as, accept}
 use Rattle.flat_list.specs.Flat.{Flat, new_flat}
-use Rattle.flat_list.specs.Outcome.{Outcome, unchanged, changed, added, with_new_label, open_socket, has_slot, no_slot, Found, search_port}
-use Rattle.flat_list.specs.Owned.{as_listener, source_of, is_no_end, is_no_accept}
+use Rattle.flat_list.specs.Outcome.{Outcome, unchanged, changed, added, removed, with_new_label, open_socket, has_slot, no_slot, Found, search_port}
+use Rattle.flat_list.specs.Owned.{source_of, is_no_end, is_no_accept}
+use Rattle.sock_card.specs.Became.{as_listener}
+use Rattle.sock_card.specs.TimeWait.{expired}
 use Rattle.flat_list.specs.Run.{Issued, is_of, after}
-use Rattle.flat_list.specs.Sections.{Section, labels_of, name_in, next_name, with_given}
-use Rattle.flat_list.specs.Sockets.{same_tuple, is_full, has_twin, is_owner, is_other_owner, is_refused, is_overlapped, is_claimed, has_name, open_named}
-use Rattle.flat_list.specs.Sound.{NamesDiffer, IsGiven, AgreeAsOwners, TuplesDiffer, holds_tuple, IsItsOwn, IsSound, StartsSound, StaysSound, RunsSound}
-use Rattle.flat_list.specs.Step.{step, socket, drop, new_socket, at_end, at_port, suits_bind, search_bind, bind, bind_given, bind_found, bind_search, bind_socket, listening, listen, listen_bound, listen_found, listen_socket}
+use Rattle.flat_list.specs.Sections.{Section, labels_of, name_in, next_name, with_given, moment_of, with_moment}
+use Rattle.flat_list.specs.Sockets.{same_tuple, waits_at, gives_way, without_waiting, is_full, has_twin, is_mate, mate_of, is_expired, put, is_owner, is_other_owner, is_refused, is_overlapped, is_claimed, has_name, open_named}
+use Rattle.flat_list.specs.Sound.{NamesDiffer, IsGiven, AgreeAsOwners, TuplesDiffer, holds_tuple, IsItsOwn, IsAwakeIfNamed, is_sharing, IsInOneGroup, AreGroupsOf, IsSound, StartsSound, StaysSound, RunsSound}
+use Rattle.flat_list.specs.Step.{step, socket, drop, close, close_socket, at, reap, waiting, groups_with, listens_in, listen_as, new_socket, at_end, at_port, suits_bind, search_bind, bind, bind_given, bind_found, bind_search, bind_socket, listening, listen, listen_bound, listen_found, listen_socket}
 use Rattle.flat_list.proofs.GivenNames.{next_is_given, next_is_new, stay_given}
-use Rattle.flat_list.proofs.LabelsGrow.{GivesAt, KeepsLabels, keeps_at, given_gives, search_keeps, gives_at_one, grows}
+use Rattle.flat_list.proofs.LabelsGrow.{GivesAt, moment_keeps, KeepsLabels, keeps_at, given_gives, search_keeps, gives_at_one, grows}
 use Rattle.flat_list.proofs.Puts.{each_put, pairs_put}
-use Rattle.flat_list.proofs.Searches.{draw_sockets}
+use Rattle.flat_list.proofs.Searches.{draw_sockets, draw_groups, draw_header}
+use Rattle.flat_list.proofs.Counted.{each_filter_kept}
+use Rattle.flat_list.proofs.GroupsStay.{count_quiet, put_grouped, push_grouped, filter_grouped, remove_grouped, Enters, enter_grouped, join_enters, begin_enters}
 
 pub starts : StartsSound
-starts header = record { names = tt; given = tt; bound = tt; tuples = tt; origins = tt; alone = tt; awake = tt }
+starts header = record {
+  names = tt;
+  given = tt;
+  bound = tt;
+  tuples = tt;
+  origins = tt;
+  awake = tt;
+  grouped = record { numbers = tt; each = tt; sharing = tt; mates = tt };
+}
 
 names_swap : (a b : Socket) → NamesDiffer a b → NamesDiffer b a
 names_swap a b h e = h (sym e)
@@ -54,19 +70,28 @@ record Fits (flat : Flat) (new : Socket) : Type 0 where
   bound : Each (λ x. NamesDiffer new x → AgreeAsOwners new x) flat.sockets
   tuples : Each (λ x. NamesDiffer new x → TuplesDiffer new x) flat.sockets
   origin : IsItsOwn new
-  alone : new.owner.reuseport ≡ false
-  awake : is_time_wait new.owner.state ≡ false
+  awake : IsAwakeIfNamed new
 
-changed_sound : (flat : Flat) (new : Socket) (reply : Reply) → IsSound flat → Fits flat new → IsSound (changed flat new reply).flat
-changed_sound flat new reply sound fits = record {
+-- the list with that socket in the place of the one of its name, and with those groups
+put_sound : (flat : Flat) (new : Socket) (groups : List Group) (reply : Reply) → IsSound flat → Fits flat new → AreGroupsOf flat.header.shape.bind (put new flat.sockets) groups → IsSound (changed (record flat { groups = groups }) new reply).flat
+put_sound flat new groups reply sound fits grouped = record {
   names = pairs_put NamesDiffer names_swap new flat.sockets sound.names sound.names (each_of_all (λ x. NamesDiffer new x → NamesDiffer new x) flat.sockets (λ x h. h));
   given = each_put (IsGiven flat.sections) new flat.sockets fits.given sound.given;
   bound = pairs_put AgreeAsOwners owners_swap new flat.sockets sound.names sound.bound fits.bound;
   tuples = pairs_put TuplesDiffer tuples_swap new flat.sockets sound.names sound.tuples fits.tuples;
   origins = each_put IsItsOwn new flat.sockets fits.origin sound.origins;
-  alone = each_put (λ x. x.owner.reuseport ≡ false) new flat.sockets fits.alone sound.alone;
-  awake = each_put (λ x. is_time_wait x.owner.state ≡ false) new flat.sockets fits.awake sound.awake;
+  awake = each_put IsAwakeIfNamed new flat.sockets fits.awake sound.awake;
+  grouped = grouped;
 }
+
+-- a socket that is in no group, and stays out
+record Quiet (flat : Flat) (new : Socket) : Type 0 where
+  quiet : is_sharing new ≡ false
+  out : count_by (has_member new.owner.name) flat.groups ≡ 0
+
+changed_sound : (flat : Flat) (new : Socket) (reply : Reply) → IsSound flat → Fits flat new → Quiet flat new → IsSound (changed flat new reply).flat
+changed_sound flat new reply sound fits is =
+    put_sound flat new flat.groups reply sound fits (put_grouped flat.header.shape.bind new flat.sockets flat.groups sound.names is.quiet is.out sound.grouped)
 
 -- what a socket meets that comes last, when its label was given
 record Joins (flat : Flat) (new : Socket) : Type 0 where
@@ -75,8 +100,8 @@ record Joins (flat : Flat) (new : Socket) : Type 0 where
   bound : Each (λ x. AgreeAsOwners x new) flat.sockets
   tuples : Each (λ x. TuplesDiffer x new) flat.sockets
   origin : IsItsOwn new
-  alone : new.owner.reuseport ≡ false
-  awake : is_time_wait new.owner.state ≡ false
+  quiet : is_sharing new ≡ false
+  awake : IsAwakeIfNamed new
 
 added_sound : (flat : Flat) (new : Socket) → IsSound flat → Joins flat new → IsSound (record flat { sockets = flat.sockets ++ new ∷ [] })
 added_sound flat new sound joins = record {
@@ -85,8 +110,8 @@ added_sound flat new sound joins = record {
   bound = pairs_push AgreeAsOwners flat.sockets new sound.bound joins.bound;
   tuples = pairs_push TuplesDiffer flat.sockets new sound.tuples joins.tuples;
   origins = each_push IsItsOwn flat.sockets new sound.origins joins.origin;
-  alone = each_push (λ x. x.owner.reuseport ≡ false) flat.sockets new sound.alone joins.alone;
-  awake = each_push (λ x. is_time_wait x.owner.state ≡ false) flat.sockets new sound.awake joins.awake;
+  awake = each_push IsAwakeIfNamed flat.sockets new sound.awake joins.awake;
+  grouped = push_grouped flat.header.shape.bind new flat.sockets flat.groups joins.names joins.quiet sound.grouped;
 }
 
 labels_sound : (flat : Flat) (n : ℕ) (sections : List Section) → GivesAt n flat.sections sections → IsSound flat → IsSound (record flat { sections = sections })
@@ -96,18 +121,32 @@ labels_sound flat n sections gives sound = record {
   bound = sound.bound;
   tuples = sound.tuples;
   origins = sound.origins;
-  alone = sound.alone;
   awake = sound.awake;
+  grouped = sound.grouped;
 }
 
--- a list after a search: the same sockets, and the same labels
+-- sockets are gone that were in no group
+gone_sound : (flat : Flat) (stays_in : Socket → Bool) → ((x : Socket) → stays_in x ≡ false → is_sharing x ≡ false) → IsSound flat → IsSound (record flat { sockets = filter stays_in flat.sockets })
+gone_sound flat stays_in gone sound = record {
+  names = pairs_filter NamesDiffer stays_in flat.sockets sound.names;
+  given = each_filter (IsGiven flat.sections) stays_in flat.sockets sound.given;
+  bound = pairs_filter AgreeAsOwners stays_in flat.sockets sound.bound;
+  tuples = pairs_filter TuplesDiffer stays_in flat.sockets sound.tuples;
+  origins = each_filter IsItsOwn stays_in flat.sockets sound.origins;
+  awake = each_filter IsAwakeIfNamed stays_in flat.sockets sound.awake;
+  grouped = filter_grouped flat.header.shape.bind stays_in flat.sockets flat.groups gone sound.grouped;
+}
+
+-- a list after a search: the same sockets and groups, and the same labels
 record IsAfter (flat after : Flat) : Type 0 where
   sockets : after.sockets ≡ flat.sockets
+  groups : after.groups ≡ flat.groups
+  header : after.header ≡ flat.header
   labels : KeepsLabels flat after
 
 after_search : (flat : Flat) (n : ℕ) (first : First) (suits : ℕ → Bool) → IsAfter flat (search_port flat n first suits).flat
 after_search flat n first suits =
-    record { sockets = draw_sockets flat n flat.header.offset; labels = search_keeps flat n first suits }
+    record { sockets = draw_sockets flat n flat.header.offset; groups = draw_groups flat n flat.header.offset; header = draw_header flat n flat.header.offset; labels = search_keeps flat n first suits }
 
 after_sound : (flat after : Flat) (n : ℕ) → IsAfter flat after → IsSound flat → IsSound after
 after_sound flat after n is sound =
@@ -118,16 +157,16 @@ after_sound flat after n is sound =
       bound = rw is.sockets sound.bound;
       tuples = rw is.sockets sound.tuples;
       origins = rw is.sockets sound.origins;
-      alone = rw is.sockets sound.alone;
       awake = rw is.sockets sound.awake;
+      grouped = rw (is.header, is.sockets, is.groups) sound.grouped;
     }
 
 -- `socket`
 
-socket_sound : (flat : Flat) (n : ℕ) (label : List ℕ) (dev : Option ℕ) (reuseaddr : Bool) → length (labels_of n flat.sections) + 1 < 2 ^ 24 → IsSound flat → IsSound (socket flat n label dev reuseaddr).flat
-socket_sound flat n label dev reuseaddr room sound =
+socket_sound : (flat : Flat) (n : ℕ) (label : List ℕ) (options : Options) → length (labels_of n flat.sections) + 1 < 2 ^ 24 → IsSound flat → IsSound (socket flat n label options).flat
+socket_sound flat n label options room sound =
     let name : ℕ = next_name n flat.sections in
-    let new : Socket = new_socket name dev reuseaddr in
+    let new : Socket = new_socket name options in
     let sections : List Section = with_given flat.header n label flat.sections in
     added_sound (record flat { sections = sections }) new (labels_sound flat n sections (given_gives flat.header n label flat.sections) sound) (record {
       given = next_is_given flat.header n label flat.sections new room refl;
@@ -135,7 +174,7 @@ socket_sound flat n label dev reuseaddr room sound =
       bound = each_of_all (λ x. AgreeAsOwners x new) flat.sockets (λ x p q. absurd (true≢false (sym q)));
       tuples = each_of_all (λ x. TuplesDiffer x new) flat.sockets (λ x p q. absurd (true≢false (sym q)));
       origin = λ _. (refl, refl);
-      alone = refl;
+      quiet = refl;
       awake = refl;
     })
 
@@ -172,14 +211,31 @@ free_agrees a sockets free =
 record IsFree (flat : Flat) (s new : Socket) (tested : Owner) : Type 0 where
   before : holds_tuple s.owner.state ≡ false
   now : holds_tuple new.owner.state ≡ false
-  awake : is_time_wait new.owner.state ≡ false
+  named : new.named ≡ s.named
   name : new.owner.name ≡ s.owner.name
   origin : new.owner.origin ≡ s.owner.origin
   by_connect : new.owner.by_connect ≡ s.owner.by_connect
-  alone : new.owner.reuseport ≡ s.owner.reuseport
   same_name : new.owner.name ≡ tested.name
   alike : (b : Owner) → refuses new.owner b ≡ refuses tested b
   free : is_refused tested flat.sockets ≡ false
+
+-- who holds no four-tuple isn't in TIME_WAIT
+awake_if : (t : State) → holds_tuple t ≡ false → is_time_wait t ≡ false
+awake_if states.Unbound h = refl
+awake_if states.Bound h = refl
+awake_if states.Listening h = refl
+awake_if states.Full h = refl
+awake_if states.TimeWait h = absurd (true≢false h)
+
+awake_alike : (t u : State) → holds_tuple t ≡ false → holds_tuple u ≡ false → is_time_wait t ≡ is_time_wait u
+awake_alike t u h k = awake_if t h ∙ sym (awake_if u k)
+
+-- an open socket that doesn't listen is in no group
+quiet_by : (flat : Flat) (s new : Socket) → IsSound flat → IsOpen flat s → is_listening s.owner.state ≡ false → is_listening new.owner.state ≡ false → new.owner.name ≡ s.owner.name → Quiet flat new
+quiet_by flat s new sound at before now name =
+    let one : IsInOneGroup flat.groups s = of_open (IsInOneGroup flat.groups) flat s at sound.grouped.sharing in
+    let silent : is_sharing s ≡ false = rw before refl in
+    record { quiet = rw now refl; out = ap (λ k. count_by (has_member k) flat.groups) name ∙ count_quiet flat.groups s silent one }
 
 free_fits : (flat : Flat) (s new : Socket) (tested : Owner) → IsSound flat → IsOpen flat s → IsFree flat s new tested → Fits flat new
 free_fits flat s new tested sound at is =
@@ -191,8 +247,7 @@ free_fits flat s new tested sound at is =
           (λ x free differ p q. agrees_unless_refused new.owner x.owner (is.alike x.owner ∙ free (λ e. differ (is.same_name ∙ sym e)) q)) (free_agrees tested flat.sockets is.free);
       tuples = each_of_all (λ x. NamesDiffer new x → TuplesDiffer new x) flat.sockets (λ x differ p q. absurd (true≢false (sym p ∙ is.now)));
       origin = λ _. (is.origin ∙ (own is.before).0 ∙ sym is.name, is.by_connect ∙ (own is.before).1);
-      alone = is.alone ∙ of_open (λ x. x.owner.reuseport ≡ false) flat s at sound.alone;
-      awake = is.awake;
+      awake = is.named ∙ of_open IsAwakeIfNamed flat s at sound.awake ∙ ap not (awake_alike s.owner.state new.owner.state is.before is.now);
     }
 
 -- `bind`
@@ -229,15 +284,15 @@ bound_sound flat s end reply unbound sound at free =
     changed_sound flat (at_end s end) reply sound (free_fits flat s (at_end s end) (at_end s end).owner sound at (record {
       before = ap holds_tuple unbound;
       now = refl;
-      awake = refl;
+      named = refl;
       name = refl;
       origin = refl;
       by_connect = refl;
-      alone = refl;
       same_name = refl;
       alike = λ b. refl;
       free = free;
     }))
+    (quiet_by flat s (at_end s end) sound at (ap is_listening unbound) refl refl)
 
 bind_found_sound : (found : Found) (s : Socket) (addr : ℕ) (o : Option ℕ) → s.owner.state ≡ states.Unbound → IsSound found.flat → IsOpen found.flat s → ((port : ℕ) → o ≡ Some port → is_refused (at_port s addr port).owner found.flat.sockets ≡ false) → Sound (bind_found found s addr o)
 bind_found_sound found s addr None unbound sound at free = sound
@@ -278,40 +333,103 @@ refuses_alike a b = refl
 -- the open socket, and what it is as it begins to listen: still its own
 record MayListen (was s : Socket) : Type 0 where
   before : holds_tuple was.owner.state ≡ false
+  silent : is_listening was.owner.state ≡ false
   name : s.owner.name ≡ was.owner.name
   origin : s.owner.origin ≡ was.owner.origin
   by_connect : s.owner.by_connect ≡ was.owner.by_connect
-  alone : s.owner.reuseport ≡ was.owner.reuseport
+  named : s.named ≡ was.named
 
-listening_sound : (flat : Flat) (was s : Socket) → MayListen was s → IsSound flat → IsOpen flat was → is_refused s.owner flat.sockets ≡ false
-    → Sound (if not (has_slot flat) then no_slot flat else changed flat (listening s) (replies.Port s.owner.port))
-listening_sound flat was s may sound at free =
-    cond_both (not (has_slot flat)) (no_slot flat) (changed flat (listening s) (replies.Port s.owner.port)) Sound
+listening_fits : (flat : Flat) (was s : Socket) → MayListen was s → IsSound flat → IsOpen flat was → is_refused s.owner flat.sockets ≡ false → Fits flat (listening s)
+listening_fits flat was s may sound at free = free_fits flat was (listening s) s.owner sound at (record {
+  before = may.before;
+  now = refl;
+  named = may.named;
+  name = may.name;
+  origin = may.origin;
+  by_connect = may.by_connect;
+  same_name = refl;
+  alike = refuses_alike s.owner;
+  free = free;
+})
+
+any_at : (p q : Socket → Bool) (x : Socket) (xs : List Socket) (s : Socket) (b : Bool) → p x ≡ b → (find (λ y. p y && q y) xs ≡ Some s → list_any p xs ≡ true) → find (λ y. p y && q y) (x ∷ xs) ≡ Some s → (p x || list_any p xs) ≡ true
+any_at p q x xs s true e rest h = rw e refl
+any_at p q x xs s false e rest h = rw e (rest (rw e at h))
+
+any_if_found : (p q : Socket → Bool) (xs : List Socket) (s : Socket) → find (λ y. p y && q y) xs ≡ Some s → list_any p xs ≡ true
+any_if_found p q [] s h = absurd (cc)
+any_if_found p q (x ∷ xs) s h = any_at p q x xs s (p x) refl (any_if_found p q xs s) h
+
+-- the numbers of a bucket's groups
+bucket_numbers : (bucket : ℕ) → Each (λ n. n / 8 ≡ bucket) (range_with_len (8 * bucket) 8)
+bucket_numbers bucket =
+    (omega arith, (omega arith, (omega arith, (omega arith, (omega arith, (omega arith, (omega arith, (omega arith, tt))))))))
+
+-- an open socket's name is known
+known_if : (name : ℕ) (xs : List Socket) (s : Socket) → find (λ x. has_name name x && x.named) xs ≡ Some s → list_any (has_name s.owner.name) xs ≡ true
+known_if name xs s h =
+    let same : s.owner.name ≡ name = eqb-true s.owner.name name (and_parts (has_name name s) s.named (found_passes (λ x. has_name name x && x.named) xs s h)).0 in
+    ap (λ k. list_any (has_name k) xs) same ∙ any_if_found (has_name name) (λ x. x.named) xs s h
+
+out_of_groups : (flat : Flat) (was s : Socket) → MayListen was s → IsSound flat → IsOpen flat was → count_by (has_member s.owner.name) flat.groups ≡ 0
+out_of_groups flat was s may sound at =
+    ap (λ k. count_by (has_member k) flat.groups) may.name
+    ∙ count_quiet flat.groups was (rw may.silent refl) (of_open (IsInOneGroup flat.groups) flat was at sound.grouped.sharing)
+
+-- the groups that a listener entered
+mates_group : (flat : Flat) (s : Socket) (groups : List Group) (mate : Socket) (full : Bool) → list_any (is_full_group mate.owner.name) flat.groups ≡ full → find (is_mate s.owner) flat.sockets ≡ Some mate → list_any (has_name s.owner.name) flat.sockets ≡ true → count_by (has_member s.owner.name) flat.groups ≡ 0 → IsSound flat
+    → (if full then None else Some (map (join_group mate.owner.name s.owner.name) flat.groups)) ≡ Some groups → Enters flat.header.shape.bind (listening s) flat.sockets flat.groups groups
+mates_group flat s groups mate true full at known out sound is = absurd (cc)
+mates_group flat s groups mate false full at known out sound is =
+    subst (Enters flat.header.shape.bind (listening s) flat.sockets flat.groups) (some_same _ _ is)
+    (join_enters flat.header.shape.bind (listening s) mate flat.sockets flat.groups at known out full sound.grouped)
+
+own_group : (flat : Flat) (s : Socket) (groups : List Group) (number : Option ℕ) → free_number (bucket_of s.owner.port flat.header.shape.bind) flat.groups ≡ number → find (is_mate s.owner) flat.sockets ≡ None → list_any (has_name s.owner.name) flat.sockets ≡ true → count_by (has_member s.owner.name) flat.groups ≡ 0 → IsSound flat
+    → option_map (λ n. with_group s.owner.name n flat.groups) number ≡ Some groups → Enters flat.header.shape.bind (listening s) flat.sockets flat.groups groups
+own_group flat s groups None free at known out sound is = absurd (cc)
+own_group flat s groups (Some number) free at known out sound is =
+    let bucket : ℕ = bucket_of s.owner.port flat.header.shape.bind in
+    subst (Enters flat.header.shape.bind (listening s) flat.sockets flat.groups) (some_same _ _ is)
+    (begin_enters flat.header.shape.bind number (listening s) flat.sockets flat.groups at known out
+    (not_true (is_used flat.groups number) (found_passes (λ n. not (is_used flat.groups n)) (range_with_len (8 * bucket) 8) number free))
+    (sym (each_found (λ n. n / 8 ≡ bucket) (λ n. not (is_used flat.groups n)) (range_with_len (8 * bucket) 8) number (bucket_numbers bucket) free))
+    sound.grouped)
+
+entered_by : (flat : Flat) (s : Socket) (groups : List Group) (mate : Option Socket) → find (is_mate s.owner) flat.sockets ≡ mate → list_any (has_name s.owner.name) flat.sockets ≡ true → count_by (has_member s.owner.name) flat.groups ≡ 0 → IsSound flat
+    → join (bucket_of s.owner.port flat.header.shape.bind) s.owner.name (option_map (λ (m : Socket). m.owner.name) mate) flat.groups ≡ Some groups → Enters flat.header.shape.bind (listening s) flat.sockets flat.groups groups
+entered_by flat s groups None at known out sound is =
+    own_group flat s groups (free_number (bucket_of s.owner.port flat.header.shape.bind) flat.groups) refl at known out sound is
+entered_by flat s groups (Some mate) at known out sound is =
+    mates_group flat s groups mate (list_any (is_full_group mate.owner.name) flat.groups) refl at known out sound is
+
+grouped_if : (flat : Flat) (s : Socket) (groups : List Group) (shares : Bool) → s.owner.reuseport ≡ shares → list_any (has_name s.owner.name) flat.sockets ≡ true → count_by (has_member s.owner.name) flat.groups ≡ 0 → IsSound flat
+    → (if shares then join (bucket_of s.owner.port flat.header.shape.bind) s.owner.name (mate_of s.owner flat.sockets) flat.groups else Some flat.groups) ≡ Some groups → AreGroupsOf flat.header.shape.bind (put (listening s) flat.sockets) groups
+grouped_if flat s groups true shares known out sound is =
+    enter_grouped flat.header.shape.bind (listening s) flat.sockets flat.groups groups sound.names shares out
+    (entered_by flat s groups (find (is_mate s.owner) flat.sockets) refl known out sound is) sound.grouped
+grouped_if flat s groups false shares known out sound is =
+    subst (AreGroupsOf flat.header.shape.bind (put (listening s) flat.sockets)) (some_same flat.groups groups is)
+    (put_grouped flat.header.shape.bind (listening s) flat.sockets flat.groups sound.names shares out sound.grouped)
+
+listen_as_sound : (flat : Flat) (was s : Socket) (o : Option (List Group)) → groups_with flat s ≡ o → MayListen was s → IsSound flat → IsOpen flat was → is_refused s.owner flat.sockets ≡ false → Sound (listen_as flat s o)
+listen_as_sound flat was s None is may sound at free = sound
+listen_as_sound flat was s (Some groups) is may sound at free =
+    let known : list_any (has_name s.owner.name) flat.sockets ≡ true = ap (λ k. list_any (has_name k) flat.sockets) may.name ∙ known_if at.0 flat.sockets was at.1 in
+    cond_both (not (has_slot flat)) (no_slot flat) (listens_in flat s groups) Sound
     (λ _. sound)
-    (λ _. changed_sound flat (listening s) (replies.Port s.owner.port) sound (free_fits flat was (listening s) s.owner sound at (record {
-      before = may.before;
-      now = refl;
-      awake = refl;
-      name = may.name;
-      origin = may.origin;
-      by_connect = may.by_connect;
-      alone = may.alone;
-      same_name = refl;
-      alike = refuses_alike s.owner;
-      free = free;
-    })))
+    (λ _. put_sound flat (listening s) groups (replies.Port s.owner.port) sound (listening_fits flat was s may sound at free)
+    (grouped_if flat s groups s.owner.reuseport refl known (out_of_groups flat was s may sound at) sound is))
 
 listen_bound_sound : (flat : Flat) (was s : Socket) → MayListen was s → IsSound flat → IsOpen flat was → Sound (listen_bound flat s)
 listen_bound_sound flat was s may sound at =
-    cond_both (is_refused s.owner flat.sockets) (unchanged flat replies.Eaddrinuse)
-    (if not (has_slot flat) then no_slot flat else changed flat (listening s) (replies.Port s.owner.port)) Sound
+    cond_both (is_refused s.owner flat.sockets) (unchanged flat replies.Eaddrinuse) (listen_as flat s (groups_with flat s)) Sound
     (λ _. sound)
-    (listening_sound flat was s may sound at)
+    (listen_as_sound flat was s (groups_with flat s) refl may sound at)
 
 listen_found_sound : (found : Found) (s : Socket) (o : Option ℕ) → s.owner.state ≡ states.Unbound → IsSound found.flat → IsOpen found.flat s → Sound (listen_found found s o)
 listen_found_sound found s None unbound sound at = sound
 listen_found_sound found s (Some port) unbound sound at =
-    listen_bound_sound found.flat s (at_port s 0 port) (record { before = ap holds_tuple unbound; name = refl; origin = refl; by_connect = refl; alone = refl }) sound at
+    listen_bound_sound found.flat s (at_port s 0 port) (record { before = ap holds_tuple unbound; silent = ap is_listening unbound; name = refl; origin = refl; by_connect = refl; named = refl }) sound at
 
 listen_socket_sound : (flat : Flat) (n : ℕ) (s : Socket) (t : State) → s.owner.state ≡ t → IsSound flat → IsOpen flat s → Sound (listen_socket flat n s t)
 listen_socket_sound flat n s states.Unbound unbound sound at =
@@ -319,7 +437,7 @@ listen_socket_sound flat n s states.Unbound unbound sound at =
     let is : IsAfter flat found.flat = after_search flat n firsts.Odd (suits_bind flat s 0) in
     listen_found_sound found s found.port unbound (after_sound flat found.flat n is sound) (after_open flat found.flat s is at)
 listen_socket_sound flat n s states.Bound bound sound at =
-    listen_bound_sound flat s s (record { before = ap holds_tuple bound; name = refl; origin = refl; by_connect = refl; alone = refl }) sound at
+    listen_bound_sound flat s s (record { before = ap holds_tuple bound; silent = ap is_listening bound; name = refl; origin = refl; by_connect = refl; named = refl }) sound at
 listen_socket_sound flat n s _ is sound at = sound
 
 listen_sound : (flat : Flat) (n : ℕ) (o : Option Socket) → IsSound flat → ((s : Socket) → o ≡ Some s → IsOpen flat s) → Sound (listen flat n o)
@@ -328,24 +446,39 @@ listen_sound flat n (Some s) sound at = listen_socket_sound flat n s s.owner.sta
 
 -- `connect`
 
--- a test on a full socket that failed
+-- tests on a full socket, and on a TIME_WAIT, that failed
 no_twin : (full same : Bool) → (full && same) ≡ false → full ≡ true → same ≡ false
 no_twin full same h e = rw e at h
 
-full_if_awake : (t : State) → holds_tuple t ≡ true → is_time_wait t ≡ false → is_full t ≡ true
-full_if_awake states.Full holds awake = refl
-full_if_awake states.TimeWait holds awake = absurd (true≢false awake)
-full_if_awake states.Unbound holds awake = absurd (true≢false (sym holds))
-full_if_awake states.Bound holds awake = absurd (true≢false (sym holds))
-full_if_awake states.Listening holds awake = absurd (true≢false (sym holds))
+-- who holds a four-tuple is full, or waits
+no_holder : (t : State) (same : Bool) → (is_full t && same) ≡ false → (is_time_wait t && same) ≡ false → holds_tuple t ≡ true → same ≡ false
+no_holder states.Full same full waits holds = full
+no_holder states.TimeWait same full waits holds = waits
+no_holder states.Unbound same full waits holds = absurd (true≢false (sym holds))
+no_holder states.Bound same full waits holds = absurd (true≢false (sym holds))
+no_holder states.Listening same full waits holds = absurd (true≢false (sym holds))
 
--- who has no twin shares its four-tuple with none
-tuple_is_new : (new : Socket) (flat : Flat) → IsSound flat → has_twin new.owner flat.sockets ≡ false → Each (λ x. TuplesDiffer new x) flat.sockets
-tuple_is_new new flat sound free =
-    let test : Socket → Bool = λ x. is_full x.owner.state && same_tuple new.owner x.owner in
-    each_weaken (λ x. (test x ≡ false) × (is_time_wait x.owner.state ≡ false)) (λ x. TuplesDiffer new x) flat.sockets
-    (λ x h p q. no_twin (is_full x.owner.state) (same_tuple new.owner x.owner) h.0 (full_if_awake x.owner.state q h.1))
-    (each_both (λ x. test x ≡ false) (λ x. is_time_wait x.owner.state ≡ false) flat.sockets (each_unless_any test flat.sockets free) sound.awake)
+-- once the TIME_WAITs of its four-tuple are gone, who has no twin shares its four-tuple with none
+tuple_is_new : (new : Socket) (flat : Flat) → has_twin new.owner flat.sockets ≡ false → Each (λ x. TuplesDiffer new x) (replacing flat new.owner).sockets
+tuple_is_new new flat free =
+    let twin : Socket → Bool = λ x. is_full x.owner.state && same_tuple new.owner x.owner in
+    let NoTwin : Socket → Type 0 = λ x. twin x ≡ false in
+    each_filter_kept (λ x. TuplesDiffer new x) (λ x. not (waits_at new.owner x)) flat.sockets
+    (each_weaken NoTwin (λ x. not (waits_at new.owner x) ≡ true → TuplesDiffer new x) flat.sockets
+    (λ x full kept p q. no_holder x.owner.state (same_tuple new.owner x.owner) full (not_true (waits_at new.owner x) kept) q)
+    (each_unless_any twin flat.sockets free))
+
+-- the sockets but the TIME_WAITs of a four-tuple
+waiter_is_quiet : (t : State) (same shares : Bool) → not (is_time_wait t && same) ≡ false → (is_listening t && shares) ≡ false
+waiter_is_quiet states.Listening same shares h = absurd (true≢false h)
+waiter_is_quiet states.Full same shares h = refl
+waiter_is_quiet states.Unbound same shares h = refl
+waiter_is_quiet states.Bound same shares h = refl
+waiter_is_quiet states.TimeWait same shares h = refl
+
+replacing_sound : (flat : Flat) (a : Owner) → IsSound flat → IsSound (replacing flat a)
+replacing_sound flat a sound =
+    gone_sound flat (λ s. not (waits_at a s)) (λ x. waiter_is_quiet x.owner.state (same_tuple a x.owner) x.owner.reuseport) sound
 
 -- each socket is the open one, or agrees with it
 with_open : (flat : Flat) (s : Socket) → IsSound flat → IsOpen flat s → Each (λ x. (x ≡ s) ⊎ AgreeAsOwners s x) flat.sockets
@@ -362,8 +495,8 @@ agrees_as_new : (flat : Flat) (s new : Socket) → Narrows new.owner s.owner →
 agrees_as_new flat s new narrow owns name x (inl e) differ p q = absurd (differ (name ∙ sym (ap (λ (y : Socket). y.owner.name) e)))
 agrees_as_new flat s new narrow owns name x (inr h) differ p q = agrees_where_narrowed new.owner s.owner x.owner narrow (h owns q)
 
-connect_fits : (flat : Flat) (s : Socket) (source : ℕ) (to : End) → s.owner.state ≡ states.Bound → ((s.owner.addr == 0) || (s.owner.addr == source)) ≡ true → IsSound flat → IsOpen flat s → has_twin (connected s source to).owner flat.sockets ≡ false → Fits flat (connected s source to)
-connect_fits flat s source to bound narrows sound at free =
+connect_fits : (flat : Flat) (s : Socket) (source : ℕ) (to : End) → s.owner.state ≡ states.Bound → ((s.owner.addr == 0) || (s.owner.addr == source)) ≡ true → IsSound flat → IsOpen flat s → Each (λ x. TuplesDiffer (connected s source to) x) flat.sockets → Fits flat (connected s source to)
+connect_fits flat s source to bound narrows sound at new_tuple =
     let new : Socket = connected s source to in
     let given : IsGiven flat.sections s = of_open (IsGiven flat.sections) flat s at sound.given in
     let narrow : Narrows new.owner s.owner = record {
@@ -381,23 +514,63 @@ connect_fits flat s source to bound narrows sound at free =
     record {
       given = record { first = given.first; last = given.last };
       bound = each_weaken (λ x. (x ≡ s) ⊎ AgreeAsOwners s x) (λ x. NamesDiffer new x → AgreeAsOwners new x) flat.sockets (agrees_as_new flat s new narrow (ap is_owner bound) refl) (with_open flat s sound at);
-      tuples = each_weaken (λ x. TuplesDiffer new x) (λ x. NamesDiffer new x → TuplesDiffer new x) flat.sockets (λ x h differ. h) (tuple_is_new new flat sound free);
+      tuples = each_weaken (λ x. TuplesDiffer new x) (λ x. NamesDiffer new x → TuplesDiffer new x) flat.sockets (λ x h differ. h) new_tuple;
       origin = λ unconnected. absurd (true≢false unconnected);
-      alone = of_open (λ x. x.owner.reuseport ≡ false) flat s at sound.alone;
-      awake = refl;
+      awake = of_open IsAwakeIfNamed flat s at sound.awake ∙ ap (λ t. not (is_time_wait t)) bound;
     }
 
-full_sound : (flat : Flat) (new : Socket) → IsSound flat → Fits flat new → Sound (connect_as flat new)
-full_sound flat new sound fits =
-    cond_both (not (has_slot flat)) (no_slot flat) (changed flat new (replies.End (end_of new))) Sound (λ _. sound) (λ _. changed_sound flat new (replies.End (end_of new)) sound fits)
+-- the open socket stays where TIME_WAITs go
+kept_at : (p keep : Socket → Bool) (x : Socket) (xs : List Socket) (s : Socket) (b c : Bool) → p x ≡ b → keep x ≡ c → keep s ≡ true → (find p xs ≡ Some s → find p (filter keep xs) ≡ Some s) → find p (x ∷ xs) ≡ Some s → find p (cond c (x ∷ filter keep xs) (filter keep xs)) ≡ Some s
+kept_at p keep x xs s true true e f stays rest h = rw e (rw e at h)
+kept_at p keep x xs s true false e f stays rest h =
+    absurd (true≢false (sym stays ∙ ap keep (sym (some_same x s (rw e at h))) ∙ f))
+kept_at p keep x xs s false true e f stays rest h = rw e (rest (rw e at h))
+kept_at p keep x xs s false false e f stays rest h = rest (rw e at h)
 
-connect_from_sound : (flat : Flat) (s : Socket) (to : End) (source : Option ℕ) → s.owner.state ≡ states.Bound → ((k : ℕ) → source ≡ Some k → ((s.owner.addr == 0) || (s.owner.addr == k)) ≡ true) → IsSound flat → IsOpen flat s → Sound (connect_from flat s to source)
-connect_from_sound flat s to None bound narrows sound at = sound
-connect_from_sound flat s to (Some source) bound narrows sound at =
+find_kept : (p keep : Socket → Bool) (xs : List Socket) (s : Socket) → keep s ≡ true → find p xs ≡ Some s → find p (filter keep xs) ≡ Some s
+find_kept p keep [] s stays h = h
+find_kept p keep (x ∷ xs) s stays h =
+    kept_at p keep x xs s (p x) (keep x) refl refl stays (find_kept p keep xs s stays) h
+
+replaced_open : (flat : Flat) (a : Owner) (s : Socket) → is_time_wait s.owner.state ≡ false → IsOpen flat s → IsOpen (replacing flat a) s
+replaced_open flat a s awake at =
+    (at.0, find_kept (λ x. has_name at.0 x && x.named) (λ x. not (waits_at a x)) flat.sockets s (rw awake refl) at.1)
+
+-- what a connected socket meets once the TIME_WAITs of its four-tuple are gone
+record Connects (flat : Flat) (new : Socket) : Type 0 where
+  fits : Fits (replacing flat new.owner) new
+  quiet : Quiet (replacing flat new.owner) new
+
+full_sound : (flat : Flat) (new : Socket) → IsSound flat → Connects flat new → Sound (connect_as flat new)
+full_sound flat new sound connects =
+    cond_both (not (has_slot flat)) (no_slot flat) (changed (replacing flat new.owner) new (replies.End (end_of new))) Sound (λ _. sound)
+    (λ _. changed_sound (replacing flat new.owner) new (replies.End (end_of new)) (replacing_sound flat new.owner sound) connects.fits connects.quiet)
+
+bound_connects : (flat : Flat) (s : Socket) (source : ℕ) (to : End) → s.owner.state ≡ states.Bound → ((s.owner.addr == 0) || (s.owner.addr == source)) ≡ true → IsSound flat → IsOpen flat s → has_twin (connected s source to).owner flat.sockets ≡ false → Connects flat (connected s source to)
+bound_connects flat s source to bound narrows sound at free =
     let new : Socket = connected s source to in
-    cond_both (has_twin new.owner flat.sockets) (unchanged flat replies.Eaddrnotavail) (connect_as flat new) Sound
+    let cleared : Flat = replacing flat new.owner in
+    let kept : IsSound cleared = replacing_sound flat new.owner sound in
+    let still : IsOpen cleared s = replaced_open flat new.owner s (ap is_time_wait bound) at in
+    record {
+      fits = connect_fits cleared s source to bound narrows kept still (tuple_is_new new flat free);
+      quiet = quiet_by cleared s new kept still (ap is_listening bound) refl refl;
+    }
+
+-- who isn't taken has no twin
+not_taken : (flat : Flat) (n : ℕ) (s : Socket) → is_taken_in flat n s ≡ false → has_twin s.owner flat.sockets ≡ false
+not_taken flat n s free =
+    let switch : Bool = flat.header.twreuse in
+    let moment : ℕ = moment_of flat.header n flat.sections in
+    (or_parts (has_twin s.owner flat.sockets) (list_any (λ x. waits_at s.owner x && not (gives_way switch moment x)) flat.sockets) free).0
+
+connect_from_sound : (flat : Flat) (n : ℕ) (s : Socket) (to : End) (source : Option ℕ) → s.owner.state ≡ states.Bound → ((k : ℕ) → source ≡ Some k → ((s.owner.addr == 0) || (s.owner.addr == k)) ≡ true) → IsSound flat → IsOpen flat s → Sound (connect_from flat n s to source)
+connect_from_sound flat n s to None bound narrows sound at = sound
+connect_from_sound flat n s to (Some source) bound narrows sound at =
+    let new : Socket = connected s source to in
+    cond_both (is_taken_in flat n new) (unchanged flat replies.Eaddrnotavail) (connect_as flat new) Sound
     (λ _. sound)
-    (λ free. full_sound flat new sound (connect_fits flat s source to bound (narrows source refl) sound at free))
+    (λ free. full_sound flat new sound (bound_connects flat s source to bound (narrows source refl) sound at (not_taken flat n new free)))
 
 -- of an owner of that port `connect` chose it
 not_claimed : (o same chosen : Bool) → (o && same && not chosen) ≡ false → o ≡ true → same ≡ true → chosen ≡ true
@@ -410,18 +583,20 @@ agrees_as_chosen new x chosen free true same p q =
     agrees_by_choice new.owner x.owner chosen (not_claimed (is_owner x.owner.state) (x.owner.port == new.owner.port) x.owner.by_connect free q same)
 agrees_as_chosen new x chosen free false same p q = agrees_apart new.owner x.owner (same_either_way new.owner.port x.owner.port ∙ same)
 
-search_fits : (flat : Flat) (s : Socket) (source : ℕ) (to : End) (port : ℕ) → IsSound flat → IsOpen flat s → is_claimed port flat.sockets ≡ false → has_twin (connected_by_search s source to port).owner flat.sockets ≡ false → Fits flat (connected_by_search s source to port)
-search_fits flat s source to port sound at unclaimed free =
+-- owners of that port had it chosen by `connect`
+abbrev claims : ℕ → Socket → Bool
+claims port x = is_owner x.owner.state && (x.owner.port == port) && not x.owner.by_connect
+
+search_fits : (flat : Flat) (s : Socket) (source : ℕ) (to : End) (port : ℕ) → s.owner.state ≡ states.Unbound → IsSound flat → IsOpen flat s → Each (λ x. claims port x ≡ false) flat.sockets → Each (λ x. TuplesDiffer (connected_by_search s source to port) x) flat.sockets → Fits flat (connected_by_search s source to port)
+search_fits flat s source to port unbound sound at unclaimed new_tuple =
     let new : Socket = connected_by_search s source to port in
     let given : IsGiven flat.sections s = of_open (IsGiven flat.sections) flat s at sound.given in
-    let test : Socket → Bool = λ x. is_owner x.owner.state && (x.owner.port == port) && not x.owner.by_connect in
     record {
       given = record { first = given.first; last = given.last };
-      bound = each_weaken (λ x. test x ≡ false) (λ x. NamesDiffer new x → AgreeAsOwners new x) flat.sockets (λ x h differ. agrees_as_chosen new x refl h (x.owner.port == port) refl) (each_unless_any test flat.sockets unclaimed);
-      tuples = each_weaken (λ x. TuplesDiffer new x) (λ x. NamesDiffer new x → TuplesDiffer new x) flat.sockets (λ x h differ. h) (tuple_is_new new flat sound free);
+      bound = each_weaken (λ x. claims port x ≡ false) (λ x. NamesDiffer new x → AgreeAsOwners new x) flat.sockets (λ x h differ. agrees_as_chosen new x refl h (x.owner.port == port) refl) unclaimed;
+      tuples = each_weaken (λ x. TuplesDiffer new x) (λ x. NamesDiffer new x → TuplesDiffer new x) flat.sockets (λ x h differ. h) new_tuple;
       origin = λ unconnected. absurd (true≢false unconnected);
-      alone = of_open (λ x. x.owner.reuseport ≡ false) flat s at sound.alone;
-      awake = refl;
+      awake = of_open IsAwakeIfNamed flat s at sound.awake ∙ ap (λ t. not (is_time_wait t)) unbound;
     }
 
 -- the port that was found suits the list after the search
@@ -429,39 +604,52 @@ record Suits (flat : Flat) (s : Socket) (source : ℕ) (to : End) (port : ℕ) :
   unclaimed : is_claimed port flat.sockets ≡ false
   free : has_twin (connected_by_search s source to port).owner flat.sockets ≡ false
 
-both_true : (a b : Bool) → (not a && not b) ≡ true → (a ≡ false) × (b ≡ false)
-both_true false false h = (refl, refl)
-both_true true b h = absurd (true≢false (sym h))
-both_true false true h = absurd (true≢false (sym h))
+both_false : (a b : Bool) → (not a && not b) ≡ true → (a ≡ false) × (b ≡ false)
+both_false false false h = (refl, refl)
+both_false true b h = absurd (true≢false (sym h))
+both_false false true h = absurd (true≢false (sym h))
 
-connect_suits : (flat after : Flat) (s : Socket) (source : ℕ) (to : End) (ports : List ℕ) (port : ℕ) → IsAfter flat after → find (suits_connect flat s source to) ports ≡ Some port → Suits after s source to port
-connect_suits flat after s source to ports port is found =
-    let owner : Owner = (connected_by_search s source to port).owner in
-    let parts = both_true (is_claimed port flat.sockets) (has_twin owner flat.sockets) (found_passes (suits_connect flat s source to) ports port found) in
-    record { unclaimed = ap (is_claimed port) is.sockets ∙ parts.0; free = ap (has_twin owner) is.sockets ∙ parts.1 }
+connect_suits : (flat after : Flat) (n : ℕ) (s : Socket) (source : ℕ) (to : End) (ports : List ℕ) (port : ℕ) → IsAfter flat after → find (suits_connect flat n s source to) ports ≡ Some port → Suits after s source to port
+connect_suits flat after n s source to ports port is found =
+    let new : Socket = connected_by_search s source to port in
+    let parts = both_false (is_claimed port flat.sockets) (is_taken_in flat n new) (found_passes (suits_connect flat n s source to) ports port found) in
+    record { unclaimed = ap (is_claimed port) is.sockets ∙ parts.0; free = ap (has_twin new.owner) is.sockets ∙ not_taken flat n new parts.1 }
 
-connect_found_sound : (found : Found) (s : Socket) (source : ℕ) (to : End) (o : Option ℕ) → IsSound found.flat → IsOpen found.flat s → ((port : ℕ) → o ≡ Some port → Suits found.flat s source to port) → Sound (connect_found found s source to o)
-connect_found_sound found s source to None sound at suits = sound
-connect_found_sound found s source to (Some port) sound at suits =
-    full_sound found.flat (connected_by_search s source to port) sound (search_fits found.flat s source to port sound at (suits port refl).unclaimed (suits port refl).free)
+search_connects : (flat : Flat) (s : Socket) (source : ℕ) (to : End) (port : ℕ) → s.owner.state ≡ states.Unbound → IsSound flat → IsOpen flat s → Suits flat s source to port → Connects flat (connected_by_search s source to port)
+search_connects flat s source to port unbound sound at suits =
+    let new : Socket = connected_by_search s source to port in
+    let cleared : Flat = replacing flat new.owner in
+    let kept : IsSound cleared = replacing_sound flat new.owner sound in
+    let still : IsOpen cleared s = replaced_open flat new.owner s (ap is_time_wait unbound) at in
+    record {
+      fits = search_fits cleared s source to port unbound kept still
+          (each_filter (λ x. claims port x ≡ false) (λ x. not (waits_at new.owner x)) flat.sockets (each_unless_any (claims port) flat.sockets suits.unclaimed))
+          (tuple_is_new new flat suits.free);
+      quiet = quiet_by cleared s new kept still (ap is_listening unbound) refl refl;
+    }
 
-connect_search_sound : (flat : Flat) (n : ℕ) (s : Socket) (to : End) (source : Option ℕ) → IsSound flat → IsOpen flat s → Sound (connect_search flat n s to source)
-connect_search_sound flat n s to None sound at = sound
-connect_search_sound flat n s to (Some source) sound at =
-    let found : Found = search_port flat n firsts.Even (suits_connect flat s source to) in
-    let is : IsAfter flat found.flat = after_search flat n firsts.Even (suits_connect flat s source to) in
-    connect_found_sound found s source to found.port (after_sound flat found.flat n is sound) (after_open flat found.flat s is at)
-    (λ port h. connect_suits flat found.flat s source to _ port is h)
+connect_found_sound : (found : Found) (s : Socket) (source : ℕ) (to : End) (o : Option ℕ) → s.owner.state ≡ states.Unbound → IsSound found.flat → IsOpen found.flat s → ((port : ℕ) → o ≡ Some port → Suits found.flat s source to port) → Sound (connect_found found s source to o)
+connect_found_sound found s source to None unbound sound at suits = sound
+connect_found_sound found s source to (Some port) unbound sound at suits =
+    full_sound found.flat (connected_by_search s source to port) sound (search_connects found.flat s source to port unbound sound at (suits port refl))
+
+connect_search_sound : (flat : Flat) (n : ℕ) (s : Socket) (to : End) (source : Option ℕ) → s.owner.state ≡ states.Unbound → IsSound flat → IsOpen flat s → Sound (connect_search flat n s to source)
+connect_search_sound flat n s to None unbound sound at = sound
+connect_search_sound flat n s to (Some source) unbound sound at =
+    let found : Found = search_port flat n firsts.Even (suits_connect flat n s source to) in
+    let is : IsAfter flat found.flat = after_search flat n firsts.Even (suits_connect flat n s source to) in
+    connect_found_sound found s source to found.port unbound (after_sound flat found.flat n is sound) (after_open flat found.flat s is at)
+    (λ port h. connect_suits flat found.flat n s source to _ port is h)
 
 connect_socket_sound : (flat : Flat) (n : ℕ) (s : Socket) (t : State) (from : Option ℕ) (to : End) → s.owner.state ≡ t → IsSound flat → IsOpen flat s → Sound (connect_socket flat n s t from to)
 connect_socket_sound flat n s states.Bound from to is sound at =
-    cond_both (is_no_end to) (unchanged flat replies.Einval) (connect_from flat s to (source_of s.owner.addr from)) Sound
+    cond_both (is_no_end to) (unchanged flat replies.Einval) (connect_from flat n s to (source_of s.owner.addr from)) Sound
     (λ _. sound)
-    (λ _. connect_from_sound flat s to (source_of s.owner.addr from) is (source_narrows s.owner.addr from) sound at)
+    (λ _. connect_from_sound flat n s to (source_of s.owner.addr from) is (source_narrows s.owner.addr from) sound at)
 connect_socket_sound flat n s states.Unbound from to is sound at =
     cond_both (is_no_end to) (unchanged flat replies.Einval) (connect_search flat n s to (source_of 0 from)) Sound
     (λ _. sound)
-    (λ _. connect_search_sound flat n s to (source_of 0 from) sound at)
+    (λ _. connect_search_sound flat n s to (source_of 0 from) is sound at)
 connect_socket_sound flat n s _ from to is sound at = sound
 
 connect_sound : (flat : Flat) (n : ℕ) (o : Option Socket) (from : Option ℕ) (to : End) → IsSound flat → ((s : Socket) → o ≡ Some s → IsOpen flat s) → Sound (connect flat n o from to)
@@ -502,11 +690,12 @@ agrees_as_child l child x narrow owns (inl e) p q = agrees_by_origin x.owner chi
 agrees_as_child l child x narrow owns (inr h) p q = agrees_both_ways x.owner child.owner ∙ agrees_where_narrowed child.owner l.owner x.owner narrow (h owns p)
 
 child_joins : (flat : Flat) (n : ℕ) (label : List ℕ) (l : Socket) (from at : End) → length (labels_of n flat.sections) + 1 < 2 ^ 24 → CanAccept l.owner at → IsSound flat → IsOpen flat l
-    → has_twin (child_of l (next_name n flat.sections) from at).owner flat.sockets ≡ false → Joins (with_new_label flat n label) (child_of l (next_name n flat.sections) from at)
+    → has_twin (child_of l (next_name n flat.sections) from at).owner flat.sockets ≡ false → Joins (replacing (with_new_label flat n label) (child_of l (next_name n flat.sections) from at).owner) (child_of l (next_name n flat.sections) from at)
 child_joins flat n label l from at room fit sound is free =
     let child : Socket = child_of l (next_name n flat.sections) from at in
+    let stays_in : Socket → Bool = λ x. not (waits_at child.owner x) in
     let narrow : Narrows child.owner l.owner = record {
-      port = fit.port;
+      port = refl;
       dev = refl;
       addr = fit.addr;
       uid = refl;
@@ -519,11 +708,12 @@ child_joins flat n label l from at room fit sound is free =
     } in
     record {
       given = next_is_given flat.header n label flat.sections child room refl;
-      names = next_is_new n flat.sections flat.sockets room sound.given;
-      bound = each_weaken (λ x. (x ≡ l) ⊎ AgreeAsOwners l x) (λ x. AgreeAsOwners x child) flat.sockets (λ x. agrees_as_child l child x narrow (ap is_owner fit.listens)) (with_open flat l sound is);
-      tuples = each_weaken (λ x. TuplesDiffer child x) (λ x. TuplesDiffer x child) flat.sockets (λ x. tuples_swap child x) (tuple_is_new child flat sound free);
+      names = each_filter (λ x. NamesDiffer x child) stays_in flat.sockets (next_is_new n flat.sections flat.sockets room sound.given);
+      bound = each_filter (λ x. AgreeAsOwners x child) stays_in flat.sockets
+          (each_weaken (λ x. (x ≡ l) ⊎ AgreeAsOwners l x) (λ x. AgreeAsOwners x child) flat.sockets (λ x. agrees_as_child l child x narrow (ap is_owner fit.listens)) (with_open flat l sound is));
+      tuples = each_weaken (λ x. TuplesDiffer child x) (λ x. TuplesDiffer x child) (without_waiting child.owner flat.sockets) (λ x. tuples_swap child x) (tuple_is_new child flat free);
       origin = λ unconnected. absurd (true≢false unconnected);
-      alone = of_open (λ x. x.owner.reuseport ≡ false) flat l is sound.alone;
+      quiet = refl;
       awake = refl;
     }
 
@@ -533,10 +723,10 @@ accept_as_sound flat n label l from at room fit sound is =
     let child : Socket = child_of l (next_name n flat.sections) from at in
     let labelled : Flat = with_new_label flat n label in
     let kept : IsSound labelled = labels_sound flat n (with_given flat.header n label flat.sections) (given_gives flat.header n label flat.sections) sound in
-    let done : Outcome = added labelled child replies.Ok in
+    let done : Outcome = added (replacing labelled child.owner) child replies.Ok in
     cond_both (has_twin child.owner flat.sockets) (unchanged labelled replies.Eaddrnotavail) (if not (has_slot labelled) then no_slot labelled else done) Sound
     (λ _. kept)
-    (λ free. cond_both (not (has_slot labelled)) (no_slot labelled) done Sound (λ _. kept) (λ _. added_sound labelled child kept (child_joins flat n label l from at room fit sound is free)))
+    (λ free. cond_both (not (has_slot labelled)) (no_slot labelled) done Sound (λ _. kept) (λ _. added_sound (replacing labelled child.owner) child (replacing_sound labelled child.owner kept) (child_joins flat n label l from at room fit sound is free)))
 
 accept_sound : (flat : Flat) (n : ℕ) (label : List ℕ) (o : Option Socket) (from at : End) → length (labels_of n flat.sections) + 1 < 2 ^ 24 → IsSound flat → ((s : Socket) → o ≡ Some s → IsOpen flat s)
     → Sound (accept (with_new_label flat n label) (next_name n flat.sections) o from at)
@@ -547,11 +737,10 @@ accept_sound flat n label (Some l) from at room sound is =
     (λ _. labels_sound flat n (with_given flat.header n label flat.sections) (given_gives flat.header n label flat.sections) sound)
     (λ fits. accept_as_sound flat n label l from at room (can_accept l.owner from at fits) sound (is l refl))
 
--- `drop`
+-- `drop` and `close`
 
-drop_sound : (flat : Flat) (o : Option Socket) → IsSound flat → Sound (drop flat o)
-drop_sound flat None sound = sound
-drop_sound flat (Some s) sound =
+removed_sound : (flat : Flat) (s : Socket) (reply : Reply) → IsSound flat → Sound (removed flat s reply)
+removed_sound flat s reply sound =
     let stays_in : Socket → Bool = λ x. not (has_name s.owner.name x) in
     record {
       names = pairs_filter NamesDiffer stays_in flat.sockets sound.names;
@@ -559,19 +748,96 @@ drop_sound flat (Some s) sound =
       bound = pairs_filter AgreeAsOwners stays_in flat.sockets sound.bound;
       tuples = pairs_filter TuplesDiffer stays_in flat.sockets sound.tuples;
       origins = each_filter IsItsOwn stays_in flat.sockets sound.origins;
-      alone = each_filter (λ x. x.owner.reuseport ≡ false) stays_in flat.sockets sound.alone;
-      awake = each_filter (λ x. is_time_wait x.owner.state ≡ false) stays_in flat.sockets sound.awake;
+      awake = each_filter IsAwakeIfNamed stays_in flat.sockets sound.awake;
+      grouped = remove_grouped flat.header.shape.bind s.owner.name flat.sockets flat.groups sound.grouped;
     }
+
+drop_sound : (flat : Flat) (o : Option Socket) → IsSound flat → Sound (drop flat o)
+drop_sound flat None sound = sound
+drop_sound flat (Some s) sound = removed_sound flat s replies.Ok sound
+
+any_or_itself : (a : ℕ) → ((a == 0) || (a == a)) ≡ true
+any_or_itself a = grind (arith, nat_tests)
+
+-- another than the open socket keeps apart from it
+other_tuple : (s new x : Socket) → new.owner.name ≡ s.owner.name → same_tuple new.owner x.owner ≡ same_tuple s.owner x.owner → holds_tuple s.owner.state ≡ true → (x ≡ s) ⊎ TuplesDiffer s x → NamesDiffer new x → TuplesDiffer new x
+other_tuple s new x name same holds (inl e) differ p q = absurd (differ (name ∙ sym (ap (λ (y : Socket). y.owner.name) e)))
+other_tuple s new x name same holds (inr h) differ p q = same ∙ h holds q
+
+waiting_fits : (flat : Flat) (s : Socket) (moment : ℕ) → s.owner.state ≡ states.Full → IsSound flat → IsOpen flat s → Fits flat (waiting s moment)
+waiting_fits flat s moment full sound at =
+    let new : Socket = waiting s moment in
+    let given : IsGiven flat.sections s = of_open (IsGiven flat.sections) flat s at sound.given in
+    let narrow : Narrows new.owner s.owner = record {
+      port = refl;
+      dev = refl;
+      addr = any_or_itself s.owner.addr;
+      uid = refl;
+      reuseaddr = refl;
+      reuseport = refl;
+      origin = refl;
+      by_connect = refl;
+      listening = refl;
+      waiting = ap is_time_wait full;
+    } in
+    record {
+      given = record { first = given.first; last = given.last };
+      bound = each_weaken (λ x. (x ≡ s) ⊎ AgreeAsOwners s x) (λ x. NamesDiffer new x → AgreeAsOwners new x) flat.sockets (agrees_as_new flat s new narrow (ap is_owner full) refl) (with_open flat s sound at);
+      tuples = each_weaken (λ x. (x ≡ s) ⊎ TuplesDiffer s x) (λ x. NamesDiffer new x → TuplesDiffer new x) flat.sockets (λ x. other_tuple s new x refl refl (ap holds_tuple full))
+          (pairs_found TuplesDiffer (λ x. has_name at.0 x && x.named) flat.sockets s tuples_swap sound.tuples at.1);
+      origin = λ unconnected. absurd (true≢false unconnected);
+      awake = refl;
+    }
+
+close_socket_sound : (flat : Flat) (n : ℕ) (s : Socket) (t : State) → s.owner.state ≡ t → IsSound flat → IsOpen flat s → Sound (close_socket flat n s t)
+close_socket_sound flat n s states.Full full sound at =
+    let moment : ℕ = moment_of flat.header n flat.sections in
+    let no_slot : Reply = replies.NoSlot flat.header.shape.slots 0 in
+    cond_both (has_slot flat) (changed flat (waiting s moment) replies.TimeWait) (removed flat s no_slot) Sound
+    (λ _. changed_sound flat (waiting s moment) replies.TimeWait sound (waiting_fits flat s moment full sound at) (quiet_by flat s (waiting s moment) sound at (ap is_listening full) refl refl))
+    (λ _. removed_sound flat s no_slot sound)
+close_socket_sound flat n s _ is sound at = removed_sound flat s replies.Ok sound
+
+close_sound : (flat : Flat) (n : ℕ) (o : Option Socket) → IsSound flat → ((s : Socket) → o ≡ Some s → IsOpen flat s) → Sound (close flat n o)
+close_sound flat n None sound at = sound
+close_sound flat n (Some s) sound at = close_socket_sound flat n s s.owner.state refl sound (at s refl)
+
+-- `at` and `reap`
+
+at_sound : (flat : Flat) (n moment : ℕ) → IsSound flat → Sound (at flat n moment)
+at_sound flat n moment sound =
+    let sections : List Section = with_moment flat.header n moment flat.sections in
+    let later : Flat = record flat { sections = sections } in
+    cond_both (nat_lt moment (moment_of flat.header n flat.sections)) (unchanged flat replies.Einval) (unchanged later replies.Ok) Sound
+    (λ _. sound)
+    (λ _. labels_sound flat n sections (keeps_at n flat later (moment_keeps flat.header n moment flat.sections)) sound)
+
+over_is_quiet : (t : State) (ours over shares : Bool) → not (is_time_wait t && ours && over) ≡ false → (is_listening t && shares) ≡ false
+over_is_quiet states.Listening ours over shares h = absurd (true≢false h)
+over_is_quiet states.Full ours over shares h = refl
+over_is_quiet states.Unbound ours over shares h = refl
+over_is_quiet states.Bound ours over shares h = refl
+over_is_quiet states.TimeWait ours over shares h = refl
+
+reap_sound : (flat : Flat) (n : ℕ) → IsSound flat → Sound (reap flat n)
+reap_sound flat n sound =
+    let moment : ℕ = moment_of flat.header n flat.sections in
+    gone_sound flat (λ s. not (is_expired n moment s))
+    (λ x. over_is_quiet x.owner.state (x.owner.name / 2 ^ 24 == n) (expired x.stamp moment) x.owner.reuseport) sound
 
 pub stays : StaysSound
 unfolding step
-stays flat n (commands.Socket label dev reuseaddr) room sound = socket_sound flat n label dev reuseaddr room sound
+stays flat n (commands.Socket label uid dev reuseaddr reuseport) room sound =
+    socket_sound flat n label (record { uid = uid; dev = dev; reuseaddr = reuseaddr; reuseport = reuseport }) room sound
 stays flat n (commands.Bind label end) room sound = bind_sound flat n (open_socket flat n label) end sound (is_open flat n label)
 stays flat n (commands.Listen label) room sound = listen_sound flat n (open_socket flat n label) sound (is_open flat n label)
 stays flat n (commands.Connect label from to) room sound = connect_sound flat n (open_socket flat n label) from to sound (is_open flat n label)
 stays flat n (commands.Accept listener label from at) room sound =
     accept_sound flat n label (open_socket flat n listener) from at room sound (is_open flat n listener)
 stays flat n (commands.Drop label) room sound = drop_sound flat (open_socket flat n label) sound
+stays flat n (commands.Close label) room sound = close_sound flat n (open_socket flat n label) sound (is_open flat n label)
+stays flat n (commands.At moment) room sound = at_sound flat n moment sound
+stays flat n commands.Reap room sound = reap_sound flat n sound
 stays flat n (commands.Look from to dev) room sound = sound
 
 -- how many labels each section can still give

@@ -1,8 +1,10 @@
 -- `connect` and `accept`, their refusals in the order in which they are tested. Sources: connect(2), accept(2) and
 -- their errors; inet_stream_connect of net/ipv4/af_inet.c; __inet_hash_connect and __inet_check_established of
--- net/ipv4/inet_hashtables.c. Our own: `accept` names the listener and both ends itself; which ends EINVAL refuses; a
--- socket without a port needs a source named; which owners may share a port that `connect` chooses.
+-- net/ipv4/inet_hashtables.c, tcp_twsk_unique of net/ipv4/tcp_ipv4.c. Our own: `accept` names the listener and both
+-- ends itself; which ends EINVAL refuses; a socket without a port needs a source named; which owners may share a port
+-- that `connect` chooses; which TIME_WAIT gives way to a connection.
 use Rattle.std.specs.Prelude.{ℕ, Bool, true, ◌&&◌, not, Option, None, Some, if◌then◌else◌}
+use Rattle.sock_card.specs.declared.owner.Owner.{Owner}
 use Rattle.sock_card.specs.declared.owner.State.{State}
 use Rattle.sock_card.specs.declared.owner.State.TheVariants as states
 use Rattle.flat_list.specs.declared.header.First.TheVariants as firsts
@@ -12,7 +14,8 @@ use Rattle.flat_list.specs.declared.socket.Socket.{Socket}
 use Rattle.flat_list.specs.Flat.{Flat}
 use Rattle.flat_list.specs.Outcome.{Outcome, unchanged, changed, added, has_slot, no_slot, Found, search_port}
 use Rattle.flat_list.specs.Owned.{connected_to, connected_at, child_owner, source_of, is_no_end, is_no_accept}
-use Rattle.flat_list.specs.Sockets.{has_twin, is_claimed}
+use Rattle.flat_list.specs.Sections.{moment_of}
+use Rattle.flat_list.specs.Sockets.{has_twin, is_claimed, is_taken, without_waiting}
 
 -- the socket, connected from that source to that end
 abbrev pub connected : Socket → ℕ → End → Socket
@@ -22,32 +25,41 @@ connected s source to = record s { owner = connected_to s.owner source to }
 abbrev pub end_of : Socket → End
 end_of s = record { addr = s.owner.addr; port = s.owner.port }
 
--- the connected socket takes the place of the one that it was
+-- the list without the TIME_WAITs of the owner's four-tuple
+abbrev pub replacing : Flat → Owner → Flat
+replacing flat a = record flat { sockets = without_waiting a flat.sockets }
+
+-- the connected socket takes the place of the one that it was, and of a TIME_WAIT of its four-tuple
 abbrev pub connect_as : Flat → Socket → Outcome
 connect_as flat new =
-    if not (has_slot flat) then no_slot flat else changed flat new (replies.End (end_of new))
+    if not (has_slot flat) then no_slot flat else changed (replacing flat new.owner) new (replies.End (end_of new))
+
+-- the socket can't have its four-tuple at the moment of section n
+abbrev pub is_taken_in : Flat → ℕ → Socket → Bool
+is_taken_in flat n s =
+    is_taken flat.header.twreuse (moment_of flat.header n flat.sections) s.owner flat.sockets
 
 -- from the bound port and that source, if there is one
-abbrev pub connect_from : Flat → Socket → End → Option ℕ → Outcome
-connect_from flat s to None = unchanged flat replies.Einval
-connect_from flat s to (Some source) =
+abbrev pub connect_from : Flat → ℕ → Socket → End → Option ℕ → Outcome
+connect_from flat n s to None = unchanged flat replies.Einval
+connect_from flat n s to (Some source) =
     let new = connected s source to in
-    if has_twin new.owner flat.sockets then unchanged flat replies.Eaddrnotavail else connect_as flat new
+    if is_taken_in flat n new then unchanged flat replies.Eaddrnotavail else connect_as flat new
 
 -- `connect` of a Bound socket
-abbrev pub connect_bound : Flat → Socket → Option ℕ → End → Outcome
-connect_bound flat s from to =
+abbrev pub connect_bound : Flat → ℕ → Socket → Option ℕ → End → Outcome
+connect_bound flat n s from to =
     if is_no_end to then unchanged flat replies.Einval
-    else connect_from flat s to (source_of s.owner.addr from)
+    else connect_from flat n s to (source_of s.owner.addr from)
 
 -- the socket, connected from that source and a port that was found, to that end
 abbrev pub connected_by_search : Socket → ℕ → End → ℕ → Socket
 connected_by_search s source to port = record s { owner = connected_at s.owner source port to }
 
--- a port whose owners all had it chosen by `connect`, and with which the four-tuple is no full socket's
-abbrev pub suits_connect : Flat → Socket → ℕ → End → ℕ → Bool
-suits_connect flat s source to port =
-    not (is_claimed port flat.sockets) && not (has_twin (connected_by_search s source to port).owner flat.sockets)
+-- a port whose owners all had it chosen by `connect`, and with which the socket can have its four-tuple
+abbrev pub suits_connect : Flat → ℕ → Socket → ℕ → End → ℕ → Bool
+suits_connect flat n s source to port =
+    not (is_claimed port flat.sockets) && not (is_taken_in flat n (connected_by_search s source to port))
 
 -- from the port that was found, if there is one
 abbrev pub connect_found : Found → Socket → ℕ → End → Option ℕ → Outcome
@@ -58,7 +70,7 @@ connect_found found s source to (Some port) = connect_as found.flat (connected_b
 abbrev pub connect_search : Flat → ℕ → Socket → End → Option ℕ → Outcome
 connect_search flat n s to None = unchanged flat replies.Einval
 connect_search flat n s to (Some source) =
-    let found = search_port flat n firsts.Even (suits_connect flat s source to) in
+    let found = search_port flat n firsts.Even (suits_connect flat n s source to) in
     connect_found found s source to found.port
 
 -- `connect` of an Unbound socket, which has no address to be its source
@@ -68,7 +80,7 @@ connect_unbound flat n s from to =
 
 -- `connect` of a socket in that state, in the section of that number
 abbrev pub connect_socket : Flat → ℕ → Socket → State → Option ℕ → End → Outcome
-connect_socket flat n s states.Bound from to = connect_bound flat s from to
+connect_socket flat n s states.Bound from to = connect_bound flat n s from to
 connect_socket flat n s states.Unbound from to = connect_unbound flat n s from to
 connect_socket flat n s _ from to = unchanged flat replies.Eisconn
 
@@ -78,14 +90,15 @@ connect flat n (Some s) from to = connect_socket flat n s s.owner.state from to
 
 -- the socket of that name which a listener accepts
 abbrev pub child_of : Socket → ℕ → End → End → Socket
-child_of l name from at = record { owner = child_owner l.owner name from at; named = true }
+child_of l name from at = record { owner = child_owner l.owner name from at; stamp = 0; named = true }
 
--- the child comes beside its listener; no conflict of owners is looked for
+-- the child comes beside its listener, and in the place of a TIME_WAIT of its four-tuple; no conflict of owners is
+-- looked for
 abbrev pub accept_as : Flat → Socket → Outcome
 accept_as flat child =
     if has_twin child.owner flat.sockets then unchanged flat replies.Eaddrnotavail
     else if not (has_slot flat) then no_slot flat
-    else added flat child replies.Ok
+    else added (replacing flat child.owner) child replies.Ok
 
 -- `accept` under that name, once the child's label is given: after a refusal the label stays given, and names nothing
 abbrev pub accept : Flat → ℕ → Option Socket → End → End → Outcome

@@ -1,6 +1,7 @@
 -- What the contracts of this crate and of those above it cite.
 pub mod Ports
 pub mod Sections
+pub mod Groups
 pub mod Flat
 pub mod Owned
 pub mod Sockets

@@ -5,6 +5,7 @@ use Rattle.flat_list.specs.declared.command.Reply.{Reply}
 use Rattle.flat_list.specs.declared.command.Reply.TheVariants as replies
 use Rattle.flat_list.specs.declared.socket.Socket.{Socket}
 use Rattle.flat_list.specs.Flat.{Flat}
+use Rattle.flat_list.specs.Groups.{leave}
 use Rattle.flat_list.specs.Ports.{size, port_order}
 use Rattle.flat_list.specs.Sections.{name_in, with_given, word_of, with_drawn}
 use Rattle.flat_list.specs.Sockets.{open_named, put, without, slots_used}
@@ -28,10 +29,11 @@ abbrev pub added : Flat → Socket → Reply → Outcome
 added flat socket reply =
     record { flat = record flat { sockets = flat.sockets ++ socket ∷ [] }; reply = reply }
 
--- one socket is gone
+-- one socket is gone, and from its group too
 abbrev pub removed : Flat → Socket → Reply → Outcome
 removed flat socket reply =
-    record { flat = record flat { sockets = without socket.owner.name flat.sockets }; reply = reply }
+    let name = socket.owner.name in
+    record { flat = record flat { sockets = without name flat.sockets; groups = leave name flat.groups }; reply = reply }
 
 -- the section of that number has given one more label
 abbrev pub with_new_label : Flat → ℕ → List ℕ → Flat

@@ -10,11 +10,13 @@ use Rattle.sock_card.specs.declared.card.Card.{Card}
 use Rattle.sock_card.specs.declared.card.Kind.{Kind}
 use Rattle.sock_card.specs.declared.card.Packet.{Packet}
 use Rattle.sock_card.specs.Conflict.{is_listening}
+use Rattle.sock_card.specs.Became.{connected, child}
 use Rattle.flat_list.specs.declared.command.End.{End}
+use Rattle.flat_list.specs.declared.owned.Options.{Options}
 
 -- as `socket` makes it: without an end, its origin its own name
-abbrev pub new_owner : ℕ → Option ℕ → Bool → Owner
-new_owner name dev reuseaddr =
+abbrev pub new_owner : ℕ → Options → Owner
+new_owner name options =
     record {
       name = name;
       origin = name;
@@ -22,10 +24,10 @@ new_owner name dev reuseaddr =
       port = 0;
       remote = 0;
       rport = 0;
-      dev = unwrap_or dev 0;
-      uid = 0;
-      reuseaddr = reuseaddr;
-      reuseport = false;
+      dev = unwrap_or options.dev 0;
+      uid = unwrap_or options.uid 0;
+      reuseaddr = options.reuseaddr;
+      reuseport = options.reuseport;
       state = states.Unbound;
       by_connect = false;
     }
@@ -34,14 +36,9 @@ new_owner name dev reuseaddr =
 abbrev pub bound_at : Owner → ℕ → ℕ → Owner
 bound_at a addr port = record a { addr = addr; port = port; state = states.Bound }
 
--- listening from then on
-abbrev pub as_listener : Owner → Owner
-as_listener a = record a { state = states.Listening }
-
 -- connected from that source to that end: both its ends stand, and it is full
 abbrev pub connected_to : Owner → ℕ → End → Owner
-connected_to a source to =
-    record a { addr = source; remote = to.addr; rport = to.port; state = states.Full }
+connected_to a source to = connected source to.addr to.port a
 
 -- the same from a port that `connect` chose
 abbrev pub connected_at : Owner → ℕ → ℕ → End → Owner
@@ -50,15 +47,7 @@ connected_at a source port to = record (connected_to a source to) { port = port;
 -- the socket of that name which a listener accepts from one end at another: full, and all else as the listener has it,
 -- its origin too
 abbrev pub child_owner : Owner → ℕ → End → End → Owner
-child_owner l name from at =
-    record l {
-      name = name;
-      addr = at.addr;
-      port = at.port;
-      remote = from.addr;
-      rport = from.port;
-      state = states.Full;
-    }
+child_owner l name from at = child name at.addr from.addr from.port l
 
 -- the source of `connect` for a socket bound to addr: that address, or where it is 0.0.0.0 the one named; none where
 -- none is named, or another than the bound one

@@ -1,5 +1,6 @@
 -- Worked examples, computed by the definitions: each line is a command of section 1 with its reply.
-use Rattle.std.specs.Prelude.{◌≡◌, ℕ, List, [], ◌∷◌, Option, None, Some, map, codes, false, true}
+use Rattle.std.specs.Prelude.{◌≡◌, ℕ, ◌+◌, List, [], ◌∷◌, ◌++◌, Option, None, Some, map, codes, Bool, false, true}
+use Rattle.std.specs.List.{flat_map, range_with_len}
 use Rattle.sock_card.specs.declared.card.Kind.{Kind}
 use Rattle.sock_card.specs.declared.card.Kind.TheVariants as kinds
 use Rattle.flat_list.specs.declared.header.Header.{Header}
@@ -37,6 +38,7 @@ with_slots slots =
       range = record { low = 32768; high = 60999 };
       seed = 0;
       offset = None;
+      twreuse = false;
     }
 
 -- a header with that range, and that offset if there is one
@@ -46,6 +48,15 @@ with_range low high offset = record (with_slots 1024) { range = record { low = l
 -- a header with that seed, for four ports
 abbrev pub with_seed : ℕ → Header
 with_seed seed = record (with_range 40000 40003 None) { seed = seed }
+
+-- a header with that switch for TIME_WAITs
+abbrev pub with_reuse : Bool → Header
+with_reuse twreuse = record (with_slots 1024) { twreuse = twreuse }
+
+-- a header whose seed makes the hashes of packets to 10.0.0.1:80 from 10.0.0.2 at ports 1000, 1001 and 1002
+-- 0xE1DC2E8E, 0xFC3A01B5 and 0x0CFF64B4
+abbrev pub with_known_hashes : Header
+with_known_hashes = record (with_slots 1024) { seed = 0x21524105 }
 
 -- labels
 abbrev pub a : List ℕ
@@ -77,13 +88,22 @@ abbrev pub two : ℕ → End
 two port = record { addr = 0x0A000002; port = port }
 
 abbrev pub socket : List ℕ → Command
-socket label = commands.Socket label None false
+socket label = commands.Socket label None None false false
 
 abbrev pub on_device : List ℕ → ℕ → Command
-on_device label dev = commands.Socket label (Some dev) false
+on_device label dev = commands.Socket label None (Some dev) false false
 
 abbrev pub reusable : List ℕ → Command
-reusable label = commands.Socket label None true
+reusable label = commands.Socket label None None true false
+
+abbrev pub sharing : List ℕ → Command
+sharing label = commands.Socket label None None false true
+
+abbrev pub sharing_as : List ℕ → ℕ → Command
+sharing_as label uid = commands.Socket label (Some uid) None false true
+
+abbrev pub sharing_on : List ℕ → ℕ → Command
+sharing_on label dev = commands.Socket label None (Some dev) false true
 
 abbrev pub connect : List ℕ → ℕ → Command
 connect label port = commands.Connect label None (two port)
@@ -112,6 +132,31 @@ found kind name end remote =
 
 abbrev pub nowhere : End
 nowhere = record { addr = 0; port = 0 }
+
+-- what a look answers that finds the listener of that name, end, device and group
+abbrev pub found_in_group : ℕ → End → ℕ → ℕ → Reply
+found_in_group name end dev number =
+    replies.Found (Some (record {
+      local = end.addr;
+      lport = end.port;
+      remote = 0;
+      rport = 0;
+      dev = dev;
+      kind = kinds.Listen;
+      name = name;
+      extra = number + 1;
+    }))
+
+-- a packet from 10.0.0.2 at that port to 10.0.0.1:80
+abbrev pub look_from : ℕ → Command
+look_from port = commands.Look (two port) (one 80) None
+
+abbrev pub look_on : ℕ → Command
+look_on dev = commands.Look (two 1001) (one 80) (Some dev)
+
+-- a packet to another address than 10.0.0.1
+abbrev pub look_aside : ℕ → Command
+look_aside port = commands.Look (two 1001) (record { addr = 0x0A000009; port = port }) None
 
 -- sockets with `reuseaddr` share an end until one of them listens
 abbrev pub until_one_listens : List Line
@@ -189,7 +234,146 @@ slot_is_freed =
     ∷ says (connect b 80) (replies.End (one 90))
     ∷ []
 
--- each state of a socket refuses what doesn't fit it
+-- where the only slot is the socket's own, `close` leaves no TIME_WAIT
+abbrev pub closed_without_slot : List Line
+closed_without_slot =
+    says (socket b) replies.Ok
+    ∷ says (commands.Bind b (one 90)) (replies.Port 90)
+    ∷ says (connect b 80) (replies.End (one 90))
+    ∷ says (commands.Close b) (replies.NoSlot 1 0)
+    ∷ says (commands.Look (two 80) (one 90) None) (replies.Found None)
+    ∷ []
+
+-- a closed listener's child keeps the listener's port from others, unless both have `reuseaddr`
+abbrev pub child_stays : List Line
+child_stays =
+    says (socket a) replies.Ok
+    ∷ says (commands.Bind a (one 80)) (replies.Port 80)
+    ∷ says (commands.Listen a) (replies.Port 80)
+    ∷ says (accept a c) replies.Ok
+    ∷ says (commands.Close a) replies.Ok
+    ∷ says (socket d) replies.Ok
+    ∷ says (commands.Bind d (one 80)) replies.Eaddrinuse
+    ∷ []
+
+abbrev pub child_lets_in : List Line
+child_lets_in =
+    says (reusable a) replies.Ok
+    ∷ says (commands.Bind a (one 80)) (replies.Port 80)
+    ∷ says (commands.Listen a) (replies.Port 80)
+    ∷ says (accept a c) replies.Ok
+    ∷ says (commands.Close a) replies.Ok
+    ∷ says (reusable d) replies.Ok
+    ∷ says (commands.Bind d (one 80)) (replies.Port 80)
+    ∷ says (commands.Listen d) (replies.Port 80)
+    ∷ []
+
+-- sockets of one user share an end by `reuseport`
+abbrev pub shared_by_user : List Line
+shared_by_user =
+    says (sharing_as a 1) replies.Ok
+    ∷ says (sharing_as b 2) replies.Ok
+    ∷ says (sharing_as c 1) replies.Ok
+    ∷ says (commands.Bind a (one 80)) (replies.Port 80)
+    ∷ says (commands.Bind b (one 80)) replies.Eaddrinuse
+    ∷ says (commands.Bind c (one 80)) (replies.Port 80)
+    ∷ []
+
+-- a connection that was closed, and one that wants its four-tuple
+abbrev pub closed_and_wanted : List Line
+closed_and_wanted =
+    says (reusable a) replies.Ok
+    ∷ says (commands.Bind a (one 5000)) (replies.Port 5000)
+    ∷ says (connect a 80) (replies.End (one 5000))
+    ∷ says (commands.Close a) replies.TimeWait
+    ∷ says (reusable b) replies.Ok
+    ∷ says (commands.Bind b (one 5000)) (replies.Port 5000)
+    ∷ says (connect b 80) replies.Eaddrnotavail
+    ∷ says (commands.At 1) replies.Ok
+    ∷ []
+
+-- once the moment is later than its stamp, the TIME_WAIT gives way where the switch is on, and isn't there to be reaped
+abbrev pub reused : List Line
+reused =
+    closed_and_wanted
+    ++ says (connect b 80) (replies.End (one 5000))
+    ∷ says (commands.Look (two 80) (one 5000) None) (found kinds.Full (name_at 1 1) (one 5000) (two 80))
+    ∷ says (commands.At 59) replies.Ok
+    ∷ says commands.Reap (replies.Count 0)
+    ∷ says (commands.At 60) replies.Ok
+    ∷ says commands.Reap (replies.Count 0)
+    ∷ []
+
+-- else it stays for a minute
+abbrev pub waited_for : List Line
+waited_for =
+    closed_and_wanted
+    ++ says (connect b 80) replies.Eaddrnotavail
+    ∷ says (commands.Look (two 80) (one 5000) None) (found kinds.TimeWait (name_at 1 0) (one 5000) (two 80))
+    ∷ says (commands.At 59) replies.Ok
+    ∷ says commands.Reap (replies.Count 0)
+    ∷ says (commands.At 60) replies.Ok
+    ∷ says commands.Reap (replies.Count 1)
+    ∷ says (connect b 80) (replies.End (one 5000))
+    ∷ []
+
+-- listeners at any address, at the packet's, and there on a device; each is alone in its group
+abbrev pub by_rank : List Line
+by_rank =
+    says (sharing a) replies.Ok
+    ∷ says (commands.Bind a (any 80)) (replies.Port 80)
+    ∷ says (commands.Listen a) (replies.Port 80)
+    ∷ says (sharing b) replies.Ok
+    ∷ says (commands.Bind b (one 80)) (replies.Port 80)
+    ∷ says (commands.Listen b) (replies.Port 80)
+    ∷ says (sharing_on c 3) replies.Ok
+    ∷ says (commands.Bind c (one 80)) (replies.Port 80)
+    ∷ says (commands.Listen c) (replies.Port 80)
+    ∷ says (accept b e) replies.Ok
+    ∷ says (look_from 1000) (found kinds.Full (name_at 1 3) (one 80) (two 1000))
+    ∷ says (look_from 1001) (found_in_group (name_at 1 1) (one 80) 0 1)
+    ∷ says (look_on 3) (found_in_group (name_at 1 2) (one 80) 3 2)
+    ∷ says (look_on 4) (found_in_group (name_at 1 1) (one 80) 0 1)
+    ∷ says (look_aside 80) (found_in_group (name_at 1 0) (any 80) 0 0)
+    ∷ says (look_aside 81) (replies.Found None)
+    ∷ says (commands.Drop b) replies.Ok
+    ∷ says (look_on 4) (found_in_group (name_at 1 0) (any 80) 0 0)
+    ∷ []
+
+-- three listeners of one group: the hash chooses among them, and the last takes the place of the one that leaves
+abbrev pub chosen_by_hash : List Line
+chosen_by_hash =
+    says (sharing a) replies.Ok
+    ∷ says (commands.Bind a (one 80)) (replies.Port 80)
+    ∷ says (commands.Listen a) (replies.Port 80)
+    ∷ says (sharing b) replies.Ok
+    ∷ says (commands.Bind b (one 80)) (replies.Port 80)
+    ∷ says (commands.Listen b) (replies.Port 80)
+    ∷ says (sharing c) replies.Ok
+    ∷ says (commands.Bind c (one 80)) (replies.Port 80)
+    ∷ says (commands.Listen c) (replies.Port 80)
+    ∷ says (look_from 1002) (found_in_group (name_at 1 0) (one 80) 0 0)
+    ∷ says (look_from 1000) (found_in_group (name_at 1 2) (one 80) 0 0)
+    ∷ says (look_from 1001) (found_in_group (name_at 1 2) (one 80) 0 0)
+    ∷ says (commands.Drop a) replies.Ok
+    ∷ says (look_from 1002) (found_in_group (name_at 1 2) (one 80) 0 0)
+    ∷ says (look_from 1000) (found_in_group (name_at 1 1) (one 80) 0 0)
+    ∷ []
+
+-- a group has sixteen members
+abbrev pub listener : ℕ → Reply → List Line
+listener number reply =
+    let label : List ℕ = number ∷ [] in
+    says (sharing label) replies.Ok
+    ∷ says (commands.Bind label (one 80)) (replies.Port 80)
+    ∷ says (commands.Listen label) reply
+    ∷ []
+
+abbrev pub seventeen_listeners : List Line
+seventeen_listeners =
+    flat_map (λ number. listener number (replies.Port 80)) (range_with_len 1 16) ++ listener 17 replies.Emfile
+
+-- each state of a socket refuses what doesn't fit it, and a moment never goes back
 abbrev pub states_refuse : List Line
 states_refuse =
     says (socket a) replies.Ok
@@ -203,7 +387,9 @@ states_refuse =
     ∷ says (commands.Accept a b (two 81) (one 90)) replies.Einval
     ∷ says (commands.Drop a) replies.Ok
     ∷ says (commands.Drop a) replies.Ebadf
-    ∷ says (commands.Drop b) replies.Ebadf
+    ∷ says (commands.Close b) replies.Ebadf
+    ∷ says (commands.At 5) replies.Ok
+    ∷ says (commands.At 4) replies.Einval
     ∷ []
 
 -- in a range of four ports from 40000 on, offset 0: `bind` prefers odd distances, and neither it nor `connect` finds a

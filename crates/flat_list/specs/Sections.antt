@@ -1,22 +1,24 @@
 -- What each section of a script keeps, and the names that its labels stand for: our own rule. The generator is PCG's
 -- XSH-RR of 64 bits of state, one stream for each section (O'Neill, "PCG: a family of simple fast space-efficient
 -- statistically good algorithms for random number generation").
-use Rattle.std.specs.Prelude.{◌≡◌, ◌≢◌, ◌≤◌, slice_get, ◌-◌, ◌/◌, ◌%◌, ℕ, ◌+◌, ◌*◌, ◌^◌, Bool, ◌==◌, List, [], ◌∷◌, ◌++◌, Option, if◌then◌else◌, find, unwrap_or, position, bytes_eq, length}
+use Rattle.std.specs.Prelude.{◌≡◌, ◌≢◌, ◌≤◌, slice_get, ◌/◌, ◌%◌, ℕ, ◌+◌, ◌*◌, ◌^◌, Bool, ◌==◌, List, [], ◌∷◌, ◌++◌, Option, if◌then◌else◌, find, unwrap_or, position, bytes_eq, length}
 use Rattle.std.specs.Option.{option_map}
 use Rattle.rand_pcg.specs.Lcg.{Lcg, started, increment_of}
 use Rattle.rand_pcg.specs.Pcg.{multiplier_64, pcg32}
 use Rattle.flat_list.specs.declared.header.Header.{Header}
 
--- a section's number, its labels in the order in which they were given, and the generator of its offsets
+-- a section's number, its labels in the order in which they were given, its moment in seconds, and the generator of its
+-- offsets
 pub record Section : Type 0 where
   pub number : ℕ
   pub labels : List (List ℕ)
+  pub moment : ℕ
   pub generator : Lcg
 
--- a section that has given no label and drawn no word
+-- a section at its start: it has given no label and drawn no word
 abbrev pub new_section : Header → ℕ → Section
 new_section header n =
-    record { number = n; labels = []; generator = started 64 multiplier_64 header.seed (increment_of 64 n) }
+    record { number = n; labels = []; moment = 0; generator = started 64 multiplier_64 header.seed (increment_of 64 n) }
 
 abbrev pub has_number : ℕ → Section → Bool
 has_number n s = s.number == n
@@ -71,6 +73,18 @@ past_word s = record s { generator = (pcg32 s.generator).1 }
 -- the sections, when that of that number has drawn a word
 abbrev pub with_drawn : Header → ℕ → List Section → List Section
 with_drawn header n sections = put_section (past_word (section_of header n sections)) sections
+
+-- the moment of the section of that number
+abbrev pub moment_of : Header → ℕ → List Section → ℕ
+moment_of header n sections = (section_of header n sections).moment
+
+-- the section at that moment
+abbrev pub at_moment : ℕ → Section → Section
+at_moment moment s = record s { moment = moment }
+
+-- the sections, when that of that number has come to that moment
+abbrev pub with_moment : Header → ℕ → ℕ → List Section → List Section
+with_moment header n moment sections = put_section (at_moment moment (section_of header n sections)) sections
 
 -- the label of a name, by its number among those that its section gave, from 1; none where there is no such label
 abbrev pub label_of : List Section → ℕ → List ℕ

@@ -1,15 +1,20 @@
 -- Questions about a list of sockets. Which of them take a slot and are seen by lookups follows the tables of
 -- net/ipv4/inet_hashtables.c; which owners of a port refuse another is inet_csk_bind_conflict of
--- net/ipv4/inet_connection_sock.c, asked of every other owner. That devices don't keep two full sockets of one
--- four-tuple apart is our own rule, and so is that `connect` shares a port only with owners for whom it chose that.
-use Rattle.std.specs.Prelude.{ℕ, Bool, true, false, ◌==◌, ◌&&◌, not, List, Option, None, Some, if◌then◌else◌, map, filter, find, count_by}
+-- net/ipv4/inet_connection_sock.c, asked of every other owner; who keeps a four-tuple is __inet_check_established of
+-- net/ipv4/inet_hashtables.c and tcp_twsk_unique of net/ipv4/tcp_ipv4.c; whose group a listener joins is
+-- inet_reuseport_add_sock of net/ipv4/inet_hashtables.c. That devices don't keep two full sockets of one four-tuple
+-- apart is our own rule, and so are which TIME_WAIT gives way, how long one lasts, and that `connect` shares a port only
+-- with owners for whom it chose that.
+use Rattle.std.specs.Prelude.{ℕ, ◌/◌, ◌^◌, Bool, true, false, ◌==◌, ◌&&◌, ◌||◌, not, nat_lt, List, Option, None, Some, if◌then◌else◌, map, filter, find, count_by}
 use Rattle.std.specs.List.{list_any}
+use Rattle.std.specs.Option.{option_map}
 use Rattle.sock_card.specs.declared.card.Kind.{Kind}
 use Rattle.sock_card.specs.declared.card.Kind.TheVariants as kinds
 use Rattle.sock_card.specs.declared.owner.Owner.{Owner}
 use Rattle.sock_card.specs.declared.owner.State.{State}
 use Rattle.sock_card.specs.declared.owner.State.TheVariants as states
-use Rattle.sock_card.specs.Conflict.{refuses, overlap}
+use Rattle.sock_card.specs.Conflict.{refuses, overlap, is_listening, is_time_wait, both_reuse_port}
+use Rattle.sock_card.specs.TimeWait.{expired}
 use Rattle.flat_list.specs.declared.socket.Socket.{Socket}
 
 -- the kind under which a socket of that state is looked up, if it is
@@ -66,6 +71,39 @@ same_tuple a b = (a.addr == b.addr) && (a.port == b.port) && (a.remote == b.remo
 -- some full socket has the owner's four-tuple
 abbrev pub has_twin : Owner → List Socket → Bool
 has_twin a sockets = list_any (λ s. is_full s.owner.state && same_tuple a s.owner) sockets
+
+-- a TIME_WAIT of the owner's four-tuple
+abbrev pub waits_at : Owner → Socket → Bool
+waits_at a s = is_time_wait s.owner.state && same_tuple a s.owner
+
+-- `connect` may take the place of that TIME_WAIT at that moment: the switch is on, and it was closed earlier
+abbrev pub gives_way : Bool → ℕ → Socket → Bool
+gives_way switch moment s = switch && nat_lt s.stamp moment
+
+-- `connect` can't have the owner's four-tuple at that moment: it is a full socket's, or that of a TIME_WAIT that doesn't
+-- give way
+abbrev pub is_taken : Bool → ℕ → Owner → List Socket → Bool
+is_taken switch moment a sockets =
+    has_twin a sockets || list_any (λ s. waits_at a s && not (gives_way switch moment s)) sockets
+
+-- the sockets but the TIME_WAITs of the owner's four-tuple
+abbrev pub without_waiting : Owner → List Socket → List Socket
+without_waiting a sockets = filter (λ s. not (waits_at a s)) sockets
+
+-- a listener in whose group the owner would be: one of its end, device and user, and both share their end
+abbrev pub is_mate : Owner → Socket → Bool
+is_mate a s =
+    is_listening s.owner.state && both_reuse_port a s.owner
+    && (a.port == s.owner.port) && (a.dev == s.owner.dev) && (a.uid == s.owner.uid) && (a.addr == s.owner.addr)
+
+-- the first such listener's name
+abbrev pub mate_of : Owner → List Socket → Option ℕ
+mate_of a sockets = option_map (λ (m : Socket). m.owner.name) (find (is_mate a) sockets)
+
+-- a TIME_WAIT of a section that has lasted its minute at that moment
+abbrev pub is_expired : ℕ → ℕ → Socket → Bool
+is_expired section moment s =
+    is_time_wait s.owner.state && (s.owner.name / 2 ^ 24 == section) && expired s.stamp moment
 
 -- the new socket where the old one has its name
 abbrev pub replaced : Socket → Socket → Socket

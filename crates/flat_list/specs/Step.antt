@@ -1,33 +1,37 @@
 -- What a command of a section leaves and answers; its refusals stand in the order in which they are tested. Sources:
--- socket(7), bind(2), listen(2) and their errors; inet_bind and inet_listen of net/ipv4/af_inet.c; inet_csk_get_port
--- and inet_csk_listen_start of net/ipv4/inet_connection_sock.c. Our own: EBADF where a label names no open socket;
--- slots fixed in number, and ENFILE where none is free; a search takes a port only where no other owner overlaps,
--- whatever their options.
-use Rattle.std.specs.Prelude.{ℕ, Bool, ◌==◌, not, List, Option, None, Some, if◌then◌else◌, true, false}
+-- socket(7), bind(2), listen(2), close(2) and their errors; inet_bind and inet_listen of net/ipv4/af_inet.c;
+-- inet_csk_get_port and inet_csk_listen_start of net/ipv4/inet_connection_sock.c; tcp_time_wait of
+-- net/ipv4/tcp_minisocks.c. Our own: EBADF where a label names no open socket; slots fixed in number, and ENFILE where
+-- none is free; groups limited, and EMFILE where none has room; a search takes a port only where no other owner
+-- overlaps, whatever their options; `drop`, `at` and `reap`, and when a TIME_WAIT is left.
+use Rattle.std.specs.Prelude.{ℕ, Bool, ◌==◌, not, nat_lt, List, Option, None, Some, if◌then◌else◌, true, false, filter, count_by}
 use Rattle.sock_card.specs.declared.owner.State.{State}
 use Rattle.sock_card.specs.declared.owner.State.TheVariants as states
+use Rattle.sock_card.specs.Became.{as_listener, as_waiting}
 use Rattle.flat_list.specs.declared.header.First.TheVariants as firsts
 use Rattle.flat_list.specs.declared.command.Command.{Command}
 use Rattle.flat_list.specs.declared.command.Command.TheVariants as commands
 use Rattle.flat_list.specs.declared.command.End.{End}
 use Rattle.flat_list.specs.declared.command.Reply.TheVariants as replies
+use Rattle.flat_list.specs.declared.owned.Options.{Options}
 use Rattle.flat_list.specs.declared.socket.Socket.{Socket}
 use Rattle.flat_list.specs.Connect.{connect, accept}
 use Rattle.flat_list.specs.Flat.{Flat}
 use Rattle.flat_list.specs.Look.{look}
 use Rattle.flat_list.specs.Outcome.{Outcome, unchanged, changed, added, removed, with_new_label, open_socket, has_slot, no_slot, Found, search_port}
-use Rattle.flat_list.specs.Owned.{new_owner, bound_at, as_listener, packet_of}
-use Rattle.flat_list.specs.Sections.{next_name}
-use Rattle.flat_list.specs.Sockets.{is_refused, is_overlapped}
+use Rattle.flat_list.specs.Groups.{Group, bucket_of, join}
+use Rattle.flat_list.specs.Owned.{new_owner, bound_at, packet_of}
+use Rattle.flat_list.specs.Sections.{next_name, moment_of, with_moment}
+use Rattle.flat_list.specs.Sockets.{is_refused, is_overlapped, mate_of, is_expired}
 
 -- a socket as `socket` makes it
-abbrev pub new_socket : ℕ → Option ℕ → Bool → Socket
-new_socket name dev reuseaddr = record { owner = new_owner name dev reuseaddr; named = true }
+abbrev pub new_socket : ℕ → Options → Socket
+new_socket name options = record { owner = new_owner name options; stamp = 0; named = true }
 
 -- `socket`: one more socket, and one more label in the section
-abbrev pub socket : Flat → ℕ → List ℕ → Option ℕ → Bool → Outcome
-socket flat n label dev reuseaddr =
-    added (with_new_label flat n label) (new_socket (next_name n flat.sections) dev reuseaddr) replies.Ok
+abbrev pub socket : Flat → ℕ → List ℕ → Options → Outcome
+socket flat n label options =
+    added (with_new_label flat n label) (new_socket (next_name n flat.sections) options) replies.Ok
 
 -- the socket, bound to that end
 abbrev pub at_end : Socket → End → Socket
@@ -78,12 +82,29 @@ bind flat n (Some s) end = bind_socket flat n s s.owner.state end
 abbrev pub listening : Socket → Socket
 listening s = record s { owner = as_listener s.owner }
 
+-- the groups once the socket listens beside those sockets, where there are so many bind buckets; none where it shares
+-- its end and no group has a place for it
+abbrev pub entered : ℕ → Socket → List Socket → List Group → Option (List Group)
+entered buckets s sockets groups =
+    if s.owner.reuseport then join (bucket_of s.owner.port buckets) s.owner.name (mate_of s.owner sockets) groups else Some groups
+
+abbrev pub groups_with : Flat → Socket → Option (List Group)
+groups_with flat s = entered flat.header.shape.bind s flat.sockets flat.groups
+
+-- the socket listens from then on, and the groups are those
+abbrev pub listens_in : Flat → Socket → List Group → Outcome
+listens_in flat s groups = changed (record flat { groups = groups }) (listening s) (replies.Port s.owner.port)
+
+-- the socket begins to listen, with those groups
+abbrev pub listen_as : Flat → Socket → Option (List Group) → Outcome
+listen_as flat s None = unchanged flat replies.Emfile
+listen_as flat s (Some groups) = if not (has_slot flat) then no_slot flat else listens_in flat s groups
+
 -- `listen` of a socket that has a port
 abbrev pub listen_bound : Flat → Socket → Outcome
 listen_bound flat s =
     if is_refused s.owner flat.sockets then unchanged flat replies.Eaddrinuse
-    else if not (has_slot flat) then no_slot flat
-    else changed flat (listening s) (replies.Port s.owner.port)
+    else listen_as flat s (groups_with flat s)
 
 -- at the port that was found, if there is one; where `listen` is refused then, the socket has no port again
 abbrev pub listen_found : Found → Socket → Option ℕ → Outcome
@@ -105,6 +126,38 @@ abbrev pub listen : Flat → ℕ → Option Socket → Outcome
 listen flat n None = unchanged flat replies.Ebadf
 listen flat n (Some s) = listen_socket flat n s s.owner.state
 
+-- the socket, closed at that moment and waiting; no label names it any more
+abbrev pub waiting : Socket → ℕ → Socket
+waiting s moment = record { owner = as_waiting s.owner; stamp = moment; named = false }
+
+-- `close` of a full socket leaves a TIME_WAIT, where a slot is free for that beside its own
+abbrev pub close_full : Flat → ℕ → Socket → Outcome
+close_full flat n s =
+    if has_slot flat then changed flat (waiting s (moment_of flat.header n flat.sections)) replies.TimeWait
+    else removed flat s (replies.NoSlot flat.header.shape.slots 0)
+
+-- `close` of a socket in that state, in the section of that number
+abbrev pub close_socket : Flat → ℕ → Socket → State → Outcome
+close_socket flat n s states.Full = close_full flat n s
+close_socket flat n s _ = removed flat s replies.Ok
+
+abbrev pub close : Flat → ℕ → Option Socket → Outcome
+close flat n None = unchanged flat replies.Ebadf
+close flat n (Some s) = close_socket flat n s s.owner.state
+
+-- `at`: the section's moment never goes back
+abbrev pub at : Flat → ℕ → ℕ → Outcome
+at flat n moment =
+    if nat_lt moment (moment_of flat.header n flat.sections) then unchanged flat replies.Einval
+    else unchanged (record flat { sections = with_moment flat.header n moment flat.sections }) replies.Ok
+
+-- `reap`: the section's sockets in TIME_WAIT that have lasted their minute are gone
+abbrev pub reap : Flat → ℕ → Outcome
+reap flat n =
+    let is_over = is_expired n (moment_of flat.header n flat.sections) in
+    unchanged (record flat { sockets = filter (λ s. not (is_over s)) flat.sockets })
+    (replies.Count (count_by is_over flat.sockets))
+
 -- `drop`: the socket is gone at once
 abbrev pub drop : Flat → Option Socket → Outcome
 drop flat None = unchanged flat replies.Ebadf
@@ -112,18 +165,28 @@ drop flat (Some s) = removed flat s replies.Ok
 
 -- the list after a command of the section of that number, and its reply
 unfoldable pub step : Flat → ℕ → Command → Outcome
-step flat n (commands.Socket label dev reuseaddr) = socket flat n label dev reuseaddr
+step flat n (commands.Socket label uid dev reuseaddr reuseport) =
+    socket flat n label (record { uid = uid; dev = dev; reuseaddr = reuseaddr; reuseport = reuseport })
 step flat n (commands.Bind label end) = bind flat n (open_socket flat n label) end
 step flat n (commands.Listen label) = listen flat n (open_socket flat n label)
 step flat n (commands.Connect label from to) = connect flat n (open_socket flat n label) from to
 step flat n (commands.Accept listener label from at) =
     accept (with_new_label flat n label) (next_name n flat.sections) (open_socket flat n listener) from at
+step flat n (commands.Close label) = close flat n (open_socket flat n label)
 step flat n (commands.Drop label) = drop flat (open_socket flat n label)
+step flat n (commands.At moment) = at flat n moment
+step flat n commands.Reap = reap flat n
 step flat n (commands.Look from to dev) =
-    unchanged flat (replies.Found (look (packet_of from to dev) flat.sockets))
+    unchanged flat (replies.Found (look (packet_of from to dev) flat.header.seed flat.sockets flat.groups))
 
 -- a command that gives a label
 abbrev pub gives_label : Command → Bool
-gives_label (commands.Socket label dev reuseaddr) = true
+gives_label (commands.Socket label uid dev reuseaddr reuseport) = true
 gives_label (commands.Accept listener label from at) = true
 gives_label _ = false
+
+-- a command by which something is kept that wasn't: a label, a socket, a group, a section's moment
+abbrev pub may_grow : Command → Bool
+may_grow (commands.Listen label) = true
+may_grow (commands.At moment) = true
+may_grow command = gives_label command

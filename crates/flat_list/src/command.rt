@@ -63,8 +63,10 @@ pub enum Command {
     /// Makes a socket, and gives it a label.
     Socket {
         label: Label,
+        uid: Option<u32>,
         dev: Option<u16>,
         reuseaddr: bool,
+        reuseport: bool,
     },
     /// Binds a socket to an end; at port 0, to a port that is searched for.
     Bind {
@@ -90,10 +92,20 @@ pub enum Command {
         from: End,
         at: End,
     },
+    /// Closes a socket: a full one leaves a TIME_WAIT, where a slot is free for that.
+    Close {
+        label: Label,
+    },
     /// Removes a socket.
     Drop {
         label: Label,
     },
+    /// Sets the section's moment, in seconds; it never goes back.
+    At {
+        moment: u32,
+    },
+    /// Removes the section's sockets in TIME_WAIT that have lasted their minute.
+    Reap,
     /// Asks which socket a packet finds that goes from one end to another.
     Look {
         from: End,
@@ -110,6 +122,13 @@ pub enum Reply {
     Port(u16),
     /// Done, and the socket has this end.
     End(End),
+    /// Done, and a TIME_WAIT stays.
+    TimeWait,
+    /// Done, and no TIME_WAIT stays, since no slot is free: so many are owned, and so many only held by
+    /// a lookup.
+    NoSlot { owned: u32, held: u32 },
+    /// Done, to so many sockets.
+    Count(u64),
     /// The card of the socket that a packet finds, if there is one.
     Found(Option<Card>),
     /// The label names no open socket of the section.
@@ -122,6 +141,8 @@ pub enum Reply {
     Eaddrinuse,
     /// Another full socket has the four-tuple, or no port that was searched can be had.
     Eaddrnotavail,
+    /// The socket's group has all its members, or the bucket of its port all its groups.
+    Emfile,
     /// No slot is free: so many are owned, and so many only held by a lookup.
     Enfile { owned: u32, held: u32 },
 }

@@ -1,4 +1,6 @@
-ghost use Rattle.std.specs.Prelude.{true, ℕ, ◌≡◌, ◌≢◌, ◌+◌, ◌<◌, ◌≤◌, ◌^◌, length, [], find, IfOk, IfErr, IfSome, OnErr};
+ghost use Rattle.std.specs.Prelude.{true, ℕ, ◌≡◌, ◌≢◌, ◌+◌, ◌<◌, ◌≤◌, ◌^◌, length, List, [], find, is_some, Some, IfOk, IfErr, IfSome, IfNone, OnErr};
+ghost use Rattle.flat_list.specs.declared.socket.Socket.{Socket};
+ghost use Rattle.flat_list.specs.Groups.{Group};
 ghost use Rattle.flat_list.specs.Ports as ports_spec;
 ghost use Rattle.flat_list.specs.Sections as sections_spec;
 ghost use Rattle.flat_list.specs.Flat as flat_spec;
@@ -8,25 +10,29 @@ ghost use Rattle.flat_list.specs.Step as spec;
 ghost use Rattle.flat_list.specs.Look as look_spec;
 
 use crate::command::{Command, End, Label, Reply};
+use crate::group::Group;
 use crate::header::{First, Header};
-use crate::owned::{is_no_accept, is_no_end, packet_of, source_of};
-use crate::section::{Section, draw_word, give_label, name_in, section_of};
+use crate::owned::{Options, is_no_accept, is_no_end, packet_of, source_of};
+use crate::section::{Section, draw_word, give_label, moment_of, name_in, section_of, set_moment};
 use crate::socket::{
     Socket, at_end, at_port, child_of, connected, connected_by_search, end_of, listening,
-    new_socket,
+    new_socket, waiting,
 };
-use crate::{ports, search};
+use crate::{group, ports, search};
 use sock_card::{Card, Packet, State};
 use std::alloc::{AllocError, Global};
 use std::marker::Model;
 
-/// The plain engine: the header's values, one list of sockets, and what each section keeps.
+/// The plain engine: the header's values, one list of sockets, the groups of listeners, and what each
+/// section keeps.
 ///
-/// A section that has given no label isn't kept. Sections share the sockets, and no labels.
+/// A section that has given no label and set no moment isn't kept. Sections share the sockets, and no
+/// labels.
 #[derive(Drop)]
 pub struct Flat {
     header: Header,
     sockets: Vec<Socket>,
+    groups: Vec<Group>,
     sections: Vec<Section>,
     alloc: Global,
 }
@@ -36,7 +42,24 @@ impl Model for Flat {
 
     ghost Value = { Kept };
 
-    ghost view = { λ f. record { header = f.header; sockets = f.sockets.items; sections = f.sections.items } };
+    ghost view = { λ f. record { header = f.header; sockets = f.sockets.items; groups = f.groups.items; sections = f.sections.items } };
+}
+
+/// Where a search begins; where the header names no offset, a word is drawn for it.
+fn draw_offset(header: &Header, section: u32, sections: &mut Vec<Section>) -> u16
+    requires { sections_spec.labels_of section sections.old.items ≢ [] }
+    ensures { (sockets : List Socket) (groups : List Group)
+        → outcome_spec.draw (record { header = header.now; sockets = sockets; groups = groups; sections = sections.old.items }) section header.now.offset
+        ≡ record {
+          offset = result;
+          flat = record { header = header.now; sockets = sockets; groups = groups; sections = sections.new.items };
+        } }
+{
+    let size = ports::size(header.range);
+    match header.offset {
+        Some(offset) => (u32::from(offset) % size) as u16,
+        None => (draw_word(sections, section) % size) as u16,
+    }
 }
 
 impl Flat {
@@ -47,6 +70,7 @@ impl Flat {
         Flat {
             header: *header,
             sockets: Vec::new(alloc),
+            groups: Vec::new(alloc),
             sections: Vec::new(alloc),
             alloc,
         }
@@ -63,23 +87,17 @@ impl Flat {
         }
     }
 
-    fn socket(
-        &mut self,
-        section: u32,
-        label: &Label,
-        dev: Option<u16>,
-        reuseaddr: bool,
-    ) -> Result<Reply, AllocError>
+    fn socket(&mut self, section: u32, label: &Label, options: Options) -> Result<Reply, AllocError>
         requires number { section ≤ 64 }
         requires room { length (sections_spec.labels_of section self.old.sections) + 1 < 2 ^ 24 }
-        ensures step { IfOk result (λ reply. spec.socket self.old section label.now dev reuseaddr
+        ensures step { IfOk result (λ reply. spec.socket self.old section label.now options
             ≡ record { flat = self.new; reply = reply }) }
         ensures err { OnErr result (self.new ≡ self.old) }
     {
         let label = label.try_clone()?;
         self.sockets.reserve(1)?;
         let name = give_label(self.alloc, &self.header, &mut self.sections, section, label)?;
-        self.sockets.push(new_socket(name, dev, reuseaddr))?;
+        self.sockets.push(new_socket(name, options))?;
         Ok(Reply::Ok)
     }
 
@@ -93,12 +111,13 @@ impl Flat {
         }
     }
 
-    fn listen(&mut self, section: u32, label: &Label) -> Reply
-        ensures { spec.listen self.old section (outcome_spec.open_socket self.old section label.now)
-            ≡ record { flat = self.new; reply = result } }
+    fn listen(&mut self, section: u32, label: &Label) -> Result<Reply, AllocError>
+        ensures step { IfOk result (λ reply. spec.listen self.old section (outcome_spec.open_socket self.old section label.now)
+            ≡ record { flat = self.new; reply = reply }) }
+        ensures err { OnErr result (self.new ≡ self.old) }
     {
         match self.open_socket(section, label) {
-            None => Reply::Ebadf,
+            None => Ok(Reply::Ebadf),
             Some(socket) => self.listen_socket(section, socket),
         }
     }
@@ -112,17 +131,20 @@ impl Flat {
         reply
     }
 
+    /// The section's moment.
+    fn moment(&self, section: u32) -> u32
+        ensures { result ≡ sections_spec.moment_of self.now.header section self.now.sections }
+    {
+        moment_of(section, &self.sections)
+    }
+
     /// Where a search begins; where the header names no offset, a word is drawn for it.
     fn draw(&mut self, section: u32) -> u16
         requires { sections_spec.labels_of section self.old.sections ≢ [] }
         ensures { outcome_spec.draw self.old section self.old.header.offset
             ≡ record { offset = result; flat = self.new } }
     {
-        let size = ports::size(self.header.range);
-        match self.header.offset {
-            Some(offset) => (u32::from(offset) % size) as u16,
-            None => (draw_word(&mut self.sections, section) % size) as u16,
-        }
+        draw_offset(&self.header, section, &mut self.sections)
     }
 
     /// Whether no other owner overlaps the socket at that address and port.
@@ -193,40 +215,81 @@ impl Flat {
         }
     }
 
-    fn listen_bound(&mut self, socket: Socket) -> Reply
-        ensures { spec.listen_bound self.old socket ≡ record { flat = self.new; reply = result } }
+    /// Why a socket that has a port can't listen, if so.
+    fn listen_refusal(&self, socket: &Socket) -> Option<Reply>
+        ensures refusal { IfSome result (λ reply. spec.listen_bound self.now socket.now
+            ≡ outcome_spec.unchanged self.now reply) }
+        ensures entered { IfNone result (is_some (spec.groups_with self.now socket.now) ≡ true) }
+        ensures listens { IfNone result ((groups : List Group) → spec.groups_with self.now socket.now ≡ Some groups
+            → spec.listen_bound self.now socket.now ≡ spec.listens_in self.now socket.now groups) }
     {
         if search::is_refused(&socket.owner, &self.sockets) {
-            return Reply::Eaddrinuse;
+            return Some(Reply::Eaddrinuse);
+        }
+        if !group::can_enter(self.header.shape.bind, socket, &self.sockets, &self.groups) {
+            return Some(Reply::Emfile);
         }
         if !self.has_slot() {
-            return self.no_slot();
+            return Some(self.no_slot());
         }
-        self.put(listening(socket), Reply::Port(socket.owner.port))
+        None
     }
 
-    fn listen_unbound(&mut self, section: u32, socket: Socket) -> Reply
-        requires { sections_spec.labels_of section self.old.sections ≢ [] }
-        ensures { spec.listen_unbound self.old section socket
-            ≡ record { flat = self.new; reply = result } }
+    fn listen_bound(&mut self, socket: Socket) -> Result<Reply, AllocError>
+        ensures step { IfOk result (λ reply. spec.listen_bound self.old socket
+            ≡ record { flat = self.new; reply = reply }) }
+        ensures err { OnErr result (self.new ≡ self.old) }
     {
-        let offset = self.draw(section);
-        match self.free_port(socket, 0, offset) {
-            None => Reply::Eaddrinuse,
-            Some(port) => self.listen_bound(at_port(socket, 0, port)),
+        self.groups.reserve(1)?;
+        if let Some(refusal) = self.listen_refusal(&socket) {
+            return Ok(refusal);
         }
+        group::enter(
+            self.header.shape.bind,
+            &socket,
+            &self.sockets,
+            &mut self.groups,
+        );
+        search::put(listening(socket), &mut self.sockets);
+        Ok(Reply::Port(socket.owner.port))
     }
 
-    fn listen_socket(&mut self, section: u32, socket: Socket) -> Reply
+    fn listen_unbound(&mut self, section: u32, socket: Socket) -> Result<Reply, AllocError>
         requires { sections_spec.labels_of section self.old.sections ≢ [] }
-        ensures { spec.listen_socket self.old section socket socket.owner.state
-            ≡ record { flat = self.new; reply = result } }
+        ensures step { IfOk result (λ reply. spec.listen_unbound self.old section socket
+            ≡ record { flat = self.new; reply = reply }) }
+        ensures err { OnErr result (self.new ≡ self.old) }
+    {
+        self.groups.reserve(1)?;
+        let offset = draw_offset(&self.header, section, &mut self.sections);
+        let Some(port) = self.free_port(socket, 0, offset) else {
+            return Ok(Reply::Eaddrinuse);
+        };
+        let bound = at_port(socket, 0, port);
+        if let Some(refusal) = self.listen_refusal(&bound) {
+            return Ok(refusal);
+        }
+        group::enter(
+            self.header.shape.bind,
+            &bound,
+            &self.sockets,
+            &mut self.groups,
+        );
+        search::put(listening(bound), &mut self.sockets);
+        Ok(Reply::Port(port))
+    }
+
+    fn listen_socket(&mut self, section: u32, socket: Socket) -> Result<Reply, AllocError>
+        requires { sections_spec.labels_of section self.old.sections ≢ [] }
+        ensures step { IfOk result (λ reply. spec.listen_socket self.old section socket socket.owner.state
+            ≡ record { flat = self.new; reply = reply }) }
+        ensures err { OnErr result (self.new ≡ self.old) }
     {
         match socket.owner.state {
             State::Unbound => self.listen_unbound(section, socket),
             State::Bound => self.listen_bound(socket),
-            State::Listening => Reply::Port(socket.owner.port),
-            _ => Reply::Einval,
+            State::Listening => Ok(Reply::Port(socket.owner.port)),
+            _ => Ok(Reply::Einval),
         }
     }
 
@@ -246,14 +309,22 @@ impl Flat {
             ≡ record { flat = self.new; reply = result } }
     {
         match socket.owner.state {
-            State::Bound => self.connect_bound(socket, from, to),
+            State::Bound => self.connect_bound(section, socket, from, to),
             State::Unbound => self.connect_unbound(section, socket, from, to),
             _ => Reply::Eisconn,
         }
     }
 
-    fn connect_bound(&mut self, socket: Socket, from: Option<u32>, to: End) -> Reply
-        ensures { connect_spec.connect_bound self.old socket from to
+    /// Whether the socket can't have its four-tuple at the section's moment.
+    fn is_taken_in(&self, section: u32, new: &Socket) -> bool
+        ensures { result ≡ connect_spec.is_taken_in self.now section new.now }
+    {
+        let moment = self.moment(section);
+        search::is_taken(self.header.twreuse, moment, &new.owner, &self.sockets)
+    }
+
+    fn connect_bound(&mut self, section: u32, socket: Socket, from: Option<u32>, to: End) -> Reply
+        ensures { connect_spec.connect_bound self.old section socket from to
             ≡ record { flat = self.new; reply = result } }
     {
         if is_no_end(to) {
@@ -263,28 +334,35 @@ impl Flat {
             return Reply::Einval;
         };
         let new = connected(socket, source, to);
-        if search::has_twin(&new.owner, &self.sockets) {
+        if self.is_taken_in(section, &new) {
             return Reply::Eaddrnotavail;
         }
         self.connect_as(new)
     }
 
-    /// Whether the port's owners all had it chosen by `connect`, and the four-tuple is no full socket's.
-    fn suits_connect(&self, socket: Socket, source: u32, to: End, port: u16) -> bool
-        ensures { result ≡ connect_spec.suits_connect self.now socket source to port }
+    /// Whether the port's owners all had it chosen by `connect`, and the socket can have its four-tuple.
+    fn suits_connect(&self, section: u32, socket: Socket, source: u32, to: End, port: u16) -> bool
+        ensures { result ≡ connect_spec.suits_connect self.now section socket source to port }
     {
         let new = connected_by_search(socket, source, to, port);
-        !search::is_claimed(port, &self.sockets) && !search::has_twin(&new.owner, &self.sockets)
+        !search::is_claimed(port, &self.sockets) && !self.is_taken_in(section, &new)
     }
 
     /// The first port of a search from which the socket can be connected.
-    fn shared_port(&self, socket: Socket, source: u32, to: End, offset: u16) -> Option<u16>
-        ensures { result ≡ find (connect_spec.suits_connect self.now socket source to) (ports_spec.port_order self.now.header.range offset First.Even) }
+    fn shared_port(
+        &self,
+        section: u32,
+        socket: Socket,
+        source: u32,
+        to: End,
+        offset: u16,
+    ) -> Option<u16>
+        ensures { result ≡ find (connect_spec.suits_connect self.now section socket source to) (ports_spec.port_order self.now.header.range offset First.Even) }
     {
         let range = self.header.range;
         for number in 0..ports::count(range) {
             let port = ports::port_at(range, offset, First::Even, number);
-            if self.suits_connect(socket, source, to, port) {
+            if self.suits_connect(section, socket, source, to, port) {
                 return Some(port);
             }
         }
@@ -303,7 +381,7 @@ impl Flat {
             return Reply::Einval;
         };
         let offset = self.draw(section);
-        match self.shared_port(socket, source, to, offset) {
+        match self.shared_port(section, socket, source, to, offset) {
             None => Reply::Eaddrnotavail,
             Some(port) => self.connect_as(connected_by_search(socket, source, to, port)),
         }
@@ -316,6 +394,7 @@ impl Flat {
         if !self.has_slot() {
             return self.no_slot();
         }
+        search::remove_waiting(&new.owner, &mut self.sockets);
         self.put(new, Reply::End(end_of(&new)))
     }
 
@@ -328,7 +407,7 @@ impl Flat {
         at: End,
     ) -> Result<Socket, Reply>
         ensures child { IfOk result (λ child. connect_spec.accept self.now name listener from at
-            ≡ outcome_spec.added self.now child Reply.Ok) }
+            ≡ outcome_spec.added (connect_spec.replacing self.now child.owner) child Reply.Ok) }
         ensures refusal { IfErr result (λ reply. connect_spec.accept self.now name listener from at
             ≡ outcome_spec.unchanged self.now reply) }
     {
@@ -369,10 +448,57 @@ impl Flat {
         match self.child(listener, name, from, at) {
             Err(refusal) => Ok(refusal),
             Ok(child) => {
+                search::remove_waiting(&child.owner, &mut self.sockets);
                 self.sockets.push(child)?;
                 Ok(Reply::Ok)
             }
         }
+    }
+
+    /// A socket is gone, and from its group too.
+    fn remove(&mut self, socket: &Socket, reply: Reply) -> Reply
+        ensures { outcome_spec.removed self.old socket.now reply
+            ≡ record { flat = self.new; reply = result } }
+    {
+        search::remove(socket.owner.name, &mut self.sockets);
+        group::leave(socket.owner.name, &mut self.groups);
+        reply
+    }
+
+    fn close(&mut self, section: u32, label: &Label) -> Reply
+        ensures { spec.close self.old section (outcome_spec.open_socket self.old section label.now)
+            ≡ record { flat = self.new; reply = result } }
+    {
+        match self.open_socket(section, label) {
+            None => Reply::Ebadf,
+            Some(socket) => self.close_socket(section, socket),
+        }
+    }
+
+    fn close_socket(&mut self, section: u32, socket: Socket) -> Reply
+        ensures { spec.close_socket self.old section socket socket.owner.state
+            ≡ record { flat = self.new; reply = result } }
+    {
+        match socket.owner.state {
+            State::Full => self.close_full(section, socket),
+            _ => self.remove(&socket, Reply::Ok),
+        }
+    }
+
+    /// A full socket leaves a TIME_WAIT, where a slot is free for that beside its own.
+    fn close_full(&mut self, section: u32, socket: Socket) -> Reply
+        ensures { spec.close_full self.old section socket
+            ≡ record { flat = self.new; reply = result } }
+    {
+        if self.has_slot() {
+            let moment = self.moment(section);
+            return self.put(waiting(socket, moment), Reply::TimeWait);
+        }
+        let no_slot = Reply::NoSlot {
+            owned: self.header.shape.slots,
+            held: 0,
+        };
+        self.remove(&socket, no_slot)
     }
 
     fn drop_socket(&mut self, section: u32, label: &Label) -> Reply
@@ -381,18 +507,44 @@ impl Flat {
     {
         match self.open_socket(section, label) {
             None => Reply::Ebadf,
-            Some(socket) => {
-                search::remove(socket.owner.name, &mut self.sockets);
-                Reply::Ok
-            }
+            Some(socket) => self.remove(&socket, Reply::Ok),
         }
+    }
+
+    fn at(&mut self, section: u32, moment: u32) -> Result<Reply, AllocError>
+        requires { section ≤ 64 }
+        ensures step { IfOk result (λ reply. spec.at self.old section moment
+            ≡ record { flat = self.new; reply = reply }) }
+        ensures err { OnErr result (self.new ≡ self.old) }
+    {
+        if moment < self.moment(section) {
+            return Ok(Reply::Einval);
+        }
+        set_moment(
+            self.alloc,
+            &self.header,
+            &mut self.sections,
+            section,
+            moment,
+        )?;
+        Ok(Reply::Ok)
+    }
+
+    fn reap(&mut self, section: u32) -> Reply
+        ensures { spec.reap self.old section ≡ record { flat = self.new; reply = result } }
+    {
+        let moment = self.moment(section);
+        let count = search::count_expired(section, moment, &self.sockets);
+        search::remove_expired(section, moment, &mut self.sockets);
+        Reply::Count(count as u64)
     }
 
     /// Carries out a command of the section of that number, 1 to 64, and answers its reply.
     ///
-    /// A refusal leaves all sockets as they were. An `Err`, for want of memory, changes nothing;
-    /// only commands that give a label take memory. Each command goes through the whole list, and a
-    /// search for a port does so for each port that it tries.
+    /// A refusal leaves all sockets and groups as they were. An `Err`, for want of memory, changes
+    /// nothing; only commands after which a label, a socket, a group or a moment may be kept that wasn't
+    /// take memory. Each command goes through the whole list, and a search for a port does so for each
+    /// port that it tries.
     #[tactic(auto, unfolding(crate::specs::Step::step))]
     pub fn apply(&mut self, section: u32, command: &Command) -> Result<Reply, AllocError>
         requires number { section ≤ 64 }
@@ -400,18 +552,28 @@ impl Flat {
         ensures step { IfOk result (λ reply. spec.step self.old section command.now
             ≡ record { flat = self.new; reply = reply }) }
         ensures err { OnErr result (self.new ≡ self.old) }
-        ensures needs_memory { OnErr result (spec.gives_label command.now ≡ true) }
+        ensures needs_memory { OnErr result (spec.may_grow command.now ≡ true) }
         ensures labels { sections_spec.GivesOneAtMost self.old.sections self.new.sections }
         ensures others { sections_spec.KeepsOthers section self.old.sections self.new.sections }
     {
         match command {
             Command::Socket {
                 label,
+                uid,
                 dev,
                 reuseaddr,
-            } => self.socket(section, label, *dev, *reuseaddr),
+                reuseport,
+            } => {
+                let options = Options {
+                    uid: *uid,
+                    dev: *dev,
+                    reuseaddr: *reuseaddr,
+                    reuseport: *reuseport,
+                };
+                self.socket(section, label, options)
+            }
             Command::Bind { label, end } => Ok(self.bind(section, label, *end)),
-            Command::Listen { label } => Ok(self.listen(section, label)),
+            Command::Listen { label } => self.listen(section, label),
             Command::Connect { label, from, to } => Ok(self.connect(section, label, *from, *to)),
             Command::Accept {
                 listener,
@@ -419,7 +581,10 @@ impl Flat {
                 from,
                 at,
             } => self.accept(section, listener, label, *from, *at),
+            Command::Close { label } => Ok(self.close(section, label)),
             Command::Drop { label } => Ok(self.drop_socket(section, label)),
+            Command::At { moment } => self.at(section, *moment),
+            Command::Reap => Ok(self.reap(section)),
             Command::Look { from, to, dev } => {
                 Ok(Reply::Found(self.look(&packet_of(*from, *to, *dev))))
             }
@@ -436,24 +601,27 @@ impl Flat {
         }
     }
 
-    /// The card of the socket that a packet finds: of those that match best the first, and in a list
-    /// that commands made there is just one.
+    /// The card of the socket that a packet finds: of those that match best the first, or where that is
+    /// in a group, the member that the hash of the packet's four-tuple chooses.
+    ///
+    /// In a list that commands made, those that match best are one, or members of one group.
     pub fn look(&self, packet: &Packet) -> Option<Card>
-        ensures { result ≡ look_spec.look packet.now self.now.sockets }
+        ensures { result ≡ look_spec.look packet.now self.now.header.seed self.now.sockets self.now.groups }
     {
-        search::look(packet, &self.sockets)
+        search::look(packet, self.header.seed, &self.sockets, &self.groups)
     }
 }
 
 #[cfg(test)]
 mod tests {
     use super::*;
-    use crate::header::{Range, Shape};
+    use crate::header::Range;
+    use chain_book::Shape;
     use sock_card::Kind;
     use std::test::Fail;
 
     const SHAPE: Shape = Shape {
-        slots: 2,
+        slots: 3,
         bind: 1,
         hash: 1,
         listen: 1,
@@ -467,6 +635,7 @@ mod tests {
         },
         seed: 0,
         offset: None,
+        twreuse: false,
     };
 
     const HERE: End = End {
@@ -490,8 +659,10 @@ mod tests {
     {
         let socket = Command::Socket {
             label: label(alloc, b"a")?,
+            uid: None,
             dev: None,
             reuseaddr: false,
+            reuseport: false,
         };
         flat.apply(1, &socket)?;
         let bind = Command::Bind {
@@ -505,8 +676,22 @@ mod tests {
         flat.apply(1, &listen)
     }
 
+    /// Closes section 1's socket c, and reaps a minute later.
+    fn close_and_reap(alloc: Global, flat: &mut Flat) -> Result<(Reply, Reply), AllocError>
+        requires { (m : ℕ) → length (sections_spec.labels_of m flat.old.sections) ≤ 4 }
+        ensures { (m : ℕ) → length (sections_spec.labels_of m flat.new.sections) ≤ 7 }
+    {
+        let close = Command::Close {
+            label: label(alloc, b"c")?,
+        };
+        let closed = flat.apply(1, &close)?;
+        flat.apply(1, &Command::At { moment: 60 })?;
+        let reaped = flat.apply(1, &Command::Reap)?;
+        Ok((closed, reaped))
+    }
+
     #[test]
-    fn an_accepted_socket_is_found_and_labelled(rt: HostRuntime) -> Result<(), Fail> {
+    fn an_accepted_socket_is_found_closed_and_reaped(rt: HostRuntime) -> Result<(), Fail> {
         let alloc = rt.alloc();
         let mut flat = Flat::new(alloc, &HEADER);
         assert_eq!(rt; listen_here(alloc, &mut flat)?, Reply::Port(80));
@@ -517,11 +702,15 @@ mod tests {
             at: HERE,
         };
         assert_eq!(rt; flat.apply(1, &accept)?, Reply::Ok);
-        let card = flat
-            .look(&packet_of(THERE, HERE, None))
-            .ok_or("none found")?;
+        let packet = packet_of(THERE, HERE, None);
+        let card = flat.look(&packet).ok_or("none found")?;
         assert_eq!(rt; card.kind, Kind::Full);
         assert_eq!(rt; flat.label_of(card.name), b"c".as_slice());
+        let (closed, reaped) = close_and_reap(alloc, &mut flat)?;
+        assert_eq!(rt; closed, Reply::TimeWait);
+        assert_eq!(rt; reaped, Reply::Count(1));
+        let card = flat.look(&packet).ok_or("none found")?;
+        assert_eq!(rt; card.kind, Kind::Listen);
         Ok(())
     }
 }

@@ -1,13 +1,4 @@
-/// How many slots, bind buckets, established buckets and listening buckets the tables have.
-///
-/// The flat list has slots alone: a listening or connected socket takes one.
-#[derive(Clone, Copy, Debug, PartialEq, Eq)]
-pub struct Shape {
-    pub slots: u32,
-    pub bind: u32,
-    pub hash: u32,
-    pub listen: u32,
-}
+use chain_book::Shape;
 
 /// The ports that a search tries: those from `low` to `high`, both among them, an even number.
 #[derive(Clone, Copy, Debug, PartialEq, Eq)]
@@ -27,11 +18,13 @@ pub enum First {
 /// What a script says before its first section.
 ///
 /// `offset` is where each search begins in the range. Without it each section draws its own offsets,
-/// from a generator that starts from `seed` and the section's number.
+/// from a generator that starts from `seed` and the section's number. `twreuse` lets `connect` take
+/// the place of a TIME_WAIT whose stamp lies before the moment (tcp_tw_reuse of tcp(7)).
 #[derive(Clone, Copy, Debug, PartialEq, Eq)]
 pub struct Header {
     pub shape: Shape,
     pub range: Range,
     pub seed: u32,
     pub offset: Option<u16>,
+    pub twreuse: bool,
 }

@@ -1,7 +1,7 @@
 //! What the definitions of the flat list imply of every list that commands reach.
 
-ghost use Rattle.std.specs.Prelude.{None, Some};
-ghost use Rattle.flat_list.specs.Rows.{Answer, with_slots, with_range, with_seed, until_one_listens, beside_by_device, one_slot, accepted_goes_first, one_four_tuple, slot_is_freed, states_refuse, four_ports, binds_from_two, connects_from_two, shared_by_connect, listens_anywhere, port_without_slot, words_are_drawn};
+ghost use Rattle.std.specs.Prelude.{None, Some, true, false};
+ghost use Rattle.flat_list.specs.Rows.{Answer, with_slots, with_range, with_seed, until_one_listens, beside_by_device, one_slot, accepted_goes_first, one_four_tuple, slot_is_freed, states_refuse, four_ports, binds_from_two, connects_from_two, shared_by_connect, listens_anywhere, port_without_slot, words_are_drawn, closed_without_slot, child_stays, child_lets_in, shared_by_user, with_reuse, reused, waited_for, by_rank, with_known_hashes, chosen_by_hash, seventeen_listeners};
 ghost use Rattle.flat_list.specs.Ports as ports;
 ghost use Rattle.flat_list.specs.Sound as law;
 
@@ -12,9 +12,19 @@ pub fn soundness()
     ensures runs { law.RunsSound }
 {}
 
-/// A packet's lookup has one socket to choose from, at most.
+/// A refused command leaves all sockets and groups as they were.
+pub fn refusals()
+    ensures { law.RefusalKeeps }
+{}
+
+/// No command takes a slot that isn't there.
+pub fn slots()
+    ensures { law.StaysWithinSlots }
+{}
+
+/// A packet's lookup has one socket to choose from, at most, or one group of listeners.
 pub fn one_best()
-    ensures { law.FindsOneAtMost }
+    ensures { law.FindsOneOrOneGroup }
 {}
 
 /// A search tries each port of its range once, wherever it begins.
@@ -38,4 +48,13 @@ pub fn rows()
     ensures listener { Answer (with_range 40000 40001 None) listens_anywhere }
     ensures no_slot { Answer (with_slots 1) port_without_slot }
     ensures words { Answer (with_seed 7) words_are_drawn }
+    ensures closed { Answer (with_slots 1) closed_without_slot }
+    ensures child_stays { Answer (with_slots 1024) child_stays }
+    ensures child_lets_in { Answer (with_slots 1024) child_lets_in }
+    ensures user { Answer (with_slots 1024) shared_by_user }
+    ensures reused { Answer (with_reuse true) reused }
+    ensures waited_for { Answer (with_reuse false) waited_for }
+    ensures rank { Answer (with_slots 1024) by_rank }
+    ensures hash { Answer with_known_hashes chosen_by_hash }
+    ensures full_group { Answer (with_slots 1024) seventeen_listeners }
 {}

@@ -8,17 +8,21 @@
 //! Where a script leaves the choice of a port to the system, the ports of the header's range are tried
 //! in an order that begins at the header's offset, or at the next word of the section's generator.
 //!
+//! Listeners that share an end by SO_REUSEPORT stand in a [`Group`], of which a packet's hash chooses
+//! one. A closed connection leaves a TIME_WAIT for a minute of its section's own time.
+//!
 //! [`Flat::apply`] carries out one command of a section of a script, and [`Flat::look`] finds a
 //! packet's socket; both answer exactly what `specs/` says.
 //!
 //! ```text
 //! let mut flat = Flat::new(alloc, &header);
-//! let reply = flat.apply(1, &Command::Socket { label, dev: None, reuseaddr: false })?;
+//! let reply = flat.apply(1, &Command::Listen { label })?;
 //! ```
 #![tactic(auto)]
 
 pub mod command;
 pub mod flat;
+pub mod group;
 pub mod header;
 pub mod laws;
 pub mod owned;
@@ -28,9 +32,12 @@ pub mod search;
 pub mod section;
 pub mod socket;
 
+pub use chain_book::Shape;
 pub use command::{Command, End, Label, Reply};
 pub use flat::Flat;
-pub use header::{First, Header, Range, Shape};
+pub use group::Group;
+pub use header::{First, Header, Range};
+pub use owned::Options;
 pub use script::Script;
 pub use section::Section;
 pub use socket::Socket;

@@ -4,11 +4,20 @@ ghost use Rattle.std.specs.Prelude.{◌≡◌};
 ghost use Rattle.flat_list.specs.Owned as spec;
 
 use crate::command::End;
-use sock_card::{Card, Kind, Owner, Packet, State};
+use sock_card::{Card, Kind, Owner, Packet, State, child, connected};
+
+/// What `socket` says of a new socket: SO_REUSEADDR, SO_REUSEPORT, SO_BINDTODEVICE, and its user.
+#[derive(Clone, Copy, Debug, PartialEq, Eq)]
+pub struct Options {
+    pub uid: Option<u32>,
+    pub dev: Option<u16>,
+    pub reuseaddr: bool,
+    pub reuseport: bool,
+}
 
 /// The owner that `socket` makes: without an end, and its origin its own name.
-pub fn new_owner(name: u32, dev: Option<u16>, reuseaddr: bool) -> Owner
-    ensures { result ≡ spec.new_owner name dev reuseaddr }
+pub fn new_owner(name: u32, options: Options) -> Owner
+    ensures { result ≡ spec.new_owner name options }
 {
     Owner {
         name,
@@ -17,10 +26,10 @@ pub fn new_owner(name: u32, dev: Option<u16>, reuseaddr: bool) -> Owner
         port: 0,
         remote: 0,
         rport: 0,
-        dev: dev.unwrap_or(0),
-        uid: 0,
-        reuseaddr,
-        reuseport: false,
+        dev: options.dev.unwrap_or(0),
+        uid: options.uid.unwrap_or(0),
+        reuseaddr: options.reuseaddr,
+        reuseport: options.reuseport,
         state: State::Unbound,
         by_connect: false,
     }
@@ -38,27 +47,11 @@ pub fn bound_at(owner: Owner, addr: u32, port: u16) -> Owner
     }
 }
 
-/// The owner, listening from then on.
-pub fn as_listener(owner: Owner) -> Owner
-    ensures { result ≡ spec.as_listener owner }
-{
-    Owner {
-        state: State::Listening,
-        ..owner
-    }
-}
-
 /// The owner, connected from that source to that end, and full.
 pub fn connected_to(owner: Owner, source: u32, to: End) -> Owner
     ensures { result ≡ spec.connected_to owner source to }
 {
-    Owner {
-        addr: source,
-        remote: to.addr,
-        rport: to.port,
-        state: State::Full,
-        ..owner
-    }
+    connected(owner, source, to.addr, to.port)
 }
 
 /// The owner, connected from that source and a port that `connect` chose to that end, and full.
@@ -74,19 +67,11 @@ pub fn connected_at(owner: Owner, source: u32, port: u16, to: End) -> Owner
 
 /// The owner of that name which a listener accepts from one end at another.
 ///
-/// It keeps the listener's origin, device, user and options.
+/// It keeps the listener's port, origin, device, user and options.
 pub fn child_owner(listener: Owner, name: u32, from: End, at: End) -> Owner
     ensures { result ≡ spec.child_owner listener name from at }
 {
-    Owner {
-        name,
-        addr: at.addr,
-        port: at.port,
-        remote: from.addr,
-        rport: from.port,
-        state: State::Full,
-        ..listener
-    }
+    child(listener, name, at.addr, from.addr, from.port)
 }
 
 /// The source that `connect` takes for a socket bound to `addr`, if it can take one.

@@ -1,12 +1,17 @@
 //! Questions about a list of sockets, each answered by a scan of the whole list.
 
-ghost use Rattle.std.specs.Prelude.{◌≡◌, ◌<◌, length};
+ghost use Rattle.std.specs.Prelude.{◌≡◌, ◌≤◌, ◌==◌, ◌&&◌, length, not, filter, find, count_by, vec_len, vec_capacity};
+ghost use Rattle.std.specs.List.{list_any};
 ghost use Rattle.flat_list.specs.Sockets as spec;
 ghost use Rattle.flat_list.specs.Look as spec_look;
 
+use crate::group::{Group, group_of};
 use crate::owned::card_as;
 use crate::socket::Socket;
-use sock_card::{Card, Kind, Owner, Packet, State, bind_conflict, rank, strict_conflict};
+use chain_book::packet_hash;
+use sock_card::{
+    Card, Kind, Owner, Packet, State, bind_conflict, rank, strict_conflict, tw_expired,
+};
 
 /// Whether lookups find a socket of that state, and it takes a slot.
 pub fn is_hashed(state: State) -> bool
@@ -70,6 +75,95 @@ pub fn has_twin(owner: &Owner, sockets: &[Socket]) -> bool
     sockets.iter().any(|s| matches!(s.owner.state, State::Full) && same_tuple(owner, &s.owner))
 }
 
+/// Whether the socket is a TIME_WAIT of the owner's four-tuple.
+fn waits_at(owner: &Owner, socket: &Socket) -> bool
+    ensures { result ≡ spec.waits_at owner.now socket.now }
+{
+    matches!(socket.owner.state, State::TimeWait) && same_tuple(owner, &socket.owner)
+}
+
+/// Whether `connect` may take the place of that TIME_WAIT at that moment.
+fn gives_way(switch: bool, moment: u32, socket: &Socket) -> bool
+    ensures { result ≡ spec.gives_way switch moment socket.now }
+{
+    switch && socket.stamp < moment
+}
+
+/// Whether a TIME_WAIT of the owner's four-tuple doesn't give way.
+fn is_kept_waiting(switch: bool, moment: u32, owner: &Owner, sockets: &[Socket]) -> bool
+    ensures { result ≡ list_any (λ s. spec.waits_at owner.now s && not (spec.gives_way switch moment s)) sockets.now }
+{
+    sockets
+        .iter()
+        .any(|s| waits_at(owner, s) && !gives_way(switch, moment, s))
+}
+
+/// Whether `connect` can't have the owner's four-tuple at that moment; `switch` lets it take the place
+/// of a TIME_WAIT that was closed earlier.
+pub fn is_taken(switch: bool, moment: u32, owner: &Owner, sockets: &[Socket]) -> bool
+    ensures { result ≡ spec.is_taken switch moment owner.now sockets.now }
+{
+    has_twin(owner, sockets) || is_kept_waiting(switch, moment, owner, sockets)
+}
+
+/// Takes the TIME_WAITs of the owner's four-tuple out.
+pub fn remove_waiting(owner: &Owner, sockets: &mut Vec<Socket>)
+    ensures items { sockets.new.items ≡ spec.without_waiting owner.now sockets.old.items }
+    ensures capacity { vec_capacity sockets.new ≡ vec_capacity sockets.old }
+    ensures len { vec_len sockets.new ≤ vec_len sockets.old }
+{
+    sockets.retain(|s| !waits_at(owner, s));
+}
+
+fn is_mate(owner: &Owner, socket: &Socket) -> bool
+    ensures { result ≡ spec.is_mate owner.now socket.now }
+{
+    let other = &socket.owner;
+    matches!(other.state, State::Listening)
+        && owner.reuseport
+        && other.reuseport
+        && owner.port == other.port
+        && owner.dev == other.dev
+        && owner.uid == other.uid
+        && owner.addr == other.addr
+}
+
+/// The name of the first listener in whose group the owner would be.
+pub fn mate_of(owner: &Owner, sockets: &[Socket]) -> Option<u32>
+    ensures { result ≡ spec.mate_of owner.now sockets.now }
+{
+    sockets
+        .iter()
+        .find(|s| is_mate(owner, s))
+        .map(|s| s.owner.name)
+}
+
+/// Whether the socket is a TIME_WAIT of that section that has lasted its minute at that moment.
+fn is_expired(section: u32, moment: u32, socket: &Socket) -> bool
+    ensures { result ≡ spec.is_expired section moment socket.now }
+{
+    matches!(socket.owner.state, State::TimeWait)
+        && socket.owner.name >> 24 == section
+        && tw_expired(socket.stamp, moment)
+}
+
+/// How many TIME_WAITs of that section have lasted their minute at that moment.
+pub fn count_expired(section: u32, moment: u32, sockets: &[Socket]) -> usize
+    ensures { result ≡ count_by (spec.is_expired section moment) sockets.now }
+{
+    sockets
+        .iter()
+        .filter(|s| is_expired(section, moment, s))
+        .count()
+}
+
+/// Takes those TIME_WAITs out.
+pub fn remove_expired(section: u32, moment: u32, sockets: &mut Vec<Socket>)
+    ensures { sockets.new.items ≡ filter (λ s. not (spec.is_expired section moment s)) sockets.old.items }
+{
+    sockets.retain(|s| !is_expired(section, moment, s));
+}
+
 /// How many sockets take a slot.
 pub fn slots_used(sockets: &[Socket]) -> usize
     ensures { result ≡ spec.slots_used sockets.now }
@@ -87,13 +181,19 @@ fn replaced(new: Socket, old: Socket) -> Socket
     }
 }
 
-/// Puts a socket in the place of the one of its name.
-pub fn put(new: Socket, sockets: &mut [Socket])
+fn replace_each(new: Socket, sockets: &mut [Socket])
     ensures { sockets.new ≡ spec.put new sockets.old }
 {
     for s in sockets.iter_mut() {
         *s = replaced(new, *s);
     }
+}
+
+/// Puts a socket in the place of the one of its name.
+pub fn put(new: Socket, sockets: &mut Vec<Socket>)
+    ensures { sockets.new.items ≡ spec.put new sockets.old.items }
+{
+    replace_each(new, sockets);
 }
 
 /// Takes the sockets of that name out.
@@ -114,29 +214,64 @@ fn kind_of(state: State) -> Option<Kind>
     }
 }
 
-/// The card under which a socket is looked up.
-pub fn card_of(socket: &Socket) -> Option<Card>
-    ensures { result ≡ spec_look.card_of socket.now }
+/// What a socket's card says besides: a listener's group and 1, the stamp of a TIME_WAIT, else 0.
+fn extra_as(kind: Kind, groups: &[Group], socket: &Socket) -> u32
+    ensures { result ≡ spec_look.extra_as kind groups.now socket.now }
 {
-    let kind = kind_of(socket.owner.state)?;
-    Some(card_as(kind, &socket.owner, 0))
+    match kind {
+        Kind::Listen => match group_of(socket.owner.name, groups) {
+            None => 0,
+            Some(group) => group.number() + 1,
+        },
+        Kind::TimeWait => socket.stamp,
+        Kind::Full => 0,
+    }
 }
 
-fn best_rank(packet: &Packet, sockets: &[Socket]) -> u8
-    ensures { result ≡ spec_look.best_rank packet.now (spec_look.cards_of sockets.now) }
+/// The card under which a socket is looked up.
+fn card_of(groups: &[Group], socket: &Socket) -> Option<Card>
+    ensures { result ≡ spec_look.card_of groups.now socket.now }
+{
+    let kind = kind_of(socket.owner.state)?;
+    Some(card_as(kind, &socket.owner, extra_as(kind, groups, socket)))
+}
+
+fn best_rank(packet: &Packet, groups: &[Group], sockets: &[Socket]) -> u8
+    ensures { result ≡ spec_look.best_rank packet.now (spec_look.cards_of groups.now sockets.now) }
 {
     sockets
         .iter()
-        .filter_map(card_of)
+        .filter_map(|s| card_of(groups, s))
         .map(|card| rank(&card, packet))
         .fold(0, |most, rank| most.max(rank))
 }
 
-/// The card of greatest rank, where that isn't 0.
-pub fn look(packet: &Packet, sockets: &[Socket]) -> Option<Card>
-    ensures { result ≡ spec_look.look packet.now sockets.now }
+/// The first card of greatest rank, where that isn't 0.
+fn best(packet: &Packet, groups: &[Group], sockets: &[Socket]) -> Option<Card>
+    ensures { result ≡ spec_look.best packet.now (spec_look.cards_of groups.now sockets.now) }
 {
-    let best = best_rank(packet, sockets);
-    sockets.iter().filter_map(card_of).find(|card| 0 < rank(card, packet)
+    let best = best_rank(packet, groups, sockets);
+    sockets.iter().filter_map(|s| card_of(groups, s)).find(|card| 0 < rank(card, packet)
         && rank(card, packet) == best)
+}
+
+fn card_named(name: u32, groups: &[Group], sockets: &[Socket]) -> Option<Card>
+    ensures { result ≡ find (λ c. c.name == name) (spec_look.cards_of groups.now sockets.now) }
+{
+    sockets
+        .iter()
+        .filter_map(|s| card_of(groups, s))
+        .find(|card| card.name == name)
+}
+
+/// The card of greatest rank, where that isn't 0; in a group, that of the member which the hash of the
+/// packet's four-tuple chooses.
+pub fn look(packet: &Packet, seed: u32, sockets: &[Socket], groups: &[Group]) -> Option<Card>
+    ensures { result ≡ spec_look.look packet.now seed sockets.now groups.now }
+{
+    let card = best(packet, groups, sockets)?;
+    match group_of(card.name, groups) {
+        None => Some(card),
+        Some(group) => card_named(group.chosen(packet_hash(packet, seed)), groups, sockets),
+    }
 }

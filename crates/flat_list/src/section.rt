@@ -11,12 +11,13 @@ use rand_pcg::Lcg64Xsh32;
 use std::alloc::{AllocError, Global};
 use std::marker::Model;
 
-/// What a section keeps: its labels in the order in which they were given, and the generator of the
-/// offsets at which its searches begin.
+/// What a section keeps: its labels in the order in which they were given, its moment in seconds, and
+/// the generator of the offsets at which its searches begin.
 #[derive(Drop)]
 pub struct Section {
     number: u32,
     labels: Vec<Label>,
+    moment: u32,
     generator: Lcg64Xsh32,
 }
 
@@ -26,7 +27,7 @@ impl Model for Section {
 
     ghost Value = { Kept };
 
-    ghost view = { λ s. record { number = s.number; labels = s.labels.items; generator = s.generator } };
+    ghost view = { λ s. record { number = s.number; labels = s.labels.items; moment = s.moment; generator = s.generator } };
 
     ghost invariant = { λ s. (s.number ≤ 64) × (length s.labels.items < 2 ^ 24) };
 }
@@ -40,7 +41,7 @@ fn place_of(label: &Label, labels: &[Label]) -> Option<usize>
 }
 
 impl Section {
-    /// A section that has given no label and drawn no word.
+    /// A section at its start: it has given no label and drawn no word.
     pub fn new(alloc: Global, header: &Header, number: u32) -> Self
         requires { number ≤ 64 }
         ensures { result ≡ spec.new_section header.now number }
@@ -48,6 +49,7 @@ impl Section {
         Section {
             number,
             labels: Vec::new(alloc),
+            moment: 0,
             generator: Lcg64Xsh32::new(u64::from(header.seed), u64::from(number)),
         }
     }
@@ -87,6 +89,20 @@ impl Section {
         self.number * 0x100_0000 + self.labels.len() as u32 + 1
     }
 
+    /// The section's moment, in seconds.
+    pub fn moment(&self) -> u32
+        ensures { result ≡ self.now.moment }
+    {
+        self.moment
+    }
+
+    /// Sets the section's moment.
+    pub fn set_moment(&mut self, moment: u32)
+        ensures { self.new ≡ spec.at_moment moment self.old }
+    {
+        self.moment = moment;
+    }
+
     /// The next word of the section's generator.
     pub fn next_word(&mut self) -> u32
         ensures word { result ≡ (pcg32 self.old.generator).0 }
@@ -113,7 +129,7 @@ fn place_of_number(number: u32, sections: &[Section]) -> Option<usize>
     sections.iter().position(|s| s.has_number(number))
 }
 
-/// The section of that number, if it has given a label.
+/// The section of that number, if it is kept.
 pub fn section_of(number: u32, sections: &[Section]) -> Option<&Section>
     ensures { option_copied result ≡ find (spec.has_number number) sections.now }
 {
@@ -159,6 +175,39 @@ pub fn give_label(
             Ok(name)
         }
     }
+}
+
+/// The moment of the section of that number.
+pub fn moment_of(number: u32, sections: &[Section]) -> u32
+    ensures { (header : Header) → result ≡ spec.moment_of header number sections.now }
+{
+    match section_of(number, sections) {
+        None => 0,
+        Some(section) => section.moment(),
+    }
+}
+
+/// Sets the moment of the section of that number. An `Err` changes nothing.
+pub fn set_moment(
+    alloc: Global,
+    header: &Header,
+    sections: &mut Vec<Section>,
+    number: u32,
+    moment: u32,
+) -> Result<(), AllocError>
+    requires { number ≤ 64 }
+    ensures set { OnOk result (sections.new.items ≡ spec.with_moment header.now number moment sections.old.items) }
+    ensures err { OnErr result (sections.new.items ≡ sections.old.items) }
+{
+    match place_of_number(number, sections) {
+        Some(place) => sections[place].set_moment(moment),
+        None => {
+            let mut section = Section::new(alloc, header, number);
+            section.set_moment(moment);
+            sections.push(section)?;
+        }
+    }
+    Ok(())
 }
 
 /// The next word of the generator of the section of that number, which has given a label.

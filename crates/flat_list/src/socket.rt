@@ -3,22 +3,25 @@ ghost use Rattle.flat_list.specs.Connect as connect_spec;
 ghost use Rattle.flat_list.specs.Step as spec;
 
 use crate::command::End;
-use crate::owned;
-use sock_card::Owner;
+use crate::owned::{self, Options};
+use sock_card::{Owner, as_listener, as_waiting};
 
-/// A socket of the flat list: its owner, and whether a label still names it.
+/// A socket of the flat list: its owner, the moment at which it was closed, 0 while it is open, and
+/// whether a label still names it.
 #[derive(Clone, Copy, Debug, PartialEq, Eq)]
 pub struct Socket {
     pub owner: Owner,
+    pub stamp: u32,
     pub named: bool,
 }
 
 /// The socket that `socket` makes.
-pub fn new_socket(name: u32, dev: Option<u16>, reuseaddr: bool) -> Socket
-    ensures { result ≡ spec.new_socket name dev reuseaddr }
+pub fn new_socket(name: u32, options: Options) -> Socket
+    ensures { result ≡ spec.new_socket name options }
 {
     Socket {
-        owner: owned::new_owner(name, dev, reuseaddr),
+        owner: owned::new_owner(name, options),
+        stamp: 0,
         named: true,
     }
 }
@@ -45,7 +48,7 @@ pub fn listening(socket: Socket) -> Socket
     ensures { result ≡ spec.listening socket }
 {
     Socket {
-        owner: owned::as_listener(socket.owner),
+        owner: as_listener(socket.owner),
         ..socket
     }
 }
@@ -76,7 +79,19 @@ pub fn child_of(listener: Socket, name: u32, from: End, at: End) -> Socket
 {
     Socket {
         owner: owned::child_owner(listener.owner, name, from, at),
+        stamp: 0,
         named: true,
+    }
+}
+
+/// The socket, closed at that moment and in TIME_WAIT from then on; no label names it any more.
+pub fn waiting(socket: Socket, moment: u32) -> Socket
+    ensures { result ≡ spec.waiting socket moment }
+{
+    Socket {
+        owner: as_waiting(socket.owner),
+        stamp: moment,
+        named: false,
     }
 }
 

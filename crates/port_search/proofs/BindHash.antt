@@ -1,13 +1,14 @@
--- A bind hash, and what stays of it where one bucket changes.
-use Rattle.std.proofs.Common.{◌≡◌, ℕ, ◌+◌, ◌%◌, ◌<◌, true, List, length, map, if◌then◌else◌, Result, Ok, Err, OnOk, OnErr, sym, ap, ◌∙◌, arith, get_or, set, eq-eqb, length-set}
+-- A bind hash, and how it stands once one bucket is asked.
+use Rattle.std.proofs.Common.{◌≡◌, ℕ, ◌+◌, ◌%◌, ◌<◌, true, List, length, map, sym, ap, ◌∙◌, arith, get_or, set, eq-eqb, length-set}
 use Rattle.std.proofs.lemmas.Nat.{mod_below}
 use Rattle.std.proofs.lemmas.List.{get_or_default, get_or-map, get_or-replicate, length-map, map-set, set-get_or}
 use Rattle.std.proofs.lemmas.List.FromFn.{get_or-range_with_len}
-use Rattle.std.specs.Result.{is_ok}
-use Rattle.sock_card.specs.declared.owner.Owner.{Owner}
-use Rattle.bind_buckets.specs.OwnerStep.{empty, with_last}
-use Rattle.bind_buckets.specs.Bucket.{Bucket, is_port_of}
-use Rattle.port_search.specs.Search.{IsBindHash, held_in, held_at, at_port, chosen_at, with_owner_at, with_chosen_at}
+use Rattle.bind_buckets.specs.declared.request.Request.{Request}
+use Rattle.bind_buckets.specs.OwnerStep.{owner_step}
+use Rattle.bind_buckets.specs.Journal.{Standing, asked}
+use Rattle.bind_buckets.specs.Bucket.{Bucket, is_port_of, called, answer_to, standing_of}
+use Rattle.bind_buckets.proofs.Called.{called_stands}
+use Rattle.port_search.specs.Search.{IsBindHash, standings, standing_at, asked_at, answer_at, untouched}
 
 -- the bucket stands at that place
 pub record StandsIn (hash : List Bucket) (place : ℕ) (b : Bucket) : Type 0 where
@@ -34,9 +35,6 @@ stays_hash hash place b new is at number count =
       counts = rw long (stays (λ (x : Bucket). x.buckets) hash place b new at count ∙ is.counts);
     }
 
-pub stays_held : (hash : List Bucket) (place : ℕ) (b new : Bucket) → StandsIn hash place b → new.held ≡ b.held → held_in (set hash place new) ≡ held_in hash
-stays_held hash place b new at same = stays (λ (x : Bucket). x.held) hash place b new at same
-
 -- a bucket's fields, read from the lists of all
 number_is : (hash : List Bucket) (place : ℕ) (b : Bucket) → IsBindHash hash → StandsIn hash place b → b.number ≡ place
 number_is hash place b is at =
@@ -54,27 +52,36 @@ has_port hash port b is at =
     let count : b.buckets ≡ length hash = count_is hash (port % length hash) b is at in
     eq-eqb (port % b.buckets) b.number (ap (λ n. port % n) count ∙ sym number)
 
--- what the port's bucket holds
-pub held_there : (hash : List Bucket) (port : ℕ) (b : Bucket) → StandsIn hash (port % length hash) b → held_at (held_in hash) port ≡ b.held
-held_there hash port b at =
-    ap (λ n. get_or (held_in hash) (port % n) empty) (length-map hash (λ (x : Bucket). x.held))
-    ∙ get_or-map (λ (x : Bucket). x.held) hash (port % length hash) b empty at.within ∙ sym (ap (λ (x : Bucket). x.held) at.there)
+-- how the port's bucket stands
+pub standing_is : (hash : List Bucket) (port : ℕ) (b : Bucket) → StandsIn hash (port % length hash) b → standing_at (standings hash) port ≡ standing_of b
+standing_is hash port b at =
+    ap (λ n. get_or (standings hash) (port % n) untouched) (length-map hash standing_of)
+    ∙ get_or-map standing_of hash (port % length hash) b untouched at.within ∙ sym (ap standing_of at.there)
 
-pub comes_in : (hash : List Bucket) (port : ℕ) (a : Owner) (b new : Bucket) → StandsIn hash (port % length hash) b → new.held ≡ with_last b.held (at_port a port) → held_in (set hash (port % length hash) new) ≡ with_owner_at (held_in hash) a port
-comes_in hash port a b new at last =
-    map-set (λ (x : Bucket). x.held) hash (port % length hash) new
-    ∙ ap (set (held_in hash) (port % length hash)) (last ∙ ap (λ h. with_last h (at_port a port)) (sym (held_there hash port b at)))
-    ∙ ap (λ n. set (held_in hash) (port % n) (with_last (held_at (held_in hash) port) (at_port a port))) (sym (length-map hash (λ (x : Bucket). x.held)))
+-- the port's bucket, with the room that it has or was given
+module _ (hash : List Bucket) (port : ℕ) (b room : Bucket) (e n : ℕ) (is : IsBindHash hash) (at : StandsIn hash (port % length hash) b) (same : room ≡ record b { entries = e; newcomers = n }) where
+  number_here : room.number ≡ port % length hash
+  number_here = ap (λ (x : Bucket). x.number) same ∙ number_is hash (port % length hash) b is at
 
--- a bucket that was given room, and asked
-pub comes_or_stays : {E : Type 0} (hash : List Bucket) (port : ℕ) (a o : Owner) (b room new : Bucket) (r : Result (Unit {0}) E) → StandsIn hash (port % length hash) b → room.held ≡ b.held → o ≡ at_port a port
-    → OnOk r (new.held ≡ with_last room.held o) → OnErr r (new.held ≡ room.held)
-    → held_in (set hash (port % length hash) new) ≡ (if is_ok r then with_owner_at (held_in hash) a port else held_in hash)
-comes_or_stays hash port a o b room new (Ok done) at same is bound kept = comes_in hash port a b new at (bound ∙ ap (λ h. with_last h o) same ∙ ap (with_last b.held) is)
-comes_or_stays hash port a o b room new (Err end) at same is bound kept = stays_held hash (port % length hash) b new at (kept ∙ same)
+  standing_here : standing_of room ≡ standing_at (standings hash) port
+  standing_here = ap standing_of same ∙ sym (standing_is hash port b at)
 
-pub chosen_comes_in : (hash : List Bucket) (port : ℕ) (a : Owner) (b new : Bucket) → StandsIn hash (port % length hash) b → new.held ≡ with_last b.held (chosen_at a port) → held_in (set hash (port % length hash) new) ≡ with_chosen_at (held_in hash) a port
-chosen_comes_in hash port a b new at last =
-    map-set (λ (x : Bucket). x.held) hash (port % length hash) new
-    ∙ ap (set (held_in hash) (port % length hash)) (last ∙ ap (λ h. with_last h (chosen_at a port)) (sym (held_there hash port b at)))
-    ∙ ap (λ n. set (held_in hash) (port % n) (with_last (held_at (held_in hash) port) (chosen_at a port))) (sym (length-map hash (λ (x : Bucket). x.held)))
+  pub answered_there : (request : Request) → answer_to room request ≡ answer_at (standings hash) port request
+  answered_there request =
+      ap (λ place. (owner_step place room.held request).answer) (number_here ∙ ap (λ k. port % k) (sym (length-map hash standing_of)))
+      ∙ ap (λ (s : Standing). (owner_step (port % length (standings hash)) s.held request).answer) standing_here
+
+  pub asked_there : (request : Request) (new : Bucket) → new ≡ called room request → standings (set hash (port % length hash) new) ≡ asked_at (standings hash) port request
+  asked_there request new after =
+      map-set standing_of hash (port % length hash) new
+      ∙ ap (set (standings hash) (port % length hash))
+      (ap standing_of after ∙ called_stands room request
+      ∙ ap (λ place. asked place (standing_of room) request) number_here
+      ∙ ap (λ (s : Standing). asked (port % length hash) s request) standing_here)
+      ∙ ap (λ k. set (standings hash) (port % k) (asked (port % k) (standing_at (standings hash) port) request)) (sym (length-map hash standing_of))
+
+  pub hash_there : (request : Request) (new : Bucket) → new ≡ called room request → IsBindHash (set hash (port % length hash) new)
+  hash_there request new after =
+      stays_hash hash (port % length hash) b new is at
+      (ap (λ (x : Bucket). x.number) after ∙ ap (λ (x : Bucket). x.number) same)
+      (ap (λ (x : Bucket). x.buckets) after ∙ ap (λ (x : Bucket). x.buckets) same)

@@ -1,4 +1,7 @@
 mod PortsLeft
-mod BindHash
-mod Told
-mod Searching
+pub mod BindHash
+pub mod Told
+pub mod Standings
+mod BindSearch
+mod ConnectSearch
+pub mod Connects

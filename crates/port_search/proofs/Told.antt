@@ -1,12 +1,12 @@
--- Whether a bucket took an owner, from whom it named.
-use Rattle.std.proofs.Common.{◌≡◌, Bool, true, false, ◌||◌, not, List, [], ◌∷◌, Option, Some, None, Result, Ok, Err, find, if◌then◌else◌, refl, ap, ◌∙◌, arith, is_some}
+-- What an answer tells.
+use Rattle.std.proofs.Common.{◌≡◌, Bool, true, false, ◌||◌, List, [], ◌∷◌, Option, Some, Result, Ok, Err, OnErr, find, if◌then◌else◌, refl, is_some}
 use Rattle.std.specs.List.{list_any}
-use Rattle.std.specs.Option.{option_map}
 use Rattle.std.specs.Result.{is_ok}
 use Rattle.sock_card.specs.declared.owner.Owner.{Owner}
 use Rattle.bind_buckets.specs.declared.request.InUse.{InUse}
 use Rattle.bind_buckets.specs.declared.request.NotFree.{NotFree}
-use Rattle.bind_buckets.specs.Answers.{told_of, holder_told}
+use Rattle.bind_buckets.specs.Answers.{answer_of_bind, answer_of_free}
+use Rattle.port_search.specs.Search.{is_done}
 
 one_more : (here : Bool) (x : Owner) (r : Option Owner) (any : Bool) → is_some r ≡ any → is_some (if here then Some x else r) ≡ (here || any)
 one_more true x r any same = refl
@@ -17,20 +17,15 @@ pub is_found : (p : Owner → Bool) (xs : List Owner) → is_some (find p xs) �
 is_found p [] = refl
 is_found p (x ∷ xs) = one_more (p x) x (find p xs) (list_any p xs) (is_found p xs)
 
-taken : (r : Result (Unit {0}) InUse) (o : Option Owner) → told_of r ≡ option_map (λ (x : Owner). x.name) o → is_ok r ≡ not (is_some o)
-taken (Ok done) None told = refl
-taken (Ok done) (Some x) told = grind arith
-taken (Err end) None told = grind arith
-taken (Err end) (Some x) told = refl
+-- a call that is Ok was answered Done
+pub bound_if_done : (r : Result (Unit {0}) InUse) → is_ok r ≡ is_done (answer_of_bind r)
+bound_if_done (Ok done) = refl
+bound_if_done (Err end) = refl
 
-pub is_taken : (r : Result (Unit {0}) InUse) (p : Owner → Bool) (xs : List Owner) → told_of r ≡ option_map (λ (x : Owner). x.name) (find p xs) → is_ok r ≡ not (list_any p xs)
-is_taken r p xs told = taken r (find p xs) told ∙ ap not (is_found p xs)
+pub free_if_done : (r : Result (Unit {0}) NotFree) → is_ok r ≡ is_done (answer_of_free r)
+free_if_done (Ok done) = refl
+free_if_done (Err end) = refl
 
-not_told : (r : Result (Unit {0}) NotFree) (o : Option Owner) → holder_told r ≡ option_map (λ (x : Owner). x.name) o → is_ok r ≡ not (is_some o)
-not_told (Ok done) None told = refl
-not_told (Ok done) (Some x) told = grind arith
-not_told (Err end) None told = grind arith
-not_told (Err end) (Some x) told = refl
-
-pub is_let : (r : Result (Unit {0}) NotFree) (p : Owner → Bool) (xs : List Owner) → holder_told r ≡ option_map (λ (x : Owner). x.name) (find p xs) → is_ok r ≡ not (list_any p xs)
-is_let r p xs told = not_told r (find p xs) told ∙ ap not (is_found p xs)
+pub on_err : {T E : Type 0} (r : Result T E) (P : Type 0) → P → OnErr r P
+on_err (Ok value) P p = tt
+on_err (Err end) P p = p

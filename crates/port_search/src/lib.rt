@@ -9,7 +9,8 @@
 //! that the port leaves when divided by their number.
 //!
 //! The contracts say that the port found is the first of the order that suits, that NoPort comes only
-//! where none of all of them does, and what each bucket holds afterwards.
+//! where none of all of them does, and what each bucket holds afterwards and was asked: each port that
+//! was tried adds one note to its bucket, in the order of the search.
 //!
 //! ```text
 //! let ports = Ports::new(range, offset, First::Odd);
@@ -17,6 +18,7 @@
 //! ```
 #![tactic(auto)]
 
+pub mod laws;
 pub mod ports;
 pub mod search;
 #[cfg(test)]

@@ -1,11 +1,11 @@
 //! The searches of `bind` and `connect` through the buckets of a bind hash.
 
-ghost use Rattle.std.specs.Prelude.{◌≡◌, OnErr, IfOk, IfErr, find, Some, None, if◌then◌else◌, true, Err};
+ghost use Rattle.std.specs.Prelude.{◌≡◌, OnOk, OnErr, IfOk, IfErr, find, Some, None, true, Err};
 ghost use Rattle.port_search.specs.Search as spec;
-ghost use Rattle.port_search.specs.Search.{IsBindHash, IsNotFull, MayChoose, AllRefused, EndsAt, SaidFull, held_in, suits_bind, with_owner_at, is_free, with_chosen_at};
+ghost use Rattle.port_search.specs.Search.{IsBindHash, IsNotFull, MayChoose, HasEntryAt, FindsNone, FindsNoneYet, FreedInPart, ConnectsAt, ConnectsNowhere, SaidFull, standings, asked_at, answer_at, is_done, searched, held_in, suits_bind, with_owner_at};
 
 use crate::ports::Ports;
-use bind_buckets::Bucket;
+use bind_buckets::{Bucket, Request};
 use sock_card::Owner;
 use std::alloc::AllocError;
 
@@ -23,8 +23,8 @@ pub enum SearchEnd {
 /// What became of a connection at one port.
 #[derive(Clone, Copy, Debug, PartialEq, Eq)]
 pub enum Attempt<T> {
-    /// It was made.
-    Done(T),
+    /// It was made, in place of the socket in TIME_WAIT of that name, if there is one.
+    Done(T, Option<u32>),
     /// The socket of that name has its four-tuple.
     Taken(u32),
     /// No slot is free: so many are owned, and so many held by lookups.
@@ -51,14 +51,15 @@ fn at_port(owner: Owner, port: u16) -> Owner
     Owner { port, ..owner }
 }
 
-/// Binds the owner to that port, where no other overlaps it there; whether it was bound.
+/// Asks the port's bucket to take in the owner, where no other overlaps it; whether it did.
 fn bind_at(buckets: &mut [Bucket], owner: Owner, port: u16) -> Result<bool, SearchEnd>
     requires hash { IsBindHash buckets.old }
     ensures hash { IsBindHash buckets.new }
-    ensures suits { IfOk result (λ bound. bound ≡ suits_bind (held_in buckets.old) owner port) }
-    ensures after { IfOk result (λ bound. held_in buckets.new
-        ≡ (if bound then with_owner_at (held_in buckets.old) owner port else held_in buckets.old)) }
-    ensures kept { OnErr result (held_in buckets.new ≡ held_in buckets.old) }
+    ensures bound { IfOk result (λ bound. bound
+        ≡ is_done (answer_at (standings buckets.old) port (Request.BindAuto (spec.at_port owner port)))) }
+    ensures asked { OnOk result (standings buckets.new
+        ≡ asked_at (standings buckets.old) port (Request.BindAuto (spec.at_port owner port))) }
+    ensures kept { OnErr result (standings buckets.new ≡ standings buckets.old) }
     ensures end { IfErr result (λ end. end ≡ SearchEnd.Memory) }
 {
     let place = usize::from(port) % buckets.len();
@@ -72,13 +73,19 @@ fn bind_at(buckets: &mut [Bucket], owner: Owner, port: u16) -> Result<bool, Sear
 ///
 /// The owner comes last into that port's bucket; its own port is of no matter. `NoPort` says that at
 /// each of the ports an owner overlaps it. Each port that is tried adds one note to its bucket, makes
-/// room there, and costs one pass through the bucket's owners.
+/// room there, and costs one pass through the bucket's owners. `Memory` may come at each port, and
+/// then the notes of those before it stay.
 pub fn find_bind(buckets: &mut [Bucket], ports: Ports, owner: Owner) -> Result<u16, SearchEnd>
     requires hash { IsBindHash buckets.old }
     ensures hash { IsBindHash buckets.new }
     ensures first { IfOk result (λ port. find (suits_bind (held_in buckets.old) owner) ports ≡ Some port) }
     ensures bound { IfOk result (λ port. held_in buckets.new ≡ with_owner_at (held_in buckets.old) owner port) }
+    ensures left { IfOk result (λ port. searched (standings buckets.old) owner ports
+        ≡ record { hash = standings buckets.new; port = Some port }) }
     ensures none { result ≡ Err SearchEnd.NoPort → find (suits_bind (held_in buckets.old) owner) ports ≡ None }
+    ensures all_asked { result ≡ Err SearchEnd.NoPort
+        → FindsNone (standings buckets.old) owner ports (standings buckets.new) }
+    ensures some_asked { OnErr result (FindsNoneYet (standings buckets.old) owner ports (standings buckets.new)) }
     ensures kept { OnErr result (held_in buckets.new ≡ held_in buckets.old) }
     ensures end { IfErr result IsNotFull }
 {
@@ -90,13 +97,14 @@ pub fn find_bind(buckets: &mut [Bucket], ports: Ports, owner: Owner) -> Result<u
     Err(SearchEnd::NoPort)
 }
 
-/// Makes room in the port's bucket; whether `connect` may choose the port.
+/// Makes room in the port's bucket, and asks it whether `connect` may choose the port.
 fn free_at(buckets: &mut [Bucket], port: u16) -> Result<bool, SearchEnd>
     requires hash { IsBindHash buckets.old }
     ensures hash { IsBindHash buckets.new }
-    ensures free { IfOk result (λ free. free ≡ is_free (held_in buckets.old) port) }
+    ensures free { IfOk result (λ free. free ≡ is_done (answer_at (standings buckets.old) port (Request.Free port))) }
     ensures ready { IfOk result (λ free. free ≡ true → MayChoose buckets.new port) }
-    ensures kept { held_in buckets.new ≡ held_in buckets.old }
+    ensures asked { OnOk result (standings buckets.new ≡ asked_at (standings buckets.old) port (Request.Free port)) }
+    ensures kept { OnErr result (standings buckets.new ≡ standings buckets.old) }
     ensures end { IfErr result (λ end. end ≡ SearchEnd.Memory) }
 {
     let place = usize::from(port) % buckets.len();
@@ -121,20 +129,48 @@ fn connect_at(buckets: &mut [Bucket], owner: Owner, port: u16)
     requires hash { IsBindHash buckets.old }
     requires ready { MayChoose buckets.old port }
     ensures hash { IsBindHash buckets.new }
-    ensures after { held_in buckets.new ≡ with_chosen_at (held_in buckets.old) owner port }
+    ensures entry { HasEntryAt buckets.new port }
+    ensures asked { standings buckets.new
+        ≡ asked_at (standings buckets.old) port (Request.ConnectAuto (spec.chosen_at owner port)) }
 {
     let place = usize::from(port) % buckets.len();
     buckets[place].connect_auto(chosen_at(owner, port));
 }
 
+/// Lets the owner in TIME_WAIT of that name leave the port's bucket, if it hasn't gone already.
+fn remove_at(buckets: &mut [Bucket], port: u16, name: u32)
+    requires hash { IsBindHash buckets.old }
+    requires entry { HasEntryAt buckets.old port }
+    ensures hash { IsBindHash buckets.new }
+    ensures asked { standings buckets.new ≡ asked_at (standings buckets.old) port (Request.RemoveWaiting name) }
+{
+    let place = usize::from(port) % buckets.len();
+    let _gone = buckets[place].remove_waiting(name);
+}
+
+/// Takes in the owner for which `connect` chose that port, in place of the one that was replaced.
+fn replace_at(buckets: &mut [Bucket], owner: Owner, port: u16, replaced: Option<u32>)
+    requires hash { IsBindHash buckets.old }
+    requires ready { MayChoose buckets.old port }
+    ensures hash { IsBindHash buckets.new }
+    ensures after { standings buckets.new ≡ spec.connected_at (standings buckets.old) owner port replaced }
+{
+    connect_at(buckets, owner, port);
+    if let Some(name) = replaced {
+        remove_at(buckets, port, name);
+    }
+}
+
 /// Connects the owner from the first of the ports that is free and at which `insert` makes the
-/// connection (`__inet_hash_connect`); its result comes with the port.
+/// connection (`__inet_hash_connect`); its value comes with the port.
 ///
 /// A port is free where it has no owner, or `connect` chose it for each. `insert` is called once for
 /// each free port in turn, until it answers other than `Taken`. The owner comes last into that port's
-/// bucket, and is marked as one for which `connect` chose the port; its own port is of no matter. No
-/// connection replaces a socket in TIME_WAIT here. Each port that is tried adds one note to its
-/// bucket, the last one two, makes room there, and costs one pass through the bucket's owners.
+/// bucket, and is marked as one for which `connect` chose the port; its own port is of no matter. If
+/// the connection replaced a socket in TIME_WAIT, that one's owner leaves the bucket, unless it has
+/// gone already. Each port that is tried adds one note to its bucket, the last one two or three, makes
+/// room there, and costs one pass through the bucket's owners. `Memory` comes where `insert` answers
+/// it, and may come before each port; the notes of the ports that were tried stay.
 pub fn find_connect<T, F: FnMut(u16) -> Attempt<T>>(
     buckets: &mut [Bucket],
     ports: Ports,
@@ -144,17 +180,20 @@ pub fn find_connect<T, F: FnMut(u16) -> Attempt<T>>(
     requires hash { IsBindHash buckets.old }
     requires callable { F.IsAlwaysCallable insert }
     ensures hash { IsBindHash buckets.new }
-    ensures first { IfOk result (λ found. EndsAt F.step (held_in buckets.old) insert ports found.0 (Attempt.Done found.1)) }
-    ensures connected { IfOk result (λ found. held_in buckets.new ≡ with_chosen_at (held_in buckets.old) owner found.0) }
-    ensures none { result ≡ Err SearchEnd.NoPort → (last : F) × AllRefused F.step (held_in buckets.old) ports insert last }
-    ensures full { IfErr result (SaidFull F.step (held_in buckets.old) insert ports) }
+    ensures first { IfOk result (λ found.
+        ConnectsAt F.step (standings buckets.old) (standings buckets.new) insert owner ports found.0 found.1) }
+    ensures none { result ≡ Err SearchEnd.NoPort
+        → ConnectsNowhere F.step (standings buckets.old) (standings buckets.new) insert ports }
+    ensures full { IfErr result
+        (SaidFull F.step (standings buckets.old) (standings buckets.new) insert ports) }
+    ensures some_asked { OnErr result (FreedInPart (standings buckets.old) ports (standings buckets.new)) }
     ensures kept { OnErr result (held_in buckets.new ≡ held_in buckets.old) }
 {
     for port in ports {
         if free_at(buckets, port)? {
             match insert(port) {
-                Attempt::Done(value) => {
-                    connect_at(buckets, owner, port);
+                Attempt::Done(value, replaced) => {
+                    replace_at(buckets, owner, port, replaced);
                     return Ok((port, value));
                 }
                 Attempt::Taken(_) => {}

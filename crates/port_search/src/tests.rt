@@ -1,5 +1,6 @@
 //! Runs of searches over four ports and two buckets.
 
+ghost use Rattle.std.specs.Prelude.{◌≡◌, IfOk};
 ghost use Rattle.port_search.specs.Search.{IsBindHash};
 
 use crate::ports::Ports;
@@ -7,6 +8,7 @@ use crate::search::{Attempt, SearchEnd, find_bind, find_connect};
 use bind_buckets::Bucket;
 use flat_list::{First, Range};
 use sock_card::{Owner, State};
+use std::alloc::Global;
 use std::test::Fail;
 
 fn ports(offset: u16, first: First) -> Ports {
@@ -54,7 +56,7 @@ fn connect(buckets: &mut [Bucket], taken: &[u16]) -> Result<(u16, u16), SearchEn
         if taken.contains(&port) {
             Attempt::Taken(1)
         } else {
-            Attempt::Done(port)
+            Attempt::Done(port, None)
         }
     })
 }
@@ -99,6 +101,62 @@ fn connect_passes_over_bound_ports(rt: HostRuntime) -> Result<(), Fail> {
     assert_eq!(rt; connect(&mut buckets, &[40002, 40000]), Ok((40001, 40001)));
     assert_eq!(rt; bind(&mut buckets, 2), Ok(40002));
     assert_eq!(rt; connect(&mut buckets, &[]), Ok((40000, 40000)));
+    Ok(())
+}
+
+/// A bucket whose only owner, of port 40002, is in TIME_WAIT.
+fn waiting(alloc: Global) -> Result<Bucket, Fail>
+    ensures number { IfOk result (λ b. b.number ≡ 0) }
+    ensures count { IfOk result (λ b. b.buckets ≡ 1) }
+{
+    let mut bucket = Bucket::new(alloc, 0, 1);
+    let owner = Owner {
+        port: 40002,
+        by_connect: true,
+        ..socket(1)
+    };
+    if !bucket.has_port(owner.port) {
+        return Err("another bucket's port".into());
+    }
+    bucket.reserve()?;
+    bucket.bind(owner).ok().ok_or("refused")?;
+    bucket.to_time_wait(1).ok().ok_or("strange")?;
+    Ok(bucket)
+}
+
+#[test]
+fn a_replaced_socket_leaves_its_port(rt: HostRuntime) -> Result<(), Fail> {
+    let mut buckets = [waiting(rt.alloc())?];
+    let found = find_connect(&mut buckets, ports(2, First::Even), socket(2), |port| {
+        Attempt::Done(port, Some(1))
+    });
+    assert_eq!(rt; found, Ok((40002, 40002)));
+    assert_eq!(rt; buckets[0].owner(1).map(|o| o.port), None);
+    assert_eq!(rt; buckets[0].owner(2).map(|o| o.port), Some(40002));
+    assert_eq!(rt; buckets[0].journal().len(), 5);
+    Ok(())
+}
+
+#[test]
+fn a_replaced_socket_may_have_gone_already(rt: HostRuntime) -> Result<(), Fail> {
+    let mut buckets = [waiting(rt.alloc())?];
+    let found = find_connect(&mut buckets, ports(2, First::Even), socket(2), |port| {
+        Attempt::Done(port, Some(3))
+    });
+    assert_eq!(rt; found, Ok((40002, 40002)));
+    assert_eq!(rt; buckets[0].owner(1).map(|o| o.port), Some(40002));
+    Ok(())
+}
+
+#[test]
+fn each_port_is_asked_once(rt: HostRuntime) -> Result<(), Fail> {
+    let mut buckets = [Bucket::new(rt.alloc(), 0, 1)];
+    assert_eq!(rt; bind(&mut buckets, 0), Ok(40001));
+    assert_eq!(rt; bind(&mut buckets, 0), Ok(40003));
+    assert_eq!(rt; buckets[0].journal().len(), 3);
+    let all = [40000, 40001, 40002, 40003];
+    assert_eq!(rt; connect(&mut buckets, &all), Err(SearchEnd::NoPort));
+    assert_eq!(rt; buckets[0].journal().len(), 7);
     Ok(())
 }
 

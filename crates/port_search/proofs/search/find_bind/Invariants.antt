@@ -1,4 +1,4 @@
-use Rattle.port_search.proofs.Searching.{BindSearch}
+use Rattle.port_search.proofs.BindSearch.{BindSearch}
 use Rattle.port_search.proofs.search.find_bind.Given as goal
 
 abbrev pub invariant-loop-port : goal.invariant-loop-port

@@ -1,4 +1,4 @@
-use Rattle.port_search.proofs.Searching.{ConnectSearch}
+use Rattle.port_search.proofs.ConnectSearch.{ConnectSearch}
 use Rattle.port_search.proofs.search.find_connect.Given as goal
 
 abbrev pub invariant-loop-port : goal.invariant-loop-port

@@ -6,12 +6,12 @@ use Rattle.flat_list.proofs.flat.Flat.apply.Goals as goal
 pub returns-in-Socket-clause-labels : goal.returns-in-Socket-clause-labels
 unfolding step
 returns-in-Socket-clause-labels c =
-    (from_step _ _ c.args.section (commands.Socket c.in-Socket.label c.in-Socket.dev c.in-Socket.reuseaddr) _ c.socket.ensures.step c.socket.ensures.err).labels
+    (from_step _ _ c.args.section (commands.Socket c.in-Socket.label c.in-Socket.uid c.in-Socket.dev c.in-Socket.reuseaddr c.in-Socket.reuseport) _ c.socket.ensures.step c.socket.ensures.err).labels
 
 pub returns-in-Socket-clause-others : goal.returns-in-Socket-clause-others
 unfolding step
 returns-in-Socket-clause-others c =
-    (from_step _ _ c.args.section (commands.Socket c.in-Socket.label c.in-Socket.dev c.in-Socket.reuseaddr) _ c.socket.ensures.step c.socket.ensures.err).others
+    (from_step _ _ c.args.section (commands.Socket c.in-Socket.label c.in-Socket.uid c.in-Socket.dev c.in-Socket.reuseaddr c.in-Socket.reuseport) _ c.socket.ensures.step c.socket.ensures.err).others
 
 pub returns-in-Accept-clause-labels : goal.returns-in-Accept-clause-labels
 unfolding step
@@ -36,12 +36,12 @@ returns-in-Bind-clause-others c =
 pub returns-in-Listen-clause-labels : goal.returns-in-Listen-clause-labels
 unfolding step
 returns-in-Listen-clause-labels c =
-    (from_done _ _ c.args.section (commands.Listen c.in-Listen.label) _ c.listen.ensures).labels
+    (from_step _ _ c.args.section (commands.Listen c.in-Listen.label) _ c.listen.ensures.step c.listen.ensures.err).labels
 
 pub returns-in-Listen-clause-others : goal.returns-in-Listen-clause-others
 unfolding step
 returns-in-Listen-clause-others c =
-    (from_done _ _ c.args.section (commands.Listen c.in-Listen.label) _ c.listen.ensures).others
+    (from_step _ _ c.args.section (commands.Listen c.in-Listen.label) _ c.listen.ensures.step c.listen.ensures.err).others
 
 pub returns-in-Connect-clause-labels : goal.returns-in-Connect-clause-labels
 unfolding step
@@ -62,3 +62,33 @@ pub returns-in-Drop-clause-others : goal.returns-in-Drop-clause-others
 unfolding step
 returns-in-Drop-clause-others c =
     (from_done _ _ c.args.section (commands.Drop c.in-Drop.label) _ c.drop_socket.ensures).others
+
+pub returns-in-Close-clause-labels : goal.returns-in-Close-clause-labels
+unfolding step
+returns-in-Close-clause-labels c =
+    (from_done _ _ c.args.section (commands.Close c.in-Close.label) _ c.close.ensures).labels
+
+pub returns-in-Close-clause-others : goal.returns-in-Close-clause-others
+unfolding step
+returns-in-Close-clause-others c =
+    (from_done _ _ c.args.section (commands.Close c.in-Close.label) _ c.close.ensures).others
+
+pub returns-in-At-clause-labels : goal.returns-in-At-clause-labels
+unfolding step
+returns-in-At-clause-labels c =
+    (from_step _ _ c.args.section (commands.At c.in-At.moment) _ c.at.ensures.step c.at.ensures.err).labels
+
+pub returns-in-At-clause-others : goal.returns-in-At-clause-others
+unfolding step
+returns-in-At-clause-others c =
+    (from_step _ _ c.args.section (commands.At c.in-At.moment) _ c.at.ensures.step c.at.ensures.err).others
+
+pub returns-in-Reap-clause-labels : goal.returns-in-Reap-clause-labels
+unfolding step
+returns-in-Reap-clause-labels c =
+    (from_done _ _ c.args.section commands.Reap _ c.reap.ensures).labels
+
+pub returns-in-Reap-clause-others : goal.returns-in-Reap-clause-others
+unfolding step
+returns-in-Reap-clause-others c =
+    (from_done _ _ c.args.section commands.Reap _ c.reap.ensures).others

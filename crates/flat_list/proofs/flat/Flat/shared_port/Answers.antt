@@ -16,7 +16,7 @@ returns-then-suits_connect c =
     let order = port_order range c.args.offset firsts.Even in
     let within : c.loop-number.number < length order = rw (order_length range c.args.offset firsts.Even) (rw (c.count-number-end.ensures.count, same) at c.loop-number-test.true) in
     let here : c.port_at-port.result ≡ get_or order c.loop-number.number range.low = rw same at c.port_at-port.ensures in
-    sym (searched_here (suits_connect c.args.self.now c.args.socket c.args.source c.args.to) order c.loop-number.number c.port_at-port.result range.low c.loop-number.invariant within here (sym c.suits_connect.ensures ∙ c.if-suits_connect.true))
+    sym (searched_here (suits_connect c.args.self.now c.args.section c.args.socket c.args.source c.args.to) order c.loop-number.number c.port_at-port.result range.low c.loop-number.invariant within here (sym c.suits_connect.ensures ∙ c.if-suits_connect.true))
 
 pub loop-number-preserved : goal.loop-number-preserved
 loop-number-preserved c =
@@ -25,7 +25,7 @@ loop-number-preserved c =
     let order = port_order range c.args.offset firsts.Even in
     let within : c.loop-number.number < length order = rw (order_length range c.args.offset firsts.Even) (rw (c.count-number-end.ensures.count, same) at c.loop-number-test.true) in
     let here : c.port_at-port.result ≡ get_or order c.loop-number.number range.low = rw same at c.port_at-port.ensures in
-    searched_more (suits_connect c.args.self.now c.args.socket c.args.source c.args.to) order c.loop-number.number c.port_at-port.result range.low c.loop-number.invariant within here (sym c.suits_connect.ensures ∙ c.if-suits_connect.false)
+    searched_more (suits_connect c.args.self.now c.args.section c.args.socket c.args.source c.args.to) order c.loop-number.number c.port_at-port.result range.low c.loop-number.invariant within here (sym c.suits_connect.ensures ∙ c.if-suits_connect.false)
 
 pub returns : goal.returns
 returns c =
@@ -33,4 +33,4 @@ returns c =
     let same : c.self.inside.header.range ≡ range = ap (λ f. f.header.range) c.self.view_is in
     let order = port_order range c.args.offset firsts.Even in
     let past : length order ≤ c.loop-number.number = rw (order_length range c.args.offset firsts.Even) (rw (c.count-number-end.ensures.count, same) at c.loop-number-test.false) in
-    sym (searched_all (suits_connect c.args.self.now c.args.socket c.args.source c.args.to) order c.loop-number.number c.loop-number.invariant past)
+    sym (searched_all (suits_connect c.args.self.now c.args.section c.args.socket c.args.source c.args.to) order c.loop-number.number c.loop-number.invariant past)

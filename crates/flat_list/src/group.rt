@@ -1,0 +1,266 @@
+//! Groups of listeners that share an end, and who is in them.
+
+ghost use Rattle.std.specs.Prelude.{ℕ, ◌≡◌, ◌∷◌, ◌+◌, ◌≤◌, ◌<◌, ◌^◌, [], true, false, length, map, filter, find, is_some, Some, IfSome, vec_len, vec_capacity};
+ghost use Rattle.std.specs.List.{list_any};
+ghost use Rattle.std.specs.Option.{option_copied};
+ghost use Rattle.flat_list.specs.Groups as spec;
+ghost use Rattle.flat_list.specs.Look as look_spec;
+ghost use Rattle.flat_list.specs.Step as step_spec;
+
+use crate::search::mate_of;
+use crate::socket::Socket;
+use arrayvec::ArrayVec;
+use jhash_words::scale;
+use std::marker::Model;
+
+/// A group of listeners: its number, which is 8 times its bind bucket's and its place there, and the
+/// names of its members, at most sixteen.
+#[derive(Drop)]
+pub struct Group {
+    number: u32,
+    members: ArrayVec<u32, 16>,
+}
+
+impl Model for Group {
+    ghost use Rattle.std.specs.Prelude.{ℕ, ◌≤◌, ◌<◌, ◌^◌, length};
+    ghost use Rattle.flat_list.specs.Groups.{Group as Kept};
+
+    ghost Value = { Kept };
+
+    ghost view = { λ g. record { number = g.number; members = g.members.items } };
+
+    ghost invariant = { λ g. (g.number < 2 ^ 19) × (length g.members.items ≤ 16) };
+}
+
+fn renamed(old: u32, new: u32, member: u32) -> u32
+    ensures { result ≡ spec.renamed old new member }
+{
+    if member == old { new } else { member }
+}
+
+/// Writes `new` over each `old`.
+fn replace(old: u32, new: u32, members: &mut [u32])
+    ensures { members.new ≡ map (spec.renamed old new) members.old }
+{
+    for member in members.iter_mut() {
+        *member = renamed(old, new, *member);
+    }
+}
+
+impl Group {
+    /// The group of that number, with one member.
+    fn new(number: u32, name: u32) -> Self
+        requires { number < 2 ^ 19 }
+        ensures { result ≡ record { number = number; members = name ∷ [] } }
+    {
+        let mut members = ArrayVec::new();
+        members.push(name);
+        Group { number, members }
+    }
+
+    /// Its number.
+    pub fn number(&self) -> u32
+        ensures number { result ≡ self.now.number }
+        ensures bound { result < 2 ^ 19 }
+    {
+        self.number
+    }
+
+    /// Whether the socket of that name is in it.
+    pub fn has_member(&self, name: u32) -> bool
+        ensures { result ≡ spec.has_member name self.now }
+    {
+        self.members.as_slice().iter().any(|member| *member == name)
+    }
+
+    fn has_members(&self) -> bool
+        ensures { result ≡ spec.has_members self.now }
+    {
+        0 < self.members.len()
+    }
+
+    /// Whether it is the group of the socket of that name, and has all its members.
+    fn is_full_group(&self, mate: u32) -> bool
+        ensures { result ≡ spec.is_full_group mate self.now }
+    {
+        self.has_member(mate) && self.members.len() == 16
+    }
+
+    /// The socket joins, where its mate is a member.
+    fn join(&mut self, mate: u32, name: u32)
+        requires { spec.is_full_group mate self.old ≡ false }
+        ensures { self.new ≡ spec.join_group mate name self.old }
+    {
+        if self.has_member(mate) {
+            self.members.push(name);
+        }
+    }
+
+    /// The socket leaves, where it is a member; the last member takes its place.
+    fn leave(&mut self, name: u32)
+        ensures { self.new ≡ spec.leave_group name self.old }
+    {
+        if self.has_member(name) {
+            if let Some(last) = self.members.pop() {
+                replace(name, last, self.members.as_mut_slice());
+            }
+        }
+    }
+
+    /// The member that the hash of a packet's four-tuple chooses.
+    pub fn chosen(&self, hash: u32) -> u32
+        ensures { result ≡ look_spec.chosen hash self.now }
+    {
+        let members = self.members.as_slice();
+        if members.is_empty() {
+            return 0;
+        }
+        members[scale(hash, members.len() as u32) as usize]
+    }
+}
+
+/// The group of the socket of that name, if it is in one.
+pub fn group_of(name: u32, groups: &[Group]) -> Option<&Group>
+    ensures { option_copied result ≡ look_spec.group_of name groups.now }
+{
+    groups.iter().find(|group| group.has_member(name))
+}
+
+/// The bind bucket of a port, where there are so many.
+pub fn bucket_of(port: u16, buckets: u32) -> u32
+    ensures bucket { result ≡ spec.bucket_of port buckets }
+    ensures bound { result < 2 ^ 16 }
+{
+    if buckets == 0 {
+        u32::from(port)
+    } else {
+        u32::from(port) % buckets
+    }
+}
+
+fn is_used(number: u32, groups: &[Group]) -> bool
+    ensures { result ≡ spec.is_used groups.now number }
+{
+    groups.iter().any(|group| group.number() == number)
+}
+
+/// The lowest number of that bind bucket that no group has.
+fn free_number(bucket: u32, groups: &[Group]) -> Option<u32>
+    requires { bucket < 2 ^ 16 }
+    ensures number { result ≡ spec.free_number bucket groups.now }
+    ensures bound { IfSome result (λ number. number < 2 ^ 19) }
+{
+    (8 * bucket..8 * bucket + 8).find(|number| !is_used(*number, groups))
+}
+
+fn has_full(mate: u32, groups: &[Group]) -> bool
+    ensures { result ≡ list_any (spec.is_full_group mate) groups.now }
+{
+    groups.iter().any(|group| group.is_full_group(mate))
+}
+
+/// Whether a listener finds a place: in its mate's group, or where it has no mate in a new one of that
+/// bind bucket.
+pub fn has_place(bucket: u32, mate: Option<u32>, groups: &[Group]) -> bool
+    requires { bucket < 2 ^ 16 }
+    ensures { (name : ℕ) → result ≡ is_some (spec.join bucket name mate groups.now) }
+{
+    match mate {
+        Some(mate) => !has_full(mate, groups),
+        None => free_number(bucket, groups).is_some(),
+    }
+}
+
+fn join_mate(mate: u32, name: u32, groups: &mut [Group])
+    requires { list_any (spec.is_full_group mate) groups.old ≡ false }
+    ensures { groups.new ≡ map (spec.join_group mate name) groups.old }
+{
+    for group in groups.iter_mut() {
+        group.join(mate, name);
+    }
+}
+
+/// The listener joins its mate's group, or begins one. There is room for one more group.
+pub fn join(bucket: u32, name: u32, mate: Option<u32>, groups: &mut Vec<Group>)
+    requires bucket { bucket < 2 ^ 16 }
+    requires place { is_some (spec.join bucket name mate groups.old.items) ≡ true }
+    requires room { vec_len groups.old < vec_capacity groups.old }
+    ensures { spec.join bucket name mate groups.old.items ≡ Some groups.new.items }
+{
+    match mate {
+        Some(mate) => join_mate(mate, name, groups),
+        None => {
+            if let Some(number) = free_number(bucket, groups) {
+                groups.push_reserved(Group::new(number, name));
+            }
+        }
+    }
+}
+
+fn leave_each(name: u32, groups: &mut [Group])
+    ensures { groups.new ≡ map (spec.leave_group name) groups.old }
+{
+    for group in groups.iter_mut() {
+        group.leave(name);
+    }
+}
+
+fn free_empty(groups: &mut Vec<Group>)
+    ensures { groups.new.items ≡ filter spec.has_members groups.old.items }
+{
+    groups.retain(|group| group.has_members());
+}
+
+/// The socket of that name is gone from its group; a group without members is gone too.
+pub fn leave(name: u32, groups: &mut Vec<Group>)
+    ensures { groups.new.items ≡ spec.leave name groups.old.items }
+{
+    leave_each(name, groups);
+    free_empty(groups);
+}
+
+/// Whether a socket may listen beside those sockets, as far as groups go.
+pub fn can_enter(buckets: u32, socket: &Socket, sockets: &[Socket], groups: &[Group]) -> bool
+    ensures { result ≡ is_some (step_spec.entered buckets socket.now sockets.now groups.now) }
+{
+    let owner = &socket.owner;
+    !owner.reuseport
+        || has_place(
+            bucket_of(owner.port, buckets),
+            mate_of(owner, sockets),
+            groups,
+        )
+}
+
+/// The socket, which listens from then on, enters a group where it shares its end. There is room for one
+/// more group.
+pub fn enter(buckets: u32, socket: &Socket, sockets: &[Socket], groups: &mut Vec<Group>)
+    requires place { is_some (step_spec.entered buckets socket.now sockets.now groups.old.items) ≡ true }
+    requires room { vec_len groups.old < vec_capacity groups.old }
+    ensures { step_spec.entered buckets socket.now sockets.now groups.old.items ≡ Some groups.new.items }
+{
+    let owner = &socket.owner;
+    if owner.reuseport {
+        let bucket = bucket_of(owner.port, buckets);
+        join(bucket, owner.name, mate_of(owner, sockets), groups);
+    }
+}
+
+#[cfg(test)]
+mod tests {
+    use super::*;
+    use std::test::Fail;
+
+    #[test]
+    fn the_last_member_takes_the_leavers_place(rt: HostRuntime) -> Result<(), Fail> {
+        let alloc = rt.alloc();
+        let mut groups = vec![in alloc; Group::new(0, 7)]?;
+        join_mate(7, 8, &mut groups);
+        join_mate(7, 9, &mut groups);
+        leave(7, &mut groups);
+        let group = group_of(8, &groups).ok_or("no group")?;
+        assert_eq!(rt; group.chosen(0), 9);
+        assert_eq!(rt; group.chosen(u32::MAX), 8);
+        Ok(())
+    }
+}
