@@ -4,13 +4,13 @@ use Rattle.std.proofs.lemmas.Fmt.{decimal_injective}
 use Rattle.flat_list.specs.declared.command.End.{End}
 use Rattle.flat_list.specs.declared.command.Command.{Command}
 use Rattle.flat_list.specs.declared.command.Command.TheVariants as commands
-use Rattle.flat_list.specs.declared.header.Shape.{Shape}
+use Rattle.chain_book.specs.declared.shape.Shape.{Shape}
 use Rattle.flat_list.specs.declared.header.Range.{Range}
 use Rattle.sock_script.specs.declared.line.Line.{Line}
 use Rattle.sock_script.specs.declared.line.Line.TheVariants as lines
-use Rattle.sock_script.specs.Forms.{HasForm, command_words, CommandFits, EndFits, DeviceFits, ShapeFits, SourceFits, RangeFits, range_words, shape_words, device_words, flag_words, source_words}
+use Rattle.sock_script.specs.Forms.{HasForm, command_words, CommandFits, EndFits, DeviceFits, ShapeFits, SourceFits, RangeFits, range_words, shape_words, UserFits, user_words, device_words, flag_words, source_words}
 use Rattle.sock_script.proofs.Verbs.{word_code, verb_code, never}
-use Rattle.sock_script.proofs.Words.{second_is, third_is, past_two, past_three, flag-lacks_dev, flag-last, device-last}
+use Rattle.sock_script.proofs.Words.{second_is, third_is, past_two, past_three, options_of, rest-lacks_uid, flags-lack_dev, reuseport-lacks_reuseaddr, flag-last, device-last, one_switch}
 use Rattle.inet_io.specs.Texts.{end_text}
 use Rattle.inet_io.proofs.EndTexts.{addr_text_injective, end_text_injective}
 
@@ -24,6 +24,14 @@ one_device None None vs ws x y p q h = (refl, h)
 one_device None (Some e) vs ws x y p q h = absurd (p (ap (λ w. slice_get w 0) h))
 one_device (Some d) None vs ws x y p q h = absurd (q (ap (λ w. slice_get w 0) (sym h)))
 one_device (Some d) (Some e) vs ws x y p q h =
+    (ap Some (decimal_injective d e (omega arith) (omega arith) (second_is _ _ _ _ _ _ h)), past_two _ _ _ _ _ _ h)
+
+-- and so is an optional user
+one_user : (d e : Option ℕ) (vs ws : List (List ℕ)) → UserFits d → UserFits e → Lacks (codes "uid") vs → Lacks (codes "uid") ws → user_words d ++ vs ≡ user_words e ++ ws → (d ≡ e) × (vs ≡ ws)
+one_user None None vs ws x y p q h = (refl, h)
+one_user None (Some e) vs ws x y p q h = absurd (p (ap (λ w. slice_get w 0) h))
+one_user (Some d) None vs ws x y p q h = absurd (q (ap (λ w. slice_get w 0) (sym h)))
+one_user (Some d) (Some e) vs ws x y p q h =
     (ap Some (decimal_injective d e (omega arith) (omega arith) (second_is _ _ _ _ _ _ h)), past_two _ _ _ _ _ _ h)
 
 -- and so is a flag
@@ -49,12 +57,16 @@ one_end e f x y h =
     ap (λ a. P a e.port) both.0 ∙ ap (P f.addr) both.1
 
 -- so are the words of each command that has more than a label
-one_socket : (l m : List ℕ) (d e : Option ℕ) (r s : Bool) → DeviceFits d → DeviceFits e → command_words (commands.Socket l d r) ≡ command_words (commands.Socket m e s) → commands.Socket l d r ≡ commands.Socket m e s
-one_socket l m d e r s x y h =
+one_socket : (l m : List ℕ) (u v d e : Option ℕ) (r s p q : Bool) → UserFits u × DeviceFits d → UserFits v × DeviceFits e → command_words (commands.Socket l u d r p) ≡ command_words (commands.Socket m v e s q) → commands.Socket l u d r p ≡ commands.Socket m v e s q
+one_socket l m u v d e r s p q x y h =
     let label = second_is _ _ _ _ _ _ h in
-    let dev = one_device d e _ _ x y (flag-lacks_dev r) (flag-lacks_dev s) (past_two _ _ _ _ _ _ h) in
-    let flag = one_flag _ r s [] [] (λ w. cc) (λ w. cc) (sym (flag-last _ r) ∙ dev.1 ∙ flag-last _ s) in
-    ap (λ t. commands.Socket t d r) label ∙ ap (λ t. commands.Socket m t r) dev.0 ∙ ap (commands.Socket m e) flag.0
+    let options = sym (options_of u d r p) ∙ past_two _ _ _ _ _ _ h ∙ options_of v e s q in
+    let uid = one_user u v _ _ x.0 y.0 (rest-lacks_uid d r p) (rest-lacks_uid e s q) options in
+    let dev = one_device d e _ _ x.1 y.1 (flags-lack_dev r p) (flags-lack_dev s q) uid.1 in
+    let addr = one_flag _ r s _ _ (reuseport-lacks_reuseaddr p) (reuseport-lacks_reuseaddr q) dev.1 in
+    let port = one_flag _ p q [] [] (λ w. cc) (λ w. cc) (sym (flag-last _ p) ∙ addr.1 ∙ flag-last _ q) in
+    ap (λ t. commands.Socket t u d r p) label ∙ ap (λ t. commands.Socket m t d r p) uid.0 ∙ ap (λ t. commands.Socket m v t r p) dev.0
+    ∙ ap (λ t. commands.Socket m v e t p) addr.0 ∙ ap (commands.Socket m v e s) port.0
 
 one_connect : (l m : List ℕ) (d e : Option ℕ) (a b : End) → CommandFits (commands.Connect l d a) → CommandFits (commands.Connect m e b) → command_words (commands.Connect l d a) ≡ command_words (commands.Connect m e b) → commands.Connect l d a ≡ commands.Connect m e b
 one_connect l m d e a b x y h =
@@ -85,13 +97,17 @@ one_look a b c d e f x y h =
 
 -- a command's words are no other's
 one_command : (c k : Command) → command_words c ≡ command_words k → CommandFits c → CommandFits k → c ≡ k
-one_command (commands.Socket l d r) (commands.Socket m e s) h x y = one_socket l m d e r s x.1 y.1 h
+one_command (commands.Socket l u d r p) (commands.Socket m v e s q) h x y =
+    one_socket l m u v d e r s p q (x.1, x.2) (y.1, y.2) h
 one_command (commands.Bind l e) (commands.Bind m f) h x y =
     ap (λ t. commands.Bind t e) (second_is _ _ _ _ _ _ h) ∙ ap (commands.Bind m) (one_end e f x.1 y.1 (third_is _ _ _ _ _ _ _ _ h))
 one_command (commands.Listen l) (commands.Listen m) h x y = ap commands.Listen (second_is _ _ _ _ _ _ h)
 one_command (commands.Connect l d a) (commands.Connect m e b) h x y = one_connect l m d e a b x y h
 one_command (commands.Accept k l a b) (commands.Accept m n c d) h x y = one_accept k l m n a b c d x y h
+one_command (commands.Close l) (commands.Close m) h x y = ap commands.Close (second_is _ _ _ _ _ _ h)
 one_command (commands.Drop l) (commands.Drop m) h x y = ap commands.Drop (second_is _ _ _ _ _ _ h)
+one_command (commands.At m) (commands.At n) h x y = ap commands.At (decimal_injective m n (omega arith) (omega arith) (second_is _ _ _ _ _ _ h))
+one_command commands.Reap commands.Reap h x y = refl
 one_command (commands.Look a b e) (commands.Look c d f) h x y = one_look a b c d e f x y h
 one_command c k h x y = absurd (never (verb_code (command_words c)) (verb_code (command_words k)) (ap verb_code h) refl)
 
@@ -120,14 +136,16 @@ one_range a b x y h =
     let P : ℕ → ℕ → Range = λ l h. record { low = l; high = h } in
     ap (λ l. P l a.high) low ∙ ap (P b.low) high
 
--- the kind of line that a first word begins: 1 a table's, 2 a section's, 3 a range's, 4 a seed's, 5 an offset's, 6 a command
+-- the kind of line that a first word begins: 1 a table's, 2 a section's, 3 a range's, 4 a seed's, 5 an offset's, 6 a
+-- switch's, 7 a command
 abbrev verb_kind : ℕ → ℕ
 verb_kind verb =
     cond (verb == word_code 0 (codes "table")) 1
     (cond (verb == word_code 0 (codes "script")) 2
     (cond (verb == word_code 0 (codes "range")) 3
     (cond (verb == word_code 0 (codes "seed")) 4
-    (cond (verb == word_code 0 (codes "offset")) 5 6))))
+    (cond (verb == word_code 0 (codes "offset")) 5
+    (cond (verb == word_code 0 (codes "twreuse")) 6 7)))))
 
 -- the kind of line that words are, where 0 is a line that is passed over
 abbrev words_kind : List (List ℕ) → ℕ
@@ -143,11 +161,12 @@ line_kind (lines.Section number) = 2
 line_kind (lines.Range range) = 3
 line_kind (lines.Seed seed) = 4
 line_kind (lines.Offset offset) = 5
-line_kind (lines.Command command) = 6
+line_kind (lines.TimeWaitReuse reuse) = 6
+line_kind (lines.Command command) = 7
 
 -- no command begins like a header line, a section or a comment
-command-kind : (c : Command) → words_kind (command_words c) ≡ 6
-command-kind (commands.Socket label dev reuseaddr) = refl
+command-kind : (c : Command) → words_kind (command_words c) ≡ 7
+command-kind (commands.Socket label uid dev reuseaddr reuseport) = refl
 command-kind c = refl
 
 -- a line and its words are of one kind
@@ -160,6 +179,7 @@ has_kind w (lines.Section number) h = ap words_kind h.0
 has_kind w (lines.Range range) h = ap words_kind h.0
 has_kind w (lines.Seed seed) h = ap words_kind h.0
 has_kind w (lines.Offset offset) h = ap words_kind h.0
+has_kind w (lines.TimeWaitReuse reuse) h = ap words_kind h
 has_kind w (lines.Command command) h = ap words_kind h.0 ∙ command-kind command
 
 -- words are one line at most
@@ -173,5 +193,6 @@ one_form w (lines.Seed n) (lines.Seed m) h k =
     ap lines.Seed (decimal_injective n m (omega (arith, h.1)) (omega (arith, k.1)) (second_is _ _ _ _ _ _ (sym h.0 ∙ k.0)))
 one_form w (lines.Offset n) (lines.Offset m) h k =
     ap lines.Offset (decimal_injective n m (omega (arith, h.1)) (omega (arith, k.1)) (second_is _ _ _ _ _ _ (sym h.0 ∙ k.0)))
+one_form w (lines.TimeWaitReuse r) (lines.TimeWaitReuse s) h k = ap lines.TimeWaitReuse (one_switch r s (second_is _ _ _ _ _ _ (sym h ∙ k)))
 one_form w (lines.Command c) (lines.Command d) h k = ap lines.Command (one_command c d (sym h.0 ∙ k.0) h.1 k.1)
 one_form w l m h k = absurd (never (line_kind l) (line_kind m) (sym (has_kind w l h) ∙ has_kind w m k) refl)

@@ -4,8 +4,11 @@ pub mod Verbs
 pub mod Determined
 pub mod FirstWord
 pub mod Fronts
+pub mod Issued
 pub mod Labels
+pub mod LabelTable
 pub mod LastSection
+pub mod LineTurns
 pub mod ListsBetween
 pub mod ReadLines
 pub mod RunTurns

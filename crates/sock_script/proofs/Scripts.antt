@@ -14,6 +14,7 @@ module _ (mode : Mode) where
   one_follower old (lines.Range range) a b h k = h.1 ∙ sym k.1
   one_follower old (lines.Seed seed) a b h k = h.1 ∙ sym k.1
   one_follower old (lines.Offset offset) a b h k = h.1 ∙ sym k.1
+  one_follower old (lines.TimeWaitReuse reuse) a b h k = h.1 ∙ sym k.1
   one_follower old (lines.Section n) a b h k = h.1 ∙ sym k.1
   one_follower old (lines.Command c) a b h k = h.1 ∙ sym k.1
 

@@ -1,9 +1,11 @@
 -- Words that are spelled in two ways, and words that may be absent.
-use Rattle.std.proofs.Common.{◌≡◌, ℕ, List, [], ◌∷◌, ◌++◌, length, slice_get, codes, Some, None, Option, Bool, true, false, ◌==◌, arith, refl, sym}
+use Rattle.std.proofs.Common.{◌≡◌, ℕ, zero, suc, ◌≤◌, ◌∙◌, List, [], ◌∷◌, ◌++◌, append_assoc, length, slice_get, codes, decimal, eqb, ap, Some, None, Option, Bool, true, false, ◌==◌, arith, refl, sym}
 use Rattle.std.specs.Borrow.{Bor}
 use Rattle.std.proofs.lemmas.Bool.{false≢true, eqb-true}
+use Rattle.std.proofs.lemmas.Fmt.{decimal_digit}
 use Rattle.sock_script.specs.Seen.{texts}
-use Rattle.sock_script.specs.Forms.{device_words, flag_words}
+use Rattle.sock_script.specs.Forms.{user_words, device_words, flag_words, switch_word}
+use Rattle.sock_script.proofs.Verbs.{word_code, never}
 
 -- the second words are the same
 pub second_is : (u v a b : List ℕ) (vs ws : List (List ℕ)) → u ∷ a ∷ vs ≡ v ∷ b ∷ ws → a ≡ b
@@ -39,10 +41,44 @@ pub is_over : (words : List (Bor (List ℕ))) → [] ≡ texts words → false �
 is_over [] e some = false≢true some
 is_over (w ∷ ws) e some = cc
 
--- a flag is no device's word
-pub flag-lacks_dev : (set : Bool) → slice_get (flag_words (codes "reuseaddr") set) 0 ≡ Some (codes "dev") → ⊥
-flag-lacks_dev true e = cc
-flag-lacks_dev false e = cc
+-- two words of different codes
+first_code : Option (List ℕ) → ℕ
+first_code None = 0
+first_code (Some word) = word_code 0 word
+
+words_differ : (v w : List ℕ) → eqb (word_code 0 v) (word_code 0 w) ≡ false → Some v ≡ Some w → ⊥
+unfolding first_code
+words_differ v w apart e = never (word_code 0 v) (word_code 0 w) (ap first_code e) apart
+
+-- the options of a socket, one after the other
+abbrev pub options : Option ℕ → Option ℕ → Bool → Bool → List (List ℕ)
+options uid dev reuseaddr reuseport =
+    user_words uid ++ (device_words dev ++ (flag_words (codes "reuseaddr") reuseaddr ++ flag_words (codes "reuseport") reuseport))
+
+pub options_of : (uid dev : Option ℕ) (reuseaddr reuseport : Bool)
+    → user_words uid ++ device_words dev ++ flag_words (codes "reuseaddr") reuseaddr ++ flag_words (codes "reuseport") reuseport ≡ options uid dev reuseaddr reuseport
+options_of uid dev reuseaddr reuseport =
+    append_assoc (user_words uid ++ device_words dev) (flag_words (codes "reuseaddr") reuseaddr) (flag_words (codes "reuseport") reuseport)
+    ∙ append_assoc (user_words uid) (device_words dev) _
+
+-- flags are no device's words
+pub flags-lack_dev : (r s : Bool) → slice_get (flag_words (codes "reuseaddr") r ++ flag_words (codes "reuseport") s) 0 ≡ Some (codes "dev") → ⊥
+flags-lack_dev true s e = cc
+flags-lack_dev false true e = cc
+flags-lack_dev false false e = cc
+
+-- and neither they nor a device's are a user's
+pub rest-lacks_uid : (dev : Option ℕ) (r s : Bool)
+    → slice_get (device_words dev ++ (flag_words (codes "reuseaddr") r ++ flag_words (codes "reuseport") s)) 0 ≡ Some (codes "uid") → ⊥
+rest-lacks_uid (Some dev) r s e = words_differ _ _ refl e
+rest-lacks_uid None true s e = words_differ _ _ refl e
+rest-lacks_uid None false true e = words_differ _ _ refl e
+rest-lacks_uid None false false e = cc
+
+-- the two flags differ
+pub reuseport-lacks_reuseaddr : (s : Bool) → slice_get (flag_words (codes "reuseport") s) 0 ≡ Some (codes "reuseaddr") → ⊥
+reuseport-lacks_reuseaddr true e = words_differ _ _ refl e
+reuseport-lacks_reuseaddr false e = cc
 
 -- a flag with nothing after it
 pub flag-last : (flag : List ℕ) (set : Bool) → flag_words flag set ≡ flag_words flag set ++ []
@@ -53,3 +89,20 @@ flag-last flag false = refl
 pub device-last : (dev : Option ℕ) → device_words dev ≡ device_words dev ++ []
 device-last None = refl
 device-last (Some dev) = refl
+
+-- a switch is a number to 1
+pub switch_of : (n : ℕ) → n ≤ 1 → decimal n ≡ switch_word (n == 1)
+switch_of zero le = decimal_digit 0 (omega arith)
+switch_of (suc zero) le = decimal_digit 1 (omega arith)
+switch_of (suc (suc n)) le = absurd (omega arith)
+
+-- and is one by that number alone
+pub number_of_switch : (reuse : Bool) → (n : ℕ) × (n ≤ 1) × (switch_word reuse ≡ decimal n)
+number_of_switch true = (1, omega arith, sym (decimal_digit 1 (omega arith)))
+number_of_switch false = (0, omega arith, sym (decimal_digit 0 (omega arith)))
+
+pub one_switch : (r s : Bool) → switch_word r ≡ switch_word s → r ≡ s
+one_switch true true e = refl
+one_switch false false e = refl
+one_switch true false e = absurd (words_differ _ _ refl (ap Some e))
+one_switch false true e = absurd (words_differ _ _ refl (ap Some e))

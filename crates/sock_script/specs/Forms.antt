@@ -7,7 +7,7 @@ use Rattle.std.specs.List.{list_all}
 use Rattle.std.specs.Int.{IsPowerOfTwo}
 use Rattle.inet_io.specs.Texts.{addr_text, end_text}
 use Rattle.flat_list.specs.declared.command.End.{End}
-use Rattle.flat_list.specs.declared.header.Shape.{Shape}
+use Rattle.chain_book.specs.declared.shape.Shape.{Shape}
 use Rattle.flat_list.specs.declared.header.Range.{Range}
 use Rattle.flat_list.specs.Ports.{size}
 use Rattle.flat_list.specs.declared.command.Command.{Command}
@@ -19,6 +19,11 @@ use Rattle.sock_script.specs.declared.line.Line.TheVariants as lines
 abbrev pub device_words : Option ℕ → List (List ℕ)
 device_words None = []
 device_words (Some dev) = codes "dev" ∷ decimal dev ∷ []
+
+-- `uid` and the user, where one is named
+abbrev pub user_words : Option ℕ → List (List ℕ)
+user_words None = []
+user_words (Some uid) = codes "uid" ∷ decimal uid ∷ []
 
 -- `from` and the address, where one is named
 abbrev pub source_words : Option ℕ → List (List ℕ)
@@ -32,8 +37,9 @@ flag_words word true = word ∷ []
 
 -- how a command is spelled
 abbrev pub command_words : Command → List (List ℕ)
-command_words (commands.Socket label dev reuseaddr) =
-    codes "socket" ∷ label ∷ (device_words dev ++ flag_words (codes "reuseaddr") reuseaddr)
+command_words (commands.Socket label uid dev reuseaddr reuseport) =
+    codes "socket" ∷ label
+    ∷ (user_words uid ++ device_words dev ++ flag_words (codes "reuseaddr") reuseaddr ++ flag_words (codes "reuseport") reuseport)
 command_words (commands.Bind label end) = codes "bind" ∷ label ∷ end_text end.addr end.port ∷ []
 command_words (commands.Listen label) = codes "listen" ∷ label ∷ []
 command_words (commands.Connect label from to) =
@@ -41,7 +47,10 @@ command_words (commands.Connect label from to) =
 command_words (commands.Accept listener label from at) =
     codes "accept" ∷ listener ∷ label ∷ codes "from" ∷ end_text from.addr from.port
     ∷ codes "at" ∷ end_text at.addr at.port ∷ []
+command_words (commands.Close label) = codes "close" ∷ label ∷ []
 command_words (commands.Drop label) = codes "drop" ∷ label ∷ []
+command_words (commands.At moment) = codes "at" ∷ decimal moment ∷ []
+command_words commands.Reap = codes "reap" ∷ []
 command_words (commands.Look from to dev) =
     codes "look" ∷ end_text from.addr from.port ∷ end_text to.addr to.port ∷ device_words dev
 
@@ -72,6 +81,11 @@ abbrev pub DeviceFits : Option ℕ → Type 0
 DeviceFits None = Unit {0}
 DeviceFits (Some dev) = (1 ≤ dev) × (dev < 2 ^ 16)
 
+-- no user, or one of 32 bits
+abbrev pub UserFits : Option ℕ → Type 0
+UserFits None = Unit {0}
+UserFits (Some uid) = uid < 2 ^ 32
+
 -- no address, or one of 32 bits
 abbrev pub SourceFits : Option ℕ → Type 0
 SourceFits None = Unit {0}
@@ -79,14 +93,23 @@ SourceFits (Some addr) = addr < 2 ^ 32
 
 -- what stands in a command is in range
 abbrev pub CommandFits : Command → Type 0
-CommandFits (commands.Socket label dev reuseaddr) = IsTrue (is_label label) × DeviceFits dev
+CommandFits (commands.Socket label uid dev reuseaddr reuseport) =
+    IsTrue (is_label label) × UserFits uid × DeviceFits dev
 CommandFits (commands.Bind label end) = IsTrue (is_label label) × EndFits end
 CommandFits (commands.Listen label) = IsTrue (is_label label)
 CommandFits (commands.Connect label from to) = IsTrue (is_label label) × SourceFits from × EndFits to
 CommandFits (commands.Accept listener label from at) =
     IsTrue (is_label listener) × IsTrue (is_label label) × EndFits from × EndFits at
+CommandFits (commands.Close label) = IsTrue (is_label label)
 CommandFits (commands.Drop label) = IsTrue (is_label label)
+CommandFits (commands.At moment) = moment < 2 ^ 32
+CommandFits commands.Reap = Unit {0}
 CommandFits (commands.Look from to dev) = EndFits from × EndFits to × DeviceFits dev
+
+-- how a switch is spelled
+abbrev pub switch_word : Bool → List ℕ
+switch_word false = codes "0"
+switch_word true = codes "1"
 
 -- a power of two, from 1 to `most`
 abbrev pub IsPowerTo : ℕ → ℕ → Type 0
@@ -119,6 +142,7 @@ HasForm words (lines.Table shape) = (words ≡ shape_words shape) × ShapeFits s
 HasForm words (lines.Range range) = (words ≡ range_words range) × RangeFits range
 HasForm words (lines.Seed seed) = (words ≡ codes "seed" ∷ decimal seed ∷ []) × (seed < 2 ^ 32)
 HasForm words (lines.Offset offset) = (words ≡ codes "offset" ∷ decimal offset ∷ []) × (offset < 2 ^ 16)
+HasForm words (lines.TimeWaitReuse reuse) = words ≡ codes "twreuse" ∷ switch_word reuse ∷ []
 HasForm words (lines.Section number) =
     (words ≡ codes "script" ∷ decimal number ∷ []) × (1 ≤ number) × (number ≤ 64)
 HasForm words (lines.Command command) = (words ≡ command_words command) × CommandFits command

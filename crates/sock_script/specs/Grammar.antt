@@ -3,7 +3,7 @@
 use Rattle.std.specs.Prelude.{◌≡◌, ℕ, ◌+◌, ◌-◌, ◌≤◌, List, [], ◌∷◌, ◌++◌, length, take, Option, Some, None, Bool, true, false, ◌&&◌, not, bytes_eq, IsTrue, unwrap_or}
 use Rattle.std.specs.List.{list_any, filter_map}
 use Rattle.flat_list.specs.declared.header.Header.{Header}
-use Rattle.flat_list.specs.declared.header.Shape.{Shape}
+use Rattle.chain_book.specs.declared.shape.Shape.{Shape}
 use Rattle.flat_list.specs.declared.header.Range.{Range}
 use Rattle.flat_list.specs.declared.command.Command.{Command}
 use Rattle.flat_list.specs.declared.command.Command.TheVariants as commands
@@ -17,7 +17,7 @@ use Rattle.sock_script.specs.Forms.{HasForm}
 
 -- the label that a command gives to a new socket
 abbrev pub given_label : Command → Option (List ℕ)
-given_label (commands.Socket label dev reuseaddr) = Some label
+given_label (commands.Socket label uid dev reuseaddr reuseport) = Some label
 given_label (commands.Accept listener label from at) = Some label
 given_label _ = None
 
@@ -57,11 +57,12 @@ pub record Draft : Type 0 where
   pub range : Option Range
   pub seed : Option ℕ
   pub offset : Option ℕ
+  pub twreuse : Option Bool
   pub sections : List (List Command)
 
 -- before the first line
 abbrev pub nothing_yet : Draft
-nothing_yet = record { table = None; range = None; seed = None; offset = None; sections = [] }
+nothing_yet = record { table = None; range = None; seed = None; offset = None; twreuse = None; sections = [] }
 
 -- A header line may come once, before the first section: `said` is what one of its kind has said.
 abbrev pub IsHeaderTurn : {A : Type 0} → Option A → Draft → Type 0
@@ -78,6 +79,8 @@ Follows mode old (lines.Seed seed) new =
     IsHeaderTurn old.seed old × (new ≡ record old { seed = Some seed })
 Follows mode old (lines.Offset offset) new =
     IsHeaderTurn old.offset old × (new ≡ record old { offset = Some offset })
+Follows mode old (lines.TimeWaitReuse reuse) new =
+    IsHeaderTurn old.twreuse old × (new ≡ record old { twreuse = Some reuse })
 Follows mode old (lines.Section number) new =
     (number ≡ length old.sections + 1) × (new ≡ record old { sections = old.sections ++ [] ∷ [] })
 Follows mode old (lines.Command command) new =
@@ -119,6 +122,7 @@ header_of draft =
       range = unwrap_or draft.range default_range;
       seed = unwrap_or draft.seed 0;
       offset = draft.offset;
+      twreuse = unwrap_or draft.twreuse false;
     }
 
 -- the script that lines have made

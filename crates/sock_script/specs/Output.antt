@@ -1,5 +1,6 @@
 -- What `inet run` writes for a script: a format of our own. A refusal is written as the name of its errno.
-use Rattle.std.specs.Prelude.{◌≡◌, ℕ, ◌+◌, ◌/◌, ◌^◌, List, [], ◌∷◌, ◌++◌, ◌≤◌, length, codes, decimal, Option, Some, None}
+use Rattle.std.specs.Prelude.{◌≡◌, ℕ, ◌+◌, ◌/◌, ◌%◌, ◌^◌, List, [], ◌∷◌, ◌++◌, ◌≤◌, length, map, codes, decimal, Option, Some, None, unwrap_or, slice_get}
+use Rattle.std.specs.List.{slice_index_or}
 use Rattle.sock_card.specs.declared.card.Card.{Card}
 use Rattle.sock_card.specs.declared.card.Kind.{Kind}
 use Rattle.sock_card.specs.declared.card.Kind.TheVariants as kinds
@@ -10,14 +11,14 @@ use Rattle.flat_list.specs.declared.command.Reply.{Reply}
 use Rattle.flat_list.specs.declared.command.Reply.TheVariants as replies
 pub use Rattle.flat_list.specs.Flat.{new_flat}
 use Rattle.flat_list.specs.Flat.{Flat}
-use Rattle.flat_list.specs.Sections.{Section, label_of}
+use Rattle.flat_list.specs.Run.{Issued}
 use Rattle.flat_list.specs.Step.{step}
 use Rattle.flat_list.specs.Script.{Script, IsSmall}
 use Rattle.flat_list.specs.Sound.{IsSound}
 use Rattle.list_words.specs.Lists.{Each}
 use Rattle.sock_script.specs.declared.parse.Mode.{Mode}
 use Rattle.sock_script.specs.declared.parse.Mode.TheVariants as modes
-use Rattle.sock_script.specs.Grammar.{IsScript}
+use Rattle.sock_script.specs.Grammar.{IsScript, labels_of}
 
 -- the word for a kind of socket
 abbrev pub kind_word : Kind → List ℕ
@@ -31,32 +32,49 @@ answer_with label None = codes "none"
 answer_with label (Some card) =
     kind_word card.kind ++ codes " " ++ decimal (card.name / 2 ^ 24) ++ codes "." ++ label
 
+-- two numbers, with a space before each
+abbrev pub two_numbers : ℕ → ℕ → List ℕ
+two_numbers owned held = codes " " ++ decimal owned ++ codes " " ++ decimal held
+
 -- a reply, where the socket that was found has that label
 abbrev pub reply_with : List ℕ → Reply → List ℕ
 reply_with label replies.Ok = codes "ok"
 reply_with label (replies.Port port) = codes "ok " ++ decimal port
 reply_with label (replies.End end) = codes "ok " ++ end_text end.addr end.port
+reply_with label replies.TimeWait = codes "ok time-wait"
+reply_with label (replies.NoSlot owned held) = codes "ok no-slot" ++ two_numbers owned held
+reply_with label (replies.Count count) = codes "ok " ++ decimal count
 reply_with label (replies.Found answer) = answer_with label answer
 reply_with label replies.Ebadf = codes "EBADF"
 reply_with label replies.Einval = codes "EINVAL"
 reply_with label replies.Eisconn = codes "EISCONN"
 reply_with label replies.Eaddrinuse = codes "EADDRINUSE"
 reply_with label replies.Eaddrnotavail = codes "EADDRNOTAVAIL"
-reply_with label (replies.Enfile owned held) = codes "ENFILE " ++ decimal owned ++ codes " " ++ decimal held
+reply_with label replies.Emfile = codes "EMFILE"
+reply_with label (replies.Enfile owned held) = codes "ENFILE" ++ two_numbers owned held
+
+-- the label of a name: the section in it gave that label as its k-th, k being the number in it, from 1; none where there
+-- is no such label
+abbrev pub label_in : List (List Command) → ℕ → List ℕ
+label_in sections name =
+    unwrap_or (slice_get ([] ∷ labels_of (slice_index_or ([] ∷ sections) (name / 2 ^ 24) [])) (name % 2 ^ 24)) []
 
 -- the label of the socket that a reply names, or none
-abbrev pub found_label : List Section → Reply → List ℕ
-found_label sections (replies.Found (Some card)) = label_of sections card.name
+abbrev pub found_label : List (List Command) → Reply → List ℕ
+found_label sections (replies.Found (Some card)) = label_in sections card.name
 found_label sections _ = []
 
--- a command's verb, and the label that its line shows, if it shows one
+-- a command's verb, and the word that its line shows, if it shows one
 abbrev pub subject_text : Command → List ℕ
-subject_text (commands.Socket label dev reuseaddr) = codes "socket " ++ label
+subject_text (commands.Socket label uid dev reuseaddr reuseport) = codes "socket " ++ label
 subject_text (commands.Bind label end) = codes "bind " ++ label
 subject_text (commands.Listen label) = codes "listen " ++ label
 subject_text (commands.Connect label from to) = codes "connect " ++ label
 subject_text (commands.Accept listener label from at) = codes "accept " ++ label
+subject_text (commands.Close label) = codes "close " ++ label
 subject_text (commands.Drop label) = codes "drop " ++ label
+subject_text (commands.At moment) = codes "at " ++ decimal moment
+subject_text commands.Reap = codes "reap"
 subject_text (commands.Look from to dev) = codes "look"
 
 -- the line of a command of section n, where the socket that was found has that label
@@ -64,52 +82,52 @@ abbrev pub line_with : ℕ → Command → List ℕ → Reply → List ℕ
 line_with n command label reply =
     decimal n ++ codes " " ++ subject_text command ++ codes " " ++ reply_with label reply ++ codes "\n"
 
--- the same, where that label is found in the sections
-abbrev pub line_text : ℕ → Command → List Section → Reply → List ℕ
-line_text n command sections reply = line_with n command (found_label sections reply) reply
+-- the commands of the sections from number n on, in the order in which they are run
+abbrev pub issued_from : ℕ → List (List Command) → List Issued
+issued_from n [] = []
+issued_from n (commands ∷ rest) =
+    map (λ command. record { section = n; command = command }) commands ++ issued_from (n + 1) rest
 
--- the list that commands of section n leave
-abbrev pub flat_after : Flat → ℕ → List Command → Flat
-flat_after flat n [] = flat
-flat_after flat n (command ∷ rest) = flat_after (step flat n command).flat n rest
+-- all commands of a script
+abbrev pub issued : Script → List Issued
+issued script = issued_from 1 script.sections
 
--- what commands of section n write
-abbrev pub section_text : Flat → ℕ → List Command → List ℕ
-section_text flat n [] = []
-section_text flat n (command ∷ rest) =
-    let next = step flat n command in
-    line_text n command next.flat.sections next.reply ++ section_text next.flat n rest
+-- what the flat list replies to commands, one after the other
+abbrev pub replies_from : Flat → List Issued → List Reply
+replies_from flat [] = []
+replies_from flat (c ∷ rest) =
+    let next = step flat c.section c.command in next.reply ∷ replies_from next.flat rest
 
--- what the sections from number n on write, one after the other
-abbrev pub sections_text : Flat → ℕ → List (List Command) → List ℕ
-sections_text flat n [] = []
-sections_text flat n (commands ∷ rest) =
-    section_text flat n commands ++ sections_text (flat_after flat n commands) (n + 1) rest
+-- what it replies to the commands of a script
+abbrev pub flat_replies : Script → List Reply
+flat_replies script = replies_from (new_flat script.header) (issued script)
 
--- what is written for a script
-abbrev pub script_text : Script → List ℕ
-script_text script = sections_text (new_flat script.header) 1 script.sections
+-- the line of a command and its reply, in a script of these sections
+abbrev pub line_text : List (List Command) → Issued → Reply → List ℕ
+line_text sections c reply = line_with c.section c.command (found_label sections reply) reply
 
--- the lists that commands of section n leave, one after each
-abbrev pub section_lists : Flat → ℕ → List Command → List Flat
-section_lists flat n [] = []
-section_lists flat n (command ∷ rest) =
-    let next = (step flat n command).flat in
-    next ∷ section_lists next n rest
+-- the lines of commands and their replies
+abbrev pub lines_text : List (List Command) → List Issued → List Reply → List ℕ
+lines_text sections (c ∷ cs) (reply ∷ replies) = line_text sections c reply ++ lines_text sections cs replies
+lines_text sections _ _ = []
 
--- the same of the sections from number n on
-abbrev pub sections_lists : Flat → ℕ → List (List Command) → List Flat
-sections_lists flat n [] = []
-sections_lists flat n (commands ∷ rest) =
-    section_lists flat n commands ++ sections_lists (flat_after flat n commands) (n + 1) rest
+-- what is written for a script whose commands are answered so
+abbrev pub script_text : Script → List Reply → List ℕ
+script_text script replies = lines_text script.sections (issued script) replies
+
+-- the lists that commands leave, one after each
+abbrev pub lists_from : Flat → List Issued → List Flat
+lists_from flat [] = []
+lists_from flat (c ∷ rest) = let next = (step flat c.section c.command).flat in next ∷ lists_from next rest
 
 -- the lists between the commands of a script: the one before the first, and the one after each
 abbrev pub lists_of : Script → List Flat
-lists_of script = new_flat script.header ∷ sections_lists (new_flat script.header) 1 script.sections
+lists_of script = new_flat script.header ∷ lists_from (new_flat script.header) (issued script)
 
--- what is written for a text that is a script
+-- what is written for a text that is a script: the lines of the flat list's replies
 abbrev pub FlatOut : List ℕ → List ℕ → Type 0
-FlatOut input out = (script : Script) × IsScript modes.Run input script × (out ≡ script_text script)
+FlatOut input out =
+    (script : Script) × IsScript modes.Run input script × (out ≡ script_text script (flat_replies script))
 
 -- each list between a script's commands is sound
 abbrev pub ListsSound : Type 0

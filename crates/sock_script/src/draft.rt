@@ -1,10 +1,11 @@
 ghost use Rattle.std.specs.Prelude.{◌≡◌, ◌↔◌, ◌+◌, ◌++◌, ◌∷◌, [], IsTrue, bytes_eq, length, map, IfOk, OnOk, OnErr};
 ghost use Rattle.std.specs.List.{list_any};
-ghost use Rattle.std.specs.Option.{option_copied, option_to_list};
+ghost use Rattle.std.specs.Option.{option_to_list};
 ghost use Rattle.sock_script.specs.declared.parse.Mode.{Mode as AnyMode};
 ghost use Rattle.sock_script.specs.Grammar as spec;
 ghost use Rattle.sock_script.specs.Steps.{NotesLabel, Adds};
 
+use crate::label::given_label;
 use crate::line::Line;
 use crate::parse::Mode;
 use flat_list::{Command, Header, Label, Range, Script, Shape};
@@ -12,16 +13,6 @@ use std::alloc::{AllocError, Global};
 use std::collections::BTreeSet;
 use std::marker::Model;
 use std::mem;
-
-/// The label that a command gives to a new socket.
-fn given_label(command: &Command) -> Option<&Label>
-    ensures { option_copied result ≡ spec.given_label command.now }
-{
-    match command {
-        Command::Socket { label, .. } | Command::Accept { label, .. } => Some(label),
-        _ => None,
-    }
-}
 
 /// Whether a script of that mode may ask for it.
 fn is_allowed(mode: Mode, command: &Command) -> bool
@@ -149,6 +140,7 @@ pub struct Draft {
     range: Option<Range>,
     seed: Option<u32>,
     offset: Option<u16>,
+    twreuse: Option<bool>,
     /// The sections before the last.
     finished: Vec<Vec<Command>>,
     /// The last section, once there is one.
@@ -163,7 +155,7 @@ impl Model for Draft {
 
     ghost Value = { Made };
 
-    ghost view = { λ d. record { table = d.table; range = d.range; seed = d.seed; offset = d.offset; sections = map (λ v. v.items) d.finished.items ++ option_to_list d.last } };
+    ghost view = { λ d. record { table = d.table; range = d.range; seed = d.seed; offset = d.offset; twreuse = d.twreuse; sections = map (λ v. v.items) d.finished.items ++ option_to_list d.last } };
 
     ghost invariant = { λ d. IfNone d.last (d.finished.items ≡ []) };
 }
@@ -178,6 +170,7 @@ impl Draft {
             range: None,
             seed: None,
             offset: None,
+            twreuse: None,
             finished: Vec::new(alloc),
             last: None,
             alloc,
@@ -244,6 +237,17 @@ impl Draft {
         turn
     }
 
+    /// Adds a line that says whether a TIME_WAIT may be replaced, where it may follow.
+    fn add_twreuse(&mut self, reuse: bool) -> bool
+        ensures { (mode : AnyMode) → Adds mode self.old (Line.TimeWaitReuse reuse) self.new result }
+    {
+        let turn = self.is_header_turn(self.twreuse);
+        if turn {
+            self.twreuse = Some(reuse);
+        }
+        turn
+    }
+
     /// Begins a section, where its number is the next.
     fn begin_section(&mut self, number: u32) -> Result<bool, AllocError>
         ensures { IfOk result (λ follows. (mode : AnyMode) → Adds mode self.old (Line.Section number) self.new follows) }
@@ -282,6 +286,7 @@ impl Draft {
             Line::Range(range) => Ok(self.add_range(range)),
             Line::Seed(seed) => Ok(self.add_seed(seed)),
             Line::Offset(offset) => Ok(self.add_offset(offset)),
+            Line::TimeWaitReuse(reuse) => Ok(self.add_twreuse(reuse)),
             Line::Section(number) => self.begin_section(number),
             Line::Command(command) => self.add_command(mode, command),
         }
@@ -296,6 +301,7 @@ impl Draft {
             range: self.range.unwrap_or(DEFAULT_RANGE),
             seed: self.seed.unwrap_or(0),
             offset: self.offset,
+            twreuse: self.twreuse.unwrap_or(false),
         }
     }
 

@@ -7,13 +7,13 @@ ghost use Rattle.std.specs.List.{list_all};
 ghost use Rattle.inet_io.specs.Texts.{addr_text, end_text};
 ghost use Rattle.sock_script.specs.Seen.{texts};
 ghost use Rattle.sock_script.specs.Forms as spec;
-ghost use Rattle.sock_script.specs.Forms.{HasForm, DeviceFits, EndFits, IsPowerTo, SourceFits, device_words, flag_words, source_words};
+ghost use Rattle.sock_script.specs.Forms.{HasForm, DeviceFits, EndFits, IsPowerTo, SourceFits, UserFits, device_words, flag_words, source_words, user_words};
 ghost use Rattle.sock_script.specs.declared.line.Line.{Line};
 ghost use Rattle.sock_script.specs.declared.line.Line.TheVariants as lines;
 ghost use Rattle.flat_list.specs.declared.command.Command.{Command};
 ghost use Rattle.flat_list.specs.declared.command.Command.TheVariants as commands;
 ghost use Rattle.flat_list.specs.declared.command.End.{End};
-ghost use Rattle.flat_list.specs.declared.header.Shape.{Shape};
+ghost use Rattle.chain_book.specs.declared.shape.Shape.{Shape};
 ghost use Rattle.flat_list.specs.declared.header.Range.{Range};
 
 use crate::line::Line;
@@ -135,6 +135,20 @@ fn address_after<'a>(first: &[u8], words: &'a [&'a [u8]]) -> Option<(u32, &'a [&
     Some((addr, rest))
 }
 
+/// The user that the words begin with, where they do, and the words after it.
+fn user_first<'a>(words: &'a [&'a [u8]]) -> (Option<u32>, &'a [&'a [u8]])
+    ensures spelled { texts words.now ≡ user_words result.0 ++ texts result.1.now }
+    ensures fits { UserFits result.0 }
+
+    // However they are read, the same words are left, if no `uid` comes next.
+    ensures only { (uid : Option ℕ) (rest : List (List ℕ)) → texts words.now ≡ user_words uid ++ rest → UserFits uid → slice_get rest 0 ≢ Some (codes "uid") → rest ≡ texts result.1.now }
+{
+    match number_after(b"uid", 0, u32::MAX, words) {
+        Some((uid, rest)) => (Some(uid), rest),
+        None => (None, words),
+    }
+}
+
 /// The device that the words begin with, where they do, and the words after it.
 fn device_first<'a>(words: &'a [&'a [u8]]) -> (Option<u16>, &'a [&'a [u8]])
     ensures spelled { texts words.now ≡ device_words result.0 ++ texts result.1.now }
@@ -184,16 +198,20 @@ fn socket_of(alloc: Global, words: &[&[u8]]) -> Result<Option<Command>, AllocErr
     let Some((label, words)) = label_first(words) else {
         return Ok(None);
     };
+    let (uid, words) = user_first(words);
     let (dev, words) = device_first(words);
     let (reuseaddr, words) = flag_first(b"reuseaddr", words);
+    let (reuseport, words) = flag_first(b"reuseport", words);
     if !words.is_empty() {
         return Ok(None);
     }
     let label = Label::from_bytes(alloc, label)?;
     Ok(Some(Command::Socket {
         label,
+        uid,
         dev,
         reuseaddr,
+        reuseport,
     }))
 }
 
@@ -276,6 +294,18 @@ fn accept_of(alloc: Global, words: &[&[u8]]) -> Result<Option<Command>, AllocErr
     }))
 }
 
+/// The command of the words after `close`.
+fn close_of(alloc: Global, words: &[&[u8]]) -> Result<Option<Command>, AllocError>
+    ensures some { IfOk result (λ o. IfSome o (λ c. HasForm (codes "close" ∷ texts words.now) (lines.Command c))) }
+    ensures none { IfOk result (λ o. IfNone o ((c : Command) → HasForm (codes "close" ∷ texts words.now) (lines.Command c) → ⊥)) }
+{
+    let Some(label) = label_alone(words) else {
+        return Ok(None);
+    };
+    let label = Label::from_bytes(alloc, label)?;
+    Ok(Some(Command::Close { label }))
+}
+
 /// The command of the words after `drop`.
 fn drop_of(alloc: Global, words: &[&[u8]]) -> Result<Option<Command>, AllocError>
     ensures some { IfOk result (λ o. IfSome o (λ c. HasForm (codes "drop" ∷ texts words.now) (lines.Command c))) }
@@ -286,6 +316,29 @@ fn drop_of(alloc: Global, words: &[&[u8]]) -> Result<Option<Command>, AllocError
     };
     let label = Label::from_bytes(alloc, label)?;
     Ok(Some(Command::Drop { label }))
+}
+
+/// The command of the words after `at`.
+fn at_of(words: &[&[u8]]) -> Option<Command>
+    ensures some { IfSome result (λ c. HasForm (codes "at" ∷ texts words.now) (lines.Command c)) }
+    ensures none { IfNone result ((c : Command) → HasForm (codes "at" ∷ texts words.now) (lines.Command c) → ⊥) }
+{
+    let (moment, words) = number_first(0, u32::MAX, words)?;
+    if !words.is_empty() {
+        return None;
+    }
+    Some(Command::At { moment })
+}
+
+/// The command of the words after `reap`.
+fn reap_of(words: &[&[u8]]) -> Option<Command>
+    ensures some { IfSome result (λ c. HasForm (codes "reap" ∷ texts words.now) (lines.Command c)) }
+    ensures none { IfNone result ((c : Command) → HasForm (codes "reap" ∷ texts words.now) (lines.Command c) → ⊥) }
+{
+    if !words.is_empty() {
+        return None;
+    }
+    Some(Command::Reap)
 }
 
 /// The command of the words after `look`.
@@ -322,8 +375,17 @@ fn command_of(alloc: Global, words: &[&[u8]]) -> Result<Option<Command>, AllocEr
     if let Some(words) = after(b"accept", words) {
         return accept_of(alloc, words);
     }
+    if let Some(words) = after(b"close", words) {
+        return close_of(alloc, words);
+    }
     if let Some(words) = after(b"drop", words) {
         return drop_of(alloc, words);
+    }
+    if let Some(words) = after(b"at", words) {
+        return Ok(at_of(words));
+    }
+    if let Some(words) = after(b"reap", words) {
+        return Ok(reap_of(words));
     }
     if let Some(words) = after(b"look", words) {
         return Ok(look_of(words));
@@ -404,6 +466,15 @@ fn offset_of(words: &[&[u8]]) -> Option<u16>
     Some(offset as u16)
 }
 
+/// Whether the words let `connect` take the place of a TIME_WAIT.
+fn reuse_of(words: &[&[u8]]) -> Option<bool>
+    ensures some { IfSome result (λ reuse. HasForm (texts words.now) (lines.TimeWaitReuse reuse)) }
+    ensures none { IfNone result ((reuse : Bool) → HasForm (texts words.now) (lines.TimeWaitReuse reuse) → ⊥) }
+{
+    let switch = number_behind(b"twreuse", 1, words)?;
+    Some(switch == 1)
+}
+
 /// The number of the section that the words begin.
 fn section_of(words: &[&[u8]]) -> Option<u32>
     ensures some { IfSome result (λ number. HasForm (texts words.now) (lines.Section number)) }
@@ -445,6 +516,9 @@ pub fn line_of(alloc: Global, words: &[&[u8]]) -> Result<Option<Line>, AllocErro
     if let Some(offset) = offset_of(words) {
         return Ok(Some(Line::Offset(offset)));
     }
+    if let Some(reuse) = reuse_of(words) {
+        return Ok(Some(Line::TimeWaitReuse(reuse)));
+    }
     if let Some(number) = section_of(words) {
         return Ok(Some(Line::Section(number)));
     }
@@ -461,7 +535,7 @@ mod tests {
 
     #[test]
     fn a_line_of_each_form_is_read(rt: HostRuntime) -> Result<(), Fail> {
-        let lines: [&[&[u8]]; 13] = [
+        let lines: [&[&[u8]]; 17] = [
             &[b"#socket"],
             &[
                 b"table", b"slots", b"65536", b"bind", b"256", b"hash", b"1", b"listen", b"4096",
@@ -469,8 +543,18 @@ mod tests {
             &[b"range", b"32768", b"60999"],
             &[b"seed", b"0"],
             &[b"offset", b"0"],
+            &[b"twreuse", b"1"],
             &[b"script", b"64"],
-            &[b"socket", b"a-1", b"dev", b"7", b"reuseaddr"],
+            &[
+                b"socket",
+                b"a-1",
+                b"uid",
+                b"4294967295",
+                b"dev",
+                b"7",
+                b"reuseaddr",
+                b"reuseport",
+            ],
             &[b"bind", b"a-1", b"10.0.0.1:80"],
             &[b"listen", b"a-1"],
             &[
@@ -490,7 +574,10 @@ mod tests {
                 b"at",
                 b"10.0.0.1:80",
             ],
+            &[b"close", b"c"],
             &[b"drop", b"b"],
+            &[b"at", b"4294967295"],
+            &[b"reap"],
             &[b"look", b"10.0.0.2:0", b"10.0.0.1:80", b"dev", b"65535"],
         ];
         for words in lines {

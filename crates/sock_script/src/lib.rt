@@ -6,12 +6,14 @@
 //! and how a port is searched for where a command names none.
 //! [`parse::parse`] reads a text as a script, or names the first line that is outside the grammar.
 //! Both answers are exact: `specs/Grammar.antt` says which script a text is, and the laws in [`law`]
-//! that it is one at most. [`run::run`] runs a script on `flat_list`, the plain engine, and gives
-//! one line for each command, as `specs/Output.antt` says.
+//! that it is one at most. [`run::replies`] runs a script on `flat_list`, the plain engine, and gives
+//! the reply to each command; [`output::text`] writes a script's commands and their replies, one line
+//! for each, as `specs/Output.antt` says.
 //!
 //! ```text
 //! let script = parse::parse(alloc, b"script 1\nsocket a\nbind a 0.0.0.0:80\n", Mode::Run)?;
-//! let lines = run::run(alloc, &script)?;
+//! let replies = run::replies(alloc, &script)?;
+//! let lines = output::text(alloc, &script, &replies)?;
 //! // 1 socket a ok
 //! // 1 bind a ok 80
 //! ```
@@ -19,9 +21,10 @@
 
 mod draft;
 pub mod form;
+mod label;
 pub mod law;
 pub mod line;
-mod output;
+pub mod output;
 pub mod parse;
 pub mod run;
 #[cfg(test)]

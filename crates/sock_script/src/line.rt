@@ -13,6 +13,8 @@ pub enum Line {
     Seed(u32),
     /// The offset of every search for a port.
     Offset(u16),
+    /// Whether `connect` may take the place of a socket in TIME_WAIT.
+    TimeWaitReuse(bool),
     /// The section of that number begins.
     Section(u32),
     Command(Command),

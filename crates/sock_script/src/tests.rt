@@ -1,5 +1,7 @@
+ghost use Rattle.std.specs.Prelude.{◌≤◌, ◌^◌, length};
+
 use crate::parse::{Mode, ScriptEnd, parse};
-use crate::run::run;
+use crate::{output, run};
 use std::alloc::{AllocError, Global};
 use std::test::Fail;
 
@@ -10,6 +12,15 @@ fn bad_line(alloc: Global, text: &[u8], mode: Mode) -> Option<u64> {
         Err(ScriptEnd::BadLine(n)) => Some(n),
         Err(ScriptEnd::Memory) => Some(0),
     }
+}
+
+/// What is written for a text that is a script.
+fn output_of(alloc: Global, text: &[u8]) -> Result<Vec<u8>, ScriptEnd>
+    requires { length text.now ≤ 2 ^ 24 }
+{
+    let script = parse(alloc, text, Mode::Run)?;
+    let replies = run::replies(alloc, &script)?;
+    Ok(output::text(alloc, &script, &replies)?)
 }
 
 /// So many section lines.
@@ -24,8 +35,7 @@ fn sections(alloc: Global, count: u32) -> Result<String, AllocError> {
 #[test]
 fn each_command_has_its_line(rt: HostRuntime) -> Result<(), Fail> {
     let text = b"script 1\nsocket a\nsocket b\nbind a 0.0.0.0:80\nbind b 10.0.0.1:80\n";
-    let script = parse(rt.alloc(), text, Mode::Run)?;
-    let out = run(rt.alloc(), &script)?;
+    let out = output_of(rt.alloc(), text)?;
     let wanted = b"1 socket a ok\n1 socket b ok\n1 bind a ok 80\n1 bind b EADDRINUSE\n";
     assert!(rt; out.as_slice() == wanted.as_slice());
     Ok(())
@@ -55,8 +65,7 @@ connect l from 255.0.0.1 to 10.0.0.3:80
 drop k
 drop k
 ";
-    let script = parse(rt.alloc(), text, Mode::Run)?;
-    let out = run(rt.alloc(), &script)?;
+    let out = output_of(rt.alloc(), text)?;
     let wanted = b"1 socket a ok
 1 bind a ok 80
 1 listen a ok 80
@@ -96,8 +105,7 @@ connect d from 10.0.0.1 to 10.0.0.2:80
 socket e
 bind e 10.0.0.1:0
 ";
-    let script = parse(rt.alloc(), text, Mode::Run)?;
-    let out = run(rt.alloc(), &script)?;
+    let out = output_of(rt.alloc(), text)?;
     let wanted = b"1 socket a ok
 1 bind a ok 1001
 1 socket b ok

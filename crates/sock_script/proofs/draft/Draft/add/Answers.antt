@@ -11,3 +11,6 @@ returns-in-Seed c = rw c.in-Seed.is (c.add_seed.ensures c.args.mode)
 
 pub returns-in-Offset : goal.returns-in-Offset
 returns-in-Offset c = rw c.in-Offset.is (c.add_offset.ensures c.args.mode)
+
+pub returns-in-TimeWaitReuse : goal.returns-in-TimeWaitReuse
+returns-in-TimeWaitReuse c = rw c.in-TimeWaitReuse.is (c.add_twreuse.ensures c.args.mode)

@@ -1,0 +1,80 @@
+ghost use Rattle.std.specs.Prelude.{◌≡◌, ◌∷◌, [], IfOk, unwrap_or, slice_get};
+ghost use Rattle.std.specs.Option.{option_copied};
+ghost use Rattle.sock_script.specs.Grammar as spec;
+ghost use Rattle.sock_script.specs.Seen.{texts, tables};
+ghost use Rattle.sock_script.specs.Steps.{label_table, label_at, found_at};
+
+use flat_list::{Command, Label, Reply, Script};
+use std::alloc::{AllocError, Global};
+
+/// The label that a command gives to a new socket.
+pub fn given_label(command: &Command) -> Option<&Label>
+    ensures { option_copied result ≡ spec.given_label command.now }
+{
+    match command {
+        Command::Socket { label, .. } | Command::Accept { label, .. } => Some(label),
+        _ => None,
+    }
+}
+
+/// The labels that a section's commands give, each at its number in the section, which is 1 or more.
+fn labels_of(alloc: Global, commands: &[Command]) -> Result<Vec<&[u8]>, AllocError>
+    ensures { IfOk result (λ labels. texts labels.items ≡ [] ∷ spec.labels_of commands.now) }
+{
+    let mut labels: Vec<&[u8]> = Vec::new(alloc);
+    labels.push(&[])?;
+    for command in commands {
+        if let Some(label) = given_label(command) {
+            labels.push(label.as_bytes())?;
+        }
+    }
+    Ok(labels)
+}
+
+/// The label at that number, or none.
+fn label_in<'a>(row: &[&'a [u8]], number: usize) -> &'a [u8]
+    ensures { result.now ≡ unwrap_or (slice_get (texts row.now) number) [] }
+{
+    row.get(number).copied().unwrap_or(&[])
+}
+
+/// The labels of a script's sockets, found by their names.
+#[derive(Drop)]
+pub struct Labels<'a> {
+    /// The labels of each section, at its number. None has number 0.
+    by_section: Vec<Vec<&'a [u8]>>,
+}
+
+impl<'a> Labels<'a> {
+    /// The labels that the commands of a script give.
+    pub fn of_script(alloc: Global, script: &'a Script) -> Result<Self, AllocError>
+        ensures { IfOk result (λ labels. tables labels.by_section.items ≡ label_table script.now.sections) }
+    {
+        let mut by_section = Vec::new(alloc);
+        by_section.push(labels_of(alloc, &[])?)?;
+        for commands in script.sections() {
+            by_section.push(labels_of(alloc, commands)?)?;
+        }
+        Ok(Labels { by_section })
+    }
+
+    /// The label of the socket of that name, or none.
+    fn of_name(&self, name: u32) -> &'a [u8]
+        ensures { result.now ≡ label_at (tables self.now.by_section.items) name }
+    {
+        match self.by_section.get((name >> 24) as usize) {
+            Some(row) => label_in(row, (name % 0x100_0000) as usize),
+            None => &[],
+        }
+    }
+
+    /// The label of the socket that a reply names, or none.
+    pub fn found(&self, reply: &Reply) -> &'a [u8]
+        ensures { result.now ≡ found_at (tables self.now.by_section.items) reply.now }
+    {
+        match reply {
+            Reply::Found(Some(card)) => self.of_name(card.name),
+            _ => &[],
+        }
+    }
+}
