@@ -1,0 +1,114 @@
+-- A bucket decides whether an owner stands in the way as the list does.
+use Rattle.std.proofs.Common.{◌≡◌, ◌≢◌, ℕ, ◌+◌, ◌≤◌, ◌==◌, Bool, true, false, not, ◌&&◌, cond, List, [], ◌∷◌, find, refl, ap, sym, ◌∙◌, arith}
+use Rattle.std.specs.Prelude.{is_some}
+use Rattle.std.specs.List.{list_any}
+use Rattle.list_words.specs.Lists.{Pairs, total}
+use Rattle.sock_card.specs.declared.owner.Owner.{Owner}
+use Rattle.sock_card.specs.Conflict.{refuses, overlap}
+use Rattle.bind_buckets.specs.First.{drop_first}
+use Rattle.bind_buckets.specs.Journal.{Standing}
+use Rattle.bind_buckets.specs.OwnerStep.{has_name as is_owner_named, holds}
+use Rattle.flat_list.specs.declared.socket.Socket.{Socket}
+use Rattle.flat_list.specs.Flat.{Flat}
+use Rattle.flat_list.specs.Sockets.{is_owner, has_name, without, is_other_owner, is_claimed}
+use Rattle.flat_list.specs.Sound.{NamesDiffer}
+use Rattle.table_model.specs.Tables.{standing_at}
+use Rattle.table_model.specs.Means.{OwnersMean, owns}
+use Rattle.table_model.proofs.OwnersWeigh.{is_ne, total_alike, ind, any_weighs, found_weighs, same_answer}
+use Rattle.table_model.proofs.OwnersListed.{Listed, without_weighs}
+use Rattle.table_model.proofs.OwnersFirst.{drop_weighs}
+use Rattle.table_model.proofs.OwnersAt.{weigh_in, only_there}
+use Rattle.table_model.proofs.OwnersFind.{stands}
+
+-- a test that only owners of that port pass
+abbrev pub AsksOf : ℕ → (Owner → Bool) → Type 0
+AsksOf port q = (a : Owner) → a.port ≢ port → ind q a ≡ 0
+
+-- only owners of its port refuse an owner
+pub refuses_at : (a : Owner) → AsksOf a.port (refuses a)
+unfolding refuses overlap
+refuses_at a b h = let e : (a.port == b.port) ≡ false = is_ne a.port b.port (λ q. h (sym q)) in rw e refl
+
+-- only owners of its port overlap it
+pub overlaps_at : (a : Owner) → AsksOf a.port (overlap a)
+unfolding overlap
+overlaps_at a b h = let e : (a.port == b.port) ≡ false = is_ne a.port b.port (λ q. h (sym q)) in rw e refl
+
+-- only owners of a port hold it
+pub holds_at : (port : ℕ) → AsksOf port (holds port)
+holds_at port a h = let e : (a.port == port) ≡ false = is_ne a.port port h in rw e refl
+
+other_weighs : (o n r : Bool) → cond {A = ℕ} ((o && not n) && r) 1 0 ≡ cond {A = ℕ} (not n) (cond {A = ℕ} o (cond {A = ℕ} r 1 0) 0) 0
+other_weighs false false r = refl
+other_weighs false true r = refl
+other_weighs true false r = refl
+other_weighs true true r = refl
+
+kept_weighs : (g : Socket → ℕ) (n : Bool) (x : Socket) (ys : List Socket) → total g (cond (not n) (x ∷ ys) ys) ≡ cond {A = ℕ} (not n) (g x) 0 + total g ys
+kept_weighs g true x ys = omega arith
+kept_weighs g false x ys = refl
+
+-- the owners of another name that pass weigh as those that pass of the list without the name
+others_weigh : (q : Owner → Bool) (name : ℕ) (xs : List Socket) → total (ind (λ s. is_other_owner name s && q s.owner)) xs ≡ total (owns (ind q)) (without name xs)
+others_weigh q name [] = refl
+others_weigh q name (x ∷ xs) = omega (
+  arith,
+  other_weighs (is_owner x.owner.state) (has_name name x) (q x.owner),
+  kept_weighs (owns (ind q)) (has_name name x) x (without name xs),
+  others_weigh q name xs,
+)
+
+-- some owner passes
+owner_weighs : (o p r : Bool) → cond {A = ℕ} (o && p && r) 1 0 ≡ cond {A = ℕ} o (cond {A = ℕ} (p && r) 1 0) 0
+owner_weighs false p r = refl
+owner_weighs true p r = refl
+
+module _ (buckets : List Standing) (flat : Flat) (om : OwnersMean buckets flat) (some : 1 ≤ flat.header.shape.bind) where
+  -- what only owners of a port weigh, its bucket and the list weigh alike
+  pub weighs_there : (f : Owner → ℕ) (port : ℕ) → ((a : Owner) → a.port ≢ port → f a ≡ 0) → weigh_in f (standing_at buckets port) ≡ total (owns f) flat.sockets
+  weighs_there f port h = sym (only_there buckets flat om some f port h) ∙ om.owners f
+
+  -- `connect` may choose a port by the bucket as by the list
+  pub claimed : (port : ℕ) → is_claimed port flat.sockets ≡ is_some (find (holds port) (standing_at buckets port).held.owners)
+  claimed port =
+      let p : Socket → Bool = λ s. is_owner s.owner.state && (s.owner.port == port) && not s.owner.by_connect in
+      let owners : List Owner = (standing_at buckets port).held.owners in
+      same_answer (is_claimed port flat.sockets) (is_some (find (holds port) owners)) (total (ind p) flat.sockets) (total (ind (holds port)) owners)
+      (any_weighs p flat.sockets) (found_weighs (holds port) owners)
+      (total_alike (ind p) (owns (ind (holds port))) flat.sockets (λ s. owner_weighs (is_owner s.owner.state) (s.owner.port == port) (not s.owner.by_connect))
+      ∙ sym (weighs_there (ind (holds port)) port (holds_at port)))
+
+  module _ (names : Pairs NamesDiffer flat.sockets) (name : ℕ) (s : Socket) (at : Listed name flat.sockets s) (q : Owner → Bool) where
+    abbrev pub is_in_way : Socket → Bool
+    is_in_way x = is_other_owner name x && q x.owner
+
+    -- a socket without a port: all owners of the port are asked
+    pub newcomer : (port : ℕ) → AsksOf port q → is_owner s.owner.state ≡ false → list_any is_in_way flat.sockets ≡ is_some (find q (standing_at buckets port).held.owners)
+    newcomer port only unbound =
+        let owners : List Owner = (standing_at buckets port).held.owners in
+        let e : total (ind is_in_way) flat.sockets ≡ total (ind q) owners = omega (
+          arith,
+          others_weigh q name flat.sockets,
+          without_weighs name (owns (ind q)) s flat.sockets names at,
+          ap (λ (b : Bool). cond {A = ℕ} b (ind q s.owner) 0) unbound,
+          weighs_there (ind q) port only,
+        ) in
+        same_answer (list_any is_in_way flat.sockets) (is_some (find q owners)) (total (ind is_in_way) flat.sockets) (total (ind q) owners)
+        (any_weighs is_in_way flat.sockets) (found_weighs q owners) e
+
+    -- a socket with a port: all but itself, which is the first of its name
+    pub among_others : AsksOf s.owner.port q → is_owner s.owner.state ≡ true
+        → list_any is_in_way flat.sockets ≡ is_some (find q (drop_first (is_owner_named name) (standing_at buckets s.owner.port).held.owners))
+    among_others only owner =
+        let owners : List Owner = (standing_at buckets s.owner.port).held.owners in
+        let rest : List Owner = drop_first (is_owner_named name) owners in
+        let e : total (ind is_in_way) flat.sockets ≡ total (ind q) rest = omega (
+          arith,
+          others_weigh q name flat.sockets,
+          without_weighs name (owns (ind q)) s flat.sockets names at,
+          ap (λ (b : Bool). cond {A = ℕ} b (ind q s.owner) 0) owner,
+          weighs_there (ind q) s.owner.port only,
+          drop_weighs (is_owner_named name) (ind q) s.owner owners (stands buckets flat om some names name s at owner),
+        ) in
+        same_answer (list_any is_in_way flat.sockets) (is_some (find q rest)) (total (ind is_in_way) flat.sockets) (total (ind q) rest)
+        (any_weighs is_in_way flat.sockets) (found_weighs q rest) e

@@ -1,0 +1,8 @@
+use Rattle.table_model.proofs.GroupsAll as all
+use Rattle.table_model.proofs.laws.plans.Goals as goal
+
+pub returns-clause-end : goal.returns-clause-end
+returns-clause-end c = all.plans_end
+
+pub returns-clause-refine : goal.returns-clause-refine
+returns-clause-refine c = all.plans_refine

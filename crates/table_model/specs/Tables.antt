@@ -1,0 +1,72 @@
+-- What a plan comes to on tables that nobody else is at: our own.
+use Rattle.std.specs.Prelude.{ℕ, ◌%◌, Bool, true, false, List, [], length, Option, None, Some, replicate, slice_set}
+use Rattle.std.specs.List.{slice_index_or}
+use Rattle.sock_card.specs.declared.card.Card.{Card}
+use Rattle.bind_buckets.specs.declared.request.Request.{Request}
+use Rattle.bind_buckets.specs.declared.request.Answer.{Answer}
+use Rattle.bind_buckets.specs.OwnerStep.{owner_step, empty}
+use Rattle.bind_buckets.specs.Journal.{Standing, asked}
+use Rattle.chain_book.specs.declared.outcome.Hashed.{Hashed}
+use Rattle.chain_book.specs.declared.shape.Shape.{Shape}
+use Rattle.chain_book.specs.Chains.{Chains, new_chains, insert_outcome, add_outcome, hashed, unhashed, waiting, home_in}
+use Rattle.table_model.specs.Asking.{Asking, ends, asks, inserts, adds, unhashes, reaps, impossible}
+
+-- the bind buckets, each with its journal, and the chains
+pub record Tables : Type 0 where
+  pub buckets : List Standing
+  pub chains : Chains
+
+abbrev pub untouched : Standing
+untouched = record { held = empty; entries = [] }
+
+abbrev pub new_tables : Shape → ℕ → Tables
+new_tables shape seed = record { buckets = replicate shape.bind untouched; chains = new_chains shape seed }
+
+-- the bucket of a port
+abbrev pub standing_at : List Standing → ℕ → Standing
+standing_at hash port = slice_index_or hash (port % length hash) untouched
+
+-- what the bucket of a port answers a request
+abbrev pub answer_at : List Standing → ℕ → Request → Answer
+answer_at hash port request = (owner_step (port % length hash) (standing_at hash port).held request).answer
+
+-- the buckets after a request to that of a port
+abbrev pub asked_at : List Standing → ℕ → Request → List Standing
+asked_at hash port request =
+    let number = port % length hash in slice_set hash number (asked number (standing_at hash port) request)
+
+abbrev pub with_buckets : Tables → List Standing → Tables
+with_buckets t buckets = record t { buckets = buckets }
+
+abbrev pub with_chains : Tables → Chains → Tables
+with_chains t chains = record t { chains = chains }
+
+-- what a plan came to, and the tables then
+pub record Ended (R : Type 0) : Type 0 where
+  pub tables : Tables
+  pub result : R
+
+-- a TIME_WAIT was there for `reap`
+abbrev pub was_found : Option Hashed → Bool
+was_found None = false
+was_found (Some x) = true
+
+abbrev pub reaped : Chains → Card → Option Hashed → Chains
+reaped chains card None = chains
+reaped chains card (Some x) = unhashed chains (record { bucket = home_in chains card; slot = x.slot })
+
+-- the plan, carried out on these tables; none where they answer what no table answers
+abbrev pub run : {R : Type 0} → Tables → Asking R → Option (Ended R)
+run t (ends r) = Some (record { tables = t; result = r })
+run t (asks port request then_) =
+    run (with_buckets t (asked_at t.buckets port request)) (then_ (answer_at t.buckets port request))
+run t (inserts card moment rule then_) =
+    let outcome = insert_outcome t.chains card moment rule in
+    run (with_chains t (hashed t.chains card outcome)) (then_ outcome)
+run t (adds card then_) =
+    let outcome = add_outcome t.chains in run (with_chains t (hashed t.chains card outcome)) (then_ outcome)
+run t (unhashes place card then_) = run (with_chains t (unhashed t.chains place)) then_
+run t (reaps card then_) =
+    let found = waiting t.chains card in
+    run (with_chains t (reaped t.chains card found)) (then_ (was_found found))
+run t impossible = None

@@ -1,0 +1,23 @@
+//! What the plans of commands come to on tables that mean a flat list.
+
+ghost use Rattle.table_model.specs.Means as law;
+
+/// New tables mean the empty list, and a section that hasn't begun knows nothing of itself yet.
+pub fn beginnings()
+    ensures tables { law.NewMeanEmpty }
+    ensures section { law.StartsMeant }
+{}
+
+/// The owner of an open socket of a section's own stands in the bucket of its port, the first of its name; of
+/// one without a port no bucket knows the name.
+pub fn owners_stand()
+    ensures stand { law.OwnersStand }
+    ensures fresh { law.UnboundFresh }
+{}
+
+/// Each command's plan, carried out on tables that mean a list, comes to an end; it replies as the list
+/// does, and leaves what the list leaves.
+pub fn plans()
+    ensures end { law.PlansEnd }
+    ensures refine { law.PlansRefine }
+{}
