@@ -1,0 +1,56 @@
+use Rattle.std.proofs.Common.{◌==◌, ◌&&◌, ℕ, Some, refl, sym, ap, ◌∙◌, subst}
+use Rattle.flat_list.specs.declared.header.First.TheVariants as firsts
+use Rattle.flat_list.specs.declared.command.Reply.TheVariants as replies
+use Rattle.flat_list.specs.Sections.{name_at}
+use Rattle.table_model.specs.Own.{with_socket, ports_of}
+use Rattle.table_model.specs.Operations as plan
+use Rattle.table_model.specs.Operations.{done, refused}
+use Rattle.table_model.specs.Commands.{answers, bind_command, bind_reply, bind_error, is_unbound}
+use Rattle.sock_ops.specs.Socks.{mine_of}
+use Rattle.sock_ops.specs.Carried.{with_port}
+use Rattle.sock_ops.specs.Ends.{after_search}
+use Rattle.sock_ops.specs.Places.{Labelled, with_place}
+use Rattle.sock_ops.specs.Sections.{AllStand, Kept}
+use Rattle.sock_ops.proofs.Names.{bind_keeps}
+use Rattle.sock_ops.proofs.Settled.{nobody, done_so, refused_then, refused_so, stands_there, searches_typed}
+use Rattle.sock_ops.proofs.machine.Machine.bind.Goals as goal
+
+pub returns-in_default-clause-carried : goal.returns-in_default-clause-carried
+returns-in_default-clause-carried c =
+    nobody c.args.tables.now c.args.self.now c.self.inside.header c.self.inside.labels c.take.new.self c.self.inside.moment c.self.inside.offsets c.self.inside.waits c.args.label.now
+    (record { view = c.self.view_is; names = c.take.ensures.names }) c.in_default.ensures.cases (λ h x o. bind_command x o c.args.end) (λ h x. refl)
+
+pub bind-requires : goal.bind-requires
+bind-requires c = record {
+  stands =
+      stands_there c.args.tables.now c.self.inside.labels.places c.in-Some.place c.in-Some.socket
+      (subst (λ (k : Kept). AllStand c.args.tables.now k.own.sockets) (sym c.self.view_is) c.requires.stands)
+      c.in-Some.ensures.cases.there c.in-Some.ensures.cases.state;
+}
+
+pub put-requires-clause-name : goal.put-requires-clause-name
+put-requires-clause-name c =
+    bind_keeps c.args.tables.now c.bind.new.tables (mine_of c.in-Some.socket) (mine_of c.in-Ok.socket) c.args.end (ports_of c.self.inside.offsets firsts.Odd) c.in-Ok.ensures.carried
+    ∙ (c.in-Some.ensures.cases.name ∙ ap (λ (l : Labelled). name_at l.number c.in-Some.place) (sym c.in-Some.ensures.cases.after))
+
+pub returns-in-Ok-clause-carried : goal.returns-in-Ok-clause-carried
+returns-in-Ok-clause-carried c =
+    done_so c.args.tables.now c.bind.new.tables c.args.self.now c.self.inside.header c.self.inside.labels c.take.new.self c.put.new.self c.self.inside.moment c.self.inside.offsets c.bind.new.offsets c.self.inside.waits c.args.label.now
+    c.in-Some.place c.in-Some.socket (record { view = c.self.view_is; names = c.take.ensures.names }) c.in-Some.ensures.cases
+    (λ h x o. bind_command x o c.args.end) (plan.bind (mine_of c.in-Some.socket) c.args.end (ports_of c.self.inside.offsets firsts.Odd))
+    (is_unbound (mine_of c.in-Some.socket).owner.state && (c.args.end.port == 0)) bind_reply refl
+    (c.bind.ensures.offsets ∙ ap (λ b. after_search b c.self.inside.offsets) (searches_typed c.in-Some.socket c.args.end c.in-Some.ensures.cases.state))
+    (mine_of c.in-Ok.socket) (replies.Port c.in-Ok.port) (bind_keeps c.args.tables.now c.bind.new.tables (mine_of c.in-Some.socket) (mine_of c.in-Ok.socket) c.args.end (ports_of c.self.inside.offsets firsts.Odd) c.in-Ok.ensures.carried ∙ c.in-Some.ensures.cases.name) c.put.ensures
+    c.in-Ok.ensures.carried
+    (λ x. ap (λ (p : ℕ). answers (with_socket x (mine_of c.in-Ok.socket)) (replies.Port p)) (sym c.in-Ok.ensures.port))
+
+pub returns-in_ok-refusal-in-Err-clause-carried : goal.returns-in_ok-refusal-in-Err-clause-carried
+returns-in_ok-refusal-in-Err-clause-carried c =
+    refused_then c.args.tables.now c.bind.new.tables c.args.self.now c.self.inside.header c.self.inside.labels c.take.new.self c.put-in-Err.new.self c.self.inside.moment c.self.inside.offsets c.bind.new.offsets c.self.inside.waits c.args.label.now
+    c.in-Some.place c.in-Some.socket (record { view = c.self.view_is; names = c.take.ensures.names }) c.in-Some.ensures.cases
+    (λ h x o. bind_command x o c.args.end) (plan.bind (mine_of c.in-Some.socket) c.args.end (ports_of c.self.inside.offsets firsts.Odd))
+    (is_unbound (mine_of c.in-Some.socket).owner.state && (c.args.end.port == 0)) bind_reply refl
+    (c.bind.ensures.offsets ∙ ap (λ b. after_search b c.self.inside.offsets) (searches_typed c.in-Some.socket c.args.end c.in-Some.ensures.cases.state))
+    c.in-Err.end c.bind_error.result (c.put-in-Err.ensures ∙ ap (λ x. with_place c.take.new.self c.in-Some.place (Some (mine_of x))) c.in-Err.ensures.back)
+    (refused_so with_port c.args.tables.now (plan.bind (mine_of c.in-Some.socket) c.args.end (ports_of c.self.inside.offsets firsts.Odd)) c.bind.new.tables c.in-Err.end c.in_ok-refusal-in-Err.ensures.told c.in-Err.ensures.carried)
+    (λ x. ap (answers x) (sym (c.bind_error.ensures ∙ ap bind_error c.in_ok-refusal-in-Err.ensures.same)))
