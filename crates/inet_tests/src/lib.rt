@@ -3,4 +3,6 @@
 #![tactic(auto)]
 
 #[cfg(test)]
+mod engines;
+#[cfg(test)]
 mod tests;

@@ -28,6 +28,98 @@ const PLAIN: Ends<'static> = Ends {
     failing_writes: &[],
 };
 
+/// Scripts of sockets that were closed, that share an end, or whose commands are refused, each with
+/// what is written for it.
+const ROWS: [(&str, &str); 9] = [
+    (
+        "script 1\nsocket a\nbind a 10.0.0.1:80\nlisten a\n\
+         accept a c from 10.0.0.2:1000 at 10.0.0.1:80\nclose a\nsocket d\n\
+         bind d 10.0.0.1:80\n",
+        "1 socket a ok\n1 bind a ok 80\n1 listen a ok 80\n1 accept c ok\n1 close a ok\n\
+         1 socket d ok\n1 bind d EADDRINUSE\n",
+    ),
+    (
+        "script 1\nsocket a reuseaddr\nbind a 10.0.0.1:80\nlisten a\n\
+         accept a c from 10.0.0.2:1000 at 10.0.0.1:80\nclose a\nsocket d reuseaddr\n\
+         bind d 10.0.0.1:80\nlisten d\n",
+        "1 socket a ok\n1 bind a ok 80\n1 listen a ok 80\n1 accept c ok\n1 close a ok\n\
+         1 socket d ok\n1 bind d ok 80\n1 listen d ok 80\n",
+    ),
+    (
+        "script 1\nsocket a uid 1 reuseport\nsocket b uid 2 reuseport\n\
+         socket c uid 1 reuseport\nbind a 10.0.0.1:80\nbind b 10.0.0.1:80\n\
+         bind c 10.0.0.1:80\n",
+        "1 socket a ok\n1 socket b ok\n1 socket c ok\n1 bind a ok 80\n\
+         1 bind b EADDRINUSE\n1 bind c ok 80\n",
+    ),
+    (
+        "twreuse 1\nscript 1\nsocket a reuseaddr\nbind a 10.0.0.1:5000\n\
+         connect a to 10.0.0.2:80\nclose a\nsocket b reuseaddr\nbind b 10.0.0.1:5000\n\
+         connect b to 10.0.0.2:80\nat 1\nconnect b to 10.0.0.2:80\n\
+         look 10.0.0.2:80 10.0.0.1:5000\nat 59\nreap\nat 60\nreap\n",
+        "1 socket a ok\n1 bind a ok 5000\n1 connect a ok 10.0.0.1:5000\n\
+         1 close a ok time-wait\n1 socket b ok\n1 bind b ok 5000\n\
+         1 connect b EADDRNOTAVAIL\n1 at 1 ok\n1 connect b ok 10.0.0.1:5000\n\
+         1 look full 1.b\n1 at 59 ok\n1 reap ok 0\n1 at 60 ok\n1 reap ok 0\n",
+    ),
+    (
+        "twreuse 0\nscript 1\nsocket a reuseaddr\nbind a 10.0.0.1:5000\n\
+         connect a to 10.0.0.2:80\nclose a\nsocket b reuseaddr\nbind b 10.0.0.1:5000\n\
+         connect b to 10.0.0.2:80\nat 1\nconnect b to 10.0.0.2:80\n\
+         look 10.0.0.2:80 10.0.0.1:5000\nat 59\nreap\nat 60\nreap\n",
+        "1 socket a ok\n1 bind a ok 5000\n1 connect a ok 10.0.0.1:5000\n\
+         1 close a ok time-wait\n1 socket b ok\n1 bind b ok 5000\n\
+         1 connect b EADDRNOTAVAIL\n1 at 1 ok\n1 connect b EADDRNOTAVAIL\n\
+         1 look time-wait 1.a\n1 at 59 ok\n1 reap ok 0\n1 at 60 ok\n1 reap ok 1\n",
+    ),
+    (
+        "script 1\nsocket w reuseport\nbind w 0.0.0.0:80\nlisten w\n\
+         socket x reuseport\nbind x 10.0.0.1:80\nlisten x\nsocket y dev 3 reuseport\n\
+         bind y 10.0.0.1:80\nlisten y\naccept x e from 10.0.0.2:1000 at 10.0.0.1:80\n\
+         look 10.0.0.2:1000 10.0.0.1:80\nlook 10.0.0.2:1001 10.0.0.1:80\n\
+         look 10.0.0.2:1001 10.0.0.1:80 dev 3\nlook 10.0.0.2:1001 10.0.0.1:80 dev 4\n\
+         look 10.0.0.2:1001 10.0.0.9:80\nlook 10.0.0.2:1001 10.0.0.9:81\ndrop x\n\
+         look 10.0.0.2:1001 10.0.0.1:80 dev 4\n",
+        "1 socket w ok\n1 bind w ok 80\n1 listen w ok 80\n1 socket x ok\n\
+         1 bind x ok 80\n1 listen x ok 80\n1 socket y ok\n1 bind y ok 80\n\
+         1 listen y ok 80\n1 accept e ok\n1 look full 1.e\n1 look listen 1.x\n\
+         1 look listen 1.y\n1 look listen 1.x\n1 look listen 1.w\n1 look none\n\
+         1 drop x ok\n1 look listen 1.w\n",
+    ),
+    (
+        "seed 559038725\nscript 1\nsocket a reuseport\nsocket b reuseport\n\
+         socket c reuseport\nbind a 10.0.0.1:80\nbind b 10.0.0.1:80\n\
+         bind c 10.0.0.1:80\nlisten a\nlisten b\nlisten c\n\
+         look 10.0.0.2:1002 10.0.0.1:80\nlook 10.0.0.2:1000 10.0.0.1:80\n\
+         look 10.0.0.2:1001 10.0.0.1:80\ndrop a\nlook 10.0.0.2:1002 10.0.0.1:80\n\
+         look 10.0.0.2:1000 10.0.0.1:80\n",
+        "1 socket a ok\n1 socket b ok\n1 socket c ok\n1 bind a ok 80\n1 bind b ok 80\n\
+         1 bind c ok 80\n1 listen a ok 80\n1 listen b ok 80\n1 listen c ok 80\n\
+         1 look listen 1.a\n1 look listen 1.c\n1 look listen 1.c\n1 drop a ok\n\
+         1 look listen 1.c\n1 look listen 1.b\n",
+    ),
+    (
+        "table slots 1 bind 1 hash 1 listen 1\nscript 1\nsocket l\nbind l 10.0.0.1:80\n\
+         listen l\naccept l c from 10.0.0.2:1000 at 10.0.0.1:80\ndrop l\n\
+         accept l d from 10.0.0.2:1000 at 10.0.0.1:80\nsocket k\nbind k 10.0.0.1:90\n\
+         connect k to 10.0.0.2:80\nclose k\nlook 10.0.0.2:80 10.0.0.1:90\n",
+        "1 socket l ok\n1 bind l ok 80\n1 listen l ok 80\n1 accept c ENFILE 1 0\n\
+         1 drop l ok\n1 accept d EBADF\n1 socket k ok\n1 bind k ok 90\n\
+         1 connect k ok 10.0.0.1:90\n1 close k ok no-slot 1 0\n1 look none\n",
+    ),
+    (
+        "script 1\nsocket a\nconnect a to 10.0.0.2:80\nbind a 10.0.0.1:90\n\
+         bind a 10.0.0.1:91\nconnect a from 10.0.0.3 to 10.0.0.2:80\n\
+         connect a to 10.0.0.2:80\nlisten a\nconnect a to 10.0.0.2:81\n\
+         accept a b from 10.0.0.2:81 at 10.0.0.1:90\ndrop a\ndrop a\nclose b\nat 5\n\
+         at 4\n",
+        "1 socket a ok\n1 connect a EINVAL\n1 bind a ok 90\n1 bind a EINVAL\n\
+         1 connect a EINVAL\n1 connect a ok 10.0.0.1:90\n1 listen a EINVAL\n\
+         1 connect a EISCONN\n1 accept b EINVAL\n1 drop a ok\n1 drop a EBADF\n\
+         1 close b EBADF\n1 at 5 ok\n1 at 4 EINVAL\n",
+    ),
+];
+
 fn words_of(alloc: Global, words: &[&str]) -> Result<Vec<String>, AllocError> {
     let mut texts: Vec<String> = Vec::new(alloc);
     for word in words {
@@ -106,6 +198,59 @@ fn answers_worked_scripts(rt: HostRuntime) -> Result<(), Fail> {
         assert!(rt; answer.0 == status, "status of {input}");
         assert_eq!(rt; answer.1.as_slice(), written.as_bytes());
     }
+    Ok(())
+}
+
+#[test]
+fn answers_what_becomes_of_closed_and_shared_sockets(rt: HostRuntime) -> Result<(), Fail> {
+    for (input, written) in ROWS {
+        let answer = run(&rt, input, PLAIN)?;
+        assert!(rt; answer.0 == Status::Done, "status of {input}");
+        assert_eq!(rt; answer.1.as_slice(), written.as_bytes());
+    }
+    Ok(())
+}
+
+/// A line of each of so many sockets that share an end.
+fn put_each(text: &mut String, count: u32, before: &str, after: &str) -> Result<(), AllocError> {
+    for i in 0..count {
+        write!(text, "{before} s{i}{after}\n")?;
+    }
+    Ok(())
+}
+
+/// A script in which so many sockets of one end listen, and what is written where all may.
+fn sharing(alloc: Global, count: u32) -> Result<(String, String), AllocError> {
+    let mut input = String::from_str(alloc, "script 1\n")?;
+    put_each(&mut input, count, "socket", " reuseport")?;
+    put_each(&mut input, count, "bind", " 10.0.0.1:80")?;
+    put_each(&mut input, count, "listen", "")?;
+    let mut output = String::new(alloc);
+    put_each(&mut output, count, "1 socket", " ok")?;
+    put_each(&mut output, count, "1 bind", " ok 80")?;
+    put_each(&mut output, count, "1 listen", " ok 80")?;
+    Ok((input, output))
+}
+
+#[test]
+fn a_group_has_sixteen_members(rt: HostRuntime) -> Result<(), Fail> {
+    let (input, output) = sharing(rt.alloc(), 16)?;
+    let answer = run(&rt, input.as_str(), PLAIN)?;
+    assert!(rt; answer.0 == Status::Done);
+    assert_eq!(rt; answer.1.as_slice(), output.as_bytes());
+    let (input, output) = sharing(rt.alloc(), 17)?;
+    let answer = run(&rt, input.as_str(), PLAIN)?;
+    assert!(rt; answer.0 == Status::Done);
+    let granted = output
+        .as_bytes()
+        .strip_suffix(b"ok 80\n")
+        .ok_or("no last line")?;
+    let written = answer
+        .1
+        .as_slice()
+        .strip_suffix(b"EMFILE\n")
+        .ok_or("no EMFILE")?;
+    assert_eq!(rt; written, granted);
     Ok(())
 }
 

@@ -2,9 +2,9 @@
 ghost use Rattle.std.specs.Prelude.{◌≡◌, ◌≤◌, length, IfOk};
 ghost use Rattle.inet_tool.specs.Table.{limit, IsReply, bad_line as bad_line_text};
 
+use race_run::run;
 use sock_script::parse::parse;
-use sock_script::run::run;
-use sock_script::{Mode, ScriptEnd};
+use sock_script::{Mode, ScriptEnd, output};
 use std::alloc::{AllocError, Global};
 
 /// What is to be written, and the first line outside the grammar, where there is one.
@@ -21,7 +21,8 @@ pub fn reply_to(alloc: Global, bytes: &[u8]) -> Result<Reply, AllocError>
 {
     match parse(alloc, bytes, Mode::Run) {
         Ok(script) => {
-            let text = run(alloc, &script)?;
+            let replies = run(alloc, &script)?;
+            let text = output::text(alloc, &script, &replies)?;
             Ok(Reply {
                 text,
                 outside: None,

@@ -1,0 +1,41 @@
+//! The tables and the flat list, which is their definition, on the same scripts.
+
+ghost use Rattle.std.specs.Prelude.{◌≤◌, ◌^◌, length};
+
+use sock_script::parse::parse;
+use sock_script::{Mode, run};
+use std::alloc::{AllocError, Global};
+use std::test::Fail;
+
+/// Scripts whose commands go through buckets, chains, groups, TIME_WAITs and searches.
+const SCRIPTS: [&str; 3] = [
+    "table slots 4 bind 2 hash 2 listen 1\ntwreuse 1\nscript 1\nsocket a reuseaddr\n\
+     bind a 10.0.0.1:5000\nconnect a to 10.0.0.2:80\nclose a\nsocket b reuseaddr\n\
+     bind b 10.0.0.1:5000\nconnect b to 10.0.0.2:80\nat 1\nconnect b to 10.0.0.2:80\n\
+     look 10.0.0.2:80 10.0.0.1:5000\nclose b\nat 61\nreap\nlook 10.0.0.2:80 10.0.0.1:5000\n",
+    "seed 559038725\nscript 1\nsocket a reuseport\nsocket b reuseport\nbind a 10.0.0.1:80\n\
+     bind b 10.0.0.1:80\nlisten a\nlisten b\nlook 10.0.0.2:1002 10.0.0.1:80\ndrop a\n\
+     look 10.0.0.2:1002 10.0.0.1:80\nscript 2\nsocket c uid 1 reuseport\nbind c 10.0.0.1:80\n",
+    "range 40000 40003\nscript 1\nsocket a\nlisten a\nsocket b\nconnect b from 10.0.0.1 to 10.0.0.2:80\n\
+     accept a c from 10.0.0.2:7 at 10.0.0.1:40001\nlook 10.0.0.2:7 10.0.0.1:40001\nclose c\nreap\n",
+];
+
+/// Whether both reply alike to a script.
+fn reply_alike(alloc: Global, text: &[u8]) -> Result<bool, AllocError>
+    requires { length text.now ≤ 2 ^ 24 }
+{
+    let Ok(script) = parse(alloc, text, Mode::Run) else {
+        return Ok(false);
+    };
+    let by_list = run::replies(alloc, &script)?;
+    let by_tables = race_run::run(alloc, &script)?;
+    Ok(by_list.as_slice() == by_tables.as_slice())
+}
+
+#[test]
+fn tables_reply_as_the_flat_list_does(rt: HostRuntime) -> Result<(), Fail> {
+    for script in SCRIPTS {
+        assert!(rt; reply_alike(rt.alloc(), script.as_bytes())?);
+    }
+    Ok(())
+}

@@ -1,0 +1,11 @@
+pub mod Items
+pub mod CardsSame
+pub mod CardsOf
+pub mod CardsBest
+pub mod CardsStand
+pub mod LooksGroup
+pub mod LooksSame
+pub mod SectionsStay
+pub mod LookAnswers
+pub mod SectionTurns
+pub mod HeadersFit

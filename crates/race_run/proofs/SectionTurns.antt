@@ -1,0 +1,160 @@
+-- A turn of the loops over a section's commands, and over the sections, on tables that mean a list.
+use Rattle.std.proofs.Common.{◌≡◌, ℕ, ◌+◌, ◌<◌, ◌≤◌, ◌^◌, List, [], ◌∷◌, ◌++◌, length, drop, get_or, find, None, unwrap_or, refl, sym, ap, ◌∙◌, subst, arith}
+use Rattle.std.specs.Option.{option_map}
+use Rattle.std.proofs.lemmas.Grind.{common_steps}
+use Rattle.flat_list.specs.declared.header.Header.{Header}
+use Rattle.flat_list.specs.declared.command.Command.{Command}
+use Rattle.flat_list.specs.declared.command.Reply.{Reply}
+use Rattle.flat_list.specs.Flat.{Flat, new_flat}
+use Rattle.flat_list.specs.Run.{after}
+use Rattle.flat_list.specs.Sections.{Section as ListSection, has_number, labels_of, section_of, new_section as list_section}
+use Rattle.flat_list.specs.Step.{step}
+use Rattle.flat_list.proofs.LabelsGrow.{gives_at_one, labels_stay}
+use Rattle.flat_list.proofs.Soundness.{starts as starts_sound}
+use Rattle.sock_script.specs.Steps.{issue, RunsCommand, RunsSection}
+use Rattle.sock_script.specs.Output.{issued_from, replies_from}
+use Rattle.sock_script.proofs.RunTurns.{RanSoFar, ran_start, ran_more, ran_all, RanSections, sections_start, sections_next, sections_end}
+use Rattle.table_model.specs.Tables.{Tables, new_tables}
+use Rattle.table_model.specs.Own.{new_own}
+use Rattle.table_model.specs.Commands.{answers}
+use Rattle.table_model.specs.Means.{Means, Refines, IsShape}
+use Rattle.table_model.proofs.GroupsStart.{new_mean_empty, starts_meant}
+use Rattle.table_model.proofs.OwnersSections.{same_labels}
+use Rattle.race_run.specs.Fits.{FitsTables}
+use Rattle.sock_ops.specs.Sections.{Kept, kept, AreMeant, KeepsHeader, RefinesEach}
+use Rattle.race_run.specs.Steps.{StartsAt, CanStart, RunsAs}
+use Rattle.race_run.proofs.SectionsStay.{step_stays}
+
+-- what stands after some commands of a section that began at the first list
+pub record SoFar (header : Header) (n : ℕ) (first : Flat) (all : List Command) (before out : List Reply) (i : ℕ) (m : Kept) (t : Tables) : Type 0 where
+  pub flat : Flat
+  pub ran : RanSoFar n first flat (drop i all) all before out i
+  pub number : m.own.number ≡ n
+  pub header_is : flat.header ≡ header
+  pub machine_is : m.header ≡ header
+  pub means : Means n m.own t flat
+  pub shape : IsShape header
+  pub later : (k : ℕ) → n + 1 ≤ k → find (has_number k) flat.sections ≡ None
+
+-- so from whatever list the tables meant
+abbrev pub Turns : Header → ℕ → Tables → List Command → List Reply → List Reply → ℕ → Kept → Tables → Type 0
+Turns header n old all before out i m t =
+    (first : Flat) → StartsAt header n old first → SoFar header n first all before out i m t
+
+-- the section that hasn't begun is a new one
+not_begun : (header : Header) (n : ℕ) (sections : List ListSection) → find (has_number n) sections ≡ None → section_of header n sections ≡ list_section header n
+not_begun header n sections h = ap (λ o. unwrap_or o (list_section header n)) h
+
+no_labels : (n : ℕ) (sections : List ListSection) → find (has_number n) sections ≡ None → length (labels_of n sections) ≡ 0
+no_labels n sections h = ap (λ o. length (unwrap_or (option_map (λ (s : ListSection). s.labels) o) [])) h
+
+begins : (header : Header) (n : ℕ) (t : Tables) (first : Flat) → 1 ≤ n → StartsAt header n t first → Means n (new_own header n) t first
+begins header n t first some s =
+    subst (λ h. Means n (new_own h n) t first) s.header_is
+    (starts_meant n t first some (subst IsShape (sym s.header_is) s.shape) s.sound s.tables (not_begun first.header n first.sections (s.fresh n (omega arith))))
+
+pub turns_start : (header : Header) (n : ℕ) (t : Tables) (all : List Command) (out : List Reply) (m : Kept) → 1 ≤ n → m ≡ kept header (new_own header n) → Turns header n t all out out 0 m t
+turns_start header n t all out m some is first s =
+    subst (λ (m : Kept). SoFar header n first all out out 0 m t) (sym is) (record {
+      flat = first;
+      ran = ran_start n first all out;
+      number = refl;
+      header_is = s.header_is;
+      machine_is = refl;
+      means = begins header n t first some s;
+      shape = s.shape;
+      later = λ k above. s.fresh k (omega arith);
+    })
+
+-- what the machine's next command needs
+pub record CanStep (m : Kept) (t : Tables) : Type 0 where
+  pub number : m.own.number ≤ 64
+  pub room : length m.own.labels + 1 < 2 ^ 24
+  pub meant : AreMeant m t
+
+module _ (header : Header) (n : ℕ) (old : Tables) (all : List Command) (before out : List Reply) (i : ℕ) (m : Kept) (t : Tables) where
+  same_header : (first : Flat) (s : SoFar header n first all before out i m t) → s.flat.header ≡ m.header
+  same_header first s = s.header_is ∙ sym s.machine_is
+
+  own_means : (first : Flat) (s : SoFar header n first all before out i m t) → Means m.own.number m.own t s.flat
+  own_means first s = subst (λ k. Means k m.own t s.flat) (sym s.number) s.means
+
+  -- the machine can carry out the next command
+  pub can_step : n ≤ 64 → length all < 2 ^ 24 → CanStart header n old → i < length all → Turns header n old all before out i m t → CanStep m t
+  can_step few room can below turns =
+      let s = turns can.flat can.starts in
+      let own : labels_of n s.flat.sections ≡ m.own.labels = same_labels n m.own t s.flat s.means.own_is in
+      let none : length (labels_of n can.flat.sections) ≡ 0 = no_labels n can.flat.sections (can.starts.fresh n (omega arith)) in
+      record {
+        number = omega (arith, s.number, few);
+        room = omega (arith, ap length own, none, s.ran.room, room, below);
+        meant = (s.flat, same_header can.flat s, own_means can.flat s);
+      }
+
+  -- one command more
+  pub turns_next : (new : List Reply) (m_after : Kept) (t_after : Tables) (command : Command) (reply : Reply)
+      → i < length all → command ≡ get_or all i command → KeepsHeader m m_after → RefinesEach m t command t_after m_after.own reply → new ≡ out ++ reply ∷ []
+      → Turns header n old all before out i m t → Turns header n old all before new (i + 1) m_after t_after
+  turns_next new m_after t_after command reply below here keeps refines pushed turns first starts =
+      let s = turns first starts in
+      let r : Refines n (record { tables = t_after; result = answers m_after.own reply }) s.flat command =
+      subst (λ k. Refines k (record { tables = t_after; result = answers m_after.own reply }) s.flat command) s.number (refines s.flat (same_header first s) (own_means first s)) in
+      let next = (step s.flat n command).flat in
+      let stays = step_stays s.flat n command in
+      let labels = labels_stay n s.flat.sections next.sections (gives_at_one s.flat n command) in
+      let one : RunsCommand s.flat next n command out new = record { replied = pushed ∙ ap (λ x. out ++ x ∷ []) r.reply; flat = refl } in
+      record {
+        flat = next;
+        ran = ran_more n first s.flat next all command before out new i below s.ran
+            (subst (λ d. RunsCommand s.flat next n d out new) here one) labels.labels labels.others;
+        number = r.means.own_is.number;
+        header_is = stays.0 ∙ s.header_is;
+        machine_is = keeps.header ∙ s.machine_is;
+        means = r.means;
+        shape = s.shape;
+        later = λ k above. stays.1 k (λ e. absurd (omega arith)) ∙ s.later k above;
+      }
+
+-- all commands of the section
+pub turns_end : (header : Header) (n : ℕ) (old : Tables) (all : List Command) (before out : List Reply) (i : ℕ) (m : Kept) (t : Tables) → length all ≤ i → Turns header n old all before out i m t → RunsAs header n old t all before out
+turns_end header n old all before out i m t past turns first starts =
+    let s = turns first starts in
+    let none : drop i all ≡ [] = grind (arith, common_steps) in
+    let runs : RunsSection first s.flat n all before out = ran_all n first s.flat all before out i (subst (λ l. RanSoFar n first s.flat l all before out i) none s.ran) in
+    let begins_next : StartsAt header (n + 1) t s.flat = record { header_is = s.header_is; shape = s.shape; sound = s.means.sound; tables = s.means.tables; fresh = s.later } in
+    record {
+      runs = subst (λ f. RunsSection first f n all before out) runs.flat runs;
+      starts = subst (λ f. StartsAt header (n + 1) t f) runs.flat begins_next;
+    }
+
+-- what stands after some sections
+pub record Ran (header : Header) (all : List (List Command)) (out : List Reply) (i : ℕ) (t : Tables) : Type 0 where
+  pub flat : Flat
+  pub ran : RanSections (new_flat header) flat all out i
+  pub starts : StartsAt header (i + 1) t flat
+
+shape_of : (header : Header) → FitsTables header → IsShape header
+shape_of header fits = record { bind = fits.bind; hash = fits.hash; listen = fits.listen }
+
+pub ran_none : (header : Header) (all : List (List Command)) (t : Tables) → FitsTables header → t ≡ new_tables header.shape header.seed → Ran header all [] 0 t
+ran_none header all t fits is = record {
+  flat = new_flat header;
+  ran = sections_start header all;
+  starts = subst (λ (t : Tables). StartsAt header 1 t (new_flat header)) (sym is)
+      (record { header_is = refl; shape = shape_of header fits; sound = starts_sound header; tables = new_mean_empty header; fresh = λ m h. refl });
+}
+
+pub can_start : (header : Header) (all : List (List Command)) (out : List Reply) (i : ℕ) (t : Tables) → Ran header all out i t → CanStart header (i + 1) t
+can_start header all out i t r = record { flat = r.flat; starts = r.starts }
+
+-- one section more
+pub ran_next : (header : Header) (all : List (List Command)) (out new : List Reply) (i : ℕ) (t t_after : Tables) (commands : List Command) → i < length all → commands ≡ get_or all i commands
+    → RunsAs header (i + 1) t t_after commands out new → Ran header all out i t → Ran header all new (i + 1) t_after
+ran_next header all out new i t t_after commands below here runs r =
+    let s = runs r.flat r.starts in
+    let next = after r.flat (issue (i + 1) commands) in
+    record { flat = next; ran = sections_next (new_flat header) r.flat next all out new i commands below here r.ran s.runs; starts = s.starts }
+
+-- all sections
+pub ran_every : (header : Header) (all : List (List Command)) (out : List Reply) (i : ℕ) (t : Tables) → length all ≤ i → Ran header all out i t → out ≡ replies_from (new_flat header) (issued_from 1 all)
+ran_every header all out i t past r = sections_end (new_flat header) r.flat all out i past r.ran
