@@ -1,7 +1,7 @@
 ghost use Rattle.std.specs.Prelude.{◌≡◌, ◌≢◌, ◌↔◌, [], IfOk};
 ghost use Rattle.capture_reader.specs.Header.{HasHeader};
 ghost use Rattle.capture_reader.specs.Captures.{Capture as Contents};
-ghost use Rattle.capture_reader.specs.Grammar.{AreRecords, IsCapture};
+ghost use Rattle.capture_reader.specs.Grammar.{AreRecords, IsCapture, nothing};
 
 use crate::header::{FILE_HEADER, Header, header_of};
 use crate::packet::{Item, item_of};
@@ -25,6 +25,16 @@ impl Model for Capture {
 }
 
 impl Capture {
+    /// A capture without items. Takes no memory.
+    pub fn new(alloc: Global) -> Self
+        ensures { result ≡ nothing }
+    {
+        Capture {
+            items: Vec::new(alloc),
+            cut: false,
+        }
+    }
+
     /// An item for each whole record.
     pub fn items(&self) -> &[Item]
         ensures { result.now ≡ self.now.items }
@@ -91,10 +101,7 @@ pub fn packets(alloc: Global, bytes: &[u8], dev: u16) -> Result<Capture, Capture
     ensures bad_head { (result ≡ Err CaptureEnd.BadHead) ↔ ((bytes.now ≢ []) × ¬ HasHeader bytes.now) }
 {
     if bytes.is_empty() {
-        return Ok(Capture {
-            items: Vec::new(alloc),
-            cut: false,
-        });
+        return Ok(Capture::new(alloc));
     }
     let Some(header) = header_of(bytes) else {
         return Err(CaptureEnd::BadHead);
