@@ -271,6 +271,7 @@ gives_at_one flat n (commands.Close label) =
 gives_at_one flat n (commands.At moment) = gives_of n flat (at flat n moment) (at_keeps_all flat n moment)
 gives_at_one flat n commands.Reap = gives_of n flat (reap flat n) (λ m. refl)
 gives_at_one flat n (commands.Look from to dev) = keeps_at n flat flat (λ m. refl)
+gives_at_one flat n (commands.Packets count) = keeps_at n flat flat (λ m. refl)
 
 -- what a command does to labels: one more at most in each section, and none in others than its own
 pub record LabelsStay (n : ℕ) (old new : List Section) : Type 0 where

@@ -14,3 +14,4 @@ pub mod Soundness
 pub mod OneBest
 pub mod Refusals
 pub mod SlotsStay
+pub mod LabelKeys

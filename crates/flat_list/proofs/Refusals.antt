@@ -153,3 +153,4 @@ refusal_keeps flat n (commands.Drop label) h = drop_keeps_all flat (open_socket 
 refusal_keeps flat n (commands.At moment) h = at_keeps_all flat n moment h
 refusal_keeps flat n commands.Reap h = absurd (both_ways false refl h)
 refusal_keeps flat n (commands.Look from to dev) h = itself flat
+refusal_keeps flat n (commands.Packets count) h = itself flat

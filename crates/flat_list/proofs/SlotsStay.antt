@@ -291,3 +291,4 @@ slots_stay flat n (commands.Drop label) sound fits = drop_fits_all flat (open_so
 slots_stay flat n (commands.At moment) sound fits = at_fits flat n moment (record { names = sound.names; fits = fits })
 slots_stay flat n commands.Reap sound fits = reap_fits flat n (record { names = sound.names; fits = fits })
 slots_stay flat n (commands.Look from to dev) sound fits = fits
+slots_stay flat n (commands.Packets count) sound fits = fits

@@ -839,6 +839,7 @@ stays flat n (commands.Close label) room sound = close_sound flat n (open_socket
 stays flat n (commands.At moment) room sound = at_sound flat n moment sound
 stays flat n commands.Reap room sound = reap_sound flat n sound
 stays flat n (commands.Look from to dev) room sound = sound
+stays flat n (commands.Packets count) room sound = sound
 
 -- how many labels each section can still give
 abbrev HasRoom : Flat → List Issued → Type 0

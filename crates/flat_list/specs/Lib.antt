@@ -13,3 +13,5 @@ pub mod Run
 pub mod Sound
 pub mod Rows
 pub mod Script
+pub mod Padded
+pub mod Labels

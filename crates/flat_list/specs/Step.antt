@@ -178,6 +178,7 @@ step flat n (commands.At moment) = at flat n moment
 step flat n commands.Reap = reap flat n
 step flat n (commands.Look from to dev) =
     unchanged flat (replies.Found (look (packet_of from to dev) flat.header.seed flat.sockets flat.groups))
+step flat n (commands.Packets count) = unchanged flat replies.Ok
 
 -- a command that gives a label
 abbrev pub gives_label : Command → Bool

@@ -1,52 +1,105 @@
-ghost use Rattle.std.specs.Prelude.{◌≡◌, bytes_eq, IfOk};
+ghost use Rattle.std.specs.Prelude.{◌≡◌, ◌<◌, ◌≤◌, ◌+◌, length, take, drop, bytes_eq, IfNone, IfSome};
+ghost use Rattle.std.specs.Int.{w64, to_be_bytes, from_be_bytes};
+ghost use Rattle.flat_list.specs.Labels.{key_of, text_of};
 
 use sock_card::Card;
-use std::alloc::{AllocError, Global};
 use std::marker::Model;
 
-/// A socket's label in a script.
-#[derive(Debug, Drop)]
+/// A socket's label in a script, of at most 16 bytes.
+#[derive(Clone, Copy, Debug)]
 pub struct Label {
-    bytes: Vec<u8>,
+    /// The label, and zeros behind it.
+    bytes: [u8; 16],
+    /// How many bytes are the label's.
+    used: usize,
 }
 
 impl Model for Label {
-    ghost use Rattle.std.specs.Prelude.{List, ℕ};
+    ghost use Rattle.std.specs.Prelude.{List, ℕ, ◌≡◌, ◌≤◌, length, take};
+    ghost use Rattle.flat_list.specs.Padded.{padded, bytes_back, length_back};
 
     ghost Value = { List ℕ };
 
-    ghost view = { λ l. l.bytes.items };
+    ghost view = { λ l. take l.used l.bytes };
+
+    ghost invariant = { λ l. (l.used ≤ 16) × (l.bytes ≡ padded (take l.used l.bytes)) };
+
+    ghost inverse = { λ text. record { bytes = padded text; used = length text } };
+
+    ghost inverse_ok = { λ l h i. record { bytes = bytes_back l.bytes l.used h i; used = length_back l.bytes l.used h i } };
+}
+
+/// A label as numbers, which compare faster than bytes: by them labels stand in the order of their
+/// bytes.
+#[derive(Clone, Copy, Debug, PartialEq, Eq, PartialOrd, Ord)]
+pub struct LabelKey {
+    /// The first eight bytes, the first of them highest.
+    high: u64,
+    /// The other eight.
+    low: u64,
+    length: usize,
+}
+
+/// The eight bytes from that place on as a number, the first of them highest.
+fn number_at(bytes: &[u8], place: usize) -> u64
+    requires { place + 8 ≤ length bytes.now }
+    ensures number { result ≡ from_be_bytes w64 (take 8 (drop place bytes.now)) }
+    ensures bytes { to_be_bytes w64 result ≡ take 8 (drop place bytes.now) }
+{
+    u64::from_be_bytes([
+        bytes[place],
+        bytes[place + 1],
+        bytes[place + 2],
+        bytes[place + 3],
+        bytes[place + 4],
+        bytes[place + 5],
+        bytes[place + 6],
+        bytes[place + 7],
+    ])
 }
 
 impl Label {
-    /// The label of these bytes.
-    pub fn from_bytes(alloc: Global, bytes: &[u8]) -> Result<Self, AllocError>
-        ensures { IfOk result (λ label. label ≡ bytes.now) }
+    /// The label of these bytes, unless they are more than 16.
+    pub fn from_bytes(bytes: &[u8]) -> Option<Self>
+        ensures some { IfSome result (λ label. label ≡ bytes.now) }
+        ensures none { IfNone result (16 < length bytes.now) }
     {
-        let bytes = Vec::from_slice(alloc, bytes)?;
-        Ok(Label { bytes })
+        if bytes.len() > 16 {
+            return None;
+        }
+        let mut padded = [0; 16];
+        padded[..bytes.len()].copy_from_slice(bytes);
+        Some(Label {
+            bytes: padded,
+            used: bytes.len(),
+        })
     }
 
     /// The label's bytes.
     pub fn as_bytes(&self) -> &[u8]
         ensures { result.now ≡ self.now }
     {
-        self.bytes.as_slice()
+        &self.bytes[..self.used]
     }
 
-    /// A second label of the same bytes.
-    pub fn try_clone(&self) -> Result<Self, AllocError>
-        ensures { IfOk result (λ label. label ≡ self.now) }
+    /// The label as numbers. Two labels have the same ones exactly where they have the same bytes.
+    #[tactic(auto, unfolding(crate::specs::Labels::key_of))]
+    pub fn key(&self) -> LabelKey
+        ensures key { result ≡ key_of self.now }
+        ensures text { text_of result ≡ self.now }
     {
-        let bytes = self.bytes.clone()?;
-        Ok(Label { bytes })
+        LabelKey {
+            high: number_at(&self.bytes, 0),
+            low: number_at(&self.bytes, 8),
+            length: self.used,
+        }
     }
 
     /// Whether the two labels have the same bytes.
     pub fn is(&self, other: &Label) -> bool
         ensures { result ≡ bytes_eq self.now other.now }
     {
-        self.bytes.as_slice() == other.bytes.as_slice()
+        self.as_bytes() == other.as_bytes()
     }
 }
 
@@ -112,6 +165,10 @@ pub enum Command {
         to: End,
         dev: Option<u16>,
     },
+    /// Looks up the next packets of the capture, so many or those that are left.
+    Packets {
+        count: u32,
+    },
 }
 
 /// What a command answers. Refusals have the names of errno(3).
@@ -131,6 +188,10 @@ pub enum Reply {
     Count(u64),
     /// The card of the socket that a packet finds, if there is one.
     Found(Option<Card>),
+    /// A stored packet that isn't looked up, since it is of another kind.
+    Skip,
+    /// A stored packet of which too few bytes are there to tell.
+    Short,
     /// The label names no open socket of the section.
     Ebadf,
     /// The socket's state, or an end, doesn't fit the command.

@@ -94,7 +94,7 @@ impl Flat {
             ≡ record { flat = self.new; reply = reply }) }
         ensures err { OnErr result (self.new ≡ self.old) }
     {
-        let label = label.try_clone()?;
+        let label = *label;
         self.sockets.reserve(1)?;
         let name = give_label(self.alloc, &self.header, &mut self.sections, section, label)?;
         self.sockets.push(new_socket(name, options))?;
@@ -441,7 +441,7 @@ impl Flat {
             ≡ record { flat = self.new; reply = reply }) }
         ensures err { OnErr result (self.new ≡ self.old) }
     {
-        let label = label.try_clone()?;
+        let label = *label;
         self.sockets.reserve(1)?;
         let listener = self.open_socket(section, listener);
         let name = give_label(self.alloc, &self.header, &mut self.sections, section, label)?;
@@ -539,7 +539,8 @@ impl Flat {
         Reply::Count(count as u64)
     }
 
-    /// Carries out a command of the section of that number, 1 to 64, and answers its reply.
+    /// Carries out a command of the section of that number, 1 to 64, and answers its reply. `packets` does
+    /// nothing here: who runs a script looks the capture's packets up by [`Flat::look`].
     ///
     /// A refusal leaves all sockets and groups as they were. An `Err`, for want of memory, changes
     /// nothing; only commands after which a label, a socket, a group or a moment may be kept that wasn't
@@ -588,6 +589,7 @@ impl Flat {
             Command::Look { from, to, dev } => {
                 Ok(Reply::Found(self.look(&packet_of(*from, *to, *dev))))
             }
+            Command::Packets { .. } => Ok(Reply::Ok),
         }
     }
 
@@ -648,17 +650,19 @@ mod tests {
         port: 5,
     };
 
-    fn label(alloc: Global, text: &[u8]) -> Result<Label, AllocError> {
-        Label::from_bytes(alloc, text)
+    fn label(text: &[u8]) -> Label
+        requires { length text.now ≤ 16 }
+    {
+        Label::from_bytes(text).unwrap()
     }
 
     /// Lets a socket of section 1 listen.
-    fn listen_here(alloc: Global, flat: &mut Flat) -> Result<Reply, AllocError>
+    fn listen_here(flat: &mut Flat) -> Result<Reply, AllocError>
         requires { flat.old.sections ≡ [] }
         ensures { (m : ℕ) → length (sections_spec.labels_of m flat.new.sections) ≤ 3 }
     {
         let socket = Command::Socket {
-            label: label(alloc, b"a")?,
+            label: label(b"a"),
             uid: None,
             dev: None,
             reuseaddr: false,
@@ -666,24 +670,20 @@ mod tests {
         };
         flat.apply(1, &socket)?;
         let bind = Command::Bind {
-            label: label(alloc, b"a")?,
+            label: label(b"a"),
             end: HERE,
         };
         flat.apply(1, &bind)?;
-        let listen = Command::Listen {
-            label: label(alloc, b"a")?,
-        };
+        let listen = Command::Listen { label: label(b"a") };
         flat.apply(1, &listen)
     }
 
     /// Closes section 1's socket c, and reaps a minute later.
-    fn close_and_reap(alloc: Global, flat: &mut Flat) -> Result<(Reply, Reply), AllocError>
+    fn close_and_reap(flat: &mut Flat) -> Result<(Reply, Reply), AllocError>
         requires { (m : ℕ) → length (sections_spec.labels_of m flat.old.sections) ≤ 4 }
         ensures { (m : ℕ) → length (sections_spec.labels_of m flat.new.sections) ≤ 7 }
     {
-        let close = Command::Close {
-            label: label(alloc, b"c")?,
-        };
+        let close = Command::Close { label: label(b"c") };
         let closed = flat.apply(1, &close)?;
         flat.apply(1, &Command::At { moment: 60 })?;
         let reaped = flat.apply(1, &Command::Reap)?;
@@ -694,10 +694,10 @@ mod tests {
     fn an_accepted_socket_is_found_closed_and_reaped(rt: HostRuntime) -> Result<(), Fail> {
         let alloc = rt.alloc();
         let mut flat = Flat::new(alloc, &HEADER);
-        assert_eq!(rt; listen_here(alloc, &mut flat)?, Reply::Port(80));
+        assert_eq!(rt; listen_here(&mut flat)?, Reply::Port(80));
         let accept = Command::Accept {
-            listener: label(alloc, b"a")?,
-            label: label(alloc, b"c")?,
+            listener: label(b"a"),
+            label: label(b"c"),
             from: THERE,
             at: HERE,
         };
@@ -706,7 +706,7 @@ mod tests {
         let card = flat.look(&packet).ok_or("none found")?;
         assert_eq!(rt; card.kind, Kind::Full);
         assert_eq!(rt; flat.label_of(card.name), b"c".as_slice());
-        let (closed, reaped) = close_and_reap(alloc, &mut flat)?;
+        let (closed, reaped) = close_and_reap(&mut flat)?;
         assert_eq!(rt; closed, Reply::TimeWait);
         assert_eq!(rt; reaped, Reply::Count(1));
         let card = flat.look(&packet).ok_or("none found")?;

@@ -33,11 +33,11 @@ pub mod section;
 pub mod socket;
 
 pub use chain_book::Shape;
-pub use command::{Command, End, Label, Reply};
+pub use command::{Command, End, Label, LabelKey, Reply};
 pub use flat::Flat;
 pub use group::Group;
 pub use header::{First, Header, Range};
 pub use owned::Options;
-pub use script::Script;
+pub use script::{CapturePlace, Script};
 pub use section::Section;
 pub use socket::Socket;

@@ -5,11 +5,21 @@ use crate::header::Header;
 use std::alloc::{AllocError, Global};
 use std::marker::Model;
 
-/// A whole script: what it says of the tables, and the commands of each section, from section 1 on.
+/// Where a script has its capture: the device that all its packets come from, 0 where none is named, and the place of
+/// its first byte in the text. A place past the text's end is that of a capture without bytes.
+#[derive(Clone, Copy, Debug, PartialEq, Eq)]
+pub struct CapturePlace {
+    pub dev: u16,
+    pub first: usize,
+}
+
+/// A whole script: what it says of the tables, the commands of each section, from section 1 on, and where its capture
+/// begins, if it has one.
 #[derive(Debug, Drop)]
 pub struct Script {
     header: Header,
     sections: Vec<Vec<Command>>,
+    capture: Option<CapturePlace>,
 }
 
 impl Model for Script {
@@ -18,15 +28,19 @@ impl Model for Script {
 
     ghost Value = { Text };
 
-    ghost view = { λ s. record { header = s.header; sections = map (λ v. v.items) s.sections.items } };
+    ghost view = { λ s. record { header = s.header; sections = map (λ v. v.items) s.sections.items; capture = s.capture } };
 }
 
 impl Script {
-    /// The script of these sections.
-    pub fn new(header: Header, sections: Vec<Vec<Command>>) -> Self
-        ensures { result ≡ record { header = header; sections = map (λ v. v.items) sections.items } }
+    /// The script of these sections, with a capture there.
+    pub fn new(header: Header, sections: Vec<Vec<Command>>, capture: Option<CapturePlace>) -> Self
+        ensures { result ≡ record { header = header; sections = map (λ v. v.items) sections.items; capture = capture } }
     {
-        Script { header, sections }
+        Script {
+            header,
+            sections,
+            capture,
+        }
     }
 
     /// What is said before the first section, with the defaults for what isn't.
@@ -41,5 +55,12 @@ impl Script {
         ensures { map (λ v. v.items) result.now ≡ self.now.sections }
     {
         &self.sections
+    }
+
+    /// Where its capture begins, if it has one.
+    pub fn capture(&self) -> Option<CapturePlace>
+        ensures { result ≡ self.now.capture }
+    {
+        self.capture
     }
 }
