@@ -2,17 +2,15 @@
 use Rattle.std.proofs.Common.{◌≡◌, ℕ, ◌+◌, ◌≤◌, ◌<◌, List, [], ◌∷◌, ◌++◌, length, length-append, Option, Some, None, Bool, true, false, cond, bytes_eq, refl, sym, ap, ◌∙◌, arith, ltb, eqb}
 use Rattle.std.specs.Prelude.{position, IfSome}
 use Rattle.std.specs.List.{position_or_len}
-use Rattle.std.specs.Ordering.{nat_cmp, is_eq, match_ordering}
+use Rattle.std.specs.Ordering.{is_eq, match_ordering}
 use Rattle.std.specs.Cmp.{Equal-is}
 use Rattle.std.specs.declared.cmp.Ordering.{Ordering}
 use Rattle.std.specs.declared.cmp.Ordering.TheVariants as orderings
-use Rattle.std.specs.Cmp.Lexicographic.{slice_cmp}
 use Rattle.std.specs.BTreeMap.{BTreeMap, insert_entry, get_by}
 use Rattle.std.specs.Map.{lookup}
-use Rattle.std.specs.declared.vec.Vec.{Vec}
-use Rattle.std.specs.declared.alloc.Global.{Global}
-use Rattle.std.proofs.lemmas.Map.Text.{is_eq-slice_cmp}
-use Rattle.std.proofs.lemmas.Map.Lookups.{exact_bytes}
+use Rattle.flat_list.specs.declared.command.LabelKey.{LabelKey}
+use Rattle.flat_list.specs.Labels.{IsLabel, key_of, key_cmp}
+use Rattle.flat_list.proofs.LabelKeys.{compared, same_key}
 use Rattle.std.proofs.lemmas.Bool.Decides.{nat_tests}
 use Rattle.std.proofs.lemmas.List.Folds.{position_or_len_push}
 use Rattle.std.proofs.lemmas.List.Sums.{prefix_len-le-length}
@@ -20,20 +18,17 @@ use Rattle.std.proofs.lemmas.Slice.Eq.{bytes_eq-Decides}
 use Rattle.sock_ops.specs.Places.{IsIndexOf, place_in}
 use Rattle.sock_ops.specs.Steps.{NotesPlace}
 
--- a key is that text
-abbrev has_text : List ℕ → Vec ℕ Global → Bool
-has_text text k = is_eq (slice_cmp nat_cmp text k.items)
-
-abbrev by_text : Vec ℕ Global → Vec ℕ Global → Ordering
-by_text x y = slice_cmp nat_cmp x.items y.items
+-- a key is that label's
+abbrev has_label : List ℕ → LabelKey → Bool
+has_label text x = is_eq (key_cmp (key_of text) x)
 
 abbrev Entry : Type 0
-Entry = Vec ℕ Global × ℕ
+Entry = LabelKey × ℕ
 
 -- an entry more, by where its key stands against the first
-module _ (text : List ℕ) (v : Vec ℕ Global) (k : ℕ) where
+module _ (text : List ℕ) (v : LabelKey) (k : ℕ) where
   abbrev later_as : Option ℕ → Option ℕ
-  later_as o = cond (has_text text v) (Some k) o
+  later_as o = cond (has_label text v) (Some k) o
 
   twice : (b : Bool) (i : ℕ) (o : Option ℕ) → cond b (Some k) o ≡ cond b (Some k) (cond b (Some i) o)
   twice true i o = refl
@@ -44,26 +39,25 @@ module _ (text : List ℕ) (v : Vec ℕ Global) (k : ℕ) where
   apart true false i o h = refl
   apart false c i o h = refl
 
-  placed : (x : Vec ℕ Global) (i : ℕ) (es more : List Entry) (o : Ordering) → by_text v x ≡ o
-      → lookup (has_text text) more ≡ later_as (lookup (has_text text) es)
-      → lookup (has_text text) (match_ordering o ((v, k) ∷ (x, i) ∷ es) ((x, k) ∷ es) ((x, i) ∷ more)) ≡ later_as (lookup (has_text text) ((x, i) ∷ es))
+  placed : (x : LabelKey) (i : ℕ) (es more : List Entry) (o : Ordering) → key_cmp v x ≡ o
+      → lookup (has_label text) more ≡ later_as (lookup (has_label text) es)
+      → lookup (has_label text) (match_ordering o ((v, k) ∷ (x, i) ∷ es) ((x, k) ∷ es) ((x, i) ∷ more)) ≡ later_as (lookup (has_label text) ((x, i) ∷ es))
   placed x i es more orderings.Less e h = refl
   placed x i es more orderings.Equal e h =
-      let same : v.items ≡ x.items = exact_bytes v.items x.items e in
-      let keys : has_text text x ≡ has_text text v = ap (λ l. is_eq (slice_cmp nat_cmp text l)) (sym same) in
-      ap (λ (b : Bool). cond b (Some k) (lookup (has_text text) es)) keys
-      ∙ twice (has_text text v) i (lookup (has_text text) es)
-      ∙ ap (λ (b : Bool). cond (has_text text v) (Some k) (cond b (Some i) (lookup (has_text text) es))) (sym keys)
+      let keys : has_label text x ≡ has_label text v = ap (has_label text) (sym (same_key v x e)) in
+      ap (λ (b : Bool). cond b (Some k) (lookup (has_label text) es)) keys
+      ∙ twice (has_label text v) i (lookup (has_label text) es)
+      ∙ ap (λ (b : Bool). cond (has_label text v) (Some k) (cond b (Some i) (lookup (has_label text) es))) (sym keys)
   placed x i es more orderings.Greater e h =
-      ap (λ (o : Option ℕ). cond (has_text text x) (Some i) o) h
-      ∙ apart (has_text text v) (has_text text x) i (lookup (has_text text) es)
+      ap (λ (o : Option ℕ). cond (has_label text x) (Some i) o) h
+      ∙ apart (has_label text v) (has_label text x) i (lookup (has_label text) es)
       (λ q.
-      let same : text ≡ v.items = exact_bytes text v.items ((Equal-is (slice_cmp nat_cmp text v.items)).0 q) in
-      ap (λ l. is_eq (slice_cmp nat_cmp l x.items)) same ∙ ap is_eq e)
+      let same : key_of text ≡ v = same_key (key_of text) v ((Equal-is (key_cmp (key_of text) v)).0 q) in
+      ap (λ y. is_eq (key_cmp y x)) same ∙ ap is_eq e)
 
-  one_more : (es : List Entry) → lookup (has_text text) (insert_entry by_text es v k) ≡ later_as (lookup (has_text text) es)
+  one_more : (es : List Entry) → lookup (has_label text) (insert_entry key_cmp es v k) ≡ later_as (lookup (has_label text) es)
   one_more [] = refl
-  one_more ((x, i) ∷ es) = placed x i es (insert_entry by_text es v k) (by_text v x) refl (one_more es)
+  one_more ((x, i) ∷ es) = placed x i es (insert_entry key_cmp es v k) (key_cmp v x) refl (one_more es)
 
 new_by : (a n c m : ℕ) (b : Bool) → a ≤ n → cond (ltb a n) (Some a) None ≡ None → b ≡ true → c ≡ cond (eqb a n) (n + cond b 0 1) a → m ≡ n + 1 → cond (ltb c m) (Some c) None ≡ Some n
 new_by a n c m b le h e is len = grind (arith, nat_tests)
@@ -109,14 +103,15 @@ noted_at labels label text true e none =
 noted_at labels label text false e none = sym (pushed_other (λ l. bytes_eq l text) labels label (turned text label e))
 
 -- the index tells of one label more
-pub noted : (old new : BTreeMap (Vec ℕ Global) ℕ) (label : List ℕ) (place : ℕ) (v : Vec ℕ Global) → v.items ≡ label → get_by (λ k. slice_cmp nat_cmp label k.items) old ≡ None
-    → new.entries ≡ insert_entry by_text old.entries v place → NotesPlace old label place new
-noted old new label place v is absent more labels count h text =
-    ap (lookup (has_text text)) more ∙ one_more text v place old.entries
-    ∙ ap (λ (b : Bool). cond b (Some place) (lookup (has_text text) old.entries)) (is_eq-slice_cmp text v.items ∙ ap (bytes_eq text) is)
-    ∙ ap (λ (o : Option ℕ). cond (bytes_eq text label) (Some place) o) (h text)
+pub noted : (old new : BTreeMap LabelKey ℕ) (label : List ℕ) (place : ℕ) (v : LabelKey) → v ≡ key_of label → IsLabel label → get_by (key_cmp v) old ≡ None
+    → new.entries ≡ insert_entry key_cmp old.entries v place → NotesPlace old label place new
+noted old new label place v is told absent more labels count h text text_told =
+    let nowhere : place_in labels label ≡ None = sym (h label told) ∙ ap (λ x. get_by (key_cmp x) old) (sym is) ∙ absent in
+    ap (lookup (has_label text)) more ∙ one_more text v place old.entries
+    ∙ ap (λ (b : Bool). cond b (Some place) (lookup (has_label text) old.entries)) (ap (has_label text) is ∙ compared text label text_told told)
+    ∙ ap (λ (o : Option ℕ). cond (bytes_eq text label) (Some place) o) (h text text_told)
     ∙ ap (λ (n : ℕ). cond (bytes_eq text label) (Some n) (place_in labels text)) (sym count)
-    ∙ noted_at labels label text (bytes_eq text label) refl (sym (h label) ∙ absent)
+    ∙ noted_at labels label text (bytes_eq text label) refl nowhere
 
 again_at : (labels : List (List ℕ)) (label text : List ℕ) (i : ℕ) (b : Bool) → bytes_eq text label ≡ b → place_in labels label ≡ Some i
     → place_in (labels ++ label ∷ []) text ≡ place_in labels text
@@ -125,9 +120,10 @@ again_at labels label text i true e at =
 again_at labels label text i false e at = pushed_other (λ l. bytes_eq l text) labels label (turned text label e)
 
 -- a label that was given before keeps its first place
-pub noted_again : (old : BTreeMap (Vec ℕ Global) ℕ) (label : List ℕ) (place i : ℕ) → get_by (λ k. slice_cmp nat_cmp label k.items) old ≡ Some i → NotesPlace old label place old
-noted_again old label place i at labels count h text =
-    h text ∙ sym (again_at labels label text i (bytes_eq text label) refl (sym (h label) ∙ at))
+pub noted_again : (old : BTreeMap LabelKey ℕ) (label : List ℕ) (place i : ℕ) (v : LabelKey) → v ≡ key_of label → IsLabel label → get_by (key_cmp v) old ≡ Some i → NotesPlace old label place old
+noted_again old label place i v is told at labels count h text text_told =
+    let there : place_in labels label ≡ Some i = sym (h label told) ∙ ap (λ x. get_by (key_cmp x) old) (sym is) ∙ at in
+    h text text_told ∙ sym (again_at labels label text i (bytes_eq text label) refl there)
 
 within_by : (a n : ℕ) (b : Bool) → ltb a n ≡ b → IfSome (cond b (Some a) None) (λ k. k < n)
 within_by a n true e = grind (arith, nat_tests)

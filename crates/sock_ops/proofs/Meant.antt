@@ -14,7 +14,7 @@ use Rattle.flat_list.specs.Sockets.{is_owner}
 use Rattle.table_model.specs.Tables.{Tables, run, standing_at}
 use Rattle.table_model.specs.Own.{Own, Mine}
 use Rattle.table_model.specs.Commands.{answers, plan}
-use Rattle.table_model.specs.Means.{is_look}
+use Rattle.table_model.specs.Means.{is_lookup}
 use Rattle.table_model.proofs.OwnersStanding.{owners_stand}
 use Rattle.table_model.proofs.OwnersFresh.{unbound_fresh}
 use Rattle.table_model.proofs.GroupsAll.{plans_refine}
@@ -48,14 +48,14 @@ are_of k t meant = record {
 }
 
 -- a command that was carried out refines the list's
-pub refines_each : (k : Kept) (t t' : Tables) (command : Command) (new : Own) (reply : Reply) → k.own.number ≤ 64 → length k.own.labels + 1 < 2 ^ 24 → is_look command ≡ false
+pub refines_each : (k : Kept) (t t' : Tables) (command : Command) (new : Own) (reply : Reply) → k.own.number ≤ 64 → length k.own.labels + 1 < 2 ^ 24 → is_lookup command ≡ false
     → Replies t (plan k.header k.own command) t' new reply → RefinesEach k t command t' new reply
 refines_each k t t' command new reply near few looks carried flat e h =
     plans_refine k.own.number k.own t flat command (record { tables = t'; result = answers new reply }) near few looks h
     (subst (λ (header : Header). run t (plan header k.own command) ≡ Some (record { tables = t'; result = answers new reply })) (sym e) carried)
 
 -- and so does one that may have failed
-pub refines_all : {E : Type 0} (k : Kept) (t t' : Tables) (command : Command) (new : Own) (result : Result Reply E) → k.own.number ≤ 64 → length k.own.labels + 1 < 2 ^ 24 → is_look command ≡ false
+pub refines_all : {E : Type 0} (k : Kept) (t t' : Tables) (command : Command) (new : Own) (result : Result Reply E) → k.own.number ≤ 64 → length k.own.labels + 1 < 2 ^ 24 → is_lookup command ≡ false
     → IfOk result (Replies t (plan k.header k.own command) t' new) → IfOk result (RefinesEach k t command t' new)
 refines_all k t t' command new (Ok reply) near few looks carried = refines_each k t t' command new reply near few looks carried
 refines_all k t t' command new (Err e) near few looks carried = tt

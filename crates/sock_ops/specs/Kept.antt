@@ -2,14 +2,13 @@
 use Rattle.std.specs.Prelude.{◌≡◌, ℕ, ◌+◌, ◌<◌, ◌≤◌, ◌^◌, List, length, map, Option}
 use Rattle.std.specs.Option.{option_map}
 use Rattle.std.specs.BTreeMap.{BTreeMap}
-use Rattle.std.specs.declared.vec.Vec.{Vec}
-use Rattle.std.specs.declared.alloc.Global.{Global}
+use Rattle.flat_list.specs.declared.command.LabelKey.{LabelKey}
 use Rattle.flat_list.specs.Sections.{name_at}
 use Rattle.sock_ops.specs.declared.sock.Sock.{Sock}
 use Rattle.sock_ops.specs.Places.{IsIndexOf, HaveNames, mines}
 
 -- names fit, the index is that of the labels, and each has a place, where its socket has its name
-pub record AreLabels (number : ℕ) (labels : List (List ℕ)) (index : BTreeMap (Vec ℕ Global) ℕ) (sockets : List (Option Sock)) : Type 0 where
+pub record AreLabels (number : ℕ) (labels : List (List ℕ)) (index : BTreeMap LabelKey ℕ) (sockets : List (Option Sock)) : Type 0 where
   pub section : number ≤ 64
   pub few : length labels < 2 ^ 24
   pub index_is : IsIndexOf index labels

@@ -2,11 +2,9 @@
 use Rattle.std.specs.Prelude.{◌≡◌, ℕ, ◌<◌, List, [], ◌∷◌, ◌++◌, length, Option, None, Some, option_and_then, position, bytes_eq, slice_set, map, IfSome}
 use Rattle.std.specs.List.{filter_map, slice_index_or}
 use Rattle.std.specs.Option.{option_map}
-use Rattle.std.specs.Ordering.{nat_cmp}
-use Rattle.std.specs.Cmp.Lexicographic.{slice_cmp}
 use Rattle.std.specs.BTreeMap.{BTreeMap, get_by}
-use Rattle.std.specs.declared.vec.Vec.{Vec}
-use Rattle.std.specs.declared.alloc.Global.{Global}
+use Rattle.flat_list.specs.declared.command.LabelKey.{LabelKey}
+use Rattle.flat_list.specs.Labels.{IsLabel, key_of, key_cmp}
 use Rattle.flat_list.specs.Sections.{name_at}
 use Rattle.table_model.specs.Own.{Own, Mine, Offsets}
 use Rattle.sock_ops.specs.declared.sock.Sock.{Sock}
@@ -16,10 +14,10 @@ use Rattle.sock_ops.specs.Socks.{mine_of, FitsState}
 abbrev pub place_in : List (List ℕ) → List ℕ → Option ℕ
 place_in labels label = position (λ l. bytes_eq l label) labels
 
--- the index tells that of each text
-abbrev pub IsIndexOf : BTreeMap (Vec ℕ Global) ℕ → List (List ℕ) → Type 0
+-- the index tells that of each label, by its key
+abbrev pub IsIndexOf : BTreeMap LabelKey ℕ → List (List ℕ) → Type 0
 IsIndexOf index labels =
-    (text : List ℕ) → get_by (λ k. slice_cmp nat_cmp text k.items) index ≡ place_in labels text
+    (label : List ℕ) → IsLabel label → get_by (key_cmp (key_of label)) index ≡ place_in labels label
 
 -- the sockets of such places
 abbrev pub mines : List (Option Sock) → List (Option Mine)

@@ -10,7 +10,7 @@ ghost use Rattle.sock_ops.specs.Socks.{FitsState, mine_of};
 ghost use Rattle.sock_ops.specs.Steps.{NotesPlace};
 
 use crate::sock::Sock;
-use flat_list::Label;
+use flat_list::{Label, LabelKey};
 use std::alloc::{AllocError, Global};
 use std::collections::BTreeMap;
 use std::marker::Model;
@@ -22,9 +22,8 @@ pub struct Labels {
     number: u32,
     given: Vec<Label>,
     /// Where each label was given first, so that finding it takes no scan.
-    index: BTreeMap<Vec<u8>, usize>,
+    index: BTreeMap<LabelKey, usize>,
     sockets: Vec<Option<Sock>>,
-    alloc: Global,
 }
 
 impl Model for Labels {
@@ -40,16 +39,16 @@ impl Model for Labels {
 
 /// Notes the place of a label, unless it was given before.
 fn note_place(
-    alloc: Global,
-    index: &mut BTreeMap<Vec<u8>, usize>,
+    index: &mut BTreeMap<LabelKey, usize>,
     label: &Label,
     place: usize,
 ) -> Result<(), AllocError>
     ensures noted { OnOk result (NotesPlace index.old label.now place index.new) }
     ensures err { OnErr result (index.new.entries ≡ index.old.entries) }
 {
-    if let None = index.get(label.as_bytes()) {
-        index.insert(Vec::from_slice(alloc, label.as_bytes())?, place)?;
+    let key = label.key();
+    if let None = index.get(&key) {
+        index.insert(key, place)?;
     }
     Ok(())
 }
@@ -74,7 +73,6 @@ impl Labels {
             given: Vec::new(alloc),
             index: BTreeMap::new(alloc),
             sockets: Vec::new(alloc),
-            alloc,
         }
     }
 
@@ -102,7 +100,7 @@ impl Labels {
     {
         self.given.reserve(1)?;
         self.sockets.reserve(1)?;
-        note_place(self.alloc, &mut self.index, &label, self.given.len())?;
+        note_place(&mut self.index, &label, self.given.len())?;
         self.given.push(label)?;
         self.sockets.push(None)?;
         Ok(())
@@ -114,7 +112,7 @@ impl Labels {
         ensures within { IfSome result (λ place. place < length self.now.labels) }
         ensures names { HaveNames (sections.name_at self.now.number) self.now.places }
     {
-        self.index.get(label.as_bytes()).copied()
+        self.index.get(&label.key()).copied()
     }
 
     /// The open socket at the place of a label.

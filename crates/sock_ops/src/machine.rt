@@ -6,7 +6,7 @@ ghost use Rattle.flat_list.specs.Ports.{size};
 ghost use Rattle.table_model.specs.Own as own;
 ghost use Rattle.table_model.specs.Own.{open_socket};
 ghost use Rattle.table_model.specs.Commands as commands;
-ghost use Rattle.table_model.specs.Means.{is_look};
+ghost use Rattle.table_model.specs.Means.{is_lookup};
 ghost use Rattle.table_model.specs.Tables.{Tables as Shown};
 ghost use Rattle.sock_ops.specs.Sections.{AllStand, AreMeant, AreOf, Replies, RefinesEach, Keeps, KeepsHeader, kept, close_answer};
 
@@ -300,7 +300,7 @@ impl Machine {
 
     /// Carries a command out.
     fn carry(&mut self, tables: &mut Tables, command: &Command) -> Result<Reply, AllocError>
-        requires look { is_look command.now ≡ false }
+        requires look { is_lookup command.now ≡ false }
         requires room { length self.old.own.labels + 1 < 2 ^ 24 }
         requires stands { AllStand tables.old self.old.own.sockets }
         requires of { AreOf self.old.header tables.old }
@@ -322,7 +322,7 @@ impl Machine {
                     reuseaddr: *reuseaddr,
                     reuseport: *reuseport,
                 };
-                self.socket(label.try_clone()?, options)
+                self.socket(*label, options)
             }
             Command::Bind { label, end } => self.bind(tables, label, *end),
             Command::Listen { label } => self.listen(tables, label),
@@ -332,22 +332,22 @@ impl Machine {
                 label,
                 from,
                 at,
-            } => self.accept(tables, listener, label.try_clone()?, *from, *at),
+            } => self.accept(tables, listener, *label, *from, *at),
             Command::Close { label } => self.close(tables, label),
             Command::Drop { label } => Ok(self.drop_labelled(tables, label)),
             Command::At { moment } => Ok(self.at(*moment)),
             Command::Reap => self.reap(tables),
-            Command::Look { .. } => Ok(Reply::Einval),
+            Command::Look { .. } | Command::Packets { .. } => Ok(Reply::Einval),
         }
     }
 
-    /// Carries a command out, any but `look`.
+    /// Carries a command out, any but `look` and `packets`.
     ///
     /// The reply is the flat list's. An `Err`, for want of memory, leaves the section's header and number, and
     /// at most one label more; the program ends there. It takes the time of the operation, and for a label that
     /// of a search among as many.
     pub fn step(&mut self, tables: &mut Tables, command: &Command) -> Result<Reply, AllocError>
-        requires look { is_look command.now ≡ false }
+        requires look { is_lookup command.now ≡ false }
         requires number { self.old.own.number ≤ 64 }
         requires room { length self.old.own.labels + 1 < 2 ^ 24 }
         requires meant { AreMeant self.old tables.old }

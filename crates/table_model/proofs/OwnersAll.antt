@@ -72,6 +72,7 @@ all_carried listens n own t flat (commands.Drop label) near few looks h = drop_c
 all_carried listens n own t flat (commands.At moment) near few looks h = at_carried n own t flat h moment
 all_carried listens n own t flat commands.Reap near few looks h = reap_carried n own t flat h near
 all_carried listens n own t flat (commands.Look from to dev) near few looks h = absurd (cc)
+all_carried listens n own t flat (commands.Packets count) near few looks h = absurd (cc)
 
 -- each refines the list's
 pub all_refine : ListenCarried → StaysSound → PlansRefine
@@ -89,3 +90,4 @@ all_end listens n own t flat (commands.Drop label) near looks h = drop_ends n ow
 all_end listens n own t flat (commands.At moment) near looks h = at_ends n own t flat h moment
 all_end listens n own t flat commands.Reap near looks h = ends_so n own t flat commands.Reap (step flat n commands.Reap) (reap_carried n own t flat h near)
 all_end listens n own t flat (commands.Look from to dev) near looks h = absurd (cc)
+all_end listens n own t flat (commands.Packets count) near looks h = absurd (cc)

@@ -10,7 +10,7 @@ use Rattle.flat_list.specs.Step.{step}
 use Rattle.table_model.specs.Tables.{Tables, Ended, run}
 use Rattle.table_model.specs.Own.{Own, Mine, open_socket}
 use Rattle.table_model.specs.Commands.{Replied, plan, bind_command}
-use Rattle.table_model.specs.Means.{Means, PlansRefine, is_look}
+use Rattle.table_model.specs.Means.{Means, PlansRefine, is_lookup}
 use Rattle.table_model.proofs.OwnersOpen.{OpenThere, open_both, open_there}
 use Rattle.table_model.proofs.OwnersSections.{same_labels}
 use Rattle.table_model.proofs.OwnersCarried.{Carried, refines}
@@ -63,7 +63,7 @@ module _ (n : ℕ) (own : Own) (t : Tables) (flat : Flat) (h : Means n own t fla
 -- what each command comes to, beside the list
 abbrev pub AllCarried : Type 0
 AllCarried =
-    (n : ℕ) (own : Own) (t : Tables) (flat : Flat) (command : Command) → n ≤ 64 → length own.labels + 1 < 2 ^ 24 → is_look command ≡ false
+    (n : ℕ) (own : Own) (t : Tables) (flat : Flat) (command : Command) → n ≤ 64 → length own.labels + 1 < 2 ^ 24 → is_lookup command ≡ false
     → Means n own t flat → Carried n t (plan flat.header own command) (step flat n command)
 
 -- all commands refine the list's, where those are carried out so and the list stays sound

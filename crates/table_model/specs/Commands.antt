@@ -134,7 +134,7 @@ module _ (header : Header) where
   close_command own (Some m) =
       and_then (close header.shape header.seed m own.moment) (λ closed. ends (close_reply own m.owner.name closed))
 
-  -- all commands but `look`
+  -- all commands but `look` and `packets`
   unfoldable pub plan : Own → Command → Asking Replied
   plan own (commands.Socket label uid dev reuseaddr reuseport) =
       socket_command own label (record { uid = uid; dev = dev; reuseaddr = reuseaddr; reuseport = reuseport })
@@ -148,3 +148,4 @@ module _ (header : Header) where
   plan own (commands.At moment) = at_command own moment
   plan own commands.Reap = reap_command own
   plan own (commands.Look from to dev) = impossible
+  plan own (commands.Packets count) = impossible

@@ -151,7 +151,7 @@ pub record OwnMeans (n : ℕ) (own : Own) (t : Tables) (flat : Flat) : Type 0 wh
   pub names : Pairs (λ (a b : ℕ). a ≢ b) (map name_in own.sockets ++ map name_in own.waits)
   pub given : Each (λ (w : Mine). IsNameOf n (length own.labels) w.owner.name) own.waits
 
--- a shape as a script may give it: at least one of each, and sums that fit
+-- a shape as a script may give it: one bucket of each kind at least
 pub record IsShape (header : Header) : Type 0 where
   pub bind : 1 ≤ header.shape.bind
   pub hash : 1 ≤ header.shape.hash
@@ -169,22 +169,24 @@ pub record Refines (n : ℕ) (ended : Ended Replied) (flat : Flat) (command : Co
   pub reply : ended.result.reply ≡ (step flat n command).reply
   pub means : Means n ended.result.own ended.tables (step flat n command).flat
 
-abbrev pub is_look : Command → Bool
-is_look (commands.Look from to dev) = true
-is_look _ = false
+-- a command that asks for lookups, and changes nothing
+abbrev pub is_lookup : Command → Bool
+is_lookup (commands.Look from to dev) = true
+is_lookup (commands.Packets count) = true
+is_lookup _ = false
 
 -- a command's plan, carried out on tables that mean a list, replies as the list does, and leaves what it leaves
 abbrev pub PlansRefine : Type 0
 PlansRefine =
     (n : ℕ) (own : Own) (t : Tables) (flat : Flat) (command : Command) (ended : Ended Replied)
-    → n ≤ 64 → length own.labels + 1 < 2 ^ 24 → is_look command ≡ false
+    → n ≤ 64 → length own.labels + 1 < 2 ^ 24 → is_lookup command ≡ false
     → Means n own t flat → run t (plan flat.header own command) ≡ Some ended → Refines n ended flat command
 
 -- and the tables never answer what no table answers
 abbrev pub PlansEnd : Type 0
 PlansEnd =
     (n : ℕ) (own : Own) (t : Tables) (flat : Flat) (command : Command)
-    → n ≤ 64 → is_look command ≡ false → Means n own t flat
+    → n ≤ 64 → is_lookup command ≡ false → Means n own t flat
     → (ended : Ended Replied) × (run t (plan flat.header own command) ≡ Some ended)
 
 -- new tables mean the empty list

@@ -1,8 +1,5 @@
-use Rattle.std.proofs.Common.{List, ℕ, subst}
-use Rattle.std.specs.Prelude.{IfOk}
 use Rattle.table_model.specs.Tables.{Tables}
-use Rattle.table_model.specs.Own.{with_label, next_name, open_socket}
-use Rattle.table_model.specs.Commands.{plan, socket_command, accept_command}
+use Rattle.table_model.specs.Commands.{plan, socket_command}
 use Rattle.sock_ops.specs.Sections.{Replies}
 use Rattle.sock_ops.proofs.Settled.{on_these}
 use Rattle.sock_ops.proofs.machine.Machine.carry.Goals as goal
@@ -35,23 +32,14 @@ pub returns-in-At-clause-carried : goal.returns-in-At-clause-carried
 unfolding plan
 returns-in-At-clause-carried c = rw c.in-At.is (c.at.ensures.carried c.args.tables.now)
 
-pub returns-in_ok-try_clone-in-Socket-clause-carried : goal.returns-in_ok-try_clone-in-Socket-clause-carried
+pub returns-in-Socket-clause-carried : goal.returns-in-Socket-clause-carried
 unfolding plan
-returns-in_ok-try_clone-in-Socket-clause-carried c =
+returns-in-Socket-clause-carried c =
     rw c.in-Socket.is
-    (subst
-    (λ (label : List ℕ). IfOk c.socket.result (Replies c.args.tables.now
-    (socket_command c.args.self.now.own label (record { uid = c.in-Socket.uid; dev = c.in-Socket.dev; reuseaddr = c.in-Socket.reuseaddr; reuseport = c.in-Socket.reuseport })) c.args.tables.now c.socket.new.self.own))
-    c.in_ok-try_clone-in-Socket.ensures
     (on_these (λ (t : Tables). Replies t
-    (socket_command c.args.self.now.own c.in_ok-try_clone-in-Socket.field-0 (record { uid = c.in-Socket.uid; dev = c.in-Socket.dev; reuseaddr = c.in-Socket.reuseaddr; reuseport = c.in-Socket.reuseport })) t c.socket.new.self.own)
-    c.socket.result c.args.tables.now c.socket.ensures.carried))
+    (socket_command c.args.self.now.own c.in-Socket.label (record { uid = c.in-Socket.uid; dev = c.in-Socket.dev; reuseaddr = c.in-Socket.reuseaddr; reuseport = c.in-Socket.reuseport })) t c.socket.new.self.own)
+    c.socket.result c.args.tables.now c.socket.ensures.carried)
 
-pub returns-in_ok-try_clone-in-Accept-clause-carried : goal.returns-in_ok-try_clone-in-Accept-clause-carried
+pub returns-in-Accept-clause-carried : goal.returns-in-Accept-clause-carried
 unfolding plan
-returns-in_ok-try_clone-in-Accept-clause-carried c =
-    rw c.in-Accept.is
-    (subst
-    (λ (label : List ℕ). IfOk c.accept.result (Replies c.args.tables.now
-    (accept_command c.args.self.now.header (with_label c.args.self.now.own label) (next_name c.args.self.now.own) (open_socket c.args.self.now.own c.in-Accept.listener) c.in-Accept.from c.in-Accept.at) c.accept.new.tables c.accept.new.self.own))
-    c.in_ok-try_clone-in-Accept.ensures c.accept.ensures.carried)
+returns-in-Accept-clause-carried c = rw c.in-Accept.is c.accept.ensures.carried
