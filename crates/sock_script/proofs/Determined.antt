@@ -10,7 +10,7 @@ use Rattle.sock_script.specs.declared.line.Line.{Line}
 use Rattle.sock_script.specs.declared.line.Line.TheVariants as lines
 use Rattle.sock_script.specs.Forms.{HasForm, command_words, CommandFits, EndFits, DeviceFits, ShapeFits, SourceFits, RangeFits, range_words, shape_words, UserFits, user_words, device_words, flag_words, source_words}
 use Rattle.sock_script.proofs.Verbs.{word_code, verb_code, never}
-use Rattle.sock_script.proofs.Words.{second_is, third_is, past_two, past_three, options_of, rest-lacks_uid, flags-lack_dev, reuseport-lacks_reuseaddr, flag-last, device-last, one_switch}
+use Rattle.sock_script.proofs.Words.{second_is, third_is, past_one, past_two, past_three, options_of, rest-lacks_uid, flags-lack_dev, reuseport-lacks_reuseaddr, flag-last, device-last, one_switch}
 use Rattle.inet_io.specs.Texts.{end_text}
 use Rattle.inet_io.proofs.EndTexts.{addr_text_injective, end_text_injective}
 
@@ -109,6 +109,7 @@ one_command (commands.Drop l) (commands.Drop m) h x y = ap commands.Drop (second
 one_command (commands.At m) (commands.At n) h x y = ap commands.At (decimal_injective m n (omega arith) (omega arith) (second_is _ _ _ _ _ _ h))
 one_command commands.Reap commands.Reap h x y = refl
 one_command (commands.Look a b e) (commands.Look c d f) h x y = one_look a b c d e f x y h
+one_command (commands.Packets m) (commands.Packets n) h x y = ap commands.Packets (decimal_injective m n (omega arith) (omega arith) (second_is _ _ _ _ _ _ h))
 one_command c k h x y = absurd (never (verb_code (command_words c)) (verb_code (command_words k)) (ap verb_code h) refl)
 
 -- the numbers of a table line
@@ -137,7 +138,7 @@ one_range a b x y h =
     ap (λ l. P l a.high) low ∙ ap (P b.low) high
 
 -- the kind of line that a first word begins: 1 a table's, 2 a section's, 3 a range's, 4 a seed's, 5 an offset's, 6 a
--- switch's, 7 a command
+-- switch's, 8 a capture's, 7 a command
 abbrev verb_kind : ℕ → ℕ
 verb_kind verb =
     cond (verb == word_code 0 (codes "table")) 1
@@ -145,7 +146,8 @@ verb_kind verb =
     (cond (verb == word_code 0 (codes "range")) 3
     (cond (verb == word_code 0 (codes "seed")) 4
     (cond (verb == word_code 0 (codes "offset")) 5
-    (cond (verb == word_code 0 (codes "twreuse")) 6 7)))))
+    (cond (verb == word_code 0 (codes "twreuse")) 6
+    (cond (verb == word_code 0 (codes "capture")) 8 7))))))
 
 -- the kind of line that words are, where 0 is a line that is passed over
 abbrev words_kind : List (List ℕ) → ℕ
@@ -162,6 +164,7 @@ line_kind (lines.Range range) = 3
 line_kind (lines.Seed seed) = 4
 line_kind (lines.Offset offset) = 5
 line_kind (lines.TimeWaitReuse reuse) = 6
+line_kind (lines.Capture dev) = 8
 line_kind (lines.Command command) = 7
 
 -- no command begins like a header line, a section or a comment
@@ -180,6 +183,7 @@ has_kind w (lines.Range range) h = ap words_kind h.0
 has_kind w (lines.Seed seed) h = ap words_kind h.0
 has_kind w (lines.Offset offset) h = ap words_kind h.0
 has_kind w (lines.TimeWaitReuse reuse) h = ap words_kind h
+has_kind w (lines.Capture dev) h = ap words_kind h.0
 has_kind w (lines.Command command) h = ap words_kind h.0 ∙ command-kind command
 
 -- words are one line at most
@@ -194,5 +198,7 @@ one_form w (lines.Seed n) (lines.Seed m) h k =
 one_form w (lines.Offset n) (lines.Offset m) h k =
     ap lines.Offset (decimal_injective n m (omega (arith, h.1)) (omega (arith, k.1)) (second_is _ _ _ _ _ _ (sym h.0 ∙ k.0)))
 one_form w (lines.TimeWaitReuse r) (lines.TimeWaitReuse s) h k = ap lines.TimeWaitReuse (one_switch r s (second_is _ _ _ _ _ _ (sym h ∙ k)))
+one_form w (lines.Capture d) (lines.Capture e) h k =
+    ap lines.Capture (one_device d e [] [] h.1 k.1 (λ l. cc) (λ l. cc) (sym (device-last d) ∙ past_one _ _ _ _ (sym h.0 ∙ k.0) ∙ device-last e)).0
 one_form w (lines.Command c) (lines.Command d) h k = ap lines.Command (one_command c d (sym h.0 ∙ k.0) h.1 k.1)
 one_form w l m h k = absurd (never (line_kind l) (line_kind m) (sym (has_kind w l h) ∙ has_kind w m k) refl)

@@ -12,9 +12,8 @@ use Rattle.sock_card.specs.declared.card.Card.{Card}
 use Rattle.flat_list.specs.declared.command.Command.{Command}
 use Rattle.flat_list.specs.declared.command.Reply.{Reply}
 use Rattle.flat_list.specs.declared.command.Reply.TheVariants as replies
-use Rattle.flat_list.specs.Run.{Issued}
 use Rattle.sock_script.specs.Grammar.{given_label, labels_of}
-use Rattle.sock_script.specs.Output.{label_in, found_label, line_with, lines_text}
+use Rattle.sock_script.specs.Output.{Event, asked, stored, label_in, found_label, line_with, item_line, lines_text}
 use Rattle.sock_script.specs.Steps.{label_table, label_at, found_at, lines_at}
 
 -- a section's row in the table; where there is none, no label is found
@@ -38,12 +37,15 @@ label_of_reply sections (replies.Found answer) = label_of_found sections answer
 label_of_reply sections reply = refl
 
 -- so the lines are those of the script's own labels
-pub same_lines : (sections : List (List Command)) (cs : List Issued) (rs : List Reply) → lines_at (label_table sections) cs rs ≡ lines_text sections cs rs
-same_lines sections [] [] = refl
-same_lines sections [] (r ∷ rs) = refl
-same_lines sections (c ∷ cs) [] = refl
-same_lines sections (c ∷ cs) (r ∷ rs) =
-    ap₂ ◌++◌ (ap (λ label. line_with c.section c.command label r) (label_of_reply sections r)) (same_lines sections cs rs)
+pub same_lines : (sections : List (List Command)) (number : ℕ) (events : List Event) (rs : List Reply) → lines_at (label_table sections) number events rs ≡ lines_text sections number events rs
+same_lines sections number [] [] = refl
+same_lines sections number [] (r ∷ rs) = refl
+same_lines sections number (asked c ∷ events) [] = refl
+same_lines sections number (stored item ∷ events) [] = refl
+same_lines sections number (asked c ∷ events) (r ∷ rs) =
+    ap₂ ◌++◌ (ap (λ label. line_with c.section c.command label r) (label_of_reply sections r)) (same_lines sections number events rs)
+same_lines sections number (stored item ∷ events) (r ∷ rs) =
+    ap₂ ◌++◌ (ap (λ label. item_line number label r) (label_of_reply sections r)) (same_lines sections (number + 1) events rs)
 
 -- the labels of one command more
 one_more : (commands : List Command) (i : ℕ) (c : Command) → i < length commands → c ≡ get_or commands i c

@@ -5,9 +5,11 @@ pub mod Determined
 pub mod FirstWord
 pub mod Fronts
 pub mod Issued
+pub mod Events
 pub mod Labels
 pub mod LabelTable
 pub mod LastSection
+pub mod LineCases
 pub mod LineTurns
 pub mod ListsBetween
 pub mod ReadLines
@@ -17,3 +19,8 @@ pub mod SectionsApart
 pub mod Small
 pub mod SoundLists
 pub mod Turns
+pub mod SpacedWords
+pub mod StepWords
+pub mod StepTurns
+pub mod MadeTexts
+pub mod CountTurns

@@ -1,93 +1,165 @@
--- A turn of the loops over a section's commands and replies, and over the sections.
-use Rattle.std.proofs.Common.{◌≡◌, ℕ, ◌+◌, ◌-◌, ◌≤◌, ◌<◌, ◌∙◌, ◌⊎◌, inl, inr, zero, suc, min, List, [], ◌∷◌, ◌++◌, length, take, drop, get_or, map, sym, refl, ap, subst, arith, append_assoc, append-nil}
+-- A turn of the loops that write lines: over items, over a section's commands, and over the sections.
+use Rattle.std.proofs.Common.{◌≡◌, ℕ, ◌+◌, ◌-◌, ◌≤◌, ◌<◌, ◌∙◌, zero, suc, min, Bool, false, List, [], ◌∷◌, ◌++◌, length, take, drop, get_or, map, sym, refl, ap, ap₂, subst, arith, append_assoc, append-nil, length-append, take_all}
 use Rattle.std.proofs.Math.Seq.{drop-cons}
 use Rattle.std.proofs.lemmas.Grind.{common_steps}
-use Rattle.std.proofs.lemmas.List.{length-map, take-append-drop, length-take, length-drop, drop_all, nil_from_length}
-use Rattle.std.proofs.lemmas.Bool.{cases_lt}
+use Rattle.std.proofs.lemmas.List.{length-take, length-drop, nil_from_length}
+use Rattle.capture_reader.specs.declared.packet.Item.{Item}
 use Rattle.flat_list.specs.declared.command.Command.{Command}
+use Rattle.flat_list.specs.declared.command.Command.TheVariants as commands
 use Rattle.flat_list.specs.declared.command.Reply.{Reply}
 use Rattle.flat_list.specs.Run.{Issued}
-use Rattle.sock_script.specs.Output.{issued_from, line_with}
-use Rattle.sock_script.specs.Steps.{issue, found_at, lines_at}
+use Rattle.sock_script.specs.Output.{Event, asked, stored, events_at, events_from, left_by, issued_from, line_with, item_line}
+use Rattle.sock_script.specs.Steps.{issue, takes_items, found_at, lines_at, item_lines, Unwritten, NextOf, TakenOf, HasRoom, WritesItems, WritesSo, Writes}
+use Rattle.sock_script.proofs.Events.{asks_alone, leaves_all}
 use Rattle.sock_script.proofs.RunTurns.{next_drop}
 
--- where so many are passed as the shorter list has, one is at its end
-one_over : {A B : Type 0} (xs : List A) (ys : List B) (i : ℕ) → i ≡ min (length xs) (length ys) → (drop i xs ≡ []) ⊎ (drop i ys ≡ [])
-one_over xs ys i is =
-    elim (cases_lt i (length xs)) [
-      | inl lt ↦ inr (drop_all i ys (omega arith))
-      | inr le ↦ inl (drop_all i xs le)
-    ]
+-- no replies are left where fewer were taken than items
+none_left : (old new : Unwritten) (count : ℕ) (here : List Reply) → TakenOf old count here new → length here < min count (length old.items) → new.replies ≡ []
+none_left old new count here t less =
+    nil_from_length new.replies (omega (arith, t.most, ap length t.replies, length-append here new.replies))
 
 module _ (table : List (List (List ℕ))) where
   -- where no replies are left there are no lines
-  no_replies : (cs : List Issued) → lines_at table cs [] ≡ []
-  no_replies [] = refl
-  no_replies (c ∷ cs) = refl
+  no_replies : (number : ℕ) (events : List Event) → lines_at table number events [] ≡ []
+  no_replies number [] = refl
+  no_replies number (asked c ∷ events) = refl
+  no_replies number (stored item ∷ events) = refl
 
-  no_commands : (rs : List Reply) → lines_at table [] rs ≡ []
-  no_commands [] = refl
-  no_commands (r ∷ rs) = refl
+  -- nor where no events are left
+  no_events : (number : ℕ) (replies : List Reply) → lines_at table number [] replies ≡ []
+  no_events number [] = refl
+  no_events number (reply ∷ replies) = refl
 
-  -- the lines of commands in two parts, where the first part's have all replies that they can have
-  pub lines_append : (xs ys : List Issued) (here later : List Reply) → length here ≤ length xs → (length here < length xs → later ≡ [])
-      → lines_at table (xs ++ ys) (here ++ later) ≡ lines_at table xs here ++ lines_at table ys later
-  lines_append [] ys [] later le all = refl
-  lines_append [] ys (r ∷ here) later le all = absurd (omega arith)
-  lines_append (c ∷ xs) ys [] later le all =
+  -- the lines of one item more, which come before those of the rest
+  one_item : (before next a b : List ℕ) → a ≡ next ++ b → before ++ a ≡ (before ++ next) ++ b
+  one_item before next a b e = ap (λ l. before ++ l) e ∙ sym (append_assoc before next b)
+
+  -- the lines of items and of what follows, where the items have all replies that they can have
+  items_written : (xs : List Item) (events : List Event) (number : ℕ) (here later : List Reply) → length here ≤ length xs → (length here < length xs → later ≡ [])
+      → lines_at table number (map stored xs ++ events) (here ++ later) ≡ item_lines table number here ++ lines_at table (number + length xs) events later
+  items_written [] events number [] later le all =
+      let same : number ≡ number + 0 = omega arith in
+      ap (λ k. lines_at table k events later) same
+  items_written [] events number (r ∷ here) later le all = absurd (omega arith)
+  items_written (x ∷ xs) events number [] later le all =
       let none : later ≡ [] = all (omega arith) in
-      rw none (sym (no_replies ys))
-  lines_append (c ∷ xs) ys (r ∷ here) later le all =
-      ap (λ rest. line_with c.section c.command (found_at table r) r ++ rest) (lines_append xs ys here later (omega arith) (λ lt. all (omega arith)))
-      ∙ sym (append_assoc (line_with c.section c.command (found_at table r) r) _ _)
+      rw none (sym (no_replies (number + length (x ∷ xs)) events))
+  items_written (x ∷ xs) events number (r ∷ here) later le all =
+      let same : number + 1 + length xs ≡ number + length (x ∷ xs) = omega arith in
+      one_item (item_line number (found_at table r) r) (item_lines table (number + 1) here) _ _
+      (items_written xs events (number + 1) here later (omega arith) (λ lt. all (omega arith))
+      ∙ ap (λ k. item_lines table (number + 1) here ++ lines_at table k events later) same)
 
-  -- what was written, with the lines of the rest, is what all lines are
-  abbrev pub WroteSoFar : ℕ → List Command → List Reply → List ℕ → List ℕ → ℕ → Type 0
-  WroteSoFar n commands rs before out i =
-      out ++ lines_at table (issue n (drop i commands)) (drop i rs) ≡ before ++ lines_at table (issue n commands) rs
+  module _ (old new : Unwritten) (before out : List ℕ) where
+    -- the lines of the next items
+    pub wrote_items : (count : ℕ) (here : List Reply) → TakenOf old count here new → out ≡ before ++ item_lines table old.number here → WritesItems table count old before out new
+    wrote_items count here t is = record {
+      lines = λ events.
+          let front : length (take count old.items) ≡ min count (length old.items) = length-take count old.items in
+          let number : new.number ≡ old.number + length (take count old.items) = omega (arith, t.number, front) in
+          ap (λ o. o ++ lines_at table new.number events new.replies) is
+          ∙ append_assoc before _ _
+          ∙ ap (λ k. before ++ (item_lines table old.number here ++ lines_at table k events new.replies)) number
+          ∙ ap (λ l. before ++ l) (sym (items_written (take count old.items) events old.number here new.replies (omega (arith, t.most)) (λ less. none_left old new count here t (omega arith))))
+          ∙ ap (λ r. before ++ lines_at table old.number (map stored (take count old.items) ++ events) r) (sym t.replies);
+      items = t.items;
+      room = omega (arith, t.number, ap length t.items, length-drop count old.items);
+    }
 
-  pub wrote_more : (n : ℕ) (commands : List Command) (rs : List Reply) (before out new : List ℕ) (i : ℕ) (c : Command) (r : Reply)
-      → i < length commands → i < length rs → c ≡ get_or commands i c → r ≡ get_or rs i r
-      → WroteSoFar n commands rs before out i → new ≡ out ++ line_with n c (found_at table r) r → WroteSoFar n commands rs before new (i + 1)
-  wrote_more n commands rs before out new i c r lt lt' here here' h is =
-      let left = next_drop commands i c lt here in
-      let left' = next_drop rs i r lt' here' in
-      ap (λ l. l ++ lines_at table (issue n (drop (i + 1) commands)) (drop (i + 1) rs)) is
-      ∙ append_assoc out _ _
-      ∙ sym (λ k. out ++ lines_at table (issue n (left k)) (left' k)) ∙ h
+    -- `packets`
+    pub wrote_packets : (n count : ℕ) → WritesItems table count old before out new → Writes table (issue n (commands.Packets count ∷ [])) old before out new
+    wrote_packets n count w = record {
+      lines = λ later.
+          w.lines (events_from new.items later)
+          ∙ ap (λ l. before ++ lines_at table old.number (map stored (take count old.items) ++ events_from l later) old.replies) w.items;
+      room = w.room;
+    }
 
-  pub wrote_all : (n : ℕ) (commands : List Command) (rs : List Reply) (before out : List ℕ) (i : ℕ) → i ≡ min (length commands) (length rs)
-      → WroteSoFar n commands rs before out i → out ≡ before ++ lines_at table (issue n commands) rs
-  wrote_all n commands rs before out i is h =
-      elim (one_over commands rs i is) [
-        | inl over ↦ sym (append-nil out) ∙ ap (λ l. out ++ l) (sym (no_commands (drop i rs))) ∙ ap (λ l. out ++ lines_at table (issue n l) (drop i rs)) (sym over) ∙ h
-        | inr over ↦ sym (append-nil out) ∙ ap (λ l. out ++ l) (sym (no_replies (issue n (drop i commands)))) ∙ ap (λ l. out ++ lines_at table (issue n (drop i commands)) l) (sym over) ∙ h
-      ]
+    -- the line of another command
+    pub wrote_asked : (n : ℕ) (command : Command) (reply : Reply) → takes_items command ≡ false → NextOf old reply new → out ≡ before ++ line_with n command (found_at table reply) reply
+        → Writes table (issue n (command ∷ [])) old before out new
+    wrote_asked n command reply other next is = record {
+      lines = λ later.
+          let c : Issued = record { section = n; command = command } in
+          ap (λ o. o ++ lines_at table new.number (events_from new.items later) new.replies) is
+          ∙ append_assoc before _ _
+          ∙ ap₂ (λ k l. before ++ (line_with n command (found_at table reply) reply ++ lines_at table k (events_from l later) new.replies)) next.number next.items
+          ∙ ap (λ r. before ++ lines_at table old.number (asked c ∷ events_from old.items later) r) (sym next.replies)
+          ∙ sym (ap₂ (λ e l. before ++ lines_at table old.number (e ++ events_from l later) old.replies) (asks_alone c command old.items other) (leaves_all command old.items other));
+      room = omega (arith, next.number, ap length next.items);
+    }
+
+  -- nothing is written where no reply is left
+  pub wrote_none : (old : Unwritten) (out : List ℕ) (n : ℕ) (command : Command) → takes_items command ≡ false → old.replies ≡ [] → Writes table (issue n (command ∷ [])) old out out old
+  wrote_none old out n command other none = record {
+    lines = λ later.
+        let c : Issued = record { section = n; command = command } in
+        rw none (ap (λ l. out ++ l) (no_replies old.number (events_from old.items later) ∙ sym (no_replies old.number (events_at c command old.items ++ events_from (left_by command old.items) later))));
+    room = omega arith;
+  }
+
+  -- what was written, with the lines of the rest and of later commands, is what all lines are
+  pub record WroteSoFar (n : ℕ) (commands : List Command) (old left : Unwritten) (before out : List ℕ) (i : ℕ) : Type 0 where
+    pub lines : (later : List Issued)
+        → out ++ lines_at table left.number (events_from left.items (issue n (drop i commands) ++ later)) left.replies
+        ≡ before ++ lines_at table old.number (events_from old.items (issue n commands ++ later)) old.replies
+    pub room : HasRoom old left
+
+  pub wrote_start : (n : ℕ) (commands : List Command) (old : Unwritten) (out : List ℕ) → WroteSoFar n commands old old out out 0
+  wrote_start n commands old out = record { lines = λ later. refl; room = omega arith }
+
+  pub wrote_more : (n : ℕ) (commands : List Command) (old left new : Unwritten) (before out next : List ℕ) (i : ℕ) (c : Command) → i < length commands → c ≡ get_or commands i c
+      → WroteSoFar n commands old left before out i → Writes table (issue n (c ∷ [])) left out next new → WroteSoFar n commands old new before next (i + 1)
+  wrote_more n commands old left new before out next i c lt here h w = record {
+    lines = λ later.
+        let rest : drop i commands ≡ c ∷ drop (i + 1) commands = next_drop commands i c lt here in
+        w.lines (issue n (drop (i + 1) commands) ++ later)
+        ∙ sym (ap (λ l. out ++ lines_at table left.number (events_from left.items (issue n l ++ later)) left.replies) rest)
+        ∙ h.lines later;
+    room = omega (arith, h.room, w.room);
+  }
+
+  pub wrote_all : (n : ℕ) (commands : List Command) (old left : Unwritten) (before out : List ℕ) (i : ℕ) → length commands ≤ i
+      → WroteSoFar n commands old left before out i → Writes table (issue n commands) old before out left
+  wrote_all n commands old left before out i le h = record {
+    lines = λ later.
+        let none : drop i commands ≡ [] = grind (arith, common_steps) in
+        sym (ap (λ l. out ++ lines_at table left.number (events_from left.items (issue n l ++ later)) left.replies) none)
+        ∙ h.lines later;
+    room = h.room;
+  }
 
   -- the same of whole sections
-  abbrev pub WroteSections : List (List Command) → List Reply → List ℕ → List Reply → ℕ → Type 0
-  WroteSections all rs out rest i =
-      out ++ lines_at table (issued_from (i + 1) (drop i all)) rest ≡ lines_at table (issued_from 1 all) rs
+  pub record WroteSections (all : List (List Command)) (old left : Unwritten) (out : List ℕ) (i : ℕ) : Type 0 where
+    pub lines : out ++ lines_at table left.number (events_from left.items (issued_from (i + 1) (drop i all))) left.replies
+        ≡ lines_at table old.number (events_from old.items (issued_from 1 all)) old.replies
+    pub room : HasRoom old left
 
-  pub wrote_section : (all : List (List Command)) (rs : List Reply) (out new : List ℕ) (rest here later : List Reply) (i : ℕ) (commands : List Command)
-      → i < length all → commands ≡ get_or all i commands → WroteSections all rs out rest i
-      → here ≡ take (min (length commands) (length rest)) rest → later ≡ drop (min (length commands) (length rest)) rest
-      → new ≡ out ++ lines_at table (issue (i + 1) commands) here → WroteSections all rs new later (i + 1)
-  wrote_section all rs out new rest here later i commands lt at h front back is =
-      let n : ℕ = min (length commands) (length rest) in
-      let left : drop i all ≡ commands ∷ drop (i + 1) all = next_drop all i commands lt at in
-      let whole : here ++ later ≡ rest = (λ k. front k ++ back k) ∙ take-append-drop n rest in
-      let issued_length : length (issue (i + 1) commands) ≡ length commands = length-map commands _ in
-      let front_length : length here ≡ n = ap length front ∙ length-take n rest ∙ omega arith in
-      let back_length : length later ≡ length rest - n = ap length back ∙ length-drop n rest in
-      ap (λ l. l ++ lines_at table (issued_from (i + 1 + 1) (drop (i + 1) all)) later) is
-      ∙ append_assoc out _ _
-      ∙ ap (λ l. out ++ l) (sym (lines_append (issue (i + 1) commands) (issued_from (i + 1 + 1) (drop (i + 1) all)) here later (omega arith) (λ less. nil_from_length later (omega arith))))
-      ∙ ap (λ l. out ++ lines_at table (issue (i + 1) commands ++ issued_from (i + 1 + 1) (drop (i + 1) all)) l) whole
-      ∙ sym (ap (λ l. out ++ lines_at table (issued_from (i + 1) l) rest) left) ∙ h
+  pub sections_unwritten : (all : List (List Command)) (old : Unwritten) → WroteSections all old old [] 0
+  sections_unwritten all old = record { lines = refl; room = omega arith }
 
-  pub wrote_sections : (all : List (List Command)) (rs : List Reply) (out : List ℕ) (rest : List Reply) (i : ℕ) → length all ≤ i
-      → WroteSections all rs out rest i → out ≡ lines_at table (issued_from 1 all) rs
-  wrote_sections all rs out rest i le h =
+  pub wrote_section : (all : List (List Command)) (old left new : Unwritten) (out next : List ℕ) (i : ℕ) (commands : List Command)
+      → i < length all → commands ≡ get_or all i commands → WroteSections all old left out i
+      → Writes table (issue (i + 1) commands) left out next new → WroteSections all old new next (i + 1)
+  wrote_section all old left new out next i commands lt at h w = record {
+    lines =
+        let rest : drop i all ≡ commands ∷ drop (i + 1) all = next_drop all i commands lt at in
+        w.lines (issued_from (i + 1 + 1) (drop (i + 1) all))
+        ∙ sym (ap (λ l. out ++ lines_at table left.number (events_from left.items (issued_from (i + 1) l)) left.replies) rest)
+        ∙ h.lines;
+    room = omega (arith, h.room, w.room);
+  }
+
+  -- all sections, and then the items that were left
+  pub wrote_sections : (all : List (List Command)) (old left new : Unwritten) (out next : List ℕ) (i : ℕ) → length all ≤ i
+      → WroteSections all old left out i → WritesItems table (length left.items) left out next new
+      → next ≡ lines_at table old.number (events_from old.items (issued_from 1 all)) old.replies
+  wrote_sections all old left new out next i le h w =
       let none : drop i all ≡ [] = grind (arith, common_steps) in
-      sym (append-nil out) ∙ ap (λ l. out ++ l) (sym (no_commands rest)) ∙ ap (λ l. out ++ lines_at table (issued_from (i + 1) l) rest) (sym none) ∙ h
+      sym (append-nil next)
+      ∙ ap (λ l. next ++ l) (sym (no_events new.number new.replies))
+      ∙ w.lines []
+      ∙ ap (λ e. out ++ lines_at table left.number e left.replies) (append-nil (map stored (take (length left.items) left.items)))
+      ∙ ap (λ l. out ++ lines_at table left.number (map stored l) left.replies) (take_all (length left.items) left.items (omega arith))
+      ∙ sym (ap (λ l. out ++ lines_at table left.number (events_from left.items (issued_from (i + 1) l)) left.replies) none)
+      ∙ h.lines

@@ -5,6 +5,7 @@ use Rattle.std.proofs.lemmas.Grind.{common_steps}
 use Rattle.std.proofs.lemmas.List.{length-map, get_or-map}
 use Rattle.std.specs.declared.vec.Vec.{Vec}
 use Rattle.std.specs.declared.alloc.Global.{Global}
+use Rattle.capture_reader.specs.declared.packet.Item.{Item}
 use Rattle.list_words.specs.Lists.{Each}
 use Rattle.flat_list.specs.Script.{Script, IsSmall}
 use Rattle.flat_list.specs.declared.command.Command.{Command}
@@ -12,68 +13,70 @@ use Rattle.flat_list.specs.Flat.{Flat}
 use Rattle.flat_list.specs.Sections.{labels_of, GivesOneAtMost, KeepsOthers}
 use Rattle.flat_list.specs.declared.header.Header.{Header}
 use Rattle.flat_list.specs.declared.command.Reply.{Reply}
-use Rattle.flat_list.specs.Run.{after}
-use Rattle.flat_list.specs.Step.{step}
-use Rattle.sock_script.specs.Output.{issued_from, replies_from, new_flat}
+use Rattle.flat_list.specs.Run.{Issued, after}
+use Rattle.sock_script.specs.Output.{issued_from, events_from, replies_from, item_reply, new_flat}
 use Rattle.sock_script.specs.Steps.{issue, RunsCommand, RunsSection}
-use Rattle.sock_script.proofs.Issued.{replies_append}
+use Rattle.sock_script.proofs.Events.{last_replied}
 
--- what was replied, with what will be to the rest of the commands, is what is replied to all of them
-pub record RanSoFar (n : ℕ) (first flat : Flat) (rest all : List Command) (before out : List Reply) (i : ℕ) : Type 0 where
-  pub replied : out ++ replies_from flat (issue n rest) ≡ before ++ replies_from first (issue n all)
+-- what was replied, with what will be to the rest of the commands and to later ones, is what is replied to all of them
+pub record RanSoFar (n : ℕ) (first flat : Flat) (rest all : List Command) (items left : List Item) (before out : List Reply) (i : ℕ) : Type 0 where
+  pub replied : (later : List Issued)
+      → out ++ replies_from flat (events_from left (issue n rest ++ later)) ≡ before ++ replies_from first (events_from items (issue n all ++ later))
   pub last : after flat (issue n rest) ≡ after first (issue n all)
   pub room : length (labels_of n flat.sections) ≤ length (labels_of n first.sections) + i
   pub others : KeepsOthers n first.sections flat.sections
 
-pub ran_start : (n : ℕ) (flat : Flat) (all : List Command) (out : List Reply) → RanSoFar n flat flat all all out out 0
-ran_start n flat all out = record { replied = refl; last = refl; room = omega arith; others = λ m apart. refl }
+pub ran_start : (n : ℕ) (flat : Flat) (all : List Command) (items : List Item) (out : List Reply) → RanSoFar n flat flat all all items items out out 0
+ran_start n flat all items out = record { replied = λ later. refl; last = refl; room = omega arith; others = λ m apart. refl }
 
-ran_next : (n : ℕ) (first flat next : Flat) (c : Command) (rest all : List Command) (before out new : List Reply) (i : ℕ) → RanSoFar n first flat (c ∷ rest) all before out i → RunsCommand flat next n c out new → GivesOneAtMost flat.sections next.sections → KeepsOthers n flat.sections next.sections → RanSoFar n first next rest all before new (i + 1)
-ran_next n first flat next c rest all before out new i h r g o = record {
-  replied = rw (r.replied, r.flat) (append_assoc out ((step flat n c).reply ∷ []) _ ∙ h.replied);
-  last = rw r.flat h.last;
-  room = omega (arith, h.room, g n);
-  others = λ m apart. o m apart ∙ h.others m apart;
-}
+module _ (n : ℕ) (first flat next : Flat) (items left left_after : List Item) (before out new : List Reply) (i : ℕ) where
+  pub ran_next : (c : Command) (rest all : List Command) → RanSoFar n first flat (c ∷ rest) all items left before out i → RunsCommand flat next n c left left_after out new → GivesOneAtMost flat.sections next.sections → KeepsOthers n flat.sections next.sections → RanSoFar n first next rest all items left_after before new (i + 1)
+  ran_next c rest all h r g o = record {
+    replied = λ later. r.replied (issue n rest ++ later) ∙ h.replied later;
+    last = rw r.flat h.last;
+    room = omega (arith, h.room, g n);
+    others = λ m apart. o m apart ∙ h.others m apart;
+  }
 
-pub ran_more : (n : ℕ) (first flat next : Flat) (all : List Command) (d : Command) (before out new : List Reply) (i : ℕ) → i < length all → RanSoFar n first flat (drop i all) all before out i → RunsCommand flat next n (get_or all i d) out new → GivesOneAtMost flat.sections next.sections → KeepsOthers n flat.sections next.sections → RanSoFar n first next (drop (i + 1) all) all before new (i + 1)
-ran_more n first flat next all d before out new i lt h r g o =
-    let more : suc i ≡ i + 1 = omega arith in
-    subst (λ k. RanSoFar n first next (drop k all) all before new (i + 1)) more
-    (ran_next n first flat next (get_or all i d) (drop (suc i) all) all before out new i
-    (subst (λ l. RanSoFar n first flat l all before out i) (drop-cons all i d lt) h) r g o)
+  pub ran_more : (all : List Command) (d : Command) → i < length all → RanSoFar n first flat (drop i all) all items left before out i → RunsCommand flat next n (get_or all i d) left left_after out new → GivesOneAtMost flat.sections next.sections → KeepsOthers n flat.sections next.sections → RanSoFar n first next (drop (i + 1) all) all items left_after before new (i + 1)
+  ran_more all d lt h r g o =
+      let more : suc i ≡ i + 1 = omega arith in
+      subst (λ k. RanSoFar n first next (drop k all) all items left_after before new (i + 1)) more
+      (ran_next (get_or all i d) (drop (suc i) all) all
+      (subst (λ l. RanSoFar n first flat l all items left before out i) (drop-cons all i d lt) h) r g o)
 
-pub ran_all : (n : ℕ) (first flat : Flat) (all : List Command) (before out : List Reply) (i : ℕ) → RanSoFar n first flat [] all before out i → RunsSection first flat n all before out
-ran_all n first flat all before out i h = record { replied = sym (append-nil out) ∙ h.replied; flat = h.last; others = h.others }
+pub ran_all : (n : ℕ) (first flat : Flat) (all : List Command) (items left : List Item) (before out : List Reply) (i : ℕ) → RanSoFar n first flat [] all items left before out i → RunsSection first flat n all items left before out
+ran_all n first flat all items left before out i h = record { replied = h.replied; flat = h.last; others = h.others }
 
 -- what was replied, with what will be to the rest of the sections, is what is replied to all of them
-pub record RanSections (first flat : Flat) (all : List (List Command)) (out : List Reply) (i : ℕ) : Type 0 where
-  pub replied : out ++ replies_from flat (issued_from (i + 1) (drop i all)) ≡ replies_from first (issued_from 1 all)
+pub record RanSections (first flat : Flat) (all : List (List Command)) (items left : List Item) (out : List Reply) (i : ℕ) : Type 0 where
+  pub replied : out ++ replies_from flat (events_from left (issued_from (i + 1) (drop i all))) ≡ replies_from first (events_from items (issued_from 1 all))
   pub fresh : (m : ℕ) → i < m → labels_of m flat.sections ≡ []
 
-pub sections_start : (header : Header) (all : List (List Command)) → RanSections (new_flat header) (new_flat header) all [] 0
-sections_start header all = record { replied = refl; fresh = λ m h. refl }
+pub sections_start : (header : Header) (all : List (List Command)) (items : List Item) → RanSections (new_flat header) (new_flat header) all items items [] 0
+sections_start header all items = record { replied = refl; fresh = λ m h. refl }
 
 pub next_drop : {A : Type 0} (xs : List A) (i : ℕ) (x : A) → i < length xs → x ≡ get_or xs i x → drop i xs ≡ x ∷ drop (i + 1) xs
 next_drop xs i x lt here =
     let more : suc i ≡ i + 1 = omega arith in
     drop-cons xs i x lt ∙ (λ k. sym here k ∷ drop (more k) xs)
 
-pub sections_next : (first flat next : Flat) (all : List (List Command)) (out new : List Reply) (i : ℕ) (commands : List Command) → i < length all → commands ≡ get_or all i commands → RanSections first flat all out i → RunsSection flat next (i + 1) commands out new → RanSections first next all new (i + 1)
-sections_next first flat next all out new i commands lt here h r =
+pub sections_next : (first flat next : Flat) (all : List (List Command)) (items left left_after : List Item) (out new : List Reply) (i : ℕ) (commands : List Command) → i < length all → commands ≡ get_or all i commands → RanSections first flat all items left out i → RunsSection flat next (i + 1) commands left left_after out new → RanSections first next all items left_after new (i + 1)
+sections_next first flat next all items left left_after out new i commands lt here h r =
     let rest : drop i all ≡ commands ∷ drop (i + 1) all = next_drop all i commands lt here in
     record {
-      replied = rw (r.replied, r.flat)
-          (append_assoc out _ _
-          ∙ ap (λ l. out ++ l) (sym (replies_append flat (issue (i + 1) commands) (issued_from (i + 1 + 1) (drop (i + 1) all))))
-          ∙ sym (ap (λ l. out ++ replies_from flat (issued_from (i + 1) l)) rest) ∙ h.replied);
+      replied = r.replied (issued_from (i + 1 + 1) (drop (i + 1) all))
+          ∙ sym (ap (λ l. out ++ replies_from flat (events_from left (issued_from (i + 1) l))) rest) ∙ h.replied;
       fresh = λ m late. r.others m (λ e. omega arith) ∙ h.fresh m (omega arith);
     }
 
-pub sections_end : (first flat : Flat) (all : List (List Command)) (out : List Reply) (i : ℕ) → length all ≤ i → RanSections first flat all out i → out ≡ replies_from first (issued_from 1 all)
-sections_end first flat all out i le h =
+-- all sections were run, and the items that were left were looked up
+pub sections_end : (first flat : Flat) (all : List (List Command)) (items left : List Item) (out new : List Reply) (i : ℕ) → length all ≤ i → RanSections first flat all items left out i
+    → new ≡ out ++ map (item_reply flat) left → new ≡ replies_from first (events_from items (issued_from 1 all))
+sections_end first flat all items left out new i le h is =
     let none : drop i all ≡ [] = grind (arith, common_steps) in
-    sym (append-nil out) ∙ ap (λ l. out ++ replies_from flat (issued_from (i + 1) l)) (sym none) ∙ h.replied
+    is ∙ ap (λ r. out ++ r) (sym (last_replied flat left))
+    ∙ ap (λ l. out ++ replies_from flat (events_from left (issued_from (i + 1) l))) (sym none) ∙ h.replied
 
 -- the commands of the section at that place, as the code holds them
 pub commands_at : (held : List (Vec Command Global)) (all : List (List Command)) (i : ℕ) (v : Vec Command Global) → map (λ v. v.items) held ≡ all → i < length held → v ≡ get_or held i v → (i < length all) × (v.items ≡ get_or all i v.items)
@@ -88,8 +91,8 @@ each_at P (y ∷ ys) zero x h lt here = subst P (sym here) h.0
 each_at P (y ∷ ys) (suc i) x h lt here = each_at P ys i x h.1 (omega arith) here
 
 -- a section of a small script has room for its labels
-pub has_room : (first flat : Flat) (script : Script) (out : List Reply) (i : ℕ) (commands : List Command) → IsSmall script → i < length script.sections → commands ≡ get_or script.sections i commands → RanSections first flat script.sections out i → (i < 64) × (length (labels_of (i + 1) flat.sections) + length commands < 2 ^ 24)
-has_room first flat script out i commands small lt here h =
+pub has_room : (first flat : Flat) (script : Script) (items left : List Item) (out : List Reply) (i : ℕ) (commands : List Command) → IsSmall script → i < length script.sections → commands ≡ get_or script.sections i commands → RanSections first flat script.sections items left out i → (i < 64) × (length (labels_of (i + 1) flat.sections) + length commands < 2 ^ 24)
+has_room first flat script items left out i commands small lt here h =
     let few : length commands < 2 ^ 24 = each_at (λ (l : List Command). length l < 2 ^ 24) script.sections i commands small.commands lt here in
     let none : length (labels_of (i + 1) flat.sections) ≡ 0 = ap length (h.fresh (i + 1) (omega arith)) in
     (omega (arith, small.sections), omega arith)

@@ -1,11 +1,17 @@
 -- Lines are read one way.
-use Rattle.std.proofs.Common.{◌≡◌, ℕ, ◌∙◌, List, [], ◌∷◌, ◌++◌, sym, refl, subst}
+use Rattle.std.proofs.Common.{◌≡◌, ℕ, ◌∙◌, List, [], ◌∷◌, ◌++◌, Option, Some, None, inl, inr, ap, sym, refl, subst}
+use Rattle.flat_list.specs.declared.script.CapturePlace.{CapturePlace}
 use Rattle.sock_script.specs.declared.parse.Mode.{Mode}
 use Rattle.sock_script.specs.declared.line.Line.{Line}
 use Rattle.sock_script.specs.declared.line.Line.TheVariants as lines
-use Rattle.sock_script.specs.Words.{words_of}
-use Rattle.sock_script.specs.Grammar.{Draft, Follows, ReadsLine, Reads}
+use Rattle.sock_script.specs.Words.{words_of, lines_of}
+use Rattle.sock_script.specs.Grammar.{Draft, Follows, ReadsLine, Reads, past, nothing_yet, script_of, IsDetermined}
+use Rattle.sock_script.proofs.LineCases.{IsRead, line_cases, keeps}
 use Rattle.sock_script.proofs.Determined.{one_form}
+
+-- nothing is something
+none_some : {A : Type 0} {o : Option A} {x : A} → o ≡ None → o ≡ Some x → ⊥
+none_some e f = let both : None ≡ Some _ = sym e ∙ f in cc
 
 module _ (mode : Mode) where
   one_follower : (old : Draft) (l : Line) (a b : Draft) → Follows mode old l a → Follows mode old l b → a ≡ b
@@ -16,12 +22,27 @@ module _ (mode : Mode) where
   one_follower old (lines.Offset offset) a b h k = h.1 ∙ sym k.1
   one_follower old (lines.TimeWaitReuse reuse) a b h k = h.1 ∙ sym k.1
   one_follower old (lines.Section n) a b h k = h.1 ∙ sym k.1
+  one_follower old (lines.Capture dev) a b h k = h ∙ sym k
   one_follower old (lines.Command c) a b h k = h.1 ∙ sym k.1
+
+  -- a line that is read makes one thing
+  one_read : (old : Draft) (text : List ℕ) (a b : Draft) → IsRead mode old text a → IsRead mode old text b → a ≡ b
+  one_read old text a b h k =
+      let same : h.line ≡ k.line = one_form (words_of text) h.line k.line h.form k.form in
+      one_follower (past old text) k.line a b (subst (λ l. Follows mode (past old text) l a) same h.follows) k.follows
 
   one_line : (old : Draft) (text : List ℕ) (a b : Draft) → ReadsLine mode old text a → ReadsLine mode old text b → a ≡ b
   one_line old text a b h k =
-      let same : h.0 ≡ k.0 = one_form (words_of text) h.0 k.0 h.1 k.1 in
-      one_follower old k.0 a b (subst (λ l. Follows mode old l a) same h.2) k.2
+      elim (line_cases mode old text a h) [
+        | inl r ↦ elim (line_cases mode old text b k) [
+          | inl s ↦ one_read old text a b r s
+          | inr kept ↦ absurd (none_some r.none kept.1)
+        ]
+        | inr kept ↦ elim (line_cases mode old text b k) [
+          | inl s ↦ absurd (none_some s.none kept.1)
+          | inr kept' ↦ kept.2 ∙ sym kept'.2
+        ]
+      ]
 
   -- the same lines make the same of the same
   pub one_reading : (old : Draft) (texts : List (List ℕ)) (a b : Draft) → Reads mode old texts a → Reads mode old texts b → a ≡ b
@@ -47,3 +68,18 @@ module _ (mode : Mode) where
   no_reading old mid new texts text h none k =
       let last = Reads-split old new texts (text ∷ []) k in
       none last.2.0 (subst (λ s. ReadsLine mode s text last.2.0) (one_reading old texts last.0 mid last.1 h) last.2.1)
+
+  -- once a capture has begun, all lines that follow leave the draft
+  pub Reads-kept : (old : Draft) (texts : List (List ℕ)) (place : CapturePlace) → old.capture ≡ Some place → Reads mode old texts old
+  Reads-kept old [] place e = refl
+  Reads-kept old (text ∷ texts) place e = (old, keeps mode old text place e, Reads-kept old texts place e)
+
+  -- the lines after those that were read
+  pub Reads-append : (old mid new : Draft) (texts more : List (List ℕ)) → Reads mode old texts mid → Reads mode mid more new → Reads mode old (texts ++ more) new
+  Reads-append old mid new [] more h k = subst (λ d. Reads mode d more new) h k
+  Reads-append old mid new (t ∷ texts) more h k = (h.0, h.1, Reads-append h.0 mid new texts more h.2 k)
+
+-- a text is one script at most
+pub one_script : IsDetermined
+one_script mode text a b h k =
+    h.2 ∙ ap script_of (one_reading mode nothing_yet (lines_of text) h.0 k.0 h.1 k.1) ∙ sym k.2

@@ -1,5 +1,5 @@
 -- How much a text can say: sections have numbers to 64, and each command takes a line of its own that isn't empty.
-use Rattle.std.proofs.Common.{◌≡◌, ℕ, ◌+◌, ◌*◌, ◌^◌, ◌<◌, ◌≤◌, ◌∙◌, List, [], ◌∷◌, ◌++◌, length, length-append, cond, Bool, true, false, arith, sym, refl, ap, subst}
+use Rattle.std.proofs.Common.{◌≡◌, ℕ, ◌+◌, ◌*◌, ◌^◌, ◌<◌, ◌≤◌, ◌∙◌, List, [], ◌∷◌, ◌++◌, length, length-append, cond, Bool, true, false, inl, inr, arith, sym, refl, ap, subst}
 use Rattle.std.specs.List.{slice_split, onto_first}
 use Rattle.std.proofs.lemmas.List.Splits.{length-slice_split}
 use Rattle.list_words.specs.Lists.{Each}
@@ -12,12 +12,24 @@ use Rattle.sock_script.specs.declared.line.Line.{Line}
 use Rattle.sock_script.specs.declared.line.Line.TheVariants as lines
 use Rattle.sock_script.specs.Words.{lines_of, words_of, is_line_feed}
 use Rattle.sock_script.specs.Forms.{HasForm, command_words}
-use Rattle.sock_script.specs.Grammar.{Draft, Follows, Reads, with_command, nothing_yet, script_of}
+use Rattle.sock_script.specs.Grammar.{Draft, Follows, ReadsLine, Reads, past, with_command, nothing_yet, script_of}
+use Rattle.sock_script.proofs.LineCases.{line_cases}
 
 -- the bytes of some lines, each with its line feed
-weight : List (List ℕ) → ℕ
+pub weight : List (List ℕ) → ℕ
 weight [] = 0
 weight (text ∷ texts) = length text + 1 + weight texts
+
+-- the weight of lines in two parts
+pub weight_append : (xs ys : List (List ℕ)) → weight (xs ++ ys) ≡ weight xs + weight ys
+unfolding weight
+weight_append [] ys = omega arith
+weight_append (x ∷ xs) ys = omega (arith, weight_append xs ys)
+
+-- one line's weight
+pub weight_one : (text : List ℕ) → weight (text ∷ []) ≡ length text + 1
+unfolding weight
+weight_one text = omega arith
 
 onto_first_weighs : (b : ℕ) (texts : List (List ℕ)) → 0 < length texts → weight (onto_first b texts) ≡ weight texts + 1
 unfolding weight
@@ -35,7 +47,7 @@ split_weighs [] = omega arith
 split_weighs (b ∷ text) =
     one_byte_more (is_line_feed b) b (slice_split is_line_feed text) (length text + 1) (omega (arith, length-slice_split is_line_feed text)) (split_weighs text) ∙ omega arith
 
-lines_weigh : (text : List ℕ) → weight (lines_of text) ≡ length text + 1
+pub lines_weigh : (text : List ℕ) → weight (lines_of text) ≡ length text + 1
 unfolding lines_of
 lines_weigh text = split_weighs text
 
@@ -51,6 +63,7 @@ has_words (commands.Drop label) e = cc
 has_words (commands.At moment) e = cc
 has_words commands.Reap e = cc
 has_words (commands.Look from to dev) e = cc
+has_words (commands.Packets count) e = cc
 
 not_empty : (text : List ℕ) (c : Command) → HasForm (words_of text) (lines.Command c) → 1 ≤ length text
 unfolding words_of
@@ -92,30 +105,43 @@ with_command_length c (s ∷ []) = refl
 with_command_length c (s ∷ t ∷ rest) = omega (arith, with_command_length c (t ∷ rest))
 
 module _ (mode : Mode) where
-  after_line : (old new : Draft) (text : List ℕ) (k : ℕ) (line : Line) → HasForm (words_of text) line → Follows mode old line new → IsWithin k old → IsWithin (length text + 1 + k) new
-  after_line old new text k lines.PassedOver form h w = still_within old new k _ (ap (λ d. d.sections) h) (omega arith) w
-  after_line old new text k (lines.Table shape) form h w = still_within old new k _ (ap (λ d. d.sections) h.1) (omega arith) w
-  after_line old new text k (lines.Range range) form h w = still_within old new k _ (ap (λ d. d.sections) h.1) (omega arith) w
-  after_line old new text k (lines.Seed seed) form h w = still_within old new k _ (ap (λ d. d.sections) h.1) (omega arith) w
-  after_line old new text k (lines.Offset offset) form h w = still_within old new k _ (ap (λ d. d.sections) h.1) (omega arith) w
-  after_line old new text k (lines.TimeWaitReuse reuse) form h w = still_within old new k _ (ap (λ d. d.sections) h.1) (omega arith) w
-  after_line old new text k (lines.Section number) form h w =
+  -- a line's bytes make no section
+  abbrev passed : (old : Draft) (text : List ℕ) (k : ℕ) → IsWithin k old → IsWithin k (past old text)
+  passed old text k w = record { sections = w.sections; commands = w.commands }
+
+  after_form : (old new : Draft) (text : List ℕ) (k : ℕ) (line : Line) → HasForm (words_of text) line → Follows mode old line new → IsWithin k old → IsWithin (length text + 1 + k) new
+  after_form old new text k lines.PassedOver form h w = still_within old new k _ (ap (λ d. d.sections) h) (omega arith) w
+  after_form old new text k (lines.Table shape) form h w = still_within old new k _ (ap (λ d. d.sections) h.1) (omega arith) w
+  after_form old new text k (lines.Range range) form h w = still_within old new k _ (ap (λ d. d.sections) h.1) (omega arith) w
+  after_form old new text k (lines.Seed seed) form h w = still_within old new k _ (ap (λ d. d.sections) h.1) (omega arith) w
+  after_form old new text k (lines.Offset offset) form h w = still_within old new k _ (ap (λ d. d.sections) h.1) (omega arith) w
+  after_form old new text k (lines.TimeWaitReuse reuse) form h w = still_within old new k _ (ap (λ d. d.sections) h.1) (omega arith) w
+  after_form old new text k (lines.Capture dev) form h w = still_within old new k _ (ap (λ d. d.sections) h) (omega arith) w
+  after_form old new text k (lines.Section number) form h w =
       subst (IsWithin (length text + 1 + k)) (sym h.1) (record {
         sections = omega (arith, length-append old.sections ([] ∷ []), h.0, form.2);
         commands = pushed_sections k _ old.sections (omega arith) w.commands;
       })
-  after_line old new text k (lines.Command c) form h w =
+  after_form old new text k (lines.Command c) form h w =
       let byte : 1 ≤ length text = not_empty text c form in
       subst (IsWithin (length text + 1 + k)) (sym h.1) (record {
         sections = omega (arith, with_command_length c old.sections, w.sections);
         commands = more_within c k _ old.sections (omega arith) w.commands;
       })
 
+  -- a line's bytes are read, or are a capture's
+  after_line : (old new : Draft) (text : List ℕ) (k : ℕ) → ReadsLine mode old text new → IsWithin k old → IsWithin (length text + 1 + k) new
+  after_line old new text k h w =
+      elim (line_cases mode old text new h) [
+        | inl r ↦ after_form (past old text) new text k r.line r.form r.follows (passed old text k w)
+        | inr same ↦ still_within old new k _ (ap (λ d. d.sections) same.2) (omega arith) w
+      ]
+
   after_lines : (old new : Draft) (texts : List (List ℕ)) (k : ℕ) → Reads mode old texts new → IsWithin k old → IsWithin (weight texts + k) new
   unfolding weight
   after_lines old new [] k h w = still_within old new k _ (ap (λ d. d.sections) h) (omega arith) w
   after_lines old new (text ∷ texts) k h w =
-      let most = after_lines h.0 new texts (length text + 1 + k) h.2 (after_line old h.0 text k h.1.0 h.1.1 h.1.2 w) in
+      let most = after_lines h.0 new texts (length text + 1 + k) h.2 (after_line old h.0 text k h.1 w) in
       record { sections = most.sections; commands = wider _ _ new.sections (omega arith) most.commands }
 
   -- a text of 2 ^ 24 bytes at most is a small script

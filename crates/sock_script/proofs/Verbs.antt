@@ -40,11 +40,3 @@ pub look_after : (ws : List (List ℕ)) (c : Command) → IsAfter (codes "look")
     → (from : End) × (to : End) × (dev : Option ℕ) × IsAfter (codes "look") ws (commands.Look from to dev)
 look_after ws (commands.Look from to dev) h = (from, to, dev, h)
 look_after ws c h = absurd (never (verb_code (codes "look" ∷ ws)) (verb_code (command_words c)) (ap verb_code h.0) refl)
-
-pub at_after : (ws : List (List ℕ)) (c : Command) → IsAfter (codes "at") ws c → (moment : ℕ) × IsAfter (codes "at") ws (commands.At moment)
-at_after ws (commands.At moment) h = (moment, h)
-at_after ws c h = absurd (never (verb_code (codes "at" ∷ ws)) (verb_code (command_words c)) (ap verb_code h.0) refl)
-
-pub no_words_after : (ws : List (List ℕ)) (c : Command) → IsAfter (codes "reap") ws c → ws ≡ []
-no_words_after ws commands.Reap h = let words : codes "reap" ∷ ws ≡ codes "reap" ∷ [] = h.0 in cc
-no_words_after ws c h = absurd (never (verb_code (codes "reap" ∷ ws)) (verb_code (command_words c)) (ap verb_code h.0) refl)

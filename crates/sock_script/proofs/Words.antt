@@ -15,6 +15,10 @@ second_is u v a b vs ws e = cc
 pub third_is : (a b c x y z : List ℕ) (vs ws : List (List ℕ)) → a ∷ b ∷ c ∷ vs ≡ x ∷ y ∷ z ∷ ws → c ≡ z
 third_is a b c x y z vs ws e = cc
 
+-- the words past the first
+pub past_one : (a x : List ℕ) (vs ws : List (List ℕ)) → a ∷ vs ≡ x ∷ ws → vs ≡ ws
+past_one a x vs ws e = cc
+
 -- and those past the second
 pub past_two : (a b x y : List ℕ) (vs ws : List (List ℕ)) → a ∷ b ∷ vs ≡ x ∷ y ∷ ws → vs ≡ ws
 past_two a b x y vs ws e = cc

@@ -53,6 +53,7 @@ command_words (commands.At moment) = codes "at" ∷ decimal moment ∷ []
 command_words commands.Reap = codes "reap" ∷ []
 command_words (commands.Look from to dev) =
     codes "look" ∷ end_text from.addr from.port ∷ end_text to.addr to.port ∷ device_words dev
+command_words (commands.Packets count) = codes "packets" ∷ decimal count ∷ []
 
 -- how the tables' shape is spelled
 abbrev pub shape_words : Shape → List (List ℕ)
@@ -105,6 +106,7 @@ CommandFits (commands.Drop label) = IsTrue (is_label label)
 CommandFits (commands.At moment) = moment < 2 ^ 32
 CommandFits commands.Reap = Unit {0}
 CommandFits (commands.Look from to dev) = EndFits from × EndFits to × DeviceFits dev
+CommandFits (commands.Packets count) = count ≤ 1000000
 
 -- how a switch is spelled
 abbrev pub switch_word : Bool → List ℕ
@@ -145,4 +147,5 @@ HasForm words (lines.Offset offset) = (words ≡ codes "offset" ∷ decimal offs
 HasForm words (lines.TimeWaitReuse reuse) = words ≡ codes "twreuse" ∷ switch_word reuse ∷ []
 HasForm words (lines.Section number) =
     (words ≡ codes "script" ∷ decimal number ∷ []) × (1 ≤ number) × (number ≤ 64)
+HasForm words (lines.Capture dev) = (words ≡ codes "capture" ∷ device_words dev) × DeviceFits dev
 HasForm words (lines.Command command) = (words ≡ command_words command) × CommandFits command

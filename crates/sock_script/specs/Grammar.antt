@@ -1,12 +1,13 @@
 -- Which texts are scripts, and what script a text is: a grammar of our own. No parsing stands here: a line has the form of
 -- the words that spell it, and the rules over earlier lines are a relation on what those have made.
-use Rattle.std.specs.Prelude.{◌≡◌, ℕ, ◌+◌, ◌-◌, ◌≤◌, List, [], ◌∷◌, ◌++◌, length, take, Option, Some, None, Bool, true, false, ◌&&◌, not, bytes_eq, IsTrue, unwrap_or}
+use Rattle.std.specs.Prelude.{◌≡◌, ℕ, ◌+◌, ◌-◌, ◌≤◌, List, [], ◌∷◌, ◌++◌, length, take, drop, Option, Some, None, MatchOption, Bool, true, false, ◌&&◌, not, bytes_eq, IsTrue, unwrap_or}
 use Rattle.std.specs.List.{list_any, filter_map}
 use Rattle.flat_list.specs.declared.header.Header.{Header}
 use Rattle.chain_book.specs.declared.shape.Shape.{Shape}
 use Rattle.flat_list.specs.declared.header.Range.{Range}
 use Rattle.flat_list.specs.declared.command.Command.{Command}
 use Rattle.flat_list.specs.declared.command.Command.TheVariants as commands
+use Rattle.flat_list.specs.declared.script.CapturePlace.{CapturePlace}
 use Rattle.flat_list.specs.Script.{Script}
 use Rattle.sock_script.specs.declared.parse.Mode.{Mode}
 use Rattle.sock_script.specs.declared.parse.Mode.TheVariants as modes
@@ -33,6 +34,7 @@ is_new (Some label) section = not (list_any (bytes_eq label) (labels_of section)
 -- lookups are asked for only where sections run one after the other
 abbrev pub is_allowed : Mode → Command → Bool
 is_allowed modes.Race (commands.Look from to dev) = false
+is_allowed modes.Race (commands.Packets count) = false
 is_allowed _ _ = true
 
 -- a command may follow the others of its section
@@ -51,7 +53,8 @@ with_command command [] = []
 with_command command (section ∷ []) = (section ++ command ∷ []) ∷ []
 with_command command (section ∷ next ∷ rest) = section ∷ with_command command (next ∷ rest)
 
--- what lines have made: what each kind of header line says, if one came, and the sections
+-- what lines have made: what each kind of header line says, if one came, the sections, where the capture begins, if
+-- there is one, and how many bytes the lines had, each with its line feed
 pub record Draft : Type 0 where
   pub table : Option Shape
   pub range : Option Range
@@ -59,16 +62,36 @@ pub record Draft : Type 0 where
   pub offset : Option ℕ
   pub twreuse : Option Bool
   pub sections : List (List Command)
+  pub capture : Option CapturePlace
+  pub bytes : ℕ
 
 -- before the first line
 abbrev pub nothing_yet : Draft
-nothing_yet = record { table = None; range = None; seed = None; offset = None; twreuse = None; sections = [] }
+nothing_yet =
+    record {
+      table = None;
+      range = None;
+      seed = None;
+      offset = None;
+      twreuse = None;
+      sections = [];
+      capture = None;
+      bytes = 0;
+    }
 
 -- A header line may come once, before the first section: `said` is what one of its kind has said.
 abbrev pub IsHeaderTurn : {A : Type 0} → Option A → Draft → Type 0
 IsHeaderTurn said old = (said ≡ None) × (old.sections ≡ [])
 
--- The line may follow the lines that made `old`, and makes `new` of it.
+-- the draft, past the bytes of one line more
+abbrev pub past : Draft → List ℕ → Draft
+past old text = record old { bytes = old.bytes + length text + 1 }
+
+-- the capture's packets come from that device, and its first byte is the next
+abbrev pub capture_here : Draft → Option ℕ → CapturePlace
+capture_here old dev = record { dev = unwrap_or dev 0; first = old.bytes }
+
+-- The line may follow the lines that made `old`, and makes `new` of it; its own bytes are counted in `old` already.
 abbrev pub Follows : Mode → Draft → Line → Draft → Type 0
 Follows mode old lines.PassedOver new = new ≡ old
 Follows mode old (lines.Table shape) new =
@@ -83,12 +106,16 @@ Follows mode old (lines.TimeWaitReuse reuse) new =
     IsHeaderTurn old.twreuse old × (new ≡ record old { twreuse = Some reuse })
 Follows mode old (lines.Section number) new =
     (number ≡ length old.sections + 1) × (new ≡ record old { sections = old.sections ++ [] ∷ [] })
+Follows mode old (lines.Capture dev) new = new ≡ record old { capture = Some (capture_here old dev) }
 Follows mode old (lines.Command command) new =
     MayCome mode old.sections command × (new ≡ record old { sections = with_command command old.sections })
 
--- the line of that text makes `new` of `old`
+-- the line of that text makes `new` of `old`; where a capture has begun, its bytes aren't read as lines
 abbrev pub ReadsLine : Mode → Draft → List ℕ → Draft → Type 0
-ReadsLine mode old text new = (line : Line) × HasForm (words_of text) line × Follows mode old line new
+ReadsLine mode old text new =
+    MatchOption old.capture
+    ((line : Line) × HasForm (words_of text) line × Follows mode (past old text) line new)
+    (λ place. new ≡ old)
 
 -- the lines of those texts make `new` of `old`, one after the other
 abbrev pub Reads : Mode → Draft → List (List ℕ) → Draft → Type 0
@@ -127,12 +154,22 @@ header_of draft =
 
 -- the script that lines have made
 abbrev pub script_of : Draft → Script
-script_of draft = record { header = header_of draft; sections = draft.sections }
+script_of draft = record { header = header_of draft; sections = draft.sections; capture = draft.capture }
 
 -- the text is this script
 abbrev pub IsScript : Mode → List ℕ → Script → Type 0
 IsScript mode text script =
     (draft : Draft) × Reads mode nothing_yet (lines_of text) draft × (script ≡ script_of draft)
+
+-- the bytes of a text's capture; none where it has no capture
+abbrev pub capture_bytes : Option CapturePlace → List ℕ → List ℕ
+capture_bytes None text = []
+capture_bytes (Some place) text = drop place.first text
+
+-- the device that they came in by, 0 where none is named
+abbrev pub capture_device : Option CapturePlace → ℕ
+capture_device None = 0
+capture_device (Some place) = place.dev
 
 -- a text is one script at most
 abbrev pub IsDetermined : Type 0

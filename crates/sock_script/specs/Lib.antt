@@ -5,3 +5,8 @@ pub mod Seen
 pub mod Grammar
 pub mod Output
 pub mod Steps
+pub mod Make
+pub mod MadeCommands
+pub mod MadeRows
+pub mod Counts
+pub mod CountSteps

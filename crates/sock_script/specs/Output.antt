@@ -1,6 +1,11 @@
 -- What `inet run` writes for a script: a format of our own. A refusal is written as the name of its errno.
-use Rattle.std.specs.Prelude.{◌≡◌, ℕ, ◌+◌, ◌/◌, ◌%◌, ◌^◌, List, [], ◌∷◌, ◌++◌, ◌≤◌, length, map, codes, decimal, Option, Some, None, unwrap_or, slice_get}
+use Rattle.std.specs.Prelude.{◌≡◌, ◌≢◌, ℕ, ◌+◌, ◌/◌, ◌%◌, ◌^◌, Bool, true, false, List, [], ◌∷◌, ◌++◌, ◌≤◌, length, map, take, drop, codes, decimal, Option, Some, None, unwrap_or, slice_get}
 use Rattle.std.specs.List.{slice_index_or}
+use Rattle.capture_reader.specs.declared.packet.Item.{Item}
+use Rattle.capture_reader.specs.declared.packet.Item.TheVariants as items
+use Rattle.capture_reader.specs.Captures.{Capture}
+use Rattle.capture_reader.specs.Grammar.{IsCapture}
+use Rattle.capture_reader.specs.Header.{HasHeader}
 use Rattle.sock_card.specs.declared.card.Card.{Card}
 use Rattle.sock_card.specs.declared.card.Kind.{Kind}
 use Rattle.sock_card.specs.declared.card.Kind.TheVariants as kinds
@@ -11,6 +16,7 @@ use Rattle.flat_list.specs.declared.command.Reply.{Reply}
 use Rattle.flat_list.specs.declared.command.Reply.TheVariants as replies
 pub use Rattle.flat_list.specs.Flat.{new_flat}
 use Rattle.flat_list.specs.Flat.{Flat}
+use Rattle.flat_list.specs.Look.{look}
 use Rattle.flat_list.specs.Run.{Issued}
 use Rattle.flat_list.specs.Step.{step}
 use Rattle.flat_list.specs.Script.{Script, IsSmall}
@@ -18,7 +24,7 @@ use Rattle.flat_list.specs.Sound.{IsSound}
 use Rattle.list_words.specs.Lists.{Each}
 use Rattle.sock_script.specs.declared.parse.Mode.{Mode}
 use Rattle.sock_script.specs.declared.parse.Mode.TheVariants as modes
-use Rattle.sock_script.specs.Grammar.{IsScript, labels_of}
+use Rattle.sock_script.specs.Grammar.{IsScript, labels_of, capture_bytes, capture_device}
 
 -- the word for a kind of socket
 abbrev pub kind_word : Kind → List ℕ
@@ -45,6 +51,8 @@ reply_with label replies.TimeWait = codes "ok time-wait"
 reply_with label (replies.NoSlot owned held) = codes "ok no-slot" ++ two_numbers owned held
 reply_with label (replies.Count count) = codes "ok " ++ decimal count
 reply_with label (replies.Found answer) = answer_with label answer
+reply_with label replies.Skip = codes "skip"
+reply_with label replies.Short = codes "short"
 reply_with label replies.Ebadf = codes "EBADF"
 reply_with label replies.Einval = codes "EINVAL"
 reply_with label replies.Eisconn = codes "EISCONN"
@@ -76,6 +84,7 @@ subject_text (commands.Drop label) = codes "drop " ++ label
 subject_text (commands.At moment) = codes "at " ++ decimal moment
 subject_text commands.Reap = codes "reap"
 subject_text (commands.Look from to dev) = codes "look"
+subject_text (commands.Packets count) = codes "packets"
 
 -- the line of a command of section n, where the socket that was found has that label
 abbrev pub line_with : ℕ → Command → List ℕ → Reply → List ℕ
@@ -92,28 +101,70 @@ issued_from n (commands ∷ rest) =
 abbrev pub issued : Script → List Issued
 issued script = issued_from 1 script.sections
 
--- what the flat list replies to commands, one after the other
-abbrev pub replies_from : Flat → List Issued → List Reply
-replies_from flat [] = []
-replies_from flat (c ∷ rest) =
-    let next = step flat c.section c.command in next.reply ∷ replies_from next.flat rest
+-- what a run does, one after the other: a command of a section, or the capture's next item
+pub data Event : Type 0 where
+  asked : Issued → Event
+  stored : Item → Event
 
--- what it replies to the commands of a script
-abbrev pub flat_replies : Script → List Reply
-flat_replies script = replies_from (new_flat script.header) (issued script)
+-- the items of a capture that are left after a command: `packets` takes the next ones
+abbrev pub left_by : Command → List Item → List Item
+left_by (commands.Packets count) left = drop count left
+left_by _ left = left
+
+-- what a command makes a run do: `packets` comes to the next items, as many as it names or as are left
+abbrev pub events_at : Issued → Command → List Item → List Event
+events_at c (commands.Packets count) left = map stored (take count left)
+events_at c _ left = asked c ∷ []
+
+-- what a run of these commands does, on these items: those that no command took come last
+abbrev pub events_from : List Item → List Issued → List Event
+events_from left [] = map stored left
+events_from left (c ∷ rest) = events_at c c.command left ++ events_from (left_by c.command left) rest
+
+-- what is replied to an item, as the list stands: what its packet finds, if it is one
+abbrev pub item_reply : Flat → Item → Reply
+item_reply flat (items.Packet packet) =
+    replies.Found (look packet flat.header.seed flat.sockets flat.groups)
+item_reply flat items.Skip = replies.Skip
+item_reply flat items.Short = replies.Short
+
+-- what the flat list replies to events, one after the other
+abbrev pub replies_from : Flat → List Event → List Reply
+replies_from flat [] = []
+replies_from flat (asked c ∷ rest) =
+    let next = step flat c.section c.command in next.reply ∷ replies_from next.flat rest
+replies_from flat (stored item ∷ rest) = item_reply flat item ∷ replies_from flat rest
+
+-- what it replies to a script whose capture has these items
+abbrev pub flat_replies : Script → List Item → List Reply
+flat_replies script left = replies_from (new_flat script.header) (events_from left (issued script))
 
 -- the line of a command and its reply, in a script of these sections
 abbrev pub line_text : List (List Command) → Issued → Reply → List ℕ
 line_text sections c reply = line_with c.section c.command (found_label sections reply) reply
 
--- the lines of commands and their replies
-abbrev pub lines_text : List (List Command) → List Issued → List Reply → List ℕ
-lines_text sections (c ∷ cs) (reply ∷ replies) = line_text sections c reply ++ lines_text sections cs replies
-lines_text sections _ _ = []
+-- the line of the capture's item of that number, where the socket that was found has that label
+abbrev pub item_line : ℕ → List ℕ → Reply → List ℕ
+item_line number label reply =
+    codes "packet " ++ decimal number ++ codes " " ++ reply_with label reply ++ codes "\n"
 
--- what is written for a script whose commands are answered so
-abbrev pub script_text : Script → List Reply → List ℕ
-script_text script replies = lines_text script.sections (issued script) replies
+-- the lines of events and their replies, where the next item has that number
+abbrev pub lines_text : List (List Command) → ℕ → List Event → List Reply → List ℕ
+lines_text sections number (asked c ∷ events) (reply ∷ rest) =
+    line_text sections c reply ++ lines_text sections number events rest
+lines_text sections number (stored item ∷ events) (reply ∷ rest) =
+    item_line number (found_label sections reply) reply ++ lines_text sections (number + 1) events rest
+lines_text sections number _ _ = []
+
+-- the last line, where the capture ends in the middle of a record
+abbrev pub cut_text : Bool → List ℕ
+cut_text false = []
+cut_text true = codes "cut\n"
+
+-- what is written for a script with that capture, which is answered so; items have numbers from 1
+abbrev pub script_text : Script → Capture → List Reply → List ℕ
+script_text script capture replies =
+    lines_text script.sections 1 (events_from capture.items (issued script)) replies ++ cut_text capture.cut
 
 -- the lists that commands leave, one after each
 abbrev pub lists_from : Flat → List Issued → List Flat
@@ -124,10 +175,22 @@ lists_from flat (c ∷ rest) = let next = (step flat c.section c.command).flat i
 abbrev pub lists_of : Script → List Flat
 lists_of script = new_flat script.header ∷ lists_from (new_flat script.header) (issued script)
 
--- what is written for a text that is a script: the lines of the flat list's replies
+-- the text is a script with that capture
+pub record HasCapture (input : List ℕ) (script : Script) (capture : Capture) : Type 0 where
+  pub script_is : IsScript modes.Run input script
+  pub capture_is : IsCapture (capture_device script.capture) (capture_bytes script.capture input) capture
+
+-- what is written for a text that is a script with a capture: the lines of the flat list's replies
 abbrev pub FlatOut : List ℕ → List ℕ → Type 0
 FlatOut input out =
-    (script : Script) × IsScript modes.Run input script × (out ≡ script_text script (flat_replies script))
+    (script : Script) × (capture : Capture) × HasCapture input script capture
+    × (out ≡ script_text script capture (flat_replies script capture.items))
+
+-- the text is a script, but what it has for a capture is none: it isn't empty, and has no header of one
+abbrev pub HasBadCapture : List ℕ → Type 0
+HasBadCapture input =
+    (script : Script) × IsScript modes.Run input script × (capture_bytes script.capture input ≢ [])
+    × ¬ (HasHeader (capture_bytes script.capture input))
 
 -- each list between a script's commands is sound
 abbrev pub ListsSound : Type 0

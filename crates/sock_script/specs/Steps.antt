@@ -1,15 +1,15 @@
 -- What the steps of reading, of running and of writing a script answer. No public contract cites this file.
-use Rattle.std.specs.Prelude.{◌≡◌, ℕ, ◌/◌, ◌%◌, ◌^◌, Bool, true, false, Some, unwrap_or, slice_get, List, [], ◌∷◌, ◌++◌, map, bytes_eq}
+use Rattle.std.specs.Prelude.{◌≡◌, ℕ, ◌+◌, ◌/◌, ◌%◌, ◌^◌, Bool, true, false, Some, unwrap_or, slice_get, List, [], ◌∷◌, ◌++◌, ◌≤◌, map, take, drop, min, length, bytes_eq}
 use Rattle.std.specs.List.{list_any, slice_index_or}
-use Rattle.std.specs.Ordering.{nat_cmp}
-use Rattle.std.specs.Cmp.Lexicographic.{slice_cmp}
 use Rattle.std.specs.BTreeSet.{BTreeSet, contains_by}
-use Rattle.std.specs.declared.vec.Vec.{Vec}
-use Rattle.std.specs.declared.alloc.Global.{Global}
+use Rattle.capture_reader.specs.declared.packet.Item.{Item}
 use Rattle.flat_list.specs.declared.command.Command.{Command}
+use Rattle.flat_list.specs.declared.command.Command.TheVariants as commands
+use Rattle.flat_list.specs.declared.command.LabelKey.{LabelKey}
 use Rattle.flat_list.specs.declared.command.Reply.{Reply}
 use Rattle.flat_list.specs.declared.command.Reply.TheVariants as replies
 use Rattle.flat_list.specs.Flat.{Flat}
+use Rattle.flat_list.specs.Labels.{IsLabel, key_of, key_cmp}
 use Rattle.flat_list.specs.Run.{Issued, after}
 use Rattle.flat_list.specs.Sections.{KeepsOthers}
 use Rattle.flat_list.specs.Step.{step}
@@ -18,15 +18,15 @@ use Rattle.sock_script.specs.declared.parse.ScriptEnd.{ScriptEnd}
 use Rattle.sock_script.specs.declared.parse.ScriptEnd.TheVariants as ends
 use Rattle.sock_script.specs.declared.line.Line.{Line}
 use Rattle.sock_script.specs.Grammar.{Draft, Follows, ReadsLine, IsFirstOutside, labels_of}
-use Rattle.sock_script.specs.Output.{line_with, replies_from}
+use Rattle.sock_script.specs.Output.{Event, asked, stored, events_from, replies_from, line_with, item_line}
 
--- the set has these texts, and no others
-abbrev pub IsSetOf : BTreeSet (Vec ℕ Global) → List (List ℕ) → Type 0
-IsSetOf set texts =
-    (text : List ℕ) → contains_by (λ k. slice_cmp nat_cmp text k.items) set ≡ list_any (bytes_eq text) texts
+-- the set has the keys of these labels, and no others
+abbrev pub IsSetOf : BTreeSet LabelKey → List (List ℕ) → Type 0
+IsSetOf set labels =
+    (label : List ℕ) → IsLabel label → contains_by (key_cmp (key_of label)) set ≡ list_any (bytes_eq label) labels
 
 -- the set has the label that one command more gives, if it gives one
-abbrev pub NotesLabel : BTreeSet (Vec ℕ Global) → Command → BTreeSet (Vec ℕ Global) → Type 0
+abbrev pub NotesLabel : BTreeSet LabelKey → Command → BTreeSet LabelKey → Type 0
 NotesLabel old command new =
     (commands : List Command) → IsSetOf old (labels_of commands) → IsSetOf new (labels_of (commands ++ command ∷ []))
 
@@ -45,18 +45,30 @@ abbrev pub EndAnswer : Mode → List (List ℕ) → ScriptEnd → Type 0
 EndAnswer mode texts (ends.BadLine n) = IsFirstOutside mode texts n
 EndAnswer mode texts ends.Memory = Unit {0}
 
+-- a command that comes to items of the capture
+abbrev pub takes_items : Command → Bool
+takes_items (commands.Packets count) = true
+takes_items _ = false
+
 -- the commands of section n
 abbrev pub issue : ℕ → List Command → List Issued
 issue n commands = map (λ command. record { section = n; command = command }) commands
 
--- one command more was run: its reply stands at the end, and the list is as the step leaves it
-pub record RunsCommand (old new : Flat) (n : ℕ) (command : Command) (replies_before replies_after : List Reply) : Type 0 where
-  pub replied : replies_after ≡ replies_before ++ (step old n command).reply ∷ []
+-- Events were come to from the list `old` with these items on, and replied to: what was replied, with what will be to
+-- whatever commands come later, is what the list replies to these commands and those later ones.
+abbrev pub RepliesSo : Flat → Flat → List Issued → List Item → List Item → List Reply → List Reply → Type 0
+RepliesSo old new commands items left before out =
+    (later : List Issued)
+    → out ++ replies_from new (events_from left later) ≡ before ++ replies_from old (events_from items (commands ++ later))
+
+-- one command more was run, and the list is as the step leaves it
+pub record RunsCommand (old new : Flat) (n : ℕ) (command : Command) (items left : List Item) (before out : List Reply) : Type 0 where
+  pub replied : RepliesSo old new (issue n (command ∷ [])) items left before out
   pub flat : new ≡ (step old n command).flat
 
 -- a section was run, which gave no labels in others
-pub record RunsSection (old new : Flat) (n : ℕ) (commands : List Command) (replies_before replies_after : List Reply) : Type 0 where
-  pub replied : replies_after ≡ replies_before ++ replies_from old (issue n commands)
+pub record RunsSection (old new : Flat) (n : ℕ) (commands : List Command) (items left : List Item) (before out : List Reply) : Type 0 where
+  pub replied : RepliesSo old new (issue n commands) items left before out
   pub flat : new ≡ after old (issue n commands)
   pub others : KeepsOthers n old.sections new.sections
 
@@ -73,7 +85,59 @@ abbrev pub found_at : List (List (List ℕ)) → Reply → List ℕ
 found_at table (replies.Found (Some card)) = label_at table card.name
 found_at table _ = []
 
--- the lines of commands and their replies, where the table has the labels
-abbrev pub lines_at : List (List (List ℕ)) → List Issued → List Reply → List ℕ
-lines_at table (c ∷ cs) (reply ∷ rest) = line_with c.section c.command (found_at table reply) reply ++ lines_at table cs rest
-lines_at table _ _ = []
+-- the lines of events and their replies, where the table has the labels, and the next item has that number
+abbrev pub lines_at : List (List (List ℕ)) → ℕ → List Event → List Reply → List ℕ
+lines_at table number (asked c ∷ events) (reply ∷ rest) =
+    line_with c.section c.command (found_at table reply) reply ++ lines_at table number events rest
+lines_at table number (stored item ∷ events) (reply ∷ rest) =
+    item_line number (found_at table reply) reply ++ lines_at table (number + 1) events rest
+lines_at table number _ _ = []
+
+-- the lines of replies to items alone
+abbrev pub item_lines : List (List (List ℕ)) → ℕ → List Reply → List ℕ
+item_lines table number [] = []
+item_lines table number (reply ∷ rest) =
+    item_line number (found_at table reply) reply ++ item_lines table (number + 1) rest
+
+-- what isn't written yet: the number of the next item, the items that are left, and the replies
+pub record Unwritten : Type 0 where
+  pub number : ℕ
+  pub items : List Item
+  pub replies : List Reply
+
+-- the next reply was taken
+pub record NextOf (old : Unwritten) (reply : Reply) (new : Unwritten) : Type 0 where
+  pub replies : old.replies ≡ reply ∷ new.replies
+  pub number : new.number ≡ old.number
+  pub items : new.items ≡ old.items
+
+-- so many items were taken, or those that were left, and the replies to them, as far as there are any
+pub record TakenOf (old : Unwritten) (count : ℕ) (here : List Reply) (new : Unwritten) : Type 0 where
+  pub replies : old.replies ≡ here ++ new.replies
+  pub most : length here ≡ min (min count (length old.items)) (length old.replies)
+  pub number : new.number ≡ old.number + min count (length old.items)
+  pub items : new.items ≡ drop count old.items
+
+-- the number of an item never passes that of the last by more than one
+abbrev pub HasRoom : Unwritten → Unwritten → Type 0
+HasRoom old new = new.number + length new.items ≤ old.number + length old.items
+
+-- the lines of the next items were written, as many as that or as were left
+pub record WritesItems (table : List (List (List ℕ))) (count : ℕ) (old : Unwritten) (before out : List ℕ) (new : Unwritten) : Type 0 where
+  pub lines : (events : List Event)
+      → out ++ lines_at table new.number events new.replies
+      ≡ before ++ lines_at table old.number (map stored (take count old.items) ++ events) old.replies
+  pub items : new.items ≡ drop count old.items
+  pub room : HasRoom old new
+
+-- what was written, with the lines of whatever commands come later, is the lines of these commands and those later ones
+abbrev pub WritesSo : List (List (List ℕ)) → List Issued → Unwritten → Unwritten → List ℕ → List ℕ → Type 0
+WritesSo table commands old new before out =
+    (later : List Issued)
+    → out ++ lines_at table new.number (events_from new.items later) new.replies
+    ≡ before ++ lines_at table old.number (events_from old.items (commands ++ later)) old.replies
+
+-- and the items keep room for their numbers
+pub record Writes (table : List (List (List ℕ))) (commands : List Issued) (old : Unwritten) (before out : List ℕ) (new : Unwritten) : Type 0 where
+  pub lines : WritesSo table commands old new before out
+  pub room : HasRoom old new

@@ -1,4 +1,4 @@
-ghost use Rattle.std.specs.Prelude.{◌≡◌, ◌↔◌, ◌+◌, ◌++◌, ◌∷◌, [], IsTrue, bytes_eq, length, map, IfOk, OnOk, OnErr};
+ghost use Rattle.std.specs.Prelude.{◌≡◌, ◌↔◌, ◌+◌, ◌<◌, ◌^◌, ◌++◌, ◌∷◌, [], IsTrue, true, is_some, bytes_eq, length, map, IfOk, OnOk, OnErr};
 ghost use Rattle.std.specs.List.{list_any};
 ghost use Rattle.std.specs.Option.{option_to_list};
 ghost use Rattle.sock_script.specs.declared.parse.Mode.{Mode as AnyMode};
@@ -8,7 +8,7 @@ ghost use Rattle.sock_script.specs.Steps.{NotesLabel, Adds};
 use crate::label::given_label;
 use crate::line::Line;
 use crate::parse::Mode;
-use flat_list::{Command, Header, Label, Range, Script, Shape};
+use flat_list::{CapturePlace, Command, Header, Label, LabelKey, Range, Script, Shape};
 use std::alloc::{AllocError, Global};
 use std::collections::BTreeSet;
 use std::marker::Model;
@@ -18,20 +18,17 @@ use std::mem;
 fn is_allowed(mode: Mode, command: &Command) -> bool
     ensures { result ≡ spec.is_allowed mode command.now }
 {
-    !(matches!(mode, Mode::Race) && matches!(command, Command::Look { .. }))
+    !(matches!(mode, Mode::Race)
+        && matches!(command, Command::Look { .. } | Command::Packets { .. }))
 }
 
 /// Puts the label that a command gives among the others.
-fn note_label(
-    alloc: Global,
-    labels: &mut BTreeSet<Vec<u8>>,
-    command: &Command,
-) -> Result<(), AllocError>
+fn note_label(labels: &mut BTreeSet<LabelKey>, command: &Command) -> Result<(), AllocError>
     ensures noted { OnOk result (NotesLabel labels.old command.now labels.new) }
     ensures err { OnErr result (labels.new ≡ labels.old) }
 {
     if let Some(label) = given_label(command) {
-        labels.insert(Vec::from_slice(alloc, label.as_bytes())?)?;
+        labels.insert(label.key())?;
     }
     Ok(())
 }
@@ -41,7 +38,7 @@ fn note_label(
 struct OpenSection {
     commands: Vec<Command>,
     /// The labels that the commands give, so that finding one again takes no scan.
-    labels: BTreeSet<Vec<u8>>,
+    labels: BTreeSet<LabelKey>,
 }
 
 impl Model for OpenSection {
@@ -70,7 +67,7 @@ impl OpenSection {
     fn has_given(&self, label: &Label) -> bool
         ensures { result ≡ list_any (bytes_eq label.now) (spec.labels_of self.now) }
     {
-        self.labels.contains(label.as_bytes())
+        self.labels.contains(&label.key())
     }
 
     fn is_new(&self, command: &Command) -> bool
@@ -90,12 +87,12 @@ impl OpenSection {
     }
 
     /// Adds a command. An `Err` changes nothing.
-    fn add(&mut self, alloc: Global, command: Command) -> Result<(), AllocError>
+    fn add(&mut self, command: Command) -> Result<(), AllocError>
         ensures added { OnOk result (self.new ≡ self.old ++ command ∷ []) }
         ensures err { OnErr result (self.new ≡ self.old) }
     {
         self.commands.reserve(1)?;
-        note_label(alloc, &mut self.labels, &command)?;
+        note_label(&mut self.labels, &command)?;
         self.commands.push(command)?;
         Ok(())
     }
@@ -128,7 +125,8 @@ const DEFAULT_SHAPE: Shape = Shape {
     listen: 32,
 };
 
-const DEFAULT_RANGE: Range = Range {
+/// Which ports are searched where no line says it.
+pub const DEFAULT_RANGE: Range = Range {
     low: 32768,
     high: 60999,
 };
@@ -145,6 +143,10 @@ pub struct Draft {
     finished: Vec<Vec<Command>>,
     /// The last section, once there is one.
     last: Option<OpenSection>,
+    /// Where the capture begins, once it has.
+    capture: Option<CapturePlace>,
+    /// How many bytes the lines had, each with its line feed.
+    bytes: usize,
     alloc: Global,
 }
 
@@ -155,7 +157,7 @@ impl Model for Draft {
 
     ghost Value = { Made };
 
-    ghost view = { λ d. record { table = d.table; range = d.range; seed = d.seed; offset = d.offset; twreuse = d.twreuse; sections = map (λ v. v.items) d.finished.items ++ option_to_list d.last } };
+    ghost view = { λ d. record { table = d.table; range = d.range; seed = d.seed; offset = d.offset; twreuse = d.twreuse; sections = map (λ v. v.items) d.finished.items ++ option_to_list d.last; capture = d.capture; bytes = d.bytes } };
 
     ghost invariant = { λ d. IfNone d.last (d.finished.items ≡ []) };
 }
@@ -173,8 +175,25 @@ impl Draft {
             twreuse: None,
             finished: Vec::new(alloc),
             last: None,
+            capture: None,
+            bytes: 0,
             alloc,
         }
+    }
+
+    /// Whether the capture has begun, so that no line follows.
+    pub fn has_capture(&self) -> bool
+        ensures { result ≡ is_some self.now.capture }
+    {
+        self.capture.is_some()
+    }
+
+    /// Goes past the bytes of one line more, and its line feed.
+    pub fn pass(&mut self, line: &[u8])
+        requires { self.old.bytes + length line.now + 1 < 2 ^ 64 }
+        ensures { self.new ≡ spec.past self.old line.now }
+    {
+        self.bytes += line.len() + 1;
     }
 
     fn section_count(&self) -> usize
@@ -262,6 +281,16 @@ impl Draft {
         Ok(true)
     }
 
+    /// Begins the capture, whose packets come from that device.
+    fn begin_capture(&mut self, dev: Option<u16>)
+        ensures { (mode : AnyMode) → Adds mode self.old (Line.Capture dev) self.new true }
+    {
+        self.capture = Some(CapturePlace {
+            dev: dev.unwrap_or(0),
+            first: self.bytes,
+        });
+    }
+
     /// Adds a command to the last section, where it may stand there.
     fn add_command(&mut self, mode: Mode, command: Command) -> Result<bool, AllocError>
         ensures { IfOk result (λ follows. Adds mode self.old (Line.Command command) self.new follows) }
@@ -272,7 +301,7 @@ impl Draft {
         if !section.may_stand(mode, &command) {
             return Ok(false);
         }
-        section.add(self.alloc, command)?;
+        section.add(command)?;
         Ok(true)
     }
 
@@ -288,6 +317,10 @@ impl Draft {
             Line::Offset(offset) => Ok(self.add_offset(offset)),
             Line::TimeWaitReuse(reuse) => Ok(self.add_twreuse(reuse)),
             Line::Section(number) => self.begin_section(number),
+            Line::Capture(dev) => {
+                self.begin_capture(dev);
+                Ok(true)
+            }
             Line::Command(command) => self.add_command(mode, command),
         }
     }
@@ -310,7 +343,8 @@ impl Draft {
         ensures { IfOk result (λ script. script ≡ spec.script_of self) }
     {
         let header = self.header();
+        let capture = self.capture;
         let sections = sections_of(self.finished, self.last)?;
-        Ok(Script::new(header, sections))
+        Ok(Script::new(header, sections, capture))
     }
 }

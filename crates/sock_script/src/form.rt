@@ -1,8 +1,8 @@
 //! The line that some words are: one function for each form, over readers of one word.
 //!
 //! A reader takes a word off the front and gives its value and the words after it. Each form is
-//! read by one pass over its words, and takes memory for its labels alone.
-ghost use Rattle.std.specs.Prelude.{◌≡◌, ◌≢◌, ◌<◌, ◌≤◌, ◌+◌, ◌-◌, ◌%◌, ◌^◌, ◌∷◌, ◌++◌, ◌↔◌, [], Bool, ℕ, List, IfOk, IfSome, IfNone, IsTrue, Option, slice_get, codes, decimal};
+//! read by one pass over its words, and takes no memory.
+ghost use Rattle.std.specs.Prelude.{◌≡◌, ◌≢◌, ◌<◌, ◌≤◌, ◌+◌, ◌-◌, ◌%◌, ◌^◌, ◌∷◌, ◌++◌, ◌↔◌, [], Bool, ℕ, List, IfSome, IfNone, IsTrue, Option, slice_get, codes, decimal};
 ghost use Rattle.std.specs.List.{list_all};
 ghost use Rattle.inet_io.specs.Texts.{addr_text, end_text};
 ghost use Rattle.sock_script.specs.Seen.{texts};
@@ -19,7 +19,6 @@ ghost use Rattle.flat_list.specs.declared.header.Range.{Range};
 use crate::line::Line;
 use flat_list::{Command, End, Label, Range, Shape};
 use inet_io::{get_addr, get_end, get_num};
-use std::alloc::{AllocError, Global};
 
 fn is_label_byte(b: u8) -> bool
     ensures { result ≡ spec.is_label_byte b }
@@ -52,6 +51,14 @@ fn after<'a>(first: &[u8], words: &'a [&'a [u8]]) -> Option<&'a [&'a [u8]]>
 {
     let (word, rest) = words.split_first()?;
     is_word(word, first).then_some(rest)
+}
+
+/// The label that a word is.
+fn label_of(word: &[u8]) -> Label
+    requires { IsTrue (spec.is_label word.now) }
+    ensures { result ≡ word.now }
+{
+    Label::from_bytes(word).unwrap()
 }
 
 /// A label as the first word, and the words after it.
@@ -191,131 +198,104 @@ fn flag_first<'a>(flag: &[u8], words: &'a [&'a [u8]]) -> (bool, &'a [&'a [u8]])
 }
 
 /// The command of the words after `socket`.
-fn socket_of(alloc: Global, words: &[&[u8]]) -> Result<Option<Command>, AllocError>
-    ensures some { IfOk result (λ o. IfSome o (λ c. HasForm (codes "socket" ∷ texts words.now) (lines.Command c))) }
-    ensures none { IfOk result (λ o. IfNone o ((c : Command) → HasForm (codes "socket" ∷ texts words.now) (lines.Command c) → ⊥)) }
+fn socket_of(words: &[&[u8]]) -> Option<Command>
+    ensures some { IfSome result (λ c. HasForm (codes "socket" ∷ texts words.now) (lines.Command c)) }
+    ensures none { IfNone result ((c : Command) → HasForm (codes "socket" ∷ texts words.now) (lines.Command c) → ⊥) }
 {
-    let Some((label, words)) = label_first(words) else {
-        return Ok(None);
-    };
+    let (label, words) = label_first(words)?;
     let (uid, words) = user_first(words);
     let (dev, words) = device_first(words);
     let (reuseaddr, words) = flag_first(b"reuseaddr", words);
     let (reuseport, words) = flag_first(b"reuseport", words);
     if !words.is_empty() {
-        return Ok(None);
+        return None;
     }
-    let label = Label::from_bytes(alloc, label)?;
-    Ok(Some(Command::Socket {
+    let label = label_of(label);
+    Some(Command::Socket {
         label,
         uid,
         dev,
         reuseaddr,
         reuseport,
-    }))
+    })
 }
 
 /// The command of the words after `bind`.
-fn bind_of(alloc: Global, words: &[&[u8]]) -> Result<Option<Command>, AllocError>
-    ensures some { IfOk result (λ o. IfSome o (λ c. HasForm (codes "bind" ∷ texts words.now) (lines.Command c))) }
-    ensures none { IfOk result (λ o. IfNone o ((c : Command) → HasForm (codes "bind" ∷ texts words.now) (lines.Command c) → ⊥)) }
+fn bind_of(words: &[&[u8]]) -> Option<Command>
+    ensures some { IfSome result (λ c. HasForm (codes "bind" ∷ texts words.now) (lines.Command c)) }
+    ensures none { IfNone result ((c : Command) → HasForm (codes "bind" ∷ texts words.now) (lines.Command c) → ⊥) }
 {
-    let Some((label, words)) = label_first(words) else {
-        return Ok(None);
-    };
-    let Some((end, words)) = end_first(words) else {
-        return Ok(None);
-    };
+    let (label, words) = label_first(words)?;
+    let (end, words) = end_first(words)?;
     if !words.is_empty() {
-        return Ok(None);
+        return None;
     }
-    let label = Label::from_bytes(alloc, label)?;
-    Ok(Some(Command::Bind { label, end }))
+    let label = label_of(label);
+    Some(Command::Bind { label, end })
 }
 
 /// The command of the words after `listen`.
-fn listen_of(alloc: Global, words: &[&[u8]]) -> Result<Option<Command>, AllocError>
-    ensures some { IfOk result (λ o. IfSome o (λ c. HasForm (codes "listen" ∷ texts words.now) (lines.Command c))) }
-    ensures none { IfOk result (λ o. IfNone o ((c : Command) → HasForm (codes "listen" ∷ texts words.now) (lines.Command c) → ⊥)) }
+fn listen_of(words: &[&[u8]]) -> Option<Command>
+    ensures some { IfSome result (λ c. HasForm (codes "listen" ∷ texts words.now) (lines.Command c)) }
+    ensures none { IfNone result ((c : Command) → HasForm (codes "listen" ∷ texts words.now) (lines.Command c) → ⊥) }
 {
-    let Some(label) = label_alone(words) else {
-        return Ok(None);
-    };
-    let label = Label::from_bytes(alloc, label)?;
-    Ok(Some(Command::Listen { label }))
+    let label = label_of(label_alone(words)?);
+    Some(Command::Listen { label })
 }
 
 /// The command of the words after `connect`.
-fn connect_of(alloc: Global, words: &[&[u8]]) -> Result<Option<Command>, AllocError>
-    ensures some { IfOk result (λ o. IfSome o (λ c. HasForm (codes "connect" ∷ texts words.now) (lines.Command c))) }
-    ensures none { IfOk result (λ o. IfNone o ((c : Command) → HasForm (codes "connect" ∷ texts words.now) (lines.Command c) → ⊥)) }
+fn connect_of(words: &[&[u8]]) -> Option<Command>
+    ensures some { IfSome result (λ c. HasForm (codes "connect" ∷ texts words.now) (lines.Command c)) }
+    ensures none { IfNone result ((c : Command) → HasForm (codes "connect" ∷ texts words.now) (lines.Command c) → ⊥) }
 {
-    let Some((label, words)) = label_first(words) else {
-        return Ok(None);
-    };
+    let (label, words) = label_first(words)?;
     let (from, words) = source_first(words);
-    let Some((to, words)) = end_after(b"to", words) else {
-        return Ok(None);
-    };
+    let (to, words) = end_after(b"to", words)?;
     if !words.is_empty() {
-        return Ok(None);
+        return None;
     }
-    let label = Label::from_bytes(alloc, label)?;
-    Ok(Some(Command::Connect { label, from, to }))
+    let label = label_of(label);
+    Some(Command::Connect { label, from, to })
 }
 
 /// The command of the words after `accept`.
-fn accept_of(alloc: Global, words: &[&[u8]]) -> Result<Option<Command>, AllocError>
-    ensures some { IfOk result (λ o. IfSome o (λ c. HasForm (codes "accept" ∷ texts words.now) (lines.Command c))) }
-    ensures none { IfOk result (λ o. IfNone o ((c : Command) → HasForm (codes "accept" ∷ texts words.now) (lines.Command c) → ⊥)) }
+fn accept_of(words: &[&[u8]]) -> Option<Command>
+    ensures some { IfSome result (λ c. HasForm (codes "accept" ∷ texts words.now) (lines.Command c)) }
+    ensures none { IfNone result ((c : Command) → HasForm (codes "accept" ∷ texts words.now) (lines.Command c) → ⊥) }
 {
-    let Some((listener, words)) = label_first(words) else {
-        return Ok(None);
-    };
-    let Some((label, words)) = label_first(words) else {
-        return Ok(None);
-    };
-    let Some((from, words)) = end_after(b"from", words) else {
-        return Ok(None);
-    };
-    let Some((at, words)) = end_after(b"at", words) else {
-        return Ok(None);
-    };
+    let (listener, words) = label_first(words)?;
+    let (label, words) = label_first(words)?;
+    let (from, words) = end_after(b"from", words)?;
+    let (at, words) = end_after(b"at", words)?;
     if !words.is_empty() {
-        return Ok(None);
+        return None;
     }
-    let listener = Label::from_bytes(alloc, listener)?;
-    let label = Label::from_bytes(alloc, label)?;
-    Ok(Some(Command::Accept {
+    let listener = label_of(listener);
+    let label = label_of(label);
+    Some(Command::Accept {
         listener,
         label,
         from,
         at,
-    }))
+    })
 }
 
 /// The command of the words after `close`.
-fn close_of(alloc: Global, words: &[&[u8]]) -> Result<Option<Command>, AllocError>
-    ensures some { IfOk result (λ o. IfSome o (λ c. HasForm (codes "close" ∷ texts words.now) (lines.Command c))) }
-    ensures none { IfOk result (λ o. IfNone o ((c : Command) → HasForm (codes "close" ∷ texts words.now) (lines.Command c) → ⊥)) }
+fn close_of(words: &[&[u8]]) -> Option<Command>
+    ensures some { IfSome result (λ c. HasForm (codes "close" ∷ texts words.now) (lines.Command c)) }
+    ensures none { IfNone result ((c : Command) → HasForm (codes "close" ∷ texts words.now) (lines.Command c) → ⊥) }
 {
-    let Some(label) = label_alone(words) else {
-        return Ok(None);
-    };
-    let label = Label::from_bytes(alloc, label)?;
-    Ok(Some(Command::Close { label }))
+    let label = label_of(label_alone(words)?);
+    Some(Command::Close { label })
 }
 
 /// The command of the words after `drop`.
-fn drop_of(alloc: Global, words: &[&[u8]]) -> Result<Option<Command>, AllocError>
-    ensures some { IfOk result (λ o. IfSome o (λ c. HasForm (codes "drop" ∷ texts words.now) (lines.Command c))) }
-    ensures none { IfOk result (λ o. IfNone o ((c : Command) → HasForm (codes "drop" ∷ texts words.now) (lines.Command c) → ⊥)) }
+fn drop_of(words: &[&[u8]]) -> Option<Command>
+    ensures some { IfSome result (λ c. HasForm (codes "drop" ∷ texts words.now) (lines.Command c)) }
+    ensures none { IfNone result ((c : Command) → HasForm (codes "drop" ∷ texts words.now) (lines.Command c) → ⊥) }
 {
-    let Some(label) = label_alone(words) else {
-        return Ok(None);
-    };
-    let label = Label::from_bytes(alloc, label)?;
-    Ok(Some(Command::Drop { label }))
+    let label = label_of(label_alone(words)?);
+    Some(Command::Drop { label })
 }
 
 /// The command of the words after `at`.
@@ -355,42 +335,57 @@ fn look_of(words: &[&[u8]]) -> Option<Command>
     Some(Command::Look { from, to, dev })
 }
 
+/// The command of the words after `packets`.
+fn packets_of(words: &[&[u8]]) -> Option<Command>
+    ensures some { IfSome result (λ c. HasForm (codes "packets" ∷ texts words.now) (lines.Command c)) }
+    ensures none { IfNone result ((c : Command) → HasForm (codes "packets" ∷ texts words.now) (lines.Command c) → ⊥) }
+{
+    let (count, words) = number_first(0, 1_000_000, words)?;
+    if !words.is_empty() {
+        return None;
+    }
+    Some(Command::Packets { count })
+}
+
 /// The command that the words are.
-fn command_of(alloc: Global, words: &[&[u8]]) -> Result<Option<Command>, AllocError>
-    ensures some { IfOk result (λ o. IfSome o (λ c. HasForm (texts words.now) (lines.Command c))) }
-    ensures none { IfOk result (λ o. IfNone o ((c : Command) → HasForm (texts words.now) (lines.Command c) → ⊥)) }
+fn command_of(words: &[&[u8]]) -> Option<Command>
+    ensures some { IfSome result (λ c. HasForm (texts words.now) (lines.Command c)) }
+    ensures none { IfNone result ((c : Command) → HasForm (texts words.now) (lines.Command c) → ⊥) }
 {
     if let Some(words) = after(b"socket", words) {
-        return socket_of(alloc, words);
+        return socket_of(words);
     }
     if let Some(words) = after(b"bind", words) {
-        return bind_of(alloc, words);
+        return bind_of(words);
     }
     if let Some(words) = after(b"listen", words) {
-        return listen_of(alloc, words);
+        return listen_of(words);
     }
     if let Some(words) = after(b"connect", words) {
-        return connect_of(alloc, words);
+        return connect_of(words);
     }
     if let Some(words) = after(b"accept", words) {
-        return accept_of(alloc, words);
+        return accept_of(words);
     }
     if let Some(words) = after(b"close", words) {
-        return close_of(alloc, words);
+        return close_of(words);
     }
     if let Some(words) = after(b"drop", words) {
-        return drop_of(alloc, words);
+        return drop_of(words);
     }
     if let Some(words) = after(b"at", words) {
-        return Ok(at_of(words));
+        return at_of(words);
     }
     if let Some(words) = after(b"reap", words) {
-        return Ok(reap_of(words));
+        return reap_of(words);
     }
     if let Some(words) = after(b"look", words) {
-        return Ok(look_of(words));
+        return look_of(words);
     }
-    Ok(None)
+    if let Some(words) = after(b"packets", words) {
+        return packets_of(words);
+    }
+    None
 }
 
 /// The shape of the tables that the words tell.
@@ -484,6 +479,16 @@ fn section_of(words: &[&[u8]]) -> Option<u32>
     if words.is_empty() { Some(number) } else { None }
 }
 
+/// The device, if one is named, of the packets of the capture that the words begin.
+fn capture_of(words: &[&[u8]]) -> Option<Option<u16>>
+    ensures some { IfSome result (λ dev. HasForm (texts words.now) (lines.Capture dev)) }
+    ensures none { IfNone result ((dev : Option ℕ) → HasForm (texts words.now) (lines.Capture dev) → ⊥) }
+{
+    let words = after(b"capture", words)?;
+    let (dev, words) = device_first(words);
+    if words.is_empty() { Some(dev) } else { None }
+}
+
 /// Whether a line of these words is passed over.
 fn is_passed_over(words: &[&[u8]]) -> bool
     ensures { IsTrue result ↔ HasForm (texts words.now) lines.PassedOver }
@@ -496,36 +501,37 @@ fn is_passed_over(words: &[&[u8]]) -> bool
 
 /// The line that the words are.
 ///
-/// Takes memory for a label alone, and time for the bytes of the words.
-pub fn line_of(alloc: Global, words: &[&[u8]]) -> Result<Option<Line>, AllocError>
-    ensures some { IfOk result (λ o. IfSome o (λ line. HasForm (texts words.now) line)) }
-    ensures none { IfOk result (λ o. IfNone o ((line : Line) → HasForm (texts words.now) line → ⊥)) }
+/// Takes no memory, and time for the bytes of the words.
+pub fn line_of(words: &[&[u8]]) -> Option<Line>
+    ensures some { IfSome result (λ line. HasForm (texts words.now) line) }
+    ensures none { IfNone result ((line : Line) → HasForm (texts words.now) line → ⊥) }
 {
     if is_passed_over(words) {
-        return Ok(Some(Line::PassedOver));
+        return Some(Line::PassedOver);
     }
     if let Some(shape) = table_of(words) {
-        return Ok(Some(Line::Table(shape)));
+        return Some(Line::Table(shape));
     }
     if let Some(range) = range_of(words) {
-        return Ok(Some(Line::Range(range)));
+        return Some(Line::Range(range));
     }
     if let Some(seed) = seed_of(words) {
-        return Ok(Some(Line::Seed(seed)));
+        return Some(Line::Seed(seed));
     }
     if let Some(offset) = offset_of(words) {
-        return Ok(Some(Line::Offset(offset)));
+        return Some(Line::Offset(offset));
     }
     if let Some(reuse) = reuse_of(words) {
-        return Ok(Some(Line::TimeWaitReuse(reuse)));
+        return Some(Line::TimeWaitReuse(reuse));
     }
     if let Some(number) = section_of(words) {
-        return Ok(Some(Line::Section(number)));
+        return Some(Line::Section(number));
     }
-    match command_of(alloc, words)? {
-        Some(command) => Ok(Some(Line::Command(command))),
-        None => Ok(None),
+    if let Some(dev) = capture_of(words) {
+        return Some(Line::Capture(dev));
     }
+    let command = command_of(words)?;
+    Some(Line::Command(command))
 }
 
 #[cfg(test)]
@@ -535,7 +541,7 @@ mod tests {
 
     #[test]
     fn a_line_of_each_form_is_read(rt: HostRuntime) -> Result<(), Fail> {
-        let lines: [&[&[u8]]; 17] = [
+        let lines: [&[&[u8]]; 20] = [
             &[b"#socket"],
             &[
                 b"table", b"slots", b"65536", b"bind", b"256", b"hash", b"1", b"listen", b"4096",
@@ -579,9 +585,12 @@ mod tests {
             &[b"at", b"4294967295"],
             &[b"reap"],
             &[b"look", b"10.0.0.2:0", b"10.0.0.1:80", b"dev", b"65535"],
+            &[b"packets", b"1000000"],
+            &[b"capture"],
+            &[b"capture", b"dev", b"65535"],
         ];
         for words in lines {
-            assert!(rt; line_of(rt.alloc(), words)?.is_some());
+            assert!(rt; line_of(words).is_some());
         }
         Ok(())
     }
@@ -594,7 +603,7 @@ mod tests {
         for _ in 0..1_000_000 {
             words.push(b"reuseaddr")?;
         }
-        assert!(rt; line_of(rt.alloc(), &words)?.is_none());
+        assert!(rt; line_of(&words).is_none());
         Ok(())
     }
 }

@@ -1,6 +1,8 @@
 //! What the grammar implies of every text, and the output's definition of every script.
 
 ghost use Rattle.sock_script.specs.Grammar as law;
+ghost use Rattle.sock_script.specs.MadeRows.{IsSixteenSteps};
+ghost use Rattle.sock_script.specs.Make.{TextsAreScripts};
 ghost use Rattle.sock_script.specs.Output.{ListsSound, TextsSound};
 
 /// A text is one script at most.
@@ -16,8 +18,15 @@ pub fn one_bad_line()
 {}
 
 /// Each list between a script's commands is sound: no two bound sockets of different origin conflict,
-/// no two full sockets have one four-tuple, and no two sockets have one name.
+/// but for those whose ports `connect` chose, no two sockets that are full or in TIME_WAIT have one four-tuple, and
+/// no two sockets have one name.
 pub fn sound_lists()
     ensures scripts { ListsSound }
     ensures texts { TextsSound }
+{}
+
+/// Each generated text is a script; the text of a worked example is computed.
+pub fn made_scripts()
+    ensures scripts { TextsAreScripts }
+    ensures row { IsSixteenSteps }
 {}

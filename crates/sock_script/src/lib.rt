@@ -6,30 +6,38 @@
 //! and how a port is searched for where a command names none.
 //! [`parse::parse`] reads a text as a script, or names the first line that is outside the grammar.
 //! Both answers are exact: `specs/Grammar.antt` says which script a text is, and the laws in [`law`]
-//! that it is one at most. [`run::replies`] runs a script on `flat_list`, the plain engine, and gives
-//! the reply to each command; [`output::text`] writes a script's commands and their replies, one line
-//! for each, as `specs/Output.antt` says.
+//! that it is one at most. A script may end in a capture, which [`capture::read`] reads.
+//! [`run::replies`] runs a script on `flat_list`, the plain engine, and gives the reply to each command
+//! and to each item of its capture; [`output::text`] writes them with their replies, one line for each,
+//! as `specs/Output.antt` says.
 //!
 //! ```text
-//! let script = parse::parse(alloc, b"script 1\nsocket a\nbind a 0.0.0.0:80\n", Mode::Run)?;
-//! let replies = run::replies(alloc, &script)?;
-//! let lines = output::text(alloc, &script, &replies)?;
+//! let text = b"script 1\nsocket a\nbind a 0.0.0.0:80\n";
+//! let script = parse::parse(alloc, text, Mode::Run)?;
+//! let capture = capture::read(alloc, &script, text)?;
+//! let replies = run::replies(alloc, &script, capture.items())?;
+//! let lines = output::text(alloc, &script, &capture, &replies)?;
 //! // 1 socket a ok
 //! // 1 bind a ok 80
 //! ```
 #![tactic(auto)]
 
+pub mod capture;
+pub mod counts;
 mod draft;
 pub mod form;
 mod label;
 pub mod law;
 pub mod line;
+pub mod make;
 pub mod output;
 pub mod parse;
 pub mod run;
 #[cfg(test)]
 mod tests;
+mod unwritten;
 mod word;
 
+pub use counts::Counts;
 pub use line::Line;
 pub use parse::{Mode, ScriptEnd};

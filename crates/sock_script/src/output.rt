@@ -1,11 +1,13 @@
-ghost use Rattle.std.specs.Prelude.{◌≡◌, ◌+◌, ◌<◌, ◌≤◌, ◌∷◌, ◌++◌, [], ℕ, IfOk, OnOk, decimal, codes, map, Some, None, slice_get, unwrap_or};
+ghost use Rattle.std.specs.Prelude.{◌≡◌, ◌+◌, ◌<◌, ◌≤◌, ◌^◌, ◌∷◌, ◌++◌, [], ℕ, length, IfOk, OnOk, decimal, codes, map, Some, None, slice_get, unwrap_or};
 ghost use Rattle.inet_io.specs.Texts.{end_text};
 ghost use Rattle.sock_script.specs.Output as spec;
 ghost use Rattle.sock_script.specs.Output.{script_text};
 ghost use Rattle.sock_script.specs.Seen.{tables};
-ghost use Rattle.sock_script.specs.Steps.{issue, lines_at};
+ghost use Rattle.sock_script.specs.Steps.{issue, item_lines, Writes, WritesItems};
 
 use crate::label::Labels;
+use crate::unwritten::Unwritten;
+use capture_reader::Capture;
 use flat_list::{Command, End, Label, Reply, Script};
 use inet_io::{put_addr, put_num};
 use sock_card::{Card, Kind};
@@ -96,6 +98,8 @@ fn put_reply(out: &mut Vec<u8>, reply: &Reply, label: &[u8]) -> Result<(), Alloc
             put_number(out, *count)
         }
         Reply::Found(answer) => put_answer(out, *answer, label),
+        Reply::Skip => put(out, b"skip"),
+        Reply::Short => put(out, b"short"),
         Reply::Ebadf => put(out, b"EBADF"),
         Reply::Einval => put(out, b"EINVAL"),
         Reply::Eisconn => put(out, b"EISCONN"),
@@ -127,6 +131,7 @@ fn put_subject(out: &mut Vec<u8>, command: &Command) -> Result<(), AllocError>
         }
         Command::Reap => put(out, b"reap"),
         Command::Look { .. } => put(out, b"look"),
+        Command::Packets { .. } => put(out, b"packets"),
     }
 }
 
@@ -155,39 +160,120 @@ fn put_line(
     put(out, b"\n")
 }
 
-/// Appends the lines of commands of section `n` and their replies.
-fn put_lines(
+/// Appends the line of the capture's item of that number; the label is that of the socket that its packet found.
+fn put_item(out: &mut Vec<u8>, number: u64, reply: &Reply, label: &[u8]) -> Result<(), AllocError>
+    ensures { OnOk result (out.new.items ≡ out.old.items ++ spec.item_line number label.now reply.now) }
+{
+    put(out, b"packet ")?;
+    put_number(out, number)?;
+    put(out, b" ")?;
+    put_reply(out, reply, label)?;
+    put(out, b"\n")
+}
+
+/// Appends the lines of items and their replies, where the first has that number.
+fn put_items(
     out: &mut Vec<u8>,
     labels: &Labels<'_>,
-    n: u64,
-    commands: &[Command],
+    number: u64,
     replies: &[Reply],
 ) -> Result<(), AllocError>
-    ensures { OnOk result (out.new.items ≡ out.old.items
-        ++ lines_at (tables labels.now.by_section.items) (issue n commands.now) replies.now) }
+    requires { number + length replies.now < 2 ^ 64 }
+    ensures { OnOk result (out.new.items ≡ out.old.items ++ item_lines (tables labels.now.by_section.items) number replies.now) }
 {
-    for (command, reply) in commands.iter().zip(replies) {
-        put_line(out, n, command, reply, labels.found(reply))?;
+    for (i, reply) in replies.iter().enumerate() {
+        put_item(out, number + i as u64, reply, labels.found(reply))?;
     }
     Ok(())
 }
 
-/// The lines of a script's commands, in the order in which they are run, each with its reply.
+/// Appends the lines of the next items, as many as that or as are left.
+fn put_packets<'a>(
+    out: &mut Vec<u8>,
+    labels: &Labels<'_>,
+    count: usize,
+    unwritten: Unwritten<'a>,
+) -> Result<Unwritten<'a>, AllocError>
+    requires { unwritten.number + length unwritten.items < 2 ^ 63 }
+    ensures { IfOk result (WritesItems (tables labels.now.by_section.items) count unwritten.entry out.old.items out.new.items) }
+{
+    let (replies, left) = unwritten.take(count);
+    put_items(out, labels, unwritten.number(), replies)?;
+    Ok(left)
+}
+
+/// Appends the line of a command of section `n`, or the lines of the items that it comes to.
+fn put_command<'a>(
+    out: &mut Vec<u8>,
+    labels: &Labels<'_>,
+    n: u64,
+    command: &Command,
+    unwritten: Unwritten<'a>,
+) -> Result<Unwritten<'a>, AllocError>
+    requires { unwritten.number + length unwritten.items < 2 ^ 63 }
+    ensures { IfOk result (Writes (tables labels.now.by_section.items) (issue n (command.now ∷ [])) unwritten.entry out.old.items out.new.items) }
+{
+    if let Command::Packets { count } = command {
+        return put_packets(out, labels, *count as usize, unwritten);
+    }
+    let Some((reply, left)) = unwritten.next() else {
+        return Ok(unwritten);
+    };
+    put_line(out, n, command, reply, labels.found(reply))?;
+    Ok(left)
+}
+
+/// Appends the lines of the commands of section `n`, and of the items that they come to.
+fn put_section<'a>(
+    out: &mut Vec<u8>,
+    labels: &Labels<'_>,
+    n: u64,
+    commands: &[Command],
+    unwritten: Unwritten<'a>,
+) -> Result<Unwritten<'a>, AllocError>
+    requires { unwritten.number + length unwritten.items < 2 ^ 63 }
+    ensures { IfOk result (Writes (tables labels.now.by_section.items) (issue n commands.now) unwritten.entry out.old.items out.new.items) }
+{
+    let mut left = unwritten;
+    for command in commands {
+        left = put_command(out, labels, n, command, left)?;
+    }
+    Ok(left)
+}
+
+/// Appends the last line, where the capture ends in the middle of a record.
+fn put_cut(out: &mut Vec<u8>, is_cut: bool) -> Result<(), AllocError>
+    ensures { OnOk result (out.new.items ≡ out.old.items ++ spec.cut_text is_cut) }
+{
+    if is_cut {
+        put(out, b"cut\n")?;
+    }
+    Ok(())
+}
+
+/// The lines of a script's commands and of its capture's items, in the order in which they are come to, each
+/// with its reply.
 ///
 /// Whoever ran the script hands in the replies. Takes memory for the lines and for a reference to
 /// each label that the script gives, and time in proportion to the script and the lines: the label of
-/// a socket that a look found is found by its name, without a search. Where there are fewer replies
-/// than commands, or more, those that have no partner are left out.
-pub fn text(alloc: Global, script: &Script, replies: &[Reply]) -> Result<Vec<u8>, AllocError>
-    ensures { IfOk result (λ text. text.items ≡ script_text script.now replies.now) }
+/// a socket that a packet found is found by its name, without a search. Where there are fewer replies
+/// than commands and items, or more, those that have no partner are left out.
+pub fn text(
+    alloc: Global,
+    script: &Script,
+    capture: &Capture,
+    replies: &[Reply],
+) -> Result<Vec<u8>, AllocError>
+    ensures { IfOk result (λ text. text.items ≡ script_text script.now capture.now replies.now) }
 {
     let labels = Labels::of_script(alloc, script)?;
     let mut out = Vec::new(alloc);
-    let mut rest = replies;
+    let mut left = Unwritten::new(capture.items(), replies);
     for (i, commands) in script.sections().iter().enumerate() {
-        let (here, later) = rest.split_at(commands.len().min(rest.len()));
-        put_lines(&mut out, &labels, i as u64 + 1, commands, here)?;
-        rest = later;
+        left = put_section(&mut out, &labels, i as u64 + 1, commands, left)?;
     }
+    let count = left.item_count();
+    put_packets(&mut out, &labels, count, left)?;
+    put_cut(&mut out, capture.is_cut())?;
     Ok(out)
 }

@@ -1,4 +1,4 @@
-ghost use Rattle.std.specs.Prelude.{◌≡◌, ◌≤◌, ◌^◌, ℕ, length, IfOk, IfErr, Err};
+ghost use Rattle.std.specs.Prelude.{◌≡◌, ◌≤◌, ◌<◌, ◌+◌, ◌^◌, ℕ, None, length, IfOk, IfErr, Err};
 ghost use Rattle.flat_list.specs.Script.{IsSmall};
 ghost use Rattle.sock_script.specs.Words.{lines_of};
 ghost use Rattle.sock_script.specs.Grammar.{IsScript, IsFirstOutside, Reads, nothing_yet};
@@ -38,32 +38,44 @@ impl From<AllocError> for ScriptEnd {
     }
 }
 
-/// Reads one line, where it may follow, and says whether.
+/// Reads one line, where it may follow, and says whether. `words` is room for its words.
 ///
 /// A line that is passed over costs a look at its first bytes.
-fn read_line(alloc: Global, mode: Mode, draft: &mut Draft, line: &[u8]) -> Result<bool, AllocError>
+fn read_line<'a>(
+    mode: Mode,
+    draft: &mut Draft,
+    words: &mut Vec<&'a [u8]>,
+    line: &'a [u8],
+) -> Result<bool, AllocError>
+    requires no_capture { draft.old.capture ≡ None }
+    requires room { draft.old.bytes + length line.now + 1 < 2 ^ 64 }
     ensures { IfOk result (LineAnswer mode draft.old line.now draft.new) }
 {
+    draft.pass(line);
     if word::is_passed_over(line) {
         return Ok(true);
     }
-    let words = word::words_of(alloc, line)?;
-    match form::line_of(alloc, &words)? {
+    word::read_words(line, words)?;
+    match form::line_of(words) {
         Some(line) => draft.add(mode, line),
         None => Ok(false),
     }
 }
 
-/// Reads the lines of a text to its end.
+/// Reads the lines of a text, to its end or to where its capture begins.
 fn read_lines(alloc: Global, text: &[u8], mode: Mode) -> Result<Draft, ScriptEnd>
     ensures read { IfOk result (λ draft. Reads mode nothing_yet (lines_of text.now) draft) }
     ensures bad { IfErr result (EndAnswer mode (lines_of text.now)) }
 {
     let mut draft = Draft::new(alloc);
+    let mut words = Vec::new(alloc);
     let mut number = 0;
     for line in text.split(|b| word::is_line_feed(*b)) {
+        if draft.has_capture() {
+            return Ok(draft);
+        }
         number += 1;
-        if !read_line(alloc, mode, &mut draft, line)? {
+        if !read_line(mode, &mut draft, &mut words, line)? {
             return Err(ScriptEnd::BadLine(number));
         }
     }
@@ -74,7 +86,8 @@ fn read_lines(alloc: Global, text: &[u8], mode: Mode) -> Result<Draft, ScriptEnd
 ///
 /// Lines end in a line feed, before which one carriage return is dropped; words are parted by
 /// spaces and tabs. A line with no word, or whose first word begins with `#`, is passed over, and
-/// counts as a line. Takes memory for the commands, and none for lines that are passed over; the
+/// counts as a line. A line `capture` ends the script: the bytes after it are a capture, which isn't
+/// read here. Takes memory for the commands, and none for lines that are passed over; the
 /// time is about that of one look at each byte, and that of finding each label among those that its
 /// section has given.
 pub fn parse(alloc: Global, text: &[u8], mode: Mode) -> Result<Script, ScriptEnd>

@@ -1,64 +1,96 @@
-ghost use Rattle.std.specs.Prelude.{◌≡◌, ◌+◌, ◌<◌, ◌≤◌, ◌^◌, length, IfOk, OnOk};
+ghost use Rattle.std.specs.Prelude.{◌≡◌, ◌+◌, ◌++◌, map, ◌<◌, ◌≤◌, ◌^◌, length, IfOk, OnOk};
 ghost use Rattle.flat_list.specs.Sections.{labels_of, GivesOneAtMost, KeepsOthers};
 ghost use Rattle.flat_list.specs.Script.{IsSmall};
 ghost use Rattle.flat_list.specs.Sound.{IsSound};
 ghost use Rattle.list_words.specs.Lists.{Each};
-ghost use Rattle.sock_script.specs.Output.{flat_replies, lists_of};
+ghost use Rattle.sock_script.specs.Output.{flat_replies, item_reply, lists_of};
 ghost use Rattle.sock_script.specs.Steps.{RunsCommand, RunsSection};
 
+use capture_reader::Item;
 use flat_list::{Command, Flat, Reply, Script};
 use std::alloc::{AllocError, Global};
 
-/// Runs one command of section `n`, and appends its reply.
-fn run_command(
+/// What is replied to an item of a capture: what its packet finds, if it is one.
+fn reply_to(flat: &Flat, item: Item) -> Reply
+    ensures { result ≡ item_reply flat.now item }
+{
+    match item {
+        Item::Packet(packet) => Reply::Found(flat.look(&packet)),
+        Item::Skip => Reply::Skip,
+        Item::Short => Reply::Short,
+    }
+}
+
+/// Appends the replies to some items.
+fn look_up(flat: &Flat, replies: &mut Vec<Reply>, items: &[Item]) -> Result<(), AllocError>
+    ensures { OnOk result (replies.new.items ≡ replies.old.items ++ map (item_reply flat.now) items.now) }
+{
+    for item in items {
+        replies.push(reply_to(flat, *item))?;
+    }
+    Ok(())
+}
+
+/// Runs one command of section `n`, appends what is replied, and tells the items that are left then.
+fn run_command<'a>(
     flat: &mut Flat,
     replies: &mut Vec<Reply>,
     n: u32,
     command: &Command,
-) -> Result<(), AllocError>
+    items: &'a [Item],
+) -> Result<&'a [Item], AllocError>
     requires number { n ≤ 64 }
     requires room { length (labels_of n flat.old.sections) + 1 < 2 ^ 24 }
-    ensures runs { OnOk result (RunsCommand flat.old flat.new n command.now replies.old.items replies.new.items) }
+    ensures runs { IfOk result (λ left. RunsCommand flat.old flat.new n command.now items.now left.now replies.old.items replies.new.items) }
     ensures labels { GivesOneAtMost flat.old.sections flat.new.sections }
     ensures others { KeepsOthers n flat.old.sections flat.new.sections }
 {
+    if let Command::Packets { count } = command {
+        let (next, left) = items.split_at((*count as usize).min(items.len()));
+        look_up(flat, replies, next)?;
+        return Ok(left);
+    }
     let reply = flat.apply(n, command)?;
     replies.push(reply)?;
-    Ok(())
+    Ok(items)
 }
 
-/// Runs the commands of section `n`, and appends their replies.
-fn run_section(
+/// Runs the commands of section `n`, appends what is replied, and tells the items that are left then.
+fn run_section<'a>(
     flat: &mut Flat,
     replies: &mut Vec<Reply>,
     n: u32,
     commands: &[Command],
-) -> Result<(), AllocError>
+    items: &'a [Item],
+) -> Result<&'a [Item], AllocError>
     requires number { n ≤ 64 }
     requires room { length (labels_of n flat.old.sections) + length commands.now < 2 ^ 24 }
-    ensures { OnOk result (RunsSection flat.old flat.new n commands.now replies.old.items replies.new.items) }
+    ensures { IfOk result (λ left. RunsSection flat.old flat.new n commands.now items.now left.now replies.old.items replies.new.items) }
 {
+    let mut left = items;
     for command in commands {
-        run_command(flat, replies, n, command)?;
+        left = run_command(flat, replies, n, command, left)?;
     }
-    Ok(())
+    Ok(left)
 }
 
-/// What the flat list replies to the commands of a script, whose sections are run one after the other
-/// on an empty list of sockets.
+/// What the flat list replies to a script whose capture has these items: the sections are run one after the
+/// other on an empty list of sockets, and the items that no command took are looked up last.
 ///
 /// Takes memory for the sockets and the replies. What `parse` gives for a text of 16 MiB at most is
 /// small enough to be run.
-pub fn replies(alloc: Global, script: &Script) -> Result<Vec<Reply>, AllocError>
+pub fn replies(alloc: Global, script: &Script, items: &[Item]) -> Result<Vec<Reply>, AllocError>
     requires { IsSmall script.now }
-    ensures replied { IfOk result (λ replies. replies.items ≡ flat_replies script.now) }
-    // Whatever list the script runs through: no two sockets on one port conflict, and so on.
+    ensures replied { IfOk result (λ replies. replies.items ≡ flat_replies script.now items.now) }
+    // Whatever list the script runs through is sound.
     ensures sound { Each IsSound (lists_of script.now) }
 {
     let mut flat = Flat::new(alloc, script.header());
     let mut replies = Vec::new(alloc);
+    let mut left = items;
     for (i, commands) in script.sections().iter().enumerate() {
-        run_section(&mut flat, &mut replies, i as u32 + 1, commands)?;
+        left = run_section(&mut flat, &mut replies, i as u32 + 1, commands, left)?;
     }
+    look_up(&flat, &mut replies, left)?;
     Ok(replies)
 }

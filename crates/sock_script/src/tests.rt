@@ -1,7 +1,7 @@
 ghost use Rattle.std.specs.Prelude.{◌≤◌, ◌^◌, length};
 
 use crate::parse::{Mode, ScriptEnd, parse};
-use crate::{output, run};
+use crate::{capture, output, run};
 use std::alloc::{AllocError, Global};
 use std::test::Fail;
 
@@ -19,8 +19,9 @@ fn output_of(alloc: Global, text: &[u8]) -> Result<Vec<u8>, ScriptEnd>
     requires { length text.now ≤ 2 ^ 24 }
 {
     let script = parse(alloc, text, Mode::Run)?;
-    let replies = run::replies(alloc, &script)?;
-    Ok(output::text(alloc, &script, &replies)?)
+    let capture = capture::read(alloc, &script, text).map_err(|_| ScriptEnd::Memory)?;
+    let replies = run::replies(alloc, &script, capture.items())?;
+    Ok(output::text(alloc, &script, &capture, &replies)?)
 }
 
 /// So many section lines.
@@ -195,9 +196,32 @@ fn sections_are_sixty_four_at_most(rt: HostRuntime) -> Result<(), Fail> {
 }
 
 #[test]
+fn a_capture_ends_the_script(rt: HostRuntime) -> Result<(), Fail> {
+    let cases: [(&[u8], Option<u64>); 7] = [
+        (b"capture", None),
+        (b"capture dev 65535\nno line\n\0", None),
+        (
+            b"script 1\nsocket a\npackets 1000000\ncapture\nsocket a\n",
+            None,
+        ),
+        (b"capture dev 0\n", Some(1)),
+        (b"capture dev\n", Some(1)),
+        (b"capture 1\n", Some(1)),
+        (b"script 1\npackets 1000001\n", Some(2)),
+    ];
+    for (text, line) in cases {
+        assert_eq!(rt; bad_line(rt.alloc(), text, Mode::Run), line);
+    }
+    Ok(())
+}
+
+#[test]
 fn a_race_has_no_look(rt: HostRuntime) -> Result<(), Fail> {
     let text = b"script 1\nsocket a\nlook 10.0.0.2:5 10.0.0.1:80\n";
     assert_eq!(rt; bad_line(rt.alloc(), text, Mode::Run), None);
     assert_eq!(rt; bad_line(rt.alloc(), text, Mode::Race), Some(3));
+    let text = b"script 1\npackets 1\n";
+    assert_eq!(rt; bad_line(rt.alloc(), text, Mode::Run), None);
+    assert_eq!(rt; bad_line(rt.alloc(), text, Mode::Race), Some(2));
     Ok(())
 }

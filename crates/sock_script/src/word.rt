@@ -1,9 +1,9 @@
-ghost use Rattle.std.specs.Prelude.{◌≡◌, ◌↔◌, map, find, not, IfOk, IsTrue, ◌||◌, ◌==◌};
+ghost use Rattle.std.specs.Prelude.{◌≡◌, ◌↔◌, map, find, not, OnOk, IsTrue, ◌||◌, ◌==◌};
 ghost use Rattle.std.specs.Str.Lines.{strip_carriage_return};
 ghost use Rattle.sock_script.specs.Words as spec;
 ghost use Rattle.sock_script.specs.Forms.{IsPassedOver};
 
-use std::alloc::{AllocError, Global};
+use std::alloc::AllocError;
 
 fn without_carriage_return(line: &[u8]) -> &[u8]
     ensures { result.now ≡ strip_carriage_return line.now }
@@ -49,12 +49,14 @@ pub fn is_passed_over(line: &[u8]) -> bool
     }
 }
 
-/// The words of a line.
-pub fn words_of(alloc: Global, line: &[u8]) -> Result<Vec<&[u8]>, AllocError>
-    ensures { IfOk result (λ v. map (λ w. w.now) v.items ≡ spec.words_of line.now) }
+/// Reads the words of a line into the vector, in place of what it holds.
+pub fn read_words<'a>(line: &'a [u8], words: &mut Vec<&'a [u8]>) -> Result<(), AllocError>
+    ensures { OnOk result (map (λ w. w.now) words.new.items ≡ spec.words_of line.now) }
 {
-    without_carriage_return(line)
-        .split(|b| is_blank(*b))
-        .filter(|w| is_word(w))
-        .collect(alloc)
+    words.clear();
+    words.extend(
+        without_carriage_return(line)
+            .split(|b| is_blank(*b))
+            .filter(|w| is_word(w)),
+    )
 }

@@ -4,9 +4,9 @@ use Rattle.sock_script.proofs.form.accept_of.Goals as goal
 
 pub returns-clause-some : goal.returns-clause-some
 returns-clause-some c =
-    let listener = c.in-Some.ensures.some in
-    let label = c.in-Some-label_first.ensures.some in
-    let from = c.in-Some-end_after.ensures.some in
-    let at = c.in-Some-end_after-2.ensures.some in
+    let listener = c.in_ok-listener.ensures.some in
+    let label = c.in_ok-label.ensures.some in
+    let from = c.in_ok-from.ensures.some in
+    let at = c.in_ok-at.ensures.some in
     let last = none_left _ c.if-not-is_empty.ensures in
-    rw (c.in_ok-listener.ensures, c.in_ok-label.ensures, listener.0, label.0, from.0, at.0, last) (refl, (listener.1, label.1, from.1, at.1))
+    rw (c.label_of-listener.ensures, c.label_of-label.ensures, listener.0, label.0, from.0, at.0, last) (refl, (listener.1, label.1, from.1, at.1))

@@ -1,12 +1,14 @@
 use Rattle.std.proofs.Common.{◌∙◌, ap, refl}
 use Rattle.sock_script.specs.declared.line.Line.TheVariants as lines
 use Rattle.sock_script.specs.Seen.{texts}
+use Rattle.sock_script.proofs.LineCases.{reads}
 use Rattle.sock_script.proofs.ReadLines.{answers}
 use Rattle.sock_script.proofs.parse.read_line.Goals as goal
 
 pub returns-then-is_passed_over : goal.returns-then-is_passed_over
-returns-then-is_passed_over c = (lines.PassedOver, c.if-is_passed_over.ensures.0 refl, refl)
+returns-then-is_passed_over c =
+    reads c.args.mode c.args.draft.now c.args.line.now c.pass.new.self c.requires.no_capture lines.PassedOver (c.if-is_passed_over.ensures.0 refl) c.pass.ensures
 
 pub returns-in-Some : goal.returns-in-Some
 returns-in-Some c =
-    answers _ _ _ _ _ c.in-Some.line (ap texts c.deref.ensures.value ∙ c.in_ok-words.ensures) (rw c.in-Some.is at c.in_ok-line.ensures.some) _ c.add.ensures
+    answers c.args.mode c.args.draft.now c.pass.new.self _ c.args.line.now _ c.in-Some.line c.requires.no_capture c.pass.ensures (ap texts c.deref.ensures.value ∙ c.in_ok-read_words.ensures) c.in-Some.ensures.some _ c.add.ensures

@@ -14,3 +14,6 @@ returns-in-Offset c = rw c.in-Offset.is (c.add_offset.ensures c.args.mode)
 
 pub returns-in-TimeWaitReuse : goal.returns-in-TimeWaitReuse
 returns-in-TimeWaitReuse c = rw c.in-TimeWaitReuse.is (c.add_twreuse.ensures c.args.mode)
+
+pub returns-in-Capture : goal.returns-in-Capture
+returns-in-Capture c = rw c.in-Capture.is (c.begin_capture.ensures c.args.mode)

@@ -1,0 +1,72 @@
+-- What one command makes a run do, and what is replied to it.
+use Rattle.std.proofs.Common.{◌≡◌, ◌∙◌, ℕ, min, List, [], ◌∷◌, ◌++◌, map, take, drop, length, Bool, true, false, refl, sym, ap, ap₂, arith, append_assoc, append-nil}
+use Rattle.std.proofs.lemmas.Grind.{common_steps}
+use Rattle.capture_reader.specs.declared.packet.Item.{Item}
+use Rattle.flat_list.specs.declared.command.Command.{Command}
+use Rattle.flat_list.specs.declared.command.Command.TheVariants as commands
+use Rattle.flat_list.specs.declared.command.Reply.{Reply}
+use Rattle.flat_list.specs.Flat.{Flat}
+use Rattle.flat_list.specs.Run.{Issued}
+use Rattle.flat_list.specs.Step.{step}
+use Rattle.sock_script.specs.Output.{Event, asked, stored, events_at, events_from, left_by, replies_from, item_reply}
+use Rattle.sock_script.specs.Steps.{issue, takes_items, RunsCommand}
+
+-- a command that isn't `packets` takes none
+pub takes_none : (command : Command) → ((count : ℕ) → command ≡ commands.Packets count → ⊥) → takes_items command ≡ false
+takes_none (commands.Packets count) h = absurd (h count refl)
+takes_none _ h = refl
+
+-- a command that takes no items comes to itself alone
+pub asks_alone : (c : Issued) (command : Command) (left : List Item) → takes_items command ≡ false → events_at c command left ≡ asked c ∷ []
+asks_alone c (commands.Packets count) left h = absurd (cc)
+asks_alone c _ left h = refl
+
+-- and leaves the items
+pub leaves_all : (command : Command) (left : List Item) → takes_items command ≡ false → left_by command left ≡ left
+leaves_all (commands.Packets count) left h = absurd (cc)
+leaves_all _ left h = refl
+
+-- the front of a list that is shorter than asked for is the list
+pub take_least : {A : Type 0} (count : ℕ) (xs : List A) → take (min count (length xs)) xs ≡ take count xs
+take_least count xs = grind (arith, common_steps)
+
+pub drop_least : {A : Type 0} (count : ℕ) (xs : List A) → drop (min count (length xs)) xs ≡ drop count xs
+drop_least count xs = grind (arith, common_steps)
+
+-- items are replied to as the list stands
+pub items_replied : (flat : Flat) (xs : List Item) (rest : List Event) → replies_from flat (map stored xs ++ rest) ≡ map (item_reply flat) xs ++ replies_from flat rest
+items_replied flat [] rest = refl
+items_replied flat (x ∷ xs) rest = ap (λ r. item_reply flat x ∷ r) (items_replied flat xs rest)
+
+-- so are those that are left at the end
+pub last_replied : (flat : Flat) (xs : List Item) → replies_from flat (events_from xs []) ≡ map (item_reply flat) xs
+last_replied flat [] = refl
+last_replied flat (x ∷ xs) = ap (λ r. item_reply flat x ∷ r) (last_replied flat xs)
+
+-- `packets` was run: the next items were looked up
+pub ran_packets : (flat : Flat) (n count : ℕ) (items next left : List Item) (before out : List Reply)
+    → next ≡ take (min count (length items)) items → left ≡ drop (min count (length items)) items → out ≡ before ++ map (item_reply flat) next
+    → RunsCommand flat flat n (commands.Packets count) items left before out
+unfolding step
+ran_packets flat n count items next left before out front back is = record {
+  replied = λ later.
+      ap (λ o. o ++ replies_from flat (events_from left later)) is
+      ∙ append_assoc before _ _
+      ∙ ap (λ r. before ++ r) (sym (items_replied flat next (events_from left later)))
+      ∙ ap₂ (λ x y. before ++ replies_from flat (map stored x ++ events_from y later)) (front ∙ take_least count items) (back ∙ drop_least count items);
+  flat = refl;
+}
+
+-- any other command was run: its reply was appended
+pub ran_asked : (old new : Flat) (n : ℕ) (command : Command) (items : List Item) (reply : Reply) (before out : List Reply)
+    → takes_items command ≡ false → reply ≡ (step old n command).reply → new ≡ (step old n command).flat → out ≡ before ++ reply ∷ []
+    → RunsCommand old new n command items items before out
+ran_asked old new n command items reply before out other replied flat is = record {
+  replied = λ later.
+      let c : Issued = record { section = n; command = command } in
+      ap (λ o. o ++ replies_from new (events_from items later)) is
+      ∙ append_assoc before (reply ∷ []) _
+      ∙ ap₂ (λ r f. before ++ r ∷ replies_from f (events_from items later)) replied flat
+      ∙ sym (ap₂ (λ e l. before ++ replies_from old (e ++ events_from l later)) (asks_alone c command items other) (leaves_all command items other));
+  flat = flat;
+}

@@ -1,0 +1,171 @@
+//! How many commands of a script were answered in which way.
+ghost use Rattle.std.specs.Prelude.{◌≡◌, ◌+◌, ◌*◌, ◌<◌, ◌≤◌, ◌^◌, ◌++◌, List, ℕ, length, bytes_eq, codes, IfOk, OnOk};
+ghost use Rattle.sock_script.specs.Counts as spec;
+ghost use Rattle.sock_script.specs.Counts.{script_counts, counts_text};
+ghost use Rattle.sock_script.specs.CountSteps.{one_more, weight, with_answered};
+ghost use Rattle.sock_script.specs.Steps.{issue};
+ghost use Rattle.flat_list.specs.declared.command.Command.{Command as AnyCommand};
+ghost use Rattle.sock_script.specs.Output.{reply_with};
+
+use flat_list::{Command, Reply, Script};
+use inet_io::put_num;
+use std::alloc::{AllocError, Global};
+
+/// What is counted of a script and its replies.
+#[derive(Clone, Copy, Debug, PartialEq, Eq)]
+pub struct Counts {
+    /// The commands other than `look`.
+    pub commands: u64,
+    /// Those of them that were done.
+    pub ok: u64,
+    /// Those of them that were refused.
+    pub refused: u64,
+    /// The lookups that found a socket.
+    pub found: u64,
+    /// The lookups that found none.
+    pub none: u64,
+}
+
+const NOTHING: Counts = Counts {
+    commands: 0,
+    ok: 0,
+    refused: 0,
+    found: 0,
+    none: 0,
+};
+
+fn is_look(command: &Command) -> bool
+    ensures { result ≡ spec.is_look command.now }
+{
+    matches!(command, Command::Look { .. })
+}
+
+/// Whether a command was done, by its reply.
+fn is_done(reply: &Reply) -> bool
+    ensures { (label : List ℕ) → result ≡ spec.begins_with_ok (reply_with label reply.now) }
+{
+    match reply {
+        Reply::Ok
+        | Reply::Port(_)
+        | Reply::End(_)
+        | Reply::TimeWait
+        | Reply::NoSlot { .. }
+        | Reply::Count(_) => true,
+        _ => false,
+    }
+}
+
+/// Whether a lookup found no socket, by its reply.
+fn is_none(reply: &Reply) -> bool
+    ensures { (label : List ℕ) → result ≡ bytes_eq (reply_with label reply.now) (codes "none") }
+{
+    matches!(reply, Reply::Found(None))
+}
+
+/// Appends a word, a number and a line feed.
+fn put_line(out: &mut Vec<u8>, word: &[u8], n: u64) -> Result<(), AllocError>
+    ensures { OnOk result (out.new.items ≡ out.old.items ++ spec.count_line word.now n) }
+{
+    let mut digits = [0; 20];
+    let len = put_num(&mut digits, 0, n);
+    out.extend_from_slice(word)?;
+    out.extend_from_slice(b" ")?;
+    out.extend_from_slice(&digits[..len])?;
+    out.extend_from_slice(b"\n")
+}
+
+impl Counts {
+    /// Counts one command more.
+    fn add(&mut self, command: &Command, reply: &Reply)
+        requires { weight self.old + 2 < 2 ^ 64 }
+        ensures { (label : List ℕ) → self.new ≡ one_more self.old command.now (reply_with label reply.now) }
+    {
+        if is_look(command) {
+            if is_none(reply) {
+                self.none += 1;
+            } else {
+                self.found += 1;
+            }
+        } else {
+            self.commands += 1;
+            if is_done(reply) {
+                self.ok += 1;
+            } else {
+                self.refused += 1;
+            }
+        }
+    }
+
+    /// Counts the commands of a section, as far as there are replies.
+    fn add_section(&mut self, commands: &[Command], replies: &[Reply])
+        requires { weight self.old + 2 * length replies.now < 2 ^ 64 }
+        ensures counted { (sections : List (List AnyCommand)) (n : ℕ) →
+            self.new ≡ with_answered self.old (spec.answered sections (issue n commands.now) replies.now) }
+        ensures weight { weight self.new ≤ weight self.old + 2 * length replies.now }
+    {
+        for (command, reply) in commands.iter().zip(replies) {
+            self.add(command, reply);
+        }
+    }
+
+    /// What is counted of a script and its replies, one for each command in the order in which they are
+    /// run: the script has no `packets`, whose items have replies too. A command without a reply isn't counted.
+    pub fn of(script: &Script, replies: &[Reply]) -> Counts
+        ensures counted { result ≡ script_counts script.now replies.now }
+        ensures whole { result.commands ≡ result.ok + result.refused }
+    {
+        let mut counts = NOTHING;
+        let mut rest = replies;
+        for commands in script.sections() {
+            let (here, later) = rest.split_at(commands.len().min(rest.len()));
+            counts.add_section(commands, here);
+            rest = later;
+        }
+        counts
+    }
+
+    /// The five lines of the counts.
+    pub fn text(&self, alloc: Global) -> Result<Vec<u8>, AllocError>
+        ensures { IfOk result (λ text. text.items ≡ counts_text self.now) }
+    {
+        let mut out = Vec::new(alloc);
+        put_line(&mut out, b"commands", self.commands)?;
+        put_line(&mut out, b"ok", self.ok)?;
+        put_line(&mut out, b"refused", self.refused)?;
+        put_line(&mut out, b"found", self.found)?;
+        put_line(&mut out, b"none", self.none)?;
+        Ok(out)
+    }
+}
+
+#[cfg(test)]
+mod tests {
+    use super::*;
+    use crate::{make, run};
+    use std::test::Fail;
+
+    /// The lines of the counts of a generated script.
+    fn lines_of(alloc: Global, seed: u32, count: u32) -> Result<Vec<u8>, AllocError>
+        requires { count ≤ 100000 }
+    {
+        let script = make::script(alloc, seed, count)?;
+        let replies = run::replies(alloc, &script, &[])?;
+        Counts::of(&script, &replies).text(alloc)
+    }
+
+    #[test]
+    fn no_steps_count_nothing(rt: HostRuntime) -> Result<(), Fail> {
+        let lines = lines_of(rt.alloc(), 1, 0)?;
+        let wanted = b"commands 0\nok 0\nrefused 0\nfound 0\nnone 0\n";
+        assert!(rt; lines.as_slice() == wanted.as_slice());
+        Ok(())
+    }
+
+    #[test]
+    fn two_thousand_steps_are_counted(rt: HostRuntime) -> Result<(), Fail> {
+        let lines = lines_of(rt.alloc(), 7, 2000)?;
+        let wanted = b"commands 3445\nok 2769\nrefused 676\nfound 55\nnone 208\n";
+        assert!(rt; lines.as_slice() == wanted.as_slice());
+        Ok(())
+    }
+}

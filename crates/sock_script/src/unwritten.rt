@@ -1,0 +1,79 @@
+//! What isn't written yet of a run.
+
+ghost use Rattle.std.specs.Prelude.{◌≡◌, ◌+◌, ◌<◌, ◌≤◌, ◌^◌, length, [], MatchOption};
+ghost use Rattle.sock_script.specs.Steps.{NextOf, TakenOf};
+
+use capture_reader::Item;
+use flat_list::Reply;
+use std::marker::Model;
+
+/// The number of the capture's next item, the items that are left, and the replies to what follows.
+#[derive(Drop)]
+pub struct Unwritten<'a> {
+    number: u64,
+    items: &'a [Item],
+    replies: &'a [Reply],
+}
+
+impl<'a> Model for Unwritten<'a> {
+    ghost use Rattle.sock_script.specs.Steps.{Unwritten as Left};
+
+    ghost Value = { Left };
+
+    ghost view = { λ u. record { number = u.number; items = u.items.now; replies = u.replies.now } };
+}
+
+impl<'a> Unwritten<'a> {
+    /// Before the first line.
+    pub fn new(items: &'a [Item], replies: &'a [Reply]) -> Self
+        ensures { result ≡ record { number = 1; items = items.now; replies = replies.now } }
+    {
+        Unwritten {
+            number: 1,
+            items,
+            replies,
+        }
+    }
+
+    /// The number of the next item.
+    pub fn number(&self) -> u64
+        ensures { result ≡ self.now.number }
+    {
+        self.number
+    }
+
+    /// How many items are left.
+    pub fn item_count(&self) -> usize
+        ensures { result ≡ length self.now.items }
+    {
+        self.items.len()
+    }
+
+    /// The next reply, and what is left after it.
+    pub fn next(&self) -> Option<(&'a Reply, Self)>
+        ensures { MatchOption result (self.now.replies ≡ []) (λ r. NextOf self.now r.0.now r.1) }
+    {
+        let (reply, replies) = self.replies.split_first()?;
+        let left = Unwritten {
+            number: self.number,
+            items: self.items,
+            replies,
+        };
+        Some((reply, left))
+    }
+
+    /// The replies to the next items, as many as that or as are left, and what is left after them.
+    pub fn take(&self, count: usize) -> (&'a [Reply], Self)
+        requires { self.now.number + length self.now.items < 2 ^ 63 }
+        ensures { TakenOf self.now count result.0.now result.1 }
+    {
+        let taken = count.min(self.items.len());
+        let (replies, rest) = self.replies.split_at(taken.min(self.replies.len()));
+        let left = Unwritten {
+            number: self.number + taken as u64,
+            items: &self.items[taken..],
+            replies: rest,
+        };
+        (replies, left)
+    }
+}
