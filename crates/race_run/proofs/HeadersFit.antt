@@ -1,5 +1,5 @@
 -- What the header lines of a script may say lets tables be made.
-use Rattle.std.proofs.Common.{◌≡◌, ℕ, ◌+◌, ◌%◌, ◌<◌, ◌≤◌, ◌^◌, List, [], ◌∷◌, Option, Some, None, unwrap_or, refl, sym, subst, arith}
+use Rattle.std.proofs.Common.{◌≡◌, ℕ, ◌+◌, ◌%◌, ◌<◌, ◌≤◌, ◌^◌, List, [], ◌∷◌, Option, Some, None, unwrap_or, inl, inr, refl, sym, subst, arith}
 use Rattle.std.specs.Int.{IsPowerOfTwo}
 use Rattle.std.proofs.lemmas.Nat.{pow_pos}
 use Rattle.chain_book.specs.declared.shape.Shape.{Shape}
@@ -11,7 +11,8 @@ use Rattle.sock_script.specs.declared.line.Line.{Line}
 use Rattle.sock_script.specs.declared.line.Line.TheVariants as lines
 use Rattle.sock_script.specs.Words.{words_of, lines_of}
 use Rattle.sock_script.specs.Forms.{HasForm, ShapeFits, RangeFits}
-use Rattle.sock_script.specs.Grammar.{Draft, Follows, Reads, nothing_yet, default_shape, default_range}
+use Rattle.sock_script.specs.Grammar.{Draft, Follows, ReadsLine, Reads, past, nothing_yet, default_shape, default_range}
+use Rattle.sock_script.proofs.LineCases.{line_cases}
 use Rattle.race_run.specs.Fits.{FitsTables, ScriptsFit}
 
 -- a shape or a range that was said fits
@@ -32,12 +33,20 @@ line_fits mode old new words (lines.Seed seed) form f s = subst SaysFit (sym f.1
 line_fits mode old new words (lines.Offset offset) form f s = subst SaysFit (sym f.1) (record { table = s.table; range = s.range })
 line_fits mode old new words (lines.TimeWaitReuse reuse) form f s = subst SaysFit (sym f.1) (record { table = s.table; range = s.range })
 line_fits mode old new words (lines.Section n) form f s = subst SaysFit (sym f.1) (record { table = s.table; range = s.range })
+line_fits mode old new words (lines.Capture dev) form f s = subst SaysFit (sym f) (record { table = s.table; range = s.range })
 line_fits mode old new words (lines.Command c) form f s = subst SaysFit (sym f.1) (record { table = s.table; range = s.range })
+
+-- and so does what reading it leaves, whose bytes may be a capture's
+read_fits : (mode : Mode) (old new : Draft) (text : List ℕ) → ReadsLine mode old text new → SaysFit old → SaysFit new
+read_fits mode old new text h s =
+    elim (line_cases mode old text new h) [
+      | inl r ↦ line_fits mode (past old text) new (words_of text) r.line r.form r.follows (record { table = s.table; range = s.range })
+      | inr kept ↦ subst SaysFit (sym kept.2) s
+    ]
 
 texts_fit : (mode : Mode) (old new : Draft) (texts : List (List ℕ)) → Reads mode old texts new → SaysFit old → SaysFit new
 texts_fit mode old new [] h s = subst SaysFit (sym h) s
-texts_fit mode old new (text ∷ texts) h s =
-    texts_fit mode h.0 new texts h.2 (line_fits mode old h.0 (words_of text) h.1.0 h.1.1 h.1.2 s)
+texts_fit mode old new (text ∷ texts) h s = texts_fit mode h.0 new texts h.2 (read_fits mode old h.0 text h.1 s)
 
 some_power : (n : ℕ) → IsPowerOfTwo n → 1 ≤ n
 some_power n p = omega (arith, p.1, pow_pos p.0)

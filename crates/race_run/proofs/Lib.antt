@@ -7,5 +7,6 @@ pub mod LooksGroup
 pub mod LooksSame
 pub mod SectionsStay
 pub mod LookAnswers
+pub mod ItemsAlike
 pub mod SectionTurns
 pub mod HeadersFit

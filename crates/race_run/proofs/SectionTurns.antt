@@ -1,7 +1,8 @@
 -- A turn of the loops over a section's commands, and over the sections, on tables that mean a list.
-use Rattle.std.proofs.Common.{◌≡◌, ℕ, ◌+◌, ◌<◌, ◌≤◌, ◌^◌, List, [], ◌∷◌, ◌++◌, length, drop, get_or, find, None, unwrap_or, refl, sym, ap, ◌∙◌, subst, arith}
+use Rattle.std.proofs.Common.{◌≡◌, ℕ, ◌+◌, ◌<◌, ◌≤◌, ◌^◌, List, [], ◌∷◌, ◌++◌, length, map, drop, get_or, find, None, unwrap_or, refl, sym, ap, ◌∙◌, subst, arith}
 use Rattle.std.specs.Option.{option_map}
 use Rattle.std.proofs.lemmas.Grind.{common_steps}
+use Rattle.capture_reader.specs.declared.packet.Item.{Item}
 use Rattle.flat_list.specs.declared.header.Header.{Header}
 use Rattle.flat_list.specs.declared.command.Command.{Command}
 use Rattle.flat_list.specs.declared.command.Reply.{Reply}
@@ -12,23 +13,23 @@ use Rattle.flat_list.specs.Step.{step}
 use Rattle.flat_list.proofs.LabelsGrow.{gives_at_one, labels_stay}
 use Rattle.flat_list.proofs.Soundness.{starts as starts_sound}
 use Rattle.sock_script.specs.Steps.{issue, RunsCommand, RunsSection}
-use Rattle.sock_script.specs.Output.{issued_from, replies_from}
+use Rattle.sock_script.specs.Output.{issued_from, events_from, replies_from}
 use Rattle.sock_script.proofs.RunTurns.{RanSoFar, ran_start, ran_more, ran_all, RanSections, sections_start, sections_next, sections_end}
 use Rattle.table_model.specs.Tables.{Tables, new_tables}
 use Rattle.table_model.specs.Own.{new_own}
-use Rattle.table_model.specs.Commands.{answers}
-use Rattle.table_model.specs.Means.{Means, Refines, IsShape}
+use Rattle.table_model.specs.Means.{Means, IsShape}
 use Rattle.table_model.proofs.GroupsStart.{new_mean_empty, starts_meant}
 use Rattle.table_model.proofs.OwnersSections.{same_labels}
 use Rattle.race_run.specs.Fits.{FitsTables}
-use Rattle.sock_ops.specs.Sections.{Kept, kept, AreMeant, KeepsHeader, RefinesEach}
-use Rattle.race_run.specs.Steps.{StartsAt, CanStart, RunsAs}
+use Rattle.sock_ops.specs.Sections.{Kept, kept, AreMeant, KeepsHeader}
+use Rattle.race_run.specs.Steps.{StartsAt, CanStart, RunsAs, RunsOne, RunsEach, item_found}
+use Rattle.race_run.proofs.ItemsAlike.{items_alike}
 use Rattle.race_run.proofs.SectionsStay.{step_stays}
 
 -- what stands after some commands of a section that began at the first list
-pub record SoFar (header : Header) (n : ℕ) (first : Flat) (all : List Command) (before out : List Reply) (i : ℕ) (m : Kept) (t : Tables) : Type 0 where
+pub record SoFar (header : Header) (n : ℕ) (first : Flat) (all : List Command) (items left : List Item) (before out : List Reply) (i : ℕ) (m : Kept) (t : Tables) : Type 0 where
   pub flat : Flat
-  pub ran : RanSoFar n first flat (drop i all) all before out i
+  pub ran : RanSoFar n first flat (drop i all) all items left before out i
   pub number : m.own.number ≡ n
   pub header_is : flat.header ≡ header
   pub machine_is : m.header ≡ header
@@ -37,9 +38,9 @@ pub record SoFar (header : Header) (n : ℕ) (first : Flat) (all : List Command)
   pub later : (k : ℕ) → n + 1 ≤ k → find (has_number k) flat.sections ≡ None
 
 -- so from whatever list the tables meant
-abbrev pub Turns : Header → ℕ → Tables → List Command → List Reply → List Reply → ℕ → Kept → Tables → Type 0
-Turns header n old all before out i m t =
-    (first : Flat) → StartsAt header n old first → SoFar header n first all before out i m t
+abbrev pub Turns : Header → ℕ → Tables → List Command → List Item → List Item → List Reply → List Reply → ℕ → Kept → Tables → Type 0
+Turns header n old all items left before out i m t =
+    (first : Flat) → StartsAt header n old first → SoFar header n first all items left before out i m t
 
 -- the section that hasn't begun is a new one
 not_begun : (header : Header) (n : ℕ) (sections : List ListSection) → find (has_number n) sections ≡ None → section_of header n sections ≡ list_section header n
@@ -53,11 +54,11 @@ begins header n t first some s =
     subst (λ h. Means n (new_own h n) t first) s.header_is
     (starts_meant n t first some (subst IsShape (sym s.header_is) s.shape) s.sound s.tables (not_begun first.header n first.sections (s.fresh n (omega arith))))
 
-pub turns_start : (header : Header) (n : ℕ) (t : Tables) (all : List Command) (out : List Reply) (m : Kept) → 1 ≤ n → m ≡ kept header (new_own header n) → Turns header n t all out out 0 m t
-turns_start header n t all out m some is first s =
-    subst (λ (m : Kept). SoFar header n first all out out 0 m t) (sym is) (record {
+pub turns_start : (header : Header) (n : ℕ) (t : Tables) (all : List Command) (items : List Item) (out : List Reply) (m : Kept) → 1 ≤ n → m ≡ kept header (new_own header n) → Turns header n t all items items out out 0 m t
+turns_start header n t all items out m some is first s =
+    subst (λ (m : Kept). SoFar header n first all items items out out 0 m t) (sym is) (record {
       flat = first;
-      ran = ran_start n first all out;
+      ran = ran_start n first all items out;
       number = refl;
       header_is = s.header_is;
       machine_is = refl;
@@ -72,15 +73,15 @@ pub record CanStep (m : Kept) (t : Tables) : Type 0 where
   pub room : length m.own.labels + 1 < 2 ^ 24
   pub meant : AreMeant m t
 
-module _ (header : Header) (n : ℕ) (old : Tables) (all : List Command) (before out : List Reply) (i : ℕ) (m : Kept) (t : Tables) where
-  same_header : (first : Flat) (s : SoFar header n first all before out i m t) → s.flat.header ≡ m.header
+module _ (header : Header) (n : ℕ) (old : Tables) (all : List Command) (items left : List Item) (before out : List Reply) (i : ℕ) (m : Kept) (t : Tables) where
+  same_header : (first : Flat) (s : SoFar header n first all items left before out i m t) → s.flat.header ≡ m.header
   same_header first s = s.header_is ∙ sym s.machine_is
 
-  own_means : (first : Flat) (s : SoFar header n first all before out i m t) → Means m.own.number m.own t s.flat
+  own_means : (first : Flat) (s : SoFar header n first all items left before out i m t) → Means m.own.number m.own t s.flat
   own_means first s = subst (λ k. Means k m.own t s.flat) (sym s.number) s.means
 
   -- the machine can carry out the next command
-  pub can_step : n ≤ 64 → length all < 2 ^ 24 → CanStart header n old → i < length all → Turns header n old all before out i m t → CanStep m t
+  pub can_step : n ≤ 64 → length all < 2 ^ 24 → CanStart header n old → i < length all → Turns header n old all items left before out i m t → CanStep m t
   can_step few room can below turns =
       let s = turns can.flat can.starts in
       let own : labels_of n s.flat.sections ≡ m.own.labels = same_labels n m.own t s.flat s.means.own_is in
@@ -92,21 +93,20 @@ module _ (header : Header) (n : ℕ) (old : Tables) (all : List Command) (before
       }
 
   -- one command more
-  pub turns_next : (new : List Reply) (m_after : Kept) (t_after : Tables) (command : Command) (reply : Reply)
-      → i < length all → command ≡ get_or all i command → KeepsHeader m m_after → RefinesEach m t command t_after m_after.own reply → new ≡ out ++ reply ∷ []
-      → Turns header n old all before out i m t → Turns header n old all before new (i + 1) m_after t_after
-  turns_next new m_after t_after command reply below here keeps refines pushed turns first starts =
+  pub turns_next : (left_after : List Item) (new : List Reply) (m_after : Kept) (t_after : Tables) (command : Command)
+      → i < length all → command ≡ get_or all i command → KeepsHeader m m_after → RunsEach m t command left left_after out new m_after.own t_after
+      → Turns header n old all items left before out i m t → Turns header n old all items left_after before new (i + 1) m_after t_after
+  turns_next left_after new m_after t_after command below here keeps runs turns first starts =
       let s = turns first starts in
-      let r : Refines n (record { tables = t_after; result = answers m_after.own reply }) s.flat command =
-      subst (λ k. Refines k (record { tables = t_after; result = answers m_after.own reply }) s.flat command) s.number (refines s.flat (same_header first s) (own_means first s)) in
+      let r : RunsOne n s.flat command left left_after out new m_after.own t_after =
+      subst (λ k. RunsOne k s.flat command left left_after out new m_after.own t_after) s.number (runs s.flat (same_header first s) (own_means first s)) in
       let next = (step s.flat n command).flat in
       let stays = step_stays s.flat n command in
       let labels = labels_stay n s.flat.sections next.sections (gives_at_one s.flat n command) in
-      let one : RunsCommand s.flat next n command out new = record { replied = pushed ∙ ap (λ x. out ++ x ∷ []) r.reply; flat = refl } in
       record {
         flat = next;
-        ran = ran_more n first s.flat next all command before out new i below s.ran
-            (subst (λ d. RunsCommand s.flat next n d out new) here one) labels.labels labels.others;
+        ran = ran_more n first s.flat next items left left_after before out new i all command below s.ran
+            (subst (λ d. RunsCommand s.flat next n d left left_after out new) here r.runs) labels.labels labels.others;
         number = r.means.own_is.number;
         header_is = stays.0 ∙ s.header_is;
         machine_is = keeps.header ∙ s.machine_is;
@@ -116,45 +116,48 @@ module _ (header : Header) (n : ℕ) (old : Tables) (all : List Command) (before
       }
 
 -- all commands of the section
-pub turns_end : (header : Header) (n : ℕ) (old : Tables) (all : List Command) (before out : List Reply) (i : ℕ) (m : Kept) (t : Tables) → length all ≤ i → Turns header n old all before out i m t → RunsAs header n old t all before out
-turns_end header n old all before out i m t past turns first starts =
+pub turns_end : (header : Header) (n : ℕ) (old : Tables) (all : List Command) (items left : List Item) (before out : List Reply) (i : ℕ) (m : Kept) (t : Tables) → length all ≤ i → Turns header n old all items left before out i m t → RunsAs header n old t all items left before out
+turns_end header n old all items left before out i m t past turns first starts =
     let s = turns first starts in
     let none : drop i all ≡ [] = grind (arith, common_steps) in
-    let runs : RunsSection first s.flat n all before out = ran_all n first s.flat all before out i (subst (λ l. RanSoFar n first s.flat l all before out i) none s.ran) in
+    let runs : RunsSection first s.flat n all items left before out = ran_all n first s.flat all items left before out i (subst (λ l. RanSoFar n first s.flat l all items left before out i) none s.ran) in
     let begins_next : StartsAt header (n + 1) t s.flat = record { header_is = s.header_is; shape = s.shape; sound = s.means.sound; tables = s.means.tables; fresh = s.later } in
     record {
-      runs = subst (λ f. RunsSection first f n all before out) runs.flat runs;
+      runs = subst (λ f. RunsSection first f n all items left before out) runs.flat runs;
       starts = subst (λ f. StartsAt header (n + 1) t f) runs.flat begins_next;
     }
 
 -- what stands after some sections
-pub record Ran (header : Header) (all : List (List Command)) (out : List Reply) (i : ℕ) (t : Tables) : Type 0 where
+pub record Ran (header : Header) (all : List (List Command)) (items left : List Item) (out : List Reply) (i : ℕ) (t : Tables) : Type 0 where
   pub flat : Flat
-  pub ran : RanSections (new_flat header) flat all out i
+  pub ran : RanSections (new_flat header) flat all items left out i
   pub starts : StartsAt header (i + 1) t flat
 
 shape_of : (header : Header) → FitsTables header → IsShape header
 shape_of header fits = record { bind = fits.bind; hash = fits.hash; listen = fits.listen }
 
-pub ran_none : (header : Header) (all : List (List Command)) (t : Tables) → FitsTables header → t ≡ new_tables header.shape header.seed → Ran header all [] 0 t
-ran_none header all t fits is = record {
+pub ran_none : (header : Header) (all : List (List Command)) (items : List Item) (t : Tables) → FitsTables header → t ≡ new_tables header.shape header.seed → Ran header all items items [] 0 t
+ran_none header all items t fits is = record {
   flat = new_flat header;
-  ran = sections_start header all;
+  ran = sections_start header all items;
   starts = subst (λ (t : Tables). StartsAt header 1 t (new_flat header)) (sym is)
       (record { header_is = refl; shape = shape_of header fits; sound = starts_sound header; tables = new_mean_empty header; fresh = λ m h. refl });
 }
 
-pub can_start : (header : Header) (all : List (List Command)) (out : List Reply) (i : ℕ) (t : Tables) → Ran header all out i t → CanStart header (i + 1) t
-can_start header all out i t r = record { flat = r.flat; starts = r.starts }
+pub can_start : (header : Header) (all : List (List Command)) (items left : List Item) (out : List Reply) (i : ℕ) (t : Tables) → Ran header all items left out i t → CanStart header (i + 1) t
+can_start header all items left out i t r = record { flat = r.flat; starts = r.starts }
 
 -- one section more
-pub ran_next : (header : Header) (all : List (List Command)) (out new : List Reply) (i : ℕ) (t t_after : Tables) (commands : List Command) → i < length all → commands ≡ get_or all i commands
-    → RunsAs header (i + 1) t t_after commands out new → Ran header all out i t → Ran header all new (i + 1) t_after
-ran_next header all out new i t t_after commands below here runs r =
+pub ran_next : (header : Header) (all : List (List Command)) (items left left_after : List Item) (out new : List Reply) (i : ℕ) (t t_after : Tables) (commands : List Command) → i < length all → commands ≡ get_or all i commands
+    → RunsAs header (i + 1) t t_after commands left left_after out new → Ran header all items left out i t → Ran header all items left_after new (i + 1) t_after
+ran_next header all items left left_after out new i t t_after commands below here runs r =
     let s = runs r.flat r.starts in
     let next = after r.flat (issue (i + 1) commands) in
-    record { flat = next; ran = sections_next (new_flat header) r.flat next all out new i commands below here r.ran s.runs; starts = s.starts }
+    record { flat = next; ran = sections_next (new_flat header) r.flat next all items left left_after out new i commands below here r.ran s.runs; starts = s.starts }
 
--- all sections
-pub ran_every : (header : Header) (all : List (List Command)) (out : List Reply) (i : ℕ) (t : Tables) → length all ≤ i → Ran header all out i t → out ≡ replies_from (new_flat header) (issued_from 1 all)
-ran_every header all out i t past r = sections_end (new_flat header) r.flat all out i past r.ran
+-- all sections, and the items that were left
+pub ran_every : (header : Header) (all : List (List Command)) (items left : List Item) (out new : List Reply) (i : ℕ) (t : Tables) → length all ≤ i → Ran header all items left out i t
+    → new ≡ out ++ map (item_found t) left → new ≡ replies_from (new_flat header) (events_from items (issued_from 1 all))
+ran_every header all items left out new i t past r is =
+    sections_end (new_flat header) r.flat all items left out new i past r.ran
+    (is ∙ ap (λ l. out ++ l) (items_alike t r.flat (subst IsShape (sym r.starts.header_is) r.starts.shape) r.starts.sound r.starts.tables left))

@@ -174,3 +174,4 @@ step_stays flat n (commands.Close label) = close_all n flat (open_socket flat n 
 step_stays flat n (commands.At moment) = at_all n flat moment
 step_stays flat n commands.Reap = same n flat
 step_stays flat n (commands.Look from to dev) = same n flat
+step_stays flat n (commands.Packets count) = same n flat

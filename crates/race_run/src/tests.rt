@@ -3,6 +3,7 @@
 ghost use Rattle.std.specs.Prelude.{◌≡◌, length, IfOk};
 
 use crate::run;
+use capture_reader::Capture;
 use flat_list::{Command, End, Header, Range, Reply, Script, Shape};
 use std::alloc::{AllocError, Global};
 use std::test::Fail;
@@ -52,8 +53,8 @@ fn nothing_is_found_in_new_tables(rt: HostRuntime) -> Result<(), Fail> {
     let alloc = rt.alloc();
     let mut sections = Vec::new(alloc);
     sections.push(looking(alloc)?)?;
-    let script = Script::new(HEADER, sections);
-    let replies = run(alloc, &script)?;
+    let script = Script::new(HEADER, sections, None);
+    let replies = run(alloc, &script, &Capture::new(alloc))?;
     assert_eq!(rt; replies.as_slice(), [Reply::Found(None)].as_slice());
     Ok(())
 }
