@@ -1,2 +1,9 @@
-mod Lists
+mod Asked
+mod MakeForm
+mod MakeWords
+mod Numbers
+mod Read
 mod Told
+mod Faults
+mod Asks
+mod CountsTold

@@ -1,14 +1,19 @@
 -- What the program reads, and what it writes for that. Our own rules.
-use Rattle.std.specs.Prelude.{◌≡◌, ◌≤◌, ℕ, ◌^◌, List, ◌++◌, length, codes, decimal, Option, Some, None}
+use Rattle.std.specs.Prelude.{◌≡◌, ◌≤◌, ℕ, ◌^◌, List, [], ◌++◌, length, codes, decimal, Option, Some, None}
 use Rattle.std.specs.Io.KnownBytes.{Appends}
 use Rattle.inet_io.specs.Ends.{ReadsWhole, AppendsFront}
 use Rattle.sock_script.specs.declared.parse.Mode.TheVariants as modes
 use Rattle.sock_script.specs.Words.{lines_of}
 use Rattle.list_words.specs.Lists.{Each}
+use Rattle.capture_reader.specs.Captures.{Capture}
 use Rattle.flat_list.specs.Script.{Script}
 use Rattle.flat_list.specs.Sound.{IsSound}
 use Rattle.sock_script.specs.Grammar.{IsScript, IsFirstOutside}
-use Rattle.sock_script.specs.Output.{FlatOut, lists_of}
+use Rattle.sock_script.specs.Output.{FlatOut, HasCapture, HasBadCapture, flat_replies, lists_of}
+use Rattle.sock_script.specs.Make.{made_text}
+use Rattle.sock_script.specs.Counts.{script_counts, counts_text}
+use Rattle.inet_tool.specs.declared.fault.Fault.{Fault}
+use Rattle.inet_tool.specs.declared.fault.Fault.TheVariants as faults
 
 -- the most bytes that an input may have: 16,777,216
 abbrev pub limit : ℕ
@@ -19,36 +24,60 @@ pub record ReadsInput (old new : Option (List ℕ)) (bytes : List ℕ) : Type 0 
   pub whole : ReadsWhole old new bytes
   pub within : length bytes ≤ limit
 
--- the line that names the first line outside the grammar
-abbrev pub bad_line : ℕ → List ℕ
-bad_line n = codes "bad script line " ++ decimal n ++ codes "\n"
+-- the bytes have that fault: the first line outside the grammar, or a script's capture that is none
+abbrev pub HasFault : List ℕ → Fault → Type 0
+HasFault bytes (faults.Line n) = IsFirstOutside modes.Run (lines_of bytes) n
+HasFault bytes faults.Capture = HasBadCapture bytes
+
+-- the line that tells a fault
+abbrev pub fault_text : Fault → List ℕ
+fault_text (faults.Line n) = codes "bad script line " ++ decimal n ++ codes "\n"
+fault_text faults.Capture = codes "bad capture\n"
+
+-- the bytes are a script with a capture, which may be empty
+abbrev pub IsGood : List ℕ → Type 0
+IsGood bytes = (script : Script) × (capture : Capture) × HasCapture bytes script capture
 
 -- Whatever script these bytes are, each list that it runs through is sound: no two bound sockets of different origin
--- conflict, but for those whose ports `connect` chose, and no two full sockets have one four-tuple.
+-- conflict, but for those whose ports `connect` chose, and no two sockets that are full or in TIME_WAIT have one
+-- four-tuple.
 abbrev pub RunsSound : List ℕ → Type 0
 RunsSound bytes =
     (script : Script) → IsScript modes.Run bytes script → Each IsSound (lists_of script)
 
--- The text is what is to be written for an input: the flat list's output, or the line that names the first line
--- outside the grammar, where there is one.
-abbrev pub IsReply : List ℕ → Option ℕ → List ℕ → Type 0
+-- The text is what is to be written for an input: the flat list's output, or the line that tells its fault, where it
+-- has one.
+abbrev pub IsReply : List ℕ → Option Fault → List ℕ → Type 0
 IsReply bytes None text = FlatOut bytes text × RunsSound bytes
-IsReply bytes (Some n) text = IsFirstOutside modes.Run (lines_of bytes) n × (text ≡ bad_line n)
+IsReply bytes (Some fault) text = HasFault bytes fault × (text ≡ fault_text fault)
 
 -- The input was read to its end and is a script, and written grew by the flat list's output of it.
 abbrev pub WritesFlatOut : Option (List ℕ) → Option (List ℕ) → Option (List ℕ) → Option (List ℕ) → Type 0
 WritesFlatOut left left' written written' =
     (bytes out : List ℕ) × ReadsInput left left' bytes × IsReply bytes None out × Appends written written' out
 
--- The input was read to its end, line n of it is the first outside the grammar, and written grew by the line that
--- names it.
-abbrev pub WritesBadLine : Option (List ℕ) → Option (List ℕ) → Option (List ℕ) → Option (List ℕ) → ℕ → Type 0
-WritesBadLine left left' written written' n =
-    (bytes : List ℕ) × ReadsInput left left' bytes × IsFirstOutside modes.Run (lines_of bytes) n
-    × Appends written written' (bad_line n)
+-- The input was read to its end and has that fault, and written grew by the line that tells it.
+abbrev pub WritesFault : Option (List ℕ) → Option (List ℕ) → Option (List ℕ) → Option (List ℕ) → Fault → Type 0
+WritesFault left left' written written' fault =
+    (bytes : List ℕ) × ReadsInput left left' bytes × HasFault bytes fault × Appends written written' (fault_text fault)
 
 -- The input was read to its end, and written grew by a front of what was to be written for it, without the last byte.
 abbrev pub WritesFront : Option (List ℕ) → Option (List ℕ) → Option (List ℕ) → Option (List ℕ) → Type 0
 WritesFront left left' written written' =
-    (bytes text : List ℕ) × (outside : Option ℕ) × ReadsInput left left' bytes × IsReply bytes outside text
+    (bytes text : List ℕ) × (fault : Option Fault) × ReadsInput left left' bytes × IsReply bytes fault text
     × AppendsFront written written' text
+
+-- The text is the counts of a generated text's commands, by the flat list's replies to them.
+abbrev pub CountsMade : ℕ → ℕ → List ℕ → Type 0
+CountsMade seed count text =
+    (script : Script) × IsScript modes.Run (made_text seed count) script
+    × (text ≡ counts_text (script_counts script (flat_replies script [])))
+
+-- Written grew by the counts of the generated text of a seed and so many steps.
+abbrev pub WritesCounts : Option (List ℕ) → Option (List ℕ) → ℕ → ℕ → Type 0
+WritesCounts written written' seed count = (text : List ℕ) × CountsMade seed count text × Appends written written' text
+
+-- Written grew by a front of them, without the last byte.
+abbrev pub WritesFrontOfCounts : Option (List ℕ) → Option (List ℕ) → ℕ → ℕ → Type 0
+WritesFrontOfCounts written written' seed count =
+    (text : List ℕ) × CountsMade seed count text × AppendsFront written written' text

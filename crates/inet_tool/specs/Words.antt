@@ -1,6 +1,75 @@
--- The words of a command line, the program's name first. Our own rule.
-use Rattle.std.specs.Prelude.{◌≡◌, List, [], ◌∷◌, ℕ, drop, codes}
+-- The words of a command line, the program's name first. What clap makes of them is its own relation: which words it
+-- refuses is `fault_of`, and the subcommand that it meets, with its values, is `subcommand_of`. The forms are our own rule.
+use Rattle.std.specs.Prelude.{◌≡◌, ◌<◌, ◌≤◌, ◌^◌, ℕ, List, [], ◌∷◌, Option, Some, true, pos, drop, codes, decimal, option_map, option_and_then}
+use Rattle.std.specs.Str.Parse.{digits_value, without_leading_plus}
+use Rattle.clap.specs.Words.{App, Rule, Text, fault_of, new_app, new_rule, one_of, subcommand_of, with_rule, with_subcommand}
+use Rattle.clap.specs.Simple.{on_top}
+use Rattle.clap.specs.declared.builder.action.ArgAction.TheVariants.{Set}
+use Rattle.clap.specs.declared.builder.value_parser.ValueParser.{ValueParser}
+use Rattle.clap.specs.declared.builder.value_parser.ValueParser.TheVariants.{Signed}
+use Rattle.inet_tool.specs.declared.words.Ask.{Ask}
+use Rattle.inet_tool.specs.declared.words.Ask.TheVariants.{Run, Make}
 
--- the words after the program's name are `run` alone
-abbrev pub IsRun : List (List ℕ) → Type 0
-IsRun words = drop 1 words ≡ codes "run" ∷ []
+-- a required positional that takes one value
+abbrev pub number_rule : Text → ValueParser → Rule
+number_rule id parser = record (new_rule id) { required = true; action = Some Set; parser = Some parser }
+
+-- `run`
+abbrev pub run_app : App
+run_app = new_app (codes "run")
+
+-- `make SEED COUNT`
+abbrev pub make_app : App
+make_app = with_rule
+    (with_rule (new_app (codes "make")) (number_rule (codes "SEED") (Signed (pos 0) (pos 4294967295))))
+    (number_rule (codes "COUNT") (Signed (pos 0) (pos 100000)))
+
+-- The program: one of the two is required, and nothing else is declared, `help` neither.
+abbrev pub inet_app : App
+inet_app =
+    let top = on_top (λ s. record s {
+      subcommand_required = true;
+      disable_help_flag = true;
+      disable_help_subcommand = true;
+    }) (new_app (codes "inet")) in
+    with_subcommand (with_subcommand top run_app.top) make_app.top
+
+-- clap takes the words
+abbrev pub IsTaken : List Text → Type 0
+IsTaken words = fault_of inet_app words ≡ []
+
+-- clap refuses the words, whatever memory there is
+abbrev pub IsRefused : List Text → Type 0
+IsRefused words = ¬ (IsTaken words)
+
+-- the name of the subcommand that the words name
+abbrev pub name_of : List Text → Option Text
+name_of words = option_map (λ met. met.0) (subcommand_of inet_app words)
+
+-- The number that clap reads for one of the subcommand's positionals. It takes `+7` and `007` too, which are 7.
+abbrev pub number_of : Text → List Text → Option ℕ
+number_of id words = option_map (λ text. digits_value 10 (without_leading_plus text))
+    (option_and_then (λ met. one_of id met.1) (subcommand_of inet_app words))
+
+-- the words ask to run a script
+abbrev pub IsRun : List Text → Type 0
+IsRun words = IsTaken words × (name_of words ≡ Some (codes "run"))
+
+-- the words ask to make so many commands from the seed
+abbrev pub IsMake : List Text → ℕ → ℕ → Type 0
+IsMake words seed count = IsTaken words × (name_of words ≡ Some (codes "make"))
+    × (number_of (codes "SEED") words ≡ Some seed) × (number_of (codes "COUNT") words ≡ Some count)
+
+-- the words ask for it
+abbrev pub Asks : List Text → Ask → Type 0
+Asks words Run = IsRun words
+Asks words (Make seed count) = IsMake words seed count
+
+-- `run` is taken, and asks to run a script
+abbrev pub RunAsks : Type 0
+RunAsks = (name : Text) → IsRun (name ∷ codes "run" ∷ [])
+
+-- `make` with a seed and a count in range is taken, and asks to make from these
+abbrev pub MakeAsks : Type 0
+MakeAsks = (name : Text) (seed count : ℕ) → seed < 2 ^ 32 → count ≤ 100000
+    → IsMake (name ∷ codes "make" ∷ decimal seed ∷ decimal count ∷ []) seed count

@@ -1,48 +1,60 @@
 //! What is written for an input.
 ghost use Rattle.std.specs.Prelude.{◌≡◌, ◌≤◌, length, IfOk};
-ghost use Rattle.inet_tool.specs.Table.{limit, IsReply, bad_line as bad_line_text};
+ghost use Rattle.inet_tool.specs.Table.{limit, IsReply, fault_text};
 
+use crate::fault::Fault;
+use capture_reader::CaptureEnd;
 use race_run::run;
 use sock_script::parse::parse;
-use sock_script::{Mode, ScriptEnd, output};
+use sock_script::{Mode, ScriptEnd, capture, output};
 use std::alloc::{AllocError, Global};
 
-/// What is to be written, and the first line outside the grammar, where there is one.
+/// What is to be written, and what is wrong with the input, if anything is.
 #[derive(Drop)]
 pub struct Reply {
     pub text: Vec<u8>,
-    pub outside: Option<u64>,
+    pub fault: Option<Fault>,
 }
 
 /// The reply to an input within the limit.
 pub fn reply_to(alloc: Global, bytes: &[u8]) -> Result<Reply, AllocError>
     requires { length bytes.now ≤ limit }
-    ensures { IfOk result (λ reply. IsReply bytes.now reply.outside reply.text.items) }
+    ensures { IfOk result (λ reply. IsReply bytes.now reply.fault reply.text.items) }
 {
-    match parse(alloc, bytes, Mode::Run) {
-        Ok(script) => {
-            let replies = run(alloc, &script)?;
-            let text = output::text(alloc, &script, &replies)?;
-            Ok(Reply {
-                text,
-                outside: None,
-            })
-        }
-        Err(ScriptEnd::BadLine(n)) => {
-            let text = bad_line(alloc, n)?;
-            Ok(Reply {
-                text,
-                outside: Some(n),
-            })
-        }
-        Err(ScriptEnd::Memory) => Err(AllocError),
-    }
+    let script = match parse(alloc, bytes, Mode::Run) {
+        Ok(script) => script,
+        Err(ScriptEnd::BadLine(n)) => return refusal(alloc, Fault::Line(n)),
+        Err(ScriptEnd::Memory) => return Err(AllocError),
+    };
+    let capture = match capture::read(alloc, &script, bytes) {
+        Ok(capture) => capture,
+        Err(CaptureEnd::BadHead) => return refusal(alloc, Fault::Capture),
+        Err(CaptureEnd::Memory) => return Err(AllocError),
+    };
+    let replies = run(alloc, &script, &capture)?;
+    let text = output::text(alloc, &script, &capture, &replies)?;
+    Ok(Reply { text, fault: None })
 }
 
-/// The line that names the first line outside the grammar.
-fn bad_line(alloc: Global, n: u64) -> Result<Vec<u8>, AllocError>
-    ensures { IfOk result (λ text. text.items ≡ bad_line_text n) }
+/// The reply that tells what is wrong.
+fn refusal(alloc: Global, fault: Fault) -> Result<Reply, AllocError>
+    ensures text { IfOk result (λ reply. reply.text.items ≡ fault_text fault) }
+    ensures fault { IfOk result (λ reply. reply.fault ≡ Some fault) }
 {
-    let line = format!(in alloc; "bad script line {n}\n")?;
+    let text = text_of(alloc, fault)?;
+    Ok(Reply {
+        text,
+        fault: Some(fault),
+    })
+}
+
+/// The line that tells what is wrong.
+fn text_of(alloc: Global, fault: Fault) -> Result<Vec<u8>, AllocError>
+    ensures { IfOk result (λ text. text.items ≡ fault_text fault) }
+{
+    let line = match fault {
+        Fault::Line(n) => format!(in alloc; "bad script line {n}\n")?,
+        Fault::Capture => format!(in alloc; "bad capture\n")?,
+    };
     Ok(line.into_bytes())
 }

@@ -3,13 +3,13 @@
 /// How a call ended. The contract of `inet` says when each comes and what stands then.
 #[derive(Clone, Copy, Debug, PartialEq, Eq)]
 pub enum Status {
-    /// The input was read to its end, and its reply written.
+    /// All was written: the reply to an input that was read to its end, or a generated script's counts.
     Done,
     /// The words ask for nothing that the program does.
     Usage,
     /// The line of that number, from 1, is the first outside the grammar.
     BadScript(u64),
-    /// The capture has no header of a capture file.
+    /// The script's capture isn't empty, and has no header of a capture file.
     BadCapture,
     /// The input is longer than the limit.
     TooLong,

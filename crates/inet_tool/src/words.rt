@@ -1,13 +1,107 @@
-//! The words of the command line.
-ghost use Rattle.std.specs.Prelude.{◌↔◌, map, string_bytes, IsTrue};
-ghost use Rattle.inet_tool.specs.Words.{IsRun};
+//! The words of the command line, as `clap` reads them.
+//!
+//! `clap` takes each number as `u32` has it from text, so `+7` and `007` are 7: a number is what
+//! `clap` reads.
+ghost use Rattle.std.specs.Prelude.{◌≡◌, ◌≤◌, ◌⊎◌, ℕ, map, string_bytes, IfOk, false};
+ghost use Rattle.clap.specs.Words.{app_of, rule_of};
+ghost use Rattle.clap.specs.declared.builder.command.Command.TheViews.{out-Command as fields_of};
+ghost use Rattle.inet_tool.specs.Words.{Asks, IsRefused, inet_app, make_app, number_rule};
 
-/// Whether the words after the program's name are `run` alone.
-pub fn asks_run(words: &[String]) -> bool
-    ensures { IsTrue result ↔ IsRun (map string_bytes words.now) }
+use clap::builder::ValueParser;
+use clap::error::ErrorKind;
+use clap::{Arg, ArgAction, Command, value_parser};
+use std::alloc::{AllocError, Global};
+
+/// What the words ask for.
+#[derive(Clone, Copy, Debug, PartialEq, Eq)]
+pub enum Ask {
+    /// To run the script that the source gives.
+    Run,
+    /// To make so many commands from the seed, and to run them.
+    Make { seed: u32, count: u32 },
+}
+
+/// Why the words ask for nothing.
+#[derive(Clone, Copy, Debug, PartialEq, Eq)]
+pub enum AskEnd {
+    /// They are outside the forms.
+    Usage,
+    /// No memory was left to read them.
+    Memory,
+}
+
+/// The most commands that may be asked for.
+const MOST_COMMANDS: i64 = 100_000;
+
+/// What the words ask for, the program's name first.
+///
+/// An error of `clap`'s own is `Usage`, a call for help among them.
+pub fn ask_of(alloc: Global, words: &[String]) -> Result<Ask, AskEnd>
+    // What is answered is what the words ask for.
+    ensures asks { IfOk result (Asks (map string_bytes words.now)) }
+    ensures in_range { (seed count : ℕ) → result ≡ Ok (Ask.Make seed count) → count ≤ 100000 }
+    ensures usage { result ≡ Err AskEnd.Usage → IsRefused (map string_bytes words.now) }
+    // Words that ask for something get it, and others are refused, where there is memory.
+    ensures found { (ask : Ask) → Asks (map string_bytes words.now) ask
+        → (result ≡ Ok ask) ⊎ (result ≡ Err AskEnd.Memory) }
+    ensures refused { IsRefused (map string_bytes words.now)
+        → (result ≡ Err AskEnd.Usage) ⊎ (result ≡ Err AskEnd.Memory) }
 {
-    match words {
-        [_, word] => word.as_str() == "run",
-        _ => false,
+    let Ok(command) = command(alloc) else {
+        return Err(AskEnd::Memory);
+    };
+    let matches = match command.try_get_matches_from(words) {
+        Ok(matches) => matches,
+        Err(error) => return Err(end_of(error.kind())),
+    };
+    let Some(numbers) = matches.subcommand_matches("make") else {
+        return Ok(Ask::Run);
+    };
+    let seed = numbers.get_one::<u32>("SEED").unwrap();
+    let count = numbers.get_one::<u32>("COUNT").unwrap();
+    Ok(Ask::Make { seed, count })
+}
+
+/// How an error of `clap` ends the reading.
+fn end_of(kind: ErrorKind) -> AskEnd
+    ensures memory { kind ≡ ErrorKind.OutOfMemory → result ≡ AskEnd.Memory }
+    ensures usage { result ≡ AskEnd.Memory → kind ≡ ErrorKind.OutOfMemory }
+{
+    match kind {
+        ErrorKind::OutOfMemory => AskEnd::Memory,
+        _ => AskEnd::Usage,
     }
+}
+
+/// The command: `run`, or `make SEED COUNT`, and no help.
+fn command<'a>(alloc: Global) -> Result<Command<'a>, AllocError>
+    ensures { IfOk result (λ command. app_of command ≡ inet_app) }
+{
+    let inet = Command::new(alloc, "inet")
+        .subcommand_required(true)
+        .disable_help_flag(true)
+        .disable_help_subcommand(true);
+    let run = Command::new(alloc, "run");
+    inet.subcommand(run)?.subcommand(make_command(alloc)?)
+}
+
+/// The subcommand `make`, with its two numbers.
+fn make_command<'a>(alloc: Global) -> Result<Command<'a>, AllocError>
+    ensures app { IfOk result (λ command. app_of command ≡ make_app) }
+    ensures local { IfOk result (λ command. (fields_of command).has_globals ≡ false) }
+{
+    let seed = number(alloc, "SEED", value_parser!(u32));
+    let count = number(alloc, "COUNT", value_parser!(u32).range(..=MOST_COMMANDS));
+    Command::new(alloc, "make").arg(seed)?.arg(count)
+}
+
+/// A required positional that is one number.
+fn number<'a>(alloc: Global, id: &'a str, parser: ValueParser<'a>) -> Arg<'a>
+    ensures rule { rule_of result ≡ number_rule id.entry.now parser.entry }
+    ensures local { result.global ≡ false }
+{
+    Arg::new(alloc, id)
+        .required(true)
+        .action(ArgAction::Set)
+        .value_parser(parser)
 }

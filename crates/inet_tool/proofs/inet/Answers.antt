@@ -1,38 +1,19 @@
-use Rattle.std.proofs.Common.{rules, ◌≡◌, ℕ, List, subst, inl, ap}
-use Rattle.sock_script.specs.declared.parse.Mode.TheVariants as modes
-use Rattle.sock_script.specs.Words.{lines_of}
-use Rattle.sock_script.specs.Grammar.{IsInside, IsFirstOutside}
-use Rattle.inet_tool.specs.declared.status.Status.TheVariants.{BadScript}
-use Rattle.inet_tool.specs.Table.{WritesBadLine}
-use Rattle.sock_script.proofs.Fronts.{none_outside, one_first}
-use Rattle.inet_tool.proofs.Told.{told}
+use Rattle.std.proofs.Common.{◌≡◌, ℕ, List, map, string_bytes, subst}
+use Rattle.inet_tool.specs.Table.{WritesCounts, WritesFrontOfCounts}
+use Rattle.inet_tool.specs.Words.{Asks}
+use Rattle.inet_tool.proofs.Asks.{one_make}
 use Rattle.inet_tool.proofs.inet.Goals as goal
 
-pub returns-in-Ok-Some-clause-bad_script : goal.returns-in-Ok-Some-clause-bad_script
-returns-in-Ok-Some-clause-bad_script g c = λ n is.
-    let same : c.in-Ok-Some.n ≡ n = cc in
-    let stands : WritesBadLine (g.S.Source.left c.args.source.now) (g.S.Source.left c.read_all.new.source)
-    (g.K.Sink.written c.args.sink.now) (g.K.Sink.written c.write_all.new.sink) c.in-Ok-Some.n = search rules in
-    subst (WritesBadLine (g.S.Source.left c.args.source.now) (g.S.Source.left c.read_all.new.source)
-    (g.K.Sink.written c.args.sink.now) (g.K.Sink.written c.write_all.new.sink)) same stands
+pub returns-in-Ok-Make-clause-made : goal.returns-in-Ok-Make-clause-made
+returns-in-Ok-Make-clause-made g c = λ seed count asked done.
+    let same = one_make (map string_bytes c.args.words.now) c.in-Ok-Make.seed c.in-Ok-Make.count seed count (subst (Asks (map string_bytes c.args.words.now)) c.in-Ok-Make.field-0-is c.in-Ok-Make.ensures.asks) asked in
+    let old = g.K.Sink.written c.args.sink.now in
+    let new = g.K.Sink.written c.make.new.sink in
+    subst (λ s. WritesCounts old new s count) same.0 (subst (λ n. WritesCounts old new c.in-Ok-Make.seed n) same.1 (c.make.ensures.done done))
 
-pub returns-in-Ok-Some-clause-outside : goal.returns-in-Ok-Some-clause-outside
-returns-in-Ok-Some-clause-outside g c = λ asked.
-    let bytes : List ℕ = c.in-Ok.bytes.items in
-    let first : IsFirstOutside modes.Run (lines_of bytes) c.in-Ok-Some.n = search rules in
-    told _ _ _ bytes c.in-Ok.ensures.whole
-    (λ n within other. inl (ap (λ m. BadScript m) (one_first modes.Run (lines_of bytes) _ n first other)))
-
-pub returns-in-Ok-Some-clause-complete : goal.returns-in-Ok-Some-clause-complete
-returns-in-Ok-Some-clause-complete g c = λ asked.
-    let bytes : List ℕ = c.in-Ok.bytes.items in
-    let first : IsFirstOutside modes.Run (lines_of bytes) c.in-Ok-Some.n = search rules in
-    told _ _ _ bytes c.in-Ok.ensures.whole
-    (λ within inside read written. absurd (none_outside modes.Run (lines_of bytes) _ first inside))
-
-pub returns-clause-outside : goal.returns-clause-outside
-returns-clause-outside g c = λ asked.
-    let bytes : List ℕ = c.in-Ok.bytes.items in
-    let inside : IsInside modes.Run (lines_of bytes) = search rules in
-    told _ _ _ bytes c.in-Ok.ensures.whole
-    (λ n within first. absurd (none_outside modes.Run (lines_of bytes) n first inside))
+pub returns-in-Ok-Make-clause-made_front : goal.returns-in-Ok-Make-clause-made_front
+returns-in-Ok-Make-clause-made_front g c = λ seed count asked fault.
+    let same = one_make (map string_bytes c.args.words.now) c.in-Ok-Make.seed c.in-Ok-Make.count seed count (subst (Asks (map string_bytes c.args.words.now)) c.in-Ok-Make.field-0-is c.in-Ok-Make.ensures.asks) asked in
+    let old = g.K.Sink.written c.args.sink.now in
+    let new = g.K.Sink.written c.make.new.sink in
+    subst (λ s. WritesFrontOfCounts old new s count) same.0 (subst (λ n. WritesFrontOfCounts old new c.in-Ok-Make.seed n) same.1 (c.make.ensures.write_fault fault).1)

@@ -1,0 +1,53 @@
+-- What clap finds in words that it takes: `run`, or `make` with two numbers in range.
+use Rattle.std.proofs.Common.{◌≡◌, ◌⊎◌, Bool, true, false, cond, List, [], ◌∷◌, Option, Some, None, refl, inl, inr, codes, drop}
+use Rattle.std.specs.Prelude.{find, is_some}
+use Rattle.clap.specs.Kinds.{Kinds, or_else}
+use Rattle.clap.specs.Walk.{Held, settled, Row, Text, answers_to, finished, nothing_held, rows_after, stop_after, walk}
+use Rattle.clap.specs.Simple.{App, Shape, built, built_leaf, entered, inherited, label_of, names_of, subcommand_of}
+use Rattle.clap.specs.Faults.{check_fault, defaults_fault, entered_fault, fault_of, settle_fault}
+use Rattle.inet_tool.specs.Words.{inet_app, run_app}
+use Rattle.inet_tool.proofs.MakeWords.{Found, first_none, found_by, make, second_none, some_kind}
+
+-- `run` as it is built
+abbrev pub run : Shape
+run = built_leaf (inherited inet_app.top run_app.top)
+
+-- a search of two finds none or one of the two
+find_two : {X : Type 0} (test : X → Bool) (x y : X) → (find test (x ∷ y ∷ []) ≡ None)
+    ⊎ ((find test (x ∷ y ∷ []) ≡ Some x) ⊎ (find test (x ∷ y ∷ []) ≡ Some y))
+find_two {X} test x y = go (test x) (test y)
+  where
+    go : (a b : Bool) → (cond a (Some x) (cond b (Some y) None) ≡ None)
+        ⊎ ((cond a (Some x) (cond b (Some y) None) ≡ Some x) ⊎ (cond a (Some x) (cond b (Some y) None) ≡ Some y))
+    go true b = inr (inl refl)
+    go false true = inr (inr refl)
+    go false false = inl refl
+
+-- the subcommand that is found: `run`, or `make` with its numbers
+abbrev pub Met : Option (Text × List Row) → Type 0
+Met met = ((rows : List Row) × (met ≡ Some (codes "run", rows))) ⊎ ((rows : List Row) × (met ≡ Some (codes "make", rows)) × Found rows)
+
+-- where the walk stopped at a subcommand that takes the words after it, and at one of the two where one is wanted
+met_at : (rows : List Row) (stop : Option (Text × List Text)) → entered_fault (built inet_app) stop ≡ []
+    → check_fault (built inet_app).top rows (is_some (entered (built inet_app) stop)) ≡ [] → Met (entered (built inet_app) stop)
+met_at rows None below check = some_kind _ _ check
+met_at rows (Some p) below check = elim (find_two (λ s. answers_to p.0 (label_of s)) run make) [
+  | inl none ↦ some_kind _ _ (rw none at check)
+  | inr one ↦ elim one [
+    | inl is ↦ inl (rows_after run.rules [] p.1, rw is refl)
+    | inr is ↦ inr (rows_after make.rules [] p.1, rw is refl, found_by p.1 (rw is at below))
+  ]
+]
+
+-- words that clap takes name one of the two
+pub met_by : (words : List Text) → fault_of inet_app words ≡ [] → Met (subcommand_of inet_app words)
+met_by words none =
+    let app : App = built inet_app in
+    let held : Held = (walk app.top.rules (names_of app) nothing_held (drop 1 words)).held in
+    let stop : Option (Text × List Text) = stop_after app.top.rules (names_of app) (drop 1 words) in
+    let check : Kinds = check_fault app.top (finished app.top.rules held) (is_some (entered app stop)) in
+    let values : Kinds = defaults_fault (settled app.top.rules held).rows app.top.rules in
+    let rest : Kinds = or_else (settle_fault app.top.rules false held) (or_else values check) in
+    let below : or_else (entered_fault app stop) rest ≡ [] = second_none _ _ none in
+    let last : or_else values check ≡ [] = second_none (settle_fault app.top.rules false held) _ (second_none (entered_fault app stop) rest below) in
+    met_at (finished app.top.rules held) stop (first_none (entered_fault app stop) rest below) (second_none values check last)

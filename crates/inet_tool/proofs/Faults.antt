@@ -1,0 +1,43 @@
+-- An input has one fault at most, and a script with a capture has none.
+use Rattle.std.proofs.Common.{◌≡◌, ◌≢◌, ℕ, List, [], refl, ap, sym, subst}
+use Rattle.capture_reader.specs.Header.{HasHeader}
+use Rattle.flat_list.specs.Script.{Script}
+use Rattle.sock_script.specs.declared.parse.Mode.TheVariants as modes
+use Rattle.sock_script.specs.Words.{lines_of}
+use Rattle.sock_script.specs.Grammar.{IsScript, IsInside, IsFirstOutside, capture_bytes, capture_device}
+use Rattle.sock_script.specs.Output.{HasBadCapture}
+use Rattle.sock_script.proofs.Fronts.{none_outside, one_first}
+use Rattle.sock_script.proofs.Scripts.{one_script}
+use Rattle.capture_reader.proofs.Captures.{no_other}
+use Rattle.inet_tool.specs.declared.fault.Fault.{Fault}
+use Rattle.inet_tool.specs.declared.fault.Fault.TheVariants as faults
+use Rattle.inet_tool.specs.Table.{HasFault, IsGood}
+
+-- a script's lines are in the grammar
+pub is_inside : (bytes : List ℕ) (script : Script) → IsScript modes.Run bytes script → IsInside modes.Run (lines_of bytes)
+is_inside bytes script h = (h.0, h.1)
+
+module _ (bytes : List ℕ) where
+  -- lines with one outside are no script's
+  no_script : (n : ℕ) (script : Script) → IsFirstOutside modes.Run (lines_of bytes) n → IsScript modes.Run bytes script → ⊥
+  no_script n script first is = none_outside modes.Run (lines_of bytes) n first (is_inside bytes script is)
+
+  -- one fault at most
+  pub one_fault : (f g : Fault) → HasFault bytes f → HasFault bytes g → f ≡ g
+  one_fault (faults.Line m) (faults.Line n) h k = ap faults.Line (one_first modes.Run (lines_of bytes) m n h k)
+  one_fault (faults.Line m) faults.Capture h k = absurd (no_script m k.0 h k.1)
+  one_fault faults.Capture (faults.Line n) h k = absurd (no_script n h.0 k h.1)
+  one_fault faults.Capture faults.Capture h k = refl
+
+  -- a bad capture is none
+  not_both : (good : IsGood bytes) (bad : HasBadCapture bytes) → ⊥
+  not_both good bad =
+      let same : bad.0 ≡ good.0 = one_script modes.Run bytes bad.0 good.0 bad.1 good.2.script_is in
+      let none = subst (λ (s : Script). capture_bytes s.capture bytes ≢ []) same bad.2 in
+      let headless = subst (λ (s : Script). HasHeader (capture_bytes s.capture bytes) → ⊥) same bad.3 in
+      no_other (capture_device good.0.capture) (capture_bytes good.0.capture bytes) good.1 none headless good.2.capture_is
+
+  -- a good input has no fault
+  pub no_fault : (f : Fault) → IsGood bytes → HasFault bytes f → ⊥
+  no_fault (faults.Line n) good h = no_script n good.0 h good.2.script_is
+  no_fault faults.Capture good h = not_both good h

@@ -1,0 +1,58 @@
+use Rattle.std.proofs.Common.{rules, ◌≡◌, ◌≤◌, ℕ, List, length, subst, inl, ap}
+use Rattle.sock_script.specs.Output.{FlatOut}
+use Rattle.inet_tool.specs.declared.fault.Fault.TheVariants as faults
+use Rattle.inet_tool.specs.Table.{limit, HasFault, IsGood, WritesFault}
+use Rattle.inet_tool.specs.Verdict.{fault_status}
+use Rattle.inet_tool.proofs.Faults.{one_fault, no_fault}
+use Rattle.inet_tool.proofs.Told.{told}
+use Rattle.inet_tool.proofs.serve.run.Goals as goal
+
+pub returns-in-Ok-Some-Line-clause-bad_script : goal.returns-in-Ok-Some-Line-clause-bad_script
+returns-in-Ok-Some-Line-clause-bad_script g c = λ n is.
+    let same : c.in-Ok-Some-Line.n ≡ n = cc in
+    let stands : WritesFault (g.S.Source.left c.args.source.now) (g.S.Source.left c.read_all.new.source)
+    (g.K.Sink.written c.args.sink.now) (g.K.Sink.written c.write_all.new.sink) (faults.Line c.in-Ok-Some-Line.n) = search rules in
+    subst (λ m. WritesFault (g.S.Source.left c.args.source.now) (g.S.Source.left c.read_all.new.source)
+    (g.K.Sink.written c.args.sink.now) (g.K.Sink.written c.write_all.new.sink) (faults.Line m)) same stands
+
+pub returns-in-Ok-Some-Line-clause-broken : goal.returns-in-Ok-Some-Line-clause-broken
+returns-in-Ok-Some-Line-clause-broken g c =
+    let bytes : List ℕ = c.in-Ok.bytes.items in
+    let bad : HasFault bytes (faults.Line c.in-Ok-Some-Line.n) = search rules in
+    told _ _ _ bytes c.in-Ok.ensures.whole
+    (λ fault within other. inl (ap fault_status (one_fault bytes (faults.Line c.in-Ok-Some-Line.n) fault bad other)))
+
+pub returns-in-Ok-Some-Line-clause-complete : goal.returns-in-Ok-Some-Line-clause-complete
+returns-in-Ok-Some-Line-clause-complete g c =
+    let bytes : List ℕ = c.in-Ok.bytes.items in
+    let bad : HasFault bytes (faults.Line c.in-Ok-Some-Line.n) = search rules in
+    told _ _ _ bytes c.in-Ok.ensures.whole
+    (λ within good read written. absurd (no_fault bytes (faults.Line c.in-Ok-Some-Line.n) good bad))
+
+pub returns-in-Ok-Some-Capture-clause-verdict : goal.returns-in-Ok-Some-Capture-clause-verdict
+returns-in-Ok-Some-Capture-clause-verdict g c =
+    let bytes : List ℕ = c.in-Ok.bytes.items in
+    let bad : HasFault bytes faults.Capture = search rules in
+    let within : length bytes ≤ limit = search rules in
+    told _ _ _ bytes c.in-Ok.ensures.whole (within, bad)
+
+pub returns-in-Ok-Some-Capture-clause-broken : goal.returns-in-Ok-Some-Capture-clause-broken
+returns-in-Ok-Some-Capture-clause-broken g c =
+    let bytes : List ℕ = c.in-Ok.bytes.items in
+    let bad : HasFault bytes faults.Capture = search rules in
+    told _ _ _ bytes c.in-Ok.ensures.whole
+    (λ fault within other. inl (ap fault_status (one_fault bytes faults.Capture fault bad other)))
+
+pub returns-in-Ok-Some-Capture-clause-complete : goal.returns-in-Ok-Some-Capture-clause-complete
+returns-in-Ok-Some-Capture-clause-complete g c =
+    let bytes : List ℕ = c.in-Ok.bytes.items in
+    let bad : HasFault bytes faults.Capture = search rules in
+    told _ _ _ bytes c.in-Ok.ensures.whole
+    (λ within good read written. absurd (no_fault bytes faults.Capture good bad))
+
+pub returns-clause-broken : goal.returns-clause-broken
+returns-clause-broken g c =
+    let bytes : List ℕ = c.in-Ok.bytes.items in
+    let out : FlatOut bytes c.in-Ok-reply_to.reply.text.items = search rules in
+    let good : IsGood bytes = (out.0, out.1, out.2) in
+    told _ _ _ bytes c.in-Ok.ensures.whole (λ fault within other. absurd (no_fault bytes fault good other))
