@@ -3,7 +3,7 @@
 ghost use Rattle.std.specs.Prelude.{◌≤◌, ◌^◌, length};
 
 use sock_script::parse::parse;
-use sock_script::{Mode, run};
+use sock_script::{Mode, capture, run};
 use std::alloc::{AllocError, Global};
 use std::test::Fail;
 
@@ -27,8 +27,11 @@ fn reply_alike(alloc: Global, text: &[u8]) -> Result<bool, AllocError>
     let Ok(script) = parse(alloc, text, Mode::Run) else {
         return Ok(false);
     };
-    let by_list = run::replies(alloc, &script)?;
-    let by_tables = race_run::run(alloc, &script)?;
+    let Ok(capture) = capture::read(alloc, &script, text) else {
+        return Ok(false);
+    };
+    let by_list = run::replies(alloc, &script, capture.items())?;
+    let by_tables = race_run::run(alloc, &script, &capture)?;
     Ok(by_list.as_slice() == by_tables.as_slice())
 }
 

@@ -1,7 +1,9 @@
-//! Tests of the top call: worked scripts, other words, ends that move a few bytes a call and fail in
-//! mid-stream, an input as long as the limit, and the ends over std.
+//! Tests of the top call: worked scripts, captures, generated scripts, other words, ends that move a few bytes a
+//! call and fail in mid-stream, an input as long as the limit, and the ends over std.
 #![tactic(auto)]
 
+#[cfg(test)]
+mod captures;
 #[cfg(test)]
 mod engines;
 #[cfg(test)]

@@ -13,7 +13,7 @@ const OUTPUT: &str = "1 socket a ok\n1 socket b ok\n1 bind a ok 80\n1 bind b EAD
 
 /// How many bytes a call of each end moves at most, and which calls fail.
 #[derive(Clone, Copy)]
-struct Ends<'a> {
+pub struct Ends<'a> {
     most_read: usize,
     failing_reads: &'a [u64],
     most_written: usize,
@@ -21,7 +21,7 @@ struct Ends<'a> {
 }
 
 /// Ends that never fail.
-const PLAIN: Ends<'static> = Ends {
+pub const PLAIN: Ends<'static> = Ends {
     most_read: 4096,
     failing_reads: &[],
     most_written: 4096,
@@ -129,7 +129,7 @@ fn words_of(alloc: Global, words: &[&str]) -> Result<Vec<String>, AllocError> {
 }
 
 /// The status of a call over ends in memory, and what was written.
-fn call(
+pub fn call(
     rt: &HostRuntime,
     words: &[&str],
     input: Vec<u8>,
@@ -256,7 +256,7 @@ fn a_group_has_sixteen_members(rt: HostRuntime) -> Result<(), Fail> {
 
 #[test]
 fn refuses_other_words(rt: HostRuntime) -> Result<(), Fail> {
-    let rows: [&[&str]; 9] = [
+    let rows: [&[&str]; 18] = [
         &[],
         &["run"],
         &["inet"],
@@ -264,7 +264,16 @@ fn refuses_other_words(rt: HostRuntime) -> Result<(), Fail> {
         &["inet", "runs"],
         &["inet", "run", "run"],
         &["inet", "run", "--help"],
+        &["inet", "--help"],
         &["inet", "help"],
+        &["inet", "make"],
+        &["inet", "make", "1"],
+        &["inet", "make", "1", "2", "3"],
+        &["inet", "make", "4294967296", "1"],
+        &["inet", "make", "1", "100001"],
+        &["inet", "make", "-1", "1"],
+        &["inet", "make", "one", "1"],
+        &["inet", "make", "--help", "1"],
         &["inet", "race", "--lookers", "0", "--passes", "1"],
     ];
     for words in rows {
@@ -272,6 +281,44 @@ fn refuses_other_words(rt: HostRuntime) -> Result<(), Fail> {
         assert!(rt; answer.0 == Status::Usage, "status of {words:?}");
         assert!(rt; answer.1.is_empty());
     }
+    Ok(())
+}
+
+#[test]
+fn made_scripts_are_counted(rt: HostRuntime) -> Result<(), Fail> {
+    let rows: [(&[&str], &[u8]); 2] = [
+        (
+            &["inet", "make", "1", "0"],
+            b"commands 0\nok 0\nrefused 0\nfound 0\nnone 0\n",
+        ),
+        (
+            &["inet", "make", "7", "20000"],
+            b"commands 35033\nok 25869\nrefused 9164\nfound 822\nnone 1732\n",
+        ),
+    ];
+    for (words, wanted) in rows {
+        // `make` reads nothing, so what the source holds is no matter, nor that its reads fail.
+        let ends = Ends {
+            failing_reads: &[1],
+            ..PLAIN
+        };
+        let (status, written) = call(&rt, words, b"no script".to_vec(rt.alloc())?, ends)?;
+        assert!(rt; status == Status::Done, "status of {words:?}");
+        assert_eq!(rt; written.as_slice(), wanted);
+    }
+    Ok(())
+}
+
+#[test]
+fn counts_that_cant_be_written_are_told(rt: HostRuntime) -> Result<(), Fail> {
+    let ends = Ends {
+        most_written: 4,
+        failing_writes: &[2],
+        ..PLAIN
+    };
+    let (status, written) = call(&rt, &["inet", "make", "1", "0"], Vec::new(rt.alloc()), ends)?;
+    assert!(rt; status == Status::WriteFault);
+    assert_eq!(rt; written.as_slice(), b"comm".as_slice());
     Ok(())
 }
 
@@ -303,9 +350,10 @@ fn a_read_that_fails_leaves_nothing_written(rt: HostRuntime) -> Result<(), Fail>
 
 #[test]
 fn a_write_that_fails_leaves_what_was_taken(rt: HostRuntime) -> Result<(), Fail> {
-    let rows: [(&str, &[u8]); 2] = [
+    let rows: [(&str, &[u8]); 3] = [
         (SCRIPT, OUTPUT.as_bytes()),
         ("socket", b"bad script line 1\n"),
+        ("capture\nabc", b"bad capture\n"),
     ];
     for (input, whole) in rows {
         for most in 1..=3usize {
