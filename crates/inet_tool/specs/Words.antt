@@ -73,3 +73,8 @@ RunAsks = (name : Text) → IsRun (name ∷ codes "run" ∷ [])
 abbrev pub MakeAsks : Type 0
 MakeAsks = (name : Text) (seed count : ℕ) → seed < 2 ^ 32 → count ≤ 100000
     → IsMake (name ∷ codes "make" ∷ decimal seed ∷ decimal count ∷ []) seed count
+
+-- the numbers that words ask for are in range
+abbrev pub MakesInRange : Type 0
+MakesInRange =
+    (words : List Text) (seed count : ℕ) → IsMake words seed count → (seed < 2 ^ 32) × (count ≤ 100000)

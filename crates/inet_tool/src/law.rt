@@ -3,10 +3,11 @@ ghost use Rattle.std.specs.Prelude.{◌≡◌, true};
 ghost use Rattle.clap.specs.Words.{is_simple_and_free};
 ghost use Rattle.inet_tool.specs.Words as law;
 
-/// The accepted forms: `run`, and `make` with a seed and a count in range, ask for just these. The program's
+/// The accepted forms: `run`, and `make` with a seed and a count in range, ask for just these, and no words ask for numbers beyond them. The program's
 /// command is of the kind that clap's own statement of faults speaks of.
 pub fn forms_ask()
     ensures simple { is_simple_and_free law.inet_app ≡ true }
     ensures run { law.RunAsks }
     ensures make { law.MakeAsks }
+    ensures range { law.MakesInRange }
 {}

@@ -4,7 +4,7 @@
 //! socket tables, and writes the reply of each command and what each packet finds. `inet make` reads nothing, runs
 //! a generated script, and writes how many of its commands were done. The contract of [`inet`] has each status of
 //! the table below, when it comes and what was written then; `main` makes the real ends, calls it and ends with the
-//! status.
+//! status. It stands on `sock_script`, `race_run` and `inet_io`, and on `clap` for the words.
 //!
 //! | Status | Exit | When | Written |
 //! |---|---|---|---|

@@ -3,6 +3,7 @@ use Rattle.inet_tool.proofs.MakeWords.{row}
 use Rattle.std.proofs.Common.{List, [], ◌∷◌, Some, ◌≡◌, ◌∙◌, refl, codes, decimal, arith, ap}
 use Rattle.inet_tool.specs.Words as law
 use Rattle.clap.proofs.OnLiterals.{clap_on_literals}
+use Rattle.inet_tool.proofs.Asks.{makes_in_range}
 use Rattle.inet_tool.proofs.MakeForm.{both_found, both_pass, make_fault, make_found}
 use Rattle.inet_tool.proofs.Numbers.{decimal_is_plain, decimal_passes, digits_value-decimal}
 use Rattle.inet_tool.proofs.law.forms_ask.Goals as goal
@@ -24,3 +25,6 @@ returns-clause-make c = λ name seed count low high.
       rw (found, digits_value-decimal seed (omega arith)) refl,
       rw (found, digits_value-decimal count (omega arith)) refl,
     )
+
+pub returns-clause-range : goal.returns-clause-range
+returns-clause-range c = makes_in_range
