@@ -11,7 +11,7 @@
 //! `owner_step` of `specs/` makes of the bucket before. What every bucket keeps is `IsSound`: its
 //! journal is lawful, replaying it gives the owners and groups that stand, any two owners agree, and
 //! each owner's port is one of the bucket's. Only [`Bucket::reserve`] takes memory; the other calls
-//! use the room that it made.
+//! use the room that it made. It stands on the rules of `sock_card`.
 //!
 //! ```text
 //! let mut bucket = Bucket::new(alloc, number, buckets);

@@ -3,7 +3,8 @@
 //! Linux keeps sockets that are connected in the chains of `ehash`, and listeners in those of `lhash2`
 //! (`include/net/inet_hashtables.h`). [`Rows`] are all chains of both, in one count, each a vector of
 //! cards, the newest first. A card is hashed into the chain that is its home, and takes a slot;
-//! unhashing gives the slot back. Each call's contract says which `Chains` of chain_book it leaves.
+//! unhashing gives the slot back. It stands on `sock_slots`; each call's contract says which `Chains` of
+//! `chain_book` it leaves.
 //!
 //! What may be hashed, and what a lookup takes from a chain, is said by the layers above.
 //!

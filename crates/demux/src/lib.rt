@@ -6,6 +6,7 @@
 //! `net/ipv4/inet_hashtables.c`). [`look_packet`] is that lookup over [`Lookups`], the chains and the
 //! bind buckets, which keep the groups.
 //!
+//! It stands on `established`, `listeners`, `reuseport_group` and `bind_buckets`.
 //! Its contract says that it is `found` of `specs/`, and that the card found is hashed, matches the
 //! packet, and no card in the packet's chains matches it better; none is found where none matches.
 //!

@@ -7,8 +7,8 @@
 //! four-tuple (`__inet_lookup_established`).
 //!
 //! [`insert`] answers what `insert_outcome` of chain_book says: `Taken` exactly where the chain keeps the
-//! four-tuple from the newcomer, and a TIME_WAIT that is replaced goes only after the newcomer came. Each
-//! call takes time in one chain.
+//! four-tuple from the newcomer, and a TIME_WAIT that is replaced goes only after the newcomer came. It stands on
+//! `chain_rows`, and each call takes time in one chain.
 //!
 //! ```text
 //! let inserted = insert(&mut rows, &card, moment, Replace::After)?;

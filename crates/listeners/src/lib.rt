@@ -5,6 +5,9 @@
 //! that of 0.0.0.0 (`__inet_lookup_listener`). Of a chain the best card answers: one that names the
 //! packet's device before one that names none (`compute_score`), and of equals the newest.
 //!
+//! It stands on `chain_rows`. [`add`] and [`remove`] leave the chains that `chain_book` says; [`find`] answers the
+//! best card of the first of the two chains that has one.
+//!
 //! ```text
 //! let place = add(&mut rows, &card)?;
 //! let look = find(&rows, &packet);

@@ -3,7 +3,8 @@
 //! Linux takes one member of the group by the packet's hash (`reuseport_select_sock` of
 //! `net/core/sock_reuseport.c`), so that all packets of a connection find one socket. [`pick`] is that
 //! choice over a list of members. A member is one number: the slot of its card in the upper half, and
-//! its name in the lower.
+//! its name in the lower. It stands on `jhash_words`, whose `scale` tells the place; none is chosen of no members
+//! alone.
 //!
 //! ```text
 //! let choice = pick(bucket.members(group), packet_hash(&packet, seed));

@@ -4,7 +4,7 @@
 //! its port keeps it from being bound or from listening. A [`Card`] is a socket as lookups see it:
 //! [`rank`] says how well it matches a packet. All are plain numbers, and each function is exactly
 //! its definition in `specs/`; laws say that owners agree whichever comes first, and that what isn't
-//! refused agrees with what was there.
+//! refused agrees with what was there. It stands on nothing.
 //!
 //! ```text
 //! if owners.iter().any(|other| bind_conflict(&new, other)) {

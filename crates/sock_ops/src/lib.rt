@@ -5,7 +5,8 @@
 //! [`Sock`], which an operation takes and hands back: a refused one as it came. What an operation asks
 //! of buckets and chains, in which order, and what it comes to is its plan in table_model; each
 //! contract says that the tables afterwards and the answer are those of the plan, carried out on the
-//! tables before.
+//! tables before. A [`Machine`] runs the commands of one section, and replies as the flat list does. They stand on
+//! `established`, `listeners`, `port_search` and `bind_buckets`.
 //!
 //! ```text
 //! let mut tables = Tables::new(alloc, shape, seed)?;

@@ -9,7 +9,8 @@
 //! that it is one at most. A script may end in a capture, which [`capture::read`] reads.
 //! [`run::replies`] runs a script on `flat_list`, the plain engine, and gives the reply to each command
 //! and to each item of its capture; [`output::text`] writes them with their replies, one line for each,
-//! as `specs/Output.antt` says.
+//! as `specs/Output.antt` says. [`make::script`] makes a script from a seed, and [`Counts`] tells how many of its
+//! commands were done. It stands on `flat_list`, `capture_reader`, and the texts of `inet_io`.
 //!
 //! ```text
 //! let text = b"script 1\nsocket a\nbind a 0.0.0.0:80\n";

@@ -4,7 +4,7 @@
 //! claim goes on behind the last one, round to it, so that a slot given back isn't given out at once.
 //!
 //! [`PlainSlots::claim`] gives out the slot that the definition `free_slot` of chain_book names, and
-//! refuses exactly where no slot is free.
+//! refuses exactly where no slot is free. It stands on `chain_book` alone, and on `list_words`' lemmas.
 //!
 //! ```text
 //! let mut slots = PlainSlots::new(alloc, 1024)?;
