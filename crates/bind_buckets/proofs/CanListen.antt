@@ -1,5 +1,5 @@
 -- What it means for the groups that a socket may listen.
-use Rattle.std.proofs.Common.{◌≡◌, ℕ, Bool, true, false, cond, get_or, subst, position, Some, None, Option, find, refl}
+use Rattle.std.proofs.Common.{◌≡◌, ℕ, Bool, true, false, cond, subst, Some, None, Option, find, refl}
 use Rattle.std.proofs.lemmas.Bool.{false≢true}
 use Rattle.sock_card.specs.declared.owner.Owner.{Owner}
 use Rattle.sock_card.specs.Conflict.{refuses}
@@ -7,7 +7,7 @@ use Rattle.bind_buckets.specs.declared.request.Answer.{Answer}
 use Rattle.bind_buckets.specs.declared.request.Answer.TheVariants as answers
 use Rattle.bind_buckets.specs.OwnerStep.{Held, After, has_name, named, may_listen, listener_answer, group_answer, place_for, others}
 use Rattle.bind_buckets.specs.Bucket.{IsGroup}
-use Rattle.bind_buckets.proofs.Named.{speaks_at}
+use Rattle.bind_buckets.proofs.Named.{speaks_of}
 
 group_or_full : (b : Bool) (x y : Option ℕ) → IsGroup (cond b (answers.Group x) answers.GroupFull) → IsGroup (cond b (answers.Group y) answers.GroupFull)
 group_or_full true x y g = g
@@ -30,11 +30,11 @@ pub unrefused : (n : ℕ) (h : Held) (a : Owner) (o : Option Owner) → IsGroup 
 unrefused n h a None g = refl
 unrefused n h a (Some other) g = absurd g
 
--- the owner at that place may listen
-pub may_at : (n : ℕ) (h : Held) (name i : ℕ) (a : Owner) → position (has_name name) h.owners ≡ Some i → a ≡ get_or h.owners i a → IsGroup (named h name (may_listen n h name)).answer → IsGroup (listener_answer n h a (find (refuses a) (others h name)))
-may_at n h name i a place read g =
-    subst (λ (after : After). IsGroup after.answer) (speaks_at h name (may_listen n h name) i a place read) g
+-- the first of that name may listen
+pub may_so : (n : ℕ) (h : Held) (name : ℕ) (a : Owner) → find (has_name name) h.owners ≡ Some a → IsGroup (named h name (may_listen n h name)).answer → IsGroup (listener_answer n h a (find (refuses a) (others h name)))
+may_so n h name a found g =
+    subst (λ (after : After). IsGroup after.answer) (speaks_of h name (may_listen n h name) a found) g
 
-pub group_at : (n : ℕ) (h : Held) (name i : ℕ) (a : Owner) → position (has_name name) h.owners ≡ Some i → a ≡ get_or h.owners i a → a.reuseport ≡ true → IsGroup (named h name (may_listen n h name)).answer → IsGroup (group_answer 0 h (place_for h a))
-group_at n h name i a place read shared g =
-    group_anyhow n 0 h (place_for h a) (group_if_shared n h a (find (refuses a) (others h name)) shared (may_at n h name i a place read g))
+pub group_of : (n : ℕ) (h : Held) (name : ℕ) (a : Owner) → find (has_name name) h.owners ≡ Some a → a.reuseport ≡ true → IsGroup (named h name (may_listen n h name)).answer → IsGroup (group_answer 0 h (place_for h a))
+group_of n h name a found shared g =
+    group_anyhow n 0 h (place_for h a) (group_if_shared n h a (find (refuses a) (others h name)) shared (may_so n h name a found g))

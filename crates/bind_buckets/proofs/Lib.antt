@@ -11,7 +11,18 @@ mod StaysKept
 mod StaysGrouped
 mod Told
 mod RoomToGo
+mod RoomLeft
 mod Filtered
 mod ToldByOwn
 mod GroupNumber
+mod Counted
+mod Tallied
+mod RuledOut
 pub mod Called
+mod RunsTold
+mod SlotSteps
+mod SlotsKept
+mod Walk
+mod Relinked
+mod Links
+mod OwnersIn

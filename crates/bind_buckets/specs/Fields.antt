@@ -1,5 +1,4 @@
 -- What a bucket's fields stand for, and what holds of them: our own rule.
-use Rattle.std.specs.Prelude.{vec_capacity}
 use Rattle.bind_buckets.specs.declared.bucket.Bucket.TheInside.{Inside}
 use Rattle.bind_buckets.specs.HeldBy.{held_by}
 use Rattle.bind_buckets.specs.Bucket.{Bucket}
@@ -11,11 +10,11 @@ shown_by f =
       number = f.number;
       buckets = f.buckets;
       held = held_by f.held;
-      journal = f.journal.items;
+      journal = f.journal.notes;
       next = f.next;
       entries = f.entries;
       newcomers = f.newcomers;
     }
 
 abbrev pub AreKept : Inside → Type 0
-AreKept f = IsKept (shown_by f) (vec_capacity f.journal) (vec_capacity f.held.owners)
+AreKept f = IsKept (shown_by f) f.journal.room f.held.owners.room

@@ -1,6 +1,7 @@
 -- What the owners and groups of a bucket mean, as its code keeps them: our own rule.
-use Rattle.std.specs.Prelude.{◌≡◌, ℕ}
+use Rattle.std.specs.Prelude.{◌≡◌, ℕ, ◌+◌, ◌≤◌, length}
 use Rattle.bind_buckets.specs.declared.held.Held.{Held as Inside}
+use Rattle.bind_buckets.specs.Owners.{Listed}
 use Rattle.bind_buckets.specs.declared.request.Answer.{Answer}
 use Rattle.bind_buckets.specs.declared.request.Request.{Request}
 use Rattle.bind_buckets.specs.declared.request.Request.TheVariants as requests
@@ -8,7 +9,7 @@ use Rattle.bind_buckets.specs.OwnerStep.{Held, After, owner_step}
 use Rattle.bind_buckets.specs.Bucket.{IsGroup}
 
 abbrev pub held_by : Inside → Held
-held_by h = record { owners = h.owners.items; groups = h.groups }
+held_by h = record { owners = h.owners.owners; groups = h.groups }
 
 -- that is left, and answered
 abbrev pub IsStep : After → Inside → Answer → Type 0
@@ -18,3 +19,10 @@ IsStep after new answer = after ≡ record { held = held_by new; answer = answer
 abbrev pub CanCarryOut : ℕ → Held → Request → Type 0
 CanCarryOut number h (requests.Listen name slot) = IsGroup (owner_step number h (requests.MayListen name)).answer
 CanCarryOut number h _ = Unit {0}
+
+-- one owner comes or goes at most, and room is taken only by one that comes
+pub record IsRoomLeft (old new : Listed) : Type 0 where
+  pub most : length new.owners ≤ length old.owners + 1
+  pub least : length old.owners ≤ length new.owners + 1
+  pub taken : old.room ≤ new.room + 1
+  pub kept : length new.owners ≤ length old.owners → old.room ≤ new.room

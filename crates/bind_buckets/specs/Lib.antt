@@ -3,9 +3,14 @@ pub mod Members
 pub mod OwnerStep
 pub mod Journal
 pub mod Bucket
+pub mod Tally
+pub mod Owners
+pub mod Slots
+pub mod Runs
 pub mod HeldBy
 pub mod Kept
 pub mod Fields
 pub mod Answers
+pub mod BindHash
 pub mod Followed
 pub mod Rows

@@ -11,6 +11,7 @@ ghost use Rattle.bind_buckets.specs.Bucket.{called, answer_to, CanListen, CanCon
 ghost use Rattle.bind_buckets.specs.Answers.{answer_of_bind, answer_of_free, answer_of_name, answer_of_listen, IsOfBind, IsOfFree, IsOfName, IsOfListen, told_of, holder_told, refusal, overlapping, holder, AllByConnect, KnowsOrSays, KnowsWaitingOrSays, TakesIfOk, TakesIfErr, IsWhy};
 
 use crate::held::Held;
+use crate::journal::Journal;
 use crate::request::{Answer, Entry, InUse, ListenEnd, Mark, NotFree, Note, Request, Strange};
 use sock_card::{Owner, State};
 use std::alloc::{AllocError, Global};
@@ -24,12 +25,15 @@ use std::marker::Model;
 /// `reserve` and `mark` that takes `&mut self` makes one note, with the mark that was set last, and
 /// takes room for one entry; an owner that comes takes room for one newcomer. A note for its removal
 /// is kept for each owner. Nothing but `reserve` takes memory.
+///
+/// An owner is found by its name in constant time, as far as names spread evenly over the places that
+/// are kept for them.
 #[derive(Drop)]
 pub struct Bucket {
     number: u32,
     buckets: u32,
     held: Held,
-    journal: Vec<Note>,
+    journal: Journal,
     next: Mark,
     entries: u8,
     newcomers: u8,
@@ -133,8 +137,9 @@ impl Bucket {
         Bucket {
             number,
             buckets,
-            held: Held::new(alloc),
-            journal: Vec::new(alloc),
+            held: Held::new(alloc, buckets),
+            // The ports of a search leave each bucket at an even distance.
+            journal: Journal::new(alloc, buckets * (1 + buckets % 2)),
             next: Mark {
                 number: 0,
                 caller: 0,
@@ -151,11 +156,11 @@ impl Bucket {
         u32::from(port) % self.buckets == self.number
     }
 
-    /// The first owner of that name. It goes through the owners up to that one, and makes no note.
+    /// The first owner of that name. Constant cost, and no note.
     pub fn owner(&self, name: u32) -> Option<&Owner>
         ensures { option_copied result ≡ find (has_name name) self.now.held.owners }
     {
-        self.held.owners.iter().find(|o| o.name == name)
+        self.held.owners.named(name)
     }
 
     /// Makes room for three entries and two newcomers, as much as an operation on a socket takes.
@@ -194,14 +199,15 @@ impl Bucket {
         let left = self.held.owners.len();
         self.entries = entries_after(self.entries, found, left);
         self.newcomers = newcomers_after(self.newcomers, found, left);
-        self.journal.push_reserved(note(self.next, request, answer));
+        self.journal.push(note(self.next, request, answer));
         answer
     }
 
     /// Takes in a newcomer, unless an owner keeps it from its port (`inet_csk_get_port`).
     ///
     /// `InUse` names the first owner that does, and the bucket holds what it held. It goes through
-    /// the owners once.
+    /// the owners unless their counts tell that none does: nobody owns the port, all share it by
+    /// `reuseaddr` and none listens, or all share it by `reuseport` as one user.
     pub fn bind(&mut self, owner: Owner) -> Result<(), InUse>
         requires port { spec.is_port_of self.old owner.port ≡ true }
         requires entry { 1 ≤ self.old.entries }
@@ -221,7 +227,7 @@ impl Bucket {
     /// (`inet_csk_find_open_port`): no option helps it there.
     ///
     /// `InUse` names the first owner that does, and the bucket holds what it held. It goes through
-    /// the owners once.
+    /// the owners unless nobody owns the port.
     pub fn bind_auto(&mut self, owner: Owner) -> Result<(), InUse>
         requires port { spec.is_port_of self.old owner.port ≡ true }
         requires entry { 1 ≤ self.old.entries }
@@ -241,7 +247,7 @@ impl Bucket {
     /// owns it, or only sockets for which `connect` chose it, too.
     ///
     /// `NotFree` names the first other owner of the port. The bucket holds what it held. It goes
-    /// through the owners once.
+    /// through the owners unless their counts tell that there is none.
     pub fn free(&mut self, port: u16) -> Result<(), NotFree>
         requires entry { 1 ≤ self.old.entries }
         ensures after { self.new ≡ called self.old (Request.Free port) }
@@ -280,8 +286,9 @@ impl Bucket {
     /// address, device and user, or begins a group at the first free place; the group's number is
     /// 8 times the bucket's and the place. Refusals are tested in this order: no owner has that name,
     /// another owner keeps it from its port, no place is free for a group that it needs, its group
-    /// has sixteen members. The bucket holds what it held. It goes through the owners up to three
-    /// times, and through at most 128 members.
+    /// has sixteen members. The bucket holds what it held. It goes through the owners only where their
+    /// counts don't rule a refusal out, and once more for its mates where a listener with `reuseport`
+    /// may be one; and through at most 128 members.
     pub fn may_listen(&mut self, name: u32) -> Result<Option<u32>, ListenEnd>
         requires entry { 1 ≤ self.old.entries }
         ensures after { self.new ≡ called self.old (Request.MayListen name) }
@@ -299,7 +306,8 @@ impl Bucket {
     /// Lets the socket of that name listen (`inet_csk_listen_start`), where it may as the bucket
     /// stands; with `reuseport` it joins its group as a member with that slot, at the end.
     ///
-    /// It goes through the owners up to twice, and through at most 128 members.
+    /// Constant cost; with `reuseport` it goes through the owners for its mates, where a listener with
+    /// `reuseport` may be one, and through at most 128 members.
     pub fn listen(&mut self, name: u32, slot: u32)
         requires entry { 1 ≤ self.old.entries }
         requires free { CanListen self.old name }
@@ -315,8 +323,7 @@ impl Bucket {
     /// Connects the socket of that name, which is bound to any address or to `local`, from there to
     /// the other end: it is full then.
     ///
-    /// No conflict is looked for, since it wants no more than it had. It goes through the owners up
-    /// to that one.
+    /// No conflict is looked for, since it wants no more than it had. Constant cost.
     pub fn connect_bound(
         &mut self,
         name: u32,
@@ -348,7 +355,7 @@ impl Bucket {
     /// Takes in the socket of that name, which the listener `parent`, at any address or at `local`,
     /// accepted there (`__inet_inherit_port`): all else is as the listener has it, its origin too.
     ///
-    /// No conflict is looked for. It goes through the owners up to the listener.
+    /// No conflict is looked for. Constant cost.
     pub fn inherit(
         &mut self,
         parent: u32,
@@ -382,8 +389,7 @@ impl Bucket {
     /// Puts the first owner of that name into TIME_WAIT (`tcp_time_wait`): its socket is closed, and it
     /// keeps its port until [`Bucket::remove_waiting`].
     ///
-    /// No conflict is looked for, since it wants no more than it had. It goes through the owners up
-    /// to that one.
+    /// No conflict is looked for, since it wants no more than it had. Constant cost.
     pub fn to_time_wait(&mut self, name: u32) -> Result<(), Strange>
         requires entry { 1 ≤ self.old.entries }
         ensures after { self.new ≡ called self.old (Request.ToTimeWait name) }
@@ -402,8 +408,7 @@ impl Bucket {
     /// Takes out the first owner of that name (`inet_put_port`), and the member of that name from
     /// its group, in whose place the last one stands then (`reuseport_detach_sock`).
     ///
-    /// It uses the entry that was kept for the owner. It goes through the owners once, later ones
-    /// move up, and through at most 128 members.
+    /// It uses the entry that was kept for the owner. It goes through at most 128 members.
     pub fn remove(&mut self, name: u32) -> Result<(), Strange>
         requires { find (has_name name) self.old.held.owners ≡ None → 1 ≤ self.old.entries }
         ensures after { self.new ≡ called self.old (Request.Remove name) }
@@ -423,8 +428,7 @@ impl Bucket {
     /// Takes out the first owner of that name that is in TIME_WAIT (`inet_twsk_bind_unhash`), if it
     /// hasn't gone already; an owner of that name in another state stays.
     ///
-    /// It uses the entry that was kept for the owner. It goes through the owners once; later ones
-    /// move up.
+    /// It uses the entry that was kept for the owner. Constant cost.
     pub fn remove_waiting(&mut self, name: u32) -> Result<(), Strange>
         requires { find (waits_as name) self.old.held.owners ≡ None → 1 ≤ self.old.entries }
         ensures after { self.new ≡ called self.old (Request.RemoveWaiting name) }
@@ -453,11 +457,17 @@ impl Bucket {
         }
     }
 
-    /// The notes of all calls so far, oldest first, and what is known of every bucket. Constant cost.
-    pub fn journal(&self) -> &[Note]
-        ensures journal { result.now ≡ self.now.journal }
-        ensures sound { spec.IsSound self.now }
+    /// The notes of all calls so far, oldest first, copied.
+    pub fn journal(&self, alloc: Global) -> Result<Vec<Note>, AllocError>
+        ensures { IfOk result (λ notes. notes.items ≡ self.now.journal) }
     {
-        &self.journal
+        self.journal.to_vec(alloc)
+    }
+
+    /// Tells a proof what is known of every bucket. It does nothing when it runs.
+    pub fn recall(&self)
+        ensures { spec.IsSound self.now }
+    {
+        let _number = self.number;
     }
 }

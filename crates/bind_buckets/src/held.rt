@@ -1,37 +1,37 @@
 //! What a bucket holds, and what each request makes of it.
 
-ghost use Rattle.std.specs.Prelude.{◌≡◌, ◌+◌, ◌≤◌, ◌<◌, true, false, vec_len, vec_capacity, find, remove};
+ghost use Rattle.std.specs.Prelude.{◌≡◌, ◌+◌, ◌≤◌, ◌<◌, true, false, Some, length, find};
 ghost use Rattle.sock_card.specs.Conflict as conflict_spec;
 ghost use Rattle.sock_card.specs.Became as became;
 ghost use Rattle.bind_buckets.specs.OwnerStep as spec;
-ghost use Rattle.bind_buckets.specs.First.{change_first};
+ghost use Rattle.bind_buckets.specs.First.{change_first, drop_first};
 ghost use Rattle.bind_buckets.specs.Members as members_spec;
 ghost use Rattle.bind_buckets.specs.Bucket.{IsGroup, brings_owner};
-ghost use Rattle.bind_buckets.specs.HeldBy.{held_by, IsStep, CanCarryOut};
+ghost use Rattle.bind_buckets.specs.HeldBy.{held_by, IsStep, CanCarryOut, IsRoomLeft};
 
 use crate::group::Group;
+use crate::owners::Owners;
+use crate::places::{group_place, place_for};
 use crate::request::{Answer, Request};
-use crate::search::{
-    group_place, holder, overlapping, owner_place, place_for, refusing, refusing_other,
-    waiting_place,
-};
 use sock_card::{Owner, as_listener, as_waiting, child, connected};
 use std::alloc::Global;
 
 /// The owners of a bucket's ports, oldest first, and the groups at its eight places.
 #[derive(Drop)]
 pub struct Held {
-    pub owners: Vec<Owner>,
+    pub owners: Owners,
     pub groups: [Group; 8],
 }
 
 impl Held {
-    pub fn new(alloc: Global) -> Self
+    /// Ports that far apart are counted apart.
+    pub fn new(alloc: Global, stride: u32) -> Self
+        requires { 1 ≤ stride }
         ensures empty { held_by result ≡ spec.empty }
-        ensures len { vec_len result.owners ≡ 0 }
+        ensures none { result.owners.room ≡ 0 }
     {
         Held {
-            owners: Vec::new(alloc),
+            owners: Owners::new(alloc, stride),
             groups: [
                 Group::new(),
                 Group::new(),
@@ -46,42 +46,37 @@ impl Held {
     }
 
     fn admit(&mut self, owner: Owner) -> Answer
-        requires { vec_len self.old.owners < vec_capacity self.old.owners }
+        requires { 1 ≤ self.old.owners.room }
         ensures step { IsStep (spec.with_owner (held_by self.old) owner) self.new result }
-        ensures capacity { vec_capacity self.new.owners ≡ vec_capacity self.old.owners }
-        ensures more { vec_len self.new.owners ≡ vec_len self.old.owners + 1 }
+        ensures room { IsRoomLeft self.old.owners self.new.owners }
     {
-        self.owners.push_reserved(owner);
+        self.owners.push(owner);
         Answer::Done
     }
 
     fn bind(&mut self, owner: Owner) -> Answer
-        requires { vec_len self.old.owners < vec_capacity self.old.owners }
+        requires { 1 ≤ self.old.owners.room }
         ensures step { IsStep
             (spec.admitted (held_by self.old) owner
-            (find (conflict_spec.refuses owner) self.old.owners.items))
+            (find (conflict_spec.refuses owner) self.old.owners.owners))
             self.new result }
-        ensures capacity { vec_capacity self.new.owners ≡ vec_capacity self.old.owners }
-        ensures most { vec_len self.new.owners ≤ vec_len self.old.owners + 1 }
-        ensures least { vec_len self.old.owners ≤ vec_len self.new.owners }
+        ensures room { IsRoomLeft self.old.owners self.new.owners }
     {
-        match refusing(&owner, &self.owners) {
+        match self.owners.refusing(&owner) {
             Some(other) => Answer::InUse(other.name),
             None => self.admit(owner),
         }
     }
 
     fn bind_auto(&mut self, owner: Owner) -> Answer
-        requires { vec_len self.old.owners < vec_capacity self.old.owners }
+        requires { 1 ≤ self.old.owners.room }
         ensures step { IsStep
             (spec.admitted (held_by self.old) owner
-            (find (conflict_spec.overlap owner) self.old.owners.items))
+            (find (conflict_spec.overlap owner) self.old.owners.owners))
             self.new result }
-        ensures capacity { vec_capacity self.new.owners ≡ vec_capacity self.old.owners }
-        ensures most { vec_len self.new.owners ≤ vec_len self.old.owners + 1 }
-        ensures least { vec_len self.old.owners ≤ vec_len self.new.owners }
+        ensures room { IsRoomLeft self.old.owners self.new.owners }
     {
-        match overlapping(&owner, &self.owners) {
+        match self.owners.overlapping(&owner) {
             Some(other) => Answer::InUse(other.name),
             None => self.admit(owner),
         }
@@ -89,10 +84,10 @@ impl Held {
 
     fn free(&self, port: u16) -> Answer
         ensures { IsStep
-            (spec.kept (held_by self.now) (spec.free_answer (find (spec.holds port) self.now.owners.items)))
+            (spec.kept (held_by self.now) (spec.free_answer (find (spec.holds port) self.now.owners.owners)))
             self.now result }
     {
-        match holder(port, &self.owners) {
+        match self.owners.holder(port) {
             Some(owner) => Answer::NotFree(owner.name),
             None => Answer::Done,
         }
@@ -103,34 +98,29 @@ impl Held {
             (spec.named (held_by self.old) name
             (λ _. spec.changed (held_by self.old) name (became.connected local remote rport) self.old.groups))
             self.new result }
-        ensures capacity { vec_capacity self.new.owners ≡ vec_capacity self.old.owners }
-        ensures len { vec_len self.new.owners ≡ vec_len self.old.owners }
+        ensures room { IsRoomLeft self.old.owners self.new.owners }
+        ensures none { length self.new.owners.owners ≤ length self.old.owners.owners }
     {
-        match owner_place(name, &self.owners) {
+        match self.owners.named(name).copied() {
             None => Answer::Strange(name),
-            Some(place) => {
-                self.owners[place] = connected(self.owners[place], local, remote, rport);
+            Some(owner) => {
+                self.owners.replace(connected(owner, local, remote, rport));
                 Answer::Done
             }
         }
     }
 
     fn inherit(&mut self, parent: u32, name: u32, local: u32, remote: u32, rport: u16) -> Answer
-        requires { vec_len self.old.owners < vec_capacity self.old.owners }
+        requires { 1 ≤ self.old.owners.room }
         ensures step { IsStep
             (spec.named (held_by self.old) parent
             (λ listener. spec.with_owner (held_by self.old) (became.child name local remote rport listener)))
             self.new result }
-        ensures capacity { vec_capacity self.new.owners ≡ vec_capacity self.old.owners }
-        ensures most { vec_len self.new.owners ≤ vec_len self.old.owners + 1 }
-        ensures least { vec_len self.old.owners ≤ vec_len self.new.owners }
+        ensures room { IsRoomLeft self.old.owners self.new.owners }
     {
-        match owner_place(parent, &self.owners) {
+        match self.owners.named(parent).copied() {
             None => Answer::Strange(parent),
-            Some(place) => {
-                let listener = self.owners[place];
-                self.admit(child(listener, name, local, remote, rport))
-            }
+            Some(listener) => self.admit(child(listener, name, local, remote, rport)),
         }
     }
 
@@ -150,13 +140,13 @@ impl Held {
         }
     }
 
-    fn listener_answer(&self, number: u32, owner: &Owner, place: usize) -> Answer
+    fn listener_answer(&self, number: u32, owner: &Owner, name: u32) -> Answer
         requires number { number < 256 }
-        requires place { place < vec_len self.now.owners }
+        requires first { find (spec.has_name name) self.now.owners.owners ≡ Some owner.now }
         ensures { result ≡ spec.listener_answer number (held_by self.now) owner.now
-            (find (conflict_spec.refuses owner.now) (remove self.now.owners.items place)) }
+            (find (conflict_spec.refuses owner.now) (spec.others (held_by self.now) name)) }
     {
-        match refusing_other(owner, place, &self.owners) {
+        match self.owners.refusing_other(owner, name) {
             Some(other) => Answer::InUse(other.name),
             None => {
                 if owner.reuseport {
@@ -174,9 +164,9 @@ impl Held {
             (spec.named (held_by self.now) name (spec.may_listen number (held_by self.now) name))
             self.now result }
     {
-        match owner_place(name, &self.owners) {
+        match self.owners.named(name) {
             None => Answer::Strange(name),
-            Some(place) => self.listener_answer(number, &self.owners[place], place),
+            Some(owner) => self.listener_answer(number, owner, name),
         }
     }
 
@@ -199,17 +189,16 @@ impl Held {
         ensures step { IsStep
             (spec.named (held_by self.old) name (spec.listening (held_by self.old) name slot))
             self.new result }
-        ensures capacity { vec_capacity self.new.owners ≡ vec_capacity self.old.owners }
-        ensures len { vec_len self.new.owners ≡ vec_len self.old.owners }
+        ensures room { IsRoomLeft self.old.owners self.new.owners }
+        ensures none { length self.new.owners.owners ≤ length self.old.owners.owners }
     {
-        match owner_place(name, &self.owners) {
+        match self.owners.named(name).copied() {
             None => Answer::Strange(name),
-            Some(place) => {
-                let owner = self.owners[place];
+            Some(owner) => {
                 if owner.reuseport {
                     self.join(&owner, name, slot);
                 }
-                self.owners[place] = as_listener(owner);
+                self.owners.replace(as_listener(owner));
                 Answer::Done
             }
         }
@@ -231,14 +220,12 @@ impl Held {
         ensures step { IsStep
             (spec.named (held_by self.old) name (λ _. spec.removed (held_by self.old) name))
             self.new result }
-        ensures capacity { vec_capacity self.new.owners ≡ vec_capacity self.old.owners }
-        ensures most { vec_len self.new.owners ≤ vec_len self.old.owners }
-        ensures least { vec_len self.old.owners ≤ vec_len self.new.owners + 1 }
+        ensures room { IsRoomLeft self.old.owners self.new.owners }
+        ensures none { length self.new.owners.owners ≤ length self.old.owners.owners }
     {
-        match owner_place(name, &self.owners) {
+        match self.owners.remove(name) {
             None => Answer::Strange(name),
-            Some(place) => {
-                self.owners.remove(place);
+            Some(_) => {
                 self.leave(name);
                 Answer::Done
             }
@@ -250,13 +237,13 @@ impl Held {
             (spec.named (held_by self.old) name
             (λ _. spec.changed (held_by self.old) name became.as_waiting self.old.groups))
             self.new result }
-        ensures capacity { vec_capacity self.new.owners ≡ vec_capacity self.old.owners }
-        ensures len { vec_len self.new.owners ≡ vec_len self.old.owners }
+        ensures room { IsRoomLeft self.old.owners self.new.owners }
+        ensures none { length self.new.owners.owners ≤ length self.old.owners.owners }
     {
-        match owner_place(name, &self.owners) {
+        match self.owners.named(name).copied() {
             None => Answer::Strange(name),
-            Some(place) => {
-                self.owners[place] = as_waiting(self.owners[place]);
+            Some(owner) => {
+                self.owners.replace(as_waiting(owner));
                 Answer::Done
             }
         }
@@ -264,19 +251,15 @@ impl Held {
 
     fn remove_waiting(&mut self, name: u32) -> Answer
         ensures step { IsStep
-            (spec.spoken (held_by self.old) name (find (spec.waits_as name) self.old.owners.items)
+            (spec.spoken (held_by self.old) name (find (spec.waits_as name) self.old.owners.owners)
             (λ _. spec.without_waiting (held_by self.old) name))
             self.new result }
-        ensures capacity { vec_capacity self.new.owners ≡ vec_capacity self.old.owners }
-        ensures most { vec_len self.new.owners ≤ vec_len self.old.owners }
-        ensures least { vec_len self.old.owners ≤ vec_len self.new.owners + 1 }
+        ensures room { IsRoomLeft self.old.owners self.new.owners }
+        ensures none { length self.new.owners.owners ≤ length self.old.owners.owners }
     {
-        match waiting_place(name, &self.owners) {
+        match self.owners.remove_waiting(name) {
             None => Answer::Strange(name),
-            Some(place) => {
-                self.owners.remove(place);
-                Answer::Done
-            }
+            Some(_) => Answer::Done,
         }
     }
 
@@ -284,13 +267,12 @@ impl Held {
     #[tactic(auto, unfolding(crate::specs::OwnerStep::owner_step))]
     pub fn carry_out(&mut self, number: u32, request: Request) -> Answer
         requires number { number < 256 }
-        requires room { brings_owner request ≡ true → vec_len self.old.owners < vec_capacity self.old.owners }
+        requires room { brings_owner request ≡ true → 1 ≤ self.old.owners.room }
         requires allowed { CanCarryOut number (held_by self.old) request }
         ensures step { IsStep (spec.owner_step number (held_by self.old) request) self.new result }
-        ensures capacity { vec_capacity self.new.owners ≡ vec_capacity self.old.owners }
-        ensures most { vec_len self.new.owners ≤ vec_len self.old.owners + 1 }
-        ensures least { vec_len self.old.owners ≤ vec_len self.new.owners + 1 }
-        ensures none { brings_owner request ≡ false → vec_len self.new.owners ≤ vec_len self.old.owners }
+        ensures room { IsRoomLeft self.old.owners self.new.owners }
+        ensures none { brings_owner request ≡ false
+            → length self.new.owners.owners ≤ length self.old.owners.owners }
     {
         match request {
             Request::Bind(owner) => self.bind(owner),

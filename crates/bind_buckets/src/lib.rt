@@ -13,6 +13,9 @@
 //! each owner's port is one of the bucket's. Only [`Bucket::reserve`] takes memory; the other calls
 //! use the room that it made. It stands on the rules of `sock_card`.
 //!
+//! An owner is found by its name through links, and counts of the owners of a port answer most
+//! questions about it without a look at each; a run of like notes takes the room of one.
+//!
 //! ```text
 //! let mut bucket = Bucket::new(alloc, number, buckets);
 //! bucket.reserve()?;
@@ -25,9 +28,13 @@
 pub mod bucket;
 mod group;
 mod held;
+mod journal;
 pub mod laws;
+mod owner_list;
+mod owners;
+mod places;
 pub mod request;
-mod search;
+mod tally;
 #[cfg(test)]
 mod tests;
 

@@ -1,9 +1,11 @@
 //! Runs of calls on one bucket.
 
 use crate::bucket::Bucket;
-use crate::request::{Answer, InUse, ListenEnd, NotFree, Request, Strange};
+use crate::journal::Journal;
+use crate::owners::Owners;
+use crate::request::{Answer, Entry, InUse, ListenEnd, NotFree, Note, Request, Strange};
 use sock_card::{Owner, State};
-use std::alloc::AllocError;
+use std::alloc::{AllocError, Global};
 use std::test::Fail;
 
 const HERE: u32 = 0x0A00_0001;
@@ -165,7 +167,8 @@ fn a_refused_call_is_entered_too(rt: HostRuntime) -> Result<(), Fail> {
     let mut bucket = Bucket::new(rt.alloc(), 0, 1);
     bucket.mark(5, 3);
     assert_eq!(rt; remove(&mut bucket, 9)?, Err(Strange(9)));
-    let note = bucket.journal().first().copied().ok_or("no note")?;
+    let notes = bucket.journal(rt.alloc())?;
+    let note = notes.first().copied().ok_or("no note")?;
     assert_eq!(rt; note.number, 5);
     assert_eq!(rt; note.caller, 3);
     assert_eq!(rt; note.entry.request, Request::Remove { name: 9 });
@@ -256,5 +259,101 @@ fn the_last_member_takes_the_leavers_place(rt: HostRuntime) -> Result<(), Fail> 
     let members = bucket.members(0);
     let expected = [0xB_0000_0001, 0xE_0000_0004, 0xD_0000_0003];
     assert_eq!(rt; members, expected.as_slice());
+    Ok(())
+}
+
+fn note(number: u64, request: Request, answer: Answer) -> Note {
+    Note {
+        number,
+        caller: 1,
+        entry: Entry { request, answer },
+    }
+}
+
+fn free(port: u16) -> Note {
+    note(5, Request::Free { port }, Answer::Done)
+}
+
+fn not_free(port: u16, name: u32) -> Note {
+    note(5, Request::Free { port }, Answer::NotFree(name))
+}
+
+fn in_use(owner: Owner, name: u32) -> Note {
+    note(5, Request::BindAuto(owner), Answer::InUse(name))
+}
+
+fn journal_of(alloc: Global, step: u32, notes: &[Note]) -> Result<Journal, AllocError> {
+    let mut journal = Journal::new(alloc, step);
+    for note in notes {
+        journal.reserve(1)?;
+        journal.push(*note);
+    }
+    Ok(journal)
+}
+
+#[test]
+fn a_search_is_one_run(rt: HostRuntime) -> Result<(), Fail> {
+    let notes = [
+        free(80),
+        free(84),
+        free(88),
+        not_free(92, 7),
+        not_free(96, 9),
+        in_use(socket(3, 40), 7),
+        in_use(socket(3, 44), 8),
+        in_use(socket(3, 48), 7),
+    ];
+    let journal = journal_of(rt.alloc(), 4, &notes)?;
+    assert_eq!(rt; journal.run_count(), 3);
+    assert_eq!(rt; journal.to_vec(rt.alloc())?.as_slice(), notes.as_slice());
+    Ok(())
+}
+
+#[test]
+fn other_notes_end_a_run(rt: HostRuntime) -> Result<(), Fail> {
+    let other_mark = Note {
+        number: 6,
+        ..free(84)
+    };
+    let other_caller = Note {
+        caller: 2,
+        ..free(84)
+    };
+    let notes = [
+        free(80),
+        other_mark,
+        free(80),
+        other_caller,
+        free(80),
+        free(88),
+        not_free(92, 7),
+        in_use(socket(3, 96), 7),
+        in_use(socket(4, 100), 7),
+        in_use(sharing(4, 104), 7),
+        in_use(sharing(4, 108), 7),
+    ];
+    let journal = journal_of(rt.alloc(), 4, &notes)?;
+    assert_eq!(rt; journal.run_count(), 10);
+    assert_eq!(rt; journal.to_vec(rt.alloc())?.as_slice(), notes.as_slice());
+    Ok(())
+}
+
+#[test]
+fn many_owners_leave(rt: HostRuntime) -> Result<(), Fail> {
+    let mut owners = Owners::new(rt.alloc(), 1);
+    for name in 0..100 {
+        owners.reserve(1)?;
+        owners.push(socket(name, 80));
+    }
+    owners.reserve(1)?;
+    owners.push(socket(7, 81));
+    for name in 0..90 {
+        owners.remove(name);
+    }
+    owners.reserve(2)?;
+    assert_eq!(rt; owners.len(), 11);
+    assert_eq!(rt; owners.named(7).copied(), Some(socket(7, 81)));
+    assert_eq!(rt; owners.named(8), None);
+    assert_eq!(rt; owners.named(95).copied(), Some(socket(95, 80)));
     Ok(())
 }

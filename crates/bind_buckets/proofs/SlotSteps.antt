@@ -1,0 +1,70 @@
+-- What becomes of the owners in slots where the first of a kind is changed or leaves.
+use Rattle.std.proofs.Common.{◌≡◌, ℕ, ◌+◌, Bool, true, false, ◌&&◌, List, get_or, remove, find, position, Option, Some, None, refl, sym, ◌∙◌, ap}
+use Rattle.std.proofs.Math.ListN.{set}
+use Rattle.std.specs.Option.{option_map}
+use Rattle.std.proofs.lemmas.Bool.{and_parts}
+use Rattle.sock_card.specs.declared.owner.Owner.{Owner}
+use Rattle.bind_buckets.specs.declared.owner_list.Slot.{Slot}
+use Rattle.bind_buckets.specs.First.{change_first, drop_first}
+use Rattle.bind_buckets.specs.Slots.{owners_in, AreKept}
+use Rattle.bind_buckets.proofs.FirstPlace.{found_at, absent, changes_at, drops_at, unchanged, passes_at, place_is}
+use Rattle.bind_buckets.proofs.OwnersIn.{owner_found, owner_changed, owner_left, owner_dropped}
+use Rattle.bind_buckets.proofs.SlotsKept.{kept_changed, kept_left}
+
+abbrev leave : Slot → Slot
+leave s = record s { here = false }
+
+abbrev puts : Owner → Slot → Slot
+puts a s = record s { owner = a }
+
+module _ (is : Owner → Bool) (slots : List Slot) where
+  abbrev has : Slot → Bool
+  has s = s.here && is s.owner
+
+  module _ (place : ℕ) (x : Slot) (at : position has slots ≡ Some place) (read : x ≡ get_or slots place x) where
+    pub answers_there : is x.owner ≡ true
+    answers_there = (and_parts x.here (is x.owner) (passes_at has slots place x at read)).1
+
+    here_there : x.here ≡ true
+    here_there = (and_parts x.here (is x.owner) (passes_at has slots place x at read)).0
+
+    pub first_there : find is (owners_in slots) ≡ Some x.owner
+    first_there = owner_found is slots ∙ ap (option_map (λ (s : Slot). s.owner)) (found_at has slots place x at read)
+
+    pub left_there : owners_in (set slots place (leave x)) ≡ drop_first is (owners_in slots)
+    left_there =
+        sym (owner_left is leave (λ s. refl) slots ∙ ap owners_in (changes_at has leave slots place x at read))
+
+    pub put_there : (a : Owner) → owners_in (set slots place (puts a x)) ≡ change_first is (λ _. a) (owners_in slots)
+    put_there a =
+        sym
+        (owner_changed is (λ _. a) (puts a) (λ s. refl) (λ s. refl) slots
+        ∙ ap owners_in (changes_at has (puts a) slots place x at read))
+
+    pub kept_leaving : (newest : List (Option ℕ)) (gone capacity : ℕ) → AreKept slots newest gone capacity → AreKept (set slots place (leave x)) newest (gone + 1) capacity
+    kept_leaving newest gone capacity kept =
+        kept_left slots newest gone capacity kept place (leave x) x (place_is has slots place at).1
+        (record { name = ap (λ (s : Slot). s.owner.name) read; older = ap (λ (s : Slot). s.older) read })
+        (sym (ap (λ (s : Slot). s.here) read) ∙ here_there) refl
+
+    pub kept_putting : (a : Owner) → a.name ≡ x.owner.name → (newest : List (Option ℕ)) (gone capacity : ℕ) → AreKept slots newest gone capacity → AreKept (set slots place (puts a x)) newest gone capacity
+    kept_putting a same newest gone capacity kept =
+        kept_changed slots newest gone capacity kept place (puts a x) x
+        (record { name = same ∙ ap (λ (s : Slot). s.owner.name) read; older = ap (λ (s : Slot). s.older) read })
+        (ap (λ (s : Slot). s.here) read)
+
+  pub dropped_there : (place : ℕ) → position has slots ≡ Some place → drop_first is (owners_in slots) ≡ owners_in (remove slots place)
+  dropped_there place at = owner_dropped is slots ∙ ap owners_in (drops_at has slots place at)
+
+  module _ (nowhere : position has slots ≡ None) where
+    pub none_there : find is (owners_in slots) ≡ None
+    none_there = owner_found is slots ∙ ap (option_map (λ (s : Slot). s.owner)) (absent has slots nowhere)
+
+    pub none_left : owners_in slots ≡ drop_first is (owners_in slots)
+    none_left = sym (owner_left is leave (λ s. refl) slots ∙ ap owners_in (unchanged has leave slots nowhere))
+
+    pub none_put : (a : Owner) → owners_in slots ≡ change_first is (λ _. a) (owners_in slots)
+    none_put a =
+        sym
+        (owner_changed is (λ _. a) (puts a) (λ s. refl) (λ s. refl) slots
+        ∙ ap owners_in (unchanged has (puts a) slots nowhere))

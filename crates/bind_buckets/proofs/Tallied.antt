@@ -1,0 +1,147 @@
+-- What tallies count as owners come, go and change.
+use Rattle.std.proofs.Common.{◌≡◌, ℕ, ◌+◌, ◌-◌, ◌^◌, ◌<◌, ◌≤◌, Bool, true, false, cond, eqb, ◌&&◌, List, [], ◌∷◌, ◌++◌, length, set, get_or, take, replicate, find, Some, ◌⊎◌, inl, inr, arith, refl, ap, sym, ◌∙◌}
+use Rattle.std.specs.Prelude.{count_by}
+use Rattle.std.proofs.lemmas.Bool.{cases_Bool, cases_eq, cases_lt, eqb-true, ne_eqb, eq-eqb, and_left}
+use Rattle.std.proofs.lemmas.List.{get_or-set_same, get_or-set_other, get_or-replicate, get_or_past, get_or_append_left, get_or-append_right, length-set, length-append, length-replicate, take_all}
+use Rattle.std.proofs.lemmas.List.Sums.{count_by-le-length}
+use Rattle.sock_card.specs.declared.owner.Owner.{Owner}
+use Rattle.bind_buckets.specs.declared.tally.Tally.{Tally}
+use Rattle.bind_buckets.specs.First.{change_first, drop_first}
+use Rattle.bind_buckets.specs.Tally.{Tallies, Counts, IsTallyOf, AreMade, tally_at, has_place, place_of, empty_tally, is_exclusive, is_held, is_grouped, is_unshared}
+use Rattle.bind_buckets.proofs.Counted.{one_if, count_come, count_go, count_anew, counted_less}
+
+pub counts_here : (x y z : Bool) → x ≡ true → z ≡ y → (x && y) ≡ z
+counts_here x y z e f = rw e (sym f)
+
+pub more_counts : (q : Owner → Bool) (owners : List Owner) (a : Owner) (n r : ℕ) (c : Bool) → q a ≡ c → length owners + 1 < 2 ^ 64 → (n + 1 < 2 ^ 64 → r ≡ n + cond c 1 0) → n ≡ count_by q owners → r ≡ count_by q (owners ++ a ∷ [])
+more_counts q owners a n r c e short step is =
+    let more = step (omega (arith, is, short, count_by-le-length q owners)) in
+    omega (arith, is, more, count_come q owners a, ap one_if e)
+
+pub less_counts : (q is : Owner → Bool) (owners : List Owner) (a : Owner) (n r : ℕ) (c : Bool) → q a ≡ c → find is owners ≡ Some a → r ≡ n - cond c 1 0 → n ≡ count_by q owners → r ≡ count_by q (drop_first is owners)
+less_counts q is owners a n r c e found less is_count =
+    omega (arith, is_count, less, count_go is q owners a found, ap one_if e)
+
+unshared_case : (at : Owner → Bool) (t : Tally) (owners : List Owner) (uid user : ℕ) (b : Bool) → eqb t.owners 0 ≡ b → user ≡ cond b uid t.uid → Counts at t owners → t.unshared ≡ count_by (λ a. at a && is_unshared user a) owners
+unshared_case at t owners uid user true none e k =
+    let nobody = sym k.owners ∙ eqb-true t.owners 0 none in
+    k.unshared
+    ∙ counted_less at (λ a. at a && is_unshared t.uid a) owners (λ a out. and_left (at a) (is_unshared t.uid a) out) nobody
+    ∙ sym (counted_less at (λ a. at a && is_unshared user a) owners (λ a out. and_left (at a) (is_unshared user a) out) nobody)
+unshared_case at t owners uid user false some e k = rw e k.unshared
+
+-- as many are unshared, whoever comes first to an empty place
+pub unshared_with : (at : Owner → Bool) (t : Tally) (owners : List Owner) (uid user : ℕ) → user ≡ cond (eqb t.owners 0) uid t.uid → Counts at t owners → t.unshared ≡ count_by (λ a. at a && is_unshared user a) owners
+unshared_with at t owners uid user e k = unshared_case at t owners uid user (eqb t.owners 0) refl e k
+
+-- counts follow where every test counts as many
+recount : (at : Owner → Bool) (t : Tally) (xs ys : List Owner) → ((q : Owner → Bool) → count_by q xs ≡ count_by q ys) → Counts at t xs → Counts at t ys
+recount at t xs ys same k =
+    record {
+      owners = k.owners ∙ same at;
+      exclusive = k.exclusive ∙ same (λ a. at a && is_exclusive a);
+      held = k.held ∙ same (λ a. at a && is_held a);
+      grouped = k.grouped ∙ same (λ a. at a && is_grouped a);
+      unshared = k.unshared ∙ same (λ a. at a && is_unshared t.uid a);
+    }
+
+-- counts of others stay, where one comes or goes that they don't count
+elsewhere : (at : Owner → Bool) (t : Tally) (a : Owner) (xs ys : List Owner) → at a ≡ false → ((q : Owner → Bool) → q a ≡ false → count_by q xs ≡ count_by q ys) → Counts at t xs → Counts at t ys
+elsewhere at t a xs ys out same k =
+    record {
+      owners = k.owners ∙ same at out;
+      exclusive = k.exclusive ∙ same (λ b. at b && is_exclusive b) (and_left (at a) (is_exclusive a) out);
+      held = k.held ∙ same (λ b. at b && is_held b) (and_left (at a) (is_held a) out);
+      grouped = k.grouped ∙ same (λ b. at b && is_grouped b) (and_left (at a) (is_grouped a) out);
+      unshared = k.unshared ∙ same (λ b. at b && is_unshared t.uid b) (and_left (at a) (is_unshared t.uid a) out);
+    }
+
+-- the tallies, with that one at the place of a port
+abbrev pub put : Tallies → ℕ → Tally → Tallies
+put t port r = record t { tallies = set t.tallies (place_of t.stride port) r }
+
+pub own_place : (t : Tallies) (a : Owner) → has_place t.stride (place_of t.stride a.port) a ≡ true
+own_place t a = eq-eqb _ _ refl
+
+counts_at : (t : Tallies) (a : Owner) (r : Tally) (xs ys : List Owner) (k : ℕ) → place_of t.stride a.port < length t.tallies → Counts (has_place t.stride (place_of t.stride a.port)) r ys → ((q : Owner → Bool) → q a ≡ false → count_by q xs ≡ count_by q ys) → IsTallyOf t xs
+    → (k ≡ place_of t.stride a.port) ⊎ (k ≡ place_of t.stride a.port → ⊥) → Counts (has_place t.stride k) (tally_at (put t a.port r) k) ys
+counts_at t a r xs ys k within here same tallied (inl e) =
+    rw (e, get_or-set_same t.tallies (place_of t.stride a.port) r empty_tally within) here
+counts_at t a r xs ys k within here same tallied (inr other) =
+    rw (get_or-set_other t.tallies (place_of t.stride a.port) k r empty_tally other)
+    (elsewhere (has_place t.stride k) (tally_at t k) a xs ys (ne_eqb _ _ (λ e. other (sym e))) same (tallied.counts k))
+
+put_tallied : (t : Tallies) (a : Owner) (r : Tally) (xs ys : List Owner) → AreMade t → Counts (has_place t.stride (place_of t.stride a.port)) r ys → ((q : Owner → Bool) → q a ≡ false → count_by q xs ≡ count_by q ys) → IsTallyOf t xs → IsTallyOf (put t a.port r) ys
+put_tallied t a r xs ys made here same tallied =
+    record {
+      made = λ _. rw length-set made;
+      counts = λ k. counts_at t a r xs ys k (omega (arith, made)) here same tallied (cases_eq k (place_of t.stride a.port));
+    }
+
+-- a tally that counts one owner more, or less
+abbrev pub CountsMore : Owner → Tally → Tally → Type 0
+CountsMore a t r = (at : Owner → Bool) (owners : List Owner) → at a ≡ true → length owners + 1 < 2 ^ 64 → Counts at t owners → Counts at r (owners ++ a ∷ [])
+
+abbrev pub CountsLess : Owner → Tally → Tally → Type 0
+CountsLess a t r = (at : Owner → Bool) (is : Owner → Bool) (owners : List Owner) → at a ≡ true → find is owners ≡ Some a → Counts at t owners → Counts at r (drop_first is owners)
+
+uncounted_more : (q : Owner → Bool) (owners : List Owner) (a : Owner) → q a ≡ false → count_by q owners ≡ count_by q (owners ++ a ∷ [])
+uncounted_more q owners a out = omega (arith, count_come q owners a, ap one_if out)
+
+uncounted_less : (q is : Owner → Bool) (owners : List Owner) (a : Owner) → find is owners ≡ Some a → q a ≡ false → count_by q owners ≡ count_by q (drop_first is owners)
+uncounted_less q is owners a found out = omega (arith, count_go is q owners a found, ap one_if out)
+
+pub come_tallied : (t : Tallies) (a : Owner) (r : Tally) (owners : List Owner) → AreMade t → CountsMore a (tally_at t (place_of t.stride a.port)) r → length owners + 1 < 2 ^ 64 → IsTallyOf t owners → IsTallyOf (put t a.port r) (owners ++ a ∷ [])
+come_tallied t a r owners made more short tallied =
+    put_tallied t a r owners (owners ++ a ∷ []) made
+    (more _ owners (own_place t a) short (tallied.counts (place_of t.stride a.port)))
+    (λ q out. uncounted_more q owners a out) tallied
+
+some_there : (is : Owner → Bool) (owners : List Owner) (a : Owner) → find is owners ≡ Some a → 0 < length owners
+some_there is [] a h = absurd (cc)
+some_there is (b ∷ owners) a h = omega arith
+
+pub go_tallied : (t : Tallies) (a : Owner) (r : Tally) (is : Owner → Bool) (owners : List Owner) → CountsLess a (tally_at t (place_of t.stride a.port)) r → find is owners ≡ Some a → IsTallyOf t owners → IsTallyOf (put t a.port r) (drop_first is owners)
+go_tallied t a r is owners less found tallied =
+    put_tallied t a r owners (drop_first is owners) (tallied.made (some_there is owners a found))
+    (less _ is owners (own_place t a) found (tallied.counts (place_of t.stride a.port)))
+    (λ q out. uncounted_less q is owners a found out) tallied
+
+shorter_case : (is : Owner → Bool) (b : Owner) (owners : List Owner) (a : Owner) → (is b ≡ true) ⊎ (is b ≡ false) → (find is owners ≡ Some a → length (drop_first is owners) + 1 ≡ length owners) → find is (b ∷ owners) ≡ Some a → length (drop_first is (b ∷ owners)) + 1 ≡ length (b ∷ owners)
+shorter_case is b owners a (inl e) next h = rw e (omega arith)
+shorter_case is b owners a (inr e) next h = let rest = next (rw e at h) in rw e (omega (arith, rest))
+
+shorter : (is : Owner → Bool) (owners : List Owner) (a : Owner) → find is owners ≡ Some a → length (drop_first is owners) + 1 ≡ length owners
+shorter is [] a h = absurd (cc)
+shorter is (b ∷ owners) a h = shorter_case is b owners a (cases_Bool (is b)) (shorter is owners a) h
+
+pub change_tallied : (t : Tallies) (was a : Owner) (r s : Tally) (is : Owner → Bool) (become : Owner → Owner) (owners : List Owner) → CountsLess was (tally_at t (place_of t.stride was.port)) r → CountsMore a (tally_at (put t was.port r) (place_of t.stride a.port)) s
+    → length owners < 2 ^ 64 → find is owners ≡ Some was → become was ≡ a → IsTallyOf t owners → IsTallyOf (put (put t was.port r) a.port s) (change_first is become owners)
+change_tallied t was a r s is become owners less more short found e tallied =
+    let made : AreMade (put t was.port r) = rw length-set (tallied.made (some_there is owners was found)) in
+    let rest = go_tallied t was r is owners less found tallied in
+    let back = come_tallied (put t was.port r) a s (drop_first is owners) made more (omega (arith, short, shorter is owners was found)) rest in
+    record {
+      made = λ _. rw length-set made;
+      counts = λ k. recount (has_place t.stride k) (tally_at (put (put t was.port r) a.port s) k) (drop_first is owners ++ a ∷ []) (change_first is become owners) (λ q. count_anew is q become owners was a found e) (back.counts k);
+    }
+
+past_end : (n k : ℕ) → (k < n) ⊎ (n ≤ k) → get_or (replicate n empty_tally) k empty_tally ≡ empty_tally
+past_end n k (inl h) = get_or-replicate n k empty_tally empty_tally h
+past_end n k (inr h) = get_or_past (replicate n empty_tally) k empty_tally (rw length-replicate h)
+
+same_tally : (xs : List Tally) (n k : ℕ) → (k < length xs) ⊎ (length xs ≤ k) → get_or (xs ++ replicate n empty_tally) k empty_tally ≡ get_or xs k empty_tally
+same_tally xs n k (inl h) = get_or_append_left xs (replicate n empty_tally) empty_tally k h
+same_tally xs n k (inr h) =
+    get_or-append_right xs (replicate n empty_tally) (length xs) k empty_tally refl h
+    ∙ past_end n (k - length xs) (cases_lt (k - length xs) n) ∙ sym (get_or_past xs k empty_tally h)
+
+-- the tallies that come with the memory are empty
+pub reserve_tallied : (t : Tallies) (us : List Tally) (n : ℕ) (owners : List Owner) → n ≡ length t.tallies → n < 256 → us ≡ take 256 t.tallies ++ replicate (256 - n) empty_tally → IsTallyOf t owners → IsTallyOf (record t { tallies = us }) owners
+reserve_tallied t us n owners len less items tallied =
+    let all = take_all 256 t.tallies (omega (arith, len, less)) in
+    let longer : us ≡ t.tallies ++ replicate (256 - n) empty_tally = rw all at items in
+    record {
+      made = λ _. rw (longer, length-append, length-replicate) (omega (arith, len, less));
+      counts = λ k. rw (longer, same_tally t.tallies (256 - n) k (cases_lt k (length t.tallies))) (tallied.counts k);
+    }

@@ -1,0 +1,71 @@
+-- Counts of a bucket's owners, by which most conflicts are ruled out without a scan: fastreuse and fastreuseport of struct
+-- inet_bind_bucket, sk_reuseport_match of net/ipv4/inet_connection_sock.c. That they always hold is our own rule.
+use Rattle.std.specs.Prelude.{◌≡◌, ℕ, ◌/◌, ◌%◌, ◌<◌, ◌≤◌, Bool, ◌==◌, ◌&&◌, ◌||◌, not, List, [], length, count_by}
+use Rattle.std.specs.List.{slice_index_or}
+use Rattle.sock_card.specs.declared.owner.Owner.{Owner}
+use Rattle.sock_card.specs.Conflict.{is_listening}
+use Rattle.bind_buckets.specs.declared.tally.Tally.{Tally}
+
+-- a tally for each place; of ports, so many in a row have one place
+pub record Tallies : Type 0 where
+  pub tallies : List Tally
+  pub stride : ℕ
+
+abbrev pub no_tallies : ℕ → Tallies
+no_tallies stride = record { tallies = []; stride = stride }
+
+abbrev pub place_of : ℕ → ℕ → ℕ
+place_of stride port = port / stride % 256
+
+-- the owner's port has that place
+abbrev pub has_place : ℕ → ℕ → Owner → Bool
+has_place stride place a = place_of stride a.port == place
+
+-- it keeps its port from others with reuseaddr, too
+abbrev pub is_exclusive : Owner → Bool
+is_exclusive a = not a.reuseaddr || is_listening a.state
+
+-- `connect` didn't choose its port
+abbrev pub is_held : Owner → Bool
+is_held a = not a.by_connect
+
+-- it may have mates in a group
+abbrev pub is_grouped : Owner → Bool
+is_grouped a = is_listening a.state && a.reuseport
+
+-- it doesn't share its port by reuseport with that user
+abbrev pub is_unshared : ℕ → Owner → Bool
+is_unshared uid a = not (a.reuseport && (a.uid == uid))
+
+abbrev pub empty_tally : Tally
+empty_tally = record { owners = 0; exclusive = 0; held = 0; grouped = 0; unshared = 0; uid = 0 }
+
+-- of the owners that pass the test, the tally counts what it says
+pub record Counts (at : Owner → Bool) (t : Tally) (all : List Owner) : Type 0 where
+  pub owners : t.owners ≡ count_by at all
+  pub exclusive : t.exclusive ≡ count_by (λ a. at a && is_exclusive a) all
+  pub held : t.held ≡ count_by (λ a. at a && is_held a) all
+  pub grouped : t.grouped ≡ count_by (λ a. at a && is_grouped a) all
+  pub unshared : t.unshared ≡ count_by (λ a. at a && is_unshared t.uid a) all
+
+-- the counts tell that none of the owners refuses this one: there is none, or all share the port with it
+abbrev pub rules_out : Tally → Owner → Bool
+rules_out t a =
+    (t.owners == 0)
+    || a.reuseaddr && (t.exclusive == 0)
+    || a.reuseport && (a.uid == t.uid) && (t.unshared == 0)
+
+abbrev pub tally_at : Tallies → ℕ → Tally
+tally_at t place = slice_index_or t.tallies place empty_tally
+
+abbrev pub tally_of : Tallies → ℕ → Tally
+tally_of t port = tally_at t (place_of t.stride port)
+
+-- the memory for all tallies is there
+abbrev pub AreMade : Tallies → Type 0
+AreMade t = 256 ≤ length t.tallies
+
+-- the tallies are of these owners
+pub record IsTallyOf (t : Tallies) (owners : List Owner) : Type 0 where
+  pub made : 0 < length owners → AreMade t
+  pub counts : (place : ℕ) → Counts (has_place t.stride place) (tally_at t place) owners

@@ -1,0 +1,176 @@
+//! The owners of a bucket's ports, with what spares a look at each.
+
+ghost use Rattle.std.specs.Prelude.{◌≡◌, ◌+◌, ◌≤◌, ◌<◌, ◌^◌, [], ◌∷◌, ◌++◌, Some, length, find, OnOk};
+ghost use Rattle.std.specs.Option.{option_copied};
+ghost use Rattle.sock_card.specs.Conflict as conflict_spec;
+ghost use Rattle.bind_buckets.specs.OwnerStep as spec;
+ghost use Rattle.bind_buckets.specs.First.{change_first, drop_first};
+
+use crate::owner_list::OwnerList;
+use crate::tally::Tallies;
+use sock_card::Owner;
+use std::alloc::{AllocError, Global};
+use std::marker::Model;
+
+/// The owners of a bucket's ports, oldest first, and counts of them.
+///
+/// An owner is found by its name without a scan, and the counts answer most questions about a port.
+/// Where they don't, each owner is looked at.
+#[derive(Drop)]
+pub struct Owners {
+    list: OwnerList,
+    tallies: Tallies,
+}
+
+impl Model for Owners {
+    ghost use Rattle.bind_buckets.specs.Owners.{Listed, AreCounted};
+
+    ghost Value = { Listed };
+
+    ghost view = { λ o. o.list };
+
+    ghost invariant = { λ o. AreCounted o.list o.tallies };
+}
+
+impl Owners {
+    /// No owners, without room. Ports that far apart are counted apart. It takes no memory.
+    pub fn new(alloc: Global, stride: u32) -> Self
+        requires { 1 ≤ stride }
+        ensures { result ≡ record { owners = []; room = 0 } }
+    {
+        Owners {
+            list: OwnerList::new(alloc),
+            tallies: Tallies::new(alloc, stride),
+        }
+    }
+
+    /// Makes room for so many more. An `Err`, for want of memory, leaves the owners as they are.
+    pub fn reserve(&mut self, more: usize) -> Result<(), AllocError>
+        ensures owners { self.new.owners ≡ self.old.owners }
+        ensures room { OnOk result (more ≤ self.new.room) }
+        ensures kept { self.old.room ≤ self.new.room }
+    {
+        self.tallies.reserve()?;
+        self.list.reserve(more)
+    }
+
+    pub fn len(&self) -> usize
+        ensures len { result ≡ length self.now.owners }
+        ensures bound { result < 2 ^ 63 }
+    {
+        self.list.len()
+    }
+
+    /// The first owner of that name.
+    pub fn named(&self, name: u32) -> Option<&Owner>
+        ensures { option_copied result ≡ find (spec.has_name name) self.now.owners }
+    {
+        self.list.named(name)
+    }
+
+    /// Takes in an owner, as the last.
+    pub fn push(&mut self, owner: Owner)
+        requires { 1 ≤ self.old.room }
+        ensures owners { self.new.owners ≡ self.old.owners ++ owner ∷ [] }
+        ensures room { self.new.room + 1 ≡ self.old.room }
+    {
+        // It tells that the counts can't wrap.
+        let _few = self.list.len();
+        self.tallies.come(&owner);
+        self.list.push(owner);
+    }
+
+    /// Puts an owner in the place of the first of its name.
+    pub fn replace(&mut self, owner: Owner)
+        ensures owners { self.new.owners
+            ≡ change_first (spec.has_name owner.name) (λ _. owner) self.old.owners }
+        ensures room { self.new.room ≡ self.old.room }
+    {
+        let _few = self.list.len();
+        if let Some(was) = self.list.named(owner.name).copied() {
+            self.tallies.change(&was, &owner);
+            self.list.replace(owner);
+        }
+    }
+
+    /// Takes out the first owner of that name.
+    pub fn remove(&mut self, name: u32) -> Option<Owner>
+        ensures gone { result ≡ find (spec.has_name name) self.old.owners }
+        ensures owners { self.new.owners ≡ drop_first (spec.has_name name) self.old.owners }
+        ensures room { self.old.room ≤ self.new.room }
+    {
+        let gone = self.list.named(name).copied()?;
+        self.list.remove(name);
+        self.tallies.go(&gone);
+        Some(gone)
+    }
+
+    /// Takes out the first owner of that name that is in TIME_WAIT.
+    pub fn remove_waiting(&mut self, name: u32) -> Option<Owner>
+        ensures gone { result ≡ find (spec.waits_as name) self.old.owners }
+        ensures owners { self.new.owners ≡ drop_first (spec.waits_as name) self.old.owners }
+        ensures room { self.old.room ≤ self.new.room }
+    {
+        let gone = self.list.waiting(name).copied()?;
+        self.list.remove_waiting(name);
+        self.tallies.go(&gone);
+        Some(gone)
+    }
+
+    /// The first owner that keeps this one from its port.
+    pub fn refusing(&self, owner: &Owner) -> Option<Owner>
+        ensures { result ≡ find (conflict_spec.refuses owner.now) self.now.owners }
+    {
+        if self.tallies.none_refuses(owner) {
+            None
+        } else {
+            self.list.refusing(owner)
+        }
+    }
+
+    /// The first that keeps the first owner of that name from its port, but for itself.
+    pub fn refusing_other(&self, owner: &Owner, name: u32) -> Option<Owner>
+        requires { find (spec.has_name name) self.now.owners ≡ Some owner.now }
+        ensures { result
+            ≡ find (conflict_spec.refuses owner.now) (drop_first (spec.has_name name) self.now.owners) }
+    {
+        if self.tallies.no_other_refuses(owner) {
+            None
+        } else {
+            self.list.refusing_other(owner, name)
+        }
+    }
+
+    /// The first owner that wants what this one wants, options or not.
+    pub fn overlapping(&self, owner: &Owner) -> Option<Owner>
+        ensures { result ≡ find (conflict_spec.overlap owner.now) self.now.owners }
+    {
+        if self.tallies.none_overlaps(owner) {
+            None
+        } else {
+            self.list.overlapping(owner)
+        }
+    }
+
+    /// The first owner of that port that `connect` didn't choose.
+    pub fn holder(&self, port: u16) -> Option<Owner>
+        ensures { result ≡ find (spec.holds port) self.now.owners }
+    {
+        if self.tallies.none_holds(port) {
+            None
+        } else {
+            self.list.holder(port)
+        }
+    }
+
+    /// The first listener whose group this owner would join.
+    pub fn mate(&self, owner: &Owner) -> Option<Owner>
+        ensures { result ≡ find (spec.is_mate owner.now) self.now.owners }
+    {
+        if self.tallies.no_mate(owner) {
+            None
+        } else {
+            self.list.mate(owner)
+        }
+    }
+}
