@@ -38,7 +38,7 @@ fn members_in(buckets: &[Bucket], group: u32) -> &[u64]
     match buckets.get((group / 8) as usize) {
         Some(bucket) => {
             // It tells that a group has sixteen members at most.
-            let _ = bucket.journal();
+            bucket.recall();
             bucket.members(group)
         }
         None => &[],

@@ -8,7 +8,8 @@ use Rattle.bind_buckets.specs.OwnerStep.{owner_step}
 use Rattle.bind_buckets.specs.Journal.{Standing, asked}
 use Rattle.bind_buckets.specs.Bucket.{Bucket, is_port_of, called, answer_to, standing_of}
 use Rattle.bind_buckets.proofs.Called.{called_stands}
-use Rattle.port_search.specs.Search.{IsBindHash, standings, standing_at, asked_at, answer_at, untouched}
+use Rattle.port_search.specs.Search.{IsBindHash, standings}
+use Rattle.bind_buckets.specs.BindHash.{standing_at, asked_at, answer_at, untouched}
 
 -- the bucket stands at that place
 pub record StandsIn (hash : List Bucket) (place : ℕ) (b : Bucket) : Type 0 where

@@ -5,7 +5,8 @@ use Rattle.bind_buckets.specs.declared.request.Request.TheVariants as requests
 use Rattle.bind_buckets.specs.OwnerStep.{Held}
 use Rattle.bind_buckets.specs.Journal.{Standing}
 use Rattle.bind_buckets.specs.Bucket.{Bucket}
-use Rattle.port_search.specs.Search.{IsBindHash, Found, FindsNone, FindsNoneYet, standings, asked_at, answer_at, is_done, helds, at_port, suits_bind, with_owner_at, searched}
+use Rattle.port_search.specs.Search.{IsBindHash, Found, FindsNone, FindsNoneYet, standings, is_done, helds, at_port, suits_bind, with_owner_at, searched}
+use Rattle.bind_buckets.specs.BindHash.{asked_at, answer_at}
 use Rattle.port_search.proofs.Standings.{bind_said, bind_came, bind_kept}
 
 abbrev finds : List Standing → ℕ → Found

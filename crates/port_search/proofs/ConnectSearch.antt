@@ -9,7 +9,8 @@ use Rattle.bind_buckets.specs.Journal.{Standing}
 use Rattle.bind_buckets.specs.Bucket.{Bucket}
 use Rattle.port_search.specs.declared.search.Attempt.{Attempt}
 use Rattle.port_search.specs.declared.search.Attempt.TheVariants as attempts
-use Rattle.port_search.specs.Search.{IsBindHash, standings, asked_at, answer_at, is_done, helds, is_free, SaysTaken, AllRefused, EndsAt, freed, FreedInPart, connected_at, ConnectsAt, ConnectsNowhere, FullAt}
+use Rattle.port_search.specs.Search.{IsBindHash, standings, is_done, helds, is_free, SaysTaken, AllRefused, EndsAt, freed, FreedInPart, connected_at, ConnectsAt, ConnectsNowhere, FullAt}
+use Rattle.bind_buckets.specs.BindHash.{asked_at, answer_at}
 use Rattle.port_search.proofs.Standings.{free_said, freed_kept, freed_append}
 
 -- all ports before those that are left were refused

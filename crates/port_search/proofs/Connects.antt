@@ -9,7 +9,8 @@ use Rattle.port_search.specs.declared.search.Attempt.{Attempt}
 use Rattle.port_search.specs.declared.search.Attempt.TheVariants as attempts
 use Rattle.port_search.specs.declared.search.SearchEnd.{SearchEnd}
 use Rattle.port_search.specs.declared.search.SearchEnd.TheVariants as ends
-use Rattle.port_search.specs.Search.{asked_at, answer_at, is_done, helds, is_free, SaysTaken, AllRefused, EndsAt, freed, ConnectsAt, ConnectsNowhere, FullAt, SaidFull, Ended, ended_by, connects}
+use Rattle.port_search.specs.Search.{is_done, helds, is_free, SaysTaken, AllRefused, EndsAt, freed, ConnectsAt, ConnectsNowhere, FullAt, SaidFull, Ended, ended_by, connects}
+use Rattle.bind_buckets.specs.BindHash.{asked_at, answer_at}
 use Rattle.port_search.proofs.Standings.{free_said, free_kept, freed_kept, freed_append}
 
 chosen : {X : Type 0} (b : Bool) (x y z : X) → b ≡ true → x ≡ z → cond b x y ≡ z

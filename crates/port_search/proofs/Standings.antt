@@ -10,7 +10,8 @@ use Rattle.bind_buckets.specs.declared.request.Request.{Request}
 use Rattle.bind_buckets.specs.declared.request.Request.TheVariants as requests
 use Rattle.bind_buckets.specs.OwnerStep.{Held, owner_step, empty, admitted, with_last, free_answer, holds}
 use Rattle.bind_buckets.specs.Journal.{Standing}
-use Rattle.port_search.specs.Search.{standing_at, asked_at, answer_at, untouched, is_done, helds, held_at, at_port, suits_bind, with_owner_at, is_free, freed}
+use Rattle.port_search.specs.Search.{is_done, helds, held_at, at_port, suits_bind, with_owner_at, is_free, freed}
+use Rattle.bind_buckets.specs.BindHash.{standing_at, asked_at, answer_at, untouched}
 use Rattle.port_search.proofs.Told.{is_found}
 
 pub held_is : (hash : List Standing) (port : ℕ) → held_at (helds hash) port ≡ (standing_at hash port).held

@@ -9,7 +9,8 @@ use Rattle.bind_buckets.specs.Journal.{Standing}
 use Rattle.port_search.specs.declared.search.Attempt.{Attempt}
 use Rattle.port_search.specs.declared.search.Attempt.TheVariants as attempts
 use Rattle.port_search.specs.declared.search.SearchEnd.TheVariants as ends
-use Rattle.port_search.specs.Search.{Found, Ended, untouched, searched, connects}
+use Rattle.port_search.specs.Search.{Found, Ended, searched, connects}
+use Rattle.bind_buckets.specs.BindHash.{untouched}
 
 -- a socket that is to have any address
 abbrev pub owner : ℕ → Owner

@@ -5,12 +5,12 @@ use Rattle.std.specs.Prelude.{◌≡◌, ℕ, ◌≤◌, ◌%◌, Bool, true, fa
 use Rattle.std.specs.List.{FoldsTo, list_any, range_with_len, slice_index_or}
 use Rattle.sock_card.specs.declared.owner.Owner.{Owner}
 use Rattle.sock_card.specs.Conflict.{overlap}
-use Rattle.bind_buckets.specs.declared.request.Request.{Request}
 use Rattle.bind_buckets.specs.declared.request.Request.TheVariants as requests
 use Rattle.bind_buckets.specs.declared.request.Answer.{Answer}
 use Rattle.bind_buckets.specs.declared.request.Answer.TheVariants as answers
-use Rattle.bind_buckets.specs.OwnerStep.{Held, owner_step, empty, with_last, holds}
-use Rattle.bind_buckets.specs.Journal.{Standing, asked}
+use Rattle.bind_buckets.specs.OwnerStep.{Held, empty, with_last, holds}
+use Rattle.bind_buckets.specs.Journal.{Standing}
+use Rattle.bind_buckets.specs.BindHash.{asked_at, answer_at}
 use Rattle.bind_buckets.specs.Bucket.{Bucket, CanConnect, standing_of}
 use Rattle.port_search.specs.declared.search.Attempt.{Attempt}
 use Rattle.port_search.specs.declared.search.Attempt.TheVariants as attempts
@@ -26,22 +26,6 @@ pub record IsBindHash (buckets : List Bucket) : Type 0 where
 -- what each bucket holds, and what it was asked
 abbrev pub standings : List Bucket → List Standing
 standings buckets = map standing_of buckets
-
-abbrev pub untouched : Standing
-untouched = record { held = empty; entries = [] }
-
--- how the bucket of a port stands
-abbrev pub standing_at : List Standing → ℕ → Standing
-standing_at hash port = slice_index_or hash (port % length hash) untouched
-
--- all buckets, once that of a port was asked
-abbrev pub asked_at : List Standing → ℕ → Request → List Standing
-asked_at hash port request =
-    let place = port % length hash in slice_set hash place (asked place (standing_at hash port) request)
-
--- what it answers
-abbrev pub answer_at : List Standing → ℕ → Request → Answer
-answer_at hash port request = (owner_step (port % length hash) (standing_at hash port).held request).answer
 
 abbrev pub is_done : Answer → Bool
 is_done answers.Done = true

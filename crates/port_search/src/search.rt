@@ -2,7 +2,8 @@
 
 ghost use Rattle.std.specs.Prelude.{◌≡◌, OnOk, OnErr, IfOk, IfErr, find, Some, None, true, Err};
 ghost use Rattle.port_search.specs.Search as spec;
-ghost use Rattle.port_search.specs.Search.{IsBindHash, IsNotFull, MayChoose, HasEntryAt, FindsNone, FindsNoneYet, FreedInPart, ConnectsAt, ConnectsNowhere, SaidFull, standings, asked_at, answer_at, is_done, searched, held_in, suits_bind, with_owner_at};
+ghost use Rattle.port_search.specs.Search.{IsBindHash, IsNotFull, MayChoose, HasEntryAt, FindsNone, FindsNoneYet, FreedInPart, ConnectsAt, ConnectsNowhere, SaidFull, standings, is_done, searched, held_in, suits_bind, with_owner_at};
+ghost use Rattle.bind_buckets.specs.BindHash.{asked_at, answer_at};
 
 use crate::ports::Ports;
 use bind_buckets::{Bucket, Request};

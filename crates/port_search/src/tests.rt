@@ -133,7 +133,7 @@ fn a_replaced_socket_leaves_its_port(rt: HostRuntime) -> Result<(), Fail> {
     assert_eq!(rt; found, Ok((40002, 40002)));
     assert_eq!(rt; buckets[0].owner(1).map(|o| o.port), None);
     assert_eq!(rt; buckets[0].owner(2).map(|o| o.port), Some(40002));
-    assert_eq!(rt; buckets[0].journal().len(), 5);
+    assert_eq!(rt; buckets[0].journal(rt.alloc())?.len(), 5);
     Ok(())
 }
 
@@ -153,10 +153,10 @@ fn each_port_is_asked_once(rt: HostRuntime) -> Result<(), Fail> {
     let mut buckets = [Bucket::new(rt.alloc(), 0, 1)];
     assert_eq!(rt; bind(&mut buckets, 0), Ok(40001));
     assert_eq!(rt; bind(&mut buckets, 0), Ok(40003));
-    assert_eq!(rt; buckets[0].journal().len(), 3);
+    assert_eq!(rt; buckets[0].journal(rt.alloc())?.len(), 3);
     let all = [40000, 40001, 40002, 40003];
     assert_eq!(rt; connect(&mut buckets, &all), Err(SearchEnd::NoPort));
-    assert_eq!(rt; buckets[0].journal().len(), 7);
+    assert_eq!(rt; buckets[0].journal(rt.alloc())?.len(), 7);
     Ok(())
 }
 

@@ -31,7 +31,8 @@ use Rattle.flat_list.specs.Look.{chosen, member_of, group_of}
 use Rattle.flat_list.specs.Sockets.{kind_of, is_mate}
 use Rattle.flat_list.specs.Sound.{IsSound, IsGroupOf, GroupsAreOfMates, are_together}
 use Rattle.demux.specs.Found.{by_group, by_choice, member_or_best, stands_as, members_in}
-use Rattle.table_model.specs.Tables.{Tables, untouched}
+use Rattle.table_model.specs.Tables.{Tables}
+use Rattle.bind_buckets.specs.BindHash.{untouched}
 use Rattle.table_model.specs.Means.{TablesMean, IsShape, names_in, members_of, stands_in_some}
 use Rattle.table_model.specs.Means as means
 use Rattle.table_model.proofs.GroupsPlaces.{found_number}

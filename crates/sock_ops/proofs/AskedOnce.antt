@@ -6,7 +6,8 @@ use Rattle.sock_card.specs.declared.owner.State.{State}
 use Rattle.bind_buckets.specs.declared.request.Request.{Request}
 use Rattle.bind_buckets.specs.OwnerStep.{has_name}
 use Rattle.bind_buckets.specs.Bucket.{Bucket, called, answer_to, is_port_of, standing_of, NamesOne, StandsAt}
-use Rattle.port_search.specs.Search.{IsBindHash, standings, asked_at, answer_at, standing_at}
+use Rattle.port_search.specs.Search.{IsBindHash, standings}
+use Rattle.bind_buckets.specs.BindHash.{asked_at, answer_at, standing_at}
 use Rattle.port_search.proofs.BindHash.{StandsIn, stands, has_port, standing_is, answered_there, asked_there, hash_there}
 use Rattle.sock_ops.specs.Room.{HasRoom, HasRoomAt}
 use Rattle.sock_ops.specs.Stands.{IsOwner, owners_at}

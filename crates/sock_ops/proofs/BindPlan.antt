@@ -14,7 +14,8 @@ use Rattle.flat_list.specs.declared.command.End.{End}
 use Rattle.flat_list.specs.Owned.{bound_at}
 use Rattle.port_search.specs.declared.search.SearchEnd.{SearchEnd}
 use Rattle.port_search.specs.declared.search.SearchEnd.TheVariants as searches
-use Rattle.port_search.specs.Search.{Found, searched, FindsNone, IsNotFull, helds, with_owner_at, asked_at, answer_at, standing_at, is_done}
+use Rattle.port_search.specs.Search.{Found, searched, FindsNone, IsNotFull, helds, with_owner_at, is_done}
+use Rattle.bind_buckets.specs.BindHash.{asked_at, answer_at, standing_at}
 use Rattle.table_model.specs.declared.operation.OpEnd.{OpEnd}
 use Rattle.table_model.specs.declared.operation.OpEnd.TheVariants as errors
 use Rattle.table_model.specs.Asking.{Asking, ends, asks}

@@ -13,7 +13,7 @@ use Rattle.chain_book.specs.Slots.{free_slot}
 use Rattle.chain_book.specs.Chains.{Chains, Outcome, put, full, slot_outcome, add_outcome, home_in, hashed, placed, unhashed}
 use Rattle.chain_rows.specs.Ends.{IsFull}
 use Rattle.flat_list.specs.Owned.{card_as}
-use Rattle.port_search.specs.Search.{asked_at, answer_at}
+use Rattle.bind_buckets.specs.BindHash.{asked_at, answer_at}
 use Rattle.table_model.specs.declared.operation.OpEnd.{OpEnd}
 use Rattle.table_model.specs.declared.operation.OpEnd.TheVariants as errors
 use Rattle.table_model.specs.Asking.{Asking, ends}

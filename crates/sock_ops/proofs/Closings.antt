@@ -13,7 +13,8 @@ use Rattle.flat_list.specs.declared.command.Reply.TheVariants as replies
 use Rattle.flat_list.specs.declared.header.Header.{Header}
 use Rattle.flat_list.specs.Sections.{name_at}
 use Rattle.table_model.specs.Asking.{Asking, ends}
-use Rattle.table_model.specs.Tables.{Tables, Ended, run, answer_at, asked_at, with_buckets, with_chains}
+use Rattle.table_model.specs.Tables.{Tables, Ended, run, with_buckets, with_chains}
+use Rattle.bind_buckets.specs.BindHash.{answer_at, asked_at}
 use Rattle.table_model.specs.Own.{Own, Mine, Offsets, open_socket, without, card_of}
 use Rattle.table_model.specs.Operations as plans
 use Rattle.table_model.specs.Operations.{when_done, leave, drop_as, drop, close}

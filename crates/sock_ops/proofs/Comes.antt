@@ -14,7 +14,8 @@ use Rattle.bind_buckets.specs.Answers.{answer_of_bind}
 use Rattle.bind_buckets.specs.OwnerStep.{Held, owner_step, has_name, admitted, with_last, empty}
 use Rattle.bind_buckets.specs.Bucket.{Bucket}
 use Rattle.bind_buckets.specs.Journal.{Standing}
-use Rattle.port_search.specs.Search.{IsBindHash, standings, helds, held_at, at_port, with_owner_at, asked_at, answer_at, standing_at}
+use Rattle.port_search.specs.Search.{IsBindHash, standings, helds, held_at, at_port, with_owner_at}
+use Rattle.bind_buckets.specs.BindHash.{asked_at, answer_at, standing_at}
 use Rattle.port_search.proofs.Standings.{held_is, helds_asked, helds_kept}
 use Rattle.sock_ops.specs.Stands.{owners_at, IsOwner, IsFresh}
 use Rattle.sock_ops.specs.Ends.{end_of_bind}

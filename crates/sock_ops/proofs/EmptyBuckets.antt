@@ -4,7 +4,7 @@ use Rattle.std.proofs.lemmas.List.{map-append, replicate_more}
 use Rattle.std.specs.List.{range_with_len}
 use Rattle.bind_buckets.specs.Bucket.{Bucket, new_bucket}
 use Rattle.port_search.specs.Search.{standings}
-use Rattle.table_model.specs.Tables.{untouched}
+use Rattle.bind_buckets.specs.BindHash.{untouched}
 
 -- one number more
 range_more : (n a : ℕ) → range_with_len a (n + 1) ≡ range_with_len a n ++ (a + n) ∷ []

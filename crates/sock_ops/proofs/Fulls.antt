@@ -13,7 +13,7 @@ use Rattle.chain_book.specs.declared.outcome.Hashed.{Hashed}
 use Rattle.chain_book.specs.declared.outcome.Replace.{Replace}
 use Rattle.chain_book.specs.Chains.{Chains, Outcome, put, taken, full, insert_outcome, hashed, card_in, home_in}
 use Rattle.established.specs.declared.change.Inserted.{Inserted}
-use Rattle.port_search.specs.Search.{asked_at, answer_at}
+use Rattle.bind_buckets.specs.BindHash.{asked_at, answer_at}
 use Rattle.table_model.specs.declared.operation.OpEnd.{OpEnd}
 use Rattle.table_model.specs.declared.operation.OpEnd.TheVariants as errors
 use Rattle.table_model.specs.Asking.{Asking, ends, asks, inserts}

@@ -15,7 +15,8 @@ use Rattle.bind_buckets.specs.OwnerStep.{Held, owner_step, has_name, spoken, rem
 use Rattle.bind_buckets.specs.Journal.{Standing}
 use Rattle.chain_book.specs.Chains.{Chains}
 use Rattle.flat_list.specs.Owned.{bound_at}
-use Rattle.port_search.specs.Search.{standing_at, asked_at, answer_at, helds, held_at, with_owner_at, at_port}
+use Rattle.port_search.specs.Search.{helds, held_at, with_owner_at, at_port}
+use Rattle.bind_buckets.specs.BindHash.{standing_at, asked_at, answer_at}
 use Rattle.port_search.proofs.Standings.{held_is, helds_asked}
 use Rattle.table_model.specs.declared.operation.OpEnd.{OpEnd}
 use Rattle.table_model.specs.declared.operation.OpEnd.TheVariants as errors

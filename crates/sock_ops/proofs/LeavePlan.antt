@@ -11,7 +11,7 @@ use Rattle.bind_buckets.specs.OwnerStep.{Held, owner_step, spoken, removed, chan
 use Rattle.bind_buckets.specs.Journal.{Standing}
 use Rattle.chain_book.specs.declared.outcome.Place.{Place}
 use Rattle.chain_book.specs.Chains.{Chains, unhashed}
-use Rattle.port_search.specs.Search.{asked_at, answer_at, standing_at}
+use Rattle.bind_buckets.specs.BindHash.{asked_at, answer_at, standing_at}
 use Rattle.table_model.specs.Asking.{Asking, ends}
 use Rattle.table_model.specs.Tables.{Tables, Ended, run}
 use Rattle.table_model.specs.Own.{Mine}

@@ -11,7 +11,7 @@ use Rattle.bind_buckets.specs.Journal.{Standing}
 use Rattle.chain_book.specs.declared.outcome.Place.{Place}
 use Rattle.chain_book.specs.Chains.{Chains, Outcome, put, add_outcome, hashed, home_in}
 use Rattle.flat_list.specs.Owned.{card_as}
-use Rattle.port_search.specs.Search.{asked_at, answer_at}
+use Rattle.bind_buckets.specs.BindHash.{asked_at, answer_at}
 use Rattle.table_model.specs.Tables.{Tables, Ended, run, with_chains}
 use Rattle.table_model.specs.Own.{Mine}
 use Rattle.table_model.specs.Operations.{Did, done, listener, listen_at, listen_in, listen_hashed, listen_answered, when_done}

@@ -11,7 +11,8 @@ use Rattle.flat_list.specs.declared.header.Header.{Header}
 use Rattle.flat_list.specs.declared.command.Command.{Command}
 use Rattle.flat_list.specs.declared.command.Reply.{Reply}
 use Rattle.flat_list.specs.Sockets.{is_owner}
-use Rattle.table_model.specs.Tables.{Tables, run, standing_at}
+use Rattle.table_model.specs.Tables.{Tables, run}
+use Rattle.bind_buckets.specs.BindHash.{standing_at}
 use Rattle.table_model.specs.Own.{Own, Mine}
 use Rattle.table_model.specs.Commands.{answers, plan}
 use Rattle.table_model.specs.Means.{is_lookup}

@@ -15,7 +15,8 @@ use Rattle.flat_list.specs.Owned.{bound_at, connected_at, connected_to, is_no_ac
 use Rattle.table_model.specs.declared.operation.OpEnd.{OpEnd}
 use Rattle.table_model.specs.declared.operation.OpEnd.TheVariants as errors
 use Rattle.table_model.specs.Asking.{Asking, ends, asks, inserts, adds, unhashes, reaps, impossible}
-use Rattle.table_model.specs.Tables.{Tables, Ended, run, with_buckets, with_chains, asked_at, answer_at, reaped, was_found}
+use Rattle.table_model.specs.Tables.{Tables, Ended, run, with_buckets, with_chains, reaped, was_found}
+use Rattle.bind_buckets.specs.BindHash.{asked_at, answer_at}
 use Rattle.table_model.specs.Own.{Mine}
 use Rattle.table_model.specs.Operations as plans
 use Rattle.table_model.specs.Operations.{Did, done, refused, when_done, found_next, search_bind, then_replaced, source_to}

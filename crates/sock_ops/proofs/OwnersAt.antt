@@ -17,7 +17,8 @@ use Rattle.bind_buckets.specs.First.{drop_first, change_first}
 use Rattle.bind_buckets.specs.OwnerStep.{Held, owner_step, has_name, waits_as, spoken, with_owner, without_waiting, changed, may_listen, listening}
 use Rattle.bind_buckets.specs.Journal.{Standing, asked}
 use Rattle.bind_buckets.specs.Bucket.{Bucket, standing_of}
-use Rattle.port_search.specs.Search.{IsBindHash, standings, standing_at, asked_at, answer_at, untouched, helds, held_at}
+use Rattle.port_search.specs.Search.{IsBindHash, standings, helds, held_at}
+use Rattle.bind_buckets.specs.BindHash.{standing_at, asked_at, answer_at, untouched}
 use Rattle.port_search.proofs.Standings.{held_is, helds_kept}
 use Rattle.sock_ops.specs.Stands.{IsOwner, owners_at}
 use Rattle.sock_ops.specs.Hashing.{after_replaced}

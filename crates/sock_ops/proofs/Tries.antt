@@ -12,7 +12,8 @@ use Rattle.chain_book.specs.declared.outcome.Hashed.{Hashed}
 use Rattle.chain_book.specs.declared.outcome.Replace.{Replace}
 use Rattle.chain_book.specs.Chains.{Chains, Outcome, insert_outcome, hashed}
 use Rattle.established.specs.declared.change.Inserted.{Inserted}
-use Rattle.port_search.specs.Search.{asked_at, answer_at, standing_at, is_done, helds, held_at, with_owner_at}
+use Rattle.port_search.specs.Search.{is_done, helds, held_at, with_owner_at}
+use Rattle.bind_buckets.specs.BindHash.{asked_at, answer_at, standing_at}
 use Rattle.port_search.proofs.Standings.{held_is, helds_asked, free_kept}
 use Rattle.table_model.specs.declared.operation.OpEnd.{OpEnd}
 use Rattle.table_model.specs.declared.operation.OpEnd.TheVariants as errors

@@ -13,7 +13,7 @@ use Rattle.chain_book.specs.Chains.{Chains, Outcome, put, taken, full, hashed, h
 use Rattle.established.specs.declared.change.Inserted.{Inserted}
 use Rattle.established.specs.declared.change.InsertEnd.{InsertEnd}
 use Rattle.established.specs.declared.change.InsertEnd.TheVariants as inserts
-use Rattle.port_search.specs.Search.{asked_at}
+use Rattle.bind_buckets.specs.BindHash.{asked_at}
 use Rattle.table_model.specs.declared.operation.OpEnd.{OpEnd}
 use Rattle.table_model.specs.declared.operation.OpEnd.TheVariants as errors
 use Rattle.table_model.specs.Own.{Mine}

@@ -10,7 +10,8 @@ use Rattle.bind_buckets.specs.declared.request.ListenEnd.{ListenEnd}
 use Rattle.bind_buckets.specs.declared.request.ListenEnd.TheVariants as listens
 use Rattle.bind_buckets.specs.Bucket.{Bucket, CanListen}
 use Rattle.bind_buckets.specs.declared.request.Request.TheVariants as requests
-use Rattle.port_search.specs.Search.{asked_at, helds}
+use Rattle.port_search.specs.Search.{helds}
+use Rattle.bind_buckets.specs.BindHash.{asked_at}
 use Rattle.chain_book.specs.declared.outcome.Place.{Place}
 use Rattle.chain_book.specs.Chains.{Chains, put, add_outcome, hashed, home_in}
 use Rattle.table_model.specs.declared.operation.OpEnd.{OpEnd}

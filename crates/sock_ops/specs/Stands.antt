@@ -4,7 +4,8 @@ use Rattle.sock_card.specs.declared.owner.Owner.{Owner}
 use Rattle.bind_buckets.specs.OwnerStep.{has_name}
 use Rattle.bind_buckets.specs.Members.{has_member}
 use Rattle.bind_buckets.specs.Journal.{Standing}
-use Rattle.table_model.specs.Tables.{Tables, standing_at}
+use Rattle.table_model.specs.Tables.{Tables}
+use Rattle.bind_buckets.specs.BindHash.{standing_at}
 use Rattle.table_model.specs.Own.{Mine}
 use Rattle.sock_ops.specs.declared.sock.Sock.{Sock}
 use Rattle.sock_ops.specs.declared.sock.Sock.TheVariants as socks

@@ -1,7 +1,8 @@
 //! What an operation asks of the bucket of a port, and the room for it.
 
 ghost use Rattle.std.specs.Prelude.{◌≡◌, OnOk};
-ghost use Rattle.port_search.specs.Search.{IsBindHash, standings, asked_at, answer_at};
+ghost use Rattle.port_search.specs.Search.{IsBindHash, standings};
+ghost use Rattle.bind_buckets.specs.BindHash.{asked_at, answer_at};
 ghost use Rattle.bind_buckets.specs.Answers.{answer_of_bind};
 ghost use Rattle.sock_ops.specs.Room.{HasRoomAt};
 ghost use Rattle.sock_ops.specs.Stands.{IsOwner};

@@ -2,7 +2,8 @@
 
 ghost use Rattle.std.specs.Prelude.{◌≡◌, ◌==◌, ◌||◌, true, OnErr, OnOk, IfOk, IfErr};
 ghost use Rattle.sock_card.specs.Became as became;
-ghost use Rattle.port_search.specs.Search.{IsBindHash, standings, asked_at, answer_at, is_done};
+ghost use Rattle.port_search.specs.Search.{IsBindHash, standings, is_done};
+ghost use Rattle.bind_buckets.specs.BindHash.{asked_at, answer_at};
 ghost use Rattle.table_model.specs.Operations as plans;
 ghost use Rattle.table_model.specs.Own.{ports_of};
 ghost use Rattle.sock_ops.specs.Carried.{CarriedOut, HoldsAsMuch, tables_of, without_socket};

@@ -2,7 +2,8 @@
 
 ghost use Rattle.std.specs.Prelude.{◌≡◌, IfSome};
 ghost use Rattle.chain_book.specs.Chains.{insert_outcome};
-ghost use Rattle.port_search.specs.Search.{IsBindHash, standings, asked_at};
+ghost use Rattle.port_search.specs.Search.{IsBindHash, standings};
+ghost use Rattle.bind_buckets.specs.BindHash.{asked_at};
 ghost use Rattle.table_model.specs.Operations.{full_card};
 ghost use Rattle.sock_ops.specs.Hashing as spec;
 ghost use Rattle.sock_ops.specs.Hashing.{Hashes, Narrows, after_replaced};

@@ -6,7 +6,8 @@ ghost use Rattle.sock_card.specs.declared.card.Kind.TheVariants as kinds;
 ghost use Rattle.sock_card.specs.Became as became;
 ghost use Rattle.bind_buckets.specs.Answers.{answer_of_listen};
 ghost use Rattle.flat_list.specs.Owned.{card_as};
-ghost use Rattle.port_search.specs.Search.{IsBindHash, standings, asked_at, answer_at};
+ghost use Rattle.port_search.specs.Search.{IsBindHash, standings};
+ghost use Rattle.bind_buckets.specs.BindHash.{asked_at, answer_at};
 ghost use Rattle.table_model.specs.Asking.{ends};
 ghost use Rattle.table_model.specs.Operations as plans;
 ghost use Rattle.table_model.specs.Own.{ports_of, past_offset};
@@ -61,7 +62,7 @@ fn may_listen_at(buckets: &mut [Bucket], owner: &Owner) -> Result<Option<u32>, O
 {
     let place = usize::from(owner.port) % buckets.len();
     let bucket = &mut buckets[place];
-    let _known = bucket.journal();
+    bucket.recall();
     listened(bucket.may_listen(owner.name))
 }
 

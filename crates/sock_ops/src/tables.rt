@@ -1,6 +1,7 @@
 //! The tables of all sockets.
 
 ghost use Rattle.std.specs.Prelude.{◌≡◌, ℕ, ◌<◌, ◌+◌, ◌≤◌, ◌^◌, replicate, IfOk};
+ghost use Rattle.bind_buckets.specs.BindHash.{untouched};
 ghost use Rattle.table_model.specs.Tables as spec;
 ghost use Rattle.port_search.specs.Search.{IsBindHash, standings};
 ghost use Rattle.sock_ops.specs.Stands.{IsUnknown};
@@ -34,7 +35,7 @@ fn empty_buckets(alloc: Global, count: u32) -> Result<Vec<Bucket>, AllocError>
     requires some { 1 ≤ count }
     requires most { count ≤ 256 }
     ensures hash { IfOk result (λ buckets. IsBindHash buckets.items) }
-    ensures untouched { IfOk result (λ buckets. standings buckets.items ≡ replicate count spec.untouched) }
+    ensures untouched { IfOk result (λ buckets. standings buckets.items ≡ replicate count untouched) }
 {
     let mut buckets = Vec::with_capacity(alloc, count as usize)?;
     for number in 0..count {

@@ -26,7 +26,8 @@ use Rattle.flat_list.specs.Sockets.{is_owner, has_twin, waits_at, without_waitin
 use Rattle.flat_list.specs.Sound.{IsSound, IsGiven, NamesDiffer}
 use Rattle.table_model.specs.declared.operation.OpEnd.TheVariants as errors
 use Rattle.table_model.specs.Asking.{Asking, ends, and_then}
-use Rattle.table_model.specs.Tables.{Tables, Ended, run, asked_at, answer_at, with_buckets, with_chains}
+use Rattle.table_model.specs.Tables.{Tables, Ended, run, with_buckets, with_chains}
+use Rattle.bind_buckets.specs.BindHash.{asked_at, answer_at}
 use Rattle.table_model.specs.Own.{Own, Mine, with_label}
 use Rattle.table_model.specs.Operations.{Did, done, refused, accept_as, accept_hashed, full_in, full_card, full_done, then_replaced, when_done}
 use Rattle.table_model.specs.Commands.{Replied, accept_reply}

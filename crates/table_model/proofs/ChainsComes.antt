@@ -21,7 +21,8 @@ use Rattle.flat_list.specs.Flat.{Flat}
 use Rattle.flat_list.specs.Sockets.{kind_of, is_owner, without, without_waiting}
 use Rattle.flat_list.specs.Sound.{IsSound, NamesDiffer}
 use Rattle.table_model.specs.Asking.{Asking, ends, asks}
-use Rattle.table_model.specs.Tables.{Tables, Ended, answer_at, asked_at, with_buckets, with_chains}
+use Rattle.table_model.specs.Tables.{Tables, Ended, with_buckets, with_chains}
+use Rattle.bind_buckets.specs.BindHash.{answer_at, asked_at}
 use Rattle.table_model.specs.Own.{Own, Mine}
 use Rattle.table_model.specs.Operations.{Did, done, full_card, full_in, full_done, then_replaced, when_done}
 use Rattle.table_model.specs.Means.{OwnersMean, TablesMean, StandsAs, IsShape, OwnMeans}

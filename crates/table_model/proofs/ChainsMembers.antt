@@ -17,7 +17,8 @@ use Rattle.flat_list.specs.declared.socket.Socket.{Socket}
 use Rattle.flat_list.specs.Flat.{Flat}
 use Rattle.flat_list.specs.Groups.{Group, has_member}
 use Rattle.flat_list.specs.Sound.{IsInOneGroup}
-use Rattle.table_model.specs.Tables.{Tables, untouched}
+use Rattle.table_model.specs.Tables.{Tables}
+use Rattle.bind_buckets.specs.BindHash.{untouched}
 use Rattle.table_model.specs.Means.{GroupsMean, stands_as, stands_in_some, names_in, members_of}
 use Rattle.table_model.proofs.ChainsWeigh.{Weighs, ind, any_weighs, without_only}
 use Rattle.table_model.proofs.ChainsRows.{weigh, weigh_set, within}

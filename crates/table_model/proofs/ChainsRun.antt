@@ -7,7 +7,8 @@ use Rattle.chain_book.specs.declared.outcome.Replace.{Replace}
 use Rattle.chain_book.specs.Chains.{Outcome, insert_outcome, hashed}
 use Rattle.table_model.specs.Asking.{Asking, ends, asks, inserts, and_then}
 use Rattle.table_model.proofs.OwnersCarried.{run_and_then, goes_on}
-use Rattle.table_model.specs.Tables.{Tables, Ended, run, answer_at, asked_at, with_buckets, with_chains}
+use Rattle.table_model.specs.Tables.{Tables, Ended, run, with_buckets, with_chains}
+use Rattle.bind_buckets.specs.BindHash.{answer_at, asked_at}
 
 -- the plan ends on these tables, and so
 abbrev pub Comes : {R : Type 0} → Tables → Asking R → (Ended R → Type 0) → Type 0

@@ -17,7 +17,8 @@ use Rattle.flat_list.specs.Sockets.{kind_of, is_owner, is_claimed, is_taken, put
 use Rattle.flat_list.specs.Sound.{IsSound}
 use Rattle.table_model.specs.declared.operation.OpEnd.TheVariants as errors
 use Rattle.table_model.specs.Asking.{Asking, asks}
-use Rattle.table_model.specs.Tables.{Tables, Ended, with_buckets, asked_at}
+use Rattle.table_model.specs.Tables.{Tables, Ended, with_buckets}
+use Rattle.bind_buckets.specs.BindHash.{asked_at}
 use Rattle.table_model.specs.Own.{Own}
 use Rattle.table_model.specs.Operations.{Did, refused, connect_tried, connect_free, search_connect}
 use Rattle.table_model.specs.Means.{TablesMean, IsShape, OwnMeans}

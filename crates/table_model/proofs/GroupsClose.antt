@@ -27,7 +27,8 @@ use Rattle.flat_list.specs.Sockets.{has_name, is_owner, kind_of, put}
 use Rattle.flat_list.specs.Sound.{IsSound}
 use Rattle.flat_list.specs.Step as flat_step
 use Rattle.table_model.specs.Asking.{Asking, ends, and_then}
-use Rattle.table_model.specs.Tables.{Tables, with_chains, asked_at, run}
+use Rattle.table_model.specs.Tables.{Tables, with_chains, run}
+use Rattle.bind_buckets.specs.BindHash.{asked_at}
 use Rattle.table_model.specs.Own.{Own, Mine, card_of}
 use Rattle.table_model.specs.Operations.{Closed, waiting, no_slot, close_as, close_full, close_hashed, wait_of, waits_in, when_done}
 use Rattle.table_model.specs.Commands.{Replied, close_command, close_reply}

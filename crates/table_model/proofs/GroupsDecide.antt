@@ -25,7 +25,8 @@ use Rattle.flat_list.specs.Groups.{Group, has_member, join, join_group, with_gro
 use Rattle.flat_list.specs.Sockets.{is_owner, is_mate, mate_of}
 use Rattle.flat_list.specs.Sound.{IsSound, IsGroupOf, IsInOneGroup, GroupsAreOfMates, is_sharing}
 use Rattle.flat_list.specs.Step.{groups_with}
-use Rattle.table_model.specs.Tables.{Tables, standing_at, untouched}
+use Rattle.table_model.specs.Tables.{Tables}
+use Rattle.bind_buckets.specs.BindHash.{standing_at, untouched}
 use Rattle.table_model.specs.Means.{OwnersMean, GroupsMean, owns, names_in, members_of}
 use Rattle.table_model.proofs.ChainsWeigh.{ind, found_counts, total_same, found_weighs, same_answer}
 use Rattle.table_model.proofs.ChainsReplaced.{some_found, the_found}

@@ -19,7 +19,8 @@ use Rattle.flat_list.specs.Outcome.{removed}
 use Rattle.flat_list.specs.Sockets.{is_owner, kind_of}
 use Rattle.flat_list.specs.Step.{drop}
 use Rattle.table_model.specs.Asking.{Asking, ends, asks, unhashes}
-use Rattle.table_model.specs.Tables.{Tables, asked_at, answer_at, run}
+use Rattle.table_model.specs.Tables.{Tables, run}
+use Rattle.bind_buckets.specs.BindHash.{asked_at, answer_at}
 use Rattle.table_model.specs.Own as own_words
 use Rattle.table_model.specs.Own.{Own, Mine, card_of}
 use Rattle.table_model.specs.Operations.{drop_as}

@@ -23,7 +23,8 @@ use Rattle.flat_list.specs.Step.{at_port, suits_bind}
 use Rattle.table_model.specs.declared.operation.OpEnd.{OpEnd}
 use Rattle.table_model.specs.declared.operation.OpEnd.TheVariants as errors
 use Rattle.table_model.specs.Asking.{Asking, ends, and_then}
-use Rattle.table_model.specs.Tables.{Tables, Ended, with_buckets, with_chains, asked_at, standing_at, run}
+use Rattle.table_model.specs.Tables.{Tables, Ended, with_buckets, with_chains, run}
+use Rattle.bind_buckets.specs.BindHash.{asked_at, standing_at}
 use Rattle.table_model.specs.Own.{Own, Mine, card_of, open_socket, ports_of}
 use Rattle.table_model.specs.Operations as operations
 use Rattle.table_model.specs.Operations.{Did, done, refused, give_up, listener, listen_answered, listen_hashed, listens_in, listen_at, listen_as, search_bind, when_done}

@@ -21,7 +21,8 @@ use Rattle.flat_list.specs.Look.{extra_as}
 use Rattle.flat_list.specs.Owned.{card_as}
 use Rattle.flat_list.specs.Sockets.{has_name, is_owner, kind_of, without}
 use Rattle.flat_list.specs.Sound.{is_sharing, IsSound, IsGroupOf}
-use Rattle.table_model.specs.Tables.{Tables, asked_at}
+use Rattle.table_model.specs.Tables.{Tables}
+use Rattle.bind_buckets.specs.BindHash.{asked_at}
 use Rattle.table_model.specs.Own as own_words
 use Rattle.table_model.specs.Own.{Own, Mine, card_of}
 use Rattle.table_model.specs.Means.{ChainsMean, OwnMeans, Means, StandsAs, owns, stands_in_some, is_mine}

@@ -34,7 +34,8 @@ use Rattle.flat_list.specs.Step.{listening, groups_with, listen_as, listen_bound
 use Rattle.table_model.specs.declared.operation.OpEnd.{OpEnd}
 use Rattle.table_model.specs.declared.operation.OpEnd.TheVariants as errors
 use Rattle.table_model.specs.Asking.{Asking, ends}
-use Rattle.table_model.specs.Tables.{Tables, with_chains, with_buckets, asked_at, answer_at, standing_at, untouched, run}
+use Rattle.table_model.specs.Tables.{Tables, with_chains, with_buckets, run}
+use Rattle.bind_buckets.specs.BindHash.{asked_at, answer_at, standing_at, untouched}
 use Rattle.table_model.specs.Own.{Own, Mine, card_of, with_socket}
 use Rattle.table_model.specs.Operations.{Did, done, listener, give_up, listen_hashed, listens_in, listen_answered, listen_at, when_done}
 use Rattle.table_model.specs.Commands.{bind_error}

@@ -13,7 +13,8 @@ use Rattle.chain_book.specs.declared.outcome.Hashed.{Hashed}
 use Rattle.chain_book.specs.Chains.{Chains, placed}
 use Rattle.flat_list.specs.Flat.{Flat}
 use Rattle.flat_list.specs.Groups.{Group, has_member}
-use Rattle.table_model.specs.Tables.{Tables, untouched}
+use Rattle.table_model.specs.Tables.{Tables}
+use Rattle.bind_buckets.specs.BindHash.{untouched}
 use Rattle.table_model.specs.Means.{GroupsMean, names_in, members_of, stands_as, stands_in_some}
 use Rattle.table_model.proofs.OwnersAsked.{groups_in}
 use Rattle.table_model.proofs.OwnersStanding.{each_unmap}

@@ -18,7 +18,8 @@ use Rattle.flat_list.specs.Flat.{Flat}
 use Rattle.flat_list.specs.Groups.{Group, has_member, leave}
 use Rattle.flat_list.specs.Sockets.{has_name, is_owner, without}
 use Rattle.flat_list.specs.Sound.{IsSound, IsGroupOf, is_sharing}
-use Rattle.table_model.specs.Tables.{Tables, standing_at, asked_at, untouched}
+use Rattle.table_model.specs.Tables.{Tables}
+use Rattle.bind_buckets.specs.BindHash.{standing_at, asked_at, untouched}
 use Rattle.table_model.specs.Means.{OwnersMean, GroupsMean, members_of, stands_in_some}
 use Rattle.table_model.proofs.OwnersListed.{Listed, listed_name}
 use Rattle.table_model.proofs.OwnersAt.{near}

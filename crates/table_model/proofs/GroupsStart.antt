@@ -17,7 +17,7 @@ use Rattle.chain_book.specs.declared.outcome.Hashed.{Hashed}
 use Rattle.chain_book.specs.Homes.{chain_count}
 use Rattle.chain_book.specs.Chains.{has_slot}
 use Rattle.flat_list.specs.declared.header.Header.{Header}
-use Rattle.table_model.specs.Tables.{untouched}
+use Rattle.bind_buckets.specs.BindHash.{untouched}
 use Rattle.table_model.specs.Means.{is_used, names_in, stands_in_some, is_mine, owner_of, weighs_as_wait, NewMeanEmpty, StartsMeant}
 
 -- what is read from one item again and again is that item

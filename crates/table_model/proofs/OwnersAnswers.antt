@@ -12,7 +12,7 @@ use Rattle.flat_list.specs.declared.socket.Socket.{Socket}
 use Rattle.flat_list.specs.Flat.{Flat}
 use Rattle.flat_list.specs.Sockets.{is_owner, has_name, without, is_other_owner, is_claimed}
 use Rattle.flat_list.specs.Sound.{NamesDiffer}
-use Rattle.table_model.specs.Tables.{standing_at}
+use Rattle.bind_buckets.specs.BindHash.{standing_at}
 use Rattle.table_model.specs.Means.{OwnersMean, owns}
 use Rattle.table_model.proofs.OwnersWeigh.{is_ne, total_alike, ind, any_weighs, found_weighs, same_answer}
 use Rattle.table_model.proofs.OwnersListed.{Listed, without_weighs}

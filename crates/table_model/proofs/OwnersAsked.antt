@@ -15,7 +15,7 @@ use Rattle.flat_list.specs.declared.socket.Socket.{Socket}
 use Rattle.flat_list.specs.Flat.{Flat}
 use Rattle.flat_list.specs.Sockets.{is_owner, put, without}
 use Rattle.flat_list.specs.Sound.{NamesDiffer}
-use Rattle.table_model.specs.Tables.{standing_at, asked_at, untouched}
+use Rattle.bind_buckets.specs.BindHash.{standing_at, asked_at, untouched}
 use Rattle.table_model.specs.Means.{OwnersMean, owns}
 use Rattle.table_model.proofs.OwnersListed.{Listed, put_weighs, without_weighs}
 use Rattle.table_model.proofs.OwnersFirst.{change_weighs, drop_weighs, change_each, drop_each}

@@ -9,7 +9,7 @@ use Rattle.list_words.proofs.EachLemmas.{each_weaken}
 use Rattle.sock_card.specs.declared.owner.Owner.{Owner}
 use Rattle.bind_buckets.specs.Journal.{Standing}
 use Rattle.flat_list.specs.Flat.{Flat}
-use Rattle.table_model.specs.Tables.{standing_at, untouched}
+use Rattle.bind_buckets.specs.BindHash.{standing_at, untouched}
 use Rattle.table_model.specs.Means.{OwnersMean, owns, weigh_owners}
 use Rattle.table_model.proofs.OwnersWeigh.{is_eq, is_same, total_set, total_only, none_of_each}
 

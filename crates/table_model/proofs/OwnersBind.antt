@@ -24,7 +24,8 @@ use Rattle.flat_list.specs.Sound.{IsSound, NamesDiffer}
 use Rattle.flat_list.specs.Step.{bind, bind_socket, bind_given, bind_search, bind_found, at_end, at_port, suits_bind}
 use Rattle.table_model.specs.declared.operation.OpEnd.TheVariants as errors
 use Rattle.table_model.specs.Asking.{Asking, ends, asks, and_then}
-use Rattle.table_model.specs.Tables.{Tables, with_buckets, asked_at, run}
+use Rattle.table_model.specs.Tables.{Tables, with_buckets, run}
+use Rattle.bind_buckets.specs.BindHash.{asked_at}
 use Rattle.table_model.specs.Own.{Own, Mine, ports_of, with_socket}
 use Rattle.table_model.specs.Operations.{Did, done, refused, plain, bind_as, bind_answered, search_bind, bound}
 use Rattle.table_model.specs.Commands.{Replied, bind_command, bind_reply, after_search, is_unbound}

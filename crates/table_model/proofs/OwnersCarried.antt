@@ -16,7 +16,8 @@ use Rattle.flat_list.specs.Outcome.{Outcome}
 use Rattle.flat_list.specs.Sound.{IsSound}
 use Rattle.flat_list.specs.Step.{step}
 use Rattle.table_model.specs.Asking.{Asking, ends, asks, inserts, adds, unhashes, reaps, impossible, and_then}
-use Rattle.table_model.specs.Tables.{Tables, Ended, with_buckets, with_chains, asked_at, answer_at, untouched, reaped, was_found, run}
+use Rattle.table_model.specs.Tables.{Tables, Ended, with_buckets, with_chains, reaped, was_found, run}
+use Rattle.bind_buckets.specs.BindHash.{asked_at, answer_at, untouched}
 use Rattle.table_model.specs.Own.{Own}
 use Rattle.table_model.specs.Commands.{Replied}
 use Rattle.table_model.specs.Means.{ChainsMean, GroupsMean, OwnMeans, Means, Refines, names_in, members_of, stands_in_some}

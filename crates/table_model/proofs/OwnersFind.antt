@@ -11,7 +11,7 @@ use Rattle.flat_list.specs.declared.socket.Socket.{Socket}
 use Rattle.flat_list.specs.Flat.{Flat}
 use Rattle.flat_list.specs.Sockets.{is_owner, has_name}
 use Rattle.flat_list.specs.Sound.{NamesDiffer}
-use Rattle.table_model.specs.Tables.{standing_at, untouched}
+use Rattle.bind_buckets.specs.BindHash.{standing_at, untouched}
 use Rattle.table_model.specs.Means.{OwnersMean, owns, weigh_owners}
 use Rattle.table_model.proofs.OwnersWeigh.{is_ne, is_same, total_only, part_none, each_none, none_of_each, ind, found_weighs, passes_by}
 use Rattle.table_model.proofs.OwnersListed.{Listed, listed_name, without_weighs, others_weigh_none}

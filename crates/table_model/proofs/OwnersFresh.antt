@@ -16,7 +16,8 @@ use Rattle.flat_list.specs.Flat.{Flat}
 use Rattle.flat_list.specs.Groups.{has_member as is_member_of}
 use Rattle.flat_list.specs.Sockets.{is_owner}
 use Rattle.flat_list.specs.Sound.{NamesDiffer, IsInOneGroup}
-use Rattle.table_model.specs.Tables.{Tables, standing_at, untouched}
+use Rattle.table_model.specs.Tables.{Tables}
+use Rattle.bind_buckets.specs.BindHash.{standing_at, untouched}
 use Rattle.table_model.specs.Means.{OwnersMean, GroupsMean, UnboundFresh, owns, weigh_owners, is_mine, owner_of, owner_in}
 use Rattle.table_model.proofs.OwnersWeigh.{is_ne, part_none, ind, found_weighs, Weighs}
 use Rattle.table_model.proofs.OwnersListed.{Listed, without_weighs, others_weigh_none}

@@ -24,7 +24,8 @@ use Rattle.flat_list.specs.Look.{extra_as}
 use Rattle.flat_list.specs.Owned.{card_as}
 use Rattle.flat_list.specs.Sockets.{is_owner, has_name, without, kind_of}
 use Rattle.flat_list.specs.Sound.{NamesDiffer, IsAwakeIfNamed, IsInOneGroup}
-use Rattle.table_model.specs.Tables.{Tables, asked_at}
+use Rattle.table_model.specs.Tables.{Tables}
+use Rattle.bind_buckets.specs.BindHash.{asked_at}
 use Rattle.table_model.specs.Own.{Own, Mine}
 use Rattle.table_model.specs.Means.{ChainsMean, TablesMean, OwnMeans, IsShape, StandsAs, is_mine, is_wait_of, name_in, stands_in_some, weighs_as_wait}
 use Rattle.table_model.proofs.OwnersWeigh.{is_ne, is_same, total_alike, none_of_each, ind, Weighs, found_weighs}

@@ -15,7 +15,7 @@ use Rattle.flat_list.specs.declared.socket.Socket.{Socket}
 use Rattle.flat_list.specs.Flat.{Flat}
 use Rattle.flat_list.specs.Sockets.{is_owner, put, without, is_refused, is_overlapped, is_claimed}
 use Rattle.flat_list.specs.Sound.{NamesDiffer}
-use Rattle.table_model.specs.Tables.{standing_at, answer_at, asked_at}
+use Rattle.bind_buckets.specs.BindHash.{standing_at, answer_at, asked_at}
 use Rattle.table_model.specs.Means.{OwnersMean}
 use Rattle.table_model.proofs.OwnersListed.{Listed, listed_name}
 use Rattle.table_model.proofs.OwnersAnswers.{refuses_at, overlaps_at, claimed, newcomer, among_others}

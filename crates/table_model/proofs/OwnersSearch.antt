@@ -12,7 +12,8 @@ use Rattle.flat_list.specs.Sockets.{is_owner, put, is_overlapped}
 use Rattle.flat_list.specs.Sound.{NamesDiffer}
 use Rattle.flat_list.specs.Step.{at_port, suits_bind}
 use Rattle.table_model.specs.Asking.{Asking}
-use Rattle.table_model.specs.Tables.{Tables, Ended, asked_at, answer_at, with_buckets, run}
+use Rattle.table_model.specs.Tables.{Tables, Ended, with_buckets, run}
+use Rattle.bind_buckets.specs.BindHash.{asked_at, answer_at}
 use Rattle.table_model.specs.Operations.{search_bind, found_next}
 use Rattle.table_model.specs.Means.{OwnersMean}
 use Rattle.table_model.proofs.OwnersListed.{Listed}

@@ -9,7 +9,7 @@ use Rattle.flat_list.specs.declared.socket.Socket.{Socket}
 use Rattle.flat_list.specs.Flat.{Flat}
 use Rattle.flat_list.specs.Sockets.{is_owner, has_name}
 use Rattle.flat_list.specs.Sound.{NamesDiffer}
-use Rattle.table_model.specs.Tables.{standing_at}
+use Rattle.bind_buckets.specs.BindHash.{standing_at}
 use Rattle.table_model.specs.Means.{OwnersMean, OwnersStand, is_mine, owner_of, owner_in}
 use Rattle.table_model.proofs.OwnersWeigh.{is_ne, is_same}
 use Rattle.table_model.proofs.OwnersListed.{Listed}

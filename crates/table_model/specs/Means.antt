@@ -26,7 +26,8 @@ use Rattle.flat_list.specs.Sections.{Section, section_of}
 use Rattle.flat_list.specs.Sockets.{is_owner, has_name, slots_used, kind_of}
 use Rattle.flat_list.specs.Sound.{IsSound}
 use Rattle.flat_list.specs.Step.{step}
-use Rattle.table_model.specs.Tables.{Tables, Ended, new_tables, standing_at, untouched, run}
+use Rattle.table_model.specs.Tables.{Tables, Ended, new_tables, run}
+use Rattle.bind_buckets.specs.BindHash.{standing_at, untouched}
 use Rattle.table_model.specs.Own.{Own, Mine, new_own, card_of}
 use Rattle.table_model.specs.Commands.{Replied, plan}
 

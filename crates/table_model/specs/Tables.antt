@@ -1,11 +1,8 @@
 -- What a plan comes to on tables that nobody else is at: our own.
-use Rattle.std.specs.Prelude.{ℕ, ◌%◌, Bool, true, false, List, [], length, Option, None, Some, replicate, slice_set}
-use Rattle.std.specs.List.{slice_index_or}
+use Rattle.std.specs.Prelude.{ℕ, Bool, true, false, List, Option, None, Some, replicate}
 use Rattle.sock_card.specs.declared.card.Card.{Card}
-use Rattle.bind_buckets.specs.declared.request.Request.{Request}
-use Rattle.bind_buckets.specs.declared.request.Answer.{Answer}
-use Rattle.bind_buckets.specs.OwnerStep.{owner_step, empty}
-use Rattle.bind_buckets.specs.Journal.{Standing, asked}
+use Rattle.bind_buckets.specs.Journal.{Standing}
+use Rattle.bind_buckets.specs.BindHash.{untouched, asked_at, answer_at}
 use Rattle.chain_book.specs.declared.outcome.Hashed.{Hashed}
 use Rattle.chain_book.specs.declared.shape.Shape.{Shape}
 use Rattle.chain_book.specs.Chains.{Chains, new_chains, insert_outcome, add_outcome, hashed, unhashed, waiting, home_in}
@@ -16,24 +13,8 @@ pub record Tables : Type 0 where
   pub buckets : List Standing
   pub chains : Chains
 
-abbrev pub untouched : Standing
-untouched = record { held = empty; entries = [] }
-
 abbrev pub new_tables : Shape → ℕ → Tables
 new_tables shape seed = record { buckets = replicate shape.bind untouched; chains = new_chains shape seed }
-
--- the bucket of a port
-abbrev pub standing_at : List Standing → ℕ → Standing
-standing_at hash port = slice_index_or hash (port % length hash) untouched
-
--- what the bucket of a port answers a request
-abbrev pub answer_at : List Standing → ℕ → Request → Answer
-answer_at hash port request = (owner_step (port % length hash) (standing_at hash port).held request).answer
-
--- the buckets after a request to that of a port
-abbrev pub asked_at : List Standing → ℕ → Request → List Standing
-asked_at hash port request =
-    let number = port % length hash in slice_set hash number (asked number (standing_at hash port) request)
 
 abbrev pub with_buckets : Tables → List Standing → Tables
 with_buckets t buckets = record t { buckets = buckets }

@@ -1,7 +1,8 @@
 use Rattle.std.proofs.Common.{◌≡◌, ℕ, ◌%◌, List, length, get_or, set, sym, ap, subst, ◌∙◌}
 use Rattle.bind_buckets.specs.declared.request.Request.TheVariants as requests
 use Rattle.bind_buckets.specs.Bucket.{Bucket, is_port_of}
-use Rattle.port_search.specs.Search.{IsBindHash, standings, asked_at, answer_at, is_done}
+use Rattle.port_search.specs.Search.{IsBindHash, standings, is_done}
+use Rattle.bind_buckets.specs.BindHash.{asked_at, answer_at}
 use Rattle.port_search.proofs.BindHash.{stands, has_port, answered_there, asked_there, hash_there}
 use Rattle.port_search.proofs.Told.{bound_if_done}
 use Rattle.port_search.proofs.search.bind_at.Goals as goal

@@ -1,7 +1,8 @@
 use Rattle.std.proofs.Common.{◌≡◌, ℕ, ◌%◌, List, length, get_or, set, sym, ap, subst, ◌∙◌, refl}
 use Rattle.bind_buckets.specs.declared.request.Request.TheVariants as requests
 use Rattle.bind_buckets.specs.Bucket.{Bucket, is_port_of, called}
-use Rattle.port_search.specs.Search.{IsBindHash, standings, asked_at}
+use Rattle.port_search.specs.Search.{IsBindHash, standings}
+use Rattle.bind_buckets.specs.BindHash.{asked_at}
 use Rattle.port_search.proofs.BindHash.{stands, has_port, asked_there, hash_there}
 use Rattle.port_search.proofs.search.connect_at.Goals as goal
 

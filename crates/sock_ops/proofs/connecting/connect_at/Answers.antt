@@ -2,7 +2,8 @@ use Rattle.std.proofs.Common.{◌≡◌, refl, ap, sym, subst, ◌∙◌}
 use Rattle.sock_card.specs.declared.owner.Owner.{Owner}
 use Rattle.sock_card.specs.Conflict.{is_time_wait}
 use Rattle.bind_buckets.specs.declared.request.Request.TheVariants as requests
-use Rattle.port_search.specs.Search.{standings, asked_at, answer_at, helds, is_done}
+use Rattle.port_search.specs.Search.{standings, helds, is_done}
+use Rattle.bind_buckets.specs.BindHash.{asked_at, answer_at}
 use Rattle.port_search.proofs.Standings.{free_kept}
 use Rattle.table_model.specs.Own.{Mine}
 use Rattle.sock_ops.specs.Carried.{tables_of}

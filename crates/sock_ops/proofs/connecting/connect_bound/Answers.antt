@@ -3,7 +3,8 @@ use Rattle.sock_card.specs.declared.owner.Owner.{Owner}
 use Rattle.sock_card.specs.Conflict.{is_time_wait}
 use Rattle.sock_card.specs.Became.{connected}
 use Rattle.bind_buckets.specs.declared.request.Request.TheVariants as requests
-use Rattle.port_search.specs.Search.{standings, asked_at, answer_at}
+use Rattle.port_search.specs.Search.{standings}
+use Rattle.bind_buckets.specs.BindHash.{asked_at, answer_at}
 use Rattle.table_model.specs.Operations as plans
 use Rattle.sock_ops.specs.Carried.{tables_of}
 use Rattle.sock_ops.specs.Stands.{IsOwner}

@@ -4,7 +4,8 @@ use Rattle.sock_card.specs.declared.card.Kind.TheVariants as kinds
 use Rattle.sock_card.specs.Became.{as_listener}
 use Rattle.bind_buckets.specs.declared.request.Request.TheVariants as requests
 use Rattle.flat_list.specs.Owned.{card_as}
-use Rattle.port_search.specs.Search.{standings, asked_at, answer_at, helds}
+use Rattle.port_search.specs.Search.{standings, helds}
+use Rattle.bind_buckets.specs.BindHash.{asked_at, answer_at}
 use Rattle.port_search.proofs.Told.{on_err}
 use Rattle.sock_ops.specs.Carried.{tables_of}
 use Rattle.sock_ops.specs.Hashing.{listening_at}
