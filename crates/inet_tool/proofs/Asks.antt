@@ -2,7 +2,7 @@
 use Rattle.std.proofs.Common.{◌≡◌, ℕ, ◌∙◌, List, [], ◌∷◌, Option, Some, codes, option_map, inl, inr, arith, refl, ap, sym}
 use Rattle.std.specs.Str.Parse.{digits_value}
 use Rattle.clap.specs.Words.{Text, Row, subcommand_of}
-use Rattle.inet_tool.specs.Words.{inet_app, number_of, IsRun, IsMake, IsRefused, MakesInRange}
+use Rattle.inet_tool.specs.Words.{inet_app, number_of, IsMake, MakesInRange}
 use Rattle.inet_tool.proofs.Asked.{met_by}
 use Rattle.inet_tool.proofs.MakeWords.{row, most_seed, most_count}
 use Rattle.inet_tool.proofs.Numbers.{digits, reads}
@@ -12,20 +12,9 @@ one_value : {A : Type 0} {o : Option A} {x y : A} → o ≡ Some x → o ≡ Som
 one_value e f = let both : Some _ ≡ Some _ = sym e ∙ f in cc
 
 module _ (words : List Text) where
-  -- to run a script, or to make one
-  pub run_or_make : (seed count : ℕ) → IsRun words → IsMake words seed count → ⊥
-  run_or_make seed count h k = let same : codes "run" ≡ codes "make" = one_value h.1 k.1 in cc
-
   -- from one seed, and so many steps
   pub one_make : (a b c d : ℕ) → IsMake words a b → IsMake words c d → (a ≡ c) × (b ≡ d)
   one_make a b c d h k = (one_value h.2 k.2, one_value h.3 k.3)
-
-  -- words that ask for something are taken
-  pub run_taken : IsRun words → IsRefused words → ⊥
-  run_taken h refused = refused h.0
-
-  pub make_taken : (seed count : ℕ) → IsMake words seed count → IsRefused words → ⊥
-  make_taken seed count h refused = refused h.0
 
 -- the number of a positional is what its text says, and no more than its parser allows
 module _ (words : List Text) (rows : List Row) (a b : Text) (met : subcommand_of inet_app words ≡ Some (codes "make", rows)) (are : rows ≡ row (codes "SEED") a ∷ row (codes "COUNT") b ∷ []) where

@@ -70,13 +70,6 @@ module _ (words : List Text) (m : ArgMatches) (taken : IsTaken words) (met : sub
         (h.1 ∙ ap (λ (r : List Row). Some (codes "make", r)) is, subst Found is h.2)
   ]
 
-  -- where it isn't, `run` is
-  pub run_met : (subcommand_name_of m ≡ Some (codes "make") → ⊥) → name_of words ≡ Some (codes "run")
-  run_met none = elim (met_by words taken) [
-    | inl h ↦ ap (option_map (λ p. p.0)) h.1
-    | inr h ↦ absurd (none (named m ∙ ap (option_map (λ p. p.0)) (met ∙ h.1)))
-  ]
-
 -- What a parse of the program's command gives is of its words.
 pub parsed : (app : App) (words : List Text) (m : ArgMatches) → app ≡ inet_app → (is_simple_and_free app ≡ true → fault_of app words ≡ [])
     → HasMatchesOf app words m → IsTaken words × (subcommand_rows_of m ≡ subcommand_of inet_app words)
