@@ -30,7 +30,13 @@ pub const PLAIN: Ends<'static> = Ends {
 
 /// Scripts of sockets that were closed, that share an end, or whose commands are refused, each with
 /// what is written for it.
-const ROWS: [(&str, &str); 9] = [
+const ROWS: [(&str, &str); 10] = [
+    (
+        "range 40000 40001\noffset 0\nscript 1\nsocket a\nsocket b\nsocket c\nbind a 0.0.0.0:0\n\
+         listen b\nbind c 0.0.0.0:0\nlisten c\nconnect c from 10.0.0.1 to 10.0.0.2:80\n",
+        "1 socket a ok\n1 socket b ok\n1 socket c ok\n1 bind a ok 40001\n1 listen b ok 40000\n\
+         1 bind c EADDRINUSE\n1 listen c EADDRINUSE\n1 connect c EADDRNOTAVAIL\n",
+    ),
     (
         "script 1\nsocket a\nbind a 10.0.0.1:80\nlisten a\n\
          accept a c from 10.0.0.2:1000 at 10.0.0.1:80\nclose a\nsocket d\n\
@@ -251,6 +257,20 @@ fn a_group_has_sixteen_members(rt: HostRuntime) -> Result<(), Fail> {
         .strip_suffix(b"EMFILE\n")
         .ok_or("no EMFILE")?;
     assert_eq!(rt; written, granted);
+    Ok(())
+}
+
+#[test]
+fn sixty_four_sections_run(rt: HostRuntime) -> Result<(), Fail> {
+    let mut input = String::new(rt.alloc());
+    let mut output = String::new(rt.alloc());
+    for n in 1..=64u32 {
+        write!(input, "script {n}\nsocket a\n")?;
+        write!(output, "{n} socket a ok\n")?;
+    }
+    let answer = run(&rt, input.as_str(), PLAIN)?;
+    assert!(rt; answer.0 == Status::Done);
+    assert_eq!(rt; answer.1.as_slice(), output.as_bytes());
     Ok(())
 }
 
