@@ -1,7 +1,7 @@
 -- What a section's own is once an operation on one of its sockets has come to an end.
 use Rattle.std.proofs.Common.{◌≡◌, ◌==◌, ◌&&◌, ℕ, zero, suc, Bool, true, false, not, cond, List, [], ◌∷◌, Option, Some, None, Result, Ok, Err, refl, sym, ap, ap₂, ◌∙◌, subst, set}
 use Rattle.std.proofs.lemmas.List.{set-set, set-get_or}
-use Rattle.std.specs.Prelude.{IfOk}
+use Rattle.std.specs.Prelude.{IfOk, OnErr}
 use Rattle.list_words.specs.Lists.{Each}
 use Rattle.list_words.proofs.EachLemmas.{some_same}
 use Rattle.sock_card.specs.declared.owner.State.{State}
@@ -81,6 +81,17 @@ pub put_same : (l : Labelled) (i : ℕ) (m : Mine) → at_place l.places i ≡ S
 put_same l i m at =
     ap (λ (ps : List (Option Mine)). record l { places = ps })
     (set-set l.places i None (Some m) ∙ (ap (set l.places i) (sym at) ∙ set-get_or l.places i None))
+
+-- whatever holds anyway holds where the answer is an error
+pub on_err : {T E P : Type 0} (r : Result T E) → P → OnErr r P
+on_err (Ok x) p = tt
+on_err (Err e) p = p
+
+-- the open sockets, where one was taken out and put back
+pub sockets_back : (k : Kept) (h : Header) (l l1 l2 : Labelled) (moment : ℕ) (o : Offsets) (waits : List Mine) (i : ℕ) (m : Mine) → kept h (own_of l moment o waits) ≡ k → at_place l.places i ≡ Some m → l1 ≡ with_place l i None → l2 ≡ with_place l1 i (Some m) → those l2.places ≡ k.own.sockets
+sockets_back k h l l1 l2 moment o waits i m view there after put =
+    ap (λ (x : Labelled). those x.places) (put ∙ (ap (λ (x : Labelled). with_place x i (Some m)) after ∙ put_same l i m there))
+    ∙ ap (λ (x : Kept). x.own.sockets) view
 
 -- where it was taken out
 pub taken : (l : Labelled) (i : ℕ) (name : ℕ) → HaveNames (name_at l.number) l.places → name ≡ name_at l.number i

@@ -1,7 +1,7 @@
 //! One section's own: its labels with their sockets, its moment, where its searches begin, and the
 //! TIME_WAITs that it left; its commands over the tables.
 
-ghost use Rattle.std.specs.Prelude.{◌≡◌, false, ◌≤◌, ◌<◌, ◌+◌, ◌^◌, ◌%◌, length, IfOk};
+ghost use Rattle.std.specs.Prelude.{◌≡◌, false, ◌≤◌, ◌<◌, ◌+◌, ◌^◌, ◌%◌, length, IfOk, OnErr};
 ghost use Rattle.flat_list.specs.Ports.{size};
 ghost use Rattle.table_model.specs.Own as own;
 ghost use Rattle.table_model.specs.Own.{open_socket};
@@ -113,6 +113,7 @@ impl Machine {
         requires stands { AllStand tables.old self.old.own.sockets }
         ensures carried { IfOk result (Replies tables.old
             (commands.bind_command self.old.own (open_socket self.old.own label.now) end) tables.new self.new.own) }
+        ensures err { OnErr result (self.new.own.sockets ≡ self.old.own.sockets) }
         ensures kept { KeepsHeader self.old self.new }
     {
         let Some((place, socket)) = self.labels.take(label) else {
@@ -137,6 +138,7 @@ impl Machine {
         ensures carried { IfOk result (Replies tables.old
             (commands.listen_command self.old.header self.old.own (open_socket self.old.own label.now))
             tables.new self.new.own) }
+        ensures err { OnErr result (self.new.own.sockets ≡ self.old.own.sockets) }
         ensures kept { KeepsHeader self.old self.new }
     {
         let Some((place, socket)) = self.labels.take(label) else {
@@ -167,6 +169,7 @@ impl Machine {
         ensures carried { IfOk result (Replies tables.old
             (commands.connect_command self.old.header self.old.own (open_socket self.old.own label.now) from to)
             tables.new self.new.own) }
+        ensures err { OnErr result (self.new.own.sockets ≡ self.old.own.sockets) }
         ensures kept { KeepsHeader self.old self.new }
     {
         let Some((place, socket)) = self.labels.take(label) else {
@@ -209,6 +212,7 @@ impl Machine {
         ensures carried { IfOk result (Replies tables.old
             (commands.accept_command self.old.header (own.with_label self.old.own label) (own.next_name self.old.own)
             (open_socket self.old.own listener.now) from at) tables.new self.new.own) }
+        ensures err { OnErr result (self.new.own.sockets ≡ self.old.own.sockets) }
         ensures kept { KeepsHeader self.old self.new }
     {
         let place = self.labels.len();
@@ -234,6 +238,7 @@ impl Machine {
         ensures carried { IfOk result (Replies tables.old
             (commands.close_command self.old.header self.old.own (open_socket self.old.own label.now))
             tables.new self.new.own) }
+        ensures err { OnErr result (self.new.own.sockets ≡ self.old.own.sockets) }
         ensures kept { KeepsHeader self.old self.new }
     {
         let Some((place, socket)) = self.labels.take(label) else {
@@ -277,6 +282,7 @@ impl Machine {
     /// Removes the TIME_WAITs of the section that have lasted.
     fn reap(&mut self, tables: &mut Tables) -> Result<Reply, AllocError>
         ensures carried { IfOk result (Replies tables.old (commands.reap_command self.old.own) tables.new self.new.own) }
+        ensures err { OnErr result (self.new.own.sockets ≡ self.old.own.sockets) }
         ensures kept { KeepsHeader self.old self.new }
     {
         let count = reap(tables, &mut self.waits, self.moment)?;
@@ -288,6 +294,7 @@ impl Machine {
         requires room { length self.old.own.labels + 1 < 2 ^ 24 }
         ensures carried { IfOk result (λ reply. (t : Shown) →
             Replies t (commands.socket_command self.old.own label options) t self.new.own reply) }
+        ensures err { OnErr result (self.new.own.sockets ≡ self.old.own.sockets) }
         ensures kept { KeepsHeader self.old self.new }
     {
         let place = self.labels.len();
@@ -306,6 +313,7 @@ impl Machine {
         requires of { AreOf self.old.header tables.old }
         ensures carried { IfOk result (Replies tables.old
             (commands.plan self.old.header self.old.own command.now) tables.new self.new.own) }
+        ensures err { OnErr result (self.new.own.sockets ≡ self.old.own.sockets) }
         ensures kept { KeepsHeader self.old self.new }
     {
         match command {
@@ -343,8 +351,8 @@ impl Machine {
 
     /// Carries a command out, any but `look` and `packets`.
     ///
-    /// The reply is the flat list's. An `Err`, for want of memory, leaves the section's header and number, and
-    /// at most one label more; the program ends there. It takes the time of the operation, and for a label that
+    /// The reply is the flat list's. An `Err`, for want of memory, leaves the section's header, number and open
+    /// sockets, and at most one label more; the program ends there. It takes the time of the operation, and for a label that
     /// of a search among as many.
     pub fn step(&mut self, tables: &mut Tables, command: &Command) -> Result<Reply, AllocError>
         requires look { is_lookup command.now ≡ false }
@@ -354,6 +362,7 @@ impl Machine {
         ensures carried { IfOk result (Replies tables.old
             (commands.plan self.old.header self.old.own command.now) tables.new self.new.own) }
         ensures refines { IfOk result (RefinesEach self.old tables.old command.now tables.new self.new.own) }
+        ensures err { OnErr result (self.new.own.sockets ≡ self.old.own.sockets) }
         ensures kept { KeepsHeader self.old self.new }
     {
         self.carry(tables, command)

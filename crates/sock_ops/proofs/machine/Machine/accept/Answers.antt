@@ -10,7 +10,7 @@ use Rattle.sock_ops.specs.Carried.{Comes}
 use Rattle.sock_ops.specs.Places.{Labelled, own_of, with_place, place_in}
 use Rattle.sock_ops.specs.Sections.{AllStand, AreOf, Kept}
 use Rattle.sock_ops.proofs.Names.{accept_names}
-use Rattle.sock_ops.proofs.Settled.{of_header, refused_so}
+use Rattle.sock_ops.proofs.Settled.{of_header, refused_so, on_err}
 use Rattle.sock_ops.proofs.Given.{found_named, stands_found, label_given, socket_given, accepts_none, accepts}
 use Rattle.sock_ops.proofs.machine.Machine.accept.Goals as goal
 
@@ -67,3 +67,10 @@ returns-in_ok-refusal-in-Err-clause-carried c =
     (ap (λ (x : Own). answers x (connect_error c.in-Err.end)) (label_given c.args.self.now c.self.inside.header c.self.inside.labels c.give.new.self c.self.inside.moment c.self.inside.offsets c.self.inside.waits c.args.label
     (record { view = c.self.view_is; names = c.len-place.ensures.names }) c.len-place.ensures.places c.in_ok-give.ensures.given)
     ∙ ap (answers (own_of c.give.new.self c.self.inside.moment c.self.inside.offsets c.self.inside.waits)) (sym (c.connect_error.ensures ∙ ap connect_error c.in_ok-refusal-in-Err.ensures.same)))
+
+pub returns-in_err-refusal-in-Err-clause-err : goal.returns-in_err-refusal-in-Err-clause-err
+returns-in_err-refusal-in-Err-clause-err c =
+    on_err c.from_residual-in_err-refusal-in-Err.result
+    (sym (ap (λ (x : Own). x.sockets) (label_given c.args.self.now c.self.inside.header c.self.inside.labels c.give.new.self c.self.inside.moment c.self.inside.offsets c.self.inside.waits c.args.label
+    (record { view = c.self.view_is; names = c.len-place.ensures.names }) c.len-place.ensures.places c.in_ok-give.ensures.given))
+    ∙ ap (λ (k : Kept). k.own.sockets) c.self.view_is)

@@ -12,7 +12,7 @@ use Rattle.sock_ops.specs.Ends.{after_search}
 use Rattle.sock_ops.specs.Places.{Labelled, with_place}
 use Rattle.sock_ops.specs.Sections.{AllStand, Kept}
 use Rattle.sock_ops.proofs.Names.{bind_keeps}
-use Rattle.sock_ops.proofs.Settled.{nobody, done_so, refused_then, refused_so, stands_there, searches_typed}
+use Rattle.sock_ops.proofs.Settled.{nobody, done_so, refused_then, refused_so, stands_there, searches_typed, on_err, sockets_back}
 use Rattle.sock_ops.proofs.machine.Machine.bind.Goals as goal
 
 pub returns-in_default-clause-carried : goal.returns-in_default-clause-carried
@@ -54,3 +54,9 @@ returns-in_ok-refusal-in-Err-clause-carried c =
     c.in-Err.end c.bind_error.result (c.put-in-Err.ensures ∙ ap (λ x. with_place c.take.new.self c.in-Some.place (Some (mine_of x))) c.in-Err.ensures.back)
     (refused_so with_port c.args.tables.now (plan.bind (mine_of c.in-Some.socket) c.args.end (ports_of c.self.inside.offsets firsts.Odd)) c.bind.new.tables c.in-Err.end c.in_ok-refusal-in-Err.ensures.told c.in-Err.ensures.carried)
     (λ x. ap (answers x) (sym (c.bind_error.ensures ∙ ap bind_error c.in_ok-refusal-in-Err.ensures.same)))
+
+pub returns-in_err-refusal-in-Err-clause-err : goal.returns-in_err-refusal-in-Err-clause-err
+returns-in_err-refusal-in-Err-clause-err c =
+    on_err c.from_residual.result
+    (sockets_back c.args.self.now c.self.inside.header c.self.inside.labels c.take.new.self c.put-in-Err.new.self c.self.inside.moment c.self.inside.offsets c.self.inside.waits c.in-Some.place (mine_of c.in-Some.socket) c.self.view_is c.in-Some.ensures.cases.there c.in-Some.ensures.cases.after
+    (c.put-in-Err.ensures ∙ ap (λ x. with_place c.take.new.self c.in-Some.place (Some (mine_of x))) c.in-Err.ensures.back))

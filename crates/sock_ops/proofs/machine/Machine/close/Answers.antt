@@ -1,9 +1,10 @@
-use Rattle.std.proofs.Common.{refl, sym, subst}
+use Rattle.std.proofs.Common.{Some, refl, sym, subst, ap, ◌∙◌}
 use Rattle.table_model.specs.Own.{open_socket}
 use Rattle.table_model.specs.Commands.{close_command}
-use Rattle.sock_ops.specs.Places.{own_of}
+use Rattle.sock_ops.specs.Places.{own_of, with_place}
 use Rattle.sock_ops.specs.Sections.{AllStand, AreOf, Kept, Replies}
-use Rattle.sock_ops.proofs.Settled.{nobody, stands_there}
+use Rattle.sock_ops.specs.Socks.{mine_of}
+use Rattle.sock_ops.proofs.Settled.{nobody, stands_there, sockets_back}
 use Rattle.sock_ops.proofs.Closings.{closed_out}
 use Rattle.sock_ops.proofs.machine.Machine.close.Goals as goal
 
@@ -25,3 +26,8 @@ returns-in-Ok-clause-carried c =
     (closed_out c.args.tables.now c.close.new.tables c.args.self.now c.self.inside.header c.self.inside.labels c.take.new.self c.self.inside.moment c.self.inside.offsets c.self.inside.waits c.args.label.now
     c.in-Some.place c.in-Some.socket (record { view = c.self.view_is; names = c.take.ensures.names }) c.in-Some.ensures.cases
     (subst (λ (k : Kept). AreOf k.header c.args.tables.now) (sym c.self.view_is) c.requires.of) c.in-Ok.closed c.close.new.waits c.in-Ok.ensures.carried)
+
+pub returns-in-Err-clause-err : goal.returns-in-Err-clause-err
+returns-in-Err-clause-err c =
+    sockets_back c.args.self.now c.self.inside.header c.self.inside.labels c.take.new.self c.put.new.self c.self.inside.moment c.self.inside.offsets c.self.inside.waits c.in-Some.place (mine_of c.in-Some.socket) c.self.view_is c.in-Some.ensures.cases.there c.in-Some.ensures.cases.after
+    (c.put.ensures ∙ ap (λ x. with_place c.take.new.self c.in-Some.place (Some (mine_of x))) c.in-Err.ensures.back)

@@ -12,7 +12,7 @@ use Rattle.sock_ops.specs.Ends.{after_search}
 use Rattle.sock_ops.specs.Places.{Labelled, with_place}
 use Rattle.sock_ops.specs.Sections.{AllStand, AreOf, Kept}
 use Rattle.sock_ops.proofs.Names.{connect_keeps}
-use Rattle.sock_ops.proofs.Settled.{nobody, done_so, refused_then, refused_so, stands_there, of_header, connects_typed}
+use Rattle.sock_ops.proofs.Settled.{nobody, done_so, refused_then, refused_so, stands_there, of_header, connects_typed, on_err, sockets_back}
 use Rattle.sock_ops.proofs.machine.Machine.connect.Goals as goal
 
 pub returns-in_default-clause-carried : goal.returns-in_default-clause-carried
@@ -54,3 +54,9 @@ returns-in_ok-refusal-in-Err-clause-carried c =
     c.in-Err.end c.connect_error.result (c.put-in-Err.ensures ∙ ap (λ x. with_place c.take.new.self c.in-Some.place (Some (mine_of x))) c.in-Err.ensures.back)
     (of_header c.self.inside.header c.args.tables.now c.connect.new.tables (λ shape seed. plan.connect shape seed (mine_of c.in-Some.socket) c.args.from c.args.to c.self.inside.moment (connect_rule c.self.inside.header) (ports_of c.self.inside.offsets firsts.Even)) (refused c.in-Err.end) (subst (λ (k : Kept). AreOf k.header c.args.tables.now) (sym c.self.view_is) c.requires.of) (refused_so with_end c.args.tables.now (plan.connect c.args.tables.now.chains.shape c.args.tables.now.chains.seed (mine_of c.in-Some.socket) c.args.from c.args.to c.self.inside.moment (connect_rule c.self.inside.header) (ports_of c.self.inside.offsets firsts.Even)) c.connect.new.tables c.in-Err.end c.in_ok-refusal-in-Err.ensures.told c.in-Err.ensures.carried))
     (λ x. ap (answers x) (sym (c.connect_error.ensures ∙ ap connect_error c.in_ok-refusal-in-Err.ensures.same)))
+
+pub returns-in_err-refusal-in-Err-clause-err : goal.returns-in_err-refusal-in-Err-clause-err
+returns-in_err-refusal-in-Err-clause-err c =
+    on_err c.from_residual.result
+    (sockets_back c.args.self.now c.self.inside.header c.self.inside.labels c.take.new.self c.put-in-Err.new.self c.self.inside.moment c.self.inside.offsets c.self.inside.waits c.in-Some.place (mine_of c.in-Some.socket) c.self.view_is c.in-Some.ensures.cases.there c.in-Some.ensures.cases.after
+    (c.put-in-Err.ensures ∙ ap (λ x. with_place c.take.new.self c.in-Some.place (Some (mine_of x))) c.in-Err.ensures.back))
