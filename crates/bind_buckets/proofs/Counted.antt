@@ -1,7 +1,7 @@
 -- How counts change with a list, and what a count of 0 rules out.
-use Rattle.std.proofs.Common.{◌≡◌, ℕ, ◌+◌, Bool, true, false, cond, List, [], ◌∷◌, ◌++◌, find, Some, None, ◌⊎◌, inl, inr, arith, refl, ap}
+use Rattle.std.proofs.Common.{◌≡◌, ℕ, ◌+◌, Bool, true, false, cond, ◌&&◌, ◌||◌, List, [], ◌∷◌, ◌++◌, find, Some, None, ◌⊎◌, inl, inr, ⊎_elim, arith, refl, ap}
 use Rattle.std.specs.Prelude.{count_by}
-use Rattle.std.proofs.lemmas.Bool.{cases_Bool}
+use Rattle.std.proofs.lemmas.Bool.{cases_Bool, true≢false, or_cases, or_left}
 use Rattle.std.proofs.lemmas.List.Sums.{sum_by-cons, sum_by_push}
 use Rattle.list_words.proofs.EachLemmas.{some_same}
 use Rattle.bind_buckets.specs.First.{change_first, drop_first}
@@ -84,3 +84,18 @@ none_left is r [] h = refl
 none_left is r (x ∷ xs) h =
     let parts = fails_first r x xs (cases_Bool (r x)) h in
     left_case is r x xs (cases_Bool (is x)) parts.0 parts.1 (none_left is r xs parts.1)
+
+-- where all that pass pass one test more, or one of two, none passes where none passes with those
+where_case : {A : Type 0} (f g r : A → Bool) (x : A) (xs : List A) → (r x ≡ true) ⊎ (r x ≡ false) → (r x ≡ true → (f x || g x) ≡ true) → (f x && r x) ≡ false → (g x && r x) ≡ false → find r xs ≡ None → find r (x ∷ xs) ≡ None
+where_case f g r x xs (inl e) either left right rest = absurd (⊎_elim (λ (p : f x ≡ true). true≢false (rw (p, e) at left)) (λ (p : g x ≡ true). true≢false (rw (p, e) at right)) (or_cases (f x) (g x) (either e)))
+where_case f g r x xs (inr e) either left right rest = rw e rest
+
+pub none_of_both : {A : Type 0} (f g r : A → Bool) (xs : List A) → ((x : A) → r x ≡ true → (f x || g x) ≡ true) → find (λ x. f x && r x) xs ≡ None → find (λ x. g x && r x) xs ≡ None → find r xs ≡ None
+none_of_both f g r [] either left right = refl
+none_of_both f g r (x ∷ xs) either left right =
+    let first = fails_first (λ y. f y && r y) x xs (cases_Bool (f x && r x)) left in
+    let second = fails_first (λ y. g y && r y) x xs (cases_Bool (g x && r x)) right in
+    where_case f g r x xs (cases_Bool (r x)) (either x) first.0 second.0 (none_of_both f g r xs either first.1 second.1)
+
+pub none_where : {A : Type 0} (f r : A → Bool) (xs : List A) → ((x : A) → r x ≡ true → f x ≡ true) → find (λ x. f x && r x) xs ≡ None → find r xs ≡ None
+none_where f r xs all none = none_of_both f f r xs (λ x p. or_left (f x) (f x) (all x p)) none none

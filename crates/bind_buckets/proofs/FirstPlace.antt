@@ -1,11 +1,11 @@
 -- The first item that passes a test, by its place.
-use Rattle.std.proofs.Common.{◌≡◌, ℕ, ◌<◌, ◌≤◌, Bool, true, false, List, [], ◌∷◌, length, get_or, remove, arith, refl, sym, ◌∙◌, ap, subst, cond, not, ◌+◌, suc, Some, None, find, position, slice_get}
+use Rattle.std.proofs.Common.{◌≡◌, ℕ, ◌<◌, ◌≤◌, Bool, true, false, List, [], ◌∷◌, length, get_or, arith, refl, sym, ◌∙◌, ap, subst, Some, None, find, position, slice_get}
 use Rattle.std.proofs.Math.ListN.{set}
 use Rattle.std.specs.List.{position_or_len, list_any}
 use Rattle.std.proofs.lemmas.List.Folds.{find_at}
 use Rattle.std.proofs.lemmas.Option.{slice_get-get_or, slice_get_past}
 use Rattle.std.proofs.lemmas.List.Quantifiers.{position-Some}
-use Rattle.bind_buckets.specs.First.{change_first, drop_first}
+use Rattle.bind_buckets.specs.First.{change_first}
 
 module _ {A : Type 0} (is : A → Bool) where
   -- what `position` says of the first place
@@ -19,27 +19,11 @@ module _ {A : Type 0} (is : A → Bool) where
   change_there f [] d h = absurd (omega arith)
   change_there f (x ∷ xs) d h = grind (arith, change_there f xs d)
 
-  drop_case : (x : A) (xs : List A) (b : Bool) (p : ℕ) → (b ≡ false → drop_first is xs ≡ remove xs p) → cond b xs (x ∷ drop_first is xs) ≡ remove (x ∷ xs) (cond (not b) (1 + p) 0)
-  drop_case x xs true p h = refl
-  drop_case x xs false p h =
-      let one : 1 + p ≡ suc p = omega arith in
-      rw one (ap (λ rest. x ∷ rest) (h refl))
-
-  drop_there : (xs : List A) → position_or_len is xs < length xs → drop_first is xs ≡ remove xs (position_or_len is xs)
-  drop_there [] h = absurd (omega arith)
-  drop_there (x ∷ xs) h =
-      drop_case x xs (is x) (position_or_len is xs) (λ e. drop_there xs (let k = rw e at h in omega arith))
-
   pub changes_at : (f : A → A) (xs : List A) (i : ℕ) (x : A) → position is xs ≡ Some i → x ≡ get_or xs i x → change_first is f xs ≡ set xs i (f x)
   changes_at f xs i x h read =
       let place = place_is xs i h in
       change_there f xs x (subst (λ k. k < length xs) place.0 place.1)
       ∙ ap (λ k. set xs k (f (get_or xs k x))) (sym place.0) ∙ ap (λ y. set xs i (f y)) (sym read)
-
-  pub drops_at : (xs : List A) (i : ℕ) → position is xs ≡ Some i → drop_first is xs ≡ remove xs i
-  drops_at xs i h =
-      let place = place_is xs i h in
-      drop_there xs (subst (λ k. k < length xs) place.0 place.1) ∙ ap (remove xs) (sym place.0)
 
   pub found_at : (xs : List A) (i : ℕ) (x : A) → position is xs ≡ Some i → x ≡ get_or xs i x → find is xs ≡ Some x
   found_at xs i x h read =

@@ -1,4 +1,6 @@
 mod FirstPlace
+mod Beside
+mod LeftOut
 mod Named
 mod LeftBy
 mod CanListen
@@ -22,7 +24,8 @@ pub mod Called
 mod RunsTold
 mod SlotSteps
 mod SlotsKept
-mod Walk
-mod Relinked
-mod Links
+mod Linked
+mod Sought
+mod Searched
+mod WantedBy
 mod OwnersIn

@@ -1,5 +1,5 @@
 -- A call on a name, from its first owner.
-use Rattle.std.proofs.Common.{◌≡◌, ◌==◌, ℕ, Bool, true, false, cond, List, [], ◌∷◌, refl, sym, ap, ◌∙◌, find, Option, Some, None, arith}
+use Rattle.std.proofs.Common.{◌≡◌, ◌==◌, ◌||◌, ℕ, Bool, true, false, cond, List, [], ◌∷◌, refl, sym, ap, ◌∙◌, find, Option, Some, None, arith}
 use Rattle.std.proofs.lemmas.Bool.{false≢true}
 use Rattle.std.proofs.lemmas.Bool.Decides.{nat_tests}
 use Rattle.sock_card.specs.declared.owner.Owner.{Owner}
@@ -8,6 +8,8 @@ use Rattle.sock_card.specs.Became.{as_listener}
 use Rattle.bind_buckets.specs.First.{change_first, drop_first}
 use Rattle.bind_buckets.specs.OwnerStep.{Held, After, has_name, named, spoken, kept, changed, listening, with_member, place_for}
 use Rattle.bind_buckets.specs.Members.{member}
+use Rattle.bind_buckets.specs.Slots.{StandsThere}
+use Rattle.bind_buckets.proofs.SlotsKept.{own_address}
 
 pub speaks_of : (h : Held) (name : ℕ) (speak : Owner → After) (a : Owner) → find (has_name name) h.owners ≡ Some a → named h name speak ≡ speak a
 speaks_of h name speak a found = ap (λ o. spoken h name o speak) found
@@ -68,6 +70,15 @@ replaces owners name f a b found is same =
     ap (λ n. change_first (has_name n) (λ _. b) owners) (same ∙ found_named owners name a found)
     ∙ ap (λ (o : Owner). change_first (has_name name) (λ _. o) owners) is
     ∙ replaced (has_name name) f owners a found
+
+-- what becomes of the first is found where it was, if it keeps its port, and its address or had none
+pub stands_at : (owners : List Owner) (name : ℕ) (a b : Owner) → find (has_name name) owners ≡ Some a → b.name ≡ a.name → b.port ≡ a.port → ((a.addr == 0) || (a.addr == b.addr)) ≡ true → StandsThere b (find (has_name b.name) owners)
+stands_at owners name a b found same port addr =
+    rw (same ∙ found_named owners name a found, found) (sym port, addr)
+
+pub stands_there : (owners : List Owner) (name : ℕ) (a b : Owner) → find (has_name name) owners ≡ Some a → b.name ≡ a.name → b.port ≡ a.port → b.addr ≡ a.addr → StandsThere b (find (has_name b.name) owners)
+stands_there owners name a b found same port addr =
+    stands_at owners name a b found same port (rw addr (own_address a.addr))
 
 abbrev pub done : List Owner → List (List ℕ) → After
 done owners groups = record { held = record { owners = owners; groups = groups }; answer = answers.Done }

@@ -5,14 +5,14 @@ use Rattle.std.specs.Option.{option_map}
 use Rattle.std.proofs.lemmas.List.{map-append}
 use Rattle.std.proofs.lemmas.List.Elements.{filter-append}
 use Rattle.sock_card.specs.declared.owner.Owner.{Owner}
-use Rattle.bind_buckets.specs.declared.owner_list.Slot.{Slot}
+use Rattle.bind_buckets.specs.declared.slot.Slot.{Slot}
 use Rattle.bind_buckets.specs.First.{change_first, drop_first}
 use Rattle.bind_buckets.specs.Slots.{owners_in}
 
-abbrev is_here : Slot → Bool
+abbrev pub is_here : Slot → Bool
 is_here s = s.here
 
-abbrev owner_of : Slot → Owner
+abbrev pub owner_of : Slot → Owner
 owner_of s = s.owner
 
 -- one slot in front of others, whose owner is here or left
@@ -72,16 +72,6 @@ module _ (is : Owner → Bool) where
     owner_left [] = refl
     owner_left (s ∷ rest) = left_by s rest s.here (is s.owner) refl refl (owner_left rest)
 
-  dropped_by : (s : Slot) (rest : List Slot) (here b : Bool) → s.here ≡ here → is s.owner ≡ b → drop_first is (owners_in rest) ≡ owners_in (drop_first has rest) → drop_first is (map owner_of (before here s rest)) ≡ owners_in (cond (here && b) rest (s ∷ drop_first has rest))
-  dropped_by s rest true true e q same = rw q refl
-  dropped_by s rest true false e q same = rw (q, e) (ap (λ xs. s.owner ∷ xs) same)
-  dropped_by s rest false b e q same = rw e same
-
-  -- without the slot that has the first such owner
-  pub owner_dropped : (slots : List Slot) → drop_first is (owners_in slots) ≡ owners_in (drop_first has slots)
-  owner_dropped [] = refl
-  owner_dropped (s ∷ rest) = dropped_by s rest s.here (is s.owner) refl refl (owner_dropped rest)
-
 count_by : (x : Slot) (rest rest' : List Slot) (here : Bool) → x.here ≡ here → length (owners_in rest') + 1 ≡ length (owners_in rest) → length (owners_in (x ∷ rest')) + 1 ≡ length (owners_in (x ∷ rest))
 count_by x rest rest' true e more = rw e (omega arith)
 count_by x rest rest' false e more = rw e more
@@ -108,19 +98,3 @@ pub as_many : (slots : List Slot) (i : ℕ) (y d : Slot) → y.here ≡ (get_or 
 as_many [] i y d here = refl
 as_many (x ∷ rest) zero y d here = as_many_by x y rest x.here refl here
 as_many (x ∷ rest) (suc i) y d here = many_by x rest (set rest i y) x.here refl (as_many rest i y d here)
-
-same_by : (x : Slot) (rest rest' : List Slot) (here : Bool) → owners_in rest' ≡ owners_in rest → map owner_of (before here x rest') ≡ map owner_of (before here x rest)
-same_by x rest rest' true same = ap (λ xs. x.owner ∷ xs) same
-same_by x rest rest' false same = same
-
-front_by : (x y : Slot) (rest : List Slot) (here : Bool) → x.here ≡ here → y.here ≡ x.here → y.owner ≡ x.owner → owners_in (y ∷ rest) ≡ owners_in (x ∷ rest)
-front_by x y rest true e same owner =
-    shown y rest (same ∙ e) ∙ ap (λ a. a ∷ owners_in rest) owner ∙ sym (shown x rest e)
-front_by x y rest false e same owner = hidden y rest (same ∙ e) ∙ sym (hidden x rest e)
-
--- the same owners, where a slot keeps its owner, here or gone
-pub owners_same : (slots : List Slot) (i : ℕ) (y d : Slot) → y.here ≡ (get_or slots i d).here → y.owner ≡ (get_or slots i d).owner → owners_in (set slots i y) ≡ owners_in slots
-owners_same [] i y d here owner = refl
-owners_same (x ∷ rest) zero y d here owner = front_by x y rest x.here refl here owner
-owners_same (x ∷ rest) (suc i) y d here owner =
-    same_by x rest (set rest i y) x.here (owners_same rest i y d here owner)

@@ -1,25 +1,27 @@
 -- What counts of 0 rule out.
 use Rattle.std.proofs.Common.{◌≡◌, ℕ, Bool, true, false, eqb, ◌&&◌, ◌||◌, not, List, find, None, ◌⊎◌, inl, inr, ⊎_elim, refl, ap, sym, ◌∙◌}
 use Rattle.std.specs.Prelude.{◌==◌}
-use Rattle.std.proofs.lemmas.Bool.{eqb-true, eq-eqb, both_ways, false_from_ne_true, true≢false, false≢true, and_parts, and_cases, and_left, and_right, or_cases, not-false}
+use Rattle.std.proofs.lemmas.Bool.{eqb-true, eq-eqb, both_ways, false_from_ne_true, true≢false, false≢true, and_parts, and_cases, and_left, and_right, or_cases, or_left, or_right, not-false, not-true}
 use Rattle.sock_card.specs.declared.owner.Owner.{Owner}
 use Rattle.sock_card.specs.Conflict.{overlap, refuses, is_listening, is_time_wait}
 use Rattle.bind_buckets.specs.declared.tally.Tally.{Tally}
 use Rattle.bind_buckets.specs.OwnerStep.{holds, is_mate}
-use Rattle.bind_buckets.specs.Tally.{Counts, has_place, place_of, is_exclusive, is_held, is_grouped, is_unshared, rules_out}
-use Rattle.bind_buckets.proofs.Counted.{none_counted}
+use Rattle.bind_buckets.specs.OwnerCounts.{port_place, end_place, place_by_port, place_by_end, both_rule_out}
+use Rattle.bind_buckets.specs.Tally.{Counts, has_place, is_exclusive, is_held, is_grouped, is_unshared, rules_out}
+use Rattle.bind_buckets.proofs.Counted.{none_counted, none_where, none_of_both}
+use Rattle.bind_buckets.proofs.WantedBy.{port_wanted, end_wanted, overlaps_if_refused}
 
 -- the owner's port has the place of that one
 abbrev pub beside : ℕ → ℕ → Owner → Bool
-beside stride port = has_place stride (place_of stride port)
+beside stride port = has_place (place_by_port stride) (port_place stride port)
 
 other_port : (stride port : ℕ) (b : Owner) → beside stride port b ≡ false → (b.port == port) ≡ false
 other_port stride port b out =
-    false_from_ne_true (b.port == port) (λ e. both_ways (beside stride port b) out (eq-eqb _ _ (ap (place_of stride) (eqb-true b.port port e))))
+    false_from_ne_true (b.port == port) (λ e. both_ways (beside stride port b) out (eq-eqb _ _ (ap (port_place stride) (eqb-true b.port port e))))
 
 apart : (stride : ℕ) (a b : Owner) → beside stride a.port b ≡ false → (a.port == b.port) ≡ false
 apart stride a b out =
-    false_from_ne_true (a.port == b.port) (λ e. both_ways (beside stride a.port b) out (eq-eqb _ _ (ap (place_of stride) (sym (eqb-true a.port b.port e)))))
+    false_from_ne_true (a.port == b.port) (λ e. both_ways (beside stride a.port b) out (eq-eqb _ _ (ap (port_place stride) (sym (eqb-true a.port b.port e)))))
 
 no_overlap : (stride : ℕ) (a b : Owner) → beside stride a.port b ≡ false → overlap a b ≡ false
 unfolding overlap
@@ -29,9 +31,8 @@ pub none_overlaps_it : (stride : ℕ) (a : Owner) (t : Tally) (owners : List Own
 none_overlaps_it stride a t owners none k =
     none_counted (beside stride a.port) (overlap a) owners (no_overlap stride a) (sym k.owners ∙ eqb-true t.owners 0 none)
 
-unrefused_apart : (stride : ℕ) (a b : Owner) → beside stride a.port b ≡ false → refuses a b ≡ false
-unfolding refuses
-unrefused_apart stride a b out = rw (no_overlap stride a b out) refl
+within : (x y z : Bool) → (y ≡ false → z ≡ false) → (x && y) ≡ false → (x && z) ≡ false
+within x y z less out = ⊎_elim (λ e. and_left x z e) (λ e. and_right x z (less e)) (and_cases x y out)
 
 by_address : (o x y l z : Bool) → x ≡ true → (not y || l) ≡ false → (o && not (x && y && not l) && z) ≡ false
 by_address true true true false z e h = refl
@@ -40,12 +41,9 @@ by_address o true true true z e h = absurd (true≢false h)
 by_address o true false l z e h = absurd (true≢false h)
 by_address o false y l z e h = absurd (false≢true e)
 
-shares_address : (stride : ℕ) (a b : Owner) → a.reuseaddr ≡ true → (beside stride a.port b && is_exclusive b) ≡ false → refuses a b ≡ false
+shares_address : (a b : Owner) → a.reuseaddr ≡ true → is_exclusive b ≡ false → refuses a b ≡ false
 unfolding refuses
-shares_address stride a b e out =
-    ⊎_elim (λ apart_from. unrefused_apart stride a b apart_from)
-    (λ shared. by_address (overlap a b) a.reuseaddr b.reuseaddr (is_listening b.state) _ e shared)
-    (and_cases (beside stride a.port b) (is_exclusive b) out)
+shares_address a b e shared = by_address (overlap a b) a.reuseaddr b.reuseaddr (is_listening b.state) _ e shared
 
 by_user : (q x y u w : Bool) → x ≡ true → y ≡ true → u ≡ true → (q && not ((x && y) && (u || w))) ≡ false
 by_user true true true true w e f g = refl
@@ -59,25 +57,67 @@ with_user uid b out =
     let parts = and_parts b.reuseport (b.uid == uid) (not-false (b.reuseport && (b.uid == uid)) out) in
     (parts.0, eqb-true b.uid uid parts.1)
 
-shares_port : (stride uid : ℕ) (a b : Owner) → a.reuseport ≡ true → a.uid ≡ uid → (beside stride a.port b && is_unshared uid b) ≡ false → refuses a b ≡ false
+shares_port : (uid : ℕ) (a b : Owner) → a.reuseport ≡ true → a.uid ≡ uid → is_unshared uid b ≡ false → refuses a b ≡ false
 unfolding refuses
-shares_port stride uid a b e same out =
-    ⊎_elim (λ apart_from. unrefused_apart stride a b apart_from)
-    (λ shared. let user = with_user uid b shared in by_user _ a.reuseport b.reuseport (a.uid == b.uid) (is_time_wait b.state) e user.0 (eq-eqb a.uid b.uid (same ∙ sym user.1)))
-    (and_cases (beside stride a.port b) (is_unshared uid b) out)
+shares_port uid a b e same shared =
+    let user = with_user uid b shared in
+    by_user _ a.reuseport b.reuseport (a.uid == b.uid) (is_time_wait b.state) e user.0 (eq-eqb a.uid b.uid (same ∙ sym user.1))
 
-pub ruled_out : (stride : ℕ) (a : Owner) (t : Tally) (owners : List Owner) → rules_out t a ≡ true → Counts (beside stride a.port) t owners → find (refuses a) owners ≡ None
-ruled_out stride a t owners told k =
+-- of the owners that the tally counts, none refuses this one
+pub ruled_out : (at : Owner → Bool) (a : Owner) (t : Tally) (owners : List Owner) → rules_out t a ≡ true → Counts at t owners → find (λ b. at b && refuses a b) owners ≡ None
+ruled_out at a t owners told k =
+    let here : Owner → Bool = λ b. at b && refuses a b in
     ⊎_elim
     (λ first. ⊎_elim
-    (λ none. none_counted (beside stride a.port) (refuses a) owners (unrefused_apart stride a) (sym k.owners ∙ eqb-true t.owners 0 none))
+    (λ none. none_counted at here owners (λ b. and_left (at b) (refuses a b)) (sym k.owners ∙ eqb-true t.owners 0 none))
     (λ address. let parts = and_parts a.reuseaddr (t.exclusive == 0) address in
-    none_counted (λ b. beside stride a.port b && is_exclusive b) (refuses a) owners (λ b. shares_address stride a b parts.0) (sym k.exclusive ∙ eqb-true t.exclusive 0 parts.1))
+    none_counted (λ b. at b && is_exclusive b) here owners (λ b. within (at b) (is_exclusive b) (refuses a b) (shares_address a b parts.0)) (sym k.exclusive ∙ eqb-true t.exclusive 0 parts.1))
     (or_cases (t.owners == 0) (a.reuseaddr && (t.exclusive == 0)) first))
     (λ port. let parts = and_parts (a.reuseport && (a.uid == t.uid)) (t.unshared == 0) port in
     let user = and_parts a.reuseport (a.uid == t.uid) parts.0 in
-    none_counted (λ b. beside stride a.port b && is_unshared t.uid b) (refuses a) owners (λ b. shares_port stride t.uid a b user.0 (eqb-true a.uid t.uid user.1)) (sym k.unshared ∙ eqb-true t.unshared 0 parts.1))
+    none_counted (λ b. at b && is_unshared t.uid b) here owners (λ b. within (at b) (is_unshared t.uid b) (refuses a b) (shares_port t.uid a b user.0 (eqb-true a.uid t.uid user.1))) (sym k.unshared ∙ eqb-true t.unshared 0 parts.1))
     (or_cases ((t.owners == 0) || a.reuseaddr && (t.exclusive == 0)) (a.reuseport && (a.uid == t.uid) && (t.unshared == 0)) told)
+
+same_port : (a b : Owner) → refuses a b ≡ true → b.port ≡ a.port
+same_port a b r = eqb-true b.port a.port (port_wanted a b (overlaps_if_refused a b r))
+
+beside_it : (stride : ℕ) (a b : Owner) → refuses a b ≡ true → beside stride a.port b ≡ true
+beside_it stride a b r = eq-eqb _ _ (ap (port_place stride) (same_port a b r))
+
+pub none_refuses_there : (stride : ℕ) (a : Owner) (t : Tally) (owners : List Owner) → rules_out t a ≡ true → Counts (beside stride a.port) t owners → find (refuses a) owners ≡ None
+none_refuses_there stride a t owners told k =
+    none_where (beside stride a.port) (refuses a) owners (beside_it stride a) (ruled_out (beside stride a.port) a t owners told k)
+
+pub beside_own : (stride : ℕ) (a : Owner) → beside stride a.port a ≡ true
+beside_own stride a = eq-eqb _ _ refl
+
+-- the owner's end has the place of that one
+abbrev pub about : ℕ → ℕ → ℕ → Owner → Bool
+about stride port addr = has_place (place_by_end stride) (end_place stride port addr)
+
+pub about_own : (stride : ℕ) (a : Owner) → about stride a.port a.addr a ≡ true
+about_own stride a = eq-eqb _ _ refl
+
+about_it : (stride : ℕ) (a b : Owner) (addr : ℕ) → b.port ≡ a.port → (b.addr == addr) ≡ true → about stride a.port addr b ≡ true
+about_it stride a b addr port e = eq-eqb _ _ (ap (λ n. end_place stride n b.addr) port ∙ ap (end_place stride a.port) (eqb-true b.addr addr e))
+
+at_either : (stride : ℕ) (a b : Owner) → ((a.addr == 0) ≡ true → ⊥) → refuses a b ≡ true → (about stride a.port a.addr b || about stride a.port 0 b) ≡ true
+at_either stride a b some r =
+    let end = and_parts (b.port == a.port) ((b.addr == a.addr) || (b.addr == 0)) (end_wanted a b some (overlaps_if_refused a b r)) in
+    let port = eqb-true b.port a.port end.0 in
+    ⊎_elim
+    (λ there. or_left _ (about stride a.port 0 b) (about_it stride a b a.addr port there))
+    (λ any. or_right (about stride a.port a.addr b) _ (about_it stride a b 0 port any))
+    (or_cases (b.addr == a.addr) (b.addr == 0) end.1)
+
+-- none at either of its places refuses it: neither those that the one tally counts, nor any at the other place
+pub none_refuses_at : (stride : ℕ) (a : Owner) (there any : Tally) (owners : List Owner) → both_rule_out there any a ≡ true → Counts (about stride a.port a.addr) there owners
+    → (rules_out any a ≡ true → find (λ b. about stride a.port 0 b && refuses a b) owners ≡ None) → find (refuses a) owners ≡ None
+none_refuses_at stride a there any owners told k none_any =
+    let last = and_parts (not (a.addr == 0) && rules_out there a) (rules_out any a) told in
+    let first = and_parts (not (a.addr == 0)) (rules_out there a) last.0 in
+    none_of_both (about stride a.port a.addr) (about stride a.port 0) (refuses a) owners (λ b. at_either stride a b (λ zero. both_ways (a.addr == 0) (not-true (a.addr == 0) first.0) zero))
+    (ruled_out (about stride a.port a.addr) a there owners first.1 k) (none_any last.1)
 
 unheld : (stride port : ℕ) (b : Owner) → (beside stride port b && is_held b) ≡ false → holds port b ≡ false
 unheld stride port b out =

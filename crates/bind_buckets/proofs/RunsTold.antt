@@ -7,7 +7,7 @@ use Rattle.bind_buckets.specs.declared.request.Answer.{Answer}
 use Rattle.bind_buckets.specs.declared.request.Answer.TheVariants as answers
 use Rattle.bind_buckets.specs.declared.request.Note.{Note}
 use Rattle.bind_buckets.specs.declared.journal.Run.{Run}
-use Rattle.bind_buckets.specs.Runs.{told, last, notes_of, notes_after, note_at, answer_at, name_of, names_in, names_kept, IsNext}
+use Rattle.bind_buckets.specs.Runs.{told, last, notes_of, notes_after, note_at, answer_naming, name_of, names_in, names_kept, IsNext}
 
 -- runs that take all of these names, and later ones that take the others
 told_append : (step : ℕ) (runs later : List Run) (names others : List ℕ) → length names ≡ names_kept runs → told step (names ++ others) (runs ++ later) ≡ told step names runs ++ told step others later
@@ -44,7 +44,7 @@ note_more step run names notes more =
     ∙ ap (λ rest. notes ++ (run.first ∷ rest)) (rw add-one refl)
 
 -- answers of one run all name an owner, or none does
-same_kind : (name : ℕ) (answer : Answer) → is_some (name_of (answer_at name answer)) ≡ is_some (name_of answer)
+same_kind : (name : ℕ) (answer : Answer) → is_some (name_of (answer_naming name answer)) ≡ is_some (name_of answer)
 same_kind name answers.Done = refl
 same_kind name (answers.Group group) = refl
 same_kind name (answers.InUse other) = refl

@@ -1,17 +1,17 @@
 -- What becomes of the owners in slots where the first of a kind is changed or leaves.
-use Rattle.std.proofs.Common.{◌≡◌, ℕ, ◌+◌, Bool, true, false, ◌&&◌, List, get_or, remove, find, position, Option, Some, None, refl, sym, ◌∙◌, ap}
+use Rattle.std.proofs.Common.{◌≡◌, ℕ, ◌+◌, ◌<◌, length, subst, Bool, true, false, ◌&&◌, List, get_or, find, position, Some, None, refl, sym, ◌∙◌, ap}
 use Rattle.std.proofs.Math.ListN.{set}
 use Rattle.std.specs.Option.{option_map}
 use Rattle.std.proofs.lemmas.Bool.{and_parts}
 use Rattle.sock_card.specs.declared.owner.Owner.{Owner}
-use Rattle.bind_buckets.specs.declared.owner_list.Slot.{Slot}
+use Rattle.bind_buckets.specs.declared.slot.Slot.{Slot}
 use Rattle.bind_buckets.specs.First.{change_first, drop_first}
-use Rattle.bind_buckets.specs.Slots.{owners_in, AreKept}
-use Rattle.bind_buckets.proofs.FirstPlace.{found_at, absent, changes_at, drops_at, unchanged, passes_at, place_is}
-use Rattle.bind_buckets.proofs.OwnersIn.{owner_found, owner_changed, owner_left, owner_dropped}
-use Rattle.bind_buckets.proofs.SlotsKept.{kept_changed, kept_left}
+use Rattle.bind_buckets.specs.Slots.{owners_in, Filed, AreKept, StandsThere}
+use Rattle.bind_buckets.proofs.FirstPlace.{found_at, absent, changes_at, unchanged, passes_at, place_is}
+use Rattle.bind_buckets.proofs.OwnersIn.{owner_found, owner_changed, owner_left}
+use Rattle.bind_buckets.proofs.SlotsKept.{own_address, kept_changed, kept_left}
 
-abbrev leave : Slot → Slot
+abbrev pub leave : Slot → Slot
 leave s = record s { here = false }
 
 abbrev puts : Owner → Slot → Slot
@@ -41,20 +41,21 @@ module _ (is : Owner → Bool) (slots : List Slot) where
         (owner_changed is (λ _. a) (puts a) (λ s. refl) (λ s. refl) slots
         ∙ ap owners_in (changes_at has (puts a) slots place x at read))
 
-    pub kept_leaving : (newest : List (Option ℕ)) (gone capacity : ℕ) → AreKept slots newest gone capacity → AreKept (set slots place (leave x)) newest (gone + 1) capacity
-    kept_leaving newest gone capacity kept =
-        kept_left slots newest gone capacity kept place (leave x) x (place_is has slots place at).1
-        (record { name = ap (λ (s : Slot). s.owner.name) read; older = ap (λ (s : Slot). s.older) read })
-        (sym (ap (λ (s : Slot). s.here) read) ∙ here_there) refl
+    found_here : place < length slots
+    found_here = (place_is has slots place at).1
 
-    pub kept_putting : (a : Owner) → a.name ≡ x.owner.name → (newest : List (Option ℕ)) (gone capacity : ℕ) → AreKept slots newest gone capacity → AreKept (set slots place (puts a x)) newest gone capacity
-    kept_putting a same newest gone capacity kept =
-        kept_changed slots newest gone capacity kept place (puts a x) x
-        (record { name = same ∙ ap (λ (s : Slot). s.owner.name) read; older = ap (λ (s : Slot). s.older) read })
-        (ap (λ (s : Slot). s.here) read)
+    pub kept_leaving : (filed : Filed) (gone capacity : ℕ) → AreKept slots filed gone capacity → AreKept (set slots place (leave x)) filed (gone + 1) capacity
+    kept_leaving filed gone capacity kept =
+        kept_left slots filed gone capacity kept place x (leave x) found_here read
+        (record { name = refl; port = refl; filed = refl; addr = own_address x.owner.addr })
+        here_there refl
 
-  pub dropped_there : (place : ℕ) → position has slots ≡ Some place → drop_first is (owners_in slots) ≡ owners_in (remove slots place)
-  dropped_there place at = owner_dropped is slots ∙ ap owners_in (drops_at has slots place at)
+    pub kept_putting : (a : Owner) → a.name ≡ x.owner.name → StandsThere a (find is (owners_in slots)) → (filed : Filed) (gone capacity : ℕ) → AreKept slots filed gone capacity → AreKept (set slots place (puts a x)) filed gone capacity
+    kept_putting a same stands filed gone capacity kept =
+        let there : StandsThere a (Some x.owner) = subst (StandsThere a) first_there stands in
+        kept_changed slots filed gone capacity kept place x (puts a x) found_here read
+        (record { name = same; port = sym there.0; filed = refl; addr = there.1 })
+        refl
 
   module _ (nowhere : position has slots ≡ None) where
     pub none_there : find is (owners_in slots) ≡ None

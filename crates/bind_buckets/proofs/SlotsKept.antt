@@ -1,91 +1,144 @@
--- What holds of the slots of a list, where one is changed, left or pushed.
-use Rattle.std.proofs.Common.{◌≡◌, ℕ, ◌+◌, ◌%◌, ◌<◌, suc, true, false, List, [], ◌∷◌, ◌++◌, length, filter, get_or, Option, Some, None, refl, sym, ◌∙◌, ap, subst, arith, add-one}
+-- What holds of the slots of a list, where one is changed, left or pushed, or those are given up whose owners left.
+use Rattle.std.proofs.Common.{◌≡◌, ◌==◌, ℕ, ◌+◌, ◌-◌, ◌<◌, ◌≤◌, zero, suc, Bool, true, false, ◌||◌, cond, List, [], ◌∷◌, ◌++◌, length, filter, get_or, refl, sym, ◌∙◌, ap, arith}
 use Rattle.std.proofs.Math.ListN.{set}
 use Rattle.std.proofs.Math.Seq.{map-set_same}
-use Rattle.std.proofs.lemmas.List.{length-set, length-map, length_push, length-append, map-append, get_or_append_left, get_or_push}
-use Rattle.bind_buckets.specs.declared.owner_list.Slot.{Slot}
-use Rattle.bind_buckets.specs.Slots.{names_in, olders_in, owners_in, AreLinked, AreKept}
-use Rattle.bind_buckets.proofs.Links.{linked_more, linked_same}
-use Rattle.bind_buckets.proofs.OwnersIn.{one_fewer, as_many, owners_append, owners_kept}
+use Rattle.std.proofs.lemmas.Bool.Decides.{nat_tests}
+use Rattle.std.proofs.lemmas.List.{length-set, length-map, length_push, length-append, map-append}
+use Rattle.bind_buckets.specs.declared.slot.Slot.{Slot}
+use Rattle.bind_buckets.specs.Slots.{owners_in, names_in, ports_in, ends_in, end_key, is_filed, Filed, AreFiled, AreKept}
+use Rattle.bind_buckets.proofs.OwnersIn.{is_here, owner_of, one_fewer, as_many, owners_append, owners_kept}
 
-abbrev name_of : Slot → ℕ
+abbrev pub name_of : Slot → ℕ
 name_of s = s.owner.name
 
-abbrev older_of : Slot → Option ℕ
-older_of s = s.older
+abbrev port_of : Slot → ℕ
+port_of s = s.owner.port
 
--- a slot that keeps its name and its link
-pub record KeepsLinks (x y : Slot) : Type 0 where
+abbrev end_of : Slot → ℕ
+end_of s = end_key s.owner.port s.filed
+
+-- each slot is filed under its own address, or that of all
+abbrev AreRight : List Slot → Type 0
+AreRight slots = (place : ℕ) (d : Slot) → place < length slots → is_filed (get_or slots place d) ≡ true
+
+right_set : (slots : List Slot) (i : ℕ) (y : Slot) → AreRight slots → is_filed y ≡ true → AreRight (set slots i y)
+right_set [] i y right here place d lt = absurd (omega arith)
+right_set (x ∷ rest) zero y right here zero d lt = here
+right_set (x ∷ rest) zero y right here (suc place) d lt = right (suc place) d lt
+right_set (x ∷ rest) (suc i) y right here zero d lt = right zero d (omega arith)
+right_set (x ∷ rest) (suc i) y right here (suc place) d lt =
+    right_set rest i y (λ p e le. right (suc p) e (omega arith)) here place d (omega arith)
+
+right_push : (slots : List Slot) (y : Slot) → AreRight slots → is_filed y ≡ true → AreRight (slots ++ y ∷ [])
+right_push [] y right here zero d lt = here
+right_push [] y right here (suc place) d lt = absurd (omega arith)
+right_push (x ∷ rest) y right here zero d lt = right zero d (omega arith)
+right_push (x ∷ rest) y right here (suc place) d lt =
+    right_push rest y (λ p e le. right (suc p) e (omega arith)) here place d (omega arith)
+
+right_by : (x : Slot) (rest : List Slot) (b : Bool) → is_filed x ≡ true → AreRight rest → AreRight (cond b (x ∷ rest) rest)
+right_by x rest true here right zero d lt = here
+right_by x rest true here right (suc place) d lt = right place d (omega arith)
+right_by x rest false here right place d lt = right place d lt
+
+right_filter : (keep : Slot → Bool) (slots : List Slot) → AreRight slots → AreRight (filter keep slots)
+right_filter keep [] right = right
+right_filter keep (x ∷ rest) right =
+    right_by x (filter keep rest) (keep x) (right zero x (omega arith))
+    (right_filter keep rest (λ p e le. right (suc p) e (omega arith)))
+
+pub own_address : (addr : ℕ) → ((addr == 0) || (addr == addr)) ≡ true
+own_address addr = grind (arith, nat_tests)
+
+-- an address that was given takes the place of any address
+right_moved : (filed was now : ℕ) → ((filed == 0) || (filed == was)) ≡ true → ((was == 0) || (was == now)) ≡ true → ((filed == 0) || (filed == now)) ≡ true
+right_moved filed was now right given = grind (arith, nat_tests)
+
+-- a slot that is found where it was
+pub record StaysFiled (x y : Slot) : Type 0 where
   pub name : y.owner.name ≡ x.owner.name
-  pub older : y.older ≡ x.older
+  pub port : y.owner.port ≡ x.owner.port
+  pub filed : y.filed ≡ x.filed
+  pub addr : ((x.owner.addr == 0) || (x.owner.addr == y.owner.addr)) ≡ true
 
-linked_changed : (slots : List Slot) (newest : List (Option ℕ)) (i : ℕ) (y d : Slot) → KeepsLinks (get_or slots i d) y → AreLinked slots newest (length slots) → AreLinked (set slots i y) newest (length (set slots i y))
-linked_changed slots newest i y d keeps linked =
-    subst (AreLinked (set slots i y) newest) (sym (length-set slots i y))
-    (linked_same slots (set slots i y) newest (length slots)
-    (sym (map-set_same name_of slots i y d keeps.name)) (sym (map-set_same older_of slots i y d keeps.older)) linked)
-
-module _ (slots : List Slot) (newest : List (Option ℕ)) (gone capacity : ℕ) (kept : AreKept slots newest gone capacity) where
-  pub kept_changed : (i : ℕ) (y d : Slot) → KeepsLinks (get_or slots i d) y → y.here ≡ (get_or slots i d).here → AreKept (set slots i y) newest gone capacity
-  kept_changed i y d keeps here =
+module _ (slots : List Slot) (filed : Filed) where
+  filed_changed : (i : ℕ) (x y : Slot) → i < length slots → x ≡ get_or slots i x → StaysFiled x y → AreFiled slots filed → AreFiled (set slots i y) filed
+  filed_changed i x y lt read stays are =
+      let same : end_of y ≡ end_of x = rw (stays.port, stays.filed) refl in
+      let right : is_filed x ≡ true = rw read (are.right i x lt) in
       record {
-        linked = linked_changed slots newest i y d keeps kept.linked;
-        homes = kept.homes;
-        gone_is =
-            let many = as_many slots i y d here in
-            let len = length-set slots i y in
-            let is = kept.gone_is in
-            omega arith;
+        names = are.names ∙ sym (map-set_same name_of slots i y x (stays.name ∙ ap name_of read));
+        ports = are.ports ∙ sym (map-set_same port_of slots i y x (stays.port ∙ ap port_of read));
+        ends = are.ends ∙ sym (map-set_same end_of slots i y x (same ∙ ap end_of read));
+        right =
+            right_set slots i y are.right
+            (rw stays.filed (right_moved x.filed x.owner.addr y.owner.addr right stays.addr));
       }
 
-  pub kept_left : (i : ℕ) (y d : Slot) → i < length slots → KeepsLinks (get_or slots i d) y → (get_or slots i d).here ≡ true → y.here ≡ false → AreKept (set slots i y) newest (gone + 1) capacity
-  kept_left i y d lt keeps was left =
+module _ (slots : List Slot) (filed : Filed) (gone capacity : ℕ) (kept : AreKept slots filed gone capacity) where
+  module _ (i : ℕ) (x y : Slot) (lt : i < length slots) (read : x ≡ get_or slots i x) (stays : StaysFiled x y) where
+    pub kept_changed : y.here ≡ x.here → AreKept (set slots i y) filed gone capacity
+    kept_changed here =
+        let len = length-set slots i y in
+        record {
+          filed = filed_changed slots filed i x y lt read stays kept.filed;
+          gone_is =
+              let many = as_many slots i y x (here ∙ ap is_here read) in
+              let is = kept.gone_is in
+              omega arith;
+          room = let room = kept.room in omega arith;
+        }
+
+    pub kept_left : x.here ≡ true → y.here ≡ false → AreKept (set slots i y) filed (gone + 1) capacity
+    kept_left was left =
+        let len = length-set slots i y in
+        record {
+          filed = filed_changed slots filed i x y lt read stays kept.filed;
+          gone_is =
+              let fewer = one_fewer slots i y x lt (sym (ap is_here read) ∙ was) left in
+              let is = kept.gone_is in
+              omega arith;
+          room = let room = kept.room in omega arith;
+        }
+
+  abbrev with_slot : Slot → Filed
+  with_slot y =
       record {
-        linked = linked_changed slots newest i y d keeps kept.linked;
-        homes = kept.homes;
-        gone_is =
-            let fewer = one_fewer slots i y d lt was left in
-            let len = length-set slots i y in
-            let is = kept.gone_is in
-            omega arith;
+        names = filed.names ++ y.owner.name ∷ [];
+        ports = filed.ports ++ y.owner.port ∷ [];
+        ends = filed.ends ++ end_key y.owner.port y.filed ∷ [];
+        room = filed.room - 1;
       }
 
-  pub kept_pushed : (y : Slot) → 0 < length newest → y.here ≡ true → y.older ≡ get_or newest (y.owner.name % length newest) None → AreKept (slots ++ y ∷ []) (set newest (y.owner.name % length newest) (Some (length slots))) gone capacity
-  kept_pushed y some here older =
-      let pushed = slots ++ y ∷ [] in
-      let name = y.owner.name in
-      let names : names_in pushed ≡ names_in slots ++ name ∷ [] = map-append name_of slots (y ∷ []) in
-      let olders : olders_in pushed ≡ olders_in slots ++ y.older ∷ [] = map-append older_of slots (y ∷ []) in
-      let len : length pushed ≡ suc (length slots) = length_push slots y ∙ add-one (length slots) in
-      let name_len : length (names_in slots) ≡ length slots = length-map slots name_of in
-      let older_len : length (olders_in slots) ≡ length slots = length-map slots older_of in
+  pub kept_pushed : (y : Slot) → 1 ≤ filed.room → y.here ≡ true → is_filed y ≡ true → AreKept (slots ++ y ∷ []) (with_slot y) gone capacity
+  kept_pushed y some here right =
+      let are = kept.filed in
+      let len : length (slots ++ y ∷ []) ≡ length slots + 1 = length_push slots y in
       record {
-        linked =
-            subst (AreLinked pushed (set newest (name % length newest) (Some (length slots)))) (sym len)
-            (linked_more slots pushed newest (length slots) name some
-            (λ j lt. sym (ap (λ xs. get_or xs j 0) names ∙ get_or_append_left (names_in slots) (name ∷ []) 0 j (omega arith)))
-            (λ j lt. sym (ap (λ xs. get_or xs j None) olders ∙ get_or_append_left (olders_in slots) (y.older ∷ []) None j (omega arith)))
-            (ap (λ xs. get_or xs (length slots) 0) names ∙ get_or_push (names_in slots) name 0 (length slots) name_len)
-            (ap (λ xs. get_or xs (length slots) None) olders ∙ get_or_push (olders_in slots) y.older None (length slots) older_len ∙ older)
-            kept.linked);
-        homes = λ has. let len = length-set newest (name % length newest) (Some (length slots)) in omega arith;
+        filed = record {
+          names = ap (λ xs. xs ++ y.owner.name ∷ []) are.names ∙ sym (map-append name_of slots (y ∷ []));
+          ports = ap (λ xs. xs ++ y.owner.port ∷ []) are.ports ∙ sym (map-append port_of slots (y ∷ []));
+          ends = ap (λ xs. xs ++ end_of y ∷ []) are.ends ∙ sym (map-append end_of slots (y ∷ []));
+          right = right_push slots y are.right right;
+        };
         gone_is =
             let one : length (owners_in (y ∷ [])) ≡ 1 = rw here refl in
             let both = ap length (owners_append slots (y ∷ [])) ∙ length-append (owners_in slots) (owners_in (y ∷ [])) in
             let is = kept.gone_is in
             omega arith;
+        room = let room = kept.room in omega arith;
       }
 
-pub same_kept : (slots slots' : List Slot) (newest newest' : List (Option ℕ)) (gone capacity capacity' : ℕ) → slots' ≡ slots → newest' ≡ newest → capacity' ≡ capacity → AreKept slots newest gone capacity → AreKept slots' newest' gone capacity'
-same_kept slots slots' newest newest' gone capacity capacity' p q r kept = rw (p, q, r) kept
+  -- all are here once the slots of owners that left are given up
+  pub kept_tidy : (new : Filed) → new.names ≡ names_in (filter is_here slots) → new.ports ≡ ports_in (filter is_here slots) → new.ends ≡ ends_in (filter is_here slots) → new.room + length (filter is_here slots) ≤ capacity → AreKept (filter is_here slots) new 0 capacity
+  kept_tidy new names ports ends room =
+      record {
+        filed = record { names = names; ports = ports; ends = ends; right = right_filter is_here slots kept.filed.right };
+        gone_is =
+            let many = ap length (owners_kept slots) ∙ length-map (filter is_here slots) owner_of in
+            omega arith;
+        room = omega arith;
+      }
 
--- all are here once the slots of owners that left are given up
-pub kept_tidy : (old slots : List Slot) (newest : List (Option ℕ)) (capacity : ℕ) → 0 < length newest → AreLinked slots newest (length slots) → owners_in slots ≡ owners_in (filter (λ (s : Slot). s.here) old) → length slots ≡ length (filter (λ (s : Slot). s.here) old) → AreKept slots newest 0 capacity
-kept_tidy old slots newest capacity some linked owners len =
-    record {
-      linked = linked;
-      homes = λ has. some;
-      gone_is =
-          let many = ap length owners ∙ ap length (owners_kept old) ∙ length-map (filter (λ (s : Slot). s.here) old) (λ (s : Slot). s.owner) in
-          omega arith;
-    }
+pub same_kept : (slots slots' : List Slot) (filed filed' : Filed) (gone capacity capacity' : ℕ) → slots' ≡ slots → filed' ≡ filed → capacity' ≡ capacity → AreKept slots filed gone capacity → AreKept slots' filed' gone capacity'
+same_kept slots slots' filed filed' gone capacity capacity' p q r kept = rw (p, q, r) kept

@@ -7,7 +7,7 @@ use Rattle.std.proofs.lemmas.List.Sums.{count_by-le-length}
 use Rattle.sock_card.specs.declared.owner.Owner.{Owner}
 use Rattle.bind_buckets.specs.declared.tally.Tally.{Tally}
 use Rattle.bind_buckets.specs.First.{change_first, drop_first}
-use Rattle.bind_buckets.specs.Tally.{Tallies, Counts, IsTallyOf, AreMade, tally_at, has_place, place_of, empty_tally, is_exclusive, is_held, is_grouped, is_unshared}
+use Rattle.bind_buckets.specs.Tally.{Counts, IsTallyOf, AreMade, tally_at, has_place, empty_tally, is_exclusive, is_held, is_grouped, is_unshared}
 use Rattle.bind_buckets.proofs.Counted.{one_if, count_come, count_go, count_anew, counted_less}
 
 pub counts_here : (x y z : Bool) → x ≡ true → z ≡ y → (x && y) ≡ z
@@ -56,26 +56,19 @@ elsewhere at t a xs ys out same k =
       unshared = k.unshared ∙ same (λ b. at b && is_unshared t.uid b) (and_left (at a) (is_unshared t.uid a) out);
     }
 
--- the tallies, with that one at the place of a port
-abbrev pub put : Tallies → ℕ → Tally → Tallies
-put t port r = record t { tallies = set t.tallies (place_of t.stride port) r }
+counts_at : (p : Owner → ℕ) (ts : List Tally) (a : Owner) (r : Tally) (xs ys : List Owner) (k : ℕ) → p a < length ts → Counts (has_place p (p a)) r ys → ((q : Owner → Bool) → q a ≡ false → count_by q xs ≡ count_by q ys) → IsTallyOf p ts xs
+    → (k ≡ p a) ⊎ (k ≡ p a → ⊥) → Counts (has_place p k) (tally_at (set ts (p a) r) k) ys
+counts_at p ts a r xs ys k within here same tallied (inl e) =
+    rw (e, get_or-set_same ts (p a) r empty_tally within) here
+counts_at p ts a r xs ys k within here same tallied (inr other) =
+    rw (get_or-set_other ts (p a) k r empty_tally other)
+    (elsewhere (has_place p k) (tally_at ts k) a xs ys (ne_eqb _ _ (λ e. other (sym e))) same (tallied.counts k))
 
-pub own_place : (t : Tallies) (a : Owner) → has_place t.stride (place_of t.stride a.port) a ≡ true
-own_place t a = eq-eqb _ _ refl
-
-counts_at : (t : Tallies) (a : Owner) (r : Tally) (xs ys : List Owner) (k : ℕ) → place_of t.stride a.port < length t.tallies → Counts (has_place t.stride (place_of t.stride a.port)) r ys → ((q : Owner → Bool) → q a ≡ false → count_by q xs ≡ count_by q ys) → IsTallyOf t xs
-    → (k ≡ place_of t.stride a.port) ⊎ (k ≡ place_of t.stride a.port → ⊥) → Counts (has_place t.stride k) (tally_at (put t a.port r) k) ys
-counts_at t a r xs ys k within here same tallied (inl e) =
-    rw (e, get_or-set_same t.tallies (place_of t.stride a.port) r empty_tally within) here
-counts_at t a r xs ys k within here same tallied (inr other) =
-    rw (get_or-set_other t.tallies (place_of t.stride a.port) k r empty_tally other)
-    (elsewhere (has_place t.stride k) (tally_at t k) a xs ys (ne_eqb _ _ (λ e. other (sym e))) same (tallied.counts k))
-
-put_tallied : (t : Tallies) (a : Owner) (r : Tally) (xs ys : List Owner) → AreMade t → Counts (has_place t.stride (place_of t.stride a.port)) r ys → ((q : Owner → Bool) → q a ≡ false → count_by q xs ≡ count_by q ys) → IsTallyOf t xs → IsTallyOf (put t a.port r) ys
-put_tallied t a r xs ys made here same tallied =
+put_tallied : (p : Owner → ℕ) (ts : List Tally) (a : Owner) (r : Tally) (xs ys : List Owner) → AreMade ts → p a < 256 → Counts (has_place p (p a)) r ys → ((q : Owner → Bool) → q a ≡ false → count_by q xs ≡ count_by q ys) → IsTallyOf p ts xs → IsTallyOf p (set ts (p a) r) ys
+put_tallied p ts a r xs ys made within here same tallied =
     record {
       made = λ _. rw length-set made;
-      counts = λ k. counts_at t a r xs ys k (omega (arith, made)) here same tallied (cases_eq k (place_of t.stride a.port));
+      counts = λ k. counts_at p ts a r xs ys k (omega (arith, made, within)) here same tallied (cases_eq k (p a));
     }
 
 -- a tally that counts one owner more, or less
@@ -91,21 +84,26 @@ uncounted_more q owners a out = omega (arith, count_come q owners a, ap one_if o
 uncounted_less : (q is : Owner → Bool) (owners : List Owner) (a : Owner) → find is owners ≡ Some a → q a ≡ false → count_by q owners ≡ count_by q (drop_first is owners)
 uncounted_less q is owners a found out = omega (arith, count_go is q owners a found, ap one_if out)
 
-pub come_tallied : (t : Tallies) (a : Owner) (r : Tally) (owners : List Owner) → AreMade t → CountsMore a (tally_at t (place_of t.stride a.port)) r → length owners + 1 < 2 ^ 64 → IsTallyOf t owners → IsTallyOf (put t a.port r) (owners ++ a ∷ [])
-come_tallied t a r owners made more short tallied =
-    put_tallied t a r owners (owners ++ a ∷ []) made
-    (more _ owners (own_place t a) short (tallied.counts (place_of t.stride a.port)))
-    (λ q out. uncounted_more q owners a out) tallied
+own_place : (p : Owner → ℕ) (a : Owner) → has_place p (p a) a ≡ true
+own_place p a = eq-eqb _ _ refl
+
+pub come_tallied : (p : Owner → ℕ) (ts : List Tally) (a : Owner) (r : Tally) (place : ℕ) (owners : List Owner) → p a ≡ place → place < 256 → AreMade ts → CountsMore a (tally_at ts place) r → length owners + 1 < 2 ^ 64 → IsTallyOf p ts owners → IsTallyOf p (set ts place r) (owners ++ a ∷ [])
+come_tallied p ts a r place owners at within made more short tallied =
+    rw (← at)
+    (put_tallied p ts a r owners (owners ++ a ∷ []) made (rw at within)
+    (rw (← at) at more _ owners (own_place p a) short (tallied.counts (p a)))
+    (λ q out. uncounted_more q owners a out) tallied)
 
 some_there : (is : Owner → Bool) (owners : List Owner) (a : Owner) → find is owners ≡ Some a → 0 < length owners
 some_there is [] a h = absurd (cc)
 some_there is (b ∷ owners) a h = omega arith
 
-pub go_tallied : (t : Tallies) (a : Owner) (r : Tally) (is : Owner → Bool) (owners : List Owner) → CountsLess a (tally_at t (place_of t.stride a.port)) r → find is owners ≡ Some a → IsTallyOf t owners → IsTallyOf (put t a.port r) (drop_first is owners)
-go_tallied t a r is owners less found tallied =
-    put_tallied t a r owners (drop_first is owners) (tallied.made (some_there is owners a found))
-    (less _ is owners (own_place t a) found (tallied.counts (place_of t.stride a.port)))
-    (λ q out. uncounted_less q is owners a found out) tallied
+pub go_tallied : (p : Owner → ℕ) (ts : List Tally) (a : Owner) (r : Tally) (place : ℕ) (is : Owner → Bool) (owners : List Owner) → p a ≡ place → place < 256 → CountsLess a (tally_at ts place) r → find is owners ≡ Some a → IsTallyOf p ts owners → IsTallyOf p (set ts place r) (drop_first is owners)
+go_tallied p ts a r place is owners at within less found tallied =
+    rw (← at)
+    (put_tallied p ts a r owners (drop_first is owners) (tallied.made (some_there is owners a found)) (rw at within)
+    (rw (← at) at less _ is owners (own_place p a) found (tallied.counts (p a)))
+    (λ q out. uncounted_less q is owners a found out) tallied)
 
 shorter_case : (is : Owner → Bool) (b : Owner) (owners : List Owner) (a : Owner) → (is b ≡ true) ⊎ (is b ≡ false) → (find is owners ≡ Some a → length (drop_first is owners) + 1 ≡ length owners) → find is (b ∷ owners) ≡ Some a → length (drop_first is (b ∷ owners)) + 1 ≡ length (b ∷ owners)
 shorter_case is b owners a (inl e) next h = rw e (omega arith)
@@ -115,15 +113,16 @@ shorter : (is : Owner → Bool) (owners : List Owner) (a : Owner) → find is ow
 shorter is [] a h = absurd (cc)
 shorter is (b ∷ owners) a h = shorter_case is b owners a (cases_Bool (is b)) (shorter is owners a) h
 
-pub change_tallied : (t : Tallies) (was a : Owner) (r s : Tally) (is : Owner → Bool) (become : Owner → Owner) (owners : List Owner) → CountsLess was (tally_at t (place_of t.stride was.port)) r → CountsMore a (tally_at (put t was.port r) (place_of t.stride a.port)) s
-    → length owners < 2 ^ 64 → find is owners ≡ Some was → become was ≡ a → IsTallyOf t owners → IsTallyOf (put (put t was.port r) a.port s) (change_first is become owners)
-change_tallied t was a r s is become owners less more short found e tallied =
-    let made : AreMade (put t was.port r) = rw length-set (tallied.made (some_there is owners was found)) in
-    let rest = go_tallied t was r is owners less found tallied in
-    let back = come_tallied (put t was.port r) a s (drop_first is owners) made more (omega (arith, short, shorter is owners was found)) rest in
+pub change_tallied : (p : Owner → ℕ) (ts : List Tally) (was a : Owner) (r s : Tally) (from place : ℕ) (is : Owner → Bool) (become : Owner → Owner) (owners : List Owner) → p was ≡ from → from < 256 → p a ≡ place → place < 256
+    → CountsLess was (tally_at ts from) r → CountsMore a (tally_at (set ts from r) place) s
+    → length owners < 2 ^ 64 → find is owners ≡ Some was → become was ≡ a → IsTallyOf p ts owners → IsTallyOf p (set (set ts from r) place s) (change_first is become owners)
+change_tallied p ts was a r s from place is become owners was_at was_within at within less more short found e tallied =
+    let made : AreMade (set ts from r) = rw length-set (tallied.made (some_there is owners was found)) in
+    let rest = go_tallied p ts was r from is owners was_at was_within less found tallied in
+    let back = come_tallied p (set ts from r) a s place (drop_first is owners) at within made more (omega (arith, short, shorter is owners was found)) rest in
     record {
       made = λ _. rw length-set made;
-      counts = λ k. recount (has_place t.stride k) (tally_at (put (put t was.port r) a.port s) k) (drop_first is owners ++ a ∷ []) (change_first is become owners) (λ q. count_anew is q become owners was a found e) (back.counts k);
+      counts = λ k. recount (has_place p k) (tally_at (set (set ts from r) place s) k) (drop_first is owners ++ a ∷ []) (change_first is become owners) (λ q. count_anew is q become owners was a found e) (back.counts k);
     }
 
 past_end : (n k : ℕ) → (k < n) ⊎ (n ≤ k) → get_or (replicate n empty_tally) k empty_tally ≡ empty_tally
@@ -137,11 +136,11 @@ same_tally xs n k (inr h) =
     ∙ past_end n (k - length xs) (cases_lt (k - length xs) n) ∙ sym (get_or_past xs k empty_tally h)
 
 -- the tallies that come with the memory are empty
-pub reserve_tallied : (t : Tallies) (us : List Tally) (n : ℕ) (owners : List Owner) → n ≡ length t.tallies → n < 256 → us ≡ take 256 t.tallies ++ replicate (256 - n) empty_tally → IsTallyOf t owners → IsTallyOf (record t { tallies = us }) owners
-reserve_tallied t us n owners len less items tallied =
-    let all = take_all 256 t.tallies (omega (arith, len, less)) in
-    let longer : us ≡ t.tallies ++ replicate (256 - n) empty_tally = rw all at items in
+pub reserve_tallied : (p : Owner → ℕ) (ts us : List Tally) (n : ℕ) (owners : List Owner) → n ≡ length ts → n < 256 → us ≡ take 256 ts ++ replicate (256 - n) empty_tally → IsTallyOf p ts owners → IsTallyOf p us owners
+reserve_tallied p ts us n owners len less items tallied =
+    let all = take_all 256 ts (omega (arith, len, less)) in
+    let longer : us ≡ ts ++ replicate (256 - n) empty_tally = rw all at items in
     record {
       made = λ _. rw (longer, length-append, length-replicate) (omega (arith, len, less));
-      counts = λ k. rw (longer, same_tally t.tallies (256 - n) k (cases_lt k (length t.tallies))) (tallied.counts k);
+      counts = λ k. rw (longer, same_tally ts (256 - n) k (cases_lt k (length ts))) (tallied.counts k);
     }

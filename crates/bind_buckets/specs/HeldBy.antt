@@ -1,11 +1,12 @@
 -- What the owners and groups of a bucket mean, as its code keeps them: our own rule.
-use Rattle.std.specs.Prelude.{◌≡◌, ℕ, ◌+◌, ◌≤◌, length}
+use Rattle.std.specs.Prelude.{◌≡◌, ℕ, ◌+◌, ◌≤◌, true, ◌==◌, ◌||◌, length, Option, IfSome, find}
+use Rattle.sock_card.specs.declared.owner.Owner.{Owner}
 use Rattle.bind_buckets.specs.declared.held.Held.{Held as Inside}
 use Rattle.bind_buckets.specs.Owners.{Listed}
 use Rattle.bind_buckets.specs.declared.request.Answer.{Answer}
 use Rattle.bind_buckets.specs.declared.request.Request.{Request}
 use Rattle.bind_buckets.specs.declared.request.Request.TheVariants as requests
-use Rattle.bind_buckets.specs.OwnerStep.{Held, After, owner_step}
+use Rattle.bind_buckets.specs.OwnerStep.{Held, After, owner_step, has_name}
 use Rattle.bind_buckets.specs.Bucket.{IsGroup}
 
 abbrev pub held_by : Inside → Held
@@ -15,9 +16,14 @@ held_by h = record { owners = h.owners.owners; groups = h.groups }
 abbrev pub IsStep : After → Inside → Answer → Type 0
 IsStep after new answer = after ≡ record { held = held_by new; answer = answer }
 
--- a socket that is to listen may
+-- the owner, if there is one, is at any address or at that one
+abbrev pub CanBeAt : ℕ → Option Owner → Type 0
+CanBeAt local bound = IfSome bound (λ (a : Owner). ((a.addr == 0) || (a.addr == local)) ≡ true)
+
+-- a socket that is to listen may, and one that is to connect may be at that address
 abbrev pub CanCarryOut : ℕ → Held → Request → Type 0
 CanCarryOut number h (requests.Listen name slot) = IsGroup (owner_step number h (requests.MayListen name)).answer
+CanCarryOut number h (requests.ConnectBound name local remote rport) = CanBeAt local (find (has_name name) h.owners)
 CanCarryOut number h _ = Unit {0}
 
 -- one owner comes or goes at most, and room is taken only by one that comes

@@ -4,7 +4,9 @@ pub mod OwnerStep
 pub mod Journal
 pub mod Bucket
 pub mod Tally
+pub mod OwnerCounts
 pub mod Owners
+pub mod Links
 pub mod Slots
 pub mod Runs
 pub mod HeldBy

@@ -29,10 +29,10 @@ request_at step place (requests.BindAuto a) = requests.BindAuto (owner_at step p
 request_at step place request = request
 
 -- the answer, which names that owner if it names one
-abbrev pub answer_at : ℕ → Answer → Answer
-answer_at name (answers.InUse other) = answers.InUse name
-answer_at name (answers.NotFree other) = answers.NotFree name
-answer_at name answer = answer
+abbrev pub answer_naming : ℕ → Answer → Answer
+answer_naming name (answers.InUse other) = answers.InUse name
+answer_naming name (answers.NotFree other) = answers.NotFree name
+answer_naming name answer = answer
 
 -- the note so many places after the first of its run
 abbrev pub note_at : ℕ → Note → ℕ → ℕ → Note
@@ -40,7 +40,7 @@ note_at step first place name =
     record first {
       entry = record {
         request = request_at step place first.entry.request;
-        answer = answer_at name first.entry.answer;
+        answer = answer_naming name first.entry.answer;
       };
     }
 

@@ -1,25 +1,14 @@
 -- Counts of a bucket's owners, by which most conflicts are ruled out without a scan: fastreuse and fastreuseport of struct
 -- inet_bind_bucket, sk_reuseport_match of net/ipv4/inet_connection_sock.c. That they always hold is our own rule.
-use Rattle.std.specs.Prelude.{◌≡◌, ℕ, ◌/◌, ◌%◌, ◌<◌, ◌≤◌, Bool, ◌==◌, ◌&&◌, ◌||◌, not, List, [], length, count_by}
+use Rattle.std.specs.Prelude.{◌≡◌, ℕ, ◌<◌, ◌≤◌, Bool, ◌==◌, ◌&&◌, ◌||◌, not, List, length, count_by}
 use Rattle.std.specs.List.{slice_index_or}
 use Rattle.sock_card.specs.declared.owner.Owner.{Owner}
 use Rattle.sock_card.specs.Conflict.{is_listening}
 use Rattle.bind_buckets.specs.declared.tally.Tally.{Tally}
 
--- a tally for each place; of ports, so many in a row have one place
-pub record Tallies : Type 0 where
-  pub tallies : List Tally
-  pub stride : ℕ
-
-abbrev pub no_tallies : ℕ → Tallies
-no_tallies stride = record { tallies = []; stride = stride }
-
-abbrev pub place_of : ℕ → ℕ → ℕ
-place_of stride port = port / stride % 256
-
--- the owner's port has that place
-abbrev pub has_place : ℕ → ℕ → Owner → Bool
-has_place stride place a = place_of stride a.port == place
+-- the owner's place is that one
+abbrev pub has_place : (Owner → ℕ) → ℕ → Owner → Bool
+has_place place_of place a = place_of a == place
 
 -- it keeps its port from others with reuseaddr, too
 abbrev pub is_exclusive : Owner → Bool
@@ -55,17 +44,15 @@ rules_out t a =
     || a.reuseaddr && (t.exclusive == 0)
     || a.reuseport && (a.uid == t.uid) && (t.unshared == 0)
 
-abbrev pub tally_at : Tallies → ℕ → Tally
-tally_at t place = slice_index_or t.tallies place empty_tally
-
-abbrev pub tally_of : Tallies → ℕ → Tally
-tally_of t port = tally_at t (place_of t.stride port)
+-- of tallies by places, that at this one
+abbrev pub tally_at : List Tally → ℕ → Tally
+tally_at tallies place = slice_index_or tallies place empty_tally
 
 -- the memory for all tallies is there
-abbrev pub AreMade : Tallies → Type 0
-AreMade t = 256 ≤ length t.tallies
+abbrev pub AreMade : List Tally → Type 0
+AreMade tallies = 256 ≤ length tallies
 
--- the tallies are of these owners
-pub record IsTallyOf (t : Tallies) (owners : List Owner) : Type 0 where
-  pub made : 0 < length owners → AreMade t
-  pub counts : (place : ℕ) → Counts (has_place t.stride place) (tally_at t place) owners
+-- the tallies are of these owners, by their places
+pub record IsTallyOf (place_of : Owner → ℕ) (tallies : List Tally) (owners : List Owner) : Type 0 where
+  pub made : 0 < length owners → AreMade tallies
+  pub counts : (place : ℕ) → Counts (has_place place_of place) (tally_at tallies place) owners

@@ -205,9 +205,11 @@ impl Bucket {
 
     /// Takes in a newcomer, unless an owner keeps it from its port (`inet_csk_get_port`).
     ///
-    /// `InUse` names the first owner that does, and the bucket holds what it held. It goes through
-    /// the owners unless their counts tell that none does: nobody owns the port, all share it by
-    /// `reuseaddr` and none listens, or all share it by `reuseport` as one user.
+    /// `InUse` names the first owner that does, and the bucket holds what it held. Constant cost where
+    /// counts tell that none does: nobody owns the port, all of its owners, or all at this address and
+    /// at 0.0.0.0, share it by `reuseaddr` and none of them listens, or share it by `reuseport` as one
+    /// user. Else it goes through the port's owners at this address and 0.0.0.0, or for a newcomer at
+    /// 0.0.0.0 through all of the port's, up to the first that refuses.
     pub fn bind(&mut self, owner: Owner) -> Result<(), InUse>
         requires port { spec.is_port_of self.old owner.port ≡ true }
         requires entry { 1 ≤ self.old.entries }
@@ -226,8 +228,8 @@ impl Bucket {
     /// Takes in a newcomer whose port is searched for, unless an owner overlaps it
     /// (`inet_csk_find_open_port`): no option helps it there.
     ///
-    /// `InUse` names the first owner that does, and the bucket holds what it held. It goes through
-    /// the owners unless nobody owns the port.
+    /// `InUse` names the first owner that does, and the bucket holds what it held. It goes through the
+    /// port's owners as [`Bucket::bind`] does, up to the first that overlaps.
     pub fn bind_auto(&mut self, owner: Owner) -> Result<(), InUse>
         requires port { spec.is_port_of self.old owner.port ≡ true }
         requires entry { 1 ≤ self.old.entries }
@@ -247,7 +249,7 @@ impl Bucket {
     /// owns it, or only sockets for which `connect` chose it, too.
     ///
     /// `NotFree` names the first other owner of the port. The bucket holds what it held. It goes
-    /// through the owners unless their counts tell that there is none.
+    /// through the port's owners, up to that one, unless their counts tell that there is none.
     pub fn free(&mut self, port: u16) -> Result<(), NotFree>
         requires entry { 1 ≤ self.old.entries }
         ensures after { self.new ≡ called self.old (Request.Free port) }
@@ -286,9 +288,9 @@ impl Bucket {
     /// address, device and user, or begins a group at the first free place; the group's number is
     /// 8 times the bucket's and the place. Refusals are tested in this order: no owner has that name,
     /// another owner keeps it from its port, no place is free for a group that it needs, its group
-    /// has sixteen members. The bucket holds what it held. It goes through the owners only where their
-    /// counts don't rule a refusal out, and once more for its mates where a listener with `reuseport`
-    /// may be one; and through at most 128 members.
+    /// has sixteen members. The bucket holds what it held. It goes through the port's owners as
+    /// [`Bucket::bind`] does, and once more for its mates, up to the first, where a listener with
+    /// `reuseport` may be one; and through at most 128 members.
     pub fn may_listen(&mut self, name: u32) -> Result<Option<u32>, ListenEnd>
         requires entry { 1 ≤ self.old.entries }
         ensures after { self.new ≡ called self.old (Request.MayListen name) }
@@ -306,8 +308,8 @@ impl Bucket {
     /// Lets the socket of that name listen (`inet_csk_listen_start`), where it may as the bucket
     /// stands; with `reuseport` it joins its group as a member with that slot, at the end.
     ///
-    /// Constant cost; with `reuseport` it goes through the owners for its mates, where a listener with
-    /// `reuseport` may be one, and through at most 128 members.
+    /// Constant cost; with `reuseport` it goes through the port's owners at its address and 0.0.0.0 up to
+    /// the first mate, where a listener with `reuseport` may be one, and through at most 128 members.
     pub fn listen(&mut self, name: u32, slot: u32)
         requires entry { 1 ≤ self.old.entries }
         requires free { CanListen self.old name }

@@ -4,10 +4,10 @@ ghost use Rattle.std.specs.Prelude.{◌≡◌, ◌+◌, ◌≤◌, ◌<◌, true
 ghost use Rattle.sock_card.specs.Conflict as conflict_spec;
 ghost use Rattle.sock_card.specs.Became as became;
 ghost use Rattle.bind_buckets.specs.OwnerStep as spec;
-ghost use Rattle.bind_buckets.specs.First.{change_first, drop_first};
+ghost use Rattle.bind_buckets.specs.First.{change_first};
 ghost use Rattle.bind_buckets.specs.Members as members_spec;
 ghost use Rattle.bind_buckets.specs.Bucket.{IsGroup, brings_owner};
-ghost use Rattle.bind_buckets.specs.HeldBy.{held_by, IsStep, CanCarryOut, IsRoomLeft};
+ghost use Rattle.bind_buckets.specs.HeldBy.{held_by, IsStep, CanBeAt, CanCarryOut, IsRoomLeft};
 
 use crate::group::Group;
 use crate::owners::Owners;
@@ -94,6 +94,7 @@ impl Held {
     }
 
     fn connect_bound(&mut self, name: u32, local: u32, remote: u32, rport: u16) -> Answer
+        requires { CanBeAt local (find (spec.has_name name) self.old.owners.owners) }
         ensures step { IsStep
             (spec.named (held_by self.old) name
             (λ _. spec.changed (held_by self.old) name (became.connected local remote rport) self.old.groups))

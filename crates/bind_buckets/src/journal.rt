@@ -90,8 +90,8 @@ fn is_request_at(step: u32, place: u16, first: Request, request: Request) -> boo
     }
 }
 
-fn answer_at(name: u32, answer: Answer) -> Answer
-    ensures { result ≡ spec.answer_at name answer }
+fn answer_naming(name: u32, answer: Answer) -> Answer
+    ensures { result ≡ spec.answer_naming name answer }
 {
     match answer {
         Answer::InUse(_) => Answer::InUse(name),
@@ -106,7 +106,7 @@ fn note_at(step: u32, first: Note, place: u16, name: u32) -> Note
     Note {
         entry: Entry {
             request: request_at(step, place, first.entry.request),
-            answer: answer_at(name, first.entry.answer),
+            answer: answer_naming(name, first.entry.answer),
         },
         ..first
     }
@@ -140,7 +140,7 @@ impl Run {
         let name = name_of(answer).unwrap_or(0);
         note.number == self.first.number
             && note.caller == self.first.caller
-            && answer == answer_at(name, self.first.entry.answer)
+            && answer == answer_naming(name, self.first.entry.answer)
             && self.more < u16::MAX
             && is_request_at(step, self.more + 1, self.first.entry.request, request)
     }

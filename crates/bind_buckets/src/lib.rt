@@ -13,8 +13,9 @@
 //! each owner's port is one of the bucket's. Only [`Bucket::reserve`] takes memory; the other calls
 //! use the room that it made. It stands on the rules of `sock_card`.
 //!
-//! An owner is found by its name through links, and counts of the owners of a port answer most
-//! questions about it without a look at each; a run of like notes takes the room of one.
+//! An owner is found by its name, its port, or its port and address without a look at the others, and
+//! counts of the owners of a port, and of a port and address, answer most questions without any look;
+//! a run of like notes takes the room of one.
 //!
 //! ```text
 //! let mut bucket = Bucket::new(alloc, number, buckets);
@@ -26,14 +27,18 @@
 #![tactic(auto)]
 
 pub mod bucket;
+mod counts;
 mod group;
 mod held;
+mod index;
 mod journal;
 pub mod laws;
+mod links;
 mod owner_list;
 mod owners;
 mod places;
 pub mod request;
+mod slot;
 mod tally;
 #[cfg(test)]
 mod tests;

@@ -1,90 +1,41 @@
-//! The owners of a bucket, each of which is found by its name at once.
+//! The owners of a bucket, each of which is found without a look at all.
 
-ghost use Rattle.std.specs.Prelude.{◌≡◌, ◌^◌, ◌+◌, ◌*◌, ◌%◌, ◌≤◌, ◌<◌, ◌++◌, ◌∷◌, [], List, length, find, position, remove, filter, vec_len, vec_capacity, IfSome, IsSome, OnOk, None, slice_index, slice_set, IsTrue, ◌↔◌, Some};
-ghost use Rattle.std.specs.List.{slice_index_or};
+ghost use Rattle.std.specs.Prelude.{◌≡◌, ◌^◌, ◌+◌, ◌≤◌, ◌<◌, ◌++◌, ◌∷◌, [], Option, length, find, filter, vec_len, vec_capacity, IsSome, OnOk, IsTrue, ◌↔◌, None};
 ghost use Rattle.std.specs.Option.{option_copied};
-ghost use Rattle.sock_card.specs.Conflict as conflict_spec;
 ghost use Rattle.bind_buckets.specs.OwnerStep as spec;
 ghost use Rattle.bind_buckets.specs.First.{change_first, drop_first};
-ghost use Rattle.bind_buckets.specs.Slots.{owners_in, names_in, has_answering, AreLinked};
+ghost use Rattle.bind_buckets.specs.Slots.{owners_in, answers, beside, names_in, ports_in, ends_in, AreFiled, StandsThere};
 
-use sock_card::{Owner, State, bind_conflict, strict_conflict};
+use crate::index::Index;
+use crate::slot::{Asked, Slot};
+use sock_card::Owner;
 use std::alloc::{AllocError, Global};
 use std::marker::Model;
 
-/// Where an owner stands, or stood until it left.
+/// Owners, oldest first, of which one is found, changed, or taken out without a look at all.
 ///
-/// `older` is the last slot before this one whose name has the same home.
-#[derive(Clone, Copy)]
-struct Slot {
-    owner: Owner,
-    here: bool,
-    older: Option<usize>,
-}
-
-/// Owners, oldest first, of which one is found by its name, changed, or taken out at once.
-///
-/// An owner that leaves keeps its slot until a tidy, so that no other moves. A name's home is what
-/// it leaves when divided by the number of homes, and a home's slots are linked from the newest to the
-/// oldest. So a lookup by name costs the slots of its home: about two at most, where names spread
-/// evenly. The number of homes is odd, which spreads names that are a power of two apart; names that
-/// leave the same remainder fall together, and cost more. A scan costs all slots, of which half at
-/// most are of owners that left, but for lists of less than sixteen slots.
+/// An owner that leaves keeps its slot until most slots are such, so that no other moves. A lookup
+/// costs the slots that are filed under the same key, up to the one that it finds.
 ///
 /// Only [`OwnerList::reserve`] takes memory.
 #[derive(Drop)]
 pub struct OwnerList {
     slots: Vec<Slot>,
-    newest: Vec<Option<usize>>,
+    index: Index,
     gone: usize,
 }
 
 impl Model for OwnerList {
-    ghost use Rattle.std.specs.Prelude.{◌-◌, length, vec_len, vec_capacity};
+    ghost use Rattle.std.specs.Prelude.{vec_capacity};
     ghost use Rattle.bind_buckets.specs.Owners.{Listed};
 
     ghost Value = { Listed };
 
     ghost use Rattle.bind_buckets.specs.Slots.{owners_in, AreKept};
 
-    ghost view = { λ f. record { owners = owners_in f.slots.items; room = vec_capacity f.slots - vec_len f.slots } };
+    ghost view = { λ f. record { owners = owners_in f.slots.items; room = f.index.room } };
 
-    ghost invariant = { λ f. AreKept f.slots.items f.newest.items f.gone (vec_capacity f.slots) };
-}
-
-/// The last slot of that name's home.
-fn newest_of(name: u32, newest: &[Option<usize>]) -> Option<usize>
-    ensures { result ≡ slice_index_or newest.now (name % length newest.now) None }
-{
-    if newest.is_empty() {
-        None
-    } else {
-        newest[name as usize % newest.len()]
-    }
-}
-
-/// Makes that place the last of the name's home, and tells which was the last before.
-fn link(name: u32, place: usize, newest: &mut [Option<usize>]) -> Option<usize>
-    requires { 0 < length newest.old }
-    ensures older { result ≡ slice_index_or newest.old (name % length newest.old) None }
-    ensures newest { newest.new ≡ slice_set newest.old (name % length newest.old) (Some place) }
-{
-    let home = name as usize % newest.len();
-    let older = newest[home];
-    newest[home] = Some(place);
-    older
-}
-
-/// Links all slots anew.
-fn link_all(slots: &mut [Slot], newest: &mut [Option<usize>])
-    requires { 0 < length newest.old }
-    ensures linked { AreLinked slots.new newest.new (length slots.new) }
-    ensures owners { owners_in slots.new ≡ owners_in slots.old }
-{
-    newest.fill(None);
-    for (place, slot) in slots.iter_mut().enumerate() {
-        slot.older = link(slot.owner.name, place, newest);
-    }
+    ghost invariant = { λ f. AreKept f.slots.items f.index f.gone (vec_capacity f.slots) };
 }
 
 /// Gives up the slots of owners that left.
@@ -96,116 +47,26 @@ fn give_up_left(slots: &mut Vec<Slot>)
     slots.retain(|slot| slot.here);
 }
 
-fn waits_as(name: u32, owner: &Owner) -> bool
-    ensures { result ≡ spec.waits_as name owner.now }
+/// Files these slots behind those that are filed.
+fn file_all(slots: &[Slot], index: &mut Index)
+    requires { length slots.now ≤ index.old.room }
+    ensures names { index.new.names ≡ index.old.names ++ names_in slots.now }
+    ensures ports { index.new.ports ≡ index.old.ports ++ ports_in slots.now }
+    ensures ends { index.new.ends ≡ index.old.ends ++ ends_in slots.now }
+    ensures room { index.new.room + length slots.now ≡ index.old.room }
 {
-    owner.name == name && matches!(owner.state, State::TimeWait)
-}
-
-/// Whether an owner of that name is in the slot; with `waiting`, whether one in TIME_WAIT is.
-fn has_answering(name: u32, waiting: bool, slot: &Slot) -> bool
-    ensures { result ≡ has_answering name waiting slot.now }
-{
-    let owner = &slot.owner;
-    let answers = if waiting {
-        waits_as(name, owner)
-    } else {
-        owner.name == name
-    };
-    slot.here && answers
-}
-
-/// Where the first owner of that name stands; with `waiting`, the first in TIME_WAIT.
-fn first_place(name: u32, waiting: bool, slots: &[Slot], newest: &[Option<usize>]) -> Option<usize>
-    requires linked { AreLinked slots.now newest.now (length slots.now) }
-    requires homes { 0 < length slots.now → 0 < length newest.now }
-    ensures place { result ≡ position (has_answering name waiting) slots.now }
-    ensures bound { IfSome result (λ place. place < length slots.now) }
-{
-    let mut first = None;
-    let mut next = newest_of(name, newest);
-    while let Some(place) = next {
-        let slot = &slots[place];
-        if has_answering(name, waiting, slot) {
-            first = Some(place);
-        }
-        next = slot.older;
-    }
-    first
-}
-
-/// The first owner in these slots that keeps this one from its port.
-fn refusing(owner: &Owner, slots: &[Slot]) -> Option<Owner>
-    ensures { result ≡ find (conflict_spec.refuses owner.now) (owners_in slots.now) }
-{
-    slots
-        .iter()
-        .filter(|slot| slot.here)
-        .map(|slot| slot.owner)
-        .find(|other| bind_conflict(owner, other))
-}
-
-/// The first such owner in the slots but the one at that place.
-fn refusing_beside(owner: &Owner, place: usize, slots: &[Slot]) -> Option<Owner>
-    requires { place < length slots.now }
-    ensures { result ≡ find (conflict_spec.refuses owner.now) (owners_in (remove slots.now place)) }
-{
-    match refusing(owner, &slots[..place]) {
-        Some(other) => Some(other),
-        None => refusing(owner, &slots[place + 1..]),
+    for slot in slots {
+        index.push(slot);
     }
 }
 
-fn is_mate(a: &Owner, b: &Owner) -> bool
-    ensures { result ≡ spec.is_mate a.now b.now }
+/// The first owner here of which that holds, but for the one in that slot.
+fn owner_of(asked: Asked, but: Option<usize>, slots: &[Slot], index: &Index) -> Option<Owner>
+    requires { AreFiled slots.now index.now }
+    ensures { result ≡ find (answers asked) (owners_in (beside but slots.now)) }
 {
-    matches!(b.state, State::Listening)
-        && a.reuseport
-        && b.reuseport
-        && a.port == b.port
-        && a.dev == b.dev
-        && a.uid == b.uid
-        && a.addr == b.addr
-}
-
-/// The first owner in these slots that wants what this one wants, options or not.
-fn overlapping(owner: &Owner, slots: &[Slot]) -> Option<Owner>
-    ensures { result ≡ find (conflict_spec.overlap owner.now) (owners_in slots.now) }
-{
-    slots
-        .iter()
-        .filter(|slot| slot.here)
-        .map(|slot| slot.owner)
-        .find(|other| strict_conflict(owner, other))
-}
-
-/// The first owner in these slots that has the port, for which `connect` didn't choose it.
-fn holder(port: u16, slots: &[Slot]) -> Option<Owner>
-    ensures { result ≡ find (spec.holds port) (owners_in slots.now) }
-{
-    slots
-        .iter()
-        .filter(|slot| slot.here)
-        .map(|slot| slot.owner)
-        .find(|owner| owner.port == port && !owner.by_connect)
-}
-
-/// The first listener in these slots whose group this owner would join.
-fn mate(owner: &Owner, slots: &[Slot]) -> Option<Owner>
-    ensures { result ≡ find (spec.is_mate owner.now) (owners_in slots.now) }
-{
-    slots
-        .iter()
-        .filter(|slot| slot.here)
-        .map(|slot| slot.owner)
-        .find(|other| is_mate(owner, other))
-}
-
-/// How many homes serve so many owners and so many more.
-fn homes_for(owners: usize, more: usize) -> Option<usize>
-    ensures { IfSome result (λ homes. homes ≡ 2 * (owners + more) + 1) }
-{
-    owners.checked_add(more)?.checked_mul(2)?.checked_add(1)
+    let place = index.first(&asked, but, slots)?;
+    Some(slots[place].owner)
 }
 
 impl OwnerList {
@@ -215,7 +76,7 @@ impl OwnerList {
     {
         OwnerList {
             slots: Vec::new(alloc),
-            newest: Vec::new(alloc),
+            index: Index::new(alloc),
             gone: 0,
         }
     }
@@ -233,42 +94,37 @@ impl OwnerList {
         self.slots.len() >= 16 && self.gone > self.slots.len() / 2
     }
 
-    /// Makes that room once the slots of owners that left are given up, and the others are linked in
-    /// twice as many homes as there may be owners then.
-    fn tidy(&mut self, more: usize) -> Result<(), AllocError>
+    /// Gives up the slots of owners that left, and files the others anew.
+    fn tidy(&mut self)
         ensures owners { self.new.owners ≡ self.old.owners }
-        ensures room { OnOk result (more ≤ self.new.room) }
         ensures kept { self.old.room ≤ self.new.room }
     {
-        let homes = homes_for(self.len(), more).ok_or(AllocError)?;
-        self.newest.resize(homes, None)?;
         give_up_left(&mut self.slots);
         self.gone = 0;
-        link_all(&mut self.slots, &mut self.newest);
-        self.slots.reserve(more)
+        self.index.clear();
+        file_all(&self.slots, &mut self.index);
     }
 
     /// Makes room for so many more owners. An `Err`, for want of memory, changes no owner.
     ///
-    /// Mostly it costs nothing. A tidy goes through all slots and homes, and comes after as many
-    /// removals or newcomers as that costs.
+    /// Mostly it costs nothing. A tidy goes through all slots, and comes after as many removals.
     pub fn reserve(&mut self, more: usize) -> Result<(), AllocError>
         ensures owners { self.new.owners ≡ self.old.owners }
         ensures room { OnOk result (more ≤ self.new.room) }
         ensures kept { self.old.room ≤ self.new.room }
     {
-        let wanted = self.slots.len().checked_add(more).ok_or(AllocError)?;
-        if self.newest.len() <= wanted || self.is_sparse() {
-            return self.tidy(more);
+        if self.is_sparse() {
+            self.tidy();
         }
-        self.slots.reserve(more)
+        self.slots.reserve(more)?;
+        self.index.reserve(more)
     }
 
     /// The first owner of that name.
     pub fn named(&self, name: u32) -> Option<&Owner>
         ensures { option_copied result ≡ find (spec.has_name name) self.now.owners }
     {
-        match first_place(name, false, &self.slots, &self.newest) {
+        match self.index.first(&Asked::Named(name), None, &self.slots) {
             Some(place) => Some(&self.slots[place].owner),
             None => None,
         }
@@ -278,7 +134,7 @@ impl OwnerList {
     pub fn waiting(&self, name: u32) -> Option<&Owner>
         ensures { option_copied result ≡ find (spec.waits_as name) self.now.owners }
     {
-        match first_place(name, true, &self.slots, &self.newest) {
+        match self.index.first(&Asked::Waiting(name), None, &self.slots) {
             Some(place) => Some(&self.slots[place].owner),
             None => None,
         }
@@ -290,20 +146,26 @@ impl OwnerList {
         ensures owners { self.new.owners ≡ self.old.owners ++ owner ∷ [] }
         ensures room { self.new.room + 1 ≡ self.old.room }
     {
-        let older = link(owner.name, self.slots.len(), &mut self.newest);
-        self.slots.push_reserved(Slot {
+        let slot = Slot {
             owner,
             here: true,
-            older,
-        });
+            filed: owner.addr,
+        };
+        self.index.push(&slot);
+        self.slots.push_reserved(slot);
     }
 
-    /// Puts the owner in the place of the first of its name, if there is one.
+    /// Puts the owner in the place of the first of its name, if there is one, which has its port, and
+    /// its address or 0.0.0.0.
     pub fn replace(&mut self, owner: Owner)
+        requires { StandsThere owner (find (spec.has_name owner.name) self.old.owners) }
         ensures owners { self.new.owners ≡ change_first (spec.has_name owner.name) (λ _. owner) self.old.owners }
         ensures room { self.new.room ≡ self.old.room }
     {
-        if let Some(place) = first_place(owner.name, false, &self.slots, &self.newest) {
+        if let Some(place) = self
+            .index
+            .first(&Asked::Named(owner.name), None, &self.slots)
+        {
             self.slots[place].owner = owner;
         }
     }
@@ -313,7 +175,7 @@ impl OwnerList {
         ensures owners { self.new.owners ≡ drop_first (spec.has_name name) self.old.owners }
         ensures room { self.new.room ≡ self.old.room }
     {
-        if let Some(place) = first_place(name, false, &self.slots, &self.newest) {
+        if let Some(place) = self.index.first(&Asked::Named(name), None, &self.slots) {
             self.slots[place].here = false;
             self.gone += 1;
         }
@@ -325,7 +187,7 @@ impl OwnerList {
         ensures room { self.new.room ≡ self.old.room }
         ensures found { IsTrue result ↔ IsSome (find (spec.waits_as name) self.old.owners) }
     {
-        match first_place(name, true, &self.slots, &self.newest) {
+        match self.index.first(&Asked::Waiting(name), None, &self.slots) {
             Some(place) => {
                 self.slots[place].here = false;
                 self.gone += 1;
@@ -335,41 +197,18 @@ impl OwnerList {
         }
     }
 
-    /// The first owner that keeps this one from its port. A scan.
-    pub fn refusing(&self, owner: &Owner) -> Option<Owner>
-        ensures { result ≡ find (conflict_spec.refuses owner.now) self.now.owners }
+    /// The first owner of which that holds.
+    pub fn first(&self, asked: Asked) -> Option<Owner>
+        ensures { result ≡ find (answers asked) self.now.owners }
     {
-        refusing(owner, &self.slots)
+        owner_of(asked, None, &self.slots, &self.index)
     }
 
-    /// The first that does but the first owner of that name. A scan.
-    pub fn refusing_other(&self, owner: &Owner, name: u32) -> Option<Owner>
-        ensures { result ≡ find (conflict_spec.refuses owner.now) (drop_first (spec.has_name name) self.now.owners) }
+    /// The first of which it holds, but for the first owner of that name.
+    pub fn first_other(&self, asked: Asked, name: u32) -> Option<Owner>
+        ensures { result ≡ find (answers asked) (drop_first (spec.has_name name) self.now.owners) }
     {
-        match first_place(name, false, &self.slots, &self.newest) {
-            None => refusing(owner, &self.slots),
-            Some(place) => refusing_beside(owner, place, &self.slots),
-        }
-    }
-
-    /// The first owner that wants what this one wants, options or not. A scan.
-    pub fn overlapping(&self, owner: &Owner) -> Option<Owner>
-        ensures { result ≡ find (conflict_spec.overlap owner.now) self.now.owners }
-    {
-        overlapping(owner, &self.slots)
-    }
-
-    /// The first owner of that port that `connect` didn't choose. A scan.
-    pub fn holder(&self, port: u16) -> Option<Owner>
-        ensures { result ≡ find (spec.holds port) self.now.owners }
-    {
-        holder(port, &self.slots)
-    }
-
-    /// The first listener whose group this one would join. A scan.
-    pub fn mate(&self, owner: &Owner) -> Option<Owner>
-        ensures { result ≡ find (spec.is_mate owner.now) self.now.owners }
-    {
-        mate(owner, &self.slots)
+        let but = self.index.first(&Asked::Named(name), None, &self.slots);
+        owner_of(asked, but, &self.slots, &self.index)
     }
 }

@@ -5,21 +5,23 @@ ghost use Rattle.std.specs.Option.{option_copied};
 ghost use Rattle.sock_card.specs.Conflict as conflict_spec;
 ghost use Rattle.bind_buckets.specs.OwnerStep as spec;
 ghost use Rattle.bind_buckets.specs.First.{change_first, drop_first};
+ghost use Rattle.bind_buckets.specs.Slots.{StandsThere};
 
+use crate::counts::OwnerCounts;
 use crate::owner_list::OwnerList;
-use crate::tally::Tallies;
+use crate::slot::Asked;
 use sock_card::Owner;
 use std::alloc::{AllocError, Global};
 use std::marker::Model;
 
 /// The owners of a bucket's ports, oldest first, and counts of them.
 ///
-/// An owner is found by its name without a scan, and the counts answer most questions about a port.
-/// Where they don't, each owner is looked at.
+/// The counts answer most questions about a port. Where they don't, the list is asked, which looks at
+/// the owners of the port alone, or of the port and address.
 #[derive(Drop)]
 pub struct Owners {
     list: OwnerList,
-    tallies: Tallies,
+    counts: OwnerCounts,
 }
 
 impl Model for Owners {
@@ -29,7 +31,7 @@ impl Model for Owners {
 
     ghost view = { λ o. o.list };
 
-    ghost invariant = { λ o. AreCounted o.list o.tallies };
+    ghost invariant = { λ o. AreCounted o.list o.counts };
 }
 
 impl Owners {
@@ -40,7 +42,7 @@ impl Owners {
     {
         Owners {
             list: OwnerList::new(alloc),
-            tallies: Tallies::new(alloc, stride),
+            counts: OwnerCounts::new(alloc, stride),
         }
     }
 
@@ -50,7 +52,7 @@ impl Owners {
         ensures room { OnOk result (more ≤ self.new.room) }
         ensures kept { self.old.room ≤ self.new.room }
     {
-        self.tallies.reserve()?;
+        self.counts.reserve()?;
         self.list.reserve(more)
     }
 
@@ -76,19 +78,21 @@ impl Owners {
     {
         // It tells that the counts can't wrap.
         let _few = self.list.len();
-        self.tallies.come(&owner);
+        self.counts.come(&owner);
         self.list.push(owner);
     }
 
-    /// Puts an owner in the place of the first of its name.
+    /// Puts an owner in the place of the first of its name, which has its port, and its address or
+    /// 0.0.0.0.
     pub fn replace(&mut self, owner: Owner)
+        requires { StandsThere owner (find (spec.has_name owner.name) self.old.owners) }
         ensures owners { self.new.owners
             ≡ change_first (spec.has_name owner.name) (λ _. owner) self.old.owners }
         ensures room { self.new.room ≡ self.old.room }
     {
         let _few = self.list.len();
         if let Some(was) = self.list.named(owner.name).copied() {
-            self.tallies.change(&was, &owner);
+            self.counts.change(&was, &owner);
             self.list.replace(owner);
         }
     }
@@ -101,7 +105,7 @@ impl Owners {
     {
         let gone = self.list.named(name).copied()?;
         self.list.remove(name);
-        self.tallies.go(&gone);
+        self.counts.go(&gone);
         Some(gone)
     }
 
@@ -113,7 +117,7 @@ impl Owners {
     {
         let gone = self.list.waiting(name).copied()?;
         self.list.remove_waiting(name);
-        self.tallies.go(&gone);
+        self.counts.go(&gone);
         Some(gone)
     }
 
@@ -121,10 +125,10 @@ impl Owners {
     pub fn refusing(&self, owner: &Owner) -> Option<Owner>
         ensures { result ≡ find (conflict_spec.refuses owner.now) self.now.owners }
     {
-        if self.tallies.none_refuses(owner) {
+        if self.counts.none_refuses(owner) {
             None
         } else {
-            self.list.refusing(owner)
+            self.list.first(Asked::Refuses(*owner))
         }
     }
 
@@ -134,10 +138,10 @@ impl Owners {
         ensures { result
             ≡ find (conflict_spec.refuses owner.now) (drop_first (spec.has_name name) self.now.owners) }
     {
-        if self.tallies.no_other_refuses(owner) {
+        if self.counts.no_other_refuses(owner) {
             None
         } else {
-            self.list.refusing_other(owner, name)
+            self.list.first_other(Asked::Refuses(*owner), name)
         }
     }
 
@@ -145,10 +149,10 @@ impl Owners {
     pub fn overlapping(&self, owner: &Owner) -> Option<Owner>
         ensures { result ≡ find (conflict_spec.overlap owner.now) self.now.owners }
     {
-        if self.tallies.none_overlaps(owner) {
+        if self.counts.none_overlaps(owner) {
             None
         } else {
-            self.list.overlapping(owner)
+            self.list.first(Asked::Overlaps(*owner))
         }
     }
 
@@ -156,10 +160,10 @@ impl Owners {
     pub fn holder(&self, port: u16) -> Option<Owner>
         ensures { result ≡ find (spec.holds port) self.now.owners }
     {
-        if self.tallies.none_holds(port) {
+        if self.counts.none_holds(port) {
             None
         } else {
-            self.list.holder(port)
+            self.list.first(Asked::Holds(port))
         }
     }
 
@@ -167,10 +171,10 @@ impl Owners {
     pub fn mate(&self, owner: &Owner) -> Option<Owner>
         ensures { result ≡ find (spec.is_mate owner.now) self.now.owners }
     {
-        if self.tallies.no_mate(owner) {
+        if self.counts.no_mate(owner) {
             None
         } else {
-            self.list.mate(owner)
+            self.list.first(Asked::Groups(*owner))
         }
     }
 }

@@ -1,21 +1,20 @@
 //! Counts of owners, by which most conflicts are ruled out without a scan.
 //!
 //! Linux spares such scans by `fastreuse` and `fastreuseport` of `struct inet_bind_bucket`
-//! (`sk_reuseport_match` in `net/ipv4/inet_connection_sock.c`). Ports that have one place share a
+//! (`sk_reuseport_match` in `net/ipv4/inet_connection_sock.c`). Owners that have one place share a
 //! tally, which may cost a scan, and never changes an answer.
 
-ghost use Rattle.std.specs.Prelude.{◌≡◌, ℕ, ◌==◌, ◌+◌, ◌-◌, ◌^◌, ◌<◌, ◌≤◌, Bool, true, List, [], ◌∷◌, ◌++◌, length, find, None, Some, OnOk, OnErr, slice_set, nat_eq, if◌then◌else◌};
-ghost use Rattle.sock_card.specs.Conflict as conflict_spec;
-ghost use Rattle.bind_buckets.specs.OwnerStep as step_spec;
+ghost use Rattle.std.specs.Prelude.{◌≡◌, ℕ, ◌+◌, ◌-◌, ◌^◌, ◌<◌, Bool, true, List, [], ◌∷◌, ◌++◌, length, find, Some, OnOk, OnErr, slice_set, nat_eq, if◌then◌else◌};
 ghost use Rattle.bind_buckets.specs.First.{change_first, drop_first};
 ghost use Rattle.bind_buckets.specs.Tally as spec;
-ghost use Rattle.bind_buckets.specs.Tally.{Counts, IsTallyOf, AreMade, place_of};
+ghost use Rattle.bind_buckets.specs.Tally.{Counts, IsTallyOf, AreMade};
 
 use sock_card::{Owner, State};
 use std::alloc::{AllocError, Global};
 use std::marker::Model;
 
-const PLACES: usize = 256;
+/// How many places there are.
+pub const PLACES: usize = 256;
 
 const EMPTY: Tally = Tally {
     owners: 0,
@@ -26,17 +25,17 @@ const EMPTY: Tally = Tally {
     uid: 0,
 };
 
-/// Counts of the owners whose port has one place.
+/// Counts of the owners at one place.
 ///
 /// `exclusive` are those that listen or lack `reuseaddr`, `held` those whose port `connect` didn't
 /// choose, `grouped` those that listen with `reuseport`, and `unshared` those that lack `reuseport` or
 /// aren't of the user `uid`, of whom the first owner was that came to the empty place.
 #[derive(Clone, Copy, Debug)]
 pub struct Tally {
-    owners: usize,
+    pub owners: usize,
     exclusive: usize,
-    held: usize,
-    grouped: usize,
+    pub held: usize,
+    pub grouped: usize,
     unshared: usize,
     uid: u32,
 }
@@ -102,7 +101,7 @@ impl Tally {
     }
 
     /// Without one of its owners.
-    fn without(self, owner: &Owner) -> Tally
+    pub fn without(self, owner: &Owner) -> Tally
         ensures fewer { result.owners ≡ self.owners - 1 }
         ensures counts { (at : Owner → Bool) (is : Owner → Bool) (owners : List Owner) → at owner.now ≡ true
             → find is owners ≡ Some owner.now → Counts at self owners → Counts at result (drop_first is owners) }
@@ -118,7 +117,7 @@ impl Tally {
     }
 
     /// Whether the counts tell that none of its owners keeps this one from its port.
-    fn none_refuses(self, owner: &Owner) -> bool
+    pub fn none_refuses(self, owner: &Owner) -> bool
         ensures { result ≡ spec.rules_out self owner.now }
     {
         self.owners == 0
@@ -127,38 +126,32 @@ impl Tally {
     }
 }
 
-/// Tallies of a bucket's owners, one for each place of a port.
+/// Tallies of owners, one for each of 256 places.
 ///
-/// Of ports, as many in a row have one place as the stride says; after 256 places comes the first
-/// again. Tallies are of a list of owners that the caller keeps: [`Tallies::come`], [`Tallies::go`]
-/// and [`Tallies::change`] follow its changes.
+/// Where an owner's place is the caller says, who keeps the list of owners: [`Tallies::come`],
+/// [`Tallies::go`] and [`Tallies::change`] follow its changes.
 #[derive(Drop)]
 pub struct Tallies {
     tallies: Vec<Tally>,
-    stride: u32,
 }
 
 impl Model for Tallies {
-    ghost use Rattle.std.specs.Prelude.{ℕ, ◌≤◌};
-    ghost use Rattle.bind_buckets.specs.Tally.{Tallies as Shown};
+    ghost use Rattle.std.specs.Prelude.{List};
+    ghost use Rattle.bind_buckets.specs.declared.tally.Tally.{Tally};
 
-    ghost Value = { Shown };
+    ghost Value = { List Tally };
 
-    ghost view = { λ t. record { tallies = t.tallies.items; stride = t.stride } };
-
-    ghost invariant = { λ t. 1 ≤ t.stride };
+    ghost view = { λ t. t.tallies.items };
 }
 
 impl Tallies {
-    /// Tallies of no owners, with that stride. It takes no memory.
-    pub fn new(alloc: Global, stride: u32) -> Self
-        requires { 1 ≤ stride }
-        ensures none { result ≡ spec.no_tallies stride }
-        ensures empty { IsTallyOf result [] }
+    /// Tallies of no owners. It takes no memory.
+    pub fn new(alloc: Global) -> Self
+        ensures none { result ≡ [] }
+        ensures empty { (place_of : Owner → ℕ) → IsTallyOf place_of result [] }
     {
         Tallies {
             tallies: Vec::new(alloc),
-            stride,
         }
     }
 
@@ -167,7 +160,8 @@ impl Tallies {
     /// An `Err`, for want of memory, changes nothing.
     pub fn reserve(&mut self) -> Result<(), AllocError>
         ensures made { OnOk result (AreMade self.new) }
-        ensures stays { OnOk result ((owners : List Owner) → IsTallyOf self.old owners → IsTallyOf self.new owners) }
+        ensures stays { OnOk result ((place_of : Owner → ℕ) (owners : List Owner)
+            → IsTallyOf place_of self.old owners → IsTallyOf place_of self.new owners) }
         ensures err { OnErr result (self.new ≡ self.old) }
     {
         if self.tallies.len() < PLACES {
@@ -176,107 +170,59 @@ impl Tallies {
         Ok(())
     }
 
-    fn place(&self, port: u16) -> usize
-        ensures { result ≡ place_of self.now.stride port }
+    /// What is counted at that place.
+    pub fn tally_at(&self, place: usize) -> Tally
+        ensures { result ≡ spec.tally_at self.now place }
     {
-        (u32::from(port) / self.stride) as usize % PLACES
+        self.tallies.get(place).copied().unwrap_or(EMPTY)
     }
 
-    fn tally(&self, port: u16) -> Tally
-        ensures { result ≡ spec.tally_of self.now port }
+    fn put(&mut self, place: usize, tally: Tally)
+        ensures { self.new ≡ slice_set self.old place tally }
     {
-        self.tallies.get(self.place(port)).copied().unwrap_or(EMPTY)
-    }
-
-    fn put(&mut self, port: u16, tally: Tally)
-        ensures { self.new ≡ record self.old {
-          tallies = slice_set self.old.tallies (place_of self.old.stride port) tally;
-        } }
-    {
-        let place = self.place(port);
         if let Some(kept) = self.tallies.get_mut(place) {
             *kept = tally;
         }
     }
 
-    /// Counts one owner more, once [`Tallies::reserve`] has answered `Ok`. Constant cost.
-    pub fn come(&mut self, owner: &Owner)
+    /// Counts one owner more, at its place, once [`Tallies::reserve`] has answered `Ok`. Constant cost.
+    pub fn come(&mut self, place: usize, owner: &Owner)
         requires made { AreMade self.old }
+        requires place { place < 256 }
         ensures made { AreMade self.new }
-        ensures stays { (owners : List Owner) → length owners + 1 < 2 ^ 64 → IsTallyOf self.old owners
-            → IsTallyOf self.new (owners ++ owner.now ∷ []) }
+        ensures stays { (place_of : Owner → ℕ) (owners : List Owner) → place_of owner.now ≡ place
+            → length owners + 1 < 2 ^ 64 → IsTallyOf place_of self.old owners
+            → IsTallyOf place_of self.new (owners ++ owner.now ∷ []) }
     {
-        let tally = self.tally(owner.port);
-        self.put(owner.port, tally.with(owner));
+        let tally = self.tally_at(place);
+        self.put(place, tally.with(owner));
     }
 
-    /// Counts an owner no longer, which was counted. Constant cost.
-    pub fn go(&mut self, owner: &Owner)
+    /// Counts an owner no longer, which was counted at its place. Constant cost.
+    pub fn go(&mut self, place: usize, owner: &Owner)
+        requires place { place < 256 }
         ensures made { AreMade self.old → AreMade self.new }
-        ensures stays { (is : Owner → Bool) (owners : List Owner) → find is owners ≡ Some owner.now
-            → IsTallyOf self.old owners → IsTallyOf self.new (drop_first is owners) }
+        ensures stays { (place_of : Owner → ℕ) (is : Owner → Bool) (owners : List Owner) → place_of owner.now ≡ place
+            → find is owners ≡ Some owner.now → IsTallyOf place_of self.old owners
+            → IsTallyOf place_of self.new (drop_first is owners) }
     {
-        let tally = self.tally(owner.port);
-        self.put(owner.port, tally.without(owner));
+        let tally = self.tally_at(place);
+        self.put(place, tally.without(owner));
     }
 
-    /// Counts an owner as it is now, which was counted as it was. Constant cost.
-    pub fn change(&mut self, was: &Owner, owner: &Owner)
+    /// Counts an owner as it is now, at its place, which was counted as it was. Constant cost.
+    pub fn change(&mut self, was_place: usize, was: &Owner, place: usize, owner: &Owner)
+        requires was_place { was_place < 256 }
+        requires place { place < 256 }
         ensures made { AreMade self.old → AreMade self.new }
-        ensures stays { (is : Owner → Bool) (become : Owner → Owner) (owners : List Owner) → length owners < 2 ^ 64
+        ensures stays { (place_of : Owner → ℕ) (is : Owner → Bool) (become : Owner → Owner) (owners : List Owner)
+            → place_of was.now ≡ was_place → place_of owner.now ≡ place → length owners < 2 ^ 64
             → find is owners ≡ Some was.now → become was.now ≡ owner.now
-            → IsTallyOf self.old owners → IsTallyOf self.new (change_first is become owners) }
+            → IsTallyOf place_of self.old owners → IsTallyOf place_of self.new (change_first is become owners) }
     {
-        let rest = self.tally(was.port).without(was);
-        self.put(was.port, rest);
-        let tally = self.tally(owner.port);
-        self.put(owner.port, tally.with(owner));
-    }
-
-    /// Whether the counts tell that no owner keeps this one from its port. Constant cost.
-    pub fn none_refuses(&self, owner: &Owner) -> bool
-        ensures counts { result ≡ spec.rules_out (spec.tally_of self.now owner.now.port) owner.now }
-        ensures none { result ≡ true → (owners : List Owner) → IsTallyOf self.now owners
-            → find (conflict_spec.refuses owner.now) owners ≡ None }
-    {
-        self.tally(owner.port).none_refuses(owner)
-    }
-
-    /// Whether the counts tell that no other owner keeps this one from its port, where it is one
-    /// itself. Constant cost.
-    pub fn no_other_refuses(&self, owner: &Owner) -> bool
-        ensures alone { (spec.tally_of self.now owner.now.port).owners ≡ 1 → result ≡ true }
-        ensures none { result ≡ true → (is : Owner → Bool) (owners : List Owner) → find is owners ≡ Some owner.now
-            → IsTallyOf self.now owners → find (conflict_spec.refuses owner.now) (drop_first is owners) ≡ None }
-    {
-        self.tally(owner.port).without(owner).none_refuses(owner)
-    }
-
-    /// Whether the counts tell that no owner wants what this one wants, options or not. Constant cost.
-    pub fn none_overlaps(&self, owner: &Owner) -> bool
-        ensures counts { result ≡ (spec.tally_of self.now owner.now.port).owners == 0 }
-        ensures none { result ≡ true → (owners : List Owner) → IsTallyOf self.now owners
-            → find (conflict_spec.overlap owner.now) owners ≡ None }
-    {
-        self.tally(owner.port).owners == 0
-    }
-
-    /// Whether the counts tell that `connect` chose the port of each owner that has that one.
-    /// Constant cost.
-    pub fn none_holds(&self, port: u16) -> bool
-        ensures counts { result ≡ (spec.tally_of self.now port).held == 0 }
-        ensures none { result ≡ true → (owners : List Owner) → IsTallyOf self.now owners
-            → find (step_spec.holds port) owners ≡ None }
-    {
-        self.tally(port).held == 0
-    }
-
-    /// Whether the counts tell that no listener has a group that this owner would join. Constant cost.
-    pub fn no_mate(&self, owner: &Owner) -> bool
-        ensures counts { result ≡ (spec.tally_of self.now owner.now.port).grouped == 0 }
-        ensures none { result ≡ true → (owners : List Owner) → IsTallyOf self.now owners
-            → find (step_spec.is_mate owner.now) owners ≡ None }
-    {
-        self.tally(owner.port).grouped == 0
+        let rest = self.tally_at(was_place).without(was);
+        self.put(was_place, rest);
+        let tally = self.tally_at(place);
+        self.put(place, tally.with(owner));
     }
 }

@@ -1,6 +1,6 @@
 use Rattle.std.proofs.Common.{rules}
 use Rattle.std.proofs.lemmas.List.Elements.{filter_from_retain}
-use Rattle.bind_buckets.specs.declared.owner_list.Slot.{Slot}
+use Rattle.bind_buckets.specs.declared.slot.Slot.{Slot}
 use Rattle.bind_buckets.proofs.owner_list.give_up_left.Goals as goal
 
 pub returns-clause-items : goal.returns-clause-items

@@ -1,10 +1,22 @@
-use Rattle.std.proofs.Common.{sym, ◌∙◌, ap}
+use Rattle.std.proofs.Common.{◌≡◌, Some, find, subst, sym, ◌∙◌, ap}
 use Rattle.sock_card.specs.declared.owner.Owner.{Owner}
 use Rattle.sock_card.specs.Became.{connected}
-use Rattle.bind_buckets.specs.HeldBy.{held_by}
-use Rattle.bind_buckets.proofs.Named.{changes_there, speaks_of_none}
+use Rattle.bind_buckets.specs.HeldBy.{held_by, CanBeAt}
+use Rattle.bind_buckets.specs.OwnerStep.{has_name}
+use Rattle.bind_buckets.proofs.Named.{changes_there, speaks_of_none, stands_at}
 use Rattle.bind_buckets.proofs.RoomLeft.{changes, no_more}
 use Rattle.bind_buckets.proofs.held.Held.connect_bound.Goals as goal
+
+pub replace-requires : goal.replace-requires
+replace-requires c =
+    let owners = c.args.self.now.owners.owners in
+    let a = c.in-Some.owner in
+    let b = c.connected.result in
+    let is = c.connected.ensures in
+    let found : find (has_name c.args.name) owners ≡ Some a = sym c.named.ensures ∙ sym c.copied.ensures ∙ c.in-Some.is in
+    let bound : CanBeAt c.args.local (Some a) = subst (CanBeAt c.args.local) found c.requires in
+    let addr : b.addr ≡ c.args.local = ap (λ (o : Owner). o.addr) is in
+    stands_at owners c.args.name a b found (ap (λ (o : Owner). o.name) is) (ap (λ (o : Owner). o.port) is) (rw addr bound)
 
 pub returns-in-None-clause-step : goal.returns-in-None-clause-step
 returns-in-None-clause-step c = speaks_of_none _ c.args.name _ (sym c.named.ensures ∙ sym c.copied.ensures ∙ c.in-None.is)

@@ -1,10 +1,11 @@
 use Rattle.std.proofs.Common.{◌≡◌, sym, ap, ◌∙◌}
+use Rattle.sock_card.specs.declared.owner.Owner.{Owner}
 use Rattle.bind_buckets.specs.declared.held.Held.{Held as Inside}
 use Rattle.bind_buckets.specs.Owners.{Listed}
 use Rattle.bind_buckets.specs.First.{change_first}
 use Rattle.bind_buckets.specs.OwnerStep.{has_name}
 use Rattle.bind_buckets.specs.HeldBy.{held_by}
-use Rattle.bind_buckets.proofs.Named.{speaks_of_none, listens_there, chosen, not_chosen}
+use Rattle.bind_buckets.proofs.Named.{speaks_of_none, listens_there, chosen, not_chosen, stands_there}
 use Rattle.bind_buckets.proofs.CanListen.{group_of}
 use Rattle.bind_buckets.proofs.RoomLeft.{changes, no_more}
 use Rattle.bind_buckets.proofs.held.Held.listen.Goals as goal
@@ -25,6 +26,18 @@ replaced_owners c =
 pub join-requires : goal.join-requires
 join-requires c =
     group_of c.args.number (held_by c.args.self.now) c.args.name c.in-Some.owner (sym c.named.ensures ∙ sym c.copied.ensures ∙ c.in-Some.is) c.if-owner.true c.requires
+
+pub replace-requires : goal.replace-requires
+replace-requires c =
+    let is = c.as_listener.ensures in
+    let a = c.as_listener.result in
+    let found = sym c.named.ensures ∙ sym c.copied.ensures ∙ c.in-Some.is in
+    elim c.if-owner.branch [
+      | then-owner w ↦ rw (w.self-is, w.join.ensures.owners)
+          (stands_there c.args.self.now.owners.owners c.args.name c.in-Some.owner a found (ap (λ (o : Owner). o.name) is) (ap (λ (o : Owner). o.port) is) (ap (λ (o : Owner). o.addr) is))
+      | else-owner w ↦ rw w.self-is
+          (stands_there c.args.self.now.owners.owners c.args.name c.in-Some.owner a found (ap (λ (o : Owner). o.name) is) (ap (λ (o : Owner). o.port) is) (ap (λ (o : Owner). o.addr) is))
+    ]
 
 pub returns-in-None-clause-step : goal.returns-in-None-clause-step
 returns-in-None-clause-step c = speaks_of_none _ c.args.name _ (sym c.named.ensures ∙ sym c.copied.ensures ∙ c.in-None.is)

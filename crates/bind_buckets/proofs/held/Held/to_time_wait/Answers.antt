@@ -2,9 +2,14 @@ use Rattle.std.proofs.Common.{sym, ◌∙◌, ap}
 use Rattle.sock_card.specs.declared.owner.Owner.{Owner}
 use Rattle.sock_card.specs.Became.{as_waiting}
 use Rattle.bind_buckets.specs.HeldBy.{held_by}
-use Rattle.bind_buckets.proofs.Named.{changes_there, speaks_of_none}
+use Rattle.bind_buckets.proofs.Named.{changes_there, speaks_of_none, stands_there}
 use Rattle.bind_buckets.proofs.RoomLeft.{changes, no_more}
 use Rattle.bind_buckets.proofs.held.Held.to_time_wait.Goals as goal
+
+pub replace-requires : goal.replace-requires
+replace-requires c =
+    let is = c.as_waiting.ensures in
+    stands_there c.args.self.now.owners.owners c.args.name c.in-Some.owner c.as_waiting.result (sym c.named.ensures ∙ sym c.copied.ensures ∙ c.in-Some.is) (ap (λ (o : Owner). o.name) is) (ap (λ (o : Owner). o.port) is) (ap (λ (o : Owner). o.addr) is)
 
 pub returns-in-None-clause-step : goal.returns-in-None-clause-step
 returns-in-None-clause-step c = speaks_of_none _ c.args.name _ (sym c.named.ensures ∙ sym c.copied.ensures ∙ c.in-None.is)

@@ -1,21 +1,22 @@
 -- The owner in the first slot that has one of the name.
-use Rattle.std.proofs.Common.{◌≡◌, false, Some, None, position, find, sym, ◌∙◌, ap}
+use Rattle.std.proofs.Common.{◌≡◌, Some, None, position, find, sym, ◌∙◌, ap}
+use Rattle.bind_buckets.specs.declared.slot.Asked.TheVariants as asks
 use Rattle.bind_buckets.specs.Owners.{Listed}
 use Rattle.bind_buckets.specs.OwnerStep.{has_name}
-use Rattle.bind_buckets.specs.Slots.{has_answering}
+use Rattle.bind_buckets.specs.Slots.{has}
 use Rattle.bind_buckets.proofs.SlotSteps.{first_there, none_there}
 use Rattle.bind_buckets.proofs.owner_list.OwnerList.named.Goals as goal
 
 pub returns-in-Some : goal.returns-in-Some
 returns-in-Some c =
     let slots = c.self.inside.slots.items in
-    let at : position (has_answering c.args.name false) slots ≡ Some c.in-Some.place = rw (← c.deref.ensures.value) (sym c.in-Some.ensures.place) in
+    let at : position (has (asks.Named c.args.name)) slots ≡ Some c.in-Some.place = rw (← c.deref.ensures.value) (sym c.in-Some.ensures.place) in
     sym (first_there (has_name c.args.name) slots c.in-Some.place c.index.result.now at c.index.ensures)
     ∙ ap (λ (v : Listed). find (has_name c.args.name) v.owners) c.self.view_is
 
 pub returns-in-None : goal.returns-in-None
 returns-in-None c =
     let slots = c.self.inside.slots.items in
-    let nowhere : position (has_answering c.args.name false) slots ≡ None = rw (← c.deref.ensures.value) (sym c.first_place.ensures.place ∙ c.in-None.is) in
+    let nowhere : position (has (asks.Named c.args.name)) slots ≡ None = rw (← c.deref.ensures.value) (sym c.in-None.ensures.place) in
     sym (none_there (has_name c.args.name) slots nowhere)
     ∙ ap (λ (v : Listed). find (has_name c.args.name) v.owners) c.self.view_is

@@ -1,0 +1,201 @@
+//! Counts of a bucket's owners by port, and by port and address.
+//!
+//! Those by port answer most questions. Where many owners share a port at one address, and one at
+//! another address shares it with none, those by address still tell that none refuses a newcomer.
+
+ghost use Rattle.std.specs.Prelude.{◌≡◌, ◌==◌, ◌||◌, ◌+◌, ◌^◌, ◌<◌, ◌≤◌, Bool, true, List, [], ◌∷◌, ◌++◌, length, find, None, Some, OnOk};
+ghost use Rattle.sock_card.specs.Conflict as conflict_spec;
+ghost use Rattle.bind_buckets.specs.OwnerStep as step_spec;
+ghost use Rattle.bind_buckets.specs.First.{change_first, drop_first};
+ghost use Rattle.bind_buckets.specs.Tally as tally_spec;
+ghost use Rattle.bind_buckets.specs.OwnerCounts as spec;
+ghost use Rattle.bind_buckets.specs.OwnerCounts.{IsCountOf, HasMemory, port_tally, end_tally};
+
+use crate::tally::{PLACES, Tallies, Tally};
+use sock_card::Owner;
+use std::alloc::{AllocError, Global};
+use std::marker::Model;
+
+/// Counts of a bucket's owners, by port, and by port and address.
+///
+/// Of ports, as many in a row have one place as the stride says; after 256 places comes the first
+/// again, and each address counts one place on. The counts are of a list of owners that the caller
+/// keeps: [`OwnerCounts::come`], [`OwnerCounts::go`] and [`OwnerCounts::change`] follow its changes.
+#[derive(Drop)]
+pub struct OwnerCounts {
+    by_port: Tallies,
+    by_end: Tallies,
+    stride: u32,
+}
+
+impl Model for OwnerCounts {
+    ghost use Rattle.std.specs.Prelude.{ℕ, ◌≤◌};
+    ghost use Rattle.bind_buckets.specs.OwnerCounts.{OwnerCounts as Shown};
+
+    ghost Value = { Shown };
+
+    ghost view = { λ c. record { by_port = c.by_port; by_end = c.by_end; stride = c.stride } };
+
+    ghost invariant = { λ c. 1 ≤ c.stride };
+}
+
+impl OwnerCounts {
+    /// Counts of no owners, with that stride. It takes no memory.
+    pub fn new(alloc: Global, stride: u32) -> Self
+        requires { 1 ≤ stride }
+        ensures none { result ≡ spec.no_counts stride }
+        ensures empty { IsCountOf result [] }
+    {
+        OwnerCounts {
+            by_port: Tallies::new(alloc),
+            by_end: Tallies::new(alloc),
+            stride,
+        }
+    }
+
+    /// Takes the memory for all counts, at the first call; later calls cost nothing.
+    ///
+    /// An `Err`, for want of memory, leaves the counts as they are.
+    pub fn reserve(&mut self) -> Result<(), AllocError>
+        ensures made { OnOk result (HasMemory self.new) }
+        ensures kept { HasMemory self.old → HasMemory self.new }
+        ensures stays { (owners : List Owner) → IsCountOf self.old owners → IsCountOf self.new owners }
+    {
+        self.by_port.reserve()?;
+        self.by_end.reserve()
+    }
+
+    fn port_place(&self, port: u16) -> usize
+        ensures place { result ≡ spec.port_place self.now.stride port }
+        ensures within { result < 256 }
+    {
+        (u32::from(port) / self.stride) as usize % PLACES
+    }
+
+    fn end_place(&self, port: u16, addr: u32) -> usize
+        ensures place { result ≡ spec.end_place self.now.stride port addr }
+        ensures within { result < 256 }
+    {
+        ((u32::from(port) / self.stride) as usize + addr as usize) % PLACES
+    }
+
+    fn at_port(&self, port: u16) -> Tally
+        ensures { result ≡ port_tally self.now port }
+    {
+        self.by_port.tally_at(self.port_place(port))
+    }
+
+    fn at_end(&self, port: u16, addr: u32) -> Tally
+        ensures { result ≡ end_tally self.now port addr }
+    {
+        self.by_end.tally_at(self.end_place(port, addr))
+    }
+
+    /// Counts one owner more, once [`OwnerCounts::reserve`] has answered `Ok`. Constant cost.
+    pub fn come(&mut self, owner: &Owner)
+        requires made { HasMemory self.old }
+        ensures made { HasMemory self.new }
+        ensures stays { (owners : List Owner) → length owners + 1 < 2 ^ 64 → IsCountOf self.old owners
+            → IsCountOf self.new (owners ++ owner.now ∷ []) }
+    {
+        let port = self.port_place(owner.port);
+        let end = self.end_place(owner.port, owner.addr);
+        self.by_port.come(port, owner);
+        self.by_end.come(end, owner);
+    }
+
+    /// Counts an owner no longer, which was counted. Constant cost.
+    pub fn go(&mut self, owner: &Owner)
+        ensures made { HasMemory self.old → HasMemory self.new }
+        ensures stays { (is : Owner → Bool) (owners : List Owner) → find is owners ≡ Some owner.now
+            → IsCountOf self.old owners → IsCountOf self.new (drop_first is owners) }
+    {
+        let port = self.port_place(owner.port);
+        let end = self.end_place(owner.port, owner.addr);
+        self.by_port.go(port, owner);
+        self.by_end.go(end, owner);
+    }
+
+    /// Counts an owner as it is now, which was counted as it was. Constant cost.
+    pub fn change(&mut self, was: &Owner, owner: &Owner)
+        ensures made { HasMemory self.old → HasMemory self.new }
+        ensures stays { (is : Owner → Bool) (become : Owner → Owner) (owners : List Owner) → length owners < 2 ^ 64
+            → find is owners ≡ Some was.now → become was.now ≡ owner.now
+            → IsCountOf self.old owners → IsCountOf self.new (change_first is become owners) }
+    {
+        let was_port = self.port_place(was.port);
+        let was_end = self.end_place(was.port, was.addr);
+        let port = self.port_place(owner.port);
+        let end = self.end_place(owner.port, owner.addr);
+        self.by_port.change(was_port, was, port, owner);
+        self.by_end.change(was_end, was, end, owner);
+    }
+
+    /// Whether that tally and the one of its port at 0.0.0.0 tell that none of their owners keeps this
+    /// one from its port, where it has an address.
+    fn both_rule_out(&self, there: Tally, owner: &Owner) -> bool
+        ensures { result ≡ spec.both_rule_out there (end_tally self.now owner.now.port 0) owner.now }
+    {
+        owner.addr != 0
+            && there.none_refuses(owner)
+            && self.at_end(owner.port, 0).none_refuses(owner)
+    }
+
+    /// Whether the counts tell that no owner keeps this one from its port. Constant cost.
+    ///
+    /// An owner that does has its port, and its address or 0.0.0.0, where it has an address itself.
+    pub fn none_refuses(&self, owner: &Owner) -> bool
+        ensures counts { result ≡ (tally_spec.rules_out (port_tally self.now owner.now.port) owner.now
+            || spec.both_rule_out (end_tally self.now owner.now.port owner.now.addr)
+            (end_tally self.now owner.now.port 0) owner.now) }
+        ensures none { result ≡ true → (owners : List Owner) → IsCountOf self.now owners
+            → find (conflict_spec.refuses owner.now) owners ≡ None }
+    {
+        let there = self.at_end(owner.port, owner.addr);
+        self.at_port(owner.port).none_refuses(owner) || self.both_rule_out(there, owner)
+    }
+
+    /// Whether the counts tell that no other owner keeps this one from its port, where it is one
+    /// itself. Constant cost.
+    ///
+    /// Where its address and 0.0.0.0 have one place, the tally there still counts it.
+    pub fn no_other_refuses(&self, owner: &Owner) -> bool
+        ensures alone { (port_tally self.now owner.now.port).owners ≡ 1 → result ≡ true }
+        ensures alone_there { (end_tally self.now owner.now.port owner.now.addr).owners ≡ 1
+            → (end_tally self.now owner.now.port 0).owners ≡ 0 → (owner.now.addr ≡ 0 → ⊥) → result ≡ true }
+        ensures none { result ≡ true → (is : Owner → Bool) (owners : List Owner) → find is owners ≡ Some owner.now
+            → IsCountOf self.now owners → find (conflict_spec.refuses owner.now) (drop_first is owners) ≡ None }
+    {
+        let there = self.at_end(owner.port, owner.addr).without(owner);
+        self.at_port(owner.port).without(owner).none_refuses(owner)
+            || self.both_rule_out(there, owner)
+    }
+
+    /// Whether the counts tell that no owner wants what this one wants, options or not. Constant cost.
+    pub fn none_overlaps(&self, owner: &Owner) -> bool
+        ensures counts { result ≡ (port_tally self.now owner.now.port).owners == 0 }
+        ensures none { result ≡ true → (owners : List Owner) → IsCountOf self.now owners
+            → find (conflict_spec.overlap owner.now) owners ≡ None }
+    {
+        self.at_port(owner.port).owners == 0
+    }
+
+    /// Whether the counts tell that `connect` chose the port of each owner that has that one.
+    /// Constant cost.
+    pub fn none_holds(&self, port: u16) -> bool
+        ensures counts { result ≡ (port_tally self.now port).held == 0 }
+        ensures none { result ≡ true → (owners : List Owner) → IsCountOf self.now owners
+            → find (step_spec.holds port) owners ≡ None }
+    {
+        self.at_port(port).held == 0
+    }
+
+    /// Whether the counts tell that no listener has a group that this owner would join. Constant cost.
+    pub fn no_mate(&self, owner: &Owner) -> bool
+        ensures counts { result ≡ (port_tally self.now owner.now.port).grouped == 0 }
+        ensures none { result ≡ true → (owners : List Owner) → IsCountOf self.now owners
+            → find (step_spec.is_mate owner.now) owners ≡ None }
+    {
+        self.at_port(owner.port).grouped == 0
+    }
+}
