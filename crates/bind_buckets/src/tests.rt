@@ -3,10 +3,10 @@
 use crate::bucket::Bucket;
 use crate::journal::Journal;
 use crate::owners::Owners;
-use crate::request::{Answer, Entry, InUse, ListenEnd, NotFree, Note, Request, Strange};
+use crate::request::{Answer, Entry, InUse, ListenEnd, Mark, NotFree, Note, Request, Strange};
 use sock_card::{Owner, State};
 use std::alloc::{AllocError, Global};
-use std::test::Fail;
+use std::process::Abort;
 
 const HERE: u32 = 0x0A00_0001;
 
@@ -48,136 +48,213 @@ fn connecting(name: u32, port: u16) -> Owner {
     }
 }
 
-fn bind(bucket: &mut Bucket, owner: Owner) -> Result<Result<(), InUse>, AllocError> {
-    bucket.reserve()?;
-    if !bucket.has_port(owner.port) {
-        return Ok(Err(InUse(0)));
+fn answer_of_bind(bound: Result<(), InUse>) -> Answer {
+    match bound {
+        Ok(()) => Answer::Done,
+        Err(InUse(name)) => Answer::InUse(name),
     }
-    Ok(bucket.bind(owner))
 }
 
-fn bind_auto(bucket: &mut Bucket, owner: Owner) -> Result<Result<(), InUse>, AllocError> {
-    bucket.reserve()?;
-    if !bucket.has_port(owner.port) {
-        return Ok(Err(InUse(0)));
+fn answer_of_name(known: Result<(), Strange>) -> Answer {
+    match known {
+        Ok(()) => Answer::Done,
+        Err(Strange(name)) => Answer::Strange(name),
     }
-    Ok(bucket.bind_auto(owner))
 }
 
-fn connect(bucket: &mut Bucket, owner: Owner) -> Result<Result<(), NotFree>, AllocError> {
+fn bind(bucket: &mut Bucket, owner: Owner) -> Result<Answer, AllocError> {
+    bucket.reserve()?;
+    if !bucket.has_port(owner.port) {
+        return Ok(Answer::InUse(0));
+    }
+    Ok(answer_of_bind(bucket.bind(owner)))
+}
+
+fn bind_auto(bucket: &mut Bucket, owner: Owner) -> Result<Answer, AllocError> {
+    bucket.reserve()?;
+    if !bucket.has_port(owner.port) {
+        return Ok(Answer::InUse(0));
+    }
+    Ok(answer_of_bind(bucket.bind_auto(owner)))
+}
+
+fn connect(bucket: &mut Bucket, owner: Owner) -> Result<Answer, AllocError> {
     bucket.reserve()?;
     if !bucket.has_port(owner.port) || !owner.by_connect {
-        return Ok(Err(NotFree(0)));
+        return Ok(Answer::NotFree(0));
     }
-    let answer = bucket.free(owner.port);
-    if answer.is_ok() {
-        bucket.connect_auto(owner);
+    match bucket.free(owner.port) {
+        Ok(()) => {
+            bucket.connect_auto(owner);
+            Ok(Answer::Done)
+        }
+        Err(NotFree(name)) => Ok(Answer::NotFree(name)),
     }
-    Ok(answer)
 }
 
-fn listen(
-    bucket: &mut Bucket,
-    name: u32,
-    slot: u32,
-) -> Result<Result<Option<u32>, ListenEnd>, AllocError> {
+fn listen(bucket: &mut Bucket, name: u32, slot: u32) -> Result<Answer, AllocError> {
     bucket.reserve()?;
-    let answer = bucket.may_listen(name);
-    if answer.is_ok() {
-        bucket.listen(name, slot);
+    match bucket.may_listen(name) {
+        Ok(group) => {
+            bucket.listen(name, slot);
+            Ok(Answer::Group(group))
+        }
+        Err(ListenEnd::InUse(other)) => Ok(Answer::InUse(other)),
+        Err(ListenEnd::GroupFull) => Ok(Answer::GroupFull),
+        Err(ListenEnd::GroupsFull) => Ok(Answer::GroupsFull),
+        Err(ListenEnd::Strange(other)) => Ok(Answer::Strange(other)),
     }
-    Ok(answer)
 }
 
-fn accept(bucket: &mut Bucket, parent: u32, name: u32) -> Result<bool, AllocError> {
+fn accept(bucket: &mut Bucket, parent: u32, name: u32) -> Result<Answer, AllocError> {
     bucket.reserve()?;
     match bucket.owner(parent).copied() {
         Some(listener) if matches!(listener.state, State::Listening) && listener.addr == HERE => {
-            Ok(bucket.inherit(parent, name, HERE, THERE, 1000).is_ok())
+            Ok(answer_of_name(bucket.inherit(parent, name, HERE, THERE, 1000)))
         }
-        _ => Ok(false),
+        _ => Ok(Answer::Strange(parent)),
     }
 }
 
-fn remove(bucket: &mut Bucket, name: u32) -> Result<Result<(), Strange>, AllocError> {
+fn remove(bucket: &mut Bucket, name: u32) -> Result<Answer, AllocError> {
     bucket.reserve()?;
-    Ok(bucket.remove(name))
+    Ok(answer_of_name(bucket.remove(name)))
+}
+
+fn close(bucket: &mut Bucket, name: u32) -> Result<Answer, AllocError> {
+    bucket.reserve()?;
+    Ok(answer_of_name(bucket.to_time_wait(name)))
+}
+
+fn reap(bucket: &mut Bucket, name: u32) -> Result<Answer, AllocError> {
+    bucket.reserve()?;
+    Ok(answer_of_name(bucket.remove_waiting(name)))
+}
+
+/// A call on a bucket, or two that belong together.
+#[derive(Clone, Copy)]
+enum Call {
+    Bind(Owner),
+    BindAuto(Owner),
+    /// Whether the port is free, and if so, the socket is connected.
+    Connect(Owner),
+    /// Whether the socket of that name may listen, and if so, it listens, with that slot.
+    Listen(u32, u32),
+    /// The listener of the first name accepts a socket of the second.
+    Accept(u32, u32),
+    Remove(u32),
+    Close(u32),
+    Reap(u32),
+}
+
+fn carry_out(bucket: &mut Bucket, call: Call) -> Result<Answer, AllocError> {
+    match call {
+        Call::Bind(owner) => bind(bucket, owner),
+        Call::BindAuto(owner) => bind_auto(bucket, owner),
+        Call::Connect(owner) => connect(bucket, owner),
+        Call::Listen(name, slot) => listen(bucket, name, slot),
+        Call::Accept(parent, name) => accept(bucket, parent, name),
+        Call::Remove(name) => remove(bucket, name),
+        Call::Close(name) => close(bucket, name),
+        Call::Reap(name) => reap(bucket, name),
+    }
+}
+
+/// Makes the calls, and asserts that each is answered as expected.
+fn run(rt: &impl Abort, bucket: &mut Bucket, calls: &[(Call, Answer)]) -> Result<(), AllocError> {
+    for (place, (call, expected)) in calls.iter().enumerate() {
+        let answer = carry_out(bucket, *call)?;
+        assert_eq!(rt; answer, *expected, "call {place}");
+    }
+    Ok(())
+}
+
+/// The same on a bucket of its own.
+fn check(rt: &impl Abort, alloc: Global, calls: &[(Call, Answer)]) -> Result<(), AllocError> {
+    let mut bucket = Bucket::new(alloc, 0, 1);
+    run(rt, &mut bucket, calls)
+}
+
+fn check_owner(rt: &impl Abort, bucket: &Bucket, name: u32, expected: Option<Owner>) {
+    assert_eq!(rt; bucket.owner(name).copied(), expected, "of {name}");
+}
+
+fn check_members(rt: &impl Abort, bucket: &Bucket, group: u32, expected: &[u64]) {
+    assert_eq!(rt; bucket.members(group), expected, "in {group}");
 }
 
 #[test]
-fn a_port_is_shared_by_one_user(rt: HostRuntime) -> Result<(), Fail> {
-    let mut bucket = Bucket::new(rt.alloc(), 0, 1);
+fn a_port_is_shared_by_one_user(rt: HostRuntime) -> Result<(), AllocError> {
     let other = Owner {
         uid: 2,
         ..sharing(2, 80)
     };
-    assert_eq!(rt; bind(&mut bucket, sharing(1, 80))?, Ok(()));
-    assert_eq!(rt; bind(&mut bucket, other)?, Err(InUse(1)));
-    assert_eq!(rt; bind(&mut bucket, sharing(3, 80))?, Ok(()));
-    Ok(())
+    let calls = [
+        (Call::Bind(sharing(1, 80)), Answer::Done),
+        (Call::Bind(other), Answer::InUse(1)),
+        (Call::Bind(sharing(3, 80)), Answer::Done),
+    ];
+    check(&rt, rt.alloc(), &calls)
 }
 
 #[test]
-fn connect_shares_its_own_ports_alone(rt: HostRuntime) -> Result<(), Fail> {
+fn connect_shares_its_own_ports_alone(rt: HostRuntime) -> Result<(), AllocError> {
     let mut bucket = Bucket::new(rt.alloc(), 0, 1);
-    assert_eq!(rt; connect(&mut bucket, connecting(1, 80))?, Ok(()));
-    assert_eq!(rt; connect(&mut bucket, connecting(2, 80))?, Ok(()));
-    assert_eq!(rt; bind(&mut bucket, socket(3, 81))?, Ok(()));
-    assert_eq!(rt; connect(&mut bucket, connecting(4, 81))?, Err(NotFree(3)));
-    assert_eq!(rt; bucket.owner(2).map(|o| o.port), Some(80));
+    let calls = [
+        (Call::Connect(connecting(1, 80)), Answer::Done),
+        (Call::Connect(connecting(2, 80)), Answer::Done),
+        (Call::Bind(socket(3, 81)), Answer::Done),
+        (Call::Connect(connecting(4, 81)), Answer::NotFree(3)),
+    ];
+    run(&rt, &mut bucket, &calls)?;
+    check_owner(&rt, &bucket, 2, Some(connecting(2, 80)));
     Ok(())
 }
 
 #[test]
-fn a_search_honours_no_option(rt: HostRuntime) -> Result<(), Fail> {
-    let mut bucket = Bucket::new(rt.alloc(), 0, 1);
-    assert_eq!(rt; bind(&mut bucket, sharing(1, 80))?, Ok(()));
-    assert_eq!(rt; bind_auto(&mut bucket, sharing(2, 80))?, Err(InUse(1)));
-    assert_eq!(rt; bind_auto(&mut bucket, sharing(2, 81))?, Ok(()));
-    Ok(())
+fn a_search_honours_no_option(rt: HostRuntime) -> Result<(), AllocError> {
+    let calls = [
+        (Call::Bind(sharing(1, 80)), Answer::Done),
+        (Call::BindAuto(sharing(2, 80)), Answer::InUse(1)),
+        (Call::BindAuto(sharing(2, 81)), Answer::Done),
+    ];
+    check(&rt, rt.alloc(), &calls)
+}
+
+/// A socket is bound to the port that it shares, and wants to listen there.
+fn listening(name: u32, port: u16, slot: u32, answer: Answer) -> [(Call, Answer); 2] {
+    [
+        (Call::Bind(sharing(name, port)), Answer::Done),
+        (Call::Listen(name, slot), answer),
+    ]
 }
 
 #[test]
-fn a_group_has_sixteen_members(rt: HostRuntime) -> Result<(), Fail> {
+fn a_group_has_sixteen_members(rt: HostRuntime) -> Result<(), AllocError> {
     let mut bucket = Bucket::new(rt.alloc(), 1, 2);
     for name in 1..17 {
-        assert_eq!(rt; bind(&mut bucket, sharing(name, 81))?, Ok(()));
-        assert_eq!(rt; listen(&mut bucket, name, name + 100)?, Ok(Some(8)));
+        let calls = listening(name, 81, name + 100, Answer::Group(Some(8)));
+        run(&rt, &mut bucket, &calls)?;
     }
-    assert_eq!(rt; bind(&mut bucket, sharing(17, 81))?, Ok(()));
-    assert_eq!(rt; listen(&mut bucket, 17, 117)?, Err(ListenEnd::GroupFull));
+    let calls = listening(17, 81, 117, Answer::GroupFull);
+    run(&rt, &mut bucket, &calls)?;
     assert_eq!(rt; bucket.members(8).len(), 16);
     Ok(())
 }
 
 #[test]
-fn a_bucket_has_eight_groups(rt: HostRuntime) -> Result<(), Fail> {
+fn a_bucket_has_eight_groups(rt: HostRuntime) -> Result<(), AllocError> {
     let mut bucket = Bucket::new(rt.alloc(), 0, 1);
     for name in 1..9 {
-        assert_eq!(rt; bind(&mut bucket, sharing(name, name as u16))?, Ok(()));
-        assert_eq!(rt; listen(&mut bucket, name, name)?, Ok(Some(name - 1)));
+        let calls = listening(name, name as u16, name, Answer::Group(Some(name - 1)));
+        run(&rt, &mut bucket, &calls)?;
     }
-    assert_eq!(rt; bind(&mut bucket, sharing(9, 9))?, Ok(()));
-    assert_eq!(rt; listen(&mut bucket, 9, 9)?, Err(ListenEnd::GroupsFull));
-    Ok(())
-}
-
-#[test]
-fn a_refused_call_is_entered_too(rt: HostRuntime) -> Result<(), Fail> {
-    let mut bucket = Bucket::new(rt.alloc(), 0, 1);
-    bucket.mark(5, 3);
-    assert_eq!(rt; remove(&mut bucket, 9)?, Err(Strange(9)));
-    let notes = bucket.journal(rt.alloc())?;
-    let note = notes.first().copied().ok_or("no note")?;
-    assert_eq!(rt; note.number, 5);
-    assert_eq!(rt; note.caller, 3);
-    assert_eq!(rt; note.entry.request, Request::Remove { name: 9 });
-    assert_eq!(rt; note.entry.answer, Answer::Strange(9));
-    Ok(())
+    let calls = listening(9, 9, 9, Answer::GroupsFull);
+    run(&rt, &mut bucket, &calls)
 }
 
 /// A listener has accepted a socket, and is closed; a newcomer wants its port.
-fn bind_beside_child(bucket: &mut Bucket, reuseaddr: bool) -> Result<Result<(), InUse>, Fail> {
+fn beside_child(reuseaddr: bool, answer: Answer) -> [(Call, Answer); 5] {
     let listener = Owner {
         reuseaddr,
         ..socket(1, 80)
@@ -186,79 +263,76 @@ fn bind_beside_child(bucket: &mut Bucket, reuseaddr: bool) -> Result<Result<(), 
         reuseaddr,
         ..socket(3, 80)
     };
-    bind(bucket, listener)?.ok().ok_or("refused")?;
-    listen(bucket, 1, 7)?.ok().ok_or("refused")?;
-    if !accept(bucket, 1, 2)? {
-        return Err("not accepted".into());
-    }
-    remove(bucket, 1)?.ok().ok_or("strange")?;
-    Ok(bind(bucket, newcomer)?)
+    [
+        (Call::Bind(listener), Answer::Done),
+        (Call::Listen(1, 7), Answer::Group(None)),
+        (Call::Accept(1, 2), Answer::Done),
+        (Call::Remove(1), Answer::Done),
+        (Call::Bind(newcomer), answer),
+    ]
 }
 
 #[test]
-fn a_child_keeps_its_port(rt: HostRuntime) -> Result<(), Fail> {
+fn a_child_keeps_its_port(rt: HostRuntime) -> Result<(), AllocError> {
+    let calls = beside_child(false, Answer::InUse(2));
+    check(&rt, rt.alloc(), &calls)
+}
+
+#[test]
+fn a_child_shares_its_address(rt: HostRuntime) -> Result<(), AllocError> {
     let mut bucket = Bucket::new(rt.alloc(), 0, 1);
-    assert_eq!(rt; bind_beside_child(&mut bucket, false)?, Err(InUse(2)));
+    run(&rt, &mut bucket, &beside_child(true, Answer::Done))?;
+    let calls = [(Call::Listen(3, 8), Answer::Group(None))];
+    run(&rt, &mut bucket, &calls)
+}
+
+#[test]
+fn a_waiting_socket_keeps_its_port(rt: HostRuntime) -> Result<(), AllocError> {
+    let calls = [
+        (Call::Connect(connecting(1, 80)), Answer::Done),
+        (Call::Reap(1), Answer::Strange(1)),
+        (Call::Close(2), Answer::Strange(2)),
+        (Call::Close(1), Answer::Done),
+        (Call::Bind(socket(2, 80)), Answer::InUse(1)),
+        (Call::Reap(1), Answer::Done),
+        (Call::Bind(socket(2, 80)), Answer::Done),
+    ];
+    check(&rt, rt.alloc(), &calls)
+}
+
+#[test]
+fn another_socket_of_a_waiting_ones_name_stays(rt: HostRuntime) -> Result<(), AllocError> {
+    let mut bucket = Bucket::new(rt.alloc(), 0, 1);
+    let calls = [
+        (Call::Connect(connecting(1, 80)), Answer::Done),
+        (Call::Connect(connecting(1, 80)), Answer::Done),
+        (Call::Close(1), Answer::Done),
+        (Call::Reap(1), Answer::Done),
+        (Call::Reap(1), Answer::Strange(1)),
+    ];
+    run(&rt, &mut bucket, &calls)?;
+    check_owner(&rt, &bucket, 1, Some(connecting(1, 80)));
     Ok(())
 }
 
 #[test]
-fn a_child_shares_its_address(rt: HostRuntime) -> Result<(), Fail> {
+fn the_last_member_takes_the_leavers_place(rt: HostRuntime) -> Result<(), AllocError> {
     let mut bucket = Bucket::new(rt.alloc(), 0, 1);
-    assert_eq!(rt; bind_beside_child(&mut bucket, true)?, Ok(()));
-    assert_eq!(rt; listen(&mut bucket, 3, 8)?, Ok(None));
-    Ok(())
-}
-
-fn close(bucket: &mut Bucket, name: u32) -> Result<Result<(), Strange>, AllocError> {
-    bucket.reserve()?;
-    Ok(bucket.to_time_wait(name))
-}
-
-fn reap(bucket: &mut Bucket, name: u32) -> Result<Result<(), Strange>, AllocError> {
-    bucket.reserve()?;
-    Ok(bucket.remove_waiting(name))
-}
-
-#[test]
-fn a_waiting_socket_keeps_its_port(rt: HostRuntime) -> Result<(), Fail> {
-    let mut bucket = Bucket::new(rt.alloc(), 0, 1);
-    assert_eq!(rt; connect(&mut bucket, connecting(1, 80))?, Ok(()));
-    assert_eq!(rt; reap(&mut bucket, 1)?, Err(Strange(1)));
-    assert_eq!(rt; close(&mut bucket, 2)?, Err(Strange(2)));
-    assert_eq!(rt; close(&mut bucket, 1)?, Ok(()));
-    assert_eq!(rt; bind(&mut bucket, socket(2, 80))?, Err(InUse(1)));
-    assert_eq!(rt; reap(&mut bucket, 1)?, Ok(()));
-    assert_eq!(rt; bind(&mut bucket, socket(2, 80))?, Ok(()));
-    Ok(())
-}
-
-#[test]
-fn another_socket_of_a_waiting_ones_name_stays(rt: HostRuntime) -> Result<(), Fail> {
-    let mut bucket = Bucket::new(rt.alloc(), 0, 1);
-    assert_eq!(rt; connect(&mut bucket, connecting(1, 80))?, Ok(()));
-    assert_eq!(rt; connect(&mut bucket, connecting(1, 80))?, Ok(()));
-    assert_eq!(rt; close(&mut bucket, 1)?, Ok(()));
-    assert_eq!(rt; reap(&mut bucket, 1)?, Ok(()));
-    assert_eq!(rt; reap(&mut bucket, 1)?, Err(Strange(1)));
-    assert_eq!(rt;
-        bucket.owner(1).map(|o| matches!(o.state, State::Full)),
-        Some(true)
-    );
-    Ok(())
-}
-
-#[test]
-fn the_last_member_takes_the_leavers_place(rt: HostRuntime) -> Result<(), Fail> {
-    let mut bucket = Bucket::new(rt.alloc(), 0, 1);
-    for name in 1..5 {
-        assert_eq!(rt; bind(&mut bucket, sharing(name, 80))?, Ok(()));
-        assert_eq!(rt; listen(&mut bucket, name, name + 10)?, Ok(Some(0)));
-    }
-    assert_eq!(rt; remove(&mut bucket, 2)?, Ok(()));
-    let members = bucket.members(0);
+    let joined = Answer::Group(Some(0));
+    let calls = [
+        (Call::Bind(sharing(1, 80)), Answer::Done),
+        (Call::Listen(1, 11), joined),
+        (Call::Bind(sharing(2, 80)), Answer::Done),
+        (Call::Listen(2, 12), joined),
+        (Call::Bind(sharing(3, 80)), Answer::Done),
+        (Call::Listen(3, 13), joined),
+        (Call::Bind(sharing(4, 80)), Answer::Done),
+        (Call::Listen(4, 14), joined),
+        (Call::Remove(2), Answer::Done),
+    ];
+    run(&rt, &mut bucket, &calls)?;
     let expected = [0xB_0000_0001, 0xE_0000_0004, 0xD_0000_0003];
-    assert_eq!(rt; members, expected.as_slice());
+    check_members(&rt, &bucket, 0, &expected);
     Ok(())
 }
 
@@ -268,6 +342,35 @@ fn note(number: u64, request: Request, answer: Answer) -> Note {
         caller: 1,
         entry: Entry { request, answer },
     }
+}
+
+/// What a bucket enters of these calls, from that mark on.
+fn entered(
+    rt: &impl Abort,
+    alloc: Global,
+    mark: Mark,
+    calls: &[(Call, Answer)],
+) -> Result<Vec<Note>, AllocError> {
+    let mut bucket = Bucket::new(alloc, 0, 1);
+    bucket.mark(mark.number, mark.caller);
+    run(rt, &mut bucket, calls)?;
+    bucket.journal(alloc)
+}
+
+#[test]
+fn a_refused_call_is_entered_too(rt: HostRuntime) -> Result<(), AllocError> {
+    let mark = Mark {
+        number: 5,
+        caller: 3,
+    };
+    let calls = [(Call::Remove(9), Answer::Strange(9))];
+    let notes = entered(&rt, rt.alloc(), mark, &calls)?;
+    let expected = Note {
+        caller: 3,
+        ..note(5, Request::Remove { name: 9 }, Answer::Strange(9))
+    };
+    assert_eq!(rt; notes.first().copied(), Some(expected));
+    Ok(())
 }
 
 fn free(port: u16) -> Note {
@@ -291,8 +394,21 @@ fn journal_of(alloc: Global, step: u32, notes: &[Note]) -> Result<Journal, Alloc
     Ok(journal)
 }
 
+/// Asserts that a journal of these notes has so many runs, and tells the notes again.
+fn check_journal(
+    rt: &impl Abort,
+    alloc: Global,
+    notes: &[Note],
+    runs: usize,
+) -> Result<(), AllocError> {
+    let journal = journal_of(alloc, 4, notes)?;
+    assert_eq!(rt; journal.run_count(), runs);
+    assert_eq!(rt; journal.to_vec(alloc)?.as_slice(), notes);
+    Ok(())
+}
+
 #[test]
-fn a_search_is_one_run(rt: HostRuntime) -> Result<(), Fail> {
+fn a_search_is_one_run(rt: HostRuntime) -> Result<(), AllocError> {
     let notes = [
         free(80),
         free(84),
@@ -303,14 +419,11 @@ fn a_search_is_one_run(rt: HostRuntime) -> Result<(), Fail> {
         in_use(socket(3, 44), 8),
         in_use(socket(3, 48), 7),
     ];
-    let journal = journal_of(rt.alloc(), 4, &notes)?;
-    assert_eq!(rt; journal.run_count(), 3);
-    assert_eq!(rt; journal.to_vec(rt.alloc())?.as_slice(), notes.as_slice());
-    Ok(())
+    check_journal(&rt, rt.alloc(), &notes, 3)
 }
 
 #[test]
-fn other_notes_end_a_run(rt: HostRuntime) -> Result<(), Fail> {
+fn other_notes_end_a_run(rt: HostRuntime) -> Result<(), AllocError> {
     let other_mark = Note {
         number: 6,
         ..free(84)
@@ -332,15 +445,12 @@ fn other_notes_end_a_run(rt: HostRuntime) -> Result<(), Fail> {
         in_use(sharing(4, 104), 7),
         in_use(sharing(4, 108), 7),
     ];
-    let journal = journal_of(rt.alloc(), 4, &notes)?;
-    assert_eq!(rt; journal.run_count(), 10);
-    assert_eq!(rt; journal.to_vec(rt.alloc())?.as_slice(), notes.as_slice());
-    Ok(())
+    check_journal(&rt, rt.alloc(), &notes, 10)
 }
 
-#[test]
-fn many_owners_leave(rt: HostRuntime) -> Result<(), Fail> {
-    let mut owners = Owners::new(rt.alloc(), 1);
+/// A hundred owners of one port and one of another have come, and ninety names have left.
+fn many_left(alloc: Global) -> Result<Owners, AllocError> {
+    let mut owners = Owners::new(alloc, 1);
     for name in 0..100 {
         owners.reserve(1)?;
         owners.push(socket(name, 80));
@@ -351,9 +461,19 @@ fn many_owners_leave(rt: HostRuntime) -> Result<(), Fail> {
         owners.remove(name);
     }
     owners.reserve(2)?;
+    Ok(owners)
+}
+
+fn check_named(rt: &impl Abort, owners: &Owners, name: u32, expected: Option<Owner>) {
+    assert_eq!(rt; owners.named(name).copied(), expected, "of {name}");
+}
+
+#[test]
+fn many_owners_leave(rt: HostRuntime) -> Result<(), AllocError> {
+    let owners = many_left(rt.alloc())?;
     assert_eq!(rt; owners.len(), 11);
-    assert_eq!(rt; owners.named(7).copied(), Some(socket(7, 81)));
-    assert_eq!(rt; owners.named(8), None);
-    assert_eq!(rt; owners.named(95).copied(), Some(socket(95, 80)));
+    check_named(&rt, &owners, 7, Some(socket(7, 81)));
+    check_named(&rt, &owners, 8, None);
+    check_named(&rt, &owners, 95, Some(socket(95, 80)));
     Ok(())
 }

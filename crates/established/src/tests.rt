@@ -8,7 +8,8 @@ use chain_book::{PacketAnswer, Place, Replace, Shape};
 use chain_rows::Rows;
 use sock_card::{Card, Kind, Packet};
 use sock_slots::Full;
-use std::test::Fail;
+use std::alloc::AllocError;
+use std::process::Abort;
 
 const ONE_CHAIN: Shape = Shape {
     slots: 2,
@@ -65,56 +66,93 @@ fn wait(rows: &mut Rows, slot: u32, card: &Card) -> Result<Option<Full>, Place>
     time_wait(rows, place, card)
 }
 
+/// What an insert answers that puts its card into that slot of the first chain.
+fn came(slot: u32, replaced: Option<Card>) -> Result<Inserted, InsertEnd> {
+    Ok(Inserted {
+        place: Place { bucket: 0, slot },
+        replaced,
+    })
+}
+
+fn check_insert(
+    rt: &impl Abort,
+    rows: &mut Rows,
+    call: (Card, u32, Replace),
+    expected: Result<Inserted, InsertEnd>,
+)
+    requires { call.0.kind ≡ Kind.Full }
+{
+    let (card, moment, replace) = call;
+    assert_eq!(rt; insert(rows, &card, moment, replace), expected);
+}
+
+fn check_wait(
+    rt: &impl Abort,
+    rows: &mut Rows,
+    slot: u32,
+    card: &Card,
+    expected: Result<Option<Full>, Place>,
+)
+    requires { card.now.kind ≡ Kind.TimeWait }
+{
+    assert_eq!(rt; wait(rows, slot, card), expected);
+}
+
+fn check_remove_tw(rt: &impl Abort, rows: &mut Rows, card: &Card, expected: Option<u32>) {
+    assert_eq!(rt; remove_tw(rows, card), expected);
+}
+
+fn check_found(rt: &impl Abort, rows: &Rows, sport: u16, expected: PacketAnswer) {
+    assert_eq!(rt; find(rows, &packet(sport)).end, expected);
+}
+
 #[test]
-fn a_socket_waits_and_is_replaced(rt: HostRuntime) -> Result<(), Fail> {
+fn a_socket_waits_and_is_replaced(rt: HostRuntime) -> Result<(), AllocError> {
     let mut rows = Rows::new(rt.alloc(), ONE_CHAIN, 0)?;
-    let first = insert(&mut rows, &full(1, 1000), 5, Replace::Never);
-    let place = Place { bucket: 0, slot: 0 };
-    let came = Inserted {
-        place,
-        replaced: None,
-    };
-    assert_eq!(rt; first, Ok(came));
-    let again = insert(&mut rows, &full(2, 1000), 5, Replace::Always);
-    assert_eq!(rt; again, Err(InsertEnd::Taken(1)));
-    let waits = wait(&mut rows, 0, &waiting(1, 1000, 5));
-    assert_eq!(rt; waits, Ok(None));
-    let look = find(&rows, &packet(1000));
-    assert_eq!(rt; look.end, PacketAnswer::Found(waiting(1, 1000, 5)));
-    let early = insert(&mut rows, &full(2, 1000), 5, Replace::After);
-    assert_eq!(rt; early, Err(InsertEnd::Taken(1)));
-    let late = insert(&mut rows, &full(2, 1000), 6, Replace::After);
-    let place = Place { bucket: 0, slot: 0 };
-    let came = Inserted {
-        place,
-        replaced: Some(waiting(1, 1000, 5)),
-    };
-    assert_eq!(rt; late, Ok(came));
-    assert_eq!(rt;
-        find(&rows, &packet(1000)).end,
-        PacketAnswer::Found(full(2, 1000))
+    let (old, new) = (full(1, 1000), full(2, 1000));
+    let waits = waiting(1, 1000, 5);
+    let taken = InsertEnd::Taken(1);
+    check_insert(&rt, &mut rows, (old, 5, Replace::Never), came(0, None));
+    check_insert(&rt, &mut rows, (new, 5, Replace::Always), Err(taken));
+    check_wait(&rt, &mut rows, 0, &waits, Ok(None));
+    check_found(&rt, &rows, 1000, PacketAnswer::Found(waits));
+    check_insert(&rt, &mut rows, (new, 5, Replace::After), Err(taken));
+    check_insert(
+        &rt,
+        &mut rows,
+        (new, 6, Replace::After),
+        came(0, Some(waits)),
     );
+    check_found(&rt, &rows, 1000, PacketAnswer::Found(new));
     assert_eq!(rt; rows.row(0).len(), 1);
     Ok(())
 }
 
 #[test]
-fn a_full_table_leaves_no_time_wait(rt: HostRuntime) -> Result<(), Fail> {
+fn a_full_table_leaves_no_time_wait(rt: HostRuntime) -> Result<(), AllocError> {
     let mut rows = Rows::new(rt.alloc(), ONE_CHAIN, 0)?;
+    let no_slot = Full { owned: 2, held: 0 };
+    let refused = InsertEnd::Full { owned: 2, held: 0 };
     let _ = insert(&mut rows, &full(1, 1000), 5, Replace::Never);
     let _ = insert(&mut rows, &full(2, 1001), 5, Replace::Never);
-    let third = insert(&mut rows, &full(3, 1002), 5, Replace::Never);
-    assert_eq!(rt; third, Err(InsertEnd::Full { owned: 2, held: 0 }));
-    let waits = wait(&mut rows, 0, &waiting(1, 1000, 5));
-    assert_eq!(rt; waits, Ok(Some(Full { owned: 2, held: 0 })));
-    assert_eq!(rt; find(&rows, &packet(1000)).end, PacketAnswer::None);
-    let waits = wait(&mut rows, 1, &waiting(2, 1001, 7));
-    assert_eq!(rt; waits, Ok(None));
-    assert_eq!(rt; remove_tw(&mut rows, &full(4, 1001)), None);
-    assert_eq!(rt; remove_tw(&mut rows, &full(2, 1001)), Some(0));
-    assert_eq!(rt; remove_tw(&mut rows, &full(2, 1001)), None);
-    let fourth = insert(&mut rows, &full(4, 1003), 9, Replace::Never);
-    assert_eq!(rt; fourth.is_ok(), true);
+    check_insert(
+        &rt,
+        &mut rows,
+        (full(3, 1002), 5, Replace::Never),
+        Err(refused),
+    );
+    check_wait(&rt, &mut rows, 0, &waiting(1, 1000, 5), Ok(Some(no_slot)));
+    check_found(&rt, &rows, 1000, PacketAnswer::None);
+    check_wait(&rt, &mut rows, 1, &waiting(2, 1001, 7), Ok(None));
+    check_remove_tw(&rt, &mut rows, &full(4, 1001), None);
+    check_remove_tw(&rt, &mut rows, &full(2, 1001), Some(0));
+    check_remove_tw(&rt, &mut rows, &full(2, 1001), None);
+    check_insert(
+        &rt,
+        &mut rows,
+        (full(4, 1003), 9, Replace::Never),
+        came(1, None),
+    );
     remove(&mut rows, Place { bucket: 0, slot: 1 });
     assert_eq!(rt; rows.row(0).len(), 0);
     Ok(())
