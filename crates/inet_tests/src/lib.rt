@@ -1,10 +1,12 @@
-//! Tests of the top call: worked scripts, captures, generated scripts, other words, ends that move a few bytes a
-//! call and fail in mid-stream, an input as long as the limit, and the ends over std.
+//! Tests of the top call: worked scripts, those of docs/LINUX.md, captures, generated scripts, other words, ends that
+//! move a few bytes a call and fail in mid-stream, an input as long as the limit, and the ends over std.
 #![tactic(auto)]
 
 #[cfg(test)]
 mod captures;
 #[cfg(test)]
 mod engines;
+#[cfg(test)]
+mod linux;
 #[cfg(test)]
 mod tests;
