@@ -1,6 +1,6 @@
 //! Packets to a group of listeners, to its connection, and to nobody.
 
-ghost use Rattle.std.specs.Prelude.{◌≡◌};
+ghost use Rattle.std.specs.Prelude.{◌≡◌, IfOk};
 
 use crate::look::{Lookups, look_packet};
 use bind_buckets::Bucket;
@@ -9,7 +9,8 @@ use chain_rows::Rows;
 use established::insert;
 use listeners::add;
 use sock_card::{Card, Kind, Owner, Packet, State};
-use std::test::Fail;
+use std::alloc::{AllocError, Global};
+use std::process::Abort;
 
 const SHAPE: Shape = Shape {
     slots: 8,
@@ -67,7 +68,7 @@ fn packet(sport: u16) -> Packet {
 }
 
 /// A socket of the group binds and listens.
-fn listening(bucket: &mut Bucket, rows: &mut Rows, name: u32) -> Result<(), Fail>
+fn listening(bucket: &mut Bucket, rows: &mut Rows, name: u32) -> Result<(), AllocError>
     ensures { bucket.new.number ≡ bucket.old.number }
 {
     bucket.reserve()?;
@@ -100,25 +101,45 @@ fn answer(rows: &Rows, bucket: Bucket, sport: u16) -> (PacketAnswer, Bucket)
     (end, bucket)
 }
 
-#[test]
-fn a_hash_chooses_the_member(rt: HostRuntime) -> Result<(), Fail> {
-    let mut rows = Rows::new(rt.alloc(), SHAPE, 0x2152_4105)?;
-    let mut bucket = Bucket::new(rt.alloc(), 0, 1);
+/// Three listeners of one group, in a table and in their port's bucket.
+fn group(alloc: Global) -> Result<(Rows, Bucket), AllocError>
+    ensures { IfOk result (λ made. made.1.number ≡ 0) }
+{
+    let mut rows = Rows::new(alloc, SHAPE, 0x2152_4105)?;
+    let mut bucket = Bucket::new(alloc, 0, 1);
     listening(&mut bucket, &mut rows, 1)?;
     listening(&mut bucket, &mut rows, 2)?;
     listening(&mut bucket, &mut rows, 3)?;
-    let (end, bucket) = answer(&rows, bucket, 1002);
-    assert_eq!(rt; end, PacketAnswer::Found(card(1, 1)));
-    let (end, bucket) = answer(&rows, bucket, 1000);
-    assert_eq!(rt; end, PacketAnswer::Found(card(3, 1)));
+    Ok((rows, bucket))
+}
+
+fn check_answer(rt: &impl Abort, rows: &Rows, bucket: Bucket, sport: u16, expected: Card) -> Bucket
+    requires { bucket.number ≡ 0 }
+    ensures { result ≡ bucket }
+{
+    let (end, bucket) = answer(rows, bucket, sport);
+    assert_eq!(rt; end, PacketAnswer::Found(expected));
+    bucket
+}
+
+fn check_insert(rt: &impl Abort, rows: &mut Rows, full: &Card)
+    requires { full.now.kind ≡ Kind.Full }
+{
+    assert_eq!(rt; insert(rows, full, 0, Replace::Never).is_ok(), true);
+}
+
+#[test]
+fn a_hash_chooses_the_member(rt: HostRuntime) -> Result<(), AllocError> {
+    let (mut rows, bucket) = group(rt.alloc())?;
+    let bucket = check_answer(&rt, &rows, bucket, 1002, card(1, 1));
+    let bucket = check_answer(&rt, &rows, bucket, 1000, card(3, 1));
     let full = Card {
         remote: THERE,
         rport: 1000,
         kind: Kind::Full,
         ..card(4, 0)
     };
-    assert_eq!(rt; insert(&mut rows, &full, 0, Replace::Never).is_ok(), true);
-    let (end, _bucket) = answer(&rows, bucket, 1000);
-    assert_eq!(rt; end, PacketAnswer::Found(full));
+    check_insert(&rt, &mut rows, &full);
+    let _bucket = check_answer(&rt, &rows, bucket, 1000, full);
     Ok(())
 }

@@ -8,7 +8,8 @@ use crate::search::{Attempt, SearchEnd, find_bind, find_connect};
 use bind_buckets::Bucket;
 use flat_list::{First, Range};
 use sock_card::{Owner, State};
-use std::alloc::Global;
+use std::alloc::{AllocError, Global};
+use std::process::Abort;
 use std::test::Fail;
 
 fn ports(offset: u16, first: First) -> Ports {
@@ -61,46 +62,84 @@ fn connect(buckets: &mut [Bucket], taken: &[u16]) -> Result<(u16, u16), SearchEn
     })
 }
 
-#[test]
-fn bind_prefers_odd_distances(rt: HostRuntime) -> Result<(), Fail> {
-    let mut buckets = [Bucket::new(rt.alloc(), 0, 2), Bucket::new(rt.alloc(), 1, 2)];
-    assert_eq!(rt; bind(&mut buckets, 0), Ok(40001));
-    assert_eq!(rt; bind(&mut buckets, 0), Ok(40003));
-    assert_eq!(rt; bind(&mut buckets, 0), Ok(40000));
-    assert_eq!(rt; bind(&mut buckets, 0), Ok(40002));
-    assert_eq!(rt; bind(&mut buckets, 0), Err(SearchEnd::NoPort));
+fn check_bind(
+    rt: &impl Abort,
+    buckets: &mut [Bucket],
+    offset: u16,
+    expected: Result<u16, SearchEnd>,
+)
+    requires { IsBindHash buckets.old }
+    ensures { IsBindHash buckets.new }
+{
+    assert_eq!(rt; bind(buckets, offset), expected);
+}
+
+fn check_connect(
+    rt: &impl Abort,
+    buckets: &mut [Bucket],
+    taken: &[u16],
+    expected: Result<(u16, u16), SearchEnd>,
+)
+    requires { IsBindHash buckets.old }
+    ensures { IsBindHash buckets.new }
+{
+    assert_eq!(rt; connect(buckets, taken), expected);
+}
+
+fn check_port(rt: &impl Abort, bucket: &Bucket, name: u32, expected: Option<u16>) {
+    assert_eq!(rt; bucket.owner(name).map(|o| o.port), expected, "of {name}");
+}
+
+fn check_entries(
+    rt: &impl Abort,
+    alloc: Global,
+    bucket: &Bucket,
+    expected: usize,
+) -> Result<(), AllocError> {
+    assert_eq!(rt; bucket.journal(alloc)?.len(), expected);
     Ok(())
 }
 
 #[test]
-fn bind_begins_at_the_offset(rt: HostRuntime) -> Result<(), Fail> {
+fn bind_prefers_odd_distances(rt: HostRuntime) -> Result<(), AllocError> {
     let mut buckets = [Bucket::new(rt.alloc(), 0, 2), Bucket::new(rt.alloc(), 1, 2)];
-    assert_eq!(rt; bind(&mut buckets, 2), Ok(40003));
-    assert_eq!(rt; bind(&mut buckets, 2), Ok(40001));
-    assert_eq!(rt; bind(&mut buckets, 2), Ok(40002));
-    assert_eq!(rt; bind(&mut buckets, 2), Ok(40000));
+    check_bind(&rt, &mut buckets, 0, Ok(40001));
+    check_bind(&rt, &mut buckets, 0, Ok(40003));
+    check_bind(&rt, &mut buckets, 0, Ok(40000));
+    check_bind(&rt, &mut buckets, 0, Ok(40002));
+    check_bind(&rt, &mut buckets, 0, Err(SearchEnd::NoPort));
     Ok(())
 }
 
 #[test]
-fn connect_shares_its_ports(rt: HostRuntime) -> Result<(), Fail> {
+fn bind_begins_at_the_offset(rt: HostRuntime) -> Result<(), AllocError> {
     let mut buckets = [Bucket::new(rt.alloc(), 0, 2), Bucket::new(rt.alloc(), 1, 2)];
-    assert_eq!(rt; connect(&mut buckets, &[]), Ok((40002, 40002)));
-    assert_eq!(rt; connect(&mut buckets, &[]), Ok((40002, 40002)));
-    assert_eq!(rt; connect(&mut buckets, &[40002]), Ok((40000, 40000)));
-    assert_eq!(rt; connect(&mut buckets, &[40002, 40000]), Ok((40003, 40003)));
+    check_bind(&rt, &mut buckets, 2, Ok(40003));
+    check_bind(&rt, &mut buckets, 2, Ok(40001));
+    check_bind(&rt, &mut buckets, 2, Ok(40002));
+    check_bind(&rt, &mut buckets, 2, Ok(40000));
+    Ok(())
+}
+
+#[test]
+fn connect_shares_its_ports(rt: HostRuntime) -> Result<(), AllocError> {
+    let mut buckets = [Bucket::new(rt.alloc(), 0, 2), Bucket::new(rt.alloc(), 1, 2)];
+    check_connect(&rt, &mut buckets, &[], Ok((40002, 40002)));
+    check_connect(&rt, &mut buckets, &[], Ok((40002, 40002)));
+    check_connect(&rt, &mut buckets, &[40002], Ok((40000, 40000)));
+    check_connect(&rt, &mut buckets, &[40002, 40000], Ok((40003, 40003)));
     let all = [40000, 40001, 40002, 40003];
-    assert_eq!(rt; connect(&mut buckets, &all), Err(SearchEnd::NoPort));
+    check_connect(&rt, &mut buckets, &all, Err(SearchEnd::NoPort));
     Ok(())
 }
 
 #[test]
-fn connect_passes_over_bound_ports(rt: HostRuntime) -> Result<(), Fail> {
+fn connect_passes_over_bound_ports(rt: HostRuntime) -> Result<(), AllocError> {
     let mut buckets = [Bucket::new(rt.alloc(), 0, 2), Bucket::new(rt.alloc(), 1, 2)];
-    assert_eq!(rt; bind(&mut buckets, 2), Ok(40003));
-    assert_eq!(rt; connect(&mut buckets, &[40002, 40000]), Ok((40001, 40001)));
-    assert_eq!(rt; bind(&mut buckets, 2), Ok(40002));
-    assert_eq!(rt; connect(&mut buckets, &[]), Ok((40000, 40000)));
+    check_bind(&rt, &mut buckets, 2, Ok(40003));
+    check_connect(&rt, &mut buckets, &[40002, 40000], Ok((40001, 40001)));
+    check_bind(&rt, &mut buckets, 2, Ok(40002));
+    check_connect(&rt, &mut buckets, &[], Ok((40000, 40000)));
     Ok(())
 }
 
@@ -131,9 +170,9 @@ fn a_replaced_socket_leaves_its_port(rt: HostRuntime) -> Result<(), Fail> {
         Attempt::Done(port, Some(1))
     });
     assert_eq!(rt; found, Ok((40002, 40002)));
-    assert_eq!(rt; buckets[0].owner(1).map(|o| o.port), None);
-    assert_eq!(rt; buckets[0].owner(2).map(|o| o.port), Some(40002));
-    assert_eq!(rt; buckets[0].journal(rt.alloc())?.len(), 5);
+    check_port(&rt, &buckets[0], 1, None);
+    check_port(&rt, &buckets[0], 2, Some(40002));
+    check_entries(&rt, rt.alloc(), &buckets[0], 5)?;
     Ok(())
 }
 
@@ -144,24 +183,24 @@ fn a_replaced_socket_may_have_gone_already(rt: HostRuntime) -> Result<(), Fail> 
         Attempt::Done(port, Some(3))
     });
     assert_eq!(rt; found, Ok((40002, 40002)));
-    assert_eq!(rt; buckets[0].owner(1).map(|o| o.port), Some(40002));
+    check_port(&rt, &buckets[0], 1, Some(40002));
     Ok(())
 }
 
 #[test]
-fn each_port_is_asked_once(rt: HostRuntime) -> Result<(), Fail> {
+fn each_port_is_asked_once(rt: HostRuntime) -> Result<(), AllocError> {
     let mut buckets = [Bucket::new(rt.alloc(), 0, 1)];
-    assert_eq!(rt; bind(&mut buckets, 0), Ok(40001));
-    assert_eq!(rt; bind(&mut buckets, 0), Ok(40003));
-    assert_eq!(rt; buckets[0].journal(rt.alloc())?.len(), 3);
+    check_bind(&rt, &mut buckets, 0, Ok(40001));
+    check_bind(&rt, &mut buckets, 0, Ok(40003));
+    check_entries(&rt, rt.alloc(), &buckets[0], 3)?;
     let all = [40000, 40001, 40002, 40003];
-    assert_eq!(rt; connect(&mut buckets, &all), Err(SearchEnd::NoPort));
-    assert_eq!(rt; buckets[0].journal(rt.alloc())?.len(), 7);
+    check_connect(&rt, &mut buckets, &all, Err(SearchEnd::NoPort));
+    check_entries(&rt, rt.alloc(), &buckets[0], 7)?;
     Ok(())
 }
 
 #[test]
-fn a_search_ends_without_slots(rt: HostRuntime) -> Result<(), Fail> {
+fn a_search_ends_without_slots(rt: HostRuntime) -> Result<(), AllocError> {
     let mut buckets = [Bucket::new(rt.alloc(), 0, 1)];
     let end = find_connect::<u16, _>(&mut buckets, ports(0, First::Even), socket(1), |_| {
         Attempt::Full { owned: 7, held: 0 }
