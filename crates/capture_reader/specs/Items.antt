@@ -39,6 +39,7 @@ packet_of dev ip =
       dst = network_number 4 16 ip;
       dport = network_number 2 (header_length ip + 2) ip;
       dev = dev;
+      net = 0;
     }
 
 -- what begins with an IP header: the first test that holds decides

@@ -28,7 +28,7 @@ arp_frame = addresses ++ 8 ∷ 6 ∷ []
 
 -- the packet that each finds
 abbrev pub found : Item
-found = items.Packet (record { src = 0x0A000002; sport = 1000; dst = 0x0A000001; dport = 80; dev = 3 })
+found = items.Packet (record { src = 0x0A000002; sport = 1000; dst = 0x0A000001; dport = 80; dev = 3; net = 0 })
 
 -- what these are that came in by device 3: a packet plain, in a VLAN and without a frame; a frame of ARP; a later
 -- fragment; a packet without its last byte

@@ -32,6 +32,7 @@ fn packet_of(dev: u16, ip: &[u8], ports: usize) -> Packet
         dst: u32_at(Order::Big, ip, 16),
         dport: u16_at(Order::Big, ip, ports + 2),
         dev,
+        net: 0,
     }
 }
 

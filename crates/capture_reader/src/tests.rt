@@ -58,6 +58,7 @@ fn packet(dev: u16) -> Packet {
         dst: 0x0a00_0001,
         dport: 80,
         dev,
+        net: 0,
     }
 }
 

@@ -21,6 +21,7 @@ fn listener(name: u32) -> Card {
         remote: 0,
         rport: 0,
         dev: 0,
+        net: 0,
         kind: Kind::Listen,
         name,
         extra: 0,

@@ -22,7 +22,8 @@ use Rattle.reuseport_group.specs.declared.choice.Choice.{Choice}
 use Rattle.bind_buckets.specs.OwnerStep.{Held}
 use Rattle.demux.specs.Found.{chosen, by_group, by_choice, stands_as, group_of, members_in}
 use Rattle.demux.specs.Best.{asked, IsBest, IsRight, NoneAbove, FindsBest}
-use Rattle.demux.proofs.RankLemmas.{rank_most, zero_there, high_there, low_there}
+use Rattle.sock_card.proofs.Most.{rank_most}
+use Rattle.demux.proofs.RankLemmas.{zero_there, high_there, low_there}
 
 module _ {A : Type 0} where
   each_place : (P : A → Type 0) (xs : List A) (y : A) (k : ℕ) → Each P xs → k < length xs → get_or xs k y ≡ y → P y

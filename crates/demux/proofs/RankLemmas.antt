@@ -6,7 +6,7 @@ use Rattle.sock_card.specs.declared.card.Card.{Card}
 use Rattle.sock_card.specs.declared.card.Packet.{Packet}
 use Rattle.sock_card.specs.declared.card.Kind.{Kind}
 use Rattle.sock_card.specs.declared.card.Kind.TheVariants as kinds
-use Rattle.sock_card.specs.Rank.{rank, rank_as, has_tuple, takes_device}
+use Rattle.sock_card.specs.Rank.{rank, rank_as, has_tuple, takes_device, takes_port}
 use Rattle.chain_book.specs.declared.shape.Shape.{Shape}
 use Rattle.chain_book.specs.Homes.{home, home_as, listen_home}
 use Rattle.jhash_words.specs.Places.{tuple_hash, listen_hash}
@@ -14,15 +14,6 @@ use Rattle.jhash_words.specs.Places.{tuple_hash, listen_hash}
 -- the rank of a listener, by what it is asked: port, device, address, no device of its own, any address
 abbrev ranked : Bool → Bool → Bool → Bool → Bool → ℕ
 ranked p d l n z = cond (not p || not d) 0 (cond l (cond n 3 4) (cond z (cond n 1 2) 0))
-
-most_ranked : (p d l n z : Bool) → ranked p d l n z ≤ 5
-most_ranked false d l n z = omega arith
-most_ranked true false l n z = omega arith
-most_ranked true true true true z = omega arith
-most_ranked true true true false z = omega arith
-most_ranked true true false true true = omega arith
-most_ranked true true false false true = omega arith
-most_ranked true true false n false = omega arith
 
 high_ranked : (p d l n z : Bool) → 3 ≤ ranked p d l n z → (l ≡ true) × (p ≡ true)
 high_ranked false d l n z h = absurd (omega arith)
@@ -43,28 +34,16 @@ low_ranked true true false n false h k = absurd (omega arith)
 same_number : (a b : ℕ) → (a == b) ≡ true → a ≡ b
 same_number a b h = grind (arith, nat_tests)
 
+same_port : (card : Card) (packet : Packet) → takes_port card packet ≡ true → card.lport ≡ packet.dport
+same_port card packet h = grind (arith, nat_tests)
+
 -- the rank of a connected socket
 abbrev five_if : Bool → ℕ
 five_if b = cond b 5 0
 
-whole : (b : Bool) → five_if b ≤ 5
-whole true = omega arith
-whole false = omega arith
-
 nothing : (b : Bool) → eqb (five_if b) 5 ≡ false → five_if b ≡ 0
 nothing true h = absurd (false≢true (sym h))
 nothing false h = refl
-
-most_as : (k : Kind) (card : Card) (packet : Packet) → rank_as k card packet ≤ 5
-most_as kinds.Full card packet = whole (has_tuple card packet && takes_device card packet)
-most_as kinds.TimeWait card packet = whole (has_tuple card packet && takes_device card packet)
-most_as kinds.Listen card packet =
-    most_ranked (card.lport == packet.dport) (takes_device card packet) (card.local == packet.dst) (card.dev == 0) (card.local == 0)
-
--- a rank is 5 at most
-pub rank_most : (card : Card) (packet : Packet) → rank card packet ≤ 5
-unfolding rank
-rank_most card packet = most_as card.kind card packet
 
 no_listener : (a b h : ℕ) → h + a < h → ⊥
 no_listener a b h k = omega arith
@@ -89,9 +68,9 @@ high_as kinds.Full shape seed card packet some high h =
 high_as kinds.TimeWait shape seed card packet some high h =
     absurd (no_tuple (tuple_hash card.local card.lport card.remote card.rport seed) shape.hash some high)
 high_as kinds.Listen shape seed card packet some high h =
-    let both = high_ranked (card.lport == packet.dport) (takes_device card packet) (card.local == packet.dst) (card.dev == 0) (card.local == 0) h in
+    let both = high_ranked (takes_port card packet) (takes_device card packet) (card.local == packet.dst) (card.dev == 0) (card.local == 0) h in
     ap (λ a. listen_home shape seed a card.lport) (same_number card.local packet.dst both.0)
-    ∙ ap (λ p. listen_home shape seed packet.dst p) (same_number card.lport packet.dport both.1)
+    ∙ ap (λ p. listen_home shape seed packet.dst p) (same_port card packet both.1)
 
 -- a listener of rank 3 or more stands in the chain of the packet's address
 pub high_there : (shape : Shape) (seed : ℕ) (card : Card) (packet : Packet) → 0 < shape.hash → shape.hash ≤ home shape seed card → 3 ≤ rank card packet → home shape seed card ≡ listen_home shape seed packet.dst packet.dport
@@ -104,9 +83,9 @@ low_as kinds.Full shape seed card packet some high h g =
 low_as kinds.TimeWait shape seed card packet some high h g =
     absurd (no_tuple (tuple_hash card.local card.lport card.remote card.rport seed) shape.hash some high)
 low_as kinds.Listen shape seed card packet some high h g =
-    let both = low_ranked (card.lport == packet.dport) (takes_device card packet) (card.local == packet.dst) (card.dev == 0) (card.local == 0) h g in
+    let both = low_ranked (takes_port card packet) (takes_device card packet) (card.local == packet.dst) (card.dev == 0) (card.local == 0) h g in
     ap (λ a. listen_home shape seed a card.lport) (same_number card.local 0 both.0)
-    ∙ ap (λ p. listen_home shape seed 0 p) (same_number card.lport packet.dport both.1)
+    ∙ ap (λ p. listen_home shape seed 0 p) (same_port card packet both.1)
 
 -- one of rank 1 or 2 in that of 0.0.0.0
 pub low_there : (shape : Shape) (seed : ℕ) (card : Card) (packet : Packet) → 0 < shape.hash → shape.hash ≤ home shape seed card → 1 ≤ rank card packet → rank card packet ≤ 2 → home shape seed card ≡ listen_home shape seed 0 packet.dport

@@ -51,6 +51,7 @@ fn card(name: u32, extra: u32) -> Card
         remote: 0,
         rport: 0,
         dev: 0,
+        net: 0,
         kind: Kind::Listen,
         name,
         extra,
@@ -64,6 +65,7 @@ fn packet(sport: u16) -> Packet {
         dst: HERE,
         dport: 80,
         dev: 0,
+        net: 0,
     }
 }
 

@@ -28,6 +28,7 @@ fn full(name: u32, rport: u16) -> Card
         remote: 0x0A00_0002,
         rport,
         dev: 0,
+        net: 0,
         kind: Kind::Full,
         name,
         extra: 0,
@@ -52,6 +53,7 @@ fn packet(sport: u16) -> Packet {
         dst: 0x0A00_0001,
         dport: 80,
         dev: 0,
+        net: 0,
     }
 }
 

@@ -75,6 +75,7 @@ card_as kind a extra =
       remote = a.remote;
       rport = a.rport;
       dev = a.dev;
+      net = 0;
       kind = kind;
       name = a.name;
       extra = extra;
@@ -83,4 +84,4 @@ card_as kind a extra =
 -- the packet that the words of `look` tell of, from one end to another
 abbrev pub packet_of : End → End → Option ℕ → Packet
 packet_of from to dev =
-    record { src = from.addr; sport = from.port; dst = to.addr; dport = to.port; dev = unwrap_or dev 0 }
+    record { src = from.addr; sport = from.port; dst = to.addr; dport = to.port; dev = unwrap_or dev 0; net = 0 }

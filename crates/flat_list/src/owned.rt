@@ -117,6 +117,7 @@ pub fn card_as(kind: Kind, owner: &Owner, extra: u32) -> Card
         remote: owner.remote,
         rport: owner.rport,
         dev: owner.dev,
+        net: 0,
         kind,
         name: owner.name,
         extra,
@@ -133,5 +134,6 @@ pub fn packet_of(from: End, to: End, dev: Option<u16>) -> Packet
         dst: to.addr,
         dport: to.port,
         dev: dev.unwrap_or(0),
+        net: 0,
     }
 }

@@ -26,6 +26,7 @@ fn listener(name: u32, local: u32, dev: u16) -> Card
         remote: 0,
         rport: 0,
         dev,
+        net: 0,
         kind: Kind::Listen,
         name,
         extra: 0,
@@ -39,6 +40,7 @@ fn packet(dst: u32, dev: u16) -> Packet {
         dst,
         dport: 80,
         dev,
+        net: 0,
     }
 }
 

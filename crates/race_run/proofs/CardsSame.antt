@@ -31,16 +31,26 @@ abbrev same_ends : Card → Card → Bool
 same_ends a b = (a.local == b.local) && ((a.lport == b.lport) && ((a.remote == b.remote) && (a.rport == b.rport)))
 
 abbrev same_rest : Card → Card → Bool
-same_rest a b = (a.dev == b.dev) && (same_kind a.kind b.kind && ((a.name == b.name) && (a.extra == b.extra)))
+same_rest a b =
+    (a.dev == b.dev) && ((a.net == b.net) && (same_kind a.kind b.kind && ((a.name == b.name) && (a.extra == b.extra))))
 
 -- all that one says the other says
 abbrev pub is_card : Card → Card → Bool
 is_card a b = same_ends a b && same_rest a b
 
 -- a card, by what it says
-abbrev saying : ℕ → ℕ → ℕ → ℕ → ℕ → Kind → ℕ → ℕ → Card
-saying local lport remote rport dev kind name extra =
-    record { local = local; lport = lport; remote = remote; rport = rport; dev = dev; kind = kind; name = name; extra = extra }
+abbrev saying : ℕ → ℕ → ℕ → ℕ → ℕ → ℕ → Kind → ℕ → ℕ → Card
+saying local lport remote rport dev net kind name extra = record {
+  local = local;
+  lport = lport;
+  remote = remote;
+  rport = rport;
+  dev = dev;
+  net = net;
+  kind = kind;
+  name = name;
+  extra = extra;
+}
 
 pub card_is : (a b : Card) → is_card a b ≡ true → a ≡ b
 card_is a b h =
@@ -49,16 +59,18 @@ card_is a b h =
     let e2 = and_parts (a.lport == b.lport) _ e1.1 in
     let e3 = and_parts (a.remote == b.remote) _ e2.1 in
     let r1 = and_parts (a.dev == b.dev) _ both.1 in
-    let r2 = and_parts (same_kind a.kind b.kind) _ r1.1 in
+    let n1 = and_parts (a.net == b.net) _ r1.1 in
+    let r2 = and_parts (same_kind a.kind b.kind) _ n1.1 in
     let r3 = and_parts (a.name == b.name) _ r2.1 in
-    ap (λ (x : ℕ). saying x a.lport a.remote a.rport a.dev a.kind a.name a.extra) (eqb-true a.local b.local e1.0)
-    ∙ (ap (λ (x : ℕ). saying b.local x a.remote a.rport a.dev a.kind a.name a.extra) (eqb-true a.lport b.lport e2.0)
-    ∙ (ap (λ (x : ℕ). saying b.local b.lport x a.rport a.dev a.kind a.name a.extra) (eqb-true a.remote b.remote e3.0)
-    ∙ (ap (λ (x : ℕ). saying b.local b.lport b.remote x a.dev a.kind a.name a.extra) (eqb-true a.rport b.rport e3.1)
-    ∙ (ap (λ (x : ℕ). saying b.local b.lport b.remote b.rport x a.kind a.name a.extra) (eqb-true a.dev b.dev r1.0)
-    ∙ (ap (λ (x : Kind). saying b.local b.lport b.remote b.rport b.dev x a.name a.extra) (kind_is a.kind b.kind r2.0)
-    ∙ (ap (λ (x : ℕ). saying b.local b.lport b.remote b.rport b.dev b.kind x a.extra) (eqb-true a.name b.name r3.0)
-    ∙ ap (λ (x : ℕ). saying b.local b.lport b.remote b.rport b.dev b.kind b.name x) (eqb-true a.extra b.extra r3.1)))))))
+    ap (λ (x : ℕ). saying x a.lport a.remote a.rport a.dev a.net a.kind a.name a.extra) (eqb-true a.local b.local e1.0)
+    ∙ (ap (λ (x : ℕ). saying b.local x a.remote a.rport a.dev a.net a.kind a.name a.extra) (eqb-true a.lport b.lport e2.0)
+    ∙ (ap (λ (x : ℕ). saying b.local b.lport x a.rport a.dev a.net a.kind a.name a.extra) (eqb-true a.remote b.remote e3.0)
+    ∙ (ap (λ (x : ℕ). saying b.local b.lport b.remote x a.dev a.net a.kind a.name a.extra) (eqb-true a.rport b.rport e3.1)
+    ∙ (ap (λ (x : ℕ). saying b.local b.lport b.remote b.rport x a.net a.kind a.name a.extra) (eqb-true a.dev b.dev r1.0)
+    ∙ (ap (λ (x : ℕ). saying b.local b.lport b.remote b.rport b.dev x a.kind a.name a.extra) (eqb-true a.net b.net n1.0)
+    ∙ (ap (λ (x : Kind). saying b.local b.lport b.remote b.rport b.dev b.net x a.name a.extra) (kind_is a.kind b.kind r2.0)
+    ∙ (ap (λ (x : ℕ). saying b.local b.lport b.remote b.rport b.dev b.net b.kind x a.extra) (eqb-true a.name b.name r3.0)
+    ∙ ap (λ (x : ℕ). saying b.local b.lport b.remote b.rport b.dev b.net b.kind b.name x) (eqb-true a.extra b.extra r3.1))))))))
 
 pub card_itself : (a : Card) → is_card a a ≡ true
 card_itself a =
@@ -67,5 +79,6 @@ card_itself a =
     (and_from (a.lport == a.lport) _ (eq-eqb a.lport a.lport refl)
     (and_from (a.remote == a.remote) _ (eq-eqb a.remote a.remote refl) (eq-eqb a.rport a.rport refl))))
     (and_from (a.dev == a.dev) _ (eq-eqb a.dev a.dev refl)
+    (and_from (a.net == a.net) _ (eq-eqb a.net a.net refl)
     (and_from (same_kind a.kind a.kind) _ (kind_itself a.kind)
-    (and_from (a.name == a.name) _ (eq-eqb a.name a.name refl) (eq-eqb a.extra a.extra refl))))
+    (and_from (a.name == a.name) _ (eq-eqb a.name a.name refl) (eq-eqb a.extra a.extra refl)))))

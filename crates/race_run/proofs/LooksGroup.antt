@@ -104,20 +104,30 @@ listening_kind states.TimeWait k h e = absurd (cc)
 listening_kind states.Bound k h e = absurd (cc)
 listening_kind states.Unbound k h e = absurd (cc)
 
--- a listener at that end and device
-abbrev listener_at : ℕ → ℕ → ℕ → Card
-listener_at local lport dev =
-    record { local = local; lport = lport; remote = 0; rport = 0; dev = dev; kind = kinds.Listen; name = 0; extra = 0 }
+-- a listener at that end and device of a namespace
+abbrev listener_at : ℕ → ℕ → ℕ → ℕ → Card
+listener_at local lport dev net = record {
+  local = local;
+  lport = lport;
+  remote = 0;
+  rport = 0;
+  dev = dev;
+  net = net;
+  kind = kinds.Listen;
+  name = 0;
+  extra = 0;
+}
 
--- listeners at one end and device match alike
-rank_alike : (a b : Card) (packet : Packet) → a.kind ≡ kinds.Listen → b.kind ≡ kinds.Listen → a.local ≡ b.local → a.lport ≡ b.lport → a.dev ≡ b.dev → rank a packet ≡ rank b packet
+-- listeners at one end and device of a namespace match alike
+rank_alike : (a b : Card) (packet : Packet) → a.kind ≡ kinds.Listen → b.kind ≡ kinds.Listen → a.local ≡ b.local → a.lport ≡ b.lport → a.dev ≡ b.dev → a.net ≡ b.net → rank a packet ≡ rank b packet
 unfolding rank
-rank_alike a b packet h g local lport dev =
+rank_alike a b packet h g local lport dev net =
     ap (λ k. rank_as k a packet) h
-    ∙ (ap (λ n. listen_rank (listener_at n a.lport a.dev) packet) local
-    ∙ (ap (λ n. listen_rank (listener_at b.local n a.dev) packet) lport
-    ∙ (ap (λ n. listen_rank (listener_at b.local b.lport n) packet) dev
-    ∙ ap (λ k. rank_as k b packet) (sym g))))
+    ∙ (ap (λ n. listen_rank (listener_at n a.lport a.dev a.net) packet) local
+    ∙ (ap (λ n. listen_rank (listener_at b.local n a.dev a.net) packet) lport
+    ∙ (ap (λ n. listen_rank (listener_at b.local b.lport n a.net) packet) dev
+    ∙ (ap (λ n. listen_rank (listener_at b.local b.lport b.dev n) packet) net
+    ∙ ap (λ k. rank_as k b packet) (sym g)))))
 
 -- and stand in one chain
 home_alike : (shape : Shape) (seed : ℕ) (a b : Card) → a.kind ≡ kinds.Listen → b.kind ≡ kinds.Listen → a.local ≡ b.local → a.lport ≡ b.lport → home shape seed a ≡ home shape seed b
@@ -167,8 +177,9 @@ module _ (t : Tables) (flat : Flat) (shape : IsShape flat.header) (sound : IsSou
       let local : a.local ≡ b.local = sym (ap (λ (c : Card). c.local) o.says.is) ∙ end.addr ∙ ap (λ (c : Card). c.local) p.says.is in
       let lport : a.lport ≡ b.lport = sym (ap (λ (c : Card). c.lport) o.says.is) ∙ end.port ∙ ap (λ (c : Card). c.lport) p.says.is in
       let dev : a.dev ≡ b.dev = sym (ap (λ (c : Card). c.dev) o.says.is) ∙ end.dev ∙ ap (λ (c : Card). c.dev) p.says.is in
+      let net : a.net ≡ b.net = sym (ap (λ (c : Card). c.net) o.says.is) ∙ ap (λ (c : Card). c.net) p.says.is in
       record {
-        ranks = rank_alike a b packet listens_a listens_b local lport dev;
+        ranks = rank_alike a b packet listens_a listens_b local lport dev net;
         homes = home_alike t.chains.shape t.chains.seed a b listens_a listens_b local lport;
       }
 

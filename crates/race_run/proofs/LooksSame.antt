@@ -7,7 +7,9 @@ use Rattle.sock_card.specs.declared.card.Card.{Card}
 use Rattle.sock_card.specs.declared.card.Kind.{Kind}
 use Rattle.sock_card.specs.declared.card.Kind.TheVariants as kinds
 use Rattle.sock_card.specs.declared.card.Packet.{Packet}
-use Rattle.sock_card.specs.Rank.{rank, rank_as, has_tuple, takes_device}
+use Rattle.sock_card.specs.Rank.{rank, rank_as, has_tuple, takes_device, takes_port}
+use Rattle.sock_card.specs.Tuples.{tuple_of, packet_tuple}
+use Rattle.sock_card.proofs.Tuples.{parts_agree}
 use Rattle.bind_buckets.specs.OwnerStep.{Held}
 use Rattle.chain_book.specs.declared.shape.Shape.{Shape}
 use Rattle.chain_book.specs.declared.outcome.Hashed.{Hashed}
@@ -18,7 +20,8 @@ use Rattle.listeners.specs.Best.{best_listener, or_else}
 use Rattle.demux.specs.Found.{group_as, chosen}
 use Rattle.demux.specs.Found as tables
 use Rattle.demux.proofs.FoundLemmas.{AreHomed, IsLeading, Leads, leading, none_connected, listens, there, first_row, exact_row, any_row}
-use Rattle.demux.proofs.RankLemmas.{rank_most, high_there, low_there}
+use Rattle.sock_card.proofs.Most.{rank_most}
+use Rattle.demux.proofs.RankLemmas.{high_there, low_there}
 use Rattle.flat_list.specs.Flat.{Flat}
 use Rattle.flat_list.specs.Look.{look, member_of}
 use Rattle.flat_list.specs.Sound.{IsSound}
@@ -50,7 +53,7 @@ five_as : (k : Kind) (c : Card) (packet : Packet) → rank_as k c packet ≡ 5 �
 five_as kinds.Full c packet h = refl
 five_as kinds.TimeWait c packet h = refl
 five_as kinds.Listen c packet h =
-    absurd (no_five (c.lport == packet.dport) (takes_device c packet) (c.local == packet.dst) (c.dev == 0) (c.local == 0) h)
+    absurd (no_five (takes_port c packet) (takes_device c packet) (c.local == packet.dst) (c.dev == 0) (c.local == 0) h)
 
 -- a connected socket tells no group
 five_alone : (c : Card) (packet : Packet) → rank c packet ≡ 5 → tables.group_of c ≡ None
@@ -65,13 +68,11 @@ tuple_reaches : (shape : Shape) (seed : ℕ) (c : Card) (packet : Packet) → 1 
     → tuple_home shape seed c.local c.lport c.remote c.rport ≡ packet_home shape seed packet
 tuple_reaches shape seed c packet h =
     let both = and_parts (has_tuple c packet) (takes_device c packet) (some_five (has_tuple c packet && takes_device c packet) h) in
-    let p3 = and_parts ((c.local == packet.dst) && (c.lport == packet.dport) && (c.remote == packet.src)) (c.rport == packet.sport) both.0 in
-    let p2 = and_parts ((c.local == packet.dst) && (c.lport == packet.dport)) (c.remote == packet.src) p3.0 in
-    let p1 = and_parts (c.local == packet.dst) (c.lport == packet.dport) p2.0 in
-    ap (λ n. tuple_home shape seed n c.lport c.remote c.rport) (eqb-true c.local packet.dst p1.0)
-    ∙ (ap (λ n. tuple_home shape seed packet.dst n c.remote c.rport) (eqb-true c.lport packet.dport p1.1)
-    ∙ (ap (λ n. tuple_home shape seed packet.dst packet.dport n c.rport) (eqb-true c.remote packet.src p2.1)
-    ∙ ap (λ n. tuple_home shape seed packet.dst packet.dport packet.src n) (eqb-true c.rport packet.sport p3.1)))
+    let parts = parts_agree (tuple_of c) (packet_tuple packet) both.0 in
+    ap (λ n. tuple_home shape seed n c.lport c.remote c.rport) parts.local
+    ∙ (ap (λ n. tuple_home shape seed packet.dst n c.remote c.rport) parts.lport
+    ∙ (ap (λ n. tuple_home shape seed packet.dst packet.dport n c.rport) parts.remote
+    ∙ ap (λ n. tuple_home shape seed packet.dst packet.dport packet.src n) parts.rport))
 
 -- where a packet's cards stand
 abbrev Reaches : Shape → ℕ → Packet → ℕ → Type 0

@@ -1,2 +1,4 @@
 pub mod Agreement
 pub mod Ranks
+pub mod Tuples
+pub mod Most

@@ -1,7 +1,9 @@
 -- What the contracts of this crate and of those above it cite.
+pub mod Tuples
 pub mod Rank
 pub mod Conflict
 pub mod Agreement
 pub mod TimeWait
 pub mod Became
+pub mod Words
 pub mod Rows

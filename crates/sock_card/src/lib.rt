@@ -15,9 +15,13 @@
 
 pub mod card;
 pub mod owner;
+pub mod words;
 
-pub use card::{Card, Kind, Packet, rank, tw_expired, tw_replaceable};
+pub use card::{
+    Card, Kind, Packet, Tuple, packet_tuple, rank, same_tuple, tuple_of, tw_expired, tw_replaceable,
+};
 pub use owner::{
     Owner, State, as_listener, as_waiting, bind_conflict, child, connected, overlap,
     strict_conflict,
 };
+pub use words::{CardWords, pack, unpack, word_rank};

@@ -1,6 +1,6 @@
 -- What hashing a full card comes to, by what `insert` answers.
 use Rattle.std.proofs.Common.{◌≡◌, ℕ, true, false, ◌&&◌, ◌==◌, List, Option, None, Some, Result, Ok, Err, IfSome, find, refl, sym, ap, subst, ◌∙◌}
-use Rattle.std.proofs.lemmas.Bool.{and_parts, eqb-true}
+use Rattle.std.proofs.lemmas.Bool.{and_parts}
 use Rattle.std.specs.Option.{option_map}
 use Rattle.list_words.proofs.EachLemmas.{found_passes}
 use Rattle.sock_card.specs.declared.card.Card.{Card}
@@ -9,7 +9,9 @@ use Rattle.chain_book.specs.declared.outcome.Hashed.{Hashed}
 use Rattle.chain_book.specs.declared.outcome.Replace.{Replace}
 use Rattle.chain_book.specs.Slots.{free_slot}
 use Rattle.chain_book.specs.Chains.{Chains, Outcome, put, taken, full, insert_outcome, hashed, home_in, row_at, tried, slot_outcome, keeps, waits, card_in}
-use Rattle.chain_book.specs.Tuples.{waits_at, same_tuple}
+use Rattle.sock_card.specs.Tuples.{tuple_of}
+use Rattle.sock_card.proofs.Tuples.{parts_agree}
+use Rattle.chain_book.specs.Tuples.{waits_at, same_cards}
 use Rattle.established.specs.declared.change.Inserted.{Inserted}
 use Rattle.established.specs.declared.change.InsertEnd.{InsertEnd}
 use Rattle.established.specs.declared.change.InsertEnd.TheVariants as ends
@@ -30,11 +32,8 @@ port_of_waiting card row None e = tt
 port_of_waiting card row (Some x) e =
     let y = x.card in
     let passes = found_passes (waits card) row x e in
-    let tuple = and_parts (same_tuple card y) (is_time_wait_kind y.kind) passes in
-    let three = and_parts ((card.local == y.local) && (card.lport == y.lport) && (card.remote == y.remote)) (card.rport == y.rport) tuple.0 in
-    let two = and_parts ((card.local == y.local) && (card.lport == y.lport)) (card.remote == y.remote) three.0 in
-    let ports = and_parts (card.local == y.local) (card.lport == y.lport) two.0 in
-    sym (eqb-true card.lport y.lport ports.1)
+    let tuple = and_parts (same_cards card y) (is_time_wait_kind y.kind) passes in
+    sym (parts_agree (tuple_of card) (tuple_of y) tuple.0).lport
 
 module _ (t : Chains) (card : Card) (moment : ℕ) (rule : Replace) (new : Chains) where
   puts_by : (o : Outcome) (i : Inserted) → insert_outcome t card moment rule ≡ o → IsAnswer t card o (Ok i) → new ≡ hashed t card o → Puts t card (insert_outcome t card moment rule) new i

@@ -12,7 +12,7 @@ use Rattle.chain_book.specs.declared.outcome.Replace.{Replace}
 use Rattle.chain_book.specs.Chains.{Chains, put, taken, full, row_at, home_in, keeps, waits, placed, slot_outcome, tried, insert_outcome, without_replaced, hashed}
 use Rattle.chain_book.specs.Homes.{chain_count}
 use Rattle.chain_book.specs.Slots.{free_slot}
-use Rattle.chain_book.specs.Tuples.{same_tuple as same_cards}
+use Rattle.chain_book.specs.Tuples.{same_cards}
 use Rattle.flat_list.specs.declared.socket.Socket.{Socket}
 use Rattle.flat_list.specs.Flat.{Flat}
 use Rattle.flat_list.specs.Look.{cards_of, extra_as}

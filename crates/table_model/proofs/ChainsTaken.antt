@@ -18,7 +18,9 @@ use Rattle.chain_book.specs.declared.outcome.Replace.{Replace}
 use Rattle.chain_book.specs.declared.outcome.Replace.TheVariants as rules
 use Rattle.chain_book.specs.Chains.{Chains, row_at, home_in, keeps, waits}
 use Rattle.chain_book.specs.Homes.{home, home_as}
-use Rattle.chain_book.specs.Tuples.{keeps_from, may_replace, waits_at as card_waits_at, same_tuple as same_cards, is_full_kind}
+use Rattle.sock_card.specs.Tuples.{tuple_of}
+use Rattle.sock_card.proofs.Tuples.{parts_agree}
+use Rattle.chain_book.specs.Tuples.{keeps_from, may_replace, waits_at as card_waits_at, same_cards, is_full_kind}
 use Rattle.flat_list.specs.declared.socket.Socket.{Socket}
 use Rattle.flat_list.specs.Flat.{Flat}
 use Rattle.flat_list.specs.Look.{cards_of, extra_as}
@@ -47,10 +49,8 @@ home_kinds shape seed a b kinds.TimeWait kinds.TimeWait x y p q r s = rw (p, q, 
 same_home : (shape : Shape) (seed : ℕ) (a b : Card) → is_tuple_kind a.kind ≡ true → is_tuple_kind b.kind ≡ true → same_cards a b ≡ true → home shape seed b ≡ home shape seed a
 unfolding home
 same_home shape seed a b x y h =
-    let one = and_parts ((a.local == b.local) && (a.lport == b.lport) && (a.remote == b.remote)) (a.rport == b.rport) h in
-    let two = and_parts ((a.local == b.local) && (a.lport == b.lport)) (a.remote == b.remote) one.0 in
-    let three = and_parts (a.local == b.local) (a.lport == b.lport) two.0 in
-    sym (home_kinds shape seed a b a.kind b.kind x y (eqb-true a.local b.local three.0) (eqb-true a.lport b.lport three.1) (eqb-true a.remote b.remote two.1) (eqb-true a.rport b.rport one.1))
+    let parts = parts_agree (tuple_of a) (tuple_of b) h in
+    sym (home_kinds shape seed a b a.kind b.kind x y parts.local parts.lport parts.remote parts.rport)
 
 keeps_kind : (kind : Kind) (replaced : Bool) → (is_full_kind kind || is_time_wait_kind kind && not replaced) ≡ true → is_tuple_kind kind ≡ true
 keeps_kind kinds.Full replaced h = refl
