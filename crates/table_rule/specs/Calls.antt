@@ -1,0 +1,59 @@
+-- What the calls ask and say.
+use Rattle.std.specs.Prelude.{◌≡◌, ℕ, ◌<◌, ◌≤◌, ◌+◌, ◌*◌, ◌/◌, ◌%◌, ◌⊎◌, List, [], ◌∷◌, ◌++◌, length}
+use Rattle.table_rule.specs.declared.view.SlotView.{SlotView}
+use Rattle.sock_card.specs.declared.words.CardWords.{CardWords}
+use Rattle.atomic_table.specs.Seated.{TableId}
+use Rattle.atomic_table.specs.declared.shared.Seat.{Seat}
+use Rattle.table_rule.specs.Lists.{slots_of}
+use Rattle.table_rule.specs.Words.{words_of}
+use Rattle.table_rule.specs.ChainsOk.{first_link}
+use Rattle.table_rule.specs.Book.{marks}
+use Rattle.table_rule.specs.Rule.{book_part}
+use Rattle.table_rule.specs.declared.view.Change.{Change}
+use Rattle.table_rule.specs.declared.view.View.{View}
+use Rattle.table_rule.specs.declared.view.Shape.{Shape}
+use Rattle.table_rule.specs.declared.view.Seen.{Seen}
+
+-- a pass of this table
+abbrev pub IsOf : TableId → Shape → Seat (Unit {0}) View → Type 0
+IsOf id shape seat = (seat.table_id ≡ id) × (seat.me.0.shape ≡ shape)
+
+-- the list's only slot, with so many card words known
+abbrev pub IsSlot : ℕ → ℕ → List Seen → Type 0
+IsSlot slot words xs = (s : Seen) × (s.slot ≡ slot) × (length s.words ≡ words) × (xs ≡ s ∷ [])
+
+-- where a walk tells what follows these slots of its list
+abbrev pub Tells : View → List Seen → Type 0
+Tells v back = (v.chain.met ≡ 1) ⊎ (0 < length back + length v.chain.ahead)
+
+abbrev pub link_after : ℕ → View → List Seen → ℕ
+link_after b v back = first_link b (slots_of back ++ slots_of v.chain.ahead)
+
+-- the slot is dimmed and nothing else is under way
+abbrev pub IsLeaving : ℕ → View → Type 0
+IsLeaving slot v = (v.slot.dimmed ≡ slot ∷ []) × (v.slot.loose ≡ []) × (v.slot.hung ≡ []) × (v.slot.tied ≡ [])
+
+abbrev pub seen_of : ℕ → CardWords → Seen
+seen_of slot card = record { slot = slot; words = words_of card }
+
+-- the pass is in the middle of no change
+abbrev pub IsIdle : SlotView → Type 0
+IsIdle v = (v.fresh ≡ []) × (v.tied ≡ []) × (v.hung ≡ []) × (v.dimmed ≡ []) × (v.loose ≡ [])
+
+-- the open change of the pass is a hash of this slot, or an unhash
+abbrev pub IsHashOf : ℕ → View → Type 0
+IsHashOf slot v = (c : Change) × (v.book.opened ≡ c ∷ []) × (c.kind ≡ 1) × (c.slot ≡ slot)
+
+abbrev pub IsUnhashOf : ℕ → View → Type 0
+IsUnhashOf slot v = (c : Change) × (v.book.opened ≡ c ∷ []) × (c.kind ≡ 0) × (c.slot ≡ slot)
+
+-- the pass may draw one number more
+abbrev pub HasShare : View → Type 0
+HasShare v = marks (λ _. 1) (book_part v) + 1 ≤ v.slot.parts * 4294967296
+
+abbrev pub HasShares : ℕ → View → Type 0
+HasShares n v = marks (λ _. 1) (book_part v) + n ≤ v.slot.parts * 4294967296
+
+-- what word q is at the start: a head is its own end, all else is 0
+abbrev pub FirstWord : ℕ → ℕ → ℕ → Type 0
+FirstWord buckets q x = (q % 2 ≡ 1 → q < 1 + 2 * buckets → x ≡ q) × (1 + 2 * buckets ≤ q → x ≡ 0) × (q % 2 ≡ 0 → x ≡ 0)
