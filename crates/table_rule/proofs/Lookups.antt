@@ -6,7 +6,7 @@ use mathlib.Core.Option.{some, some-injective, some-ne-none}
 use lib.ListN.{get_elem?}
 use Rattle.atomic_table.proofs.Lists.{at_map}
 use Rattle.table_rule.specs.Lists.{total, times, stands, slots_of, Each}
-use Rattle.table_rule.specs.Words.{at, head_at}
+use Rattle.table_rule.specs.Words.{at, head_at, bucket_count}
 use Rattle.table_rule.specs.SlotsOk.{owns, unlit, holds}
 use Rattle.table_rule.specs.ChainsOk.{Path, linked_below}
 use Rattle.table_rule.specs.CardsOk.{SeenOk}
@@ -17,7 +17,7 @@ use Rattle.table_rule.specs.ReadersOk.{rank_of, Miss, ends, passes, SlotMet, Has
 use Rattle.table_rule.specs.Rule.{slot_part, book_part, dark_of, card_of, Parts, More}
 use Rattle.table_rule.specs.Plays.{standing, stopping, glancing, knowing, IsLive, receipt}
 use Rattle.table_rule.specs.declared.view.View.{View}
-use Rattle.table_rule.specs.declared.view.Shape.{Shape}
+use Rattle.table_rule.specs.declared.view.Layout.{Layout}
 use Rattle.table_rule.specs.declared.view.SlotView.{SlotView}
 use Rattle.table_rule.specs.declared.view.Seen.{Seen}
 use Rattle.table_rule.specs.declared.view.Kept.{Kept}
@@ -75,24 +75,24 @@ word_of_card card i (suc (suc zero)) h = refl
 word_of_card card i (suc (suc (suc zero))) h = refl
 word_of_card card i (suc (suc (suc (suc w)))) h = absurd (omega arith)
 
-module _ (shape : Shape) (word : ℕ → ℕ) (chain : ℕ → List ℕ) (lives : ℕ → List Life) (vs : List View) (p : Parts shape word chain vs) (m : More shape word chain lives vs) (o : Readers shape word chain lives vs) where
+module _ (layout : Layout) (word : ℕ → ℕ) (chain : ℕ → List ℕ) (lives : ℕ → List Life) (vs : List View) (p : Parts layout word chain vs) (m : More layout word chain lives vs) (o : Readers layout word chain lives vs) where
   abbrev pub B : ℕ
-  B = shape.buckets
+  B = (bucket_count layout)
 
   abbrev pub Lk : ℕ → ℕ
   Lk i = linked_below i chain B
 
   abbrev pub Nx : ℕ → ℕ
-  Nx i = word (at shape i 1)
+  Nx i = word (at layout i 1)
 
   abbrev pub Cd : ℕ → ℕ → ℕ
-  Cd i w = word (at shape i (2 + w))
+  Cd i w = word (at layout i (2 + w))
 
   abbrev pub Rd : Reader → Type 0
-  Rd q = ReaderOk shape.slots Nx Lk Cd lives (word 0) q
+  Rd q = ReaderOk layout.shape.slots Nx Lk Cd lives (word 0) q
 
   abbrev pub Wy : Reader → Type 0
-  Wy q = Way shape.slots Nx Lk lives (word 0) q
+  Wy q = Way layout.shape.slots Nx Lk lives (word 0) q
 
   abbrev pub Kp : Kept → Type 0
   Kp h = KeptOk Cd lives (word 0) h
@@ -103,10 +103,12 @@ module _ (shape : Shape) (word : ℕ → ℕ) (chain : ℕ → List ℕ) (lives 
   few : word 0 < open-end
   few = let z = m.book.few in omega arith
 
-  pub chain_short : (b : ℕ) → b < B → length (chain b) ≤ shape.slots
-  chain_short b near = omega (arith,
-      count (chain b) shape.slots (λ i h. dite (dec_le shape.slots i) (λ g. absurd (omega (arith, h, p.chains.inside i g, linked_le i chain b B near))) (λ n. omega (arith, n))),
-      below_le (λ i. times i (chain b)) shape.slots (λ i. omega (arith, linked_le i chain b B near, p.chains.once i)))
+  pub chain_short : (b : ℕ) → b < B → length (chain b) ≤ layout.shape.slots
+  chain_short b near = omega (
+    arith,
+    count (chain b) layout.shape.slots (λ i h. dite (dec_le layout.shape.slots i) (λ g. absurd (omega (arith, h, p.chains.inside i g, linked_le i chain b B near))) (λ n. omega (arith, n))),
+    below_le (λ i. times i (chain b)) layout.shape.slots (λ i. omega (arith, linked_le i chain b B near, p.chains.once i)),
+  )
 
   -- a life that is whole has the card that stands in its slot
   pub whole_card : (i n : ℕ) (x : Life) → get_elem? (lives i) n ≡ some x → Whole x → x.card ≡ words_at Cd i
@@ -146,7 +148,7 @@ module _ (shape : Shape) (word : ℕ → ℕ) (chain : ℕ → List ℕ) (lives 
   }
 
   -- it is a slot's, or its bucket's own end
-  pub stands_at : (q : Reader) (r : ℕ) → q.since ≤ word 0 → Each (StopOk lives q.since (word 0) shape.slots q.bucket) q.stops → Finds q r → Wy (standing q r) → Rd (standing q r)
+  pub stands_at : (q : Reader) (r : ℕ) → q.since ≤ word 0 → Each (StopOk lives q.since (word 0) layout.shape.slots q.bucket) q.stops → Finds q r → Wy (standing q r) → Rd (standing q r)
   stands_at q r low stops finds way = record {
     low = low;
     finds = λ on i n x e s. finds i n x e (copy_sought q (standing q r) x refl refl refl refl (omega arith) s);
@@ -159,25 +161,25 @@ module _ (shape : Shape) (word : ℕ → ℕ) (chain : ℕ → List ℕ) (lives 
   }
 
   -- a pass stops
-  pub stops_at : (q : Reader) (kind a : ℕ) → q.since ≤ word 0 → Each (StopOk lives q.since (word 0) shape.slots q.bucket) q.stops → StopOk lives q.since (word 0) shape.slots q.bucket (record { kind = kind; at = a }) → Rd (stopping q kind a)
+  pub stops_at : (q : Reader) (kind a : ℕ) → q.since ≤ word 0 → Each (StopOk lives q.since (word 0) layout.shape.slots q.bucket) q.stops → StopOk lives q.since (word 0) layout.shape.slots q.bucket (record { kind = kind; at = a }) → Rd (stopping q kind a)
   stops_at q kind a low stops cause = record {
     low = low;
     finds = λ on. absurd (omega (arith, on));
     way = λ on. absurd (omega (arith, on));
     peeked = tt;
-    stops = each-append (StopOk lives q.since (word 0) shape.slots q.bucket) q.stops (record { kind = kind; at = a } ∷ []) stops (cause, tt);
+    stops = each-append (StopOk lives q.since (word 0) layout.shape.slots q.bucket) q.stops (record { kind = kind; at = a } ∷ []) stops (cause, tt);
   }
 
   -- a link to a slot is to one of the table
-  pub near_slot : (q : Reader) (r : ℕ) → Wy (standing q r) → r % 2 ≡ 0 → r / 2 < shape.slots
+  pub near_slot : (q : Reader) (r : ℕ) → Wy (standing q r) → r % 2 ≡ 0 → r / 2 < layout.shape.slots
   near_slot q r w even = on w.way w.leads w.slots-ok
     where
-      on : (xs : List ℕ) → Path Nx r xs (2 * w.end + 1) → Each (λ (i : ℕ). (i < shape.slots) × ((0 < Lk i) ⊎ SlotMet lives q.since (word 0) i)) xs → r / 2 < shape.slots
+      on : (xs : List ℕ) → Path Nx r xs (2 * w.end + 1) → Each (λ (i : ℕ). (i < layout.shape.slots) × ((0 < Lk i) ⊎ SlotMet lives q.since (word 0) i)) xs → r / 2 < layout.shape.slots
       on [] path a = absurd (omega (arith, path, even))
       on (x ∷ xs) path a = let z = path.0 in let y = a.0.0 in omega arith
 
   -- too many links
-  pub too_long : (q : Reader) (r : ℕ) → Wy (standing q r) → shape.slots < q.followed → q.followed ≤ shape.slots + 1 → StopOk lives q.since (word 0) shape.slots q.bucket (record { kind = 3; at = q.followed })
+  pub too_long : (q : Reader) (r : ℕ) → Wy (standing q r) → layout.shape.slots < q.followed → q.followed ≤ layout.shape.slots + 1 → StopOk lives q.since (word 0) layout.shape.slots q.bucket (record { kind = 3; at = q.followed })
   too_long q r w more at-most = record {
     known = omega arith;
     foreign = λ k. absurd (omega (arith, k));
@@ -186,10 +188,10 @@ module _ (shape : Shape) (word : ℕ → ℕ) (chain : ℕ → List ℕ) (lives 
   }
 
   -- another bucket's end
-  pub foreign_end : (q : Reader) (r : ℕ) → Wy (standing q r) → r % 2 ≡ 1 → r ≢ 2 * q.bucket + 1 → StopOk lives q.since (word 0) shape.slots q.bucket (record { kind = 0; at = r / 2 })
+  pub foreign_end : (q : Reader) (r : ℕ) → Wy (standing q r) → r % 2 ≡ 1 → r ≢ 2 * q.bucket + 1 → StopOk lives q.since (word 0) layout.shape.slots q.bucket (record { kind = 0; at = r / 2 })
   foreign_end q r w odd other = on w.way w.leads
     where
-      on : (xs : List ℕ) → Path Nx r xs (2 * w.end + 1) → StopOk lives q.since (word 0) shape.slots q.bucket (record { kind = 0; at = r / 2 })
+      on : (xs : List ℕ) → Path Nx r xs (2 * w.end + 1) → StopOk lives q.since (word 0) layout.shape.slots q.bucket (record { kind = 0; at = r / 2 })
       on [] path = let is : w.end ≡ r / 2 = omega (arith, path) in record {
         known = omega arith;
         foreign = λ k. ((λ z. other (omega (arith, z, odd))), ⊎_elim (λ z. absurd (other (path ∙ ap (λ (b : ℕ). 2 * b + 1) z))) (λ z. subst (λ (e : ℕ). HashMet lives q.since (word 0) (λ b. b ≡ e)) is z) w.foreign);
@@ -207,7 +209,7 @@ module _ (shape : Shape) (word : ℕ → ℕ) (chain : ℕ → List ℕ) (lives 
       way = chain q.bucket;
       end = q.bucket;
       leads = path;
-      slots-ok = each_in' (chain q.bucket) (λ i h. (dite (dec_le shape.slots i) (λ g. absurd (omega (arith, h, p.chains.inside i g, linked_le i chain q.bucket B near))) (λ n. omega (arith, n)), inl (omega (arith, h, linked_le i chain q.bucket B near))));
+      slots-ok = each_in' (chain q.bucket) (λ i h. (dite (dec_le layout.shape.slots i) (λ g. absurd (omega (arith, h, p.chains.inside i g, linked_le i chain q.bucket B near))) (λ n. omega (arith, n)), inl (omega (arith, h, linked_le i chain q.bucket B near))));
       foreign = inl refl;
       long = inl (omega (arith, none, chain_short q.bucket near));
     },
@@ -216,7 +218,6 @@ module _ (shape : Shape) (word : ℕ → ℕ) (chain : ℕ → List ℕ) (lives 
       each_in' : {P : ℕ → Type 0} (xs : List ℕ) → ((i : ℕ) → 0 < times i xs → P i) → Each P xs
       each_in' [] f = tt
       each_in' (x ∷ xs) f = (f x (omega (arith, times-here x xs)), each_in' xs (λ i h. f i (let z : times i (x ∷ xs) ≡ cond (eqb x i) 1 0 + times i xs = refl in omega (arith, z))))
-
 
   -- the link of a slot that is passed over is loaded
   pub from_link : (q : Reader) (i a b : ℕ) (s : Seen) → Rd q → q.walking ≡ 1 → q.link ≡ 2 * i → q.peeked ≡ s ∷ [] → s.slot ≡ i → s.words ≡ a ∷ b ∷ [] → (rank q.key a b < q.least) ⊎ (rank q.key a b ≤ q.best)
@@ -235,7 +236,7 @@ module _ (shape : Shape) (word : ℕ → ℕ) (chain : ℕ → List ℕ) (lives 
         onward (o.way on).way (o.way on).leads (o.way on).slots-ok (o.way on).long,
       )
     where
-      onward : (xs : List ℕ) → Path Nx q.link xs (2 * (o.way on).end + 1) → Each (λ (k : ℕ). (k < shape.slots) × ((0 < Lk k) ⊎ SlotMet lives q.since (word 0) k)) xs → (q.followed + length xs ≤ shape.slots) ⊎ HashMet lives q.since (word 0) (λ k. Unit {0}) → Wy (standing (record q { followed = q.followed + 1 }) (Nx i))
+      onward : (xs : List ℕ) → Path Nx q.link xs (2 * (o.way on).end + 1) → Each (λ (k : ℕ). (k < layout.shape.slots) × ((0 < Lk k) ⊎ SlotMet lives q.since (word 0) k)) xs → (q.followed + length xs ≤ layout.shape.slots) ⊎ HashMet lives q.since (word 0) (λ k. Unit {0}) → Wy (standing (record q { followed = q.followed + 1 }) (Nx i))
       onward [] path a long = absurd (even-odd i (o.way on).end (sym at ∙ path))
       onward (y ∷ ys) path a long = let same : y ≡ i = let z = path.0 in omega (arith, at) in record {
         way = ys;
@@ -257,23 +258,26 @@ module _ (shape : Shape) (word : ℕ → ℕ) (chain : ℕ → List ℕ) (lives 
         low = low;
         finds = λ on i n x e t. o.finds on i n x e (copy_sought q (glancing q r) x refl refl refl refl (omega arith) t);
         way = λ on. let w = o.way on in record { way = w.way; end = w.end; leads = w.leads; slots-ok = w.slots-ok; foreign = w.foreign; long = w.long };
-        peeked = subst (λ (l : List Seen). Each (PeekOk Cd lives q.since (word 0)) (knowing l r)) (sym peek) (record {
-          sure = λ n x e before still w y h z. ⊎_elim (λ t. pk.sure n x e before still w y h t.0)
-              (λ t. ap (λ (l : List ℕ). slice_index l w) (whole_card s.slot n x e (omega (arith, before, low, few), still)) ∙ (word_of_card Cd s.slot w h ∙ (ap (Cd s.slot) t.1 ∙ t.0)))
-              (at_end s.words r y w z);
-          same = λ w y h z. ⊎_elim (λ t. pk.same w y h t.0) (λ t. inl (ap (Cd s.slot) t.1 ∙ t.0)) (at_end s.words r y w z);
-        }, tt);
+        peeked = subst (λ (l : List Seen). Each (PeekOk Cd lives q.since (word 0)) (knowing l r)) (sym peek) (
+          record {
+            sure = λ n x e before still w y h z. ⊎_elim (λ t. pk.sure n x e before still w y h t.0)
+                (λ t. ap (λ (l : List ℕ). slice_index l w) (whole_card s.slot n x e (omega (arith, before, low, few), still)) ∙ (word_of_card Cd s.slot w h ∙ (ap (Cd s.slot) t.1 ∙ t.0)))
+                (at_end s.words r y w z);
+            same = λ w y h z. ⊎_elim (λ t. pk.same w y h t.0) (λ t. inl (ap (Cd s.slot) t.1 ∙ t.0)) (at_end s.words r y w z);
+          },
+          tt,
+        );
         stops = o.stops;
       }
 
   -- A count is taken
 
   -- LIVE stands where the slot is linked and lit
-  pub live_slot : (i : ℕ) → i < shape.slots → IsLive (word (at shape i 0)) → (Lk i ≡ 1) × (dark_of vs i ≡ 0) × (total (owns i) (map slot_part vs) ≡ 0)
-  live_slot i near live = let c = counts_small shape.slots _ _ (map slot_part vs) p.slots i in
+  pub live_slot : (i : ℕ) → i < layout.shape.slots → IsLive (word (at layout i 0)) → (Lk i ≡ 1) × (dark_of vs i ≡ 0) × (total (owns i) (map slot_part vs) ≡ 0)
+  live_slot i near live = let c = counts_small layout.shape.slots _ _ (map slot_part vs) p.slots i in
       let w = p.slots.word i near in let q = p.slots.once i near in let l = p.slots.lit i near in (omega arith, omega arith, omega arith)
 
-  pub dead_slot : (i : ℕ) → i < shape.slots → (IsLive (word (at shape i 0)) → ⊥) → 0 < Lk i → 0 < dark_of vs i
+  pub dead_slot : (i : ℕ) → i < layout.shape.slots → (IsLive (word (at layout i 0)) → ⊥) → 0 < Lk i → 0 < dark_of vs i
   dead_slot i near dead linked = dite (ℕ_discrete (dark_of vs i) 0)
       (λ z. absurd (dead (let w = p.slots.word i near in let q = p.slots.once i near in omega (arith, z)))) (λ ne. omega (arith, ne))
 
@@ -282,14 +286,16 @@ module _ (shape : Shape) (word : ℕ → ℕ) (chain : ℕ → List ℕ) (lives 
   busy_met i n x e b t₀ low =
       let q = m.book.opened b.who b.nth (book_part b.view) b.change (at_map book_part vs b.who b.view b.has) b.is in
       record {
-        nth = n; life = x; there = e;
+        nth = n;
+        life = x;
+        there = e;
         meets = ⊎_elim
             (λ z. inl (omega (arith, q.0, ap (λ (c : Change). c.begins) z), omega (arith, q.1, ap (λ (c : Change). c.ends) z, low, few)))
             (λ z. inr (omega (arith, q.0, ap (λ (c : Change). c.begins) z.0), omega (arith, q.1, ap (λ (c : Change). c.ends) z.0, low, few))) b.of;
       }
 
   -- without LIVE a change of a slot that was linked meets the call
-  pub dead_met : (i : ℕ) → i < shape.slots → (IsLive (word (at shape i 0)) → ⊥) → 0 < Lk i → (t₀ : ℕ) → t₀ ≤ word 0 → SlotMet lives t₀ (word 0) i
+  pub dead_met : (i : ℕ) → i < layout.shape.slots → (IsLive (word (at layout i 0)) → ⊥) → 0 < Lk i → (t₀ : ℕ) → t₀ ≤ word 0 → SlotMet lives t₀ (word 0) i
   dead_met i near dead linked t₀ low =
       let d = dead_slot i near dead linked in
       let f = linked_find i chain B linked in
@@ -297,7 +303,7 @@ module _ (shape : Shape) (word : ℕ → ℕ) (chain : ℕ → List ℕ) (lives 
       ⊎_elim (λ z. let w = m.linked.whole i t.nth t.life t.there z in absurd (omega (arith, d, w.2))) (λ z. busy_met i t.nth t.life t.there z t₀ low) t.state
 
   -- with LIVE the count keeps its slot's card, and a life with that card stands
-  pub live_kept : (i since : ℕ) → i < shape.slots → IsLive (word (at shape i 0)) → since ≤ word 0 → Kp (record { slot = i; since = since; words = [] })
+  pub live_kept : (i since : ℕ) → i < layout.shape.slots → IsLive (word (at layout i 0)) → since ≤ word 0 → Kp (record { slot = i; since = since; words = [] })
   live_kept i since near live low =
       let l = live_slot i near live in
       let f = linked_find i chain B (omega (arith, l.0)) in
@@ -306,7 +312,9 @@ module _ (shape : Shape) (word : ℕ → ℕ) (chain : ℕ → List ℕ) (lives 
       record {
         known = λ w x h e. absurd (some-ne-none x (sym e));
         low = low;
-        nth = t.nth; life = t.life; there = t.there;
+        nth = t.nth;
+        life = t.life;
+        there = t.there;
         card-is = t.card-is l.1;
         begun = num.begun;
         left = ⊎_elim (λ z. omega (arith, num.still z.1, low, few))
@@ -320,11 +328,11 @@ module _ (shape : Shape) (word : ℕ → ℕ) (chain : ℕ → List ℕ) (lives 
   way_first : (q : Reader) (i : ℕ) → Wy q → q.link ≡ 2 * i → (0 < Lk i) ⊎ SlotMet lives q.since (word 0) i
   way_first q i w at = on w.way w.leads w.slots-ok
     where
-      on : (xs : List ℕ) → Path Nx q.link xs (2 * w.end + 1) → Each (λ (k : ℕ). (k < shape.slots) × ((0 < Lk k) ⊎ SlotMet lives q.since (word 0) k)) xs → (0 < Lk i) ⊎ SlotMet lives q.since (word 0) i
+      on : (xs : List ℕ) → Path Nx q.link xs (2 * w.end + 1) → Each (λ (k : ℕ). (k < layout.shape.slots) × ((0 < Lk k) ⊎ SlotMet lives q.since (word 0) k)) xs → (0 < Lk i) ⊎ SlotMet lives q.since (word 0) i
       on [] path a = absurd (even-odd i w.end (sym at ∙ path))
       on (y ∷ ys) path a = let same : y ≡ i = let z = path.0 in omega (arith, at) in subst (λ (k : ℕ). (0 < Lk k) ⊎ SlotMet lives q.since (word 0) k) same a.0.1
 
-  slot_stop : (q : Reader) (kind i : ℕ) → (kind ≡ 1) ⊎ (kind ≡ 2) → SlotMet lives q.since (word 0) i → StopOk lives q.since (word 0) shape.slots q.bucket (record { kind = kind; at = i })
+  slot_stop : (q : Reader) (kind i : ℕ) → (kind ≡ 1) ⊎ (kind ≡ 2) → SlotMet lives q.since (word 0) i → StopOk lives q.since (word 0) layout.shape.slots q.bucket (record { kind = kind; at = i })
   slot_stop q kind i which met = record {
     known = ⊎_elim (λ z. omega (arith, z)) (λ z. omega (arith, z)) which;
     foreign = λ k. absurd (⊎_elim (λ z. omega (arith, z, k)) (λ z. omega (arith, z, k)) which);
@@ -333,14 +341,20 @@ module _ (shape : Shape) (word : ℕ → ℕ) (chain : ℕ → List ℕ) (lives 
   }
 
   -- the slot at the link has no LIVE: the pass stops
-  pub dead_stop : (q : Reader) (i : ℕ) → Rd q → q.walking ≡ 1 → q.link ≡ 2 * i → i < shape.slots → (IsLive (word (at shape i 0)) → ⊥) → Rd (stopping q 1 i)
+  pub dead_stop : (q : Reader) (i : ℕ) → Rd q → q.walking ≡ 1 → q.link ≡ 2 * i → i < layout.shape.slots → (IsLive (word (at layout i 0)) → ⊥) → Rd (stopping q 1 i)
   dead_stop q i o on at near dead = stops_at q 1 i o.low o.stops (slot_stop q 1 i (inl refl) (⊎_elim (λ z. dead_met i near dead z q.since o.low) (λ z. z) (way_first q i (o.way on) at)))
 
   -- A card word is loaded under a count
   pub learns : (h : Kept) → Kp h → length h.words < 4 → Kp (record h { words = h.words ++ Cd h.slot (length h.words) ∷ [] })
   learns h o room = record {
     known = seen_reads Cd (record { slot = h.slot; words = h.words }) (Cd h.slot (length h.words)) refl o.known;
-    low = o.low; nth = o.nth; life = o.life; there = o.there; card-is = o.card-is; begun = o.begun; left = o.left;
+    low = o.low;
+    nth = o.nth;
+    life = o.life;
+    there = o.there;
+    card-is = o.card-is;
+    begun = o.begun;
+    left = o.left;
   }
 
   -- the rank is the one of before, and becomes the best's
@@ -375,7 +389,7 @@ module _ (shape : Shape) (word : ℕ → ℕ) (chain : ℕ → List ℕ) (lives 
   pub best_none_better : (t₀ bucket : ℕ) (key : Packet) (least : ℕ) → NoneBetter lives t₀ (word 0) bucket key least 5
   best_none_better t₀ bucket key least i n x e mine enough better before still = let z = rank_small key (slice_index x.card 0) (slice_index x.card 1) in omega (arith, z, better)
 
-  pub receipt_none : (q : Reader) → Rd q → q.walking ≡ 1 → q.link ≡ 2 * q.bucket + 1 → q.best ≡ 0 → ReceiptOk shape.slots lives (word 0) (receipt q 0 [] (word 0))
+  pub receipt_none : (q : Reader) → Rd q → q.walking ≡ 1 → q.link ≡ 2 * q.bucket + 1 → q.best ≡ 0 → ReceiptOk layout.shape.slots lives (word 0) (receipt q 0 [] (word 0))
   receipt_none q o on at none = record {
     span = (o.low, omega arith);
     none = λ k. subst (NoneBetter lives q.since (word 0) q.bucket q.key q.least) none (end_none_better q o on at);
@@ -383,17 +397,20 @@ module _ (shape : Shape) (word : ℕ → ℕ) (chain : ℕ → List ℕ) (lives 
     again = λ k. absurd (omega (arith, k));
   }
 
-  pub receipt_again : (q : Reader) → Rd q → 0 < length q.stops → ReceiptOk shape.slots lives (word 0) (receipt q 2 [] (word 0))
+  pub receipt_again : (q : Reader) → Rd q → 0 < length q.stops → ReceiptOk layout.shape.slots lives (word 0) (receipt q 2 [] (word 0))
   receipt_again q o some-stops = record { span = (o.low, omega arith); none = λ k. absurd (omega (arith, k)); found = λ k. absurd (omega (arith, k)); again = λ k. (some-stops, o.stops) }
 
   pub receipt_found : (q : Reader) (h : Kept) (a b c d : ℕ) → Rd q → Kp h → h.words ≡ a ∷ b ∷ c ∷ d ∷ [] → q.since ≤ h.since → q.best ≡ rank_of q.key h.words → q.least ≤ q.best → ((q.walking ≡ 1) × (q.link ≡ 2 * q.bucket + 1)) ⊎ (q.best ≡ 5)
-      → ReceiptOk shape.slots lives (word 0) (receipt q 1 h.words (word 0))
+      → ReceiptOk layout.shape.slots lives (word 0) (receipt q 1 h.words (word 0))
   receipt_found q h a b c d o kp words later best enough end = record {
     span = (o.low, omega arith);
     none = λ k. absurd (omega (arith, k));
     found = λ k. (
       record {
-        slot = h.slot; nth = kp.nth; life = kp.life; there = kp.there;
+        slot = h.slot;
+        nth = kp.nth;
+        life = kp.life;
+        there = kp.there;
         card-is = kp.card-is ∙ (four h.words a b c d words kp.known ∙ sym words);
         begun = kp.begun;
         left = let z = kp.left in omega (arith, later);

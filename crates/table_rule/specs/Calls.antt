@@ -2,8 +2,8 @@
 use Rattle.std.specs.Prelude.{◌≡◌, ℕ, ◌<◌, ◌≤◌, ◌+◌, ◌*◌, ◌/◌, ◌%◌, ◌⊎◌, List, [], ◌∷◌, ◌++◌, length}
 use Rattle.table_rule.specs.declared.view.SlotView.{SlotView}
 use Rattle.sock_card.specs.declared.words.CardWords.{CardWords}
-use Rattle.atomic_table.specs.Seated.{TableId}
-use Rattle.atomic_table.specs.declared.shared.Seat.{Seat}
+use Rattle.table_rule.specs.declared.table.Chains.{Chains}
+use Rattle.table_rule.specs.declared.table.Steps.{Steps}
 use Rattle.table_rule.specs.Lists.{slots_of}
 use Rattle.table_rule.specs.Words.{words_of}
 use Rattle.table_rule.specs.ChainsOk.{first_link}
@@ -11,12 +11,23 @@ use Rattle.table_rule.specs.Book.{marks}
 use Rattle.table_rule.specs.Rule.{book_part}
 use Rattle.table_rule.specs.declared.view.Change.{Change}
 use Rattle.table_rule.specs.declared.view.View.{View}
-use Rattle.table_rule.specs.declared.view.Shape.{Shape}
+use Rattle.table_rule.specs.declared.view.Layout.{Layout}
 use Rattle.table_rule.specs.declared.view.Seen.{Seen}
 
--- a pass of this table
-abbrev pub IsOf : TableId → Shape → Seat (Unit {0}) View → Type 0
-IsOf id shape seat = (seat.table_id ≡ id) × (seat.me.0.shape ≡ shape)
+-- what a pass knows
+abbrev pub view : Steps → View
+view steps = steps.seat.me.0
+
+-- it is a pass of this table
+abbrev pub IsOf : Chains → Steps → Type 0
+IsOf t steps = (steps.seat.table_id ≡ t.table.shared.table_id) × ((view steps).layout ≡ t.layout)
+
+-- it knows this from now on, and all else of it stays
+abbrev pub Becomes : (old new : Steps) → View → Type 0
+Becomes old new v = new.seat.me ≡ (v, old.seat.me.1)
+
+abbrev pub Stays : (old new : Steps) → Type 0
+Stays old new = new.seat.me ≡ old.seat.me
 
 -- the list's only slot, with so many card words known
 abbrev pub IsSlot : ℕ → ℕ → List Seen → Type 0

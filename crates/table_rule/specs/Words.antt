@@ -1,11 +1,16 @@
 -- Where the words lie: the clock at 0, a head and a lock for each bucket, and for each slot its state, link and four card words.
 use Rattle.std.specs.Prelude.{ℕ, ◌+◌, ◌*◌, List, [], ◌∷◌}
+use Rattle.chain_book.specs.Homes.{chain_count}
 use Rattle.sock_card.specs.declared.words.CardWords.{CardWords}
-use Rattle.table_rule.specs.declared.view.Shape.{Shape}
+use Rattle.table_rule.specs.declared.view.Layout.{Layout}
+
+-- how many chains there are
+abbrev pub bucket_count : Layout → ℕ
+bucket_count layout = chain_count layout.shape
 
 -- word w of slot i
-abbrev pub at : Shape → ℕ → ℕ → ℕ
-at shape i w = 1 + 2 * shape.buckets + 6 * i + w
+abbrev pub at : Layout → ℕ → ℕ → ℕ
+at layout i w = 1 + 2 * bucket_count layout + 6 * i + w
 
 abbrev pub head_at : ℕ → ℕ
 head_at b = 1 + 2 * b

@@ -1,16 +1,16 @@
+//! The words of the chain table, under one rule that each single step of any thread keeps.
 #![tactic(auto)]
-//! The chain table's words, under a rule that each single step keeps.
-mod kept;
+
 mod make;
-mod peeks;
 mod rule;
 mod steps;
+mod table;
+mod unlocked;
 mod view;
 
-pub use kept::{Act, Closed, KeptPass};
 pub use rule::{First, Rule, Second, Told};
-pub use steps::{Chains, Pass};
+pub use table::{Chains, Steps};
 pub use view::{
-    BookView, ChainView, Change, Kept, ReadView, Reader, Receipt, Seen, Shape, Sight, SlotView,
+    BookView, ChainView, Change, Kept, Layout, ReadView, Reader, Receipt, Seen, Sight, SlotView,
     Stop, View,
 };

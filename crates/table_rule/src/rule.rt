@@ -1,15 +1,14 @@
-ghost use Rattle.table_rule.specs.Rule.{Holds, first};
-ghost use Rattle.std.specs.Prelude.{◌≡◌, ℕ};
-ghost use Rattle.sock_card.specs.declared.card.Packet.{Packet};
-ghost use Rattle.table_rule.specs.Plays.{claimed, wrote, read, lit, dimmed, freed, locked, unlocked, advanced, looked, tied, hung, passed, began, left, ended, forgot, saw, cut, newcomer, both, spent, arrived, entering, following, glanced, took, reached, let_go, let_go_dead, learned, judged, set_out, ended_none, ended_found, ended_again};
+//! The rule of the table, and what each kind of step tells of the view that makes it.
 
-use super::view::{Shape, View};
+use super::view::{Layout, View};
 use atomic_table::{Join, Play, Split, TableRule};
 use std::marker::{Brand, PhantomData};
 
 pub struct Rule;
 
-impl TableRule<(), View, Shape> for Rule {
+impl TableRule<(), View, Layout> for Rule {
+    ghost use Rattle.table_rule.specs.Rule.{Holds, first};
+
     ghost holds = { Holds };
 
     ghost first = { first };
@@ -18,83 +17,111 @@ impl TableRule<(), View, Shape> for Rule {
 pub struct Claim;
 
 impl Play<(), View> for Claim {
+    ghost use Rattle.table_rule.specs.Plays.{claimed};
+
     ghost then = { claimed };
 }
 
 pub struct Write;
 
 impl Play<(), View> for Write {
+    ghost use Rattle.table_rule.specs.Plays.{wrote};
+
     ghost then = { wrote };
 }
 
 pub struct Read;
 
 impl Play<(), View> for Read {
+    ghost use Rattle.table_rule.specs.Plays.{read};
+
     ghost then = { read };
 }
 
 pub struct Light;
 
 impl Play<(), View> for Light {
+    ghost use Rattle.table_rule.specs.Plays.{lit};
+
     ghost then = { lit };
 }
 
 pub struct Dim;
 
 impl Play<(), View> for Dim {
+    ghost use Rattle.table_rule.specs.Plays.{dimmed};
+
     ghost then = { dimmed };
 }
 
 pub struct Free;
 
 impl Play<(), View> for Free {
+    ghost use Rattle.table_rule.specs.Plays.{freed};
+
     ghost then = { freed };
 }
 
 pub struct Lock;
 
 impl Play<(), View> for Lock {
+    ghost use Rattle.table_rule.specs.Plays.{locked};
+
     ghost then = { locked };
 }
 
 pub struct Unlock;
 
 impl Play<(), View> for Unlock {
+    ghost use Rattle.table_rule.specs.Plays.{unlocked};
+
     ghost then = { unlocked };
 }
 
 pub struct Advance;
 
 impl Play<(), View> for Advance {
+    ghost use Rattle.table_rule.specs.Plays.{advanced};
+
     ghost then = { advanced };
 }
 
 pub struct Look;
 
 impl Play<(), View> for Look {
+    ghost use Rattle.table_rule.specs.Plays.{looked};
+
     ghost then = { looked };
 }
 
 pub struct Tie;
 
 impl Play<(), View> for Tie {
+    ghost use Rattle.table_rule.specs.Plays.{tied};
+
     ghost then = { tied };
 }
 
 pub struct Hang;
 
 impl Play<(), View> for Hang {
+    ghost use Rattle.table_rule.specs.Plays.{hung};
+
     ghost then = { hung };
 }
 
 pub struct Past;
 
 impl Play<(), View> for Past {
+    ghost use Rattle.table_rule.specs.Plays.{passed};
+
     ghost then = { passed };
 }
 
 /// What a step is told besides its operands.
 pub trait Told {
+    ghost use Rattle.std.specs.Prelude.{ℕ};
+
     ghost slot: { ℕ };
 }
 
@@ -105,6 +132,8 @@ impl Told for Brand {
 pub struct BeginHash;
 
 impl Play<(), View> for BeginHash {
+    ghost use Rattle.table_rule.specs.Plays.{began};
+
     ghost then = { began };
 }
 
@@ -113,30 +142,40 @@ pub struct BeginUnhash<T> {
 }
 
 impl<T: Told> Play<(), View> for BeginUnhash<T> {
+    ghost use Rattle.table_rule.specs.Plays.{left};
+
     ghost then = { left T.slot };
 }
 
 pub struct End;
 
 impl Play<(), View> for End {
+    ghost use Rattle.table_rule.specs.Plays.{ended};
+
     ghost then = { ended };
 }
 
 pub struct Forget;
 
 impl Play<(), View> for Forget {
+    ghost use Rattle.table_rule.specs.Plays.{forgot};
+
     ghost then = { forgot };
 }
 
 pub struct See;
 
 impl Play<(), View> for See {
+    ghost use Rattle.table_rule.specs.Plays.{saw};
+
     ghost then = { saw };
 }
 
 pub struct Half;
 
 impl Split<View> for Half {
+    ghost use Rattle.table_rule.specs.Plays.{left, cut, newcomer};
+
     ghost left = { cut };
 
     ghost right = { newcomer };
@@ -145,6 +184,8 @@ impl Split<View> for Half {
 pub struct Both;
 
 impl Join<View> for Both {
+    ghost use Rattle.table_rule.specs.Plays.{both, spent};
+
     ghost both = { both };
 
     ghost spent = { spent };
@@ -152,6 +193,9 @@ impl Join<View> for Both {
 
 /// What a lookup is told as it begins.
 pub trait Asked {
+    ghost use Rattle.std.specs.Prelude.{ℕ};
+    ghost use Rattle.sock_card.specs.declared.card.Packet.{Packet};
+
     ghost bucket: { ℕ };
 
     ghost key: { Packet };
@@ -172,36 +216,48 @@ pub struct SetOut<T> {
 }
 
 impl<T: Asked> Play<(), View> for SetOut<T> {
+    ghost use Rattle.table_rule.specs.Plays.{set_out};
+
     ghost then = { set_out T.bucket T.key T.least };
 }
 
 pub struct PeekHead;
 
 impl Play<(), View> for PeekHead {
+    ghost use Rattle.table_rule.specs.Plays.{arrived, entering};
+
     ghost then = { arrived entering };
 }
 
 pub struct PeekLink;
 
 impl Play<(), View> for PeekLink {
+    ghost use Rattle.table_rule.specs.Plays.{arrived, following};
+
     ghost then = { arrived following };
 }
 
 pub struct Glance;
 
 impl Play<(), View> for Glance {
+    ghost use Rattle.table_rule.specs.Plays.{glanced};
+
     ghost then = { glanced };
 }
 
 pub struct Take;
 
 impl Play<(), View> for Take {
+    ghost use Rattle.table_rule.specs.Plays.{took};
+
     ghost then = { took };
 }
 
 pub struct Reach;
 
 impl Play<(), View> for Reach {
+    ghost use Rattle.table_rule.specs.Plays.{reached};
+
     ghost then = { reached };
 }
 
@@ -210,42 +266,56 @@ pub struct LetGo<T> {
 }
 
 impl<T: Told> Play<(), View> for LetGo<T> {
+    ghost use Rattle.table_rule.specs.Plays.{let_go};
+
     ghost then = { let_go T.slot };
 }
 
 pub struct LetGoDead;
 
 impl Play<(), View> for LetGoDead {
+    ghost use Rattle.table_rule.specs.Plays.{let_go_dead};
+
     ghost then = { let_go_dead };
 }
 
 pub struct Learn;
 
 impl Play<(), View> for Learn {
+    ghost use Rattle.table_rule.specs.Plays.{learned};
+
     ghost then = { learned };
 }
 
 pub struct Judge;
 
 impl Play<(), View> for Judge {
+    ghost use Rattle.table_rule.specs.Plays.{judged};
+
     ghost then = { judged };
 }
 
 pub struct EndNone;
 
 impl Play<(), View> for EndNone {
+    ghost use Rattle.table_rule.specs.Plays.{ended_none};
+
     ghost then = { ended_none };
 }
 
 pub struct EndFound;
 
 impl Play<(), View> for EndFound {
+    ghost use Rattle.table_rule.specs.Plays.{ended_found};
+
     ghost then = { ended_found };
 }
 
 pub struct EndAgain;
 
 impl Play<(), View> for EndAgain {
+    ghost use Rattle.table_rule.specs.Plays.{ended_again};
+
     ghost then = { ended_again };
 }
 

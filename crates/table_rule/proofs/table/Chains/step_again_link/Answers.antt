@@ -1,0 +1,22 @@
+use Rattle.std.proofs.Common.{rules, ◌≡◌, ℕ, ◌+◌, ◌*◌, ◌∷◌, ◌++◌, [], eqb, sym, ap, ◌∙◌, refl, arith, length, subst, append-nil}
+use mathlib.Core.Option.{none}
+use Rattle.atomic_table.specs.Table.{step, Allows}
+use Rattle.table_rule.specs.Words.{at, head_at, lock_at}
+use Rattle.table_rule.specs.Rule.{Holds}
+use Rattle.table_rule.specs.Plays.{looked, Inside, Sat, place}
+use Rattle.table_rule.specs.declared.view.Layout.{Layout}
+use Rattle.table_rule.specs.declared.view.Seen.{Seen}
+use Rattle.table_rule.proofs.Allowed.{looks}
+use Rattle.table_rule.proofs.Calls.{moved_to, word_is, place_last}
+use Rattle.table_rule.proofs.table.Chains.step_again_link.Goals as goal
+
+pub load-requires : goal.load-requires
+load-requires c = (search rules, search rules, moved_to c.args.self.now.layout c.args.self.now.table.shared.key c.args.self.now.table.shared.table_id.slots c.args.steps.now.seat.id c.args.steps.now.seat.me (at c.args.self.now.layout c.args.slot 1) c.word_at-word.result (λ n. n) (λ x. looked (step c.args.self.now.table.shared.table_id.slots x 0 0 none) c.args.steps.now.seat.me) c.args.self.now.keyed c.word_at-word.ensures.is (looks c.args.self.now.layout c.args.self.now.table.shared.table_id.slots c.args.steps.now.seat.id c.args.steps.now.seat.me c.requires.table.1 c.requires.held.0 c.requires.held.1 (at c.args.self.now.layout c.args.slot 1)))
+
+pub returns-clause-table : goal.returns-clause-table
+returns-clause-table c = (c.load.ensures.0 ∙ c.requires.table.0, ap (λ (s : Sat). s.0.layout) c.load.ensures.2.0 ∙ c.requires.table.1)
+
+pub returns-clause-told : goal.returns-clause-told
+returns-clause-told c = λ b front back s is held walked told. let t = c.load.ensures.2.1 b (front ++ s ∷ []) back held walked
+    (word_is _ _ _ 1 _ c.requires.table.1 c.word_at-word.ensures.is ∙ (ap (λ (k : ℕ). at c.args.steps.now.seat.me.0.layout k 1) (sym is) ∙ sym (place_last c.args.steps.now.seat.me.0.layout (head_at b) front s))) told in
+    (t.0, subst (λ (g : Layout). Inside g c.load.result) c.requires.table.1 t.1)

@@ -1,0 +1,18 @@
+use Rattle.std.proofs.Common.{rules, ◌≡◌, ℕ, ◌+◌, ◌*◌, ◌∷◌, [], eqb, sym, ap, ◌∙◌, refl, arith, bit_or, bit_and, length, subst}
+use mathlib.Core.Option.{none}
+use prog.Atomic.{either}
+use Rattle.atomic_table.specs.Table.{step}
+use Rattle.table_rule.specs.Words.{at, head_at, lock_at}
+use Rattle.table_rule.specs.Plays.{dimmed, Sat}
+use Rattle.table_rule.proofs.Allowed.{dims-it}
+use Rattle.table_rule.proofs.Calls.{moved_to, word_is, claimed_shape, locked_shape}
+use Rattle.table_rule.proofs.table.Chains.step_clear_live.Goals as goal
+
+pub fetch_and-requires : goal.fetch_and-requires
+fetch_and-requires c = (search rules, search rules, moved_to c.args.self.now.layout c.args.self.now.table.shared.key c.args.self.now.table.shared.table_id.slots c.args.steps.now.seat.id c.args.steps.now.seat.me (at c.args.self.now.layout c.args.slot 0) c.word_at-word.result (λ n. bit_and n 13835058055282163711) (λ x. dimmed (step c.args.self.now.table.shared.table_id.slots x 13835058055282163711 0 none) c.args.steps.now.seat.me) c.args.self.now.keyed c.word_at-word.ensures.is (dims-it c.args.self.now.layout c.args.self.now.table.shared.table_id.slots c.args.steps.now.seat.id c.args.steps.now.seat.me c.requires.table.1 c.args.slot c.requires.slot c.requires.begun.0.0 c.requires.begun.0.1 c.requires.begun.0.2 c.requires.begun.0.3 c.requires.begun.1 c.requires.held.0 c.requires.held.1 c.requires.idle.0 c.requires.idle.1 c.requires.listed))
+
+pub returns-clause-table : goal.returns-clause-table
+returns-clause-table c = (c.fetch_and.ensures.0 ∙ c.requires.table.0, ap (λ (s : Sat). s.0.layout) (c.fetch_and.ensures.2 c.args.slot (word_is _ _ _ 0 _ c.requires.table.1 c.word_at-word.ensures.is)) ∙ c.requires.table.1)
+
+pub returns-clause-view : goal.returns-clause-view
+returns-clause-view c = c.fetch_and.ensures.2 c.args.slot (word_is _ _ _ 0 _ c.requires.table.1 c.word_at-word.ensures.is)

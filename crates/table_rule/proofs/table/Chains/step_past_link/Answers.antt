@@ -1,0 +1,22 @@
+use Rattle.std.proofs.Common.{rules, ◌≡◌, ℕ, ◌+◌, ◌*◌, ◌∷◌, ◌++◌, [], eqb, sym, ap, ◌∙◌, refl, arith, length, subst, append-nil}
+use mathlib.Core.Option.{none}
+use Rattle.atomic_table.specs.Table.{step, Allows}
+use Rattle.table_rule.specs.Words.{at, head_at, lock_at}
+use Rattle.table_rule.specs.Rule.{Holds}
+use Rattle.table_rule.specs.Plays.{passed, Sat, place}
+use Rattle.table_rule.specs.declared.view.Layout.{Layout}
+use Rattle.table_rule.specs.declared.view.Seen.{Seen}
+use Rattle.table_rule.proofs.Allowed.{passes-link}
+use Rattle.table_rule.proofs.Calls.{moved_to, word_is, place_last}
+use Rattle.table_rule.proofs.table.Chains.step_past_link.Goals as goal
+
+pub store-requires : goal.store-requires
+store-requires c = (
+  search rules,
+  search rules,
+  moved_to c.args.self.now.layout c.args.self.now.table.shared.key c.args.self.now.table.shared.table_id.slots c.args.steps.now.seat.id c.args.steps.now.seat.me (at c.args.self.now.layout c.requires.next.2.slot 1) c.word_at-word.result (λ _. c.args.link) (λ x (_ : ℕ). passed (step c.args.self.now.table.shared.table_id.slots x c.args.link 0 none) c.args.steps.now.seat.me c.args.link) c.args.self.now.keyed (c.word_at-word.ensures.is ∙ ap (λ (k : ℕ). at c.args.self.now.layout k 1) (sym c.requires.next.6))
+      (passes-link c.args.self.now.layout c.args.self.now.table.shared.table_id.slots c.args.steps.now.seat.id c.args.steps.now.seat.me c.requires.table.1 c.requires.next.0 c.requires.next.5 c.requires.next.3 c.requires.next.4 c.args.link (omega (arith, c.requires.slot, c.requires.next.7)) (c.requires.leaving.0 ∙ ap (λ (k : ℕ). k ∷ []) (sym c.requires.next.7)) c.requires.leaving.1 c.requires.leaving.2 c.requires.leaving.3 c.requires.begun.0.0 c.requires.begun.0.1 c.requires.begun.0.2 (c.requires.begun.0.3 ∙ sym c.requires.next.7) c.requires.begun.1 c.requires.next.9 c.requires.next.10 c.requires.next.1 c.requires.next.2 (omega (arith, c.requires.before, c.requires.next.6)) c.requires.next.8),
+)
+
+pub returns-clause-table : goal.returns-clause-table
+returns-clause-table c = (c.store.ensures.0 ∙ c.requires.table.0, ap (λ (s : Sat). s.0.layout) c.store.ensures.2 ∙ c.requires.table.1)

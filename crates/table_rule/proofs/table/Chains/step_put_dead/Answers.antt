@@ -1,0 +1,17 @@
+use Rattle.std.proofs.Common.{rules, ◌≡◌, ℕ, ◌+◌, ◌-◌, ◌*◌, ◌%◌, ◌^◌, ◌<◌, ◌∷◌, [], sym, ap, ◌∙◌, refl, arith, length, subst}
+use mathlib.Core.Option.{none}
+use Rattle.atomic_table.specs.Table.{step}
+use Rattle.table_rule.specs.Words.{at, head_at}
+use Rattle.table_rule.specs.Plays.{Sat, let_go_dead}
+use Rattle.table_rule.proofs.AllowedLookups.{lets-go-dead}
+use Rattle.table_rule.proofs.Calls.{moved_to, word_is}
+use Rattle.table_rule.proofs.table.Chains.step_put_dead.Goals as goal
+
+pub fetch_sub-requires : goal.fetch_sub-requires
+fetch_sub-requires c = (search rules, search rules, moved_to c.args.self.now.layout c.args.self.now.table.shared.key c.args.self.now.table.shared.table_id.slots c.args.steps.now.seat.id c.args.steps.now.seat.me (at c.args.self.now.layout c.args.slot 0) c.word_at-word.result (λ n. (n + (2 ^ 64 - 1)) % 2 ^ 64) (λ x. let_go_dead (step c.args.self.now.table.shared.table_id.slots x 1 0 none) c.args.steps.now.seat.me) c.args.self.now.keyed c.word_at-word.ensures.is (lets-go-dead c.args.self.now.layout c.args.self.now.table.shared.table_id.slots c.args.steps.now.seat.id c.args.steps.now.seat.me c.requires.table.1 c.args.slot c.requires.slot c.requires.more))
+
+pub returns-clause-table : goal.returns-clause-table
+returns-clause-table c = (c.fetch_sub.ensures.0 ∙ c.requires.table.0, ap (λ (s : Sat). s.0.layout) (c.fetch_sub.ensures.2 c.args.slot (word_is _ _ _ 0 _ c.requires.table.1 c.word_at-word.ensures.is)) ∙ c.requires.table.1)
+
+pub returns-clause-view : goal.returns-clause-view
+returns-clause-view c = c.fetch_sub.ensures.2 c.args.slot (word_is _ _ _ 0 _ c.requires.table.1 c.word_at-word.ensures.is)

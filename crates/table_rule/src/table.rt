@@ -1,0 +1,26 @@
+//! The chain table, and what a pass steps with.
+
+ghost use Rattle.std.specs.Prelude.{◌≡◌, ◌+◌, ◌*◌};
+ghost use Rattle.table_rule.specs.Words.{bucket_count};
+
+use super::rule::Rule;
+use super::view::{Layout, View};
+use atomic_table::{Seat, Table};
+use std::alloc::Global;
+
+/// The words of the chain table: its clock, a head and a lock for each bucket, and six words for each slot.
+///
+/// All threads step on them at once, each through a [`Steps`] of its own.
+#[derive(Drop)]
+pub struct Chains {
+    pub(crate) table: Table<(), View, Layout, Rule, Global>,
+    pub(crate) layout: Layout,
+    ghost keyed: { layout ≡ table.shared.key },
+    ghost sized: { table.shared.table_id.words ≡ 1 + 2 * bucket_count layout + 6 * layout.shape.slots },
+}
+
+/// A thread's part in the chain table. It has no bytes: what the thread knows of the table stands in proofs alone.
+#[derive(Drop)]
+pub struct Steps {
+    pub(crate) seat: Seat<(), View>,
+}
