@@ -30,7 +30,7 @@ four card i r (a ∷ b ∷ c ∷ []) len o q =
     ∙ ap (λ (k : ℕ). a ∷ b ∷ c ∷ k ∷ []) q))
 four card i r (a ∷ b ∷ c ∷ d ∷ ws) len o q = absurd (omega (arith, len))
 
-module _ (layout : Layout) (word : ℕ → ℕ) (chain : ℕ → List ℕ) (lives : ℕ → List Life) (vs : List View) (id : ℕ) (v : View) (p : Parts layout word chain vs) (o : More layout word chain lives vs) (y : Beyond (bucket_count layout) (word 0) chain lives vs) (me : get_elem? vs id ≡ some v) where
+module _ (layout : Layout) (word : ℕ → ℕ) (chain : ℕ → List ℕ) (lives : ℕ → List Life) (vs : List View) (id : ℕ) (v : View) (p : Parts layout word chain vs) (o : More layout word chain lives vs) (y : Beyond layout (word 0) chain lives vs) (me : get_elem? vs id ≡ some v) where
   pub card_read : (b : ℕ) → v.chain.locked ≡ b ∷ [] → (f : Seen) → v.chain.ahead ≡ f ∷ [] → v.slot.hung ≡ [] → v.slot.dimmed ≡ [] → length f.words ≡ 3 → (r : ℕ) → word (at layout f.slot (2 + length f.words)) ≡ r → IsCardWords (f.words ++ r ∷ [])
   card_read b had f ahead bright lit three r is =
       let t = (p.chains.walks id v.chain (at_map chain_part vs id v me)).list b had in
@@ -41,4 +41,4 @@ module _ (layout : Layout) (word : ℕ → ℕ) (chain : ℕ → List ℕ) (live
       let card = l.card-is light in
       let k = ((p.cards id (known_part v) (at_map known_part vs id v me)).ahead) in
       let mine : SeenOk (card_of layout word) f = (subst (Each (SeenOk (card_of layout word))) ahead k).0 in
-      ⊎_elim (λ none. absurd (omega (arith, ap (length {A = ℕ}) (sym card ∙ none)))) (λ real. subst IsCardWords (card ∙ four (card_of layout word) f.slot r f.words three mine is) real) (y.cards f.slot l.nth l.life l.there)
+      ⊎_elim (λ none. absurd (omega (arith, ap (length {A = ℕ}) (sym card ∙ none)))) (λ real. subst IsCardWords (card ∙ four (card_of layout word) f.slot r f.words three mine is) real.0) (y.cards f.slot l.nth l.life l.there)

@@ -2,7 +2,7 @@
 use Rattle.std.specs.Prelude.{Some, ◌≡◌, ℕ, ◌+◌, ◌<◌, ◌≤◌, List, [], ◌∷◌, ◌++◌, ◌⊎◌, slice_set}
 use mathlib.Core.Option.{some}
 use Rattle.sock_card.specs.Words.{packed, unpacked}
-use Rattle.table_rule.specs.Words.{words_of}
+use Rattle.table_rule.specs.Words.{words_of, home_of, bucket_count}
 use Rattle.sock_card.specs.declared.card.Card.{Card}
 use Rattle.sock_card.specs.declared.words.CardWords.{CardWords}
 use lib.ListN.{get_elem?}
@@ -11,6 +11,7 @@ use Rattle.table_rule.specs.SlotsOk.{owns}
 use Rattle.table_rule.specs.CardsOk.{bears}
 use Rattle.table_rule.specs.Book.{open-end, Life, with_lives, Part, InBook, Ends}
 use Rattle.table_rule.specs.declared.view.View.{View}
+use Rattle.table_rule.specs.declared.view.Layout.{Layout}
 use Rattle.table_rule.specs.declared.view.Change.{Change}
 use Rattle.table_rule.specs.declared.view.SlotView.{SlotView}
 use Rattle.table_rule.specs.declared.view.Seen.{Seen}
@@ -71,9 +72,9 @@ pub record IsCardWords (ws : List ℕ) : Type 0 where
   pub is : ws ≡ words_of words
   pub packs : packed (unpacked words) ≡ words
 
--- a life that was lit has a card's words
-abbrev pub CardsAre : (ℕ → List Life) → Type 0
-CardsAre lives = (i n : ℕ) (x : Life) → get_elem? (lives i) n ≡ some x → (x.card ≡ []) ⊎ IsCardWords x.card
+-- a life that was lit has the words of a card that belongs in its bucket
+abbrev pub CardsAre : Layout → (ℕ → List Life) → Type 0
+CardsAre layout lives = (i n : ℕ) (x : Life) → get_elem? (lives i) n ≡ some x → (x.card ≡ []) ⊎ (IsCardWords x.card × (home_of layout x.card ≡ x.bucket))
 
 -- Newest first
 
@@ -135,14 +136,18 @@ has_it i v = owns i v + times i v.hung
 abbrev pub OwnedOk : View → Type 0
 OwnedOk v = (i : ℕ) → 0 < has_it i v.slot → (c : Change) × (v.book.opened ≡ c ∷ []) × (c.slot ≡ i) × (c.kind < 2) × (c.kind ≡ 1 → c.card ≡ [])
 
-pub record Beyond (buckets clock : ℕ) (chain : ℕ → List ℕ) (lives : ℕ → List Life) (views : List View) : Type 0 where
+pub record Beyond (layout : Layout) (clock : ℕ) (chain : ℕ → List ℕ) (lives : ℕ → List Life) (views : List View) : Type 0 where
   pub twins : TwinsOk lives
-  pub cards : CardsAre lives
-  pub newest : (b : ℕ) → b < buckets → Falls (λ i. born (lives i)) (chain b)
+  pub cards : CardsAre layout lives
+  pub newest : (b : ℕ) → b < bucket_count layout → Falls (λ i. born (lives i)) (chain b)
   pub sights : (k : ℕ) (v : View) → get_elem? views k ≡ some v → SightsOk clock lives v
   pub owned : (k : ℕ) (v : View) → get_elem? views k ≡ some v → OwnedOk v
 
 -- Of a book alone
+
+-- each change that has a card stands in the bucket in which the card belongs
+abbrev pub AreHome : Layout → List Part → Type 0
+AreHome layout views = (c : Change) → InBook views c → c.kind < 2 → (c.card ≡ []) ⊎ (home_of layout c.card ≡ c.bucket)
 
 -- once the change u of its bucket was made, the hash h stands
 pub record Present (views : List Part) (u h : Change) : Type 0 where

@@ -1,4 +1,4 @@
-use Rattle.std.proofs.Common.{rules, ◌≡◌, ℕ, ap, ◌∙◌, arith}
+use Rattle.std.proofs.Common.{rules}
 use Rattle.table_rule.proofs.Joins.{joins_at}
 use Rattle.table_rule.proofs.table.Chains.join.Goals as goal
 

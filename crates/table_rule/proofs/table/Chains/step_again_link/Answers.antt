@@ -1,11 +1,9 @@
-use Rattle.std.proofs.Common.{rules, ◌≡◌, ℕ, ◌+◌, ◌*◌, ◌∷◌, ◌++◌, [], eqb, sym, ap, ◌∙◌, refl, arith, length, subst, append-nil}
+use Rattle.std.proofs.Common.{rules, ℕ, ◌∷◌, ◌++◌, [], sym, ap, ◌∙◌, subst}
 use mathlib.Core.Option.{none}
-use Rattle.atomic_table.specs.Table.{step, Allows}
-use Rattle.table_rule.specs.Words.{at, head_at, lock_at}
-use Rattle.table_rule.specs.Rule.{Holds}
-use Rattle.table_rule.specs.Plays.{looked, Inside, Sat, place}
+use Rattle.atomic_table.specs.Table.{step}
+use Rattle.table_rule.specs.Words.{at, head_at}
+use Rattle.table_rule.specs.Plays.{looked, Inside, Sat}
 use Rattle.table_rule.specs.declared.view.Layout.{Layout}
-use Rattle.table_rule.specs.declared.view.Seen.{Seen}
 use Rattle.table_rule.proofs.Allowed.{looks}
 use Rattle.table_rule.proofs.Calls.{moved_to, word_is, place_last}
 use Rattle.table_rule.proofs.table.Chains.step_again_link.Goals as goal
