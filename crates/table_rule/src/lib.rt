@@ -2,12 +2,15 @@
 #![tactic(auto)]
 
 mod make;
+mod pass;
+mod passes;
 mod rule;
 mod steps;
 mod table;
 mod unlocked;
 mod view;
 
+pub use pass::Pass;
 pub use rule::{First, Rule, Second, Told};
 pub use table::{Chains, Steps};
 pub use view::{

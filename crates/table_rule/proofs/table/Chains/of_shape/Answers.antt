@@ -4,7 +4,7 @@ use Rattle.table_rule.specs.Rule.{Holds, first}
 use Rattle.table_rule.specs.Calls.{FirstWord}
 use Rattle.atomic_table.specs.Table.{opening}
 use Rattle.table_rule.proofs.Opens.{holds_first, more_words}
-use Rattle.table_rule.proofs.table.Chains.new.Goals as goal
+use Rattle.table_rule.proofs.table.Chains.of_shape.Goals as goal
 use Rattle.table_rule.specs.Words.{bucket_count}
 use Rattle.table_rule.specs.declared.view.Layout.{Layout}
 

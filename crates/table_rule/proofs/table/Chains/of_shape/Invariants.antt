@@ -2,7 +2,7 @@ use Rattle.std.proofs.Common.{◌≡◌, ℕ, length}
 use mathlib.Core.Option.{some}
 use lib.ListN.{get_elem?}
 use Rattle.table_rule.specs.Calls.{FirstWord}
-use Rattle.table_rule.proofs.table.Chains.new.Given as goal
+use Rattle.table_rule.proofs.table.Chains.of_shape.Given as goal
 use Rattle.table_rule.specs.Words.{bucket_count}
 
 abbrev pub invariant-loop-at : goal.invariant-loop-at
