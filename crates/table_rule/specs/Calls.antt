@@ -2,6 +2,7 @@
 use Rattle.std.specs.Prelude.{◌≡◌, ℕ, ◌<◌, ◌≤◌, ◌+◌, ◌*◌, ◌/◌, ◌%◌, ◌⊎◌, List, [], ◌∷◌, ◌++◌, length}
 use Rattle.table_rule.specs.declared.view.SlotView.{SlotView}
 use Rattle.sock_card.specs.declared.words.CardWords.{CardWords}
+use Rattle.atomic_table.specs.Table.{Me}
 use Rattle.table_rule.specs.declared.table.Chains.{Chains}
 use Rattle.table_rule.specs.declared.table.Steps.{Steps}
 use Rattle.table_rule.specs.Lists.{slots_of}
@@ -17,6 +18,14 @@ use Rattle.table_rule.specs.declared.view.Seen.{Seen}
 -- what a pass knows
 abbrev pub view : Steps → View
 view steps = steps.seat.me.0
+
+-- the same, with the slots that it has at home in the table: none
+abbrev pub me : Steps → Me (Unit {0}) View
+me steps = steps.seat.me
+
+-- what a table is laid out for
+abbrev pub layout_of : Chains → Layout
+layout_of t = t.layout
 
 -- it is a pass of this table
 abbrev pub IsOf : Chains → Steps → Type 0

@@ -1,0 +1,14 @@
+//! The lock of a bucket: who holds it changes the bucket's chain, and nobody else does.
+//!
+//! [`lock`] waits, and takes the lock by one exchange of the bucket's lock word; [`unlock`] gives it back by one store.
+//! A [`Locked`] stands for as much of the chain as was walked since. Lookups ask for no lock.
+//!
+//! ```text
+//! let locked = lock(&chains, &rt, &mut pass.steps, bucket);
+//! unlock(&chains, &mut pass.steps, locked);
+//! ```
+#![tactic(auto)]
+
+mod locks;
+
+pub use locks::{Locked, lock, unlock};

@@ -1,0 +1,54 @@
+ghost use Rattle.std.specs.Prelude.{◌≡◌, ◌<◌, ◌∷◌, [], false};
+ghost use Rattle.table_rule.specs.Calls.{IsOf, view, Becomes, layout_of};
+ghost use Rattle.bucket_locks.specs.Locks.{IsAt};
+ghost use Rattle.table_rule.specs.Plays.{locking, unlocking};
+ghost use Rattle.table_rule.specs.Words.{bucket_count};
+
+use std::sync::Wait;
+use table_rule::{Chains, Steps};
+
+/// A bucket that a pass has locked, and how far its walk has come.
+#[derive(Drop)]
+pub struct Locked {
+    pub bucket: u32,
+    /// The head was loaded: `link` is the link that was loaded last.
+    pub started: bool,
+    pub link: u64,
+}
+
+/// Waits until nobody has the bucket's lock, and takes it by one exchange of its lock word.
+///
+/// From then on this pass alone changes the bucket's chain, until it gives the lock back. A pass has one bucket
+/// locked at most.
+pub fn lock<R: Wait>(chains: &Chains, rt: &R, steps: &mut Steps, bucket: u32) -> Locked
+    requires table { IsOf chains.now steps.old }
+    requires bucket { bucket < bucket_count (layout_of chains.now) }
+    requires closed { (view steps.old).book.opened ≡ [] }
+    requires free { ((view steps.old).chain.locked ≡ []) × ((view steps.old).slot.tied ≡ []) }
+    ensures table { IsOf chains.now steps.new }
+    ensures view { Becomes steps.old steps.new (locking (view steps.old) bucket) }
+    ensures at { IsAt (layout_of chains.now) result (view steps.new) }
+{
+    for _ in rt.forever() {
+        if chains.step_lock(steps, bucket) == 0 {
+            return Locked {
+                bucket,
+                started: false,
+                link: 0,
+            };
+        }
+    }
+    unreachable!()
+}
+
+/// Gives the lock back. What was walked of the chain is what the pass saw of it, from the lock on.
+pub fn unlock(chains: &Chains, steps: &mut Steps, locked: Locked)
+    requires table { IsOf chains.now steps.old }
+    requires closed { (view steps.old).book.opened ≡ [] }
+    requires at { ((view steps.old).chain.locked ≡ locked.bucket ∷ []) × (locked.bucket < bucket_count (layout_of chains.now)) }
+    requires idle { ((view steps.old).slot.tied ≡ []) × ((view steps.old).slot.hung ≡ []) × ((view steps.old).slot.dimmed ≡ []) }
+    ensures table { IsOf chains.now steps.new }
+    ensures view { Becomes steps.old steps.new (unlocking (view steps.old)) }
+{
+    chains.step_unlock(steps, locked.bucket);
+}
