@@ -7,9 +7,10 @@ ghost use Rattle.table_rule.specs.LookCalls.{HasRoom, IsTaken, place_of};
 ghost use Rattle.table_rule.specs.LookCalls.{with_words};
 ghost use Rattle.table_rule.specs.Plays.{taking, with_kept, letting_go, drop_at};
 ghost use Rattle.table_rule.specs.Words.{words_of};
+ghost use Rattle.sock_card.specs.Words.{packed};
 
-use sock_card::CardWords;
-use table_rule::{Chains, Steps};
+use sock_card::{Card, CardWords};
+use table_rule::{Chains, Steps, known_card};
 
 /// The least state word with both flags: the slot is linked, and may be found.
 const LIVE: u64 = 3 << 62;
@@ -54,22 +55,22 @@ pub fn put(chains: &Chains, steps: &mut Steps, held: Held)
 }
 
 /// The card of a slot whose count was taken last, by four loads.
-pub fn card(chains: &Chains, steps: &mut Steps, held: &Held) -> CardWords
+pub fn card(chains: &Chains, steps: &mut Steps, held: &Held) -> Card
     requires table { IsOf chains.now steps.old }
     requires slot { held.now.slot < (layout_of chains.now).shape.slots }
     requires held { IsTaken held.now.slot (view steps.old) }
     ensures table { IsOf chains.now steps.new }
-    ensures card { (h : Kept) (hs : List Kept) → (view steps.old).read.kept ≡ h ∷ hs → Becomes steps.old steps.new (with_kept (view steps.old) (with_words h (words_of result) ∷ hs)) }
-    ensures words { IsCardWords (words_of result) }
+    ensures card { (h : Kept) (hs : List Kept) → (view steps.old).read.kept ≡ h ∷ hs → Becomes steps.old steps.new (with_kept (view steps.old) (with_words h (words_of (packed result)) ∷ hs)) }
+    ensures words { IsCardWords (words_of (packed result)) }
 {
     let ends = chains.step_read_held(steps, held.slot, 0);
     let ports = chains.step_read_held(steps, held.slot, 1);
     let name = chains.step_read_held(steps, held.slot, 2);
     let extra = chains.step_read_held(steps, held.slot, 3);
-    CardWords {
+    known_card(&CardWords {
         ends,
         ports,
         name,
         extra,
-    }
+    })
 }

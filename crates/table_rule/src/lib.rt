@@ -1,6 +1,7 @@
 //! The words of the chain table, under one rule that each single step of any thread keeps.
 #![tactic(auto)]
 
+mod cards;
 mod make;
 mod pass;
 mod passes;
@@ -10,6 +11,7 @@ mod table;
 mod unlocked;
 mod view;
 
+pub use cards::known_card;
 pub use pass::Pass;
 pub use rule::{First, Rule, Second, Told};
 pub use table::{Chains, Steps};
