@@ -55,6 +55,7 @@ impl Chains {
     /// The seed is that of the hashes by which cards have their buckets. It takes memory for eight bytes a word, and
     /// as much again while it is made.
     pub fn new(alloc: Global, shape: Shape, seed: u32) -> Result<(Chains, Pass), AllocError>
+        requires small { shape.slots + 1 < 2 ^ 32 }
         ensures pass { IfOk result (λ t. IsPassOf t.0 t.1) }
         ensures layout { IfOk result (λ t. t.0.layout ≡ record { shape = shape; seed = seed }) }
         ensures first { IfOk result (λ t. t.1.steps.seat.me ≡ (first t.0.layout, [])) }

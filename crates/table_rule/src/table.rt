@@ -1,6 +1,6 @@
 //! The chain table, and what a pass steps with.
 
-ghost use Rattle.std.specs.Prelude.{◌≡◌, ◌+◌, ◌*◌};
+ghost use Rattle.std.specs.Prelude.{◌≡◌, ◌+◌, ◌*◌, ◌^◌, ◌<◌};
 ghost use Rattle.table_rule.specs.Words.{bucket_count};
 
 use super::rule::Rule;
@@ -16,6 +16,7 @@ pub struct Chains {
     pub(crate) table: Table<(), View, Layout, Rule, Global>,
     pub(crate) layout: Layout,
     ghost keyed: { layout ≡ table.shared.key },
+    ghost small: { layout.shape.slots + 1 < 2 ^ 32 },
     ghost sized: { table.shared.table_id.words ≡ 1 + 2 * bucket_count layout + 6 * layout.shape.slots },
 }
 
