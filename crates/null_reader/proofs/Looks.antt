@@ -16,7 +16,7 @@ use Rattle.table_rule.specs.declared.view.Reader.{Reader}
 use Rattle.table_rule.specs.declared.view.Receipt.{Receipt}
 use Rattle.null_reader.specs.declared.answers.Best.{Best}
 use Rattle.null_reader.specs.declared.answers.PassEnd.{PassEnd}
-use Rattle.null_reader.specs.declared.answers.LookEnd.TheVariants as lookends
+use Rattle.null_reader.specs.declared.answers.WordsEnd.TheVariants as ends
 use Rattle.sock_card.specs.declared.card.Packet.{Packet}
 use Rattle.table_rule.specs.Beyond.{IsCardWords}
 use Rattle.table_rule.specs.Words.{words_of}
@@ -90,7 +90,7 @@ module _ (layout : Layout) (bucket : ℕ) (key : Packet) (least passes t₀ : �
     joined q s = record { bucket = s.bucket ∙ b.same.bucket; key = s.key ∙ b.same.key; least = s.least ∙ b.same.least; since = s.since ∙ b.same.since }
 
     module _ (n'' : Sat) (t₁ : ℕ) where
-      pub looked_none : Passed layout n b.q (Ok None) n' → ((q : Reader) → Looks n'.0 q → n'' ≡ (concluding n'.0 (receipt q 0 [] t₁), n'.1)) → LookedAs bucket key least passes m lookends.None t₀ t₁ n''
+      pub looked_none : Passed layout n b.q (Ok None) n' → ((q : Reader) → Looks n'.0 q → n'' ≡ (concluding n'.0 (receipt q 0 [] t₁), n'.1)) → LookedAs bucket key least passes m ends.None t₀ t₁ n''
       looked_none t end = let e = from-start t.0 n.0.read.kept n.0.slot.holds t.5 in (
         t.0.stops,
         end t.0 (ap (λ (s : Sat). s.0.read.reader) t.5) ∙ (ap (λ (s : Sat). (concluding s.0 (receipt t.0 0 [] t₁), s.1)) e
@@ -121,7 +121,7 @@ module _ (layout : Layout) (bucket : ℕ) (key : Packet) (least passes t₀ : �
           at = t.4;
         }
 
-        pub looked_found : ((q : Reader) (h : Kept) (hs : List Kept) → Looks n'.0 q → n'.0.read.kept ≡ h ∷ hs → n'' ≡ (concluding n'.0 (receipt q 1 h.words t₁), n'.1)) → LookedAs bucket key least passes m (lookends.Found (record { slot = best.slot }) best.card) t₀ t₁ n''
+        pub looked_found : ((q : Reader) (h : Kept) (hs : List Kept) → Looks n'.0 q → n'.0.read.kept ≡ h ∷ hs → n'' ≡ (concluding n'.0 (receipt q 1 h.words t₁), n'.1)) → LookedAs bucket key least passes m (ends.Found (record { slot = best.slot }) best.card) t₀ t₁ n''
         looked_found end =
             let e = from-start t.0 (held best t.5.0 ∷ n.0.read.kept) (best.slot ∷ n.0.slot.holds) found-at in
             let s = joined t.0 t.3 in (
@@ -141,7 +141,7 @@ module _ (layout : Layout) (bucket : ℕ) (key : Packet) (least passes t₀ : �
     pub is_stopped : IsStopped n.0
     is_stopped = (b.q, ap (λ (s : Sat). s.0.read.reader) b.is, omega (arith, b.count, some-pass))
 
-    pub looked_again : (n'' : Sat) (t₁ : ℕ) → ((q : Reader) → Looks n.0 q → n'' ≡ (concluding n.0 (receipt q 2 [] t₁), n.1)) → LookedAs bucket key least passes m (lookends.Again bucket last) t₀ t₁ n''
+    pub looked_again : (n'' : Sat) (t₁ : ℕ) → ((q : Reader) → Looks n.0 q → n'' ≡ (concluding n.0 (receipt q 2 [] t₁), n.1)) → LookedAs bucket key least passes m (ends.Again bucket last) t₀ t₁ n''
     looked_again n'' t₁ end = let f = b.last-is some-pass in let s = b.same in
         let c : receipt b.q 2 [] t₁ ≡ record { bucket = bucket; key = key; least = least; from = t₀; to = t₁; kind = 2; card = []; stops = f.0 ++ stop_of last ∷ [] } = λ i. record { bucket = s.bucket i; key = s.key i; least = s.least i; from = s.since i; to = t₁; kind = 2; card = []; stops = f.1 i } in (
           refl,

@@ -13,8 +13,11 @@ use Rattle.table_rule.specs.declared.view.Kept.{Kept}
 use Rattle.table_rule.specs.declared.view.Stop.{Stop}
 use Rattle.table_rule.specs.declared.view.Reader.{Reader}
 use Rattle.null_reader.specs.declared.answers.Best.{Best}
+use Rattle.sock_card.specs.Words.{packed}
 use Rattle.null_reader.specs.declared.answers.LookEnd.{LookEnd}
-use Rattle.null_reader.specs.declared.answers.LookEnd.TheVariants as lookends
+use Rattle.null_reader.specs.declared.answers.LookEnd.TheVariants as answers
+use Rattle.null_reader.specs.declared.answers.WordsEnd.{WordsEnd}
+use Rattle.null_reader.specs.declared.answers.WordsEnd.TheVariants as ends
 use Rattle.table_rule.specs.declared.view.Receipt.{Receipt}
 use Rattle.null_reader.specs.declared.answers.Turn.{Turn}
 use Rattle.null_reader.specs.declared.answers.Turn.TheVariants as turns
@@ -139,14 +142,14 @@ pub record Between (m : Sat) (q₀ : Reader) (passes : ℕ) (last : PassEnd) (n 
 abbrev pub looked_view : View → ℕ → List Kept → List ℕ → Receipt → View
 looked_view v t₀ ks hs c = record v { slot = record v.slot { holds = hs }; read = record { kept = ks; reader = []; receipts = v.read.receipts ++ c ∷ [] }; seen = c.to; sights = settled v.sights t₀ }
 
-abbrev pub LookedAs : (bucket : ℕ) (key : Packet) (least passes : ℕ) → Sat → LookEnd → (t₀ t₁ : ℕ) → Sat → Type 0
+abbrev pub LookedAs : (bucket : ℕ) (key : Packet) (least passes : ℕ) → Sat → WordsEnd → (t₀ t₁ : ℕ) → Sat → Type 0
 -- the count on the slot is held, with the card's words, and its card is of rank least or more
-LookedAs bucket key least passes m (lookends.Found h card) t₀ t₁ n = (since : ℕ) × (stops : List Stop) × (t₀ ≤ since) × (least ≤ rank_of key (words_of card))
+LookedAs bucket key least passes m (ends.Found h card) t₀ t₁ n = (since : ℕ) × (stops : List Stop) × (t₀ ≤ since) × (least ≤ rank_of key (words_of card))
     × (n ≡ (looked_view m.0 t₀ (record { slot = h.slot; since = since; words = words_of card } ∷ m.0.read.kept) (h.slot ∷ m.0.slot.holds) (record { bucket = bucket; key = key; least = least; from = t₀; to = t₁; kind = 1; card = words_of card; stops = stops }), m.1))
-LookedAs bucket key least passes m lookends.None t₀ t₁ n = (stops : List Stop)
+LookedAs bucket key least passes m ends.None t₀ t₁ n = (stops : List Stop)
     × (n ≡ (looked_view m.0 t₀ m.0.read.kept m.0.slot.holds (record { bucket = bucket; key = key; least = least; from = t₀; to = t₁; kind = 0; card = []; stops = stops }), m.1))
 -- each of the passes stopped, the last of them so
-LookedAs bucket key least passes m (lookends.Again b stop) t₀ t₁ n = (b ≡ bucket) × ((front : List Stop) × (length front + 1 ≡ passes)
+LookedAs bucket key least passes m (ends.Again b stop) t₀ t₁ n = (b ≡ bucket) × ((front : List Stop) × (length front + 1 ≡ passes)
     × (n ≡ (looked_view m.0 t₀ m.0.read.kept m.0.slot.holds (record { bucket = bucket; key = key; least = least; from = t₀; to = t₁; kind = 2; card = []; stops = front ++ stop_of stop ∷ [] }), m.1)))
 
 -- the pass's changes are all there are, and none is open
@@ -154,13 +157,19 @@ abbrev pub IsWhole : View → Type 0
 IsWhole v = (v.slot.parts ≡ 16384) × (v.book.opened ≡ [])
 
 -- then the answer is the one of its own changes, and never that the passes stopped
-abbrev pub SoleAs : (bucket : ℕ) (key : Packet) (least : ℕ) → View → LookEnd → Type 0
-SoleAs bucket key least v (lookends.Found h card) = CardStands v (words_of card) × NoneStands v bucket key least (rank_of key (words_of card))
-SoleAs bucket key least v lookends.None = NoneStands v bucket key least 0
-SoleAs bucket key least v (lookends.Again b stop) = ⊥
+abbrev pub SoleAs : (bucket : ℕ) (key : Packet) (least : ℕ) → View → WordsEnd → Type 0
+SoleAs bucket key least v (ends.Found h card) = CardStands v (words_of card) × NoneStands v bucket key least (rank_of key (words_of card))
+SoleAs bucket key least v ends.None = NoneStands v bucket key least 0
+SoleAs bucket key least v (ends.Again b stop) = ⊥
 
 -- what was found is a card
-abbrev pub IsCardEnd : LookEnd → Type 0
-IsCardEnd (lookends.Found h card) = IsCardWords (words_of card)
-IsCardEnd lookends.None = Unit {0}
-IsCardEnd (lookends.Again b stop) = Unit {0}
+abbrev pub IsCardEnd : WordsEnd → Type 0
+IsCardEnd (ends.Found h card) = IsCardWords (words_of card)
+IsCardEnd ends.None = Unit {0}
+IsCardEnd (ends.Again b stop) = Unit {0}
+
+-- an answer with its card by its words
+abbrev pub words_end : LookEnd → WordsEnd
+words_end (answers.Found h card) = ends.Found h (packed card)
+words_end answers.None = ends.None
+words_end (answers.Again b stop) = ends.Again b stop

@@ -1,17 +1,26 @@
-// What a lookup tells as it goes, and what it answers.
-use sock_slots::Held;
-use sock_card::CardWords;
+//! What a lookup tells as it goes, and what it answers.
 
-/// A step of a lookup that is to come.
+use sock_card::{Card, CardWords};
+use sock_slots::Held;
+
+/// A step of a lookup that is to come, by the slot that it is on.
 #[derive(Clone, Copy)]
 pub enum Point {
+    /// The first load of the clock.
     Start,
+    /// The load of the bucket's head, as a pass begins.
     Head,
+    /// A load of one of the two card words that tell a rank.
     Key(u32),
+    /// The taking of a count.
     Take(u32),
+    /// A load of a card word under the count.
     Check(u32),
+    /// The load of the link to the next slot.
     Link(u32),
+    /// The giving back of a count.
     Put(u32),
+    /// The last load of the clock.
     End,
 }
 
@@ -20,16 +29,28 @@ pub trait Pace {
     fn step(&mut self, at: Point);
 }
 
+/// A pace that does nothing.
+#[derive(Clone, Copy)]
+pub struct Still;
+
+impl Pace for Still {
+    fn step(&mut self, _at: Point) {}
+}
+
 /// How a pass of a lookup ended without an answer.
 #[derive(Clone, Copy)]
 pub enum PassEnd {
+    /// At the end of this bucket's chain, into which the way had led.
     Foreign(u64),
+    /// At a slot that was no longer live when its count was taken.
     Dead(u32),
+    /// At a slot whose card was another once its count was taken.
     Changed(u32),
+    /// After so many links, more than there are slots.
     Long(u64),
 }
 
-/// The best slot that a pass of a lookup holds.
+// The best slot that a pass of a lookup holds.
 #[derive(Clone, Copy)]
 pub struct Best {
     pub slot: u32,
@@ -37,23 +58,39 @@ pub struct Best {
     pub rank: u8,
 }
 
-/// Where a turn of a pass leads.
+// Where a turn of a pass leads.
 #[derive(Clone, Copy)]
 pub enum Turn {
     Found(Best),
     On(Option<Best>, u64),
 }
 
-/// What a lookup found.
-pub enum LookEnd {
+// What a lookup found, the card by its words.
+pub enum WordsEnd {
     Found(Held, CardWords),
     None,
+    Again(u32, PassEnd),
+}
+
+pub struct WordsLook {
+    pub end: WordsEnd,
+    pub from: u64,
+    pub to: u64,
+}
+
+/// What a lookup found.
+pub enum LookEnd {
+    /// The best card, whose slot is held: the count must be put.
+    Found(Held, Card),
+    /// Nothing in the bucket matches.
+    None,
+    /// Each pass through this bucket ended without an answer, the last of them so.
     Again(u32, PassEnd),
 }
 
 /// A lookup's answer, and its first and last load of the clock.
 pub struct Look {
     pub end: LookEnd,
-    pub from: u64,
-    pub to: u64,
+    pub t0: u64,
+    pub t1: u64,
 }

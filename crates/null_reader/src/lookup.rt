@@ -8,16 +8,15 @@ ghost use Rattle.null_reader.specs.Looked.{so_far, HasTwo, IsVisiting, IsCheckin
 ghost use Rattle.table_rule.specs.Plays.{Sat, with_kept, letting_go, drop_at};
 ghost use Rattle.table_rule.specs.Words.{bucket_count};
 
-use super::answers::{Best, LookEnd, Pace, PassEnd, Point, Turn};
-use super::answers;
+use super::answers::{Best, Pace, PassEnd, Point, Turn, WordsEnd, WordsLook};
 use sock_slots::Held;
 use sock_card::{CardWords, Packet, word_rank};
 use table_rule::{Chains, First, Steps, Second};
 
 const LIVE: u64 = 3 << 62;
 
-/// How well the card that begins with these words fits a packet, from 0 to 5.
-pub fn rank(key: Packet, ends: u64, ports: u64) -> u8
+// How well the card that begins with these words fits a packet.
+fn rank(key: Packet, ends: u64, ports: u64) -> u8
     ensures { result ≡ rank key ends ports }
 {
     word_rank(&key, ends, ports)
@@ -206,8 +205,8 @@ fn one_pass<P: Pace>(chains: &Chains, steps: &mut Steps, bucket: u32, key: Packe
     unreachable!()
 }
 
-/// Looks up the best card of a bucket for a packet, in at most so many passes. It locks nothing.
-pub fn look<P: Pace>(chains: &Chains, steps: &mut Steps, bucket: u32, key: Packet, least: u8, passes: u32, pace: &mut P) -> answers::Look
+// Looks up the best card of a bucket for a packet, in at most so many passes; of a card it answers the words.
+pub(crate) fn look_words<P: Pace>(chains: &Chains, steps: &mut Steps, bucket: u32, key: Packet, least: u8, passes: u32, pace: &mut P) -> WordsLook
     requires table { IsOf chains.now steps.old }
     requires bucket { bucket < bucket_count (layout_of chains.now) }
     requires idle { (view steps.old).read.reader ≡ [] }
@@ -227,8 +226,8 @@ pub fn look<P: Pace>(chains: &Chains, steps: &mut Steps, bucket: u32, key: Packe
             Ok(Some(best)) => {
                 pace.step(Point::End);
                 let to = chains.step_clock_found(steps);
-                return answers::Look {
-                    end: LookEnd::Found(Held { slot: best.slot }, best.card),
+                return WordsLook {
+                    end: WordsEnd::Found(Held { slot: best.slot }, best.card),
                     from,
                     to,
                 };
@@ -236,8 +235,8 @@ pub fn look<P: Pace>(chains: &Chains, steps: &mut Steps, bucket: u32, key: Packe
             Ok(None) => {
                 pace.step(Point::End);
                 let to = chains.step_clock_none(steps);
-                return answers::Look {
-                    end: LookEnd::None,
+                return WordsLook {
+                    end: WordsEnd::None,
                     from,
                     to,
                 };
@@ -247,8 +246,8 @@ pub fn look<P: Pace>(chains: &Chains, steps: &mut Steps, bucket: u32, key: Packe
     }
     pace.step(Point::End);
     let to = chains.step_clock_again(steps);
-    answers::Look {
-        end: LookEnd::Again(bucket, last),
+    WordsLook {
+        end: WordsEnd::Again(bucket, last),
         from,
         to,
     }

@@ -2,11 +2,11 @@ use Rattle.std.proofs.Common.{rules, ◌≡◌, ◌≢◌, ◌+◌, ◌*◌, ◌
 use Rattle.null_reader.specs.Looked.{Passed, LookedAs, SoleAs}
 use Rattle.table_rule.specs.Beyond.{IsCardWords}
 use Rattle.table_rule.specs.Calls.{view, me, layout_of}
-use Rattle.null_reader.specs.declared.answers.LookEnd.TheVariants as lookends
+use Rattle.null_reader.specs.declared.answers.WordsEnd.TheVariants as ends
 use Rattle.null_reader.specs.declared.answers.Best.{Best}
 use Rattle.null_reader.specs.declared.answers.PassEnd.TheVariants.{Dead}
 use Rattle.null_reader.proofs.Looks.{between_none, looks_between, seen_between, is_none, looked_none, is_found, looked_found, card_found, passed_seen, sole_none, sole_found}
-use Rattle.null_reader.proofs.lookup.look.Goals as goal
+use Rattle.null_reader.proofs.lookup.look_words.Goals as goal
 use Rattle.table_rule.specs.Words.{words_of}
 
 pub loop-done-init : goal.loop-done-init
@@ -19,7 +19,7 @@ pub returns-in-Ok-Some-clause-fresh : goal.returns-in-Ok-Some-clause-fresh
 returns-in-Ok-Some-clause-fresh g c = (c.step_clock_start-from.ensures.seen, omega (arith, c.step_clock_found-to.ensures.seen, seen_between (layout_of c.args.chains.now) c.args.bucket c.args.key c.args.least c.args.passes c.step_clock_start-from.result (me c.args.steps.now) (me c.step_clock_start-from.new.steps) c.step_clock_start-from.ensures.view c.loop-done.done c.loop-done.last (me c.loop-done.steps) (me c.one_pass.new.steps) c.loop-done.invariant.between, passed_seen (layout_of c.args.chains.now) (me c.loop-done.steps) (me c.one_pass.new.steps) c.loop-done.invariant.between.q (Ok (Some c.in-Ok-Some.best)) (subst (λ (x : Option Best). Passed (layout_of c.args.chains.now) (me c.loop-done.steps) c.loop-done.invariant.between.q (Ok x) (me c.one_pass.new.steps)) c.in-Ok-Some.field-0-is (c.in-Ok-Some.ensures.passed c.loop-done.invariant.between.q (looks_between (layout_of c.args.chains.now) c.args.bucket c.args.key c.args.least c.args.passes c.step_clock_start-from.result (me c.args.steps.now) (me c.step_clock_start-from.new.steps) c.step_clock_start-from.ensures.view c.loop-done.done c.loop-done.last (me c.loop-done.steps) (me c.one_pass.new.steps) c.loop-done.invariant.between)))))
 
 pub returns-in-Ok-Some-clause-looked : goal.returns-in-Ok-Some-clause-looked
-returns-in-Ok-Some-clause-looked g c = subst (λ (x : Best). LookedAs c.args.bucket c.args.key c.args.least c.args.passes (me c.args.steps.now) (lookends.Found (record { slot = x.slot }) x.card) c.step_clock_start-from.result c.step_clock_found-to.result (me c.step_clock_found-to.new.steps)) (sym c.in-Ok-Some.best-is) (looked_found (layout_of c.args.chains.now) c.args.bucket c.args.key c.args.least c.args.passes c.step_clock_start-from.result (me c.args.steps.now) (me c.step_clock_start-from.new.steps) c.step_clock_start-from.ensures.view c.loop-done.done c.loop-done.last (me c.loop-done.steps) (me c.one_pass.new.steps) c.loop-done.invariant.between (me c.step_clock_found-to.new.steps) c.step_clock_found-to.result c.in-Ok-Some.best (subst (λ (x : Option Best). Passed (layout_of c.args.chains.now) (me c.loop-done.steps) c.loop-done.invariant.between.q (Ok x) (me c.one_pass.new.steps)) c.in-Ok-Some.field-0-is (c.in-Ok-Some.ensures.passed c.loop-done.invariant.between.q (looks_between (layout_of c.args.chains.now) c.args.bucket c.args.key c.args.least c.args.passes c.step_clock_start-from.result (me c.args.steps.now) (me c.step_clock_start-from.new.steps) c.step_clock_start-from.ensures.view c.loop-done.done c.loop-done.last (me c.loop-done.steps) (me c.one_pass.new.steps) c.loop-done.invariant.between))) c.step_clock_found-to.ensures.view)
+returns-in-Ok-Some-clause-looked g c = subst (λ (x : Best). LookedAs c.args.bucket c.args.key c.args.least c.args.passes (me c.args.steps.now) (ends.Found (record { slot = x.slot }) x.card) c.step_clock_start-from.result c.step_clock_found-to.result (me c.step_clock_found-to.new.steps)) (sym c.in-Ok-Some.best-is) (looked_found (layout_of c.args.chains.now) c.args.bucket c.args.key c.args.least c.args.passes c.step_clock_start-from.result (me c.args.steps.now) (me c.step_clock_start-from.new.steps) c.step_clock_start-from.ensures.view c.loop-done.done c.loop-done.last (me c.loop-done.steps) (me c.one_pass.new.steps) c.loop-done.invariant.between (me c.step_clock_found-to.new.steps) c.step_clock_found-to.result c.in-Ok-Some.best (subst (λ (x : Option Best). Passed (layout_of c.args.chains.now) (me c.loop-done.steps) c.loop-done.invariant.between.q (Ok x) (me c.one_pass.new.steps)) c.in-Ok-Some.field-0-is (c.in-Ok-Some.ensures.passed c.loop-done.invariant.between.q (looks_between (layout_of c.args.chains.now) c.args.bucket c.args.key c.args.least c.args.passes c.step_clock_start-from.result (me c.args.steps.now) (me c.step_clock_start-from.new.steps) c.step_clock_start-from.ensures.view c.loop-done.done c.loop-done.last (me c.loop-done.steps) (me c.one_pass.new.steps) c.loop-done.invariant.between))) c.step_clock_found-to.ensures.view)
 
 pub step_clock_none-to-requires-clause-none : goal.step_clock_none-to-requires-clause-none
 step_clock_none-to-requires-clause-none g c = is_none (layout_of c.args.chains.now) c.args.bucket c.args.key c.args.least c.args.passes c.step_clock_start-from.result (me c.args.steps.now) (me c.step_clock_start-from.new.steps) c.step_clock_start-from.ensures.view c.loop-done.done c.loop-done.last (me c.loop-done.steps) (me c.one_pass.new.steps) c.loop-done.invariant.between (subst (λ (x : Option Best). Passed (layout_of c.args.chains.now) (me c.loop-done.steps) c.loop-done.invariant.between.q (Ok x) (me c.one_pass.new.steps)) c.in-Ok-None.field-0-is (c.in-Ok-None.ensures.passed c.loop-done.invariant.between.q (looks_between (layout_of c.args.chains.now) c.args.bucket c.args.key c.args.least c.args.passes c.step_clock_start-from.result (me c.args.steps.now) (me c.step_clock_start-from.new.steps) c.step_clock_start-from.ensures.view c.loop-done.done c.loop-done.last (me c.loop-done.steps) (me c.one_pass.new.steps) c.loop-done.invariant.between)))
@@ -34,7 +34,7 @@ pub returns-in-Ok-None-clause-sole : goal.returns-in-Ok-None-clause-sole
 returns-in-Ok-None-clause-sole g c = λ whole. sole_none (layout_of c.args.chains.now) c.args.bucket c.args.key c.args.least c.args.passes c.step_clock_start-from.result (me c.args.steps.now) (me c.step_clock_start-from.new.steps) c.step_clock_start-from.ensures.view whole c.step_clock_start-from.ensures.before c.loop-done.done c.loop-done.last (me c.loop-done.steps) (me c.one_pass.new.steps) c.loop-done.invariant.between (subst (λ (x : Option Best). Passed (layout_of c.args.chains.now) (me c.loop-done.steps) c.loop-done.invariant.between.q (Ok x) (me c.one_pass.new.steps)) c.in-Ok-None.field-0-is (c.in-Ok-None.ensures.passed c.loop-done.invariant.between.q (looks_between (layout_of c.args.chains.now) c.args.bucket c.args.key c.args.least c.args.passes c.step_clock_start-from.result (me c.args.steps.now) (me c.step_clock_start-from.new.steps) c.step_clock_start-from.ensures.view c.loop-done.done c.loop-done.last (me c.loop-done.steps) (me c.one_pass.new.steps) c.loop-done.invariant.between))) c.step_clock_none-to.ensures.sole
 
 pub returns-in-Ok-Some-clause-sole : goal.returns-in-Ok-Some-clause-sole
-returns-in-Ok-Some-clause-sole g c = λ whole. subst (λ (x : Best). SoleAs c.args.bucket c.args.key c.args.least (view c.args.steps.now) (lookends.Found (record { slot = x.slot }) x.card)) (sym c.in-Ok-Some.best-is) (sole_found (layout_of c.args.chains.now) c.args.bucket c.args.key c.args.least c.args.passes c.step_clock_start-from.result (me c.args.steps.now) (me c.step_clock_start-from.new.steps) c.step_clock_start-from.ensures.view whole c.step_clock_start-from.ensures.before c.loop-done.done c.loop-done.last (me c.loop-done.steps) (me c.one_pass.new.steps) c.loop-done.invariant.between c.in-Ok-Some.best (subst (λ (x : Option Best). Passed (layout_of c.args.chains.now) (me c.loop-done.steps) c.loop-done.invariant.between.q (Ok x) (me c.one_pass.new.steps)) c.in-Ok-Some.field-0-is (c.in-Ok-Some.ensures.passed c.loop-done.invariant.between.q (looks_between (layout_of c.args.chains.now) c.args.bucket c.args.key c.args.least c.args.passes c.step_clock_start-from.result (me c.args.steps.now) (me c.step_clock_start-from.new.steps) c.step_clock_start-from.ensures.view c.loop-done.done c.loop-done.last (me c.loop-done.steps) (me c.one_pass.new.steps) c.loop-done.invariant.between))) c.step_clock_found-to.ensures.sole)
+returns-in-Ok-Some-clause-sole g c = λ whole. subst (λ (x : Best). SoleAs c.args.bucket c.args.key c.args.least (view c.args.steps.now) (ends.Found (record { slot = x.slot }) x.card)) (sym c.in-Ok-Some.best-is) (sole_found (layout_of c.args.chains.now) c.args.bucket c.args.key c.args.least c.args.passes c.step_clock_start-from.result (me c.args.steps.now) (me c.step_clock_start-from.new.steps) c.step_clock_start-from.ensures.view whole c.step_clock_start-from.ensures.before c.loop-done.done c.loop-done.last (me c.loop-done.steps) (me c.one_pass.new.steps) c.loop-done.invariant.between c.in-Ok-Some.best (subst (λ (x : Option Best). Passed (layout_of c.args.chains.now) (me c.loop-done.steps) c.loop-done.invariant.between.q (Ok x) (me c.one_pass.new.steps)) c.in-Ok-Some.field-0-is (c.in-Ok-Some.ensures.passed c.loop-done.invariant.between.q (looks_between (layout_of c.args.chains.now) c.args.bucket c.args.key c.args.least c.args.passes c.step_clock_start-from.result (me c.args.steps.now) (me c.step_clock_start-from.new.steps) c.step_clock_start-from.ensures.view c.loop-done.done c.loop-done.last (me c.loop-done.steps) (me c.one_pass.new.steps) c.loop-done.invariant.between))) c.step_clock_found-to.ensures.sole)
 
 pub returns-in-Ok-Some-clause-card : goal.returns-in-Ok-Some-clause-card
 returns-in-Ok-Some-clause-card g c = subst (λ (x : Best). IsCardWords (words_of x.card)) (sym c.in-Ok-Some.best-is) (card_found (layout_of c.args.chains.now) c.args.bucket c.args.key c.args.least c.args.passes c.step_clock_start-from.result (me c.args.steps.now) (me c.step_clock_start-from.new.steps) c.step_clock_start-from.ensures.view c.loop-done.done c.loop-done.last (me c.loop-done.steps) (me c.one_pass.new.steps) c.loop-done.invariant.between c.in-Ok-Some.best (subst (λ (x : Option Best). Passed (layout_of c.args.chains.now) (me c.loop-done.steps) c.loop-done.invariant.between.q (Ok x) (me c.one_pass.new.steps)) c.in-Ok-Some.field-0-is (c.in-Ok-Some.ensures.passed c.loop-done.invariant.between.q (looks_between (layout_of c.args.chains.now) c.args.bucket c.args.key c.args.least c.args.passes c.step_clock_start-from.result (me c.args.steps.now) (me c.step_clock_start-from.new.steps) c.step_clock_start-from.ensures.view c.loop-done.done c.loop-done.last (me c.loop-done.steps) (me c.one_pass.new.steps) c.loop-done.invariant.between))) c.step_clock_found-to.ensures.card)

@@ -2,7 +2,7 @@ use Rattle.std.proofs.Common.{◌≡◌, ◌+◌, ◌≤◌, ◌<◌, ℕ}
 use Rattle.table_rule.specs.Calls.{IsOf, me}
 use Rattle.null_reader.specs.Looked.{Between}
 use Rattle.null_reader.proofs.Looks.{begun}
-use Rattle.null_reader.proofs.lookup.look.Given as goal
+use Rattle.null_reader.proofs.lookup.look_words.Given as goal
 
 abbrev pub invariant-loop-done : goal.invariant-loop-done
 invariant-loop-done g l = record {
