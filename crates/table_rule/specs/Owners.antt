@@ -1,8 +1,7 @@
 -- Who unhashes what: a card that is no TIME_WAIT's is unhashed by the pass that hashed it, and by no other.
-use Rattle.std.specs.Prelude.{◌≡◌, ℕ, ◌<◌, ◌≤◌, ◌%◌, ◌⊎◌, List, [], ◌∷◌, cond, ◌==◌, slice_index}
+use Rattle.std.specs.Prelude.{◌≡◌, ℕ, ◌<◌, ◌%◌, ◌⊎◌, List, cond, ◌==◌, slice_index}
 use mathlib.Core.Option.{some}
 use lib.ListN.{get_elem?}
-use Rattle.table_rule.specs.Lists.{Each, stands}
 use Rattle.table_rule.specs.Book.{open-end, Part, Life, hash_of, unhash_of}
 use Rattle.table_rule.specs.declared.view.Change.{Change}
 use Rattle.table_rule.specs.declared.view.BookView.{BookView}
