@@ -2,10 +2,10 @@ ghost use Rattle.std.specs.Prelude.{◌≡◌, ◌<◌, List, ◌∷◌, IfOk, O
 ghost use Rattle.table_rule.specs.declared.view.Kept.{Kept};
 ghost use Rattle.table_rule.specs.ReadersOk.{keeps_at};
 ghost use Rattle.table_rule.specs.Beyond.{IsCardWords};
-ghost use Rattle.table_rule.specs.Calls.{IsOf, view, Becomes, Stays, layout_of};
+ghost use Rattle.table_rule.specs.Calls.{IsOf, view, Becomes, layout_of};
 ghost use Rattle.table_rule.specs.LookCalls.{HasRoom, IsTaken, place_of};
 ghost use Rattle.table_rule.specs.LookCalls.{with_words};
-ghost use Rattle.table_rule.specs.Plays.{taking, with_kept, letting_go, drop_at};
+ghost use Rattle.table_rule.specs.Plays.{taking, trying, with_kept, letting_go, drop_at};
 ghost use Rattle.table_rule.specs.Words.{words_of};
 ghost use Rattle.sock_card.specs.Words.{packed};
 
@@ -33,7 +33,7 @@ pub fn take(chains: &Chains, steps: &mut Steps, slot: u32) -> Result<Held, Dead>
     requires room { HasRoom (view steps.old) }
     ensures table { IsOf chains.now steps.new }
     ensures ok { IfOk result (λ h. (h.slot ≡ slot) × (Becomes steps.old steps.new (taking (view steps.old) slot))) }
-    ensures dead { OnErr result (Stays steps.old steps.new) }
+    ensures dead { OnErr result (Becomes steps.old steps.new (trying (view steps.old))) }
 {
     if chains.step_take(steps, slot) < LIVE {
         chains.step_put_dead(steps, slot);

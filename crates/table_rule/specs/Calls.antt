@@ -9,6 +9,8 @@ use Rattle.table_rule.specs.Lists.{slots_of}
 use Rattle.table_rule.specs.Words.{words_of}
 use Rattle.table_rule.specs.ChainsOk.{first_link}
 use Rattle.table_rule.specs.Book.{marks}
+use Rattle.table_rule.specs.Owners.{time_waits, HasPlace}
+use Rattle.table_rule.specs.Plays.{card_in}
 use Rattle.table_rule.specs.Rule.{book_part}
 use Rattle.table_rule.specs.declared.view.Change.{Change}
 use Rattle.table_rule.specs.declared.view.View.{View}
@@ -66,6 +68,10 @@ IsHashOf slot v = (c : Change) × (v.book.opened ≡ c ∷ []) × (c.kind ≡ 1)
 
 abbrev pub IsUnhashOf : ℕ → View → Type 0
 IsUnhashOf slot v = (c : Change) × (v.book.opened ≡ c ∷ []) × (c.kind ≡ 0) × (c.slot ≡ slot)
+
+-- the slot's card in the list is a TIME_WAIT's, or the slot is a place of the pass
+abbrev pub MayUnhash : ℕ → View → Type 0
+MayUnhash slot v = (time_waits (card_in slot v.chain.walked) ≡ 1) ⊎ HasPlace slot v.book
 
 -- the pass may draw one number more
 abbrev pub HasShare : View → Type 0

@@ -6,7 +6,7 @@ ghost use Rattle.table_rule.specs.declared.view.Kept.{Kept};
 ghost use Rattle.table_rule.specs.declared.view.Seen.{Seen};
 ghost use Rattle.table_rule.specs.Lists.{times};
 ghost use Rattle.table_rule.specs.ReadersOk.{keeps_at, rank_of};
-ghost use Rattle.table_rule.specs.Alone.{IsAlone, NoneStands, CardStands};
+ghost use Rattle.table_rule.specs.Alone.{IsAlone, NoneStands, CardStands, NoneKnown};
 ghost use Rattle.table_rule.specs.declared.view.Change.{Change};
 ghost use mathlib.Core.Option.{some};
 ghost use lib.ListN.{get_elem?};
@@ -197,6 +197,7 @@ impl Chains {
         ensures seen { (view steps.old).seen ≤ result }
         ensures view { (q : Reader) → Looks (view steps.old) q → Becomes steps.old steps.new (concluding (view steps.old) (receipt q 0 [] result)) }
         ensures sole { (q : Reader) → Looks (view steps.old) q → IsAlone (view steps.old) q.since → NoneStands (view steps.old) q.bucket q.key q.least 0 }
+        ensures known { (q : Reader) → Looks (view steps.old) q → NoneKnown (view steps.old) q.bucket q.key q.least 0 q.since }
     {
         self.table.shared.load::<EndNone>(&mut steps.seat, 0)
     }
@@ -210,6 +211,7 @@ impl Chains {
         ensures view { (q : Reader) (h : Kept) (hs : List Kept) → Looks (view steps.old) q → (view steps.old).read.kept ≡ h ∷ hs → Becomes steps.old steps.new (concluding (view steps.old) (receipt q 1 h.words result)) }
         ensures sole { (q : Reader) (h : Kept) (hs : List Kept) → Looks (view steps.old) q → (view steps.old).read.kept ≡ h ∷ hs → IsAlone (view steps.old) q.since → CardStands (view steps.old) h.words × NoneStands (view steps.old) q.bucket q.key q.least (rank_of q.key h.words) }
         ensures card { (q : Reader) (h : Kept) (hs : List Kept) → Looks (view steps.old) q → (view steps.old).read.kept ≡ h ∷ hs → IsCardWords h.words }
+        ensures known { (q : Reader) (h : Kept) (hs : List Kept) → Looks (view steps.old) q → (view steps.old).read.kept ≡ h ∷ hs → NoneKnown (view steps.old) q.bucket q.key q.least (rank_of q.key h.words) q.since }
     {
         self.table.shared.load::<EndFound>(&mut steps.seat, 0)
     }

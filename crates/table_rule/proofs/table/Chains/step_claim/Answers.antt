@@ -19,7 +19,7 @@ pub returns-clause-claimed : goal.returns-clause-claimed
 returns-clause-claimed c = λ z. c.compare_exchange.ensures.2.0 z c.args.slot (word_is _ _ _ 0 _ c.requires.table.1 c.word_at-word.ensures.is)
 
 pub returns-clause-held : goal.returns-clause-held
-returns-clause-held c = c.compare_exchange.ensures.2.1
+returns-clause-held c = λ ne lt. c.compare_exchange.ensures.2.1 ne lt c.args.slot (word_is _ _ _ 0 _ c.requires.table.1 c.word_at-word.ensures.is)
 
 pub returns-clause-owned : goal.returns-clause-owned
 returns-clause-owned c = λ z. c.compare_exchange.ensures.2.2 z c.args.slot (word_is _ _ _ 0 _ c.requires.table.1 c.word_at-word.ensures.is)

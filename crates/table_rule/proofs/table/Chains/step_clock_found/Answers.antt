@@ -21,3 +21,6 @@ returns-clause-sole c = λ q h hs e f. (c.load.ensures.2.1 q h hs e f).1
 
 pub returns-clause-card : goal.returns-clause-card
 returns-clause-card c = λ q h hs e f. (c.load.ensures.2.1 q h hs e f).2
+
+pub returns-clause-known : goal.returns-clause-known
+returns-clause-known c = λ q h hs e f. (c.load.ensures.2.1 q h hs e f).3

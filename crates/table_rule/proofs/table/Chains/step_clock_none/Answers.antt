@@ -18,3 +18,6 @@ returns-clause-view c = λ q e. (c.load.ensures.2.1 q e).0
 
 pub returns-clause-sole : goal.returns-clause-sole
 returns-clause-sole c = λ q e. (c.load.ensures.2.1 q e).1
+
+pub returns-clause-known : goal.returns-clause-known
+returns-clause-known c = λ q e. (c.load.ensures.2.1 q e).2

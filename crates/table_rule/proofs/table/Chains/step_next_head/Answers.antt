@@ -22,3 +22,6 @@ returns-clause-known c = c.load.ensures.2.2
 
 pub returns-clause-fits : goal.returns-clause-fits
 returns-clause-fits c = subst (λ (g : Rattle.table_rule.specs.declared.view.Layout.Layout). Rattle.table_rule.specs.Plays.Fits g c.load.new.seat.me.0) c.requires.table.1 c.load.ensures.2.3
+
+pub returns-clause-places : goal.returns-clause-places
+returns-clause-places c = c.load.ensures.2.4
