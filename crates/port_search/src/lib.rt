@@ -21,6 +21,7 @@
 pub mod laws;
 pub mod ports;
 pub mod search;
+pub mod turning;
 #[cfg(test)]
 mod tests;
 

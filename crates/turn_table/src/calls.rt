@@ -88,6 +88,15 @@ impl<V: Journaled> Turns<V> {
 }
 
 impl<V: Journaled> TurnPass<V> {
+    /// Its number as a caller, which its entries carry.
+    pub fn caller(&self, turns: &Turns<V>) -> u32
+        requires { IsPassOf turns.now self.now }
+        ensures { result ≡ words.caller self.now }
+    {
+        let _places = turns.count;
+        self.caller
+    }
+
     /// How many numbers were drawn. Those that this pass drew or found are below it. It takes no memory.
     pub fn now(&mut self, turns: &Turns<V>) -> u64
         requires { IsPassOf turns.now self.old }
@@ -110,8 +119,12 @@ impl<V: Journaled> TurnPass<V> {
         ensures old { known self.new ≡ cut (known self.old) }
         ensures new { known result ≡ newcomer (words.about self.old) (words.splits self.old + 1) (words.seen self.old) }
     {
+        let seat = turns.table.shared.split_seat::<Cut>(&mut self.seat);
+        self.splits += 1;
         TurnPass {
-            seat: turns.table.shared.split_seat::<Cut>(&mut self.seat),
+            seat,
+            caller: self.splits,
+            splits: 0,
         }
     }
 
@@ -125,6 +138,8 @@ impl<V: Journaled> TurnPass<V> {
     {
         TurnPass {
             seat: turns.table.shared.split_seat::<Tell>(&mut self.seat),
+            caller: 0,
+            splits: 0,
         }
     }
 
@@ -137,7 +152,7 @@ impl<V: Journaled> TurnPass<V> {
         ensures hand { words.hand self.new ≡ words.hand self.old }
         ensures view { known self.new ≡ joined (known self.old) (known other) }
     {
-        let TurnPass { seat } = other;
+        let TurnPass { seat, .. } = other;
         turns.table.shared.join_seat::<Both>(&mut self.seat, seat);
     }
 }
