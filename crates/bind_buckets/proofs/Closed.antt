@@ -13,10 +13,7 @@ use Rattle.bind_buckets.specs.Notes.{Note}
 use Rattle.bind_buckets.specs.Callers.{MayMake, IsMadeFor}
 use Rattle.bind_buckets.specs.Journal.{IsLegal, replayed}
 use Rattle.bind_buckets.specs.Bucket.{Bucket, IsSound, entries_of}
-use Rattle.bind_buckets.specs.Closed.{notes_in, count_in, IsLeft, AreLeft}
-
-abbrev FitsAt : Sharing → ℕ → ℕ → Box Bucket → Type 0
-FitsAt home i n b = Fits notes_in (λ (x : Box Bucket). IsSound x.value) (λ home i n (x : Box Bucket). IsMadeFor home i n x.value) MayMake home i n b
+use Rattle.bind_buckets.specs.Closed.{FitsAt, notes_in, count_in, IsLeft, AreLeft}
 
 one_left : (home : Sharing) (i n : ℕ) (b : Box Bucket) → FitsAt home i n b → IsLeft i n b.value
 one_left home i n b fits = record {

@@ -32,3 +32,4 @@ pub mod TurnSteps
 pub mod HashSteps
 pub mod OwnTold
 pub mod Closed
+mod Opened

@@ -43,6 +43,8 @@ mod tally;
 pub mod turning;
 #[cfg(test)]
 mod tests;
+#[cfg(test)]
+mod turn_tests;
 
 pub use bucket::Bucket;
 pub use request::{Answer, Entry, InUse, ListenEnd, Mark, NotFree, Request, Sharing, Strange};

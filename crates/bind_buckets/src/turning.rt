@@ -1,11 +1,16 @@
 //! Buckets that threads share, each asked in its turn.
+//!
+//! An operation has one bucket in its hand: [`take`] waits for the turn of a port's bucket, the calls
+//! named as those of [`Bucket`] ask it, each with a number of its own, and [`give`] gives it back. What
+//! the turn moves is a box. [`with_buckets`] makes the table; [`into_buckets`] ends it.
 
-ghost use Rattle.std.specs.Prelude.{◌≡◌, ◌+◌, ◌%◌, ◌^◌, ◌<◌, ◌≤◌, ◌++◌, ◌∷◌, [], true, length, map, find, None, OnOk, OnErr, IfOk};
+ghost use Rattle.std.specs.Prelude.{◌≡◌, ◌+◌, ◌%◌, ◌^◌, ◌-◌, ◌<◌, ◌≤◌, ◌++◌, ◌∷◌, [], true, length, map, find, None, OnOk, OnErr, IfOk};
 ghost use Rattle.turn_table.specs.Passes as words;
 ghost use Rattle.turn_table.specs.Passes.{known, IsPassOf, IsFree};
 ghost use Rattle.turn_table.specs.Ends.{HoldsWhatWasGiven, IsInTheOrderOfEach, NumbersAll, AllAscend};
 ghost use Rattle.list_words.specs.Lists.{total};
-ghost use Rattle.bind_buckets.specs.Closed.{AreLeft, notes_in, count_in};
+ghost use Rattle.bind_buckets.specs.Closed.{AreNew, AreLeft, notes_in, count_in};
+ghost use Rattle.turn_table.specs.Views.{first, cut, newcomer};
 ghost use Rattle.turn_table.specs.Journals.{placed};
 ghost use Rattle.bind_buckets.specs.Bucket as spec;
 ghost use Rattle.bind_buckets.specs.Bucket.{called, answer_to, entries_of, IsAllowed, HasRoom, CanConnect, CanListen, NamesOne};
@@ -15,11 +20,68 @@ ghost use Rattle.bind_buckets.specs.OwnerStep.{has_name};
 ghost use Rattle.bind_buckets.specs.Answers.{answer_of_bind, answer_of_free, answer_of_name, answer_of_listen, KnowsOrSays, TakesIfOk, TakesIfErr};
 
 use crate::bucket::{Bucket, bind_result, free_result, listen_result, name_result};
-use crate::request::{Answer, InUse, ListenEnd, NotFree, Request, Strange};
+use crate::request::{Answer, InUse, ListenEnd, NotFree, Request, Sharing, Strange};
 use sock_card::{Owner, State};
 use std::alloc::{AllocError, Global};
 use std::sync::Wait;
 use turn_table::{Turn, TurnPass, Turns};
+
+/// Empty buckets in boxes, of each number below the count.
+fn empty_buckets(alloc: Global, count: u32) -> Result<Vec<Box<Bucket>>, AllocError>
+    requires { count ≤ 256 }
+    ensures long { IfOk result (λ v. length v.items ≡ count) }
+    ensures new { IfOk result (λ v. (sharing : _) → AreNew sharing 0 count v.items) }
+{
+    let mut buckets = Vec::new(alloc);
+    for number in 0..count {
+        buckets.push(Box::new(alloc, Bucket::new(alloc, number, count))?)?;
+    }
+    Ok(buckets)
+}
+
+/// So many empty buckets under turns, 256 at most, and the first pass of them.
+///
+/// Buckets that are `Alone` are for the first pass alone, which runs all scripts; those that are
+/// `Shared` for the passes that [`split`] gives, the k-th of which runs script k.
+///
+/// # Errors
+///
+/// Memory ran out.
+pub fn with_buckets(
+    alloc: Global,
+    count: u32,
+    sharing: Sharing,
+) -> Result<(Turns<Box<Bucket>>, TurnPass<Box<Bucket>>), AllocError>
+    requires some { 1 ≤ count }
+    requires most { count ≤ 256 }
+    ensures places { IfOk result (λ t. words.places t.0 ≡ count) }
+    ensures home { IfOk result (λ t. words.home t.0 ≡ sharing) }
+    ensures pass { IfOk result (λ t. IsPassOf t.0 t.1 × IsFree t.1 × (known t.1 ≡ first sharing)) }
+    ensures alone { IfOk result (λ t. sharing ≡ Sharing.Alone → IsIdle t.0 t.1) }
+{
+    let buckets = empty_buckets(alloc, count)?;
+    let (turns, pass) = Turns::with_home(alloc, buckets, &sharing)?;
+    Ok((turns, pass))
+}
+
+/// Splits a pass off the first one of shared buckets, as the next caller. It takes no memory.
+pub fn split(
+    turns: &Turns<Box<Bucket>>,
+    pass: &mut TurnPass<Box<Bucket>>,
+) -> TurnPass<Box<Bucket>>
+    requires table { IsPassOf turns.now pass.old }
+    requires first { (words.caller pass.old ≡ 0) × (0 < words.parts pass.old) }
+    requires few { words.splits pass.old < 2 ^ 14 - 2 }
+    requires some { 1 ≤ words.places turns.now }
+    requires shared { words.home turns.now ≡ Sharing.Shared }
+    ensures table { IsPassOf turns.now pass.new }
+    ensures hand { words.hand pass.new ≡ words.hand pass.old }
+    ensures old { known pass.new ≡ cut (known pass.old) }
+    ensures new { known result ≡ newcomer (words.about pass.old) (words.splits pass.old + 1) (words.seen pass.old) }
+    ensures idle { IsIdle turns.now result }
+{
+    pass.split(turns)
+}
 
 /// Waits for the turn of a port's bucket.
 pub fn take<R: Wait>(

@@ -93,8 +93,8 @@ module _ {F T : Type 0} (step : F → ℕ → Attempt T → F → Type 0) (count
       )
   come_alone given a port replaced es lawful come = absurd come
 
-  module _ (ports : List ℕ) (v w : View) (first : F) (alone : IsAlone v) (knows : KnowsAll count w) where
-    pub makes_alone : (a : Owner) (port : ℕ) (value : T) → MakesAt step count a ports v w first port value → ConnectsAt step (hash_of count v.mine) (hash_of count w.mine) first a ports port value
+  module _ (ports : List ℕ) (v w : View) (first last : F) (alone : IsAlone v) (knows : KnowsAll count w) where
+    pub makes_alone : (a : Owner) (port : ℕ) (value : T) → MakesAt step count a ports v w first port value last → ConnectsAt step (hash_of count v.mine) (hash_of count w.mine) first a ports port value
     makes_alone a port value m =
         let to = m.comes in
         let whole : AreLawful count ((v.mine ++ to.passed) ++ m.entries) =
@@ -111,7 +111,7 @@ module _ {F T : Type 0} (step : F → ℕ → Attempt T → F → Type 0) (count
             split = to.split;
             free = ap (λ k. is_free k port) (sym (freed_kept (hash_of count v.mine) to.before) ∙ ap helds passed.0) ∙ come.0;
             asked = to.asked;
-            last = to.last;
+            last = last;
             refused = passed.1;
             answered = to.answered;
           };
@@ -120,8 +120,8 @@ module _ {F T : Type 0} (step : F → ℕ → Attempt T → F → Type 0) (count
               ∙ ap (λ k. connected_at k a port m.replaced) (sym (freed_append (hash_of count v.mine) to.before (port ∷ [])));
         }
 
-    pub makes_none_alone : MakesNone step count ports v w first → ConnectsNowhere step (hash_of count v.mine) (hash_of count w.mine) first ports
+    pub makes_none_alone : MakesNone step count ports v w first last → ConnectsNowhere step (hash_of count v.mine) (hash_of count w.mine) first ports
     makes_none_alone m =
         let whole : AreLawful count (v.mine ++ m.passed) = subst (AreLawful count) m.gave.mine (knows (still_alone v w m.passed m.gave alone)) in
-        let passed = passed_alone v.mine ports m.passed first m.last whole m.all in
-        record { last = m.last; refused = passed.1; left = ap (hash_of count) m.gave.mine ∙ sym passed.0 }
+        let passed = passed_alone v.mine ports m.passed first last whole m.all in
+        record { last = last; refused = passed.1; left = ap (hash_of count) m.gave.mine ∙ sym passed.0 }

@@ -1,6 +1,7 @@
 -- How a search of `connect` through shared buckets goes on, and what it comes to where nobody shares them.
-use Rattle.std.proofs.Common.{◌≡◌, ℕ, ◌+◌, ◌%◌, ◌≤◌, ◌⊎◌, inl, inr, Bool, true, false, cond, List, [], ◌∷◌, ◌++◌, length, map, filter, Option, Some, None, Result, Ok, Err, refl, sym, ap, subst, ◌∙◌, arith, append_assoc, append-nil, length-append}
+use Rattle.std.proofs.Common.{◌≡◌, ℕ, ◌+◌, ◌%◌, ◌^◌, ◌<◌, ◌≤◌, ◌⊎◌, inl, inr, Bool, true, false, cond, List, [], ◌∷◌, ◌++◌, length, map, filter, Option, Some, None, Result, Ok, Err, refl, sym, ap, subst, ◌∙◌, arith, append_assoc, append-nil, length-append}
 use Rattle.std.specs.List.{FoldsTo}
+use denote.Ref.{MutBor}
 use Rattle.sock_card.specs.declared.owner.Owner.{Owner}
 use Rattle.turn_table.specs.declared.note.Placed.{Placed}
 use Rattle.turn_table.specs.Journals.{placed}
@@ -20,7 +21,7 @@ use Rattle.bind_buckets.proofs.HashSteps.{answered_by, asked_by, lawful_front}
 use Rattle.port_search.specs.declared.search.Attempt.{Attempt}
 use Rattle.port_search.specs.declared.search.Attempt.TheVariants as attempts
 use Rattle.port_search.specs.Search.{is_done, helds, is_free, SaysTaken, AllRefused, EndsAt, freed, connected_at, ConnectsAt, ConnectsNowhere, chosen_at, without_replaced}
-use Rattle.port_search.specs.TurnedConnect.{IsFree, IsHeld, IsTakenThere, IsPassed, AllPassed, ComesTo, IsCome, CameAt, MakesAt, MakesNone, MakesNotYet, IsLeftOff, FindsFull, ClosedAt}
+use Rattle.port_search.specs.TurnedConnect.{Tries, MayTry, IsFree, IsHeld, IsTakenThere, IsPassed, AllPassed, ComesTo, IsCome, CameAt, MakesAt, MakesNone, MakesNotYet, IsLeftOff, FindsFull, ClosedAt}
 use Rattle.port_search.proofs.Standings.{free_said, free_kept, freed_kept, freed_append}
 use Rattle.port_search.proofs.TurnSearch.{gave_none, gave_both, still_alone}
 
@@ -58,65 +59,64 @@ module _ (count port : ℕ) (a : Owner) (v w : View) (at : ℕ) (ms : List Note)
       record { entries = t.0 ∷ t.1 ∷ t.2 ∷ []; come = (record { place_is = t.3; entry = t.4 }, record { place_is = t.5; entry = t.6 }, answer, record { place_is = t.7; entry = t.8 }); gave = t.9 }
 
 -- all ports before those that are left were passed over
-pub record ConnectSearching {F T : Type 0} (step : F → ℕ → Attempt T → F → Type 0) (count : ℕ) (v w : View) (first state : F) (ports rest : List ℕ) : Type 0 where
+pub record ConnectSearching {C T : Type 0} (step : C → ℕ → Attempt T → C → Type 0) (count : ℕ) (v w : View) (old state : C) (ports rest : List ℕ) : Type 0 where
   pub before : List ℕ
   pub split : ports ≡ before ++ rest
   pub passed : List (Placed Entry)
-  pub all : AllPassed step count before passed first state
+  pub all : AllPassed step count before passed old state
   pub gave : Gave v w passed
 
-module _ {F T : Type 0} (step : F → ℕ → Attempt T → F → Type 0) (count : ℕ) where
-  pub connect_begins : (v : View) (first : F) (ports rest : List ℕ) → rest ≡ ports → ConnectSearching step count v v first first ports rest
-  connect_begins v first ports rest all = record { before = []; split = sym all; passed = []; all = refl; gave = gave_none v }
+module _ {C T : Type 0} (step : C → ℕ → Attempt T → C → Type 0) (count : ℕ) where
+  pub connect_begins : (v : View) (old : C) (ports rest : List ℕ) → rest ≡ ports → ConnectSearching step count v v old old ports rest
+  connect_begins v old ports rest all = record { before = []; split = sym all; passed = []; all = refl; gave = gave_none v }
 
-  pass_more : (ports : List ℕ) (xs : List (Placed Entry)) (port : ℕ) (x : Placed Entry) (f g h : F) → AllPassed step count ports xs f g → IsPassed step count port x g h → AllPassed step count (ports ++ port ∷ []) (xs ++ x ∷ []) f h
+  pass_more : (ports : List ℕ) (xs : List (Placed Entry)) (port : ℕ) (x : Placed Entry) (f g h : C) → AllPassed step count ports xs f g → IsPassed step count port x g h → AllPassed step count (ports ++ port ∷ []) (xs ++ x ∷ []) f h
   pass_more [] [] port x f g h all one = (h, subst (λ k. IsPassed step count port x k h) (sym all) one, refl)
   pass_more [] (y ∷ ys) port x f g h all one = absurd all
   pass_more (p ∷ ports) [] port x f g h all one = absurd all
   pass_more (p ∷ ports) (y ∷ ys) port x f g h all one = (all.0, all.1, pass_more ports ys port x all.0 g h all.2 one)
 
-  module _ (v w : View) (first state : F) (ports rest : List ℕ) (s : ConnectSearching step count v w first state ports rest) where
-    pub passed_on : (u : View) (next : F) (port : ℕ) (left : List ℕ) (x : Placed Entry) → rest ≡ port ∷ left → IsPassed step count port x state next → Gave w u (x ∷ []) → ConnectSearching step count v u first next ports left
+  module _ (v w : View) (old state : C) (ports rest : List ℕ) (s : ConnectSearching step count v w old state ports rest) where
+    pub passed_on : (u : View) (next : C) (port : ℕ) (left : List ℕ) (x : Placed Entry) → rest ≡ port ∷ left → IsPassed step count port x state next → Gave w u (x ∷ []) → ConnectSearching step count v u old next ports left
     passed_on u next port left x here one gave = record {
       before = s.before ++ port ∷ [];
       split = s.split ∙ ap (λ xs. s.before ++ xs) here ∙ sym (append_assoc s.before (port ∷ []) left);
       passed = s.passed ++ x ∷ [];
-      all = pass_more s.before s.passed port x first state next s.all one;
+      all = pass_more s.before s.passed port x old state next s.all one;
       gave = gave_both v w u s.passed (x ∷ []) s.gave gave;
     }
 
-    abbrev pub comes_to : (port : ℕ) (left : List ℕ) (answer : Attempt T) (last : F) → rest ≡ port ∷ left → step state port answer last → ComesTo step count ports first port answer
-    comes_to port left answer last here answered = record {
+    abbrev pub comes_to : (port : ℕ) (left : List ℕ) (answer : Attempt T) (new : C) → rest ≡ port ∷ left → step state port answer new → ComesTo step count ports old port answer new
+    comes_to port left answer new here answered = record {
       before = s.before;
       after = left;
       split = s.split ∙ ap (λ xs. s.before ++ xs) here;
       passed = s.passed;
       asked = state;
-      last = last;
       all = s.all;
       answered = answered;
     }
 
-    pub makes : (a : Owner) (u : View) (port : ℕ) (left : List ℕ) (value : T) (replaced : Option ℕ) (last : F) → rest ≡ port ∷ left → step state port (attempts.Done value replaced) last → CameAt count a port replaced w u → MakesAt step count a ports v u first port value
-    makes a u port left value replaced last here answered came = record {
+    pub makes : (a : Owner) (u : View) (port : ℕ) (left : List ℕ) (value : T) (replaced : Option ℕ) (new : C) → rest ≡ port ∷ left → step state port (attempts.Done value replaced) new → CameAt count a port replaced w u → MakesAt step count a ports v u old port value new
+    makes a u port left value replaced new here answered came = record {
       replaced = replaced;
-      comes = comes_to port left (attempts.Done value replaced) last here answered;
+      comes = comes_to port left (attempts.Done value replaced) new here answered;
       entries = came.entries;
       come = came.come;
       gave = gave_both v w u s.passed came.entries s.gave came.gave;
     }
 
-    pub finds_full : (u : View) (port : ℕ) (left : List ℕ) (owned held : ℕ) (last : F) (x : Placed Entry) → rest ≡ port ∷ left → step state port (attempts.Full owned held) last → IsFree count port x → Gave w u (x ∷ []) → FindsFull step count ports v u first owned held
-    finds_full u port left owned held last x here answered free gave = record {
+    pub finds_full : (u : View) (port : ℕ) (left : List ℕ) (owned held : ℕ) (new : C) (x : Placed Entry) → rest ≡ port ∷ left → step state port (attempts.Full owned held) new → IsFree count port x → Gave w u (x ∷ []) → FindsFull step count ports v u old owned held new
+    finds_full u port left owned held new x here answered free gave = record {
       port = port;
-      comes = comes_to port left (attempts.Full owned held) last here answered;
+      comes = comes_to port left (attempts.Full owned held) new here answered;
       entry = x;
       free = free;
       gave = gave_both v w u s.passed (x ∷ []) s.gave gave;
     }
 
-    pub not_yet_made : (u : View) (xs : List (Placed Entry)) → IsLeftOff count rest xs → Gave w u xs → MakesNotYet step count ports v u first
-    not_yet_made u xs off gave = record {
+    pub not_yet_made : (u : View) (xs : List (Placed Entry)) (new : C) → IsLeftOff step count rest xs state new → Gave w u xs → MakesNotYet step count ports v u old new
+    not_yet_made u xs new off gave = record {
       before = s.before;
       after = rest;
       split = s.split;
@@ -128,20 +128,36 @@ module _ {F T : Type 0} (step : F → ℕ → Attempt T → F → Type 0) (count
       gave = gave_both v w u s.passed xs s.gave gave;
     }
 
-    pub makes_none : rest ≡ [] → MakesNone step count ports v w first
+    pub makes_none : rest ≡ [] → MakesNone step count ports v w old state
     makes_none none =
         let all : s.before ≡ ports = sym (s.split ∙ ap (λ xs. s.before ++ xs) none ∙ append-nil s.before) in
-        record { passed = s.passed; last = state; all = subst (λ ps. AllPassed step count ps s.passed first state) all s.all; gave = s.gave }
+        record { passed = s.passed; all = subst (λ ps. AllPassed step count ps s.passed old state) all s.all; gave = s.gave }
 
 -- a bucket that refused, or one at whose port the four-tuple is taken
-pub held_on : {F T : Type 0} (step : F → ℕ → Attempt T → F → Type 0) (t : Hash) (port : ℕ) (p q : Pass) (f : F) (c : ClosedAt t port p q) → IsPassed step (words.places t) port c.entry f f
+pub held_on : {C T : Type 0} (step : C → ℕ → Attempt T → C → Type 0) (t : Hash) (port : ℕ) (p q : Pass) (f : C) (c : ClosedAt t port p q) → IsPassed step (words.places t) port c.entry f f
 held_on step t port p q f c = inl (c.held, refl)
+
+module _ {C T : Type 0} (pre : MutBor C → ℕ → Type 0) (post : MutBor C → ℕ → Attempt T → MutBor C → Type 0) where
+  -- where the call may be made at any port, it may be made at this one
+  pub may_now : (context : C) (shown : MutBor C) (port : ℕ) → MayTry pre post context → shown.now ≡ context → port < 2 ^ 16 → pre shown port
+  may_now context shown port may shows small = may [] context refl shown port shows small
+
+  -- and it still may, once it said Taken
+  pub may_again : (context next : C) (port name : ℕ) → MayTry pre post context → Tries post context port (attempts.Taken name) next → MayTry pre post next
+  may_again context next port name may said ports now folds shown p shows small = may (port ∷ ports) now (next, (name, said), folds) shown p shows small
 
 -- enough numbers are left
 pub enough_left : (most d e : ℕ) (rest left : List ℕ) (port : ℕ) → rest ≡ port ∷ left → e ≡ d + 1 → d + length rest + 2 ≤ most → e + length left + 2 ≤ most
 enough_left most d e rest left port here one few = let long : length rest ≡ length left + 1 = ap length here ∙ omega arith in omega arith
 
--- a port that is free stands at the front of what is left
-pub free_front : (count port : ℕ) (rest left : List ℕ) (x : Placed Entry) → rest ≡ port ∷ left → IsFree count port x → IsLeftOff count rest (x ∷ [])
-free_front count port [] left x here free = absurd (cc)
-free_front count port (p ∷ rest) left x here free = let same : port ≡ p = cc in subst (λ k. IsFree count k x) same free
+module _ {C T : Type 0} (step : C → ℕ → Attempt T → C → Type 0) (count : ℕ) where
+  -- a port that is free stands at the front of what is left, and the caller's call wanted memory there
+  pub free_front : (rest left : List ℕ) (port : ℕ) (x : Placed Entry) (old new : C) → rest ≡ port ∷ left → IsFree count port x → step old port attempts.Memory new → IsLeftOff step count rest (x ∷ []) old new
+  free_front [] left port x old new here free said = absurd (cc)
+  free_front (p ∷ rest) left port x old new here free said =
+      let same : port ≡ p = cc in (subst (λ k. IsFree count k x) same free, subst (λ k. step old k attempts.Memory new) same said)
+
+  -- its bucket wanted memory
+  pub still_there : (rest left : List ℕ) (port : ℕ) (state : C) → rest ≡ port ∷ left → IsLeftOff step count rest [] state state
+  still_there [] left port state here = absurd (cc)
+  still_there (p ∷ rest) left port state here = refl

@@ -99,11 +99,12 @@ module _ (count : ℕ) (a : Owner) (v w : View) (ports rest : List ℕ) (s : Sea
       let all : s.before ≡ ports = sym (s.split ∙ ap (λ xs. s.before ++ xs) none ∙ append-nil s.before) in
       record { refused = s.refused; refusals = subst (λ ps. AllRefuse count a ps s.refused) all s.refusals; gave = s.gave }
 
-  pub not_yet : (u : View) → Gave w u [] → BindsNotYet count a ports v u
-  not_yet u g = record {
+  pub not_yet : (u : View) (port : ℕ) (left : List ℕ) → rest ≡ port ∷ left → Gave w u [] → BindsNotYet count a ports v u
+  not_yet u port left here g = record {
     before = s.before;
-    after = rest;
-    split = s.split;
+    port = port;
+    after = left;
+    split = s.split ∙ ap (λ xs. s.before ++ xs) here;
     refused = s.refused;
     refusals = s.refusals;
     gave = subst (Gave v u) (append-nil s.refused) (gave_both v w u s.refused [] s.gave g);

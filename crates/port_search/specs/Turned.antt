@@ -56,11 +56,12 @@ pub record BindsNowhere (count : ℕ) (a : Owner) (ports : List ℕ) (v w : View
   pub refusals : AllRefuse count a ports refused
   pub gave : Gave v w refused
 
--- each of some ports was refused, from the first on
+-- the search was left off for want of memory before that port, and all before it were refused
 pub record BindsNotYet (count : ℕ) (a : Owner) (ports : List ℕ) (v w : View) : Type 0 where
   pub before : List ℕ
+  pub port : ℕ
   pub after : List ℕ
-  pub split : ports ≡ before ++ after
+  pub split : ports ≡ before ++ port ∷ after
   pub refused : List (Placed Entry)
   pub refusals : AllRefuse count a before refused
   pub gave : Gave v w refused

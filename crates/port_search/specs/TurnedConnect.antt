@@ -1,5 +1,7 @@
 -- A search of `connect` through buckets that are shared, each port asked in its own turn: our own.
-use Rattle.std.specs.Prelude.{◌≡◌, ℕ, ◌+◌, ◌%◌, ◌≤◌, ◌⊎◌, List, [], ◌∷◌, ◌++◌, Option, None, Some, Result, Ok, Err}
+use Rattle.std.specs.Prelude.{◌≡◌, ℕ, ◌+◌, ◌%◌, ◌^◌, ◌<◌, ◌≤◌, ◌⊎◌, List, [], ◌∷◌, ◌++◌, Option, None, Some, Result, Ok, Err}
+use Rattle.std.specs.List.{FoldsTo}
+use denote.Ref.{MutBor}
 use Rattle.sock_card.specs.declared.owner.Owner.{Owner}
 use Rattle.turn_table.specs.declared.note.Placed.{Placed}
 use Rattle.turn_table.specs.Passes as words
@@ -14,7 +16,7 @@ use Rattle.port_search.specs.declared.search.Attempt.{Attempt}
 use Rattle.port_search.specs.declared.search.Attempt.TheVariants as attempts
 use Rattle.port_search.specs.declared.search.SearchEnd.{SearchEnd}
 use Rattle.port_search.specs.declared.search.SearchEnd.TheVariants as ends
-use Rattle.port_search.specs.Search.{chosen_at}
+use Rattle.port_search.specs.Search.{chosen_at, SaysTaken}
 
 -- `connect` may choose the port
 abbrev pub IsFree : ℕ → ℕ → Placed Entry → Type 0
@@ -25,34 +27,47 @@ pub record IsHeld (count port : ℕ) (x : Placed Entry) : Type 0 where
   pub name : ℕ
   pub asked : IsAsked (port % count) (requests.Free port) (answers.NotFree name) x
 
-module _ {F T : Type 0} (step : F → ℕ → Attempt T → F → Type 0) (count : ℕ) where
+-- the caller's call, at its own context and that port, may answer so and leave the context so
+pub record Tries {C T : Type 0} (post : MutBor C → ℕ → Attempt T → MutBor C → Type 0) (old : C) (port : ℕ) (answer : Attempt T) (new : C) : Type 0 where
+  pub shown : MutBor C
+  pub shows : shown.now ≡ old
+  pub left : MutBor C
+  pub answered : post shown port answer left
+  pub leaves : left.now ≡ new
+
+-- it may be called at each port, as long as it said Taken before
+abbrev pub MayTry : {C T : Type 0} → (MutBor C → ℕ → Type 0) → (MutBor C → ℕ → Attempt T → MutBor C → Type 0) → C → Type 0
+MayTry {C} pre post context =
+    (ports : List ℕ) (now : C) → FoldsTo (SaysTaken (Tries post)) context ports now
+    → (shown : MutBor C) (port : ℕ) → shown.now ≡ now → port < 2 ^ 16 → pre shown port
+
+module _ {C T : Type 0} (step : C → ℕ → Attempt T → C → Type 0) (count : ℕ) where
   -- the port is free, but the caller's call says that its four-tuple is taken
-  pub record IsTakenThere (port : ℕ) (x : Placed Entry) (f g : F) : Type 0 where
+  pub record IsTakenThere (port : ℕ) (x : Placed Entry) (old new : C) : Type 0 where
     pub free : IsFree count port x
     pub name : ℕ
-    pub said : step f port (attempts.Taken name) g
+    pub said : step old port (attempts.Taken name) new
 
   -- a port is passed over, with one entry
-  abbrev pub IsPassed : ℕ → Placed Entry → F → F → Type 0
-  IsPassed port x f g = (IsHeld count port x × (f ≡ g)) ⊎ IsTakenThere port x f g
+  abbrev pub IsPassed : ℕ → Placed Entry → C → C → Type 0
+  IsPassed port x old new = (IsHeld count port x × (old ≡ new)) ⊎ IsTakenThere port x old new
 
   -- each of the ports is, one after the other
-  abbrev pub AllPassed : List ℕ → List (Placed Entry) → F → F → Type 0
-  AllPassed [] [] f g = f ≡ g
-  AllPassed (port ∷ ports) (x ∷ xs) f g = (h : F) × IsPassed port x f h × AllPassed ports xs h g
-  AllPassed [] (x ∷ xs) f g = ⊥
-  AllPassed (port ∷ ports) [] f g = ⊥
+  abbrev pub AllPassed : List ℕ → List (Placed Entry) → C → C → Type 0
+  AllPassed [] [] old new = old ≡ new
+  AllPassed (port ∷ ports) (x ∷ xs) old new = (mid : C) × IsPassed port x old mid × AllPassed ports xs mid new
+  AllPassed [] (x ∷ xs) old new = ⊥
+  AllPassed (port ∷ ports) [] old new = ⊥
 
   -- all ports before that one were passed over, and there the caller's call answered so
-  pub record ComesTo (ports : List ℕ) (first : F) (port : ℕ) (answer : Attempt T) : Type 0 where
+  pub record ComesTo (ports : List ℕ) (old : C) (port : ℕ) (answer : Attempt T) (new : C) : Type 0 where
     pub before : List ℕ
     pub after : List ℕ
     pub split : ports ≡ before ++ port ∷ after
     pub passed : List (Placed Entry)
-    pub asked : F
-    pub last : F
-    pub all : AllPassed before passed first asked
-    pub answered : step asked port answer last
+    pub asked : C
+    pub all : AllPassed before passed old asked
+    pub answered : step asked port answer new
 
 -- the owner came to the port: the entries of that turn
 abbrev pub IsCome : ℕ → Owner → ℕ → Option ℕ → List (Placed Entry) → Type 0
@@ -69,50 +84,50 @@ pub record CameAt (count : ℕ) (a : Owner) (port : ℕ) (replaced : Option ℕ)
   pub come : IsCome count a port replaced entries
   pub gave : Gave v w entries
 
--- the connection was made at that port
-pub record MakesAt {F T : Type 0} (step : F → ℕ → Attempt T → F → Type 0) (count : ℕ) (a : Owner) (ports : List ℕ) (v w : View) (first : F) (port : ℕ) (value : T) : Type 0 where
-  pub replaced : Option ℕ
-  pub comes : ComesTo step count ports first port (attempts.Done value replaced)
-  pub entries : List (Placed Entry)
-  pub come : IsCome count a port replaced entries
-  pub gave : Gave v w (comes.passed ++ entries)
+module _ {C T : Type 0} (step : C → ℕ → Attempt T → C → Type 0) (count : ℕ) where
+  -- the connection was made at that port
+  pub record MakesAt (a : Owner) (ports : List ℕ) (v w : View) (old : C) (port : ℕ) (value : T) (new : C) : Type 0 where
+    pub replaced : Option ℕ
+    pub comes : ComesTo step count ports old port (attempts.Done value replaced) new
+    pub entries : List (Placed Entry)
+    pub come : IsCome count a port replaced entries
+    pub gave : Gave v w (comes.passed ++ entries)
 
--- each port was passed over
-pub record MakesNone {F T : Type 0} (step : F → ℕ → Attempt T → F → Type 0) (count : ℕ) (ports : List ℕ) (v w : View) (first : F) : Type 0 where
-  pub passed : List (Placed Entry)
-  pub last : F
-  pub all : AllPassed step count ports passed first last
-  pub gave : Gave v w passed
+  -- each port was passed over
+  pub record MakesNone (ports : List ℕ) (v w : View) (old new : C) : Type 0 where
+    pub passed : List (Placed Entry)
+    pub all : AllPassed step count ports passed old new
+    pub gave : Gave v w passed
 
--- no slot was left for the connection at that port
-pub record FindsFull {F T : Type 0} (step : F → ℕ → Attempt T → F → Type 0) (count : ℕ) (ports : List ℕ) (v w : View) (first : F) (owned held : ℕ) : Type 0 where
-  pub port : ℕ
-  pub comes : ComesTo step count ports first port (attempts.Full owned held)
-  pub entry : Placed Entry
-  pub free : IsFree count port entry
-  pub gave : Gave v w (comes.passed ++ entry ∷ [])
+  -- no slot was left for the connection at that port
+  pub record FindsFull (ports : List ℕ) (v w : View) (old : C) (owned held : ℕ) (new : C) : Type 0 where
+    pub port : ℕ
+    pub comes : ComesTo step count ports old port (attempts.Full owned held) new
+    pub entry : Placed Entry
+    pub free : IsFree count port entry
+    pub gave : Gave v w (comes.passed ++ entry ∷ [])
 
-abbrev pub SaysFull : {F T : Type 0} → (F → ℕ → Attempt T → F → Type 0) → ℕ → List ℕ → View → View → F → SearchEnd → Type 0
-SaysFull step count ports v w first (ends.Full owned held) = FindsFull step count ports v w first owned held
-SaysFull step count ports v w first _ = Unit {0}
+  abbrev pub SaysFull : List ℕ → View → View → C → SearchEnd → C → Type 0
+  SaysFull ports v w old (ends.Full owned held) new = FindsFull ports v w old owned held new
+  SaysFull ports v w old _ new = Unit {0}
 
--- where a search was left off, before the next port or at one that is free
-abbrev pub IsLeftOff : ℕ → List ℕ → List (Placed Entry) → Type 0
-IsLeftOff count after [] = Unit {0}
-IsLeftOff count (port ∷ after) (x ∷ []) = IsFree count port x
-IsLeftOff count after _ = ⊥
+  -- where a search was left off for want of memory: before the next port, or at that port, which is free
+  abbrev pub IsLeftOff : List ℕ → List (Placed Entry) → C → C → Type 0
+  IsLeftOff (port ∷ after) [] old new = old ≡ new
+  IsLeftOff (port ∷ after) (x ∷ []) old new = IsFree count port x × step old port attempts.Memory new
+  IsLeftOff _ _ old new = ⊥
 
--- it was left off after some ports that were passed over
-pub record MakesNotYet {F T : Type 0} (step : F → ℕ → Attempt T → F → Type 0) (count : ℕ) (ports : List ℕ) (v w : View) (first : F) : Type 0 where
-  pub before : List ℕ
-  pub after : List ℕ
-  pub split : ports ≡ before ++ after
-  pub passed : List (Placed Entry)
-  pub state : F
-  pub all : AllPassed step count before passed first state
-  pub entries : List (Placed Entry)
-  pub off : IsLeftOff count after entries
-  pub gave : Gave v w (passed ++ entries)
+  -- it was left off after some ports that were passed over
+  pub record MakesNotYet (ports : List ℕ) (v w : View) (old new : C) : Type 0 where
+    pub before : List ℕ
+    pub after : List ℕ
+    pub split : ports ≡ before ++ after
+    pub passed : List (Placed Entry)
+    pub state : C
+    pub all : AllPassed step count before passed old state
+    pub entries : List (Placed Entry)
+    pub off : IsLeftOff after entries state new
+    pub gave : Gave v w (passed ++ entries)
 
 -- a bucket that is out, of whose port `connect` may choose
 pub record OpenAt (t : Hash) (port : ℕ) (p q : Pass) (turn : Out) : Type 0 where

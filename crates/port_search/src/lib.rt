@@ -24,6 +24,8 @@ pub mod search;
 pub mod turning;
 #[cfg(test)]
 mod tests;
+#[cfg(test)]
+mod turn_tests;
 
 pub use ports::Ports;
 pub use search::{Attempt, SearchEnd, find_bind, find_connect};

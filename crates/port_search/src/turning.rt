@@ -8,7 +8,7 @@ ghost use Rattle.bind_buckets.specs.Bucket.{CanConnect, entries_of};
 ghost use Rattle.bind_buckets.specs.Turned.{View, IsIdle, IsOut, IsAlone, Within, Gave, hash_of, made};
 ghost use Rattle.port_search.specs.Search.{IsNotFull, FindsNone, ConnectsAt, ConnectsNowhere, searched};
 ghost use Rattle.port_search.specs.Turned.{TriedAt, BindsAt, BindsNowhere, BindsNotYet};
-ghost use Rattle.port_search.specs.TurnedConnect.{Opened, CameAt, MakesAt, MakesNone, MakesNotYet, SaysFull};
+ghost use Rattle.port_search.specs.TurnedConnect.{Opened, CameAt, Tries, MayTry, MakesAt, MakesNone, MakesNotYet, SaysFull};
 ghost use Rattle.bind_buckets.specs.declared.request.Request.TheVariants as requests;
 ghost use Rattle.bind_buckets.specs.declared.request.Answer.TheVariants as answers;
 
@@ -71,7 +71,8 @@ pub fn find_bind<R: Wait>(
     ensures bound { IfOk result (BindsAt (words.places turns.now) owner ports (known pass.old) (known pass.new)) }
     ensures no_port { result ≡ Err SearchEnd.NoPort
         → BindsNowhere (words.places turns.now) owner ports (known pass.old) (known pass.new) }
-    ensures err { OnErr result (BindsNotYet (words.places turns.now) owner ports (known pass.old) (known pass.new)) }
+    ensures memory { result ≡ Err SearchEnd.Memory
+        → BindsNotYet (words.places turns.now) owner ports (known pass.old) (known pass.new) }
     ensures end { IfErr result IsNotFull }
     ensures draws { words.draws pass.new ≤ words.draws pass.old + length ports }
     ensures alone { IsAlone (known pass.old) → IfOk result (λ port.
@@ -154,41 +155,53 @@ fn connect_at(
 /// Connects the owner from the first of the ports that is free as its turn comes and at which `insert`
 /// makes the connection (`__inet_hash_connect`); its value comes with the port.
 ///
-/// The port's bucket is out while `insert` runs. Each port that is tried adds one entry, the last one
-/// two or three: the owner comes in the same turn, and the owner of a socket in TIME_WAIT that the
-/// connection replaced leaves in it. `NoPort` says that each of the ports, at its own turn in this call,
-/// was held or answered `Taken`.
-pub fn find_connect<R: Wait, T, F: FnMut(u16) -> Attempt<T>>(
+/// `insert` is called once for each free port in turn, until it answers other than `Taken`, with the
+/// port's bucket out and with the caller's `context`, such as its pass of the chains. What became of the
+/// context is known by the calls. Each port that is tried adds one entry, the last one two or three: the
+/// owner comes in the same turn, and the owner of a socket in TIME_WAIT that the connection replaced
+/// leaves in it, unless it has gone already. The owner's own port is of no matter.
+///
+/// # Errors
+///
+/// `NoPort`: each of the ports, at its own turn in this call, was held or answered `Taken`. `Full`: so
+/// `insert` answered at a free port, where the search ended. `Memory`: a bucket's room or `insert` wanted
+/// memory; the entries of the ports that were tried stay, and no bucket is out.
+pub fn find_connect<R: Wait, T, C, F: Fn(&mut C, u16) -> Attempt<T>>(
     rt: &R,
     turns: &Turns<Box<Bucket>>,
     pass: &mut TurnPass<Box<Bucket>>,
     ports: Ports,
     owner: Owner,
-    mut insert: F,
+    context: &mut C,
+    insert: F,
 ) -> Result<(u16, T), SearchEnd>
     requires idle { IsIdle turns.now pass.old }
     requires few { words.draws pass.old + length ports + 2 ≤ 2 ^ 48 }
     requires may { MayName (words.caller pass.old) owner.name }
-    requires callable { F.IsAlwaysCallable insert }
+    requires callable { MayTry (F.pre insert) (F.post insert) context.old }
     ensures idle { IsIdle turns.now pass.new }
+    ensures caller { words.caller pass.new ≡ words.caller pass.old }
     ensures draws { words.draws pass.new ≤ words.draws pass.old + length ports + 2 }
-    ensures made { IfOk result (λ found.
-        MakesAt F.step (words.places turns.now) owner ports (known pass.old) (known pass.new) insert found.0 found.1) }
-    ensures none { result ≡ Err SearchEnd.NoPort
-        → MakesNone F.step (words.places turns.now) ports (known pass.old) (known pass.new) insert }
-    ensures full { IfErr result (SaysFull F.step (words.places turns.now) ports (known pass.old) (known pass.new) insert) }
-    ensures memory { result ≡ Err SearchEnd.Memory
-        → MakesNotYet F.step (words.places turns.now) ports (known pass.old) (known pass.new) insert }
+    ensures made { IfOk result (λ found. MakesAt (Tries (F.post insert)) (words.places turns.now) owner ports
+        (known pass.old) (known pass.new) context.old found.0 found.1 context.new) }
+    ensures none { result ≡ Err SearchEnd.NoPort → MakesNone (Tries (F.post insert)) (words.places turns.now) ports
+        (known pass.old) (known pass.new) context.old context.new }
+    ensures full { IfErr result (λ end. SaysFull (Tries (F.post insert)) (words.places turns.now) ports
+        (known pass.old) (known pass.new) context.old end context.new) }
+    ensures memory { result ≡ Err SearchEnd.Memory → MakesNotYet (Tries (F.post insert)) (words.places turns.now) ports
+        (known pass.old) (known pass.new) context.old context.new }
     ensures alone { IsAlone (known pass.old) → IfOk result (λ found.
-        ConnectsAt F.step (hash_of (words.places turns.now) (words.given pass.old)) (hash_of (words.places turns.now) (words.given pass.new)) insert owner ports found.0 found.1) }
+        ConnectsAt (Tries (F.post insert)) (hash_of (words.places turns.now) (words.given pass.old))
+            (hash_of (words.places turns.now) (words.given pass.new)) context.old owner ports found.0 found.1) }
     ensures alone_none { IsAlone (known pass.old) → result ≡ Err SearchEnd.NoPort
-        → ConnectsNowhere F.step (hash_of (words.places turns.now) (words.given pass.old)) (hash_of (words.places turns.now) (words.given pass.new)) insert ports }
+        → ConnectsNowhere (Tries (F.post insert)) (hash_of (words.places turns.now) (words.given pass.old))
+            (hash_of (words.places turns.now) (words.given pass.new)) context.old ports }
 {
     for port in ports {
         match open_at(rt, turns, pass, port) {
             Err(end) => return Err(end),
             Ok(None) => {}
-            Ok(Some(turn)) => match insert(port) {
+            Ok(Some(turn)) => match insert(context, port) {
                 Attempt::Done(value, replaced) => {
                     connect_at(turns, pass, turn, owner, port, replaced);
                     return Ok((port, value));

@@ -3,7 +3,7 @@ use Rattle.std.specs.Prelude.{◌≡◌, ℕ, ◌%◌, ◌≤◌, Bool, List, []
 use Rattle.sock_card.specs.declared.card.Card.{Card}
 use Rattle.turn_table.specs.declared.note.Placed.{Placed}
 use Rattle.bind_buckets.specs.declared.request.Entry.{Entry}
-use Rattle.bind_buckets.specs.Turned.{View, Gave, AreLawful, hash_of}
+use Rattle.bind_buckets.specs.Turned.{View, Gave, IsAlone, KnowsAll, AreLawful, hash_of}
 use Rattle.chain_book.specs.declared.outcome.Place.{Place}
 use Rattle.chain_book.specs.declared.outcome.Replace.{Replace}
 use Rattle.chain_book.specs.Chains.{Chains, Outcome, insert_outcome, add_outcome, hashed, unhashed, waiting}
@@ -75,3 +75,10 @@ GoesAlone R =
     (count : ℕ) (given : List (Placed Entry)) (chains new : Chains) (plan : Asking R) (told : List Told) (rest : Asking R)
     → 1 ≤ count → AreLawful count (given ++ entries_in told) → AreChains chains told new → Leads count plan told rest
     → run (tables_by count given chains) plan ≡ run (tables_by count (given ++ entries_in told) new) rest
+
+-- and so of a plan that asked no chain, by the entries that its pass gave and no others
+abbrev pub WentAlone : Type 0 → Type 0
+WentAlone R =
+    (count : ℕ) (chains : Chains) (plan rest : Asking R) (v w : View)
+    → 1 ≤ count → Went count plan v w rest → IsAlone v → KnowsAll count w
+    → run (tables_by count v.mine chains) plan ≡ run (tables_by count w.mine chains) rest

@@ -30,6 +30,7 @@ pub fn plans()
 pub fn alone()
     ensures operation { goes_law.GoesAlone Did }
     ensures command { goes_law.GoesAlone Replied }
+    ensures went { goes_law.WentAlone Did }
 {}
 
 /// A command of one section, carried out on tables that mean a list, leaves what another section knows of

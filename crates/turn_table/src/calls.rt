@@ -4,7 +4,7 @@ ghost use Rattle.std.specs.Prelude.{◌≡◌, ℕ, ◌+◌, ◌-◌, ◌^◌, �
 ghost use Rattle.list_words.specs.Lists.{Each};
 ghost use Rattle.turn_table.specs.declared.note.Note.{Note};
 ghost use Rattle.turn_table.specs.Values.{Fits};
-ghost use Rattle.turn_table.specs.Journals.{Ascends, AsFound, number, by_caller, notes_at};
+ghost use Rattle.turn_table.specs.Journals.{Ascends, AsFound, HasAllAt, number, by_caller, notes_at};
 ghost use Rattle.turn_table.specs.Views.{cut, newcomer, heard, joined, looked, taking, drawing, giving, added};
 ghost use Rattle.turn_table.specs.Passes as words;
 ghost use Rattle.turn_table.specs.Passes.{IsPassOf, IsFree, HasTurn, known};
@@ -33,6 +33,7 @@ impl<V: Journaled> Turns<V> {
         ensures own { by_caller (words.caller pass.old) (V.notes result.value) ≡ by_caller (words.caller pass.old) (notes_at place (words.given pass.old)) }
         ensures sole { words.caller pass.old ≡ 0 → words.splits pass.old ≡ 0 → V.notes result.value ≡ notes_at place (words.given pass.old) }
         ensures before { AsFound (words.finds pass.old) place (V.notes result.value) }
+        ensures all { HasAllAt place (words.given pass.old) (V.notes result.value) }
     {
         for _ in rt.forever() {
             let found = self
