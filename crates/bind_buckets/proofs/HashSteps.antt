@@ -75,7 +75,7 @@ module _ (count port : ℕ) (request : Request) (answer : Answer) (given : List 
   else : (i : ℕ) → i ≢ place → standing_by given i ≡ standing_by (given ++ x ∷ []) i
   else i other =
       let same : notes_at i (given ++ x ∷ []) ≡ notes_at i given = at-append i given (x ∷ []) ∙ ap (λ xs. notes_at i given ++ notes_at i xs) one
-          ∙ ap (λ ns. notes_at i given ++ ns) (at_else place i (x.note ∷ []) (λ e. other (sym e))) ∙ append-nil (notes_at i given) in
+      ∙ ap (λ ns. notes_at i given ++ ns) (at_else place i (x.note ∷ []) (λ e. other (sym e))) ∙ append-nil (notes_at i given) in
       ap (λ ns. let s : Standing = record { held = replayed i (entries_of ns); entries = entries_of ns } in s) (sym same)
 
   told : answer ≡ (owner_step place (standing_by given place).held request).answer

@@ -32,8 +32,7 @@ sound_new number buckets lt few = record {
 push_new : (sharing : Sharing) (i n : ℕ) (bs : List (Box Bucket)) (b : Box Bucket) → AreNew sharing i n bs → b.value ≡ new_bucket (i + length bs) n → i + length bs < n → n ≤ 256 → AreNew sharing i n (bs ++ b ∷ [])
 push_new sharing i n [] b all is lt few =
     let here : i + 0 ≡ i = omega arith in
-    let new : b.value ≡ new_bucket i n = is ∙ ap (λ k. new_bucket k n) here in
-    (
+    let new : b.value ≡ new_bucket i n = is ∙ ap (λ k. new_bucket k n) here in (
       record {
         made = record { number_is = ap (λ (x : Bucket). x.number) new; buckets_is = ap (λ (x : Bucket). x.buckets) new; callers = subst (λ (x : Bucket). Each (λ (y : Note). MayCall sharing y.caller) x.journal) (sym new) tt };
         replay = subst IsSound (sym new) (sound_new i n (omega (arith, lt)) few);

@@ -116,9 +116,9 @@ OwnGoesOn =
     (a b : Owner) (place : ℕ) (request : Request) (answer : Answer) (v w : View) (s : StandsOwn a place v)
     → OneAsked place request answer v w → KeepsOpen s.mine request → b.name ≡ a.name
     → find (has_name a.name)
-      (told_next s.mine (told_from [] (filter (is_told s.mine) (entries_of (own_given place v))))
-      (record { request = request; answer = answer }))
-      ≡ Some b
+    (told_next s.mine (told_from [] (filter (is_told s.mine) (entries_of (own_given place v))))
+    (record { request = request; answer = answer }))
+    ≡ Some b
     → StandsOwn b place w
 
 -- a name of this set, or that one

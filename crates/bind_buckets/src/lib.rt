@@ -40,11 +40,11 @@ mod places;
 pub mod request;
 mod slot;
 mod tally;
-pub mod turning;
 #[cfg(test)]
 mod tests;
 #[cfg(test)]
 mod turn_tests;
+pub mod turning;
 
 pub use bucket::Bucket;
 pub use request::{Answer, Entry, InUse, ListenEnd, Mark, NotFree, Request, Sharing, Strange};

@@ -336,7 +336,11 @@ fn the_last_member_takes_the_leavers_place(rt: HostRuntime) -> Result<(), AllocE
 }
 
 /// How many notes a bucket has after these calls.
-fn count_after(rt: &impl Abort, alloc: Global, calls: &[(Call, Answer)]) -> Result<usize, AllocError> {
+fn count_after(
+    rt: &impl Abort,
+    alloc: Global,
+    calls: &[(Call, Answer)],
+) -> Result<usize, AllocError> {
     let mut bucket = Bucket::new(alloc, 0, 1);
     run(rt, &mut bucket, calls)?;
     Ok(bucket.count())

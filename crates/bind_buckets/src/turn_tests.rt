@@ -156,11 +156,7 @@ fn pay<R: Wait>(
 }
 
 /// What these visits of one bucket tell, one after the other.
-fn visit_all<R: Wait>(
-    rt: &R,
-    alloc: Global,
-    visits: &[Visit],
-) -> Result<Vec<Told>, AllocError>
+fn visit_all<R: Wait>(rt: &R, alloc: Global, visits: &[Visit]) -> Result<Vec<Told>, AllocError>
     requires { length visits.now ≤ 100 }
 {
     let (turns, mut pass) = turning::with_buckets(alloc, 1, Sharing::Alone)?;
@@ -196,7 +192,12 @@ fn users_keep_each_other_from_a_port(rt: HostRuntime) -> Result<(), AllocError> 
     let done: Told = Some(Ok(None));
     let in_use: Told = Some(Err(ListenEnd::InUse(1)));
     let strange: Told = Some(Err(ListenEnd::Strange(9)));
-    check(&rt, rt.alloc(), &visits, &[done, in_use, done, strange, done])
+    check(
+        &rt,
+        rt.alloc(),
+        &visits,
+        &[done, in_use, done, strange, done],
+    )
 }
 
 /// Seventeen listeners of port 80, and one of each of the eight ports from 81 on.

@@ -65,10 +65,7 @@ pub fn with_buckets(
 }
 
 /// Splits a pass off the first one of shared buckets, as the next caller. It takes no memory.
-pub fn split(
-    turns: &Turns<Box<Bucket>>,
-    pass: &mut TurnPass<Box<Bucket>>,
-) -> TurnPass<Box<Bucket>>
+pub fn split(turns: &Turns<Box<Bucket>>, pass: &mut TurnPass<Box<Bucket>>) -> TurnPass<Box<Bucket>>
     requires table { IsPassOf turns.now pass.old }
     requires first { (words.caller pass.old ≡ 0) × (0 < words.parts pass.old) }
     requires few { words.splits pass.old < 2 ^ 14 - 2 }

@@ -39,19 +39,17 @@ module _ {F T : Type 0} (step : F → ℕ → Attempt T → F → Type 0) (count
   passed_one given port ports x xs f h g lawful (inl held) rest =
       let answer = answers.NotFree held.0.name in
       let kept = subst (λ k. AllRefused step k ports h g) (same_helds given port answer x held.0.asked lawful) rest.1 in
-      let fs = filter (is_free (helds (hash_of count given))) ports in
-      (
+      let fs = filter (is_free (helds (hash_of count given))) ports in (
         ap (λ k. freed k ports) (left_there given port answer x held.0.asked lawful) ∙ rest.0,
         subst (λ b. FoldsTo (SaysTaken step) f (cond b (port ∷ fs) fs) g) (sym (free_there given port answer x held.0.asked lawful))
-        (subst (λ k. FoldsTo (SaysTaken step) k fs g) (sym held.1) kept),
+            (subst (λ k. FoldsTo (SaysTaken step) k fs g) (sym held.1) kept),
       )
   passed_one given port ports x xs f h g lawful (inr taken) rest =
       let kept = subst (λ k. AllRefused step k ports h g) (same_helds given port answers.Done x taken.free lawful) rest.1 in
-      let fs = filter (is_free (helds (hash_of count given))) ports in
-      (
+      let fs = filter (is_free (helds (hash_of count given))) ports in (
         ap (λ k. freed k ports) (left_there given port answers.Done x taken.free lawful) ∙ rest.0,
         subst (λ b. FoldsTo (SaysTaken step) f (cond b (port ∷ fs) fs) g) (sym (free_there given port answers.Done x taken.free lawful))
-        (h, (taken.name, taken.said), kept),
+            (h, (taken.name, taken.said), kept),
       )
 
   -- ports that were all passed over
@@ -71,25 +69,23 @@ module _ {F T : Type 0} (step : F → ℕ → Attempt T → F → Type 0) (count
   come_alone given a port None (x ∷ y ∷ []) lawful come =
       let two : AreLawful count ((given ++ x ∷ []) ++ y ∷ []) = subst (AreLawful count) (sym (append_assoc given (x ∷ []) (y ∷ []))) lawful in
       let one : AreLawful count (given ++ x ∷ []) = lawful_front count (given ++ x ∷ []) (y ∷ []) two in
-      let request = requests.ConnectAuto (chosen_at a port) in
-      (
+      let request = requests.ConnectAuto (chosen_at a port) in (
         free_there given port answers.Done x come.0 one,
         ap (hash_of count) (sym (append_assoc given (x ∷ []) (y ∷ [])))
-        ∙ sym (asked_by count port request answers.Done (given ++ x ∷ []) y some come.1 two)
-        ∙ ap (λ k. asked_at k port request) (sym (left_there given port answers.Done x come.0 one)),
+            ∙ sym (asked_by count port request answers.Done (given ++ x ∷ []) y some come.1 two)
+            ∙ ap (λ k. asked_at k port request) (sym (left_there given port answers.Done x come.0 one)),
       )
   come_alone given a port (Some name) (x ∷ y ∷ z ∷ []) lawful come =
       let three : AreLawful count (((given ++ x ∷ []) ++ y ∷ []) ++ z ∷ []) = subst (AreLawful count) (sym (append_assoc given (x ∷ []) (y ∷ z ∷ [])) ∙ sym (append_assoc (given ++ x ∷ []) (y ∷ []) (z ∷ []))) lawful in
       let two : AreLawful count ((given ++ x ∷ []) ++ y ∷ []) = lawful_front count ((given ++ x ∷ []) ++ y ∷ []) (z ∷ []) three in
       let one : AreLawful count (given ++ x ∷ []) = lawful_front count (given ++ x ∷ []) (y ∷ []) two in
       let request = requests.ConnectAuto (chosen_at a port) in
-      let gone = requests.RemoveWaiting name in
-      (
+      let gone = requests.RemoveWaiting name in (
         free_there given port answers.Done x come.0 one,
         ap (hash_of count) (sym (append_assoc given (x ∷ []) (y ∷ z ∷ [])) ∙ sym (append_assoc (given ++ x ∷ []) (y ∷ []) (z ∷ [])))
-        ∙ sym (asked_by count port gone come.2 ((given ++ x ∷ []) ++ y ∷ []) z some come.3 three)
-        ∙ ap (λ k. asked_at k port gone) (sym (asked_by count port request answers.Done (given ++ x ∷ []) y some come.1 two))
-        ∙ ap (λ k. asked_at (asked_at k port request) port gone) (sym (left_there given port answers.Done x come.0 one)),
+            ∙ sym (asked_by count port gone come.2 ((given ++ x ∷ []) ++ y ∷ []) z some come.3 three)
+            ∙ ap (λ k. asked_at k port gone) (sym (asked_by count port request answers.Done (given ++ x ∷ []) y some come.1 two))
+            ∙ ap (λ k. asked_at (asked_at k port request) port gone) (sym (left_there given port answers.Done x come.0 one)),
       )
   come_alone given a port replaced es lawful come = absurd come
 
@@ -98,7 +94,7 @@ module _ {F T : Type 0} (step : F → ℕ → Attempt T → F → Type 0) (count
     makes_alone a port value m =
         let to = m.comes in
         let whole : AreLawful count ((v.mine ++ to.passed) ++ m.entries) =
-            subst (AreLawful count) (m.gave.mine ∙ sym (append_assoc v.mine to.passed m.entries)) (knows (still_alone v w (to.passed ++ m.entries) m.gave alone)) in
+        subst (AreLawful count) (m.gave.mine ∙ sym (append_assoc v.mine to.passed m.entries)) (knows (still_alone v w (to.passed ++ m.entries) m.gave alone)) in
         let front : AreLawful count (v.mine ++ to.passed) = lawful_front count (v.mine ++ to.passed) m.entries whole in
         let passed = passed_alone v.mine to.before to.passed first to.asked front to.all in
         let come = come_alone (v.mine ++ to.passed) a port m.replaced m.entries whole m.come in

@@ -137,7 +137,7 @@ module _ (count : ℕ) (some : 1 ≤ count) (a : Owner) where
     found_alone port b =
         let request = requests.BindAuto (at_port a port) in
         let whole : AreLawful count ((v.mine ++ b.refused) ++ b.last ∷ []) =
-            subst (AreLawful count) (b.gave.mine ∙ sym (append_assoc v.mine b.refused (b.last ∷ []))) (knows (still_alone v w (b.refused ++ b.last ∷ []) b.gave alone)) in
+        subst (AreLawful count) (b.gave.mine ∙ sym (append_assoc v.mine b.refused (b.last ∷ []))) (knows (still_alone v w (b.refused ++ b.last ∷ []) b.gave alone)) in
         let front : AreLawful count (v.mine ++ b.refused) = lawful_front count (v.mine ++ b.refused) (b.last ∷ []) whole in
         ap (searched (hash_of count v.mine) a) b.split
         ∙ refused_alone v.mine b.before (port ∷ b.after) b.refused front b.refusals

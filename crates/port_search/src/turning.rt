@@ -80,7 +80,7 @@ pub fn find_bind<R: Wait>(
         ≡ record { hash = hash_of (words.places turns.now) (words.given pass.new); port = Some port }) }
     ensures alone_none { IsAlone (known pass.old) → result ≡ Err SearchEnd.NoPort
         → FindsNone (hash_of (words.places turns.now) (words.given pass.old)) owner ports
-            (hash_of (words.places turns.now) (words.given pass.new)) }
+        (hash_of (words.places turns.now) (words.given pass.new)) }
 {
     for port in ports {
         if bind_at(rt, turns, pass, owner, port)? {
@@ -192,10 +192,10 @@ pub fn find_connect<R: Wait, T, C, F: Fn(&mut C, u16) -> Attempt<T>>(
         (known pass.old) (known pass.new) context.old context.new }
     ensures alone { IsAlone (known pass.old) → IfOk result (λ found.
         ConnectsAt (Tries (F.post insert)) (hash_of (words.places turns.now) (words.given pass.old))
-            (hash_of (words.places turns.now) (words.given pass.new)) context.old owner ports found.0 found.1) }
+        (hash_of (words.places turns.now) (words.given pass.new)) context.old owner ports found.0 found.1) }
     ensures alone_none { IsAlone (known pass.old) → result ≡ Err SearchEnd.NoPort
         → ConnectsNowhere (Tries (F.post insert)) (hash_of (words.places turns.now) (words.given pass.old))
-            (hash_of (words.places turns.now) (words.given pass.new)) context.old ports }
+        (hash_of (words.places turns.now) (words.given pass.new)) context.old ports }
 {
     for port in ports {
         match open_at(rt, turns, pass, port) {

@@ -13,8 +13,7 @@ loop-number-preserved c =
     let b = c.in_ok-new.field-0 in
     let i = c.loop-number.invariant in
     let all = c.in_ok-push.ensures.items in
-    let new : b.value ≡ new_bucket c.loop-number.number c.args.count = c.in_ok-new.ensures.ok ∙ c.new.ensures in
-    (
+    let new : b.value ≡ new_bucket c.loop-number.number c.args.count = c.in_ok-new.ensures.ok ∙ c.new.ensures in (
       ap (λ (l : List (Box Bucket)). length l) all ∙ longer c.loop-number.buckets.items b ∙ ap (λ (k : ℕ). k + 1) i.0,
       λ sharing. news_push sharing c.args.count c.loop-number.number c.loop-number.buckets.items c.push.new.self.items b (i.1 sharing) i.0 (omega arith) c.requires new all,
     )

@@ -11,8 +11,7 @@ loop-port-preserved g c =
     let u = known c.bind_at.new.pass in
     let n = words.places c.args.turns.now in
     let here = c.in-Some.ensures.steps in
-    let r = refused_then n c.in-Some.port c.args.owner w u c.in_ok-bind_at.field-0 c.if-branch.false c.in_ok-bind_at.ensures.tried in
-    (
+    let r = refused_then n c.in-Some.port c.args.owner w u c.in_ok-bind_at.field-0 c.if-branch.false c.in_ok-bind_at.ensures.tried in (
       tt,
       tt,
       c.in_ok-bind_at.ensures.idle,

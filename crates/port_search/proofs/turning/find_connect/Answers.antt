@@ -16,8 +16,7 @@ loop-port-preserved-in-Ok-None g c =
     let v = known c.args.pass.now in
     let w = known c.loop-port.pass in
     let u = known c.open_at.new.pass in
-    let here = c.in-Some.ensures.steps in
-    (
+    let here = c.in-Some.ensures.steps in (
       tt,
       tt,
       c.loop-port.invariant.2,
@@ -26,7 +25,7 @@ loop-port-preserved-in-Ok-None g c =
       enough (words.draws c.args.pass.now + length c.args.ports) (words.draws c.loop-port.pass) (words.draws c.open_at.new.pass) c.loop-port.port-iterator c.next.new.self c.in-Some.port here k.gave.draws c.loop-port.invariant.5,
       k.gave.caller ∙ c.loop-port.invariant.6,
       passed_on (Tries (goal.F-post g c.args.insert)) n v w c.args.context.now c.loop-port.context c.args.ports c.loop-port.port-iterator c.loop-port.invariant.7 u c.loop-port.context c.in-Some.port c.next.new.self k.entry here
-      (held_on (Tries (goal.F-post g c.args.insert)) c.args.turns.now c.in-Some.port c.loop-port.pass c.open_at.new.pass c.loop-port.context k) k.gave,
+          (held_on (Tries (goal.F-post g c.args.insert)) c.args.turns.now c.in-Some.port c.loop-port.pass c.open_at.new.pass c.loop-port.context k) k.gave,
     )
 
 pub loop-port-preserved : goal.loop-port-preserved
@@ -37,8 +36,7 @@ loop-port-preserved g c =
     let w = known c.loop-port.pass in
     let u = known c.give.new.pass in
     let here = c.in-Some.ensures.steps in
-    let o = one_asked (c.in-Some.port % n) _ (requests.Free c.in-Some.port) answers.Done w u _ k.place k.made_is (c.give.ensures.gave w k.within) in
-    (
+    let o = one_asked (c.in-Some.port % n) _ (requests.Free c.in-Some.port) answers.Done w u _ k.place k.made_is (c.give.ensures.gave w k.within) in (
       tt,
       tt,
       may_again (goal.F-pre g c.args.insert) (goal.F-post g c.args.insert) c.loop-port.context c.insert.new.arg2 c.in-Some.port c.in-Taken.field-0 c.loop-port.invariant.2 (record { shown = _; shows = refl; left = _; answered = c.in-Taken.ensures; leaves = refl }),
@@ -47,7 +45,7 @@ loop-port-preserved g c =
       enough (words.draws c.args.pass.now + length c.args.ports) (words.draws c.loop-port.pass) (words.draws c.give.new.pass) c.loop-port.port-iterator c.next.new.self c.in-Some.port here o.gave.draws c.loop-port.invariant.5,
       o.gave.caller ∙ c.loop-port.invariant.6,
       passed_on (Tries (goal.F-post g c.args.insert)) n v w c.args.context.now c.loop-port.context c.args.ports c.loop-port.port-iterator c.loop-port.invariant.7 u c.insert.new.arg2 c.in-Some.port c.next.new.self o.entry here
-      (inr (record { free = o.asked; name = c.in-Taken.field-0; said = record { shown = _; shows = refl; left = _; answered = c.in-Taken.ensures; leaves = refl } })) o.gave,
+          (inr (record { free = o.asked; name = c.in-Taken.field-0; said = record { shown = _; shows = refl; left = _; answered = c.in-Taken.ensures; leaves = refl } })) o.gave,
     )
 
 pub returns-in-Done-clause-made : goal.returns-in-Done-clause-made
@@ -78,7 +76,7 @@ returns-in-Done-clause-alone g c =
     let w = known c.loop-port.pass in
     let u = known c.connect_at.new.pass in
     let m = makes (Tries (goal.F-post g c.args.insert)) n v w c.args.context.now c.loop-port.context c.args.ports c.loop-port.port-iterator c.loop-port.invariant.7 c.args.owner u c.in-Some.port c.next.new.self c.in-Done.value c.in-Done.replaced c.insert.new.arg2 c.in-Some.ensures.steps (record { shown = _; shows = refl; left = _; answered = c.in-Done.ensures; leaves = refl })
-        (c.connect_at.ensures.came w k.within k.made_is) in
+    (c.connect_at.ensures.came w k.within k.made_is) in
     λ alone. makes_alone (Tries (goal.F-post g c.args.insert)) n c.requires.idle.some c.args.ports v u c.args.context.now c.insert.new.arg2 alone c.connect_at.ensures.idle.knows c.args.owner c.in-Some.port c.in-Done.value m
 
 pub returns-clause-alone_none : goal.returns-clause-alone_none

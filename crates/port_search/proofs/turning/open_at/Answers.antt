@@ -33,7 +33,7 @@ returns-in-Err-free g c =
     let asks = c.free.ensures.asks in
     let none = c.reserve.ensures.made ∙ c.take-turn.ensures.none in
     let made = asks.made_is ∙ ap (λ (ms : List Note). entries_of ms ++ record { request = requests.Free c.args.port; answer = answer_of_free c.free.result } ∷ []) none
-        ∙ ap (λ r. record { request = requests.Free c.args.port; answer = answer_of_free r } ∷ []) c.in-Err-free.is in
+    ∙ ap (λ r. record { request = requests.Free c.args.port; answer = answer_of_free r } ∷ []) c.in-Err-free.is in
     let o = one_asked (c.args.port % words.places c.args.turns.now) _ (requests.Free c.args.port) (answers.NotFree c.in-Err-free.field-0.0) v w _ (asks.place ∙ (c.reserve.ensures.place ∙ c.take-turn.ensures.place)) made (c.give.ensures.gave v (asks.within v c.take-turn.ensures.within)) in
     record { idle = c.give.ensures.idle; entry = o.entry; held = record { name = c.in-Err-free.field-0.0; asked = o.asked }; gave = o.gave }
 
