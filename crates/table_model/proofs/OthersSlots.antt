@@ -12,7 +12,7 @@ use Rattle.chain_book.specs.declared.outcome.Hashed.{Hashed}
 use Rattle.chain_book.specs.declared.outcome.Replace.{Replace}
 use Rattle.chain_book.specs.Chains.{Chains, Outcome, row_at, home_in, has_slot, placed, unhashed, hashed, without_replaced, insert_outcome, add_outcome, tried, slot_outcome, keeps, waits, waits_as, waiting}
 use Rattle.chain_book.specs.Slots.{free_slot}
-use Rattle.chain_book.specs.Tuples.{same_tuple}
+use Rattle.chain_book.specs.Tuples.{same_cards}
 use Rattle.table_model.specs.Asking.{Asking, ends, asks, inserts, adds, unhashes, reaps, impossible}
 use Rattle.table_model.specs.Tables.{Tables, Ended, run, with_buckets, with_chains, reaped, was_found}
 use Rattle.table_model.specs.Own.{Mine}
@@ -198,7 +198,7 @@ module _ (w : Mine) (card : Card) where
   keeps_inserted c new moment rule h =
       let row : List Hashed = row_at c (home_in c new) in
       tried_by c new (find (keeps new moment rule) row) (find (waits new) row) h
-      (λ x e. other_slot c h (home_in c new) (waits new) x e (and_parts (same_tuple new x.card) (is_time_wait_kind x.card.kind) (found_passes (waits new) row x e)).1)
+      (λ x e. other_slot c h (home_in c new) (waits new) x e (and_parts (same_cards new x.card) (is_time_wait_kind x.card.kind) (found_passes (waits new) row x e)).1)
 
   reaped_by : (c : Chains) (gone : Card) (o : Option Hashed) → waiting c gone ≡ o → Keeps w card c → Keeps w card (reaped c gone o)
   reaped_by c gone None e h = h
