@@ -21,7 +21,6 @@ mod Counted
 mod Tallied
 mod RuledOut
 pub mod Called
-mod RunsTold
 mod SlotSteps
 mod SlotsKept
 mod Linked
@@ -29,3 +28,8 @@ mod Sought
 mod Searched
 mod WantedBy
 mod OwnersIn
+pub mod TurnSteps
+pub mod HashSteps
+pub mod OwnTold
+pub mod Closed
+mod Opened

@@ -3,7 +3,7 @@ use Rattle.std.proofs.Common.{◌≡◌, ℕ, ◌+◌, ◌-◌, ◌≤◌, ◌<�
 use Rattle.std.proofs.lemmas.Bool.Decides.{nat_tests}
 use Rattle.bind_buckets.specs.declared.request.Request.{Request}
 use Rattle.bind_buckets.specs.declared.request.Answer.{Answer}
-use Rattle.bind_buckets.specs.declared.request.Note.{Note}
+use Rattle.bind_buckets.specs.Notes.{Note}
 use Rattle.bind_buckets.specs.OwnerStep.{Held, After}
 use Rattle.bind_buckets.specs.Bucket.{Bucket, IsAllowed, HasRoom, called, step_of, note_of, entries_after, newcomers_after, brings_owner}
 use Rattle.bind_buckets.specs.Kept.{IsKept}

@@ -108,6 +108,10 @@ pub listens : (n : ℕ) (h : Held) (name slot : ℕ) (o : Option Owner) → IsGr
 listens n h name slot None g = absurd g
 listens n h name slot (Some a) g = refl
 
+pub listens_done : (n : ℕ) (h : Held) (name slot : ℕ) (o : Option Owner) → IsGroup (spoken h name o (may_listen n h name)).answer → (spoken h name o (listening h name slot)).answer ≡ answers.Done
+listens_done n h name slot None g = absurd g
+listens_done n h name slot (Some a) g = refl
+
 group_if_ok : (answer : Answer) (group : Option ℕ) → answers.Group group ≡ answer → IsGroup answer
 group_if_ok answer group e = subst IsGroup e tt
 

@@ -90,7 +90,7 @@ module _ (mine : ℕ → Bool) where
   abbrev m : Owner → Bool
   m a = is_mine mine a
 
-  named_mine : (name : ℕ) (b : Bool) → mine name ≡ b → (a : Owner) → has_name name a ≡ true → m a ≡ b
+  pub named_mine : (name : ℕ) (b : Bool) → mine name ≡ b → (a : Owner) → has_name name a ≡ true → m a ≡ b
   named_mine name b h a is = ap mine (eqb-true _ _ is) ∙ h
 
   waiting_mine : (name : ℕ) (b : Bool) → mine name ≡ b → (a : Owner) → waits_as name a ≡ true → m a ≡ b
@@ -161,7 +161,7 @@ module _ (mine : ℕ → Bool) where
   followed true e rest owners = refl
   followed false e rest owners = refl
 
-  told_seen : (es : List Entry) (owners : List Owner) → Each (λ (e : Entry). IsWhole mine e.request) es → filter m (told_from owners es) ≡ told_from (filter m owners) (filter (is_about mine) es)
+  pub told_seen : (es : List Entry) (owners : List Owner) → Each (λ (e : Entry). IsWhole mine e.request) es → filter m (told_from owners es) ≡ told_from (filter m owners) (filter (is_about mine) es)
   told_seen [] owners whole = refl
   told_seen (e ∷ es) owners whole =
       told_seen es (told owners e.request e.answer) whole.1

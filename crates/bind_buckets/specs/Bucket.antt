@@ -10,7 +10,7 @@ use Rattle.bind_buckets.specs.declared.request.Request.TheVariants as requests
 use Rattle.bind_buckets.specs.declared.request.Answer.{Answer}
 use Rattle.bind_buckets.specs.declared.request.Answer.TheVariants as answers
 use Rattle.bind_buckets.specs.declared.request.Entry.{Entry}
-use Rattle.bind_buckets.specs.declared.request.Note.{Note}
+use Rattle.bind_buckets.specs.Notes.{Note}
 use Rattle.bind_buckets.specs.declared.request.Mark.{Mark}
 use Rattle.bind_buckets.specs.OwnerStep.{Held, After, owner_step, empty, has_name, members_at}
 use Rattle.bind_buckets.specs.Journal.{IsLegal, replayed, OwnersAgree, Standing}

@@ -2,6 +2,9 @@ pub mod First
 pub mod Members
 pub mod OwnerStep
 pub mod Journal
+pub mod Notes
+pub mod Callers
+pub mod Turned
 pub mod Bucket
 pub mod Tally
 pub mod OwnerCounts
@@ -15,4 +18,6 @@ pub mod Fields
 pub mod Answers
 pub mod BindHash
 pub mod Followed
+pub mod OwnTold
+pub mod Closed
 pub mod Rows

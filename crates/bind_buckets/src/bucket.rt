@@ -1,9 +1,10 @@
 //! A bucket: what it holds, its journal, and its room.
 
-ghost use Rattle.std.specs.Prelude.{◌≡◌, ◌+◌, ◌-◌, ◌/◌, ◌≤◌, ◌<◌, true, nat_lt, if◌then◌else◌, OnOk, OnErr, IfErr, IfOk, find, None, IfSome};
+ghost use Rattle.std.specs.Prelude.{◌≡◌, ◌+◌, ◌-◌, ◌/◌, ◌≤◌, ◌<◌, true, nat_lt, length, if◌then◌else◌, OnOk, OnErr, IfErr, IfOk, find, None, IfSome};
 ghost use Rattle.std.specs.Option.{option_copied};
 ghost use Rattle.sock_card.specs.Became.{as_listener, connected, child, as_waiting};
-ghost use Rattle.bind_buckets.specs.OwnerStep.{has_name, with_last, waits_as};
+ghost use Rattle.bind_buckets.specs.HeldBy.{held_by};
+ghost use Rattle.bind_buckets.specs.OwnerStep.{has_name, with_last, waits_as, empty};
 ghost use Rattle.bind_buckets.specs.First.{change_first, drop_first};
 ghost use Rattle.bind_buckets.specs.Members.{has_member, left_by};
 ghost use Rattle.bind_buckets.specs.Bucket as spec;
@@ -12,10 +13,11 @@ ghost use Rattle.bind_buckets.specs.Answers.{answer_of_bind, answer_of_free, ans
 
 use crate::held::Held;
 use crate::journal::Journal;
-use crate::request::{Answer, Entry, InUse, ListenEnd, Mark, NotFree, Note, Request, Strange};
+use crate::request::{Answer, Entry, InUse, ListenEnd, Mark, NotFree, Request, Sharing, Strange};
 use sock_card::{Owner, State};
 use std::alloc::{AllocError, Global};
 use std::marker::Model;
+use turn_table::{Journaled, Note};
 
 /// A bind bucket: the owners of the ports that hash there, oldest first, the groups of its listeners,
 /// and a journal of all calls.
@@ -32,11 +34,13 @@ use std::marker::Model;
 pub struct Bucket {
     number: u32,
     buckets: u32,
-    held: Held,
+    // None before any room was made.
+    held: Option<Box<Held>>,
     journal: Journal,
     next: Mark,
     entries: u8,
     newcomers: u8,
+    alloc: Global,
 }
 
 impl Model for Bucket {
@@ -49,6 +53,23 @@ impl Model for Bucket {
     ghost view = { shown_by };
 
     ghost invariant = { AreKept };
+}
+
+impl Journaled for Bucket {
+    ghost use Rattle.bind_buckets.specs.Bucket.{IsSound};
+    ghost use Rattle.bind_buckets.specs.Callers.{MayMake, IsMadeFor};
+
+    type Entry = Entry;
+
+    type Home = Sharing;
+
+    ghost notes = { λ b. b.journal };
+
+    ghost is_replay = { IsSound };
+
+    ghost made_for = { IsMadeFor };
+
+    ghost may_make = { MayMake };
 }
 
 /// The room for entries after a call that found so many owners and left so many.
@@ -71,7 +92,29 @@ fn newcomers_after(newcomers: u8, found: usize, left: usize) -> u8
     }
 }
 
-fn note(mark: Mark, request: Request, answer: Answer) -> Note
+/// What a bucket holds at first, made apart from where room is mostly there.
+#[cold]
+#[inline(never)]
+fn new_held(alloc: Global, buckets: u32) -> Result<Box<Held>, AllocError>
+    requires { 1 ≤ buckets }
+    ensures { IfOk result (λ held. (held_by held.value ≡ empty) × (held.value.owners.room ≡ 0)) }
+{
+    Ok(Box::new(alloc, Held::new(alloc, buckets))?)
+}
+
+/// Makes room for five entries more than there are owners, and for two newcomers.
+fn reserve_both(journal: &Journal, held: &mut Held) -> Result<(), AllocError>
+    ensures owners { held.new.owners.owners ≡ held.old.owners.owners }
+    ensures groups { held.new.groups ≡ held.old.groups }
+    ensures kept { held.old.owners.room ≤ held.new.owners.room }
+    ensures newcomers { OnOk result (2 ≤ held.new.owners.room) }
+    ensures notes { OnOk result (length held.old.owners.owners + 5 ≤ journal.now.room) }
+{
+    journal.reserve(held.owners.len() + 5)?;
+    held.owners.reserve(2)
+}
+
+fn note(mark: Mark, request: Request, answer: Answer) -> Note<Entry>
     ensures { result ≡ spec.note_of mark request answer }
 {
     Note {
@@ -81,7 +124,7 @@ fn note(mark: Mark, request: Request, answer: Answer) -> Note
     }
 }
 
-fn bind_result(answer: Answer) -> Result<(), InUse>
+pub(crate) fn bind_result(answer: Answer) -> Result<(), InUse>
     requires { IsOfBind answer }
     ensures { answer_of_bind result ≡ answer }
 {
@@ -91,7 +134,7 @@ fn bind_result(answer: Answer) -> Result<(), InUse>
     }
 }
 
-fn free_result(answer: Answer) -> Result<(), NotFree>
+pub(crate) fn free_result(answer: Answer) -> Result<(), NotFree>
     requires { IsOfFree answer }
     ensures { answer_of_free result ≡ answer }
 {
@@ -101,7 +144,7 @@ fn free_result(answer: Answer) -> Result<(), NotFree>
     }
 }
 
-fn name_result(answer: Answer) -> Result<(), Strange>
+pub(crate) fn name_result(answer: Answer) -> Result<(), Strange>
     requires { IsOfName answer }
     ensures { answer_of_name result ≡ answer }
 {
@@ -111,7 +154,7 @@ fn name_result(answer: Answer) -> Result<(), Strange>
     }
 }
 
-fn listen_result(answer: Answer) -> Result<Option<u32>, ListenEnd>
+pub(crate) fn listen_result(answer: Answer) -> Result<Option<u32>, ListenEnd>
     requires { IsOfListen answer }
     ensures { answer_of_listen result ≡ answer }
 {
@@ -137,15 +180,15 @@ impl Bucket {
         Bucket {
             number,
             buckets,
-            held: Held::new(alloc, buckets),
-            // The ports of a search leave each bucket at an even distance.
-            journal: Journal::new(alloc, buckets * (1 + buckets % 2)),
+            held: None,
+            journal: Journal::new(),
             next: Mark {
                 number: 0,
                 caller: 0,
             },
             entries: 0,
             newcomers: 0,
+            alloc,
         }
     }
 
@@ -160,7 +203,10 @@ impl Bucket {
     pub fn owner(&self, name: u32) -> Option<&Owner>
         ensures { option_copied result ≡ find (has_name name) self.now.held.owners }
     {
-        self.held.owners.named(name)
+        match &self.held {
+            Some(held) => held.owners.named(name),
+            None => None,
+        }
     }
 
     /// Makes room for three entries and two newcomers, as much as an operation on a socket takes.
@@ -171,9 +217,13 @@ impl Bucket {
         ensures ok { OnOk result (self.new ≡ record self.old { entries = 3; newcomers = 2 }) }
         ensures err { OnErr result (self.new ≡ self.old) }
     {
-        let kept = self.held.owners.len();
-        self.journal.reserve(kept + 5)?;
-        self.held.owners.reserve(2)?;
+        let mut held = match self.held.take() {
+            Some(held) => held,
+            None => new_held(self.alloc, self.buckets)?,
+        };
+        let room = reserve_both(&self.journal, &mut held);
+        self.held = Some(held);
+        room?;
         self.entries = 3;
         self.newcomers = 2;
         Ok(())
@@ -187,16 +237,20 @@ impl Bucket {
     }
 
     /// Carries out a request, and enters it with its answer.
-    fn carry_out(&mut self, request: Request) -> Answer
+    pub(crate) fn carry_out(&mut self, request: Request) -> Answer
         requires allowed { spec.IsAllowed self.old request }
         requires room { spec.HasRoom self.old request }
         ensures after { self.new ≡ called self.old request }
         ensures answer { result ≡ answer_to self.old request }
         ensures sound { spec.IsSound self.old }
     {
-        let found = self.held.owners.len();
-        let answer = self.held.carry_out(self.number, request);
-        let left = self.held.owners.len();
+        let Some(mut held) = self.held.take() else {
+            unreachable!()
+        };
+        let found = held.owners.len();
+        let answer = held.carry_out(self.number, request);
+        let left = held.owners.len();
+        self.held = Some(held);
         self.entries = entries_after(self.entries, found, left);
         self.newcomers = newcomers_after(self.newcomers, found, left);
         self.journal.push(note(self.next, request, answer));
@@ -452,18 +506,19 @@ impl Bucket {
     pub fn members(&self, group: u32) -> &[u64]
         ensures { result.now ≡ spec.members_of self.now group }
     {
-        if group / 8 == self.number {
-            self.held.groups[(group % 8) as usize].members()
-        } else {
-            &[]
+        match &self.held {
+            Some(held) if group / 8 == self.number => {
+                held.groups[(group % 8) as usize].members()
+            }
+            _ => &[],
         }
     }
 
-    /// The notes of all calls so far, oldest first, copied.
-    pub fn journal(&self, alloc: Global) -> Result<Vec<Note>, AllocError>
-        ensures { IfOk result (λ notes. notes.items ≡ self.now.journal) }
+    /// How many notes its journal has, one for each call. Constant cost, and no note.
+    pub fn count(&self) -> usize
+        ensures { result ≡ length self.now.journal }
     {
-        self.journal.to_vec(alloc)
+        self.journal.count()
     }
 
     /// Tells a proof what is known of every bucket. It does nothing when it runs.

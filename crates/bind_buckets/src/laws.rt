@@ -3,6 +3,8 @@
 ghost use Rattle.bind_buckets.specs.Bucket.{StaysAgreed, StaysSound};
 ghost use Rattle.bind_buckets.specs.Followed as law;
 ghost use Rattle.bind_buckets.specs.Rows as row;
+ghost use Rattle.bind_buckets.specs.Turned as law_of_turns;
+ghost use Rattle.bind_buckets.specs.OwnTold.{OpenAreTold, OwnAreTold, FirstOwnIsTold, OwnStands, OwnComes, OwnStays, OwnGoesOn, OwnAccepted};
 
 /// Each request that is made under its conditions leaves owners that agree, and a sound bucket.
 pub fn steps()
@@ -28,4 +30,22 @@ pub fn rows()
     ensures waiting { row.WaitingKeepsPort }
     ensures beside_waiting { row.SharesWithWaiting }
     ensures leaver { row.LastTakesPlace }
+{}
+
+/// What a pass that is alone gave tells how all buckets stand, and each entry more is one question to
+/// the bucket of its port.
+pub fn given()
+    ensures asked { law_of_turns.AsksOneMore }
+{}
+
+/// What a caller itself asked of a bucket tells its own open sockets there, whatever other callers asked.
+pub fn own_sockets()
+    ensures open { OpenAreTold }
+    ensures owners { OwnAreTold }
+    ensures first { FirstOwnIsTold }
+    ensures stands { OwnStands }
+    ensures comes { OwnComes }
+    ensures stays { OwnStays }
+    ensures goes_on { OwnGoesOn }
+    ensures accepted { OwnAccepted }
 {}

@@ -5,7 +5,7 @@
 //! there whether another owner stands in the way, searches for a port whether it may be taken, and
 //! listeners with `SO_REUSEPORT` find their group there (`net/core/sock_reuseport.c`). A [`Bucket`] is
 //! one such bucket: its owners, oldest first; the groups at its eight places, of sixteen members each;
-//! and a journal with one [`Note`] for each call, refused ones too.
+//! and a journal with one note for each call, refused ones too. Threads share buckets by [`turning`].
 //!
 //! Each call's contract says that the bucket afterwards, its answer and its note are what
 //! `owner_step` of `specs/` makes of the bucket before. What every bucket keeps is `IsSound`: its
@@ -14,8 +14,8 @@
 //! use the room that it made. It stands on the rules of `sock_card`.
 //!
 //! An owner is found by its name, its port, or its port and address without a look at the others, and
-//! counts of the owners of a port, and of a port and address, answer most questions without any look;
-//! a run of like notes takes the room of one.
+//! counts of the owners of a port, and of a port and address, answer most questions without any look.
+//! The notes of a journal exist in proofs alone, and take no room; a program has their count.
 //!
 //! ```text
 //! let mut bucket = Bucket::new(alloc, number, buckets);
@@ -42,6 +42,10 @@ mod slot;
 mod tally;
 #[cfg(test)]
 mod tests;
+#[cfg(test)]
+mod turn_tests;
+pub mod turning;
 
 pub use bucket::Bucket;
-pub use request::{Answer, Entry, InUse, ListenEnd, Mark, NotFree, Note, Request, Strange};
+pub use request::{Answer, Entry, InUse, ListenEnd, Mark, NotFree, Request, Sharing, Strange};
+pub use turn_table::Note;

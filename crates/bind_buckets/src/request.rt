@@ -81,12 +81,13 @@ pub struct Mark {
     pub caller: u32,
 }
 
-/// One call, as the journal keeps it.
+/// Who asks the buckets of a table.
 #[derive(Clone, Copy, Debug, PartialEq, Eq)]
-pub struct Note {
-    pub number: u64,
-    pub caller: u32,
-    pub entry: Entry,
+pub enum Sharing {
+    /// The first pass alone, for all scripts.
+    Alone,
+    /// Passes that were split off, each for the script of its number; the first asks nothing.
+    Shared,
 }
 
 /// The owner of that name keeps another from the port.

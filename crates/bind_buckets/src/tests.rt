@@ -1,9 +1,8 @@
 //! Runs of calls on one bucket.
 
 use crate::bucket::Bucket;
-use crate::journal::Journal;
 use crate::owners::Owners;
-use crate::request::{Answer, Entry, InUse, ListenEnd, Mark, NotFree, Note, Request, Strange};
+use crate::request::{Answer, InUse, ListenEnd, NotFree, Strange};
 use sock_card::{Owner, State};
 use std::alloc::{AllocError, Global};
 use std::process::Abort;
@@ -336,116 +335,26 @@ fn the_last_member_takes_the_leavers_place(rt: HostRuntime) -> Result<(), AllocE
     Ok(())
 }
 
-fn note(number: u64, request: Request, answer: Answer) -> Note {
-    Note {
-        number,
-        caller: 1,
-        entry: Entry { request, answer },
-    }
-}
-
-/// What a bucket enters of these calls, from that mark on.
-fn entered(
+/// How many notes a bucket has after these calls.
+fn count_after(
     rt: &impl Abort,
     alloc: Global,
-    mark: Mark,
     calls: &[(Call, Answer)],
-) -> Result<Vec<Note>, AllocError> {
+) -> Result<usize, AllocError> {
     let mut bucket = Bucket::new(alloc, 0, 1);
-    bucket.mark(mark.number, mark.caller);
     run(rt, &mut bucket, calls)?;
-    bucket.journal(alloc)
+    Ok(bucket.count())
 }
 
 #[test]
 fn a_refused_call_is_entered_too(rt: HostRuntime) -> Result<(), AllocError> {
-    let mark = Mark {
-        number: 5,
-        caller: 3,
-    };
-    let calls = [(Call::Remove(9), Answer::Strange(9))];
-    let notes = entered(&rt, rt.alloc(), mark, &calls)?;
-    let expected = Note {
-        caller: 3,
-        ..note(5, Request::Remove { name: 9 }, Answer::Strange(9))
-    };
-    assert_eq!(rt; notes.first().copied(), Some(expected));
-    Ok(())
-}
-
-fn free(port: u16) -> Note {
-    note(5, Request::Free { port }, Answer::Done)
-}
-
-fn not_free(port: u16, name: u32) -> Note {
-    note(5, Request::Free { port }, Answer::NotFree(name))
-}
-
-fn in_use(owner: Owner, name: u32) -> Note {
-    note(5, Request::BindAuto(owner), Answer::InUse(name))
-}
-
-fn journal_of(alloc: Global, step: u32, notes: &[Note]) -> Result<Journal, AllocError> {
-    let mut journal = Journal::new(alloc, step);
-    for note in notes {
-        journal.reserve(1)?;
-        journal.push(*note);
-    }
-    Ok(journal)
-}
-
-/// Asserts that a journal of these notes has so many runs, and tells the notes again.
-fn check_journal(
-    rt: &impl Abort,
-    alloc: Global,
-    notes: &[Note],
-    runs: usize,
-) -> Result<(), AllocError> {
-    let journal = journal_of(alloc, 4, notes)?;
-    assert_eq!(rt; journal.run_count(), runs);
-    assert_eq!(rt; journal.to_vec(alloc)?.as_slice(), notes);
-    Ok(())
-}
-
-#[test]
-fn a_search_is_one_run(rt: HostRuntime) -> Result<(), AllocError> {
-    let notes = [
-        free(80),
-        free(84),
-        free(88),
-        not_free(92, 7),
-        not_free(96, 9),
-        in_use(socket(3, 40), 7),
-        in_use(socket(3, 44), 8),
-        in_use(socket(3, 48), 7),
+    let calls = [
+        (Call::Remove(9), Answer::Strange(9)),
+        (Call::Remove(8), Answer::Strange(8)),
     ];
-    check_journal(&rt, rt.alloc(), &notes, 3)
-}
-
-#[test]
-fn other_notes_end_a_run(rt: HostRuntime) -> Result<(), AllocError> {
-    let other_mark = Note {
-        number: 6,
-        ..free(84)
-    };
-    let other_caller = Note {
-        caller: 2,
-        ..free(84)
-    };
-    let notes = [
-        free(80),
-        other_mark,
-        free(80),
-        other_caller,
-        free(80),
-        free(88),
-        not_free(92, 7),
-        in_use(socket(3, 96), 7),
-        in_use(socket(4, 100), 7),
-        in_use(sharing(4, 104), 7),
-        in_use(sharing(4, 108), 7),
-    ];
-    check_journal(&rt, rt.alloc(), &notes, 10)
+    assert_eq!(rt; count_after(&rt, rt.alloc(), &[])?, 0);
+    assert_eq!(rt; count_after(&rt, rt.alloc(), &calls)?, 2);
+    Ok(())
 }
 
 /// A hundred owners of one port and one of another have come, and ninety names have left.

@@ -15,3 +15,4 @@ pub mod OneBest
 pub mod Refusals
 pub mod SlotsStay
 pub mod LabelKeys
+pub mod SectionsStay

@@ -5,3 +5,6 @@ pub mod Standings
 mod BindSearch
 mod ConnectSearch
 pub mod Connects
+pub mod TurnSearch
+pub mod TurnConnect
+pub mod ConnectAlone

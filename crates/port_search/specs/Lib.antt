@@ -1,3 +1,5 @@
 pub mod Ports
 pub mod Search
+pub mod Turned
+pub mod TurnedConnect
 pub mod Rows

@@ -6,7 +6,8 @@
 //! and `__inet_hash_connect` of `net/ipv4/inet_hashtables.c` also whether the connection's four-tuple
 //! is still to be had there. [`Ports`] are the ports in their order. [`find_bind`] and
 //! [`find_connect`] go through them over a slice of buckets: a port's bucket is the one at the place
-//! that the port leaves when divided by their number. It stands on `bind_buckets`, and on `flat_list` for the order.
+//! that the port leaves when divided by their number. The searches of [`turning`] go through buckets that
+//! threads share, each port in a turn of its own. It stands on `bind_buckets`, and on `flat_list` for the order.
 //!
 //! The contracts say that the port found is the first of the order that suits, that NoPort comes only
 //! where none of all of them does, and what each bucket holds afterwards and was asked: each port that
@@ -23,6 +24,9 @@ pub mod ports;
 pub mod search;
 #[cfg(test)]
 mod tests;
+#[cfg(test)]
+mod turn_tests;
+pub mod turning;
 
 pub use ports::Ports;
 pub use search::{Attempt, SearchEnd, find_bind, find_connect};

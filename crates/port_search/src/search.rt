@@ -46,7 +46,7 @@ impl From<AllocError> for SearchEnd {
 }
 
 /// The owner, at that port.
-fn at_port(owner: Owner, port: u16) -> Owner
+pub(crate) fn at_port(owner: Owner, port: u16) -> Owner
     ensures { result ≡ spec.at_port owner port }
 {
     Owner { port, ..owner }
@@ -115,7 +115,7 @@ fn free_at(buckets: &mut [Bucket], port: u16) -> Result<bool, SearchEnd>
 }
 
 /// The owner, for which `connect` chose that port.
-fn chosen_at(owner: Owner, port: u16) -> Owner
+pub(crate) fn chosen_at(owner: Owner, port: u16) -> Owner
     ensures { result ≡ spec.chosen_at owner port }
 {
     Owner {

@@ -96,7 +96,7 @@ fn check_entries(
     bucket: &Bucket,
     expected: usize,
 ) -> Result<(), AllocError> {
-    assert_eq!(rt; bucket.journal(alloc)?.len(), expected);
+    assert_eq!(rt; bucket.count(), expected);
     Ok(())
 }
 

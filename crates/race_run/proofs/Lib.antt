@@ -5,7 +5,6 @@ pub mod CardsBest
 pub mod CardsStand
 pub mod LooksGroup
 pub mod LooksSame
-pub mod SectionsStay
 pub mod LookAnswers
 pub mod ItemsAlike
 pub mod SectionTurns

@@ -24,7 +24,7 @@ use Rattle.race_run.specs.Fits.{FitsTables}
 use Rattle.sock_ops.specs.Sections.{Kept, kept, AreMeant, KeepsHeader}
 use Rattle.race_run.specs.Steps.{StartsAt, CanStart, RunsAs, RunsOne, RunsEach, item_found}
 use Rattle.race_run.proofs.ItemsAlike.{items_alike}
-use Rattle.race_run.proofs.SectionsStay.{step_stays}
+use Rattle.flat_list.proofs.SectionsStay.{step_stays}
 
 -- what stands after some commands of a section that began at the first list
 pub record SoFar (header : Header) (n : ℕ) (first : Flat) (all : List Command) (items left : List Item) (before out : List Reply) (i : ℕ) (m : Kept) (t : Tables) : Type 0 where

@@ -20,3 +20,5 @@ mod Closings
 mod Meant
 mod Names
 mod Tries
+pub mod TakenTurns
+pub mod Begun

@@ -1,7 +1,6 @@
 -- What is known of a section and tables that mean a list.
-use Rattle.std.proofs.Common.{◌≡◌, ℕ, ◌+◌, ◌≤◌, ◌<◌, ◌^◌, Bool, true, false, List, length, Option, None, Some, find, Result, Ok, Err, refl, sym, ap, ◌∙◌, subst}
+use Rattle.std.proofs.Common.{◌≡◌, ℕ, ◌+◌, ◌≤◌, ◌<◌, ◌^◌, true, false, length, None, Some, find, Result, Ok, Err, refl, sym, ap, ◌∙◌, subst}
 use Rattle.std.specs.Prelude.{IfOk}
-use Rattle.list_words.specs.Lists.{Each}
 use Rattle.list_words.proofs.EachLemmas.{each_weaken, each_both}
 use Rattle.sock_card.specs.declared.owner.State.{State}
 use Rattle.sock_card.specs.declared.owner.State.TheVariants as states
@@ -19,7 +18,9 @@ use Rattle.table_model.specs.Means.{is_lookup}
 use Rattle.table_model.proofs.OwnersStanding.{owners_stand}
 use Rattle.table_model.proofs.OwnersFresh.{unbound_fresh}
 use Rattle.table_model.proofs.GroupsAll.{plans_refine}
-use Rattle.sock_ops.specs.Sections.{StandsIn, StandsAsOwner, AllStand, AreMeant, AreOf, Kept, Replies, RefinesEach}
+use Rattle.table_model.proofs.OthersAll.{others_stay}
+use Rattle.flat_list.proofs.SectionsStay.{step_stays}
+use Rattle.sock_ops.specs.Sections.{StandsIn, StandsAsOwner, AllStand, AreMeant, AreOf, LeavesOthers, Kept, Replies, RefinesEach}
 
 -- as an owner of its port, where it is one, and under a fresh name, where it isn't
 abbrev IsThere : Tables → Mine → Type 0
@@ -60,3 +61,19 @@ pub refines_all : {E : Type 0} (k : Kept) (t t' : Tables) (command : Command) (n
     → IfOk result (Replies t (plan k.header k.own command) t' new) → IfOk result (RefinesEach k t command t' new)
 refines_all k t t' command new (Ok reply) near few looks carried = refines_each k t t' command new reply near few looks carried
 refines_all k t t' command new (Err e) near few looks carried = tt
+
+-- a command that was carried out leaves others meant
+pub leaves_others : (k : Kept) (t t' : Tables) (command : Command) (new : Own) (reply : Reply) → k.own.number ≤ 64 → length k.own.labels + 1 < 2 ^ 24 → is_lookup command ≡ false
+    → Replies t (plan k.header k.own command) t' new reply → LeavesOthers k t command t'
+leaves_others k t t' command new reply near few looks carried flat other mine theirs apart = record {
+  header = (step_stays flat k.own.number command).0 ∙ theirs.header;
+  means =
+      others_stay k.own.number other.own.number k.own other.own t flat command (record { tables = t'; result = answers new reply }) near few looks apart mine.means theirs.means
+      (subst (λ (header : Header). run t (plan header k.own command) ≡ Some (record { tables = t'; result = answers new reply })) (sym mine.header) carried);
+}
+
+-- and so does one that may have failed
+pub leaves_all : {E : Type 0} (k : Kept) (t t' : Tables) (command : Command) (new : Own) (result : Result Reply E) → k.own.number ≤ 64 → length k.own.labels + 1 < 2 ^ 24 → is_lookup command ≡ false
+    → IfOk result (Replies t (plan k.header k.own command) t' new) → IfOk result (λ (reply : Reply). LeavesOthers k t command t')
+leaves_all k t t' command new (Ok reply) near few looks carried = leaves_others k t t' command new reply near few looks carried
+leaves_all k t t' command new (Err e) near few looks carried = tt

@@ -14,3 +14,4 @@ pub mod Places
 pub mod Steps
 pub mod Kept
 pub mod Sections
+pub mod Taken

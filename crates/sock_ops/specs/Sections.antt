@@ -1,29 +1,24 @@
 -- What a section's commands come to on the tables: our own.
-use Rattle.std.specs.Prelude.{◌≡◌, ◌≤◌, ◌+◌, length, ℕ, Bool, not, ◌&&◌, true, false, Result, Ok, Err, Option, if◌then◌else◌, List}
-use Rattle.list_words.specs.Lists.{Each}
+use Rattle.std.specs.Prelude.{◌≡◌, ◌≢◌, ◌≤◌, ◌+◌, length, ℕ, Bool, true, false, Some, List, slice_get, ◌<◌, ◌^◌}
+use Rattle.list_words.specs.Lists.{Each, Pairs}
 use Rattle.sock_card.specs.declared.owner.Owner.{Owner}
 use Rattle.sock_card.specs.declared.owner.State.{State}
 use Rattle.sock_card.specs.declared.owner.State.TheVariants as states
-use Rattle.chain_book.specs.declared.outcome.Replace.{Replace}
-use Rattle.chain_book.specs.declared.outcome.Replace.TheVariants as rules
 use Rattle.flat_list.specs.declared.header.Header.{Header}
 use Rattle.flat_list.specs.declared.command.Command.{Command}
-use Rattle.flat_list.specs.declared.command.End.{End}
 use Rattle.flat_list.specs.declared.command.Reply.{Reply}
 use Rattle.flat_list.specs.declared.command.Reply.TheVariants as replies
 use Rattle.flat_list.specs.Flat.{Flat}
-use Rattle.flat_list.specs.Owned.{source_of, is_no_end}
+use Rattle.flat_list.specs.Step.{step}
 use Rattle.table_model.specs.declared.operation.OpEnd.{OpEnd}
 use Rattle.table_model.specs.declared.operation.OpEnd.TheVariants as errors
 use Rattle.table_model.specs.Asking.{Asking}
 use Rattle.table_model.specs.Tables.{Tables}
 use Rattle.table_model.specs.Own.{Own, Mine}
-use Rattle.table_model.specs.Commands.{Replied, answers, is_some}
+use Rattle.table_model.specs.Commands.{Replied, answers}
 use Rattle.table_model.specs.Means.{Means, Refines}
-use Rattle.sock_ops.specs.declared.sock.Sock.{Sock}
 use Rattle.sock_ops.specs.declared.leaving.Closed.{Closed}
 use Rattle.sock_ops.specs.declared.leaving.Closed.TheVariants as closes
-use Rattle.sock_ops.specs.Socks.{mine_of, is_unbound}
 use Rattle.sock_ops.specs.Carried.{Comes}
 use Rattle.sock_ops.specs.Stands.{IsOwner, IsUnknown}
 
@@ -85,3 +80,40 @@ abbrev pub RefinesEach : Kept → Tables → Command → Tables → Own → Repl
 RefinesEach kept old command new own reply =
     (flat : Flat) → flat.header ≡ kept.header → Means kept.own.number kept.own old flat
     → Refines kept.own.number (record { tables = new; result = answers own reply }) flat command
+
+-- the section's own and the tables are those of that list, whose header it has
+pub record IsMeantBy (flat : Flat) (t : Tables) (kept : Kept) : Type 0 where
+  pub header : flat.header ≡ kept.header
+  pub means : Means kept.own.number kept.own t flat
+
+-- the sections have different numbers
+abbrev pub NumbersDiffer : Kept → Kept → Type 0
+NumbersDiffer a b = a.own.number ≢ b.own.number
+
+-- different sections, each with its own, and the tables are those of that list
+pub record AreAllMeantBy (flat : Flat) (t : Tables) (all : List Kept) : Type 0 where
+  pub each : Each (IsMeantBy flat t) all
+  pub differ : Pairs NumbersDiffer all
+
+-- of some list
+abbrev pub AreMeantTogether : List Kept → Tables → Type 0
+AreMeantTogether all t = (flat : Flat) × AreAllMeantBy flat t all
+
+-- the section can give so many labels more
+pub record HasTurns (turns : ℕ) (kept : Kept) : Type 0 where
+  pub number : kept.own.number ≤ 64
+  pub room : length kept.own.labels + turns < 2 ^ 24
+
+-- whatever list was meant, the reply to the command of the section in that place is the list's, and what the list leaves
+-- is meant now
+abbrev pub RefinesTurn : List Kept → Tables → ℕ → Command → List Kept → Tables → Reply → Type 0
+RefinesTurn old t place command new t' reply =
+    (flat : Flat) (kept : Kept) → slice_get old place ≡ Some kept → AreAllMeantBy flat t old
+    → (reply ≡ (step flat kept.own.number command).reply)
+    × AreAllMeantBy (step flat kept.own.number command).flat t' new
+
+-- whatever list was meant, another section that it meant is meant still, by what the list leaves
+abbrev pub LeavesOthers : Kept → Tables → Command → Tables → Type 0
+LeavesOthers kept old command new =
+    (flat : Flat) (other : Kept) → IsMeantBy flat old kept → IsMeantBy flat old other → NumbersDiffer other kept
+    → IsMeantBy (step flat kept.own.number command).flat new other

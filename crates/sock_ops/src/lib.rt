@@ -32,6 +32,9 @@ pub mod sock;
 pub mod tables;
 #[cfg(test)]
 mod tests;
+#[cfg(test)]
+mod turn_tests;
+pub mod turns;
 pub mod waits;
 
 pub use accepting::accept;
@@ -46,4 +49,5 @@ pub use reaping::reap;
 pub use sock::{Bound, Connected, Listening, Sock, Unbound};
 pub use table_model::OpEnd;
 pub use tables::Tables;
+pub use turns::{Turn, begin, step_at, take_turns};
 pub use waits::Waits;

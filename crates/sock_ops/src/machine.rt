@@ -8,7 +8,7 @@ ghost use Rattle.table_model.specs.Own.{open_socket};
 ghost use Rattle.table_model.specs.Commands as commands;
 ghost use Rattle.table_model.specs.Means.{is_lookup};
 ghost use Rattle.table_model.specs.Tables.{Tables as Shown};
-ghost use Rattle.sock_ops.specs.Sections.{AllStand, AreMeant, AreOf, Replies, RefinesEach, Keeps, KeepsHeader, kept, close_answer};
+ghost use Rattle.sock_ops.specs.Sections.{AllStand, AreMeant, AreOf, LeavesOthers, Replies, RefinesEach, Keeps, KeepsHeader, kept, close_answer};
 
 use crate::labels::Labels;
 use crate::offsets::Offsets;
@@ -351,7 +351,8 @@ impl Machine {
 
     /// Carries a command out, any but `look` and `packets`.
     ///
-    /// The reply is the flat list's. An `Err`, for want of memory, leaves the section's header, number and open
+    /// The reply is the flat list's, and what other sections know of themselves stays meant, so sections can take turns
+    /// at the tables. An `Err`, for want of memory, leaves the section's header, number and open
     /// sockets, and at most one label more; the program ends there. It takes the time of the operation, and for a label that
     /// of a search among as many.
     pub fn step(&mut self, tables: &mut Tables, command: &Command) -> Result<Reply, AllocError>
@@ -362,6 +363,7 @@ impl Machine {
         ensures carried { IfOk result (Replies tables.old
             (commands.plan self.old.header self.old.own command.now) tables.new self.new.own) }
         ensures refines { IfOk result (RefinesEach self.old tables.old command.now tables.new self.new.own) }
+        ensures others { IfOk result (λ reply. LeavesOthers self.old tables.old command.now tables.new) }
         ensures err { OnErr result (self.new.own.sockets ≡ self.old.own.sockets) }
         ensures kept { KeepsHeader self.old self.new }
     {

@@ -62,3 +62,9 @@ pub mod OwnersAll
 pub mod ChainsPlans
 pub mod GroupsEnds
 pub mod GroupsAll
+pub mod GoesAlone
+pub mod OthersSlots
+pub mod OthersPlans
+pub mod OthersSockets
+pub mod OthersStep
+pub mod OthersAll

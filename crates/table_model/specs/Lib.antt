@@ -6,3 +6,4 @@ pub mod Operations
 pub mod Commands
 pub mod Means
 pub mod Rows
+pub mod Goes

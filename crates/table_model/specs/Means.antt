@@ -190,6 +190,14 @@ PlansEnd =
     → n ≤ 64 → is_lookup command ≡ false → Means n own t flat
     → (ended : Ended Replied) × (run t (plan flat.header own command) ≡ Some ended)
 
+-- and what another section knows of itself stays meant
+abbrev pub OthersStay : Type 0
+OthersStay =
+    (n m : ℕ) (own other : Own) (t : Tables) (flat : Flat) (command : Command) (ended : Ended Replied)
+    → n ≤ 64 → length own.labels + 1 < 2 ^ 24 → is_lookup command ≡ false → m ≢ n
+    → Means n own t flat → Means m other t flat → run t (plan flat.header own command) ≡ Some ended
+    → Means m other ended.tables (step flat n command).flat
+
 -- new tables mean the empty list
 abbrev pub NewMeanEmpty : Type 0
 NewMeanEmpty = (header : Header) → TablesMean (new_tables header.shape header.seed) (new_flat header)

@@ -7,14 +7,14 @@ use mathlib.Core.Option.{some, some-injective, some-ne-none}
 use lib.ListN.{get_elem?}
 use Rattle.list_words.specs.Lists.{Each}
 use Rattle.list_words.proofs.EachLemmas.{each_append, each_weaken, each_map}
-use Rattle.turn_table.specs.Journals.{placed, by_caller, notes_at}
+use Rattle.turn_table.specs.Journals.{placed, by_caller, notes_at, HasAllAt}
 use Rattle.turn_table.specs.Views.{nobody}
 use Rattle.turn_table.specs.Turning.{CallersOk}
 use Rattle.turn_table.specs.declared.note.Note.{Note}
 use Rattle.turn_table.specs.declared.note.Placed.{Placed}
 use Rattle.turn_table.specs.declared.view.TurnView.{TurnView}
 use Rattle.turn_table.proofs.Sums.{append-nil}
-use Rattle.turn_table.proofs.OfCallers.{by-append, at-append, by_none, by_at_none, at_here, at_else, by_first}
+use Rattle.turn_table.proofs.OfCallers.{by-append, at-append, by_none, by_at_none, at_here, at_else, by_first, has_each}
 use Rattle.turn_table.proofs.Updates.{upd, upd_here, upd_else}
 use Rattle.turn_table.proofs.ViewLists.{at_each}
 
@@ -186,6 +186,12 @@ module _ {E H : Type 0} where
       let given : by_caller 0 (notes_at i v.mine) ≡ notes_at i v.mine = by_first (notes_at i v.mine) (λ c low. by_at_none c i v.mine (others c low).1) in
       let there : by_caller 0 (js i) ≡ js i = by_first (js i) (λ c low. o.keeps id v me c (others c low).0 i near ∙ by_at_none c i v.mine (others c low).1) in
       sym there ∙ (o.keeps id v me 0 (ap o.keeper (sym first) ∙ o.live id v me some-part) i near ∙ given)
+
+  -- a journal has each entry that a pass gave at its place, or that a pass that it joined did
+  pub callers_all : (places : ℕ) (js : ℕ → List (Note E)) (vs : List (TurnView E H)) (k i : ℕ) (v : TurnView E H) → get_elem? vs k ≡ some v → i < places → CallersOk places js vs → HasAllAt i v.mine (js i)
+  callers_all places js vs k i v me near o = has_each (notes_at i v.mine) (js i) (λ c. dite (ℕ_discrete (o.keeper c) k)
+      (λ z. inr (o.keeps k v me c z i near))
+      (λ ne. inl (by_at_none c i v.mine (o.strange k v me c ne))))
 
   -- at the start the first pass keeps all callers' entries
   pub callers_first : (places : ℕ) (v : TurnView E H) → v.mine ≡ [] → CallersOk places (λ (i : ℕ). []) (v ∷ [])

@@ -1,5 +1,6 @@
 -- The entries of one caller, and of one place.
-use Rattle.std.proofs.Common.{◌≡◌, sym, arith, ℕ, ◌≢◌, ◌==◌, List, [], ◌∷◌, ◌++◌, map, filter, cond, refl, ap, ◌∙◌, eq-eqb, ne_eqb, Bool, true, subst, eqb, ◌<◌}
+use Rattle.std.proofs.Common.{◌≡◌, sym, arith, ℕ, suc, ◌≢◌, ◌==◌, ◌⊎◌, inl, inr, List, [], ◌∷◌, ◌++◌, map, filter, cond, refl, ap, ◌∙◌, eq-eqb, ne_eqb, Bool, true, false, subst, eqb, ◌<◌}
+use Rattle.std.specs.List.{Contains}
 use mathlib.Core.Logic.{dite}
 use native.Mathlib.Decide.{ℕ_discrete}
 use Rattle.std.proofs.lemmas.List.Elements.{filter-append}
@@ -53,3 +54,46 @@ module _ {E : Type 0} where
       (λ z. ap (λ b. cond b (x ∷ by_caller 0 xs) (by_caller 0 xs)) (eq-eqb x.caller 0 z)
       ∙ ap (λ (l : List (Note E)). x ∷ l) (by_first xs (λ c low. ap (λ b. cond b (x ∷ by_caller c xs) (by_caller c xs)) (sym (ne_eqb x.caller c (λ e. absurd (omega arith)))) ∙ h c low)))
       (λ ne. absurd (headed x.caller (eqb x.caller x.caller) x (by_caller x.caller xs) (eq-eqb x.caller x.caller refl) (h x.caller (omega arith))))
+
+  -- an item is among these
+  abbrev In : Note E → List (Note E) → Type 0
+  In x [] = ⊥
+  In x (y ∷ ys) = (y ≡ x) ⊎ In x ys
+
+  in_contains : (x : Note E) (xs : List (Note E)) → In x xs → Contains xs x
+  in_contains x [] h = absurd h
+  in_contains x (y ∷ ys) (inl e) = (0, omega arith, e)
+  in_contains x (y ∷ ys) (inr h) = let t = in_contains x ys h in (suc t.0, omega (arith, t.1), t.2)
+
+  in_kept : (b : Bool) (x y : Note E) (ys : List (Note E)) → In x (cond b (y ∷ ys) ys) → (y ≡ x) ⊎ In x ys
+  in_kept true x y ys h = h
+  in_kept false x y ys h = inr h
+
+  -- an entry of a caller's own is an entry
+  in_of_by : (c : ℕ) (x : Note E) (xs : List (Note E)) → In x (by_caller c xs) → In x xs
+  in_of_by c x [] h = h
+  in_of_by c x (y ∷ ys) h = elim (in_kept (y.caller == c) x y (by_caller c ys) h) [ inl e ↦ inl e | inr t ↦ inr (in_of_by c x ys t) ]
+
+  kept_on : (b : Bool) (x y : Note E) (ys : List (Note E)) → In x ys → In x (cond b (y ∷ ys) ys)
+  kept_on true x y ys h = inr h
+  kept_on false x y ys h = h
+
+  -- and an entry is one of its caller's own
+  in_by : (x : Note E) (xs : List (Note E)) → In x xs → In x (by_caller x.caller xs)
+  in_by x [] h = h
+  in_by x (y ∷ ys) (inl e) =
+      let same : y.caller == x.caller ≡ true = eq-eqb y.caller x.caller (ap (λ (z : Note E). z.caller) e) in
+      subst (λ b. In x (cond b (y ∷ by_caller x.caller ys) (by_caller x.caller ys))) (sym same) (inl e)
+  in_by x (y ∷ ys) (inr h) = kept_on (y.caller == x.caller) x y (by_caller x.caller ys) (in_by x ys h)
+
+  each_in : (P : Note E → Type 0) (xs : List (Note E)) → ((x : Note E) → In x xs → P x) → Each P xs
+  each_in P [] h = tt
+  each_in P (x ∷ xs) h = (h x (inl refl), each_in P xs (λ y t. h y (inr t)))
+
+  has_it : (given journal : List (Note E)) (x : Note E) → (by_caller x.caller given ≡ []) ⊎ (by_caller x.caller journal ≡ by_caller x.caller given) → In x given → In x journal
+  has_it given journal x (inl none) here = absurd (subst (In x) none (in_by x given here))
+  has_it given journal x (inr same) here = in_of_by x.caller x journal (subst (In x) (sym same) (in_by x given here))
+
+  -- where a journal has of each of these callers just what they gave, it has each entry that was given
+  pub has_each : (given journal : List (Note E)) → ((c : ℕ) → (by_caller c given ≡ []) ⊎ (by_caller c journal ≡ by_caller c given)) → Each (Contains journal) given
+  has_each given journal kept = each_in (Contains journal) given (λ x here. in_contains x journal (has_it given journal x (kept x.caller) here))

@@ -10,7 +10,7 @@ use Rattle.atomic_table.specs.Table.{State, step, Act, keeps, takes, gives, Vali
 use Rattle.atomic_table.proofs.Lists.{set_else, set_again, exchanged}
 use Rattle.list_words.specs.Lists.{Each, total}
 use Rattle.list_words.proofs.TotalLemmas.{total-append}
-use Rattle.turn_table.specs.Journals.{Ascends, number, number_of, by_caller, Begins}
+use Rattle.turn_table.specs.Journals.{Ascends, number, number_of, by_caller, Begins, HasAllAt}
 use Rattle.turn_table.specs.Views.{first, newcomer, heard, nobody, cut, joined, looked, taking, drawing, giving}
 use Rattle.turn_table.specs.Turning.{below, has_turn, Home, HasShare, Knows, SharesOk, EntriesOk, KnowledgeOk, CallersOk, Orderly}
 use Rattle.turn_table.specs.Values.{AllNew}
@@ -25,7 +25,7 @@ use Rattle.turn_table.proofs.ShareSteps.{share_within, share_draw, share_many, s
 use Rattle.turn_table.proofs.TurnSteps.{turns_same, turns_take, turns_give}
 use Rattle.turn_table.proofs.EntrySteps.{entries_same, entries_draw, entries_give}
 use Rattle.turn_table.proofs.KnowledgeSteps.{knows_nothing, knows_cut, knowledge_draw, knowledge_look, knowledge_take, give_rises, knowledge_give, knowledge_snoc, knowledge_join}
-use Rattle.turn_table.proofs.CallerSteps.{callers_same, callers_give, callers_tell, callers_split, callers_join, callers_first, callers_sole}
+use Rattle.turn_table.proofs.CallerSteps.{callers_same, callers_give, callers_tell, callers_split, callers_join, callers_first, callers_sole, callers_all}
 use Rattle.turn_table.proofs.Whole.{count_is}
 
 -- the one item of a list
@@ -162,6 +162,7 @@ module _ {V E H : Type 0} (notes : V → List (Note E)) (fits : ℕ → ℕ → 
         own = ap (by_caller m.0.caller) h.is ∙ o.callers.keeps id m.0 me m.0.caller (o.callers.live id m.0 me some-part) i near;
         sole = λ first never. h.is ∙ callers_sole (length s.homes) o.journals s.views id i m.0 me some-part first never near o.callers;
         before = λ k x e at. subst (Begins x) (ap o.journals at ∙ sym h.is) (mine.finds k x e).2;
+        all = subst (HasAllAt i m.0.mine) (sym h.is) (callers_all (length s.homes) o.journals s.views id i m.0 me near o.callers);
       }
 
   -- take a turn, where it is free

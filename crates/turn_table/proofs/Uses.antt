@@ -14,7 +14,7 @@ use Rattle.turn_table.specs.Views.{taking, giving, added, first}
 use Rattle.turn_table.specs.Values.{AllNew}
 use Rattle.turn_table.specs.Turning.{Orderly}
 use Rattle.turn_table.specs.Plays.{Sat, Took, gave, in_hand}
-use Rattle.turn_table.specs.Journals.{AsFound}
+use Rattle.turn_table.specs.Journals.{AsFound, HasAllAt}
 use Rattle.turn_table.specs.declared.note.Note.{Note}
 use Rattle.turn_table.specs.declared.view.TurnView.{TurnView}
 
@@ -54,6 +54,7 @@ module _ {V E H : Type 0} (notes : V → List (Note E)) (F : H → ℕ → ℕ �
     pub own : by_caller m.0.caller (notes value) ≡ by_caller m.0.caller (notes_at i m.0.mine)
     pub sole : m.0.caller ≡ 0 → m.0.splits ≡ 0 → notes value ≡ notes_at i m.0.mine
     pub before : AsFound m.0.finds i (notes value)
+    pub all : HasAllAt i m.0.mine (notes value)
 
   -- from the play of the step and the value moved out
   pub taken : (i n : ℕ) (m₀ m m' m'' : Sat notes H) (x : Option V) (value : V) → m ≡ m₀ → m₀.1 ≡ [] → Took notes F i n m m' → m'.1 ≡ (i, x) ∷ rest m'.1 → x ≡ Some value
@@ -74,6 +75,7 @@ module _ {V E H : Type 0} (notes : V → List (Note E)) (F : H → ℕ → ℕ �
         own = subst (λ (y : V). by_caller m₀.0.caller (notes y) ≡ by_caller m₀.0.caller (notes_at i m₀.0.mine)) v t₀.own;
         sole = subst (λ (y : V). m₀.0.caller ≡ 0 → m₀.0.splits ≡ 0 → notes y ≡ notes_at i m₀.0.mine) v t₀.sole;
         before = subst (λ (y : V). AsFound m₀.0.finds i (notes y)) v t₀.before;
+        all = subst (λ (y : V). HasAllAt i m₀.0.mine (notes y)) v t₀.all;
       }
 
   -- the pass with a value put into its slot

@@ -1,5 +1,6 @@
 -- Words for journals, the numbers of their notes, and what was found of them: our own.
 use Rattle.std.specs.Prelude.{◌≡◌, ℕ, zero, suc, ◌<◌, ◌≤◌, ◌==◌, List, [], ◌∷◌, ◌++◌, map, filter}
+use Rattle.std.specs.List.{Contains}
 use mathlib.Core.Option.{some}
 use lib.ListN.{get_elem?}
 use Rattle.list_words.specs.Lists.{Each, Pairs}
@@ -34,6 +35,10 @@ module _ {E : Type 0} where
   -- of entries with their places, those of one place, in order
   abbrev pub notes_at : ℕ → List (Placed E) → List (Note E)
   notes_at i entries = map (λ (p : Placed E). p.note) (filter (λ (p : Placed E). p.place == i) entries)
+
+  -- each entry of these that was given at the place stands in the journal
+  abbrev pub HasAllAt : ℕ → List (Placed E) → List (Note E) → Type 0
+  HasAllAt i given journal = Each (Contains journal) (notes_at i given)
 
   -- the journal begins as it was found, and what came later has later numbers: so what was found had each entry with a number below `since`
   pub record Begins (x : Find E) (journal : List (Note E)) : Type 0 where

@@ -19,9 +19,13 @@ module _ {V E H : Type 0} where
   abbrev pub known : TurnPass V E H → TurnView E H
   known p = p.seat.me.0
 
+  -- what the pass tells of itself when it runs
+  abbrev pub IsTold : TurnPass V E H → Type 0
+  IsTold p = (p.caller ≡ (known p).caller) × (p.splits ≡ (known p).splits)
+
   -- a pass of this table. One with a part knows what the table's values have in common
   abbrev pub IsPassOf : Turns V E H → TurnPass V E H → Type 0
-  IsPassOf t p = (p.seat.table_id ≡ t.table.shared.table_id) × (0 < (known p).parts → (known p).home ≡ home t ∷ [])
+  IsPassOf t p = (p.seat.table_id ≡ t.table.shared.table_id) × (0 < (known p).parts → (known p).home ≡ home t ∷ []) × IsTold p
 
   -- what it holds of the table's slots: nothing, or that of the turn that it has
   abbrev pub hand : TurnPass V E H → List (ℕ × Option V)

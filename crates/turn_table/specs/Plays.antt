@@ -1,7 +1,7 @@
 -- What each step tells: of the step, the seat before, the number found and the seat after.
 use Rattle.std.specs.Prelude.{◌≡◌, ◌≢◌, ℕ, ◌+◌, ◌-◌, ◌≤◌, List, [], ◌∷◌, map, length, Option, Some, None}
 use Rattle.atomic_table.specs.Table.{Me, Step, rest}
-use Rattle.turn_table.specs.Journals.{Ascends, number, by_caller, notes_at, AsFound}
+use Rattle.turn_table.specs.Journals.{Ascends, number, by_caller, notes_at, AsFound, HasAllAt}
 use Rattle.turn_table.specs.Views.{looked, taking, drawing, giving, added}
 use Rattle.turn_table.specs.declared.note.Note.{Note}
 use Rattle.turn_table.specs.declared.view.TurnView.{TurnView}
@@ -27,6 +27,7 @@ module _ {V E : Type 0} (notes : V → List (Note E)) where
       pub own : by_caller m.0.caller (notes value) ≡ by_caller m.0.caller (notes_at i m.0.mine)
       pub sole : m.0.caller ≡ 0 → m.0.splits ≡ 0 → notes value ≡ notes_at i m.0.mine
       pub before : AsFound m.0.finds i (notes value)
+      pub all : HasAllAt i m.0.mine (notes value)
 
     abbrev pub took : (H → ℕ → ℕ → V → Type 0) → Step (Option V) → Sat H → ℕ → Sat H → Type 0
     took fits st m r n = (r ≡ 0 → Took fits (st.word - 1) st.slots m n) × (r ≢ 0 → n ≡ m)

@@ -5,7 +5,7 @@ use mathlib.Core.Option.{Option as Maybe, some}
 use lib.ListN.{get_elem?}
 use Rattle.atomic_table.specs.Table.{State}
 use Rattle.list_words.specs.Lists.{Each, total}
-use Rattle.turn_table.specs.Journals.{Ascends, number, number_of, placed, by_caller, notes_at, Begins}
+use Rattle.turn_table.specs.Journals.{Ascends, number, number_of, placed, by_caller, notes_at, Begins, HasAllAt}
 use Rattle.turn_table.specs.declared.note.Note.{Note}
 use Rattle.turn_table.specs.declared.note.Placed.{Placed}
 use Rattle.turn_table.specs.declared.note.Find.{Find}
@@ -112,3 +112,7 @@ module _ {V E : Type 0} (notes : V → List (Note E)) where
     pub entries_ok : EntriesOk (slice_index s.words 0) (length s.homes) journals s.views
     pub knowledge : KnowledgeOk key (slice_index s.words 0) (length s.homes) journals s.views
     pub callers : CallersOk (length s.homes) journals s.views
+
+  -- so a pass with a turn has found each entry that any pass gave at its place
+  abbrev pub FindsAll : {H : Type 0} → (ℕ → ℕ → V → Type 0) → H → Type 0
+  FindsAll {H} fits key = (s : State (Option V) (TurnView E H)) → Orderly fits key s → (k l i : ℕ) (v u : TurnView E H) → get_elem? s.views k ≡ some v → get_elem? s.views l ≡ some u → v.at ≡ i + 1 → i < length s.homes → HasAllAt i u.mine v.found

@@ -4,7 +4,7 @@ ghost use Rattle.std.specs.Prelude.{◌≡◌, ℕ, ◌+◌, ◌-◌, ◌^◌, �
 ghost use Rattle.list_words.specs.Lists.{Each};
 ghost use Rattle.turn_table.specs.declared.note.Note.{Note};
 ghost use Rattle.turn_table.specs.Values.{Fits};
-ghost use Rattle.turn_table.specs.Journals.{Ascends, AsFound, number, by_caller, notes_at};
+ghost use Rattle.turn_table.specs.Journals.{Ascends, AsFound, HasAllAt, number, by_caller, notes_at};
 ghost use Rattle.turn_table.specs.Views.{cut, newcomer, heard, joined, looked, taking, drawing, giving, added};
 ghost use Rattle.turn_table.specs.Passes as words;
 ghost use Rattle.turn_table.specs.Passes.{IsPassOf, IsFree, HasTurn, known};
@@ -33,6 +33,7 @@ impl<V: Journaled> Turns<V> {
         ensures own { by_caller (words.caller pass.old) (V.notes result.value) ≡ by_caller (words.caller pass.old) (notes_at place (words.given pass.old)) }
         ensures sole { words.caller pass.old ≡ 0 → words.splits pass.old ≡ 0 → V.notes result.value ≡ notes_at place (words.given pass.old) }
         ensures before { AsFound (words.finds pass.old) place (V.notes result.value) }
+        ensures all { HasAllAt place (words.given pass.old) (V.notes result.value) }
     {
         for _ in rt.forever() {
             let found = self
@@ -88,6 +89,15 @@ impl<V: Journaled> Turns<V> {
 }
 
 impl<V: Journaled> TurnPass<V> {
+    /// Its number as a caller, which its entries carry.
+    pub fn caller(&self, turns: &Turns<V>) -> u32
+        requires { IsPassOf turns.now self.now }
+        ensures { result ≡ words.caller self.now }
+    {
+        let _places = turns.count;
+        self.caller
+    }
+
     /// How many numbers were drawn. Those that this pass drew or found are below it. It takes no memory.
     pub fn now(&mut self, turns: &Turns<V>) -> u64
         requires { IsPassOf turns.now self.old }
@@ -110,8 +120,12 @@ impl<V: Journaled> TurnPass<V> {
         ensures old { known self.new ≡ cut (known self.old) }
         ensures new { known result ≡ newcomer (words.about self.old) (words.splits self.old + 1) (words.seen self.old) }
     {
+        let seat = turns.table.shared.split_seat::<Cut>(&mut self.seat);
+        self.splits += 1;
         TurnPass {
-            seat: turns.table.shared.split_seat::<Cut>(&mut self.seat),
+            seat,
+            caller: self.splits,
+            splits: 0,
         }
     }
 
@@ -125,6 +139,8 @@ impl<V: Journaled> TurnPass<V> {
     {
         TurnPass {
             seat: turns.table.shared.split_seat::<Tell>(&mut self.seat),
+            caller: 0,
+            splits: 0,
         }
     }
 
@@ -137,7 +153,7 @@ impl<V: Journaled> TurnPass<V> {
         ensures hand { words.hand self.new ≡ words.hand self.old }
         ensures view { known self.new ≡ joined (known self.old) (known other) }
     {
-        let TurnPass { seat } = other;
+        let TurnPass { seat, .. } = other;
         turns.table.shared.join_seat::<Both>(&mut self.seat, seat);
     }
 }

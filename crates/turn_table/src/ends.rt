@@ -85,7 +85,14 @@ impl<V: Journaled> Turns<V> {
         let words = zeros(alloc, 1 + count)?;
         let slots = wrapped(alloc, values)?;
         match Table::new(alloc, words.as_slice(), slots, home) {
-            Ok((table, seat)) => Ok((Turns { table, count }, TurnPass { seat })),
+            Ok((table, seat)) => Ok((
+                Turns { table, count },
+                TurnPass {
+                    seat,
+                    caller: 0,
+                    splits: 0,
+                },
+            )),
             Err(Refused { slots: _ }) => Err(AllocError),
         }
     }
@@ -116,7 +123,7 @@ impl<V: Journaled> Turns<V> {
     {
         let mut values = Vec::with_capacity(alloc, self.count)?;
         let Turns { table, count: _ } = self;
-        let TurnPass { seat } = pass;
+        let TurnPass { seat, .. } = pass;
         let mut closed = table.close_with(seat);
         take_all(&mut closed, &mut values);
         closed.free();

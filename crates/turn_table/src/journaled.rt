@@ -25,3 +25,18 @@ pub trait Journaled: Drop {
     /// The caller of that number may make this entry.
     ghost may_make: { ℕ → Self.Entry → Type 0 };
 }
+
+/// A value in a box is taken and given back without being moved.
+impl<V: Journaled> Journaled for Box<V> {
+    type Entry = V::Entry;
+
+    type Home = V::Home;
+
+    ghost notes = { λ b. V.notes b.value };
+
+    ghost is_replay = { λ b. V.is_replay b.value };
+
+    ghost made_for = { λ home i n b. V.made_for home i n b.value };
+
+    ghost may_make = { V.may_make };
+}

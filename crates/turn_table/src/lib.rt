@@ -23,6 +23,7 @@
 mod calls;
 mod ends;
 mod journaled;
+pub mod laws;
 mod note;
 mod pass;
 mod rule;

@@ -3,7 +3,7 @@
 use std::collections::LinkedList;
 
 /// An entry of a journal, with its number among all entries of the table, and whose it is.
-#[derive(Drop)]
+#[derive(Clone, Copy, Debug, PartialEq, Eq)]
 pub struct Note<E> {
     pub number: u64,
     pub caller: u32,

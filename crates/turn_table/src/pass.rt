@@ -16,13 +16,15 @@ pub struct Turns<V: Journaled> {
     ghost sized: { (table.shared.table_id.words ≡ 1 + table.shared.table_id.slots) × (count ≡ table.shared.table_id.slots) },
 }
 
-/// A thread's part in a table of turns. It has no bytes.
+/// A thread's part in a table of turns.
 ///
 /// It has one turn at a time at most. A pass that is dropped takes its parts with it, so that no other
 /// has them all again.
 #[derive(Drop)]
 pub struct TurnPass<V: Journaled> {
     pub(crate) seat: Seat<Option<V>, TurnView<V::Entry, V::Home>>,
+    pub(crate) caller: u32,
+    pub(crate) splits: u32,
 }
 
 /// A value that is out. It can't be dropped: [`Turns::give`] takes it back.

@@ -5,7 +5,7 @@ use Rattle.turn_table.proofs.Uses.{took_at, hands, taken}
 use Rattle.turn_table.proofs.pass.Turns.take_turn.Goals as goal
 
 pub loop-init : goal.loop-init
-loop-init g c = (refl, refl)
+loop-init g c = (refl, refl, refl, refl)
 
 pub compare_exchange-found-requires : goal.compare_exchange-found-requires
 compare_exchange-found-requires g c =
@@ -28,7 +28,7 @@ returns-then-found-eq0-clause-table g c =
     let k = c.args.self.now.table.shared.key in
     let n = c.args.self.now.table.shared.table_id.slots in
     let t = taken J.notes F (F k) k c.args.place n _ _ _ _ _ _ c.loop.invariant.1 c.requires.free.0 (took_at J.notes F (F k) k c.args.place n _ _ (c.compare_exchange-found.ensures.2.0 c.if-found-eq0.true)) c.exchange.ensures.2 c.unwrap-value.ensures c.exchange.ensures.3 in
-    (c.exchange.ensures.0 ∙ (c.compare_exchange-found.ensures.0 ∙ (c.loop.invariant.0 ∙ c.requires.table.0)), λ some-part. ap (λ v. v.home) t.view ∙ c.requires.table.1 c.requires.part)
+    (c.exchange.ensures.0 ∙ (c.compare_exchange-found.ensures.0 ∙ (c.loop.invariant.0 ∙ c.requires.table.0)), λ some-part. ap (λ v. v.home) t.view ∙ c.requires.table.1 c.requires.part, (c.loop.invariant.2 ∙ (c.requires.table.2.0 ∙ sym (ap (λ v. v.caller) t.view)), c.loop.invariant.3 ∙ (c.requires.table.2.1 ∙ sym (ap (λ v. v.splits) t.view))))
 
 pub returns-then-found-eq0-clause-turn : goal.returns-then-found-eq0-clause-turn
 returns-then-found-eq0-clause-turn g c =
@@ -102,5 +102,14 @@ returns-then-found-eq0-clause-before g c =
     let t = taken J.notes F (F k) k c.args.place n _ _ _ _ _ _ c.loop.invariant.1 c.requires.free.0 (took_at J.notes F (F k) k c.args.place n _ _ (c.compare_exchange-found.ensures.2.0 c.if-found-eq0.true)) c.exchange.ensures.2 c.unwrap-value.ensures c.exchange.ensures.3 in
     t.before
 
+pub returns-then-found-eq0-clause-all : goal.returns-then-found-eq0-clause-all
+returns-then-found-eq0-clause-all g c =
+    let J = g.V.Journaled in
+    let F = Fits J.notes J.is_replay J.made_for J.may_make in
+    let k = c.args.self.now.table.shared.key in
+    let n = c.args.self.now.table.shared.table_id.slots in
+    let t = taken J.notes F (F k) k c.args.place n _ _ _ _ _ _ c.loop.invariant.1 c.requires.free.0 (took_at J.notes F (F k) k c.args.place n _ _ (c.compare_exchange-found.ensures.2.0 c.if-found-eq0.true)) c.exchange.ensures.2 c.unwrap-value.ensures c.exchange.ensures.3 in
+    t.all
+
 pub loop-preserved : goal.loop-preserved
-loop-preserved g c = (c.compare_exchange-found.ensures.0 ∙ c.loop.invariant.0, c.compare_exchange-found.ensures.2.1 (λ z. absurd (c.if-found-eq0.false z)) ∙ c.loop.invariant.1)
+loop-preserved g c = (c.compare_exchange-found.ensures.0 ∙ c.loop.invariant.0, c.compare_exchange-found.ensures.2.1 (λ z. absurd (c.if-found-eq0.false z)) ∙ c.loop.invariant.1, c.loop.invariant.2, c.loop.invariant.3)

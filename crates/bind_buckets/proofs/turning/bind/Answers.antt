@@ -1,0 +1,17 @@
+use Rattle.std.proofs.Common.{find, sym, subst, ap, ◌∙◌, eq-eqb}
+use Rattle.sock_card.specs.Conflict.{refuses}
+use Rattle.bind_buckets.specs.declared.request.Answer.{Answer}
+use Rattle.bind_buckets.specs.declared.request.Request.TheVariants as requests
+use Rattle.bind_buckets.specs.OwnerStep.{owner_step}
+use Rattle.bind_buckets.specs.Turned.{Asks}
+use Rattle.bind_buckets.proofs.Told.{bind_answers}
+use Rattle.bind_buckets.proofs.turning.bind.Goals as goal
+
+pub bind_result-requires : goal.bind_result-requires
+unfolding owner_step
+bind_result-requires c =
+    let h = c.args.turn.now.value.value.held in
+    rw c.ask.ensures.answer (bind_answers h c.args.owner (find (refuses c.args.owner) h.owners))
+
+pub returns : goal.returns
+returns c = record { asks = subst (Asks c.args.turns.now c.args.pass.now c.args.turn.now c.ask.new.pass c.ask.new.turn (requests.Bind c.args.owner)) (sym c.bind_result.ensures) c.ask.ensures.asks }

@@ -1,0 +1,42 @@
+use Rattle.std.proofs.Common.{◌≡◌, find, refl, ◌∙◌, arith}
+use Rattle.sock_card.specs.Became.{connected}
+use Rattle.bind_buckets.specs.OwnerStep.{owner_step, After, has_name, changed}
+use Rattle.bind_buckets.specs.First.{change_first}
+use Rattle.bind_buckets.proofs.Told.{name_answers, spoken_ok, spoken_err, strange_by, same_groups}
+use Rattle.bind_buckets.proofs.RoomToGo.{spoken_used, spoken_settled}
+use Rattle.bind_buckets.proofs.StaysGrouped.{length-change_first}
+use Rattle.bind_buckets.proofs.turning.connect_bound.Goals as goal
+use Rattle.std.proofs.Common.{sym, subst}
+use Rattle.bind_buckets.specs.declared.request.Request.TheVariants as requests
+use Rattle.bind_buckets.specs.Turned.{Asks}
+
+pub name_result-requires : goal.name_result-requires
+unfolding owner_step
+name_result-requires c =
+    let h = c.args.turn.now.value.value.held in
+    rw c.ask.ensures.answer (name_answers h c.args.name (λ _. changed h c.args.name (connected c.args.local c.args.remote c.args.rport) h.groups) (λ a. refl) (find (has_name c.args.name) h.owners))
+
+pub returns-clause-strange : goal.returns-clause-strange
+unfolding owner_step
+returns-clause-strange c =
+    let h = c.args.turn.now.value.value.held in
+    strange_by h c.args.name (λ _. changed h c.args.name (connected c.args.local c.args.remote c.args.rport) h.groups) (λ a. refl) (find (has_name c.args.name) h.owners) c.name_result.result refl (c.name_result.ensures ∙ c.ask.ensures.answer)
+
+pub returns-clause-entries : goal.returns-clause-entries
+unfolding owner_step
+returns-clause-entries c =
+    let b = c.args.turn.now.value.value in
+    let h = b.held in
+    rw c.ask.ensures.asks.value
+    (spoken_used h c.args.name (λ _. changed h c.args.name (connected c.args.local c.args.remote c.args.rport) h.groups) b.entries (find (has_name c.args.name) h.owners) (λ a. omega (arith, length-change_first (has_name c.args.name) (connected c.args.local c.args.remote c.args.rport) h.owners)) c.requires.entry)
+
+pub returns-clause-newcomers : goal.returns-clause-newcomers
+unfolding owner_step
+returns-clause-newcomers c =
+    let b = c.args.turn.now.value.value in
+    let h = b.held in
+    rw c.ask.ensures.asks.value
+    (spoken_settled h c.args.name (λ _. changed h c.args.name (connected c.args.local c.args.remote c.args.rport) h.groups) b.newcomers (find (has_name c.args.name) h.owners) (λ a q. omega (arith, length-change_first (has_name c.args.name) (connected c.args.local c.args.remote c.args.rport) h.owners)))
+
+pub returns-clause-asks : goal.returns-clause-asks
+returns-clause-asks c = subst (Asks c.args.turns.now c.args.pass.now c.args.turn.now c.ask.new.pass c.ask.new.turn (requests.ConnectBound c.args.name c.args.local c.args.remote c.args.rport)) (sym c.name_result.ensures) c.ask.ensures.asks

@@ -1,0 +1,222 @@
+//! The searches of `bind` and `connect` through buckets that threads share, each port in its own turn.
+
+ghost use Rattle.std.specs.Prelude.{◌≡◌, ◌+◌, ◌%◌, ◌^◌, ◌<◌, ◌≤◌, length, OnErr, IfOk, IfErr, Some, Err, [], ◌∷◌};
+ghost use Rattle.turn_table.specs.Passes as words;
+ghost use Rattle.turn_table.specs.Passes.{known};
+ghost use Rattle.bind_buckets.specs.Callers.{MayName};
+ghost use Rattle.bind_buckets.specs.Bucket.{CanConnect, entries_of};
+ghost use Rattle.bind_buckets.specs.Turned.{View, IsIdle, IsOut, IsAlone, Within, Gave, hash_of, made};
+ghost use Rattle.port_search.specs.Search.{IsNotFull, FindsNone, ConnectsAt, ConnectsNowhere, searched};
+ghost use Rattle.port_search.specs.Turned.{TriedAt, BindsAt, BindsNowhere, BindsNotYet};
+ghost use Rattle.port_search.specs.TurnedConnect.{Opened, CameAt, Tries, MayTry, MakesAt, MakesNone, MakesNotYet, SaysFull};
+ghost use Rattle.bind_buckets.specs.declared.request.Request.TheVariants as requests;
+ghost use Rattle.bind_buckets.specs.declared.request.Answer.TheVariants as answers;
+
+use crate::ports::Ports;
+use crate::search::{Attempt, SearchEnd, at_port, chosen_at};
+use bind_buckets::{Bucket, turning};
+use sock_card::Owner;
+use std::sync::Wait;
+use turn_table::{Turn, TurnPass, Turns};
+
+/// Asks the port's bucket to take in the owner, where no other overlaps it; whether it did.
+fn bind_at<R: Wait>(
+    rt: &R,
+    turns: &Turns<Box<Bucket>>,
+    pass: &mut TurnPass<Box<Bucket>>,
+    owner: Owner,
+    port: u16,
+) -> Result<bool, SearchEnd>
+    requires idle { IsIdle turns.now pass.old }
+    requires few { words.draws pass.old < 2 ^ 48 }
+    requires may { MayName (words.caller pass.old) owner.name }
+    ensures idle { IsIdle turns.now pass.new }
+    ensures caller { words.caller pass.new ≡ words.caller pass.old }
+    ensures tried { IfOk result (TriedAt (words.places turns.now) owner port (known pass.old) (known pass.new)) }
+    ensures nothing { OnErr result (Gave (known pass.old) (known pass.new) []) }
+    ensures end { IfErr result (λ end. end ≡ SearchEnd.Memory) }
+{
+    let mut turn = turning::take(rt, turns, pass, port);
+    match turning::reserve(turns, pass, &mut turn) {
+        Ok(()) => {
+            let bound = turning::bind_auto(turns, pass, &mut turn, at_port(owner, port));
+            turning::give(turns, pass, turn);
+            Ok(bound.is_ok())
+        }
+        Err(_) => {
+            turning::give(turns, pass, turn);
+            Err(SearchEnd::Memory)
+        }
+    }
+}
+
+/// Binds the owner to the first of the ports at which no owner overlaps it as its turn comes, whatever
+/// their options (`inet_csk_find_open_port`).
+///
+/// Each port that is tried adds one entry to its bucket, with a number of its own. `NoPort` says that
+/// each of the ports, at its own turn in this call, was refused. Where nobody else was ever split off,
+/// the search and what it leaves are those of buckets that are not shared.
+pub fn find_bind<R: Wait>(
+    rt: &R,
+    turns: &Turns<Box<Bucket>>,
+    pass: &mut TurnPass<Box<Bucket>>,
+    ports: Ports,
+    owner: Owner,
+) -> Result<u16, SearchEnd>
+    requires idle { IsIdle turns.now pass.old }
+    requires few { words.draws pass.old + length ports ≤ 2 ^ 48 }
+    requires may { MayName (words.caller pass.old) owner.name }
+    ensures idle { IsIdle turns.now pass.new }
+    ensures caller { words.caller pass.new ≡ words.caller pass.old }
+    ensures bound { IfOk result (BindsAt (words.places turns.now) owner ports (known pass.old) (known pass.new)) }
+    ensures no_port { result ≡ Err SearchEnd.NoPort
+        → BindsNowhere (words.places turns.now) owner ports (known pass.old) (known pass.new) }
+    ensures memory { result ≡ Err SearchEnd.Memory
+        → BindsNotYet (words.places turns.now) owner ports (known pass.old) (known pass.new) }
+    ensures end { IfErr result IsNotFull }
+    ensures draws { words.draws pass.new ≤ words.draws pass.old + length ports }
+    ensures alone { IsAlone (known pass.old) → IfOk result (λ port.
+        searched (hash_of (words.places turns.now) (words.given pass.old)) owner ports
+        ≡ record { hash = hash_of (words.places turns.now) (words.given pass.new); port = Some port }) }
+    ensures alone_none { IsAlone (known pass.old) → result ≡ Err SearchEnd.NoPort
+        → FindsNone (hash_of (words.places turns.now) (words.given pass.old)) owner ports
+        (hash_of (words.places turns.now) (words.given pass.new)) }
+{
+    for port in ports {
+        if bind_at(rt, turns, pass, owner, port)? {
+            return Ok(port);
+        }
+    }
+    Err(SearchEnd::NoPort)
+}
+
+/// Takes the turn of the port's bucket, makes room there and asks whether `connect` may choose the
+/// port; where it may, the bucket stays out.
+fn open_at<R: Wait>(
+    rt: &R,
+    turns: &Turns<Box<Bucket>>,
+    pass: &mut TurnPass<Box<Bucket>>,
+    port: u16,
+) -> Result<Option<Turn<Box<Bucket>>>, SearchEnd>
+    requires idle { IsIdle turns.now pass.old }
+    requires few { words.draws pass.old < 2 ^ 48 }
+    ensures { Opened turns.now port pass.old pass.new result }
+{
+    let mut turn = turning::take(rt, turns, pass, port);
+    match turning::reserve(turns, pass, &mut turn) {
+        Ok(()) => match turning::free(turns, pass, &mut turn, port) {
+            Ok(()) => Ok(Some(turn)),
+            Err(_) => {
+                turning::give(turns, pass, turn);
+                Ok(None)
+            }
+        },
+        Err(_) => {
+            turning::give(turns, pass, turn);
+            Err(SearchEnd::Memory)
+        }
+    }
+}
+
+/// Takes in the owner for which `connect` chose the port, in place of the one that was replaced, and
+/// gives the bucket back.
+fn connect_at(
+    turns: &Turns<Box<Bucket>>,
+    pass: &mut TurnPass<Box<Bucket>>,
+    turn: Turn<Box<Bucket>>,
+    owner: Owner,
+    port: u16,
+    replaced: Option<u32>,
+)
+    requires out { IsOut turns.now pass.old turn }
+    requires place { turn.place ≡ port % words.places turns.now }
+    requires few { words.draws pass.old + 2 ≤ 2 ^ 48 }
+    requires may { MayName (words.caller pass.old) owner.name }
+    requires free { CanConnect turn.value.value port }
+    requires entries { 2 ≤ turn.value.value.entries }
+    requires newcomer { 1 ≤ turn.value.value.newcomers }
+    ensures idle { IsIdle turns.now pass.new }
+    ensures draws { words.draws pass.new ≤ words.draws pass.old + 2 }
+    ensures came { (v : View) → Within v (known pass.old)
+        → entries_of (made pass.old turn) ≡ record { request = requests.Free port; answer = answers.Done } ∷ []
+        → CameAt (words.places turns.now) owner port replaced v (known pass.new) }
+{
+    let mut turn = turn;
+    turning::connect_auto(turns, pass, &mut turn, chosen_at(owner, port));
+    match replaced {
+        None => turning::give(turns, pass, turn),
+        Some(name) => {
+            let _gone = turning::remove_waiting(turns, pass, &mut turn, name);
+            turning::give(turns, pass, turn);
+        }
+    }
+}
+
+/// Connects the owner from the first of the ports that is free as its turn comes and at which `insert`
+/// makes the connection (`__inet_hash_connect`); its value comes with the port.
+///
+/// `insert` is called once for each free port in turn, until it answers other than `Taken`, with the
+/// port's bucket out and with the caller's `context`, such as its pass of the chains. What became of the
+/// context is known by the calls. Each port that is tried adds one entry, the last one two or three: the
+/// owner comes in the same turn, and the owner of a socket in TIME_WAIT that the connection replaced
+/// leaves in it, unless it has gone already. The owner's own port is of no matter.
+///
+/// # Errors
+///
+/// `NoPort`: each of the ports, at its own turn in this call, was held or answered `Taken`. `Full`: so
+/// `insert` answered at a free port, where the search ended. `Memory`: a bucket's room or `insert` wanted
+/// memory; the entries of the ports that were tried stay, and no bucket is out.
+pub fn find_connect<R: Wait, T, C, F: Fn(&mut C, u16) -> Attempt<T>>(
+    rt: &R,
+    turns: &Turns<Box<Bucket>>,
+    pass: &mut TurnPass<Box<Bucket>>,
+    ports: Ports,
+    owner: Owner,
+    context: &mut C,
+    insert: F,
+) -> Result<(u16, T), SearchEnd>
+    requires idle { IsIdle turns.now pass.old }
+    requires few { words.draws pass.old + length ports + 2 ≤ 2 ^ 48 }
+    requires may { MayName (words.caller pass.old) owner.name }
+    requires callable { MayTry (F.pre insert) (F.post insert) context.old }
+    ensures idle { IsIdle turns.now pass.new }
+    ensures caller { words.caller pass.new ≡ words.caller pass.old }
+    ensures draws { words.draws pass.new ≤ words.draws pass.old + length ports + 2 }
+    ensures made { IfOk result (λ found. MakesAt (Tries (F.post insert)) (words.places turns.now) owner ports
+        (known pass.old) (known pass.new) context.old found.0 found.1 context.new) }
+    ensures none { result ≡ Err SearchEnd.NoPort → MakesNone (Tries (F.post insert)) (words.places turns.now) ports
+        (known pass.old) (known pass.new) context.old context.new }
+    ensures full { IfErr result (λ end. SaysFull (Tries (F.post insert)) (words.places turns.now) ports
+        (known pass.old) (known pass.new) context.old end context.new) }
+    ensures memory { result ≡ Err SearchEnd.Memory → MakesNotYet (Tries (F.post insert)) (words.places turns.now) ports
+        (known pass.old) (known pass.new) context.old context.new }
+    ensures alone { IsAlone (known pass.old) → IfOk result (λ found.
+        ConnectsAt (Tries (F.post insert)) (hash_of (words.places turns.now) (words.given pass.old))
+        (hash_of (words.places turns.now) (words.given pass.new)) context.old owner ports found.0 found.1) }
+    ensures alone_none { IsAlone (known pass.old) → result ≡ Err SearchEnd.NoPort
+        → ConnectsNowhere (Tries (F.post insert)) (hash_of (words.places turns.now) (words.given pass.old))
+        (hash_of (words.places turns.now) (words.given pass.new)) context.old ports }
+{
+    for port in ports {
+        match open_at(rt, turns, pass, port) {
+            Err(end) => return Err(end),
+            Ok(None) => {}
+            Ok(Some(turn)) => match insert(context, port) {
+                Attempt::Done(value, replaced) => {
+                    connect_at(turns, pass, turn, owner, port, replaced);
+                    return Ok((port, value));
+                }
+                Attempt::Taken(_) => turning::give(turns, pass, turn),
+                Attempt::Full { owned, held } => {
+                    turning::give(turns, pass, turn);
+                    return Err(SearchEnd::Full { owned, held });
+                }
+                Attempt::Memory => {
+                    turning::give(turns, pass, turn);
+                    return Err(SearchEnd::Memory);
+                }
+            },
+        }
+    }
+    Err(SearchEnd::NoPort)
+}

@@ -1,0 +1,5 @@
+use Rattle.table_model.proofs.OthersAll as others
+use Rattle.table_model.proofs.laws.others_stay.Goals as goal
+
+pub returns : goal.returns
+returns c = record { stay = others.others_stay }
