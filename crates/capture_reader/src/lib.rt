@@ -17,12 +17,14 @@
 //! ```
 #![tactic(auto)]
 
+mod block;
 pub mod capture;
 mod header;
 pub mod law;
 mod number;
 mod packet;
 mod record;
+mod section;
 #[cfg(test)]
 mod tests;
 
