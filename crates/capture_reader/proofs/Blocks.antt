@@ -213,46 +213,64 @@ module _ (section : Section) (block : List ℕ) (whole : IsWhole section.order b
         ]
       ]
 
--- bytes begin with a valid block, or with none
 module _ (dev : ℕ) (section : Section) (bytes : List ℕ) (no_section : (o : Order) (rest : List ℕ) → BeginsWithSection bytes o rest → ⊥) where
-  -- where no whole block stands there is none
-  none_whole : ((whole rest : List ℕ) → bytes ≡ whole ++ rest → IsWhole section.order whole → ⊥) → HasBlock dev section bytes → ⊥
+  -- bytes that begin with no section, and with no whole block, begin with no valid one
+  pub none_whole : ((whole rest : List ℕ) → bytes ≡ whole ++ rest → IsWhole section.order whole → ⊥) → HasBlock dev section bytes → ⊥
   none_whole none (blocks.Section o, rest, h) = no_section o rest h
   none_whole none (blocks.Interface l, rest, h) = none h.0 rest h.1 h.2.whole
   none_whole none (blocks.Packet i, rest, h) = none h.0 rest h.1 h.2.2.whole
   none_whole none (blocks.Other, rest, h) = none h.0 rest h.1 h.2.whole
 
-  -- nor where the whole block is none of the valid ones
-  none_valid : (whole rest : List ℕ) → bytes ≡ whole ++ rest → IsWhole section.order whole
-      → ((l : Option Link) → IsInterfaceBlock section.order whole l → ⊥)
-      → ((l : Option Link) (s : List ℕ) → IsPacketBlock section whole l s → ⊥)
-      → (IsOtherBlock section.order whole → ⊥)
-      → HasBlock dev section bytes → ⊥
-  none_valid whole rest parts is no_interface no_packet no_other (blocks.Section o, r, h) = no_section o r h
-  none_valid whole rest parts is no_interface no_packet no_other (blocks.Interface l, r, h) =
+  -- nor where the whole block isn't valid
+  pub none_valid : (whole rest : List ℕ) → bytes ≡ whole ++ rest → IsWhole section.order whole → ((b : Block) → IsBlock dev section whole b → ⊥) → HasBlock dev section bytes → ⊥
+  none_valid whole rest parts is none (blocks.Section o, r, h) = no_section o r h
+  none_valid whole rest parts is none (blocks.Interface l, r, h) =
       let same = (one_whole section.order bytes h.0 r whole rest h.1 h.2.whole parts is).0 in
-      no_interface l (subst (λ (b : List ℕ). IsInterfaceBlock section.order b l) same h.2)
-  none_valid whole rest parts is no_interface no_packet no_other (blocks.Packet i, r, h) =
+      none (blocks.Interface l) (subst (λ (b : List ℕ). IsBlock dev section b (blocks.Interface l)) same h.2)
+  none_valid whole rest parts is none (blocks.Packet i, r, h) =
       let same = (one_whole section.order bytes h.0 r whole rest h.1 h.2.2.whole parts is).0 in
-      no_packet h.2.0 h.2.1 (subst (λ (b : List ℕ). IsPacketBlock section b h.2.0 h.2.1) same h.2.2)
-  none_valid whole rest parts is no_interface no_packet no_other (blocks.Other, r, h) =
+      none (blocks.Packet i) (subst (λ (b : List ℕ). IsBlock dev section b (blocks.Packet i)) same h.2)
+  none_valid whole rest parts is none (blocks.Other, r, h) =
       let same = (one_whole section.order bytes h.0 r whole rest h.1 h.2.whole parts is).0 in
-      no_other (subst (λ (b : List ℕ). IsOtherBlock section.order b) same h.2)
+      none blocks.Other (subst (λ (b : List ℕ). IsBlock dev section b blocks.Other) same h.2)
+
+  -- nor where they have the type of a section's block
+  pub none_of_type : AreBytes bytes → number orders.Big 4 0 bytes ≡ section_type → HasBlock dev section bytes → ⊥
+  unfolding KindIs
+  none_of_type fits kind (blocks.Section o, r, h) = no_section o r h
+  none_of_type fits kind (blocks.Interface l, r, h) =
+      omega (arith, type_reads bytes section.order fits kind, kind_is dev section bytes (blocks.Interface l) r h)
+  none_of_type fits kind (blocks.Packet i, r, h) =
+      omega (arith, type_reads bytes section.order fits kind, kind_is dev section bytes (blocks.Packet i) r h)
+  none_of_type fits kind (blocks.Other, r, h) = (kind_is dev section bytes blocks.Other r h).0 kind
+
+  -- what a whole block says that is valid, or that it isn't
+  some_said : (whole rest : List ℕ) → bytes ≡ whole ++ rest → IsWhole section.order whole → ((b : Block) × IsBlock dev section whole b) ⊎ ((b : Block) → IsBlock dev section whole b → ⊥)
+  some_said whole rest parts is =
+      elim (is_interface section whole is) [
+        | inl i ↦ inl (blocks.Interface i.0, i.1)
+        | inr no_interface ↦ elim (is_packet section whole is) [
+          | inl p ↦ inl (blocks.Packet (item_on p.0 dev p.1), (p.0, p.1, p.2, refl))
+          | inr no_packet ↦ elim (is_other section whole is) [
+            | inl o ↦ inl (blocks.Other, o)
+            | inr no_other ↦ inr (λ b. elim b as (λ (x : Block). IsBlock dev section whole x → ⊥) [
+              | blocks.Section o ↦ λ h. no_section o rest (whole, parts, h)
+              | blocks.Interface l ↦ no_interface l
+              | blocks.Packet i ↦ λ h. no_packet h.0 h.1 h.2
+              | blocks.Other ↦ no_other
+            ])
+          ]
+        ]
+      ]
 
   -- bytes that begin with no section begin with another valid block, or with none
   some_inner : HasBlock dev section bytes ⊎ (HasBlock dev section bytes → ⊥)
   some_inner =
       elim (some_whole section.order bytes) [
         | inr none ↦ inr (none_whole none)
-        | inl w ↦ elim (is_interface section w.0 w.3) [
-          | inl i ↦ inl (blocks.Interface i.0, w.1, (w.0, w.2, i.1))
-          | inr no_interface ↦ elim (is_packet section w.0 w.3) [
-            | inl p ↦ inl (blocks.Packet (item_on p.0 dev p.1), w.1, (w.0, w.2, (p.0, p.1, p.2, refl)))
-            | inr no_packet ↦ elim (is_other section w.0 w.3) [
-              | inl o ↦ inl (blocks.Other, w.1, (w.0, w.2, o))
-              | inr no_other ↦ inr (none_valid w.0 w.1 w.2 w.3 no_interface no_packet no_other)
-            ]
-          ]
+        | inl w ↦ elim (some_said w.0 w.1 w.2 w.3) [
+          | inl said ↦ inl (said.0, w.1, (w.0, w.2, said.1))
+          | inr none ↦ inr (none_valid w.0 w.1 w.2 w.3 none)
         ]
       ]
 
