@@ -4,3 +4,4 @@ pub mod Wholes
 pub mod Sections
 pub mod Blocks
 pub mod Captures
+pub mod Rows
