@@ -1,5 +1,5 @@
 -- Bytes are blocks of one list, and end in one way.
-use Rattle.std.proofs.Common.{◌≡◌, ◌≢◌, ℕ, zero, suc, ◌+◌, ◌*◌, ◌/◌, ◌<◌, ◌≤◌, ◌⊎◌, Option, Some, None, List, [], ◌∷◌, ◌++◌, length, take, drop, slice_get, Bool, true, false, not, ◌==◌, refl, ap, sym, ◌∙◌, subst, arith, inl, inr, length-append}
+use Rattle.std.proofs.Common.{◌≡◌, ◌≢◌, ℕ, zero, suc, ◌+◌, ◌<◌, ◌≤◌, ◌⊎◌, Option, Some, None, List, [], ◌∷◌, ◌++◌, length, take, drop, slice_get, Bool, true, false, not, ◌==◌, refl, ap, sym, ◌∙◌, subst, arith, inl, inr, length-append}
 use Rattle.std.proofs.lemmas.Bool.{cases_lt, cases_eq, eqb-true}
 use Rattle.capture_reader.specs.declared.number.Order.{Order}
 use Rattle.capture_reader.specs.declared.number.Order.TheVariants as orders
@@ -9,9 +9,9 @@ use Rattle.capture_reader.specs.declared.packet.Item.{Item}
 use Rattle.capture_reader.specs.declared.block.Block.{Block}
 use Rattle.capture_reader.specs.declared.block.Block.TheVariants as blocks
 use Rattle.capture_reader.specs.Numbers.{number, AreBytes}
-use Rattle.capture_reader.specs.Header.{link_number, IsLinkNumber, IsWhole, section_type, IsSectionBlock, BeginsWithSection}
+use Rattle.capture_reader.specs.Header.{link_number, IsLinkNumber, IsWhole, section_type, BeginsWithSection}
 use Rattle.capture_reader.specs.Sections.{Section}
-use Rattle.capture_reader.specs.Blocks.{IsInterfaceBlock, IsPacketBlock, IsOtherBlock, interface_type, packet_type, stored_count, padded, item_on, IsBlock, after, BeginsWithBlock, HasBlock, EndsBlocks, AreBlocks, items_of}
+use Rattle.capture_reader.specs.Blocks.{IsInterfaceBlock, IsPacketBlock, IsOtherBlock, interface_type, packet_type, stored_count, padded, item_on, IsBlock, after, BeginsWithBlock, HasBlock, EndsBlocks, AreBlocks}
 use Rattle.capture_reader.proofs.Heads.{one_link}
 use Rattle.capture_reader.proofs.Wholes.{number_in, fits_rest, one_whole, some_whole}
 use Rattle.capture_reader.proofs.Sections.{front, type_reads, one_section, some_section}

@@ -1,8 +1,7 @@
 -- Which texts are captures, and of how much.
-use Rattle.std.proofs.Common.{◌≡◌, ℕ, List, [], false, refl, ap, sym, ◌∙◌, subst, arith, inl, inr, length, drop, length-append}
+use Rattle.std.proofs.Common.{◌≡◌, ℕ, List, [], false, refl, ap, sym, ◌∙◌, subst, arith, inl, inr, length, drop}
 use Rattle.capture_reader.specs.declared.number.Order.{Order}
 use Rattle.capture_reader.specs.declared.header.Header.{Header}
-use Rattle.capture_reader.specs.declared.block.Block.{Block}
 use Rattle.capture_reader.specs.Numbers.{AreBytes}
 use Rattle.capture_reader.specs.Header.{BeginsWithHeader, BeginsWithSection}
 use Rattle.capture_reader.specs.Sections.{begun}

@@ -1,5 +1,5 @@
 -- The definition of captures gives the worked examples.
-use Rattle.std.proofs.Common.{◌≡◌, ◌≢◌, ℕ, Bool, true, false, subst, sym, ◌<◌, ◌≤◌, Option, Some, None, List, [], ◌∷◌, ◌++◌, length, take, replicate, slice_get, refl, ap, arith, inl, inr, lit≤}
+use Rattle.std.proofs.Common.{◌≡◌, ◌≢◌, ℕ, Bool, true, false, subst, sym, Option, Some, None, List, [], ◌∷◌, ◌++◌, length, take, replicate, refl, ap, arith, inl, inr}
 use Rattle.capture_reader.specs.declared.number.Order.{Order}
 use Rattle.capture_reader.specs.declared.number.Order.TheVariants as orders
 use Rattle.capture_reader.specs.declared.header.Link.{Link}
@@ -10,10 +10,10 @@ use Rattle.capture_reader.specs.declared.packet.Item.TheVariants as items
 use Rattle.capture_reader.specs.Numbers.{number}
 use Rattle.capture_reader.specs.Header.{link_number, IsWhole, IsSectionBlock, BeginsWithSection, section_type}
 use Rattle.capture_reader.specs.Items.{ip_item, frame_item}
-use Rattle.capture_reader.specs.Sections.{Section, begun}
-use Rattle.capture_reader.specs.Blocks.{IsInterfaceBlock, IsPacketBlock, IsOtherBlock, IsBlock, BeginsWithBlock, HasBlock, AreBlocks, items_of}
+use Rattle.capture_reader.specs.Sections.{Section}
+use Rattle.capture_reader.specs.Blocks.{IsInterfaceBlock, IsPacketBlock, IsOtherBlock, IsBlock, HasBlock, AreBlocks, items_of}
 use Rattle.capture_reader.specs.Grammar.{IsCapture}
-use Rattle.capture_reader.specs.Rows.{datagram, frame, tagged_frame, arp_frame, found, file_header, stored_record, of_records, word, big_word, section_block, interface_block, packet_block, simple_block, big_section_block, big_interface_block, big_packet_block, with_interface, whole, cut_after, RowsHold}
+use Rattle.capture_reader.specs.Rows.{datagram, frame, tagged_frame, arp_frame, found, stored_record, of_records, section_block, interface_block, packet_block, simple_block, big_section_block, big_interface_block, big_packet_block, with_interface, cut_after, RowsHold}
 use Rattle.capture_reader.proofs.Wholes.{is_there, whole_is}
 use Rattle.capture_reader.proofs.Sections.{front}
 use Rattle.capture_reader.proofs.Blocks.{none_whole, none_valid}

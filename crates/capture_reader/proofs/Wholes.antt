@@ -1,7 +1,7 @@
 -- Bytes begin with one whole block at most.
-use Rattle.std.proofs.Common.{◌≡◌, ◌≢◌, ℕ, zero, suc, ◌+◌, ◌-◌, ◌*◌, ◌%◌, ◌<◌, ◌≤◌, ◌⊎◌, List, ◌∷◌, ◌++◌, length, take, drop, get_or, refl, ap, sym, ◌∙◌, subst, arith, inl, inr, length-append, length-drop}
+use Rattle.std.proofs.Common.{◌≡◌, ℕ, zero, suc, ◌+◌, ◌-◌, ◌%◌, ◌≤◌, ◌⊎◌, List, ◌++◌, length, take, drop, get_or, refl, ap, sym, ◌∙◌, subst, arith, inl, inr, length-append, length-drop}
 use Rattle.std.proofs.lemmas.Bool.{cases_lt, cases_eq}
-use Rattle.std.proofs.lemmas.List.{take_at, drop_at, take-append-drop, length-take-le, drop-append-le, get_or-drop, get_or-append-add, get_or_append_left}
+use Rattle.std.proofs.lemmas.List.{take_at, drop_at, take-append-drop, drop-append-le, get_or-drop, get_or-append-add, get_or_append_left}
 use Rattle.byteorder.specs.Endian.{big_from, little_from}
 use Rattle.capture_reader.specs.declared.number.Order.{Order}
 use Rattle.capture_reader.specs.declared.number.Order.TheVariants as orders

@@ -1,7 +1,5 @@
-use Rattle.std.proofs.Common.{◌≡◌, ℕ, List, ◌++◌, refl, ◌∙◌, subst, arith}
-use Rattle.capture_reader.specs.declared.number.Order.{Order}
+use Rattle.std.proofs.Common.{refl, ◌∙◌, arith}
 use Rattle.capture_reader.specs.declared.number.Order.TheVariants as orders
-use Rattle.capture_reader.specs.Header.{IsWhole}
 use Rattle.capture_reader.proofs.Wholes.{number_in}
 use Rattle.capture_reader.proofs.Blocks.{none_whole, none_valid, none_of_type}
 use Rattle.capture_reader.proofs.block.next_block.Goals as goal

@@ -1,6 +1,5 @@
-use Rattle.std.proofs.Common.{◌≡◌, ℕ, ◌+◌, ◌-◌, ◌%◌, ◌≤◌, List, ◌++◌, length, take, ap, sym, ◌∙◌, arith}
+use Rattle.std.proofs.Common.{◌≡◌, ◌%◌, ◌++◌, length, take, ap, sym, ◌∙◌, arith}
 use Rattle.std.proofs.lemmas.List.{take-append-drop}
-use Rattle.capture_reader.specs.Numbers.{number}
 use Rattle.capture_reader.proofs.Wholes.{told, is_there, whole_is, number_in}
 use Rattle.capture_reader.proofs.block.next_whole.Goals as goal
 use Rattle.capture_reader.proofs.block.next_whole.Goals.{then-length-lt-BLOCK-via-then-length-lt-BLOCK, then-length-lt-BLOCK-via-else-length-lt-BLOCK+then-length-ne0, then-length-lt-BLOCK-via-else-length-lt-BLOCK+else-length-ne0+then-bytes-length}
