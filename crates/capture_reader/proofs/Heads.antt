@@ -6,7 +6,7 @@ use Rattle.capture_reader.specs.declared.header.Link.{Link}
 use Rattle.capture_reader.specs.declared.header.Link.TheVariants as links
 use Rattle.capture_reader.specs.declared.header.Header.{Header}
 use Rattle.capture_reader.specs.Numbers.{number, AreBytes}
-use Rattle.capture_reader.specs.Header.{IsMagic, BeginsWithHeader, HasHeader, link_number}
+use Rattle.capture_reader.specs.Header.{IsMagic, BeginsWithHeader, link_number}
 
 -- no magic number reads as one from both ends
 one_way : (bytes : List ℕ) → AreBytes bytes → IsMagic (number orders.Big 4 0 bytes) → IsMagic (number orders.Little 4 0 bytes) → ⊥
@@ -47,8 +47,8 @@ one_header bytes a b fits h k =
     same_header a.order b.order a.link b.link e (one_link a.link b.link f)
 
 -- a header that bytes begin with has the order in which the magic number stands there
-pub head_in : (bytes : List ℕ) (order : Order) (h : HasHeader bytes) → AreBytes bytes → IsMagic (number order 4 0 bytes) → BeginsWithHeader bytes (record { order = order; link = h.0.link })
-head_in bytes order h fits magic =
-    let same : h.0.order ≡ order = one_order bytes h.0.order order fits h.1.magic magic in
-    let P : Order → Type 0 = λ o. BeginsWithHeader bytes (record { order = o; link = h.0.link }) in
-    subst P same h.1
+pub head_in : (bytes : List ℕ) (order : Order) (header : Header) → BeginsWithHeader bytes header → AreBytes bytes → IsMagic (number order 4 0 bytes) → BeginsWithHeader bytes (record { order = order; link = header.link })
+head_in bytes order header h fits magic =
+    let same : header.order ≡ order = one_order bytes header.order order fits h.magic magic in
+    let P : Order → Type 0 = λ o. BeginsWithHeader bytes (record { order = o; link = header.link }) in
+    subst P same h

@@ -1,12 +1,16 @@
 -- Which texts are captures, and of what: the savefile format of libpcap (pcap-savefile(5); draft-ietf-opsawg-pcap, section
--- 5). A capture that ends in the middle of a record is one of the records before.
+-- 5), and pcapng (draft-ietf-opsawg-pcapng). A capture that ends in the middle of a record is one of the records before,
+-- and one whose blocks are followed by other bytes is one of these blocks.
 use Rattle.std.specs.Prelude.{◌≡◌, ◌≢◌, ℕ, ◌+◌, ◌<◌, ◌≤◌, ◌⊎◌, List, [], ◌∷◌, ◌++◌, length, drop, Bool, true, false}
 use Rattle.capture_reader.specs.declared.number.Order.{Order}
 use Rattle.capture_reader.specs.declared.header.Header.{Header}
 use Rattle.capture_reader.specs.declared.packet.Item.{Item}
+use Rattle.capture_reader.specs.declared.block.Block.{Block}
 use Rattle.capture_reader.specs.Numbers.{number, AreBytes}
-use Rattle.capture_reader.specs.Header.{BeginsWithHeader, HasHeader}
+use Rattle.capture_reader.specs.Header.{BeginsWithHeader, BeginsWithSection, HasHeader}
 use Rattle.capture_reader.specs.Items.{item_of}
+use Rattle.capture_reader.specs.Sections.{begun}
+use Rattle.capture_reader.specs.Blocks.{AreBlocks, items_of}
 use Rattle.capture_reader.specs.Captures.{Capture}
 
 -- how many bytes of the packet are stored, as a record's header says
@@ -40,11 +44,22 @@ AreRecords header dev bytes (item ∷ items) cut =
 abbrev pub nothing : Capture
 nothing = record { items = []; cut = false }
 
--- The text is this capture, of packets that came in by that device: no bytes at all, or a header and records.
+-- the text is a header and records
+abbrev pub IsOfRecords : ℕ → List ℕ → Capture → Type 0
+IsOfRecords dev bytes capture =
+    (header : Header) × BeginsWithHeader bytes header
+    × AreRecords header dev (drop 24 bytes) capture.items capture.cut
+
+-- the text is a block that begins a section, and more blocks, of that section and of others
+abbrev pub IsOfBlocks : ℕ → List ℕ → Capture → Type 0
+IsOfBlocks dev bytes capture =
+    (order : Order) × (rest : List ℕ) × (blocks : List Block) × BeginsWithSection bytes order rest
+    × AreBlocks dev (begun order) rest blocks capture.cut × (capture.items ≡ items_of blocks)
+
+-- The text is this capture, of packets that came in by that device: no bytes at all, or one in either format.
 abbrev pub IsCapture : ℕ → List ℕ → Capture → Type 0
 IsCapture dev bytes capture =
-    ((bytes ≡ []) × (capture ≡ nothing))
-    ⊎ ((header : Header) × BeginsWithHeader bytes header × AreRecords header dev (drop 24 bytes) capture.items capture.cut)
+    ((bytes ≡ []) × (capture ≡ nothing)) ⊎ (IsOfRecords dev bytes capture ⊎ IsOfBlocks dev bytes capture)
 
 -- a text is one capture at most
 abbrev pub IsDetermined : Type 0

@@ -2,6 +2,8 @@
 pub mod Numbers
 pub mod Header
 pub mod Items
+pub mod Sections
+pub mod Blocks
 pub mod Captures
 pub mod Grammar
 pub mod Rows

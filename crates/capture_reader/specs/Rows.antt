@@ -1,9 +1,11 @@
--- Worked examples of stored packets, with their bytes.
-use Rattle.std.specs.Prelude.{ℕ, List, [], ◌∷◌, ◌++◌, map, take, replicate}
+-- Worked examples of stored packets and of captures, with their bytes.
+use Rattle.std.specs.Prelude.{ℕ, List, [], ◌∷◌, ◌++◌, map, take, replicate, true, false}
 use Rattle.capture_reader.specs.declared.header.Link.TheVariants as links
 use Rattle.capture_reader.specs.declared.packet.Item.{Item}
 use Rattle.capture_reader.specs.declared.packet.Item.TheVariants as items
 use Rattle.capture_reader.specs.Items.{item_of}
+use Rattle.capture_reader.specs.Captures.{Capture}
+use Rattle.capture_reader.specs.Grammar.{IsCapture}
 
 -- a TCP packet from 10.0.0.2:1000 to 10.0.0.1:80, as the fragment that begins at this offset
 abbrev pub datagram : ℕ → List ℕ
@@ -37,3 +39,90 @@ judged =
     map (item_of links.Ethernet 3) (frame (datagram 0) ∷ tagged_frame (datagram 0) ∷ [])
     ++ item_of links.Raw 3 (datagram 0)
     ∷ map (item_of links.Ethernet 3) (arp_frame ∷ frame (datagram 1) ∷ take 37 (frame (datagram 0)) ∷ [])
+
+-- the header of an Ethernet capture from a machine with the lowest byte first
+abbrev pub file_header : List ℕ
+file_header =
+    0xd4 ∷ 0xc3 ∷ 0xb2 ∷ 0xa1 ∷ 2 ∷ 0 ∷ 4 ∷ 0 ∷ 0 ∷ 0 ∷ 0 ∷ 0 ∷ 0 ∷ 0 ∷ 0 ∷ 0 ∷ 0xff ∷ 0xff ∷ 0 ∷ 0 ∷ 1 ∷ 0 ∷ 0 ∷ 0 ∷ []
+
+-- a record of that many bytes, of a packet that had so many
+abbrev pub stored_record : ℕ → ℕ → List ℕ → List ℕ
+stored_record count all stored = replicate 8 0 ++ count ∷ 0 ∷ 0 ∷ 0 ∷ all ∷ 0 ∷ 0 ∷ 0 ∷ stored
+
+-- a packet, a frame of ARP, a packet in a VLAN, a later fragment, and half the header of a fifth record
+abbrev pub of_records : List ℕ
+of_records =
+    file_header
+    ++ (stored_record 38 54 (frame (datagram 0))
+    ++ (stored_record 14 14 arp_frame
+    ++ (stored_record 42 58 (tagged_frame (datagram 0)) ++ (stored_record 38 54 (frame (datagram 1)) ++ replicate 8 0))))
+
+-- a number below 256 in four bytes, the lowest first, and the highest first
+abbrev pub word : ℕ → List ℕ
+word n = n ∷ 0 ∷ 0 ∷ 0 ∷ []
+
+abbrev pub big_word : ℕ → List ℕ
+big_word n = 0 ∷ 0 ∷ 0 ∷ n ∷ []
+
+-- the block of a section whose numbers have the lowest byte first
+abbrev pub section_block : List ℕ
+section_block =
+    10 ∷ 13 ∷ 13 ∷ 10 ∷ word 28 ++ 0x4d ∷ 0x3c ∷ 0x2b ∷ 0x1a ∷ 1 ∷ 0 ∷ 0 ∷ 0 ∷ replicate 8 0xff ++ word 28
+
+-- that of an interface of a link type
+abbrev pub interface_block : ℕ → List ℕ
+interface_block link = word 1 ++ (word 20 ++ (word link ++ (word 0 ++ word 20)))
+
+-- that of a packet of 38 bytes which tells another count, and its own length at its end as it is told
+abbrev pub packet_block : ℕ → ℕ → ℕ → List ℕ
+packet_block interface count again =
+    word 6 ++ (word 72 ++ (word interface ++ (replicate 8 0 ++ (word count ++ (word 38
+    ++ (frame (datagram 0) ++ 0 ∷ 0 ∷ word again))))))
+
+-- that of a simple packet, which names no interface
+abbrev pub simple_block : List ℕ
+simple_block = word 3 ++ (word 16 ++ (word 0 ++ word 16))
+
+-- the same three with the highest byte first
+abbrev pub big_section_block : List ℕ
+big_section_block =
+    10 ∷ 13 ∷ 13 ∷ 10 ∷ big_word 28 ++ 0x1a ∷ 0x2b ∷ 0x3c ∷ 0x4d ∷ 0 ∷ 1 ∷ 0 ∷ 0 ∷ replicate 8 0xff ++ big_word 28
+
+abbrev pub big_interface_block : List ℕ
+big_interface_block = big_word 1 ++ (big_word 20 ++ (0 ∷ 1 ∷ 0 ∷ 0 ∷ big_word 0 ++ big_word 20))
+
+abbrev pub big_packet_block : List ℕ
+big_packet_block =
+    big_word 6 ++ (big_word 72 ++ (big_word 0 ++ (replicate 8 0 ++ (big_word 38 ++ (big_word 38
+    ++ (frame (datagram 0) ++ 0 ∷ 0 ∷ big_word 72))))))
+
+-- a section, an Ethernet interface, and what follows
+abbrev pub with_interface : List ℕ → List ℕ
+with_interface rest = section_block ++ (interface_block 1 ++ rest)
+
+-- the capture of these items, whole or cut
+abbrev pub whole : List Item → Capture
+whole items = record { items = items; cut = false }
+
+abbrev pub cut_after : List Item → Capture
+cut_after items = record { items = items; cut = true }
+
+-- Which captures these texts are, whose packets came in by device 3.
+pub record RowsHold : Type 0 where
+  pub records : IsCapture 3 of_records (cut_after (found ∷ items.Skip ∷ found ∷ items.Skip ∷ []))
+  pub packet : IsCapture 3 (with_interface (packet_block 0 38 72)) (whole (found ∷ []))
+  -- without its last four bytes
+  pub last_lost : IsCapture 3 (with_interface (take 68 (packet_block 0 38 72))) (cut_after [])
+  -- a simple packet, an interface of another link type, and a packet of each interface
+  pub link_types : IsCapture 3 (with_interface (simple_block ++ (interface_block 113 ++ (packet_block 0 38 72 ++ packet_block 1 38 72)))) (whole (found ∷ items.Skip ∷ []))
+  -- another section, in the other order of bytes
+  pub orders : IsCapture 3 (with_interface (packet_block 0 38 72 ++ (big_section_block ++ (big_interface_block ++ big_packet_block)))) (whole (found ∷ found ∷ []))
+  -- another section, which has no interface
+  pub sections : IsCapture 3 (with_interface (packet_block 0 38 72 ++ (section_block ++ packet_block 0 38 72))) (cut_after (found ∷ []))
+  -- a packet of an interface that the section doesn't have
+  pub no_interface : IsCapture 3 (with_interface (packet_block 1 38 72)) (cut_after [])
+  -- a packet whose block tells two lengths
+  pub lengths : IsCapture 3 (with_interface (packet_block 0 38 76)) (cut_after [])
+  -- a packet that has room with its padding, and one that hasn't
+  pub room : IsCapture 3 (with_interface (packet_block 0 40 72)) (whole (found ∷ []))
+  pub no_room : IsCapture 3 (with_interface (packet_block 0 41 72)) (cut_after [])

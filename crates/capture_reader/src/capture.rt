@@ -1,11 +1,16 @@
-ghost use Rattle.std.specs.Prelude.{◌≡◌, ◌≢◌, ◌↔◌, [], IfOk};
+ghost use Rattle.std.specs.Prelude.{◌≡◌, ◌≢◌, ◌↔◌, List, [], IfOk};
 ghost use Rattle.capture_reader.specs.Header.{HasHeader};
+ghost use Rattle.capture_reader.specs.Sections.{begun};
+ghost use Rattle.capture_reader.specs.Blocks.{AreBlocks, items_of};
 ghost use Rattle.capture_reader.specs.Captures.{Capture as Contents};
 ghost use Rattle.capture_reader.specs.Grammar.{AreRecords, IsCapture, nothing};
 
+use crate::block::{Block, next_block, next_section};
 use crate::header::{FILE_HEADER, Header, header_of};
+use crate::number::Order;
 use crate::packet::{Item, item_of};
 use crate::record::next_record;
+use crate::section::Section;
 use std::alloc::{AllocError, Global};
 use std::marker::Model;
 
@@ -35,14 +40,14 @@ impl Capture {
         }
     }
 
-    /// An item for each whole record.
+    /// An item for each packet that is stored whole.
     pub fn items(&self) -> &[Item]
         ensures { result.now ≡ self.now.items }
     {
         &self.items
     }
 
-    /// Whether the bytes end in the middle of a record, which then has no item.
+    /// Whether bytes follow that are no whole record, or no valid block; they have no item.
     pub fn is_cut(&self) -> bool
         ensures { result ≡ self.now.cut }
     {
@@ -89,11 +94,33 @@ fn read_records(
     Ok(Capture { items, cut })
 }
 
-/// Reads a capture: what it says of each packet, all of which came in by that device, 0 where that
+/// Reads the blocks after the one that begins a section, to the first that isn't valid or to the end of the bytes.
+fn read_blocks(alloc: Global, order: Order, bytes: &[u8], dev: u16) -> Result<Capture, AllocError>
+    ensures { IfOk result (λ capture. (blocks : List Block)
+        × AreBlocks dev (begun order) bytes.now blocks capture.cut × (capture.items ≡ items_of blocks)) }
+{
+    let mut section = Section::new(alloc, order);
+    let mut items = Vec::new(alloc);
+    let mut rest = bytes;
+    while let Some((block, after)) = next_block(&section, dev, rest) {
+        match block {
+            Block::Section(order) => section.begin(order),
+            Block::Interface(link) => section.add(link)?,
+            Block::Packet(item) => items.push(item)?,
+            Block::Other => {}
+        }
+        rest = after;
+    }
+    let cut = !rest.is_empty();
+    Ok(Capture { items, cut })
+}
+
+/// Reads a capture in either format: what it says of each packet, all of which came in by that device, 0 where that
 /// isn't told.
 ///
-/// No bytes are a capture without items. Times, and how long a packet was on the wire, aren't read.
-/// Takes memory for the items alone, and the time is about that of one look at each record.
+/// No bytes are a capture without items. Times, how long a packet was on the wire, and options aren't read; a packet of
+/// an interface whose link type isn't read is passed over. Takes memory for the items and for the interfaces of one
+/// section, and the time is about that of one look at each record or block.
 pub fn packets(alloc: Global, bytes: &[u8], dev: u16) -> Result<Capture, CaptureEnd>
     ensures capture { IfOk result (IsCapture dev bytes.now) }
     ensures only { (capture : Contents) → IsCapture dev bytes.now capture → IfOk result (λ found. found ≡ capture) }
@@ -103,8 +130,11 @@ pub fn packets(alloc: Global, bytes: &[u8], dev: u16) -> Result<Capture, Capture
     if bytes.is_empty() {
         return Ok(Capture::new(alloc));
     }
-    let Some(header) = header_of(bytes) else {
+    if let Some(header) = header_of(bytes) {
+        return Ok(read_records(alloc, header, &bytes[FILE_HEADER..], dev)?);
+    }
+    let Some((order, rest)) = next_section(bytes) else {
         return Err(CaptureEnd::BadHead);
     };
-    Ok(read_records(alloc, header, &bytes[FILE_HEADER..], dev)?)
+    Ok(read_blocks(alloc, order, rest, dev)?)
 }

@@ -1,10 +1,10 @@
 ghost use Rattle.std.specs.Prelude.{◌≡◌, ◌≤◌, ℕ, length, IsTrue, ◌↔◌, IfSome, IfNone};
 ghost use Rattle.capture_reader.specs.Numbers.{number};
-ghost use Rattle.capture_reader.specs.Header.{IsMagic, BeginsWithHeader, HasHeader, link_number};
+ghost use Rattle.capture_reader.specs.Header.{IsMagic, IsLinkNumber, BeginsWithHeader};
 
 use crate::number::{Order, u16_at, u32_at};
 
-/// How many bytes a capture's header has.
+/// How many bytes the header of libpcap's format has.
 pub const FILE_HEADER: usize = 24;
 
 /// What stands before the IP header of each packet.
@@ -18,7 +18,7 @@ pub enum Link {
     Ipv4,
 }
 
-/// What a capture's header says of the records after it.
+/// What the header of libpcap's format says of the records after it.
 #[derive(Clone, Copy, Debug, PartialEq, Eq)]
 pub struct Header {
     pub order: Order,
@@ -43,9 +43,8 @@ fn order_of(bytes: &[u8]) -> Option<Order>
 }
 
 /// The link type of that number, of those that are read.
-fn link_of(number: u32) -> Option<Link>
-    ensures some { IfSome result (λ link. number ≡ link_number link) }
-    ensures none { IfNone result ((link : Link) → ¬ (number ≡ link_number link)) }
+pub fn link_of(number: u32) -> Option<Link>
+    ensures { IsLinkNumber result number }
 {
     match number {
         1 => Some(Link::Ethernet),
@@ -55,13 +54,13 @@ fn link_of(number: u32) -> Option<Link>
     }
 }
 
-/// The header that the bytes begin with.
+/// The header of libpcap's format that the bytes begin with.
 ///
 /// The largest stored length, which stands there too, isn't read. The link type is the whole number
 /// of four bytes: where its upper bits tell of something else besides, the header is refused.
 pub fn header_of(bytes: &[u8]) -> Option<Header>
     ensures some { IfSome result (BeginsWithHeader bytes.now) }
-    ensures none { IfNone result (¬ HasHeader bytes.now) }
+    ensures none { IfNone result ((header : Header) → ¬ (BeginsWithHeader bytes.now header)) }
 {
     if bytes.len() < FILE_HEADER {
         return None;

@@ -2,7 +2,7 @@
 
 ghost use Rattle.std.specs.Prelude.{◌≡◌, [], ◌∷◌};
 ghost use Rattle.capture_reader.specs.Grammar as law;
-ghost use Rattle.capture_reader.specs.Rows.{found, judged};
+ghost use Rattle.capture_reader.specs.Rows.{RowsHold, found, judged};
 
 use crate::packet::Item;
 
@@ -20,4 +20,9 @@ pub fn some_capture()
 /// The definition of items gives the worked examples.
 pub fn item_rows()
     ensures { judged ≡ found ∷ found ∷ found ∷ Item.Skip ∷ Item.Skip ∷ Item.Short ∷ [] }
+{}
+
+/// The definition of captures gives the worked examples, in either format, whole and cut.
+pub fn capture_rows()
+    ensures { RowsHold }
 {}
