@@ -157,7 +157,7 @@ chose p q r g hash count place member result same k k' c ne place_is m is =
       known = k.later;
       own = k.own;
       later = next_later p q r same k';
-      whole = counted_whole g (now q) k.ordered;
+      complete = counted_whole g (now q) k.ordered;
       answer = is ∙ (ap (λ (x : ℕ). present (Some (record { member = x; place = place; count = count }))) m ∙ sym (answer count (count_at g (now q)) place (λ (k : ℕ). member_at g k (now r)) hash c ne place_is));
     }
 
@@ -169,7 +169,7 @@ chose_none p q g hash count k c gone =
       known = k.later;
       own = k.own;
       later = later_same (now q);
-      whole = counted_whole g (now q) k.ordered;
+      complete = counted_whole g (now q) k.ordered;
       answer = ap (λ (b : Bool). cond b None (present (Some (record { member = member_at g (scale hash (count_at g (now q))) (now q); place = scale hash (count_at g (now q)); count = count_at g (now q) })))) (sym (eq-eqb (count_at g (now q)) 0 (sym c ∙ gone)));
     }
 

@@ -27,7 +27,7 @@ pub record Chose (before after : GroupPasses) (group hash : ℕ) (result : Optio
   pub own : AllOccur (stored before) counted
   pub later : NotBefore (now after) counted
   -- a count that isn't 0 is that of a list of which each word was stored by then. So the member is that list's, or was stored later
-  pub whole : count_at group counted ≢ 0 → WasPublished group (list_at group counted) counted
+  pub complete : count_at group counted ≢ 0 → WasPublished group (list_at group counted) counted
   pub answer : result ≡ choice_of (count_at group counted) (λ place. member_at group place (now after)) hash
 
 -- the count is that of a list that was published by this moment, and the member was one of a list at that place
