@@ -6,6 +6,7 @@ ghost use Rattle.jhash_words.specs.Places.{scale};
 ghost use Rattle.reuseport_group.specs.Words.{most, at, latest, list_at, members_stored, NotBefore, Follows, AllOccur, HasMembers};
 ghost use Rattle.reuseport_group.specs.Views.{all_parts, first, newcomer, cut, joined, looking, storing, publishing};
 ghost use Rattle.reuseport_group.specs.Pick.{pick};
+ghost use Rattle.reuseport_group.specs.Member.{AreMembers};
 ghost use Rattle.reuseport_group.specs.Plays.{Known};
 ghost use Rattle.reuseport_group.specs.Choosing.{Chose, IsOfPublished, present};
 ghost use Rattle.reuseport_group.specs.Passes as words;
@@ -196,12 +197,14 @@ impl Groups {
 
         // Which two words were loaded, when, and what they come to.
         ensures loads { Chose passes.old passes.new group hash result }
-        ensures some { IfSome result (λ c. (0 < c.member) × (c.place ≡ scale hash c.count) × (c.place < c.count) × (c.count ≤ most)) }
+        ensures place { IfSome result (λ c. (c.place ≡ scale hash c.count) × (c.place < c.count)) }
+        ensures count { IfSome result (λ c. c.count ≤ most) }
+        ensures member { IfSome result (λ c. 0 < c.member) }
         ensures published { IfSome result (IsOfPublished group (words.now passes.new)) }
 
         // Of passes that were never split it is the plain choice of the list that they published last.
         ensures sole { IsSole passes.old → result ≡ present (pick (words.published passes.old group) hash) }
-        ensures pick { IsSole passes.old → Each (λ (m : ℕ). 0 < m) (words.published passes.old group) → result ≡ pick (words.published passes.old group) hash }
+        ensures pick { IsSole passes.old → AreMembers (words.published passes.old group) → result ≡ pick (words.published passes.old group) hash }
 
         // What passes with all parts stored is all that was stored.
         ensures whole { words.parts passes.old ≡ all_parts → SameItems (words.now passes.new) (words.stored passes.old) }

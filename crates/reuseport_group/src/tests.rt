@@ -1,7 +1,7 @@
 //! Choices by known hashes, and of lists that passes published.
 
-ghost use Rattle.std.specs.Prelude.{◌≡◌, ℕ, ◌<◌, ◌≤◌, length};
-ghost use Rattle.list_words.specs.Lists.{Each};
+ghost use Rattle.std.specs.Prelude.{◌≡◌, ◌<◌, ◌≤◌, length};
+ghost use Rattle.reuseport_group.specs.Member.{AreMembers};
 ghost use Rattle.reuseport_group.specs.Words.{most};
 ghost use Rattle.reuseport_group.specs.Pick.{pick as picked};
 ghost use Rattle.reuseport_group.specs.Passes as words;
@@ -158,7 +158,7 @@ fn choose_after(
     requires table { IsPassOf groups.now passes.old × (2 ≤ words.groups groups.now) }
     requires sole { IsSole passes.old }
     requires few { (length members.now ≤ most) × (length others.now ≤ most) }
-    requires some { Each (λ (m : ℕ). 0 < m) members.now }
+    requires some { AreMembers members.now }
     ensures table { IsPassOf groups.now passes.new × IsSole passes.new }
     ensures choice { result ≡ picked members.now hash }
 {

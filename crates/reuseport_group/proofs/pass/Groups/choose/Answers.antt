@@ -22,8 +22,8 @@ returns-then-member-eq0-clause-pick c = λ t all.
     let more = positive _ c.scale-place.result all (omega (arith, c.scale-place.ensures.below)) in
     absurd (omega (arith, c.if-member-eq0.true))
 
-pub returns-clause-some : goal.returns-clause-some
-returns-clause-some c = let few = counts _ _ _ _ c.load-count.ensures.value c.load-count.ensures.known in let no = c.if-member-eq0.false in (omega arith, c.scale-place.ensures.place, c.scale-place.ensures.below, few)
+pub returns-clause-count : goal.returns-clause-count
+returns-clause-count c = counts _ _ _ _ c.load-count.ensures.value c.load-count.ensures.known
 
 pub returns-clause-sole : goal.returns-clause-sole
 returns-clause-sole c = λ t.
