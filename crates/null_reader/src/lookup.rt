@@ -9,7 +9,7 @@ ghost use Rattle.table_rule.specs.Plays.{Sat, with_kept, letting_go, drop_at};
 ghost use Rattle.table_rule.specs.Words.{bucket_count};
 
 use super::answers::{Best, Pace, PassEnd, Point, Turn, WordsEnd, WordsLook};
-use sock_slots::Held;
+use shared_slots::Held;
 use sock_card::{CardWords, Packet, word_rank};
 use table_rule::{Chains, First, Steps, Second};
 

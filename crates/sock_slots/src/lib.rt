@@ -11,15 +11,10 @@
 //! let slot = slots.claim()?;
 //! slots.release(slot);
 //! ```
-//!
-//! A slot of the chain table's is held by a count: [`take`] takes one of a live slot, whose [`card`] then stays as it is
-//! until the count is [`put`]. None of them locks or waits.
 #![tactic(auto)]
 
-pub mod holds;
 pub mod slots;
 #[cfg(test)]
 mod tests;
 
-pub use holds::{Dead, Held, card, put, take};
 pub use slots::{Full, PlainSlots};

@@ -1,6 +1,6 @@
 use Rattle.std.proofs.Common.{rules, ◌≡◌, ◌+◌, ◌*◌, ◌<◌, ◌≤◌, ℕ, List, [], ◌∷◌, ◌++◌, length, refl, sym, ap, ◌∙◌, arith, subst}
 use Rattle.table_rule.proofs.Kepts.{knows_none, knows_more, is_kept}
-use Rattle.sock_slots.proofs.holds.card.Goals as goal
+use Rattle.shared_slots.proofs.holds.card.Goals as goal
 use Rattle.table_rule.specs.LookCalls.{with_words}
 use Rattle.table_rule.specs.Plays.{Sat}
 use Rattle.table_rule.specs.Calls.{me}
