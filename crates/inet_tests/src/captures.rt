@@ -29,6 +29,13 @@ const RECORDS: &str = "
     000000000000 000000000000 0800 45000028 00000001 40060000 0a000002 0a000001 03e80050
     00000000 00000000";
 
+/// A section of pcapng with an Ethernet interface and a packet, but for its last four bytes.
+const BLOCKS: &str = "
+    0a0d0d0a 1c000000 4d3c2b1a 0100 0000 ffffffffffffffff 1c000000
+    01000000 14000000 0100 0000 00000000 14000000
+    06000000 48000000 00000000 00000000 00000000 26000000 26000000
+    000000000000 000000000000 0800 45000028 00000000 40060000 0a000002 0a000001 03e80050 0000";
+
 /// The value of a digit of hexadecimal.
 fn digit_of(byte: u8) -> Option<u8> {
     match byte {
@@ -235,13 +242,38 @@ fn a_capture_ends_with_a_whole_record_or_is_cut(rt: HostRuntime) -> Result<(), F
 }
 
 #[test]
+fn blocks_of_pcapng_are_read_to_the_first_that_is_not_valid(rt: HostRuntime) -> Result<(), Fail> {
+    let cases: [(&[&str], &str); 4] = [
+        (&[BLOCKS, "48000000"], "packet 1 listen 1.a\n"),
+        (&[BLOCKS], "cut\n"),
+        // Another section, which has no interface.
+        (
+            &[BLOCKS, "48000000", BLOCKS, "48000000"],
+            "packet 1 listen 1.a\npacket 2 listen 1.a\n",
+        ),
+        (
+            &[
+                BLOCKS,
+                "48000000 0a0d0d0a 1c000000 4d3c2b1a 0100 0000 ffffffffffffffff 1c000000",
+                "06000000 20000000 00000000 00000000 00000000 00000000 00000000 20000000",
+            ],
+            "packet 1 listen 1.a\ncut\n",
+        ),
+    ];
+    for (parts, wanted) in cases {
+        assert!(rt; writes(&rt, LISTENER, parts, [LISTENING, wanted])?);
+    }
+    Ok(())
+}
+
+#[test]
 fn bytes_that_are_no_capture_are_refused(rt: HostRuntime) -> Result<(), Fail> {
     let cases = [
         "616263",
-        // Too short; another magic number, among them that of pcapng; version 2.3; Linux cooked capture.
+        // Too short; another magic number; a section of pcapng without its end; version 2.3; Linux cooked capture.
         "d4c3b2a1 0200 0400 00000000 00000000 ffff0000 010000",
         "34cdb2a1 0200 0400 00000000 00000000 ffff0000 01000000",
-        "0a0d0d0a 1c000000 4d3c2b1a 01000000 ffffffff ffffffff",
+        "0a0d0d0a 1c000000 4d3c2b1a 01000000 ffffffff ffffffff 1c0000",
         "d4c3b2a1 0200 0300 00000000 00000000 ffff0000 01000000",
         "d4c3b2a1 0200 0400 00000000 00000000 ffff0000 71000000",
     ];

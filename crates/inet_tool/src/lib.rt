@@ -11,7 +11,7 @@
 //! | `Done` | 0 | the input is a script; of `make`, whatever its numbers | a line for each command and packet; of `make`, counts |
 //! | `Usage` | 2 | clap refuses the words | nothing, and nothing was read |
 //! | `BadScript(n)` | 3 | line n is the first outside the grammar | `bad script line n` |
-//! | `BadCapture` | 4 | the script's capture isn't empty, and has no header of a capture file | `bad capture` |
+//! | `BadCapture` | 4 | the script's capture isn't empty, and begins with a header of neither format | `bad capture` |
 //! | `TooLong` | 5 | there are more than 16,777,216 bytes | nothing |
 //! | `ReadFault` | 6 | only where a read failed | nothing |
 //! | `WriteFault` | 7 | only where a write failed | a front of what was to be written |
