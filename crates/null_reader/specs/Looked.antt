@@ -140,7 +140,7 @@ pub record Between (m : Sat) (q₀ : Reader) (passes : ℕ) (last : PassEnd) (n 
 
 -- a view after a lookup: nothing else changed than what is held, the receipts, and what is seen
 abbrev pub looked_view : View → ℕ → List Kept → List ℕ → Receipt → View
-looked_view v t₀ ks hs c = record v { slot = record v.slot { holds = hs }; read = record { kept = ks; reader = []; receipts = v.read.receipts ++ c ∷ [] }; seen = c.to; sights = settled v.sights t₀ }
+looked_view v t₀ ks hs c = record v { slot = record v.slot { holds = hs }; read = record v.read { kept = ks; reader = []; receipts = v.read.receipts ++ c ∷ [] }; seen = c.to; sights = settled v.sights t₀ }
 
 abbrev pub LookedAs : (bucket : ℕ) (key : Packet) (least passes : ℕ) → Sat → WordsEnd → (t₀ t₁ : ℕ) → Sat → Type 0
 -- the count on the slot is held, with the card's words, and its card is of rank least or more

@@ -13,7 +13,7 @@ use Rattle.table_rule.specs.CardsOk.{SeenOk}
 use Rattle.table_rule.specs.Book.{open-end, below, Life, hash_of, unhash_of}
 use Rattle.table_rule.specs.LinkedOk.{words_at, Whole, Busy}
 use Rattle.sock_card.specs.Words.{word_rank as rank}
-use Rattle.table_rule.specs.ReadersOk.{rank_of, Miss, ends, passes, SlotMet, HashMet, NoneBetter, StopOk, CardStood, ReceiptOk, Sought, Way, PeekOk, ReaderOk, KeptOk, Readers}
+use Rattle.table_rule.specs.ReadersOk.{rank_of, Miss, ends, passes, SlotMet, HashMet, NoneBetter, StopOk, CardStood, ReceiptOk, SightedOk, Sought, Way, PeekOk, ReaderOk, KeptOk, Readers}
 use Rattle.table_rule.specs.Rule.{slot_part, book_part, dark_of, card_of, Parts, More}
 use Rattle.table_rule.specs.Plays.{standing, stopping, glancing, knowing, IsLive, receipt}
 use Rattle.table_rule.specs.declared.view.View.{View}
@@ -400,6 +400,23 @@ module _ (layout : Layout) (word : ℕ → ℕ) (chain : ℕ → List ℕ) (live
   pub receipt_again : (q : Reader) → Rd q → 0 < length q.stops → ReceiptOk layout.shape.slots lives (word 0) (receipt q 2 [] (word 0))
   receipt_again q o some-stops = record { span = (o.low, omega arith); none = λ k. absurd (omega (arith, k)); found = λ k. absurd (omega (arith, k)); again = λ k. (some-stops, o.stops) }
 
+  -- a card that was loaded whole under a count is that of the life that stood
+  pub kept_card : (h : Kept) (a b c d : ℕ) (kp : Kp h) → h.words ≡ a ∷ b ∷ c ∷ d ∷ [] → kp.life.card ≡ h.words
+  kept_card h a b c d kp words = kp.card-is ∙ (four h.words a b c d words kp.known ∙ sym words)
+    where
+      four : (ws : List ℕ) (a b c d : ℕ) → ws ≡ a ∷ b ∷ c ∷ d ∷ [] → SeenOk Cd (record { slot = h.slot; words = ws }) → words_at Cd h.slot ≡ a ∷ b ∷ c ∷ d ∷ []
+      four ws a b c d e ok =
+          let z0 = ok 0 a (omega arith) (ap (λ (l : List ℕ). get_elem? l 0) e) in let z1 = ok 1 b (omega arith) (ap (λ (l : List ℕ). get_elem? l 1) e) in let z2 = ok 2 c (omega arith) (ap (λ (l : List ℕ). get_elem? l 2) e) in let z3 = ok 3 d (omega arith) (ap (λ (l : List ℕ). get_elem? l 3) e) in
+          λ k. z0 k ∷ z1 k ∷ z2 k ∷ z3 k ∷ []
+
+  -- so it stood, and may be put as sighted
+  pub kept_sighted : (h : Kept) (a b c d : ℕ) → Kp h → h.words ≡ a ∷ b ∷ c ∷ d ∷ [] → SightedOk lives (word 0) (record { since = h.since; card = h.words })
+  kept_sighted h a b c d kp words = record {
+    low = kp.low;
+    some-words = omega (arith, ap (length {A = ℕ}) words);
+    stood = record { slot = h.slot; nth = kp.nth; life = kp.life; there = kp.there; card-is = kept_card h a b c d kp words; begun = kp.begun; left = kp.left };
+  }
+
   pub receipt_found : (q : Reader) (h : Kept) (a b c d : ℕ) → Rd q → Kp h → h.words ≡ a ∷ b ∷ c ∷ d ∷ [] → q.since ≤ h.since → q.best ≡ rank_of q.key h.words → q.least ≤ q.best → ((q.walking ≡ 1) × (q.link ≡ 2 * q.bucket + 1)) ⊎ (q.best ≡ 5)
       → ReceiptOk layout.shape.slots lives (word 0) (receipt q 1 h.words (word 0))
   receipt_found q h a b c d o kp words later best enough end = record {
@@ -411,7 +428,7 @@ module _ (layout : Layout) (word : ℕ → ℕ) (chain : ℕ → List ℕ) (live
         nth = kp.nth;
         life = kp.life;
         there = kp.there;
-        card-is = kp.card-is ∙ (four h.words a b c d words kp.known ∙ sym words);
+        card-is = kept_card h a b c d kp words;
         begun = kp.begun;
         left = let z = kp.left in omega (arith, later);
       },
@@ -421,8 +438,3 @@ module _ (layout : Layout) (word : ℕ → ℕ) (chain : ℕ → List ℕ) (live
     );
     again = λ k. absurd (omega (arith, k));
   }
-    where
-      four : (ws : List ℕ) (a b c d : ℕ) → ws ≡ a ∷ b ∷ c ∷ d ∷ [] → SeenOk Cd (record { slot = h.slot; words = ws }) → words_at Cd h.slot ≡ a ∷ b ∷ c ∷ d ∷ []
-      four ws a b c d e ok =
-          let z0 = ok 0 a (omega arith) (ap (λ (l : List ℕ). get_elem? l 0) e) in let z1 = ok 1 b (omega arith) (ap (λ (l : List ℕ). get_elem? l 1) e) in let z2 = ok 2 c (omega arith) (ap (λ (l : List ℕ). get_elem? l 2) e) in let z3 = ok 3 d (omega arith) (ap (λ (l : List ℕ). get_elem? l 3) e) in
-          λ k. z0 k ∷ z1 k ∷ z2 k ∷ z3 k ∷ []

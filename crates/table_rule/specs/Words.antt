@@ -36,3 +36,7 @@ card_from ws = unpacked (record {
 -- the bucket in which it belongs
 abbrev pub home_of : Layout → List ℕ → ℕ
 home_of layout ws = home layout.shape layout.seed (card_from ws)
+
+-- the same table by another seed
+abbrev pub with_seed : Layout → (seed : ℕ) → Layout
+with_seed layout seed = record layout { seed = seed }

@@ -10,12 +10,13 @@ mod steps;
 mod table;
 mod unlocked;
 mod view;
+mod wholes;
 
 pub use cards::known_card;
 pub use pass::Pass;
 pub use rule::{First, Rule, Second, Told};
 pub use table::{Chains, Steps};
 pub use view::{
-    BookView, ChainView, Change, Kept, Layout, ReadView, Reader, Receipt, Seen, Sight, SlotView,
-    Stop, View,
+    BookView, ChainView, Change, Kept, Layout, ReadView, Reader, Receipt, Seen, Sight, Sighted,
+    SlotView, Stop, View, Whole,
 };

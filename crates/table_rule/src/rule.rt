@@ -331,3 +331,36 @@ pub struct Second;
 impl Told for Second {
     ghost slot = { 1 };
 }
+
+pub struct LetSee<T> {
+    of: PhantomData<T>,
+}
+
+impl<T: Told> Play<(), View> for LetSee<T> {
+    ghost use Rattle.table_rule.specs.Plays.{let_see};
+
+    ghost then = { let_see T.slot };
+}
+
+/// What the end of a whole lookup is told: its receipt, but for its end.
+pub trait Summed {
+    ghost use Rattle.table_rule.specs.declared.view.Whole.{Whole};
+
+    ghost whole: { Whole };
+}
+
+impl Summed for Brand {
+    ghost use Rattle.std.specs.Prelude.{[]};
+
+    ghost whole = { record { key = record { src = 0; sport = 0; dst = 0; dport = 0; dev = 0; net = 0 }; seed = 0; from = 0; to = 0; kind = 0; card = []; bucket = 0; stops = [] } };
+}
+
+pub struct Sum<T> {
+    of: PhantomData<T>,
+}
+
+impl<T: Summed> Play<(), View> for Sum<T> {
+    ghost use Rattle.table_rule.specs.Plays.{summed};
+
+    ghost then = { summed T.whole };
+}

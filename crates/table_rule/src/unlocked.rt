@@ -6,7 +6,7 @@ ghost use Rattle.table_rule.specs.declared.view.Kept.{Kept};
 ghost use Rattle.table_rule.specs.declared.view.Seen.{Seen};
 ghost use Rattle.table_rule.specs.Lists.{times};
 ghost use Rattle.table_rule.specs.ReadersOk.{keeps_at, rank_of};
-ghost use Rattle.table_rule.specs.Alone.{IsAlone, NoneStands, CardStands, NoneKnown};
+ghost use Rattle.table_rule.specs.Alone.{IsAlone, NoneStands, CardStands, NoneKnown, IsGone};
 ghost use Rattle.table_rule.specs.declared.view.Change.{Change};
 ghost use mathlib.Core.Option.{some};
 ghost use lib.ListN.{get_elem?};
@@ -100,6 +100,7 @@ impl Chains {
         ensures live { IsLive result → Becomes steps.old steps.new (taking (view steps.old) slot) }
         ensures dead { (IsLive result → ⊥) → Becomes steps.old steps.new (counting (view steps.old) slot) }
         ensures counted { (j : ℕ) → keeps_at j (view steps.old).read ≤ times j (view steps.old).slot.holds }
+        ensures gone { (IsLive result → ⊥) → IsGone (view steps.old) slot }
     {
         let word = self.word_at(slot, 0);
         self.table

@@ -18,3 +18,6 @@ returns-clause-live c = λ live. c.fetch_add.ensures.2.0 live c.args.slot (word_
 
 pub returns-clause-dead : goal.returns-clause-dead
 returns-clause-dead c = λ dead. c.fetch_add.ensures.2.1 dead c.args.slot (word_is _ _ _ 0 _ c.requires.table.1 c.word_at-word.ensures.is)
+
+pub returns-clause-gone : goal.returns-clause-gone
+returns-clause-gone c = λ dead. c.fetch_add.ensures.2.3 dead c.args.slot (word_is _ _ _ 0 _ c.requires.table.1 c.word_at-word.ensures.is)

@@ -1,0 +1,20 @@
+use Rattle.std.proofs.Common.{rules, ◌+◌, ◌-◌, ◌%◌, ◌^◌, ap, ◌∙◌}
+use mathlib.Core.Option.{none}
+use Rattle.atomic_table.specs.Table.{step}
+use Rattle.table_rule.specs.Words.{at}
+use Rattle.table_rule.specs.Plays.{Sat, let_see}
+use Rattle.table_rule.proofs.AllowedLookups.{lets-see}
+use Rattle.table_rule.proofs.Calls.{moved_to, word_is}
+use Rattle.table_rule.proofs.table.Chains.put_seen_as.Goals as goal
+
+pub fetch_sub-requires : goal.fetch_sub-requires
+fetch_sub-requires g c = (search rules, search rules, moved_to c.args.self.now.layout c.args.self.now.table.shared.key c.args.self.now.table.shared.table_id.slots c.args.steps.now.seat.id c.args.steps.now.seat.me (at c.args.self.now.layout c.args.slot 0) c.word_at-word.result (λ n. (n + (2 ^ 64 - 1)) % 2 ^ 64) (λ x. let_see g.T.Told.slot (step c.args.self.now.table.shared.table_id.slots x 1 0 none) c.args.steps.now.seat.me) c.args.self.now.keyed c.word_at-word.ensures.is (lets-see c.args.self.now.layout c.args.self.now.table.shared.table_id.slots c.args.steps.now.seat.id c.args.steps.now.seat.me c.requires.table.1 c.args.slot c.requires.slot g.T.Told.slot c.requires.learnt.kept c.requires.learnt.a c.requires.learnt.b c.requires.learnt.c c.requires.learnt.d c.requires.learnt.there c.requires.learnt.slot-is c.requires.learnt.words))
+
+pub returns-clause-table : goal.returns-clause-table
+returns-clause-table g c = (c.fetch_sub.ensures.0 ∙ c.requires.table.0, ap (λ (s : Sat). s.0.layout) (c.fetch_sub.ensures.2.0 c.args.slot (word_is _ _ _ 0 _ c.requires.table.1 c.word_at-word.ensures.is)) ∙ c.requires.table.1)
+
+pub returns-clause-view : goal.returns-clause-view
+returns-clause-view g c = c.fetch_sub.ensures.2.0 c.args.slot (word_is _ _ _ 0 _ c.requires.table.1 c.word_at-word.ensures.is)
+
+pub returns-clause-stands : goal.returns-clause-stands
+returns-clause-stands g c = λ from h sole is early. c.fetch_sub.ensures.2.1 c.args.slot from h (word_is _ _ _ 0 _ c.requires.table.1 c.word_at-word.ensures.is) sole is early
