@@ -21,6 +21,8 @@ step_read_held-extra-requires-clause-kept c = let a = c.requires.held in let m =
 
 pub known_card-requires : goal.known_card-requires
 known_card-requires c = let a = c.requires.held in let m = (me c.args.steps.now) in
-    record { card = c.step_read_held-extra.ensures.card (with_words a.kept (c.step_read_held-ends.result ∷ c.step_read_held-ports.result ∷ c.step_read_held-name.result ∷ [])) a.others
-    (ap (λ (s : Sat). s.0.read.kept) (knows_more m (me c.step_read_held-ports.new.steps) (me c.step_read_held-name.new.steps) a.kept (c.step_read_held-ends.result ∷ c.step_read_held-ports.result ∷ []) a.others c.step_read_held-name.result (knows_more m (me c.step_read_held-ends.new.steps) (me c.step_read_held-ports.new.steps) a.kept (c.step_read_held-ends.result ∷ []) a.others c.step_read_held-ports.result (knows_more m m (me c.step_read_held-ends.new.steps) a.kept [] a.others c.step_read_held-ends.result (knows_none m a.kept a.others a.there a.none) c.step_read_held-ends.ensures.view) c.step_read_held-ports.ensures.view) c.step_read_held-name.ensures.view))
-    refl }
+    record {
+      card = c.step_read_held-extra.ensures.card (with_words a.kept (c.step_read_held-ends.result ∷ c.step_read_held-ports.result ∷ c.step_read_held-name.result ∷ [])) a.others
+          (ap (λ (s : Sat). s.0.read.kept) (knows_more m (me c.step_read_held-ports.new.steps) (me c.step_read_held-name.new.steps) a.kept (c.step_read_held-ends.result ∷ c.step_read_held-ports.result ∷ []) a.others c.step_read_held-name.result (knows_more m (me c.step_read_held-ends.new.steps) (me c.step_read_held-ports.new.steps) a.kept (c.step_read_held-ends.result ∷ []) a.others c.step_read_held-ports.result (knows_more m m (me c.step_read_held-ends.new.steps) a.kept [] a.others c.step_read_held-ends.result (knows_none m a.kept a.others a.there a.none) c.step_read_held-ends.ensures.view) c.step_read_held-ports.ensures.view) c.step_read_held-name.ensures.view))
+          refl;
+    }
