@@ -138,13 +138,13 @@ module _ (slot : ℕ) (key : Packet) (least best before : ℕ) (m n : Sat) (a : 
     visited_dead n₃ e₃ q looks = let k = keyed-is q looks in
         e₃ ∙ (ap (λ (s : Sat). (letting_go s.0 slot, s.1)) (dead (keyed q slot k.0 k.1) (looks_keyed q looks))
         ∙ (ap (λ (s : Sat). (record (with_reader (counting s.0 slot) (stopping (keyed q slot k.0 k.1) 1 slot ∷ [])) { slot = record (counting s.0 slot).slot { holds = less slot (slot ∷ s.0.slot.holds) } }, s.1)) k.3
-        ∙ ap (λ (l : List ℕ). (looking m.0 (stopping q 1 slot) m.0.read.kept l, m.1)) (less_first slot m.0.slot.holds)))
+        ∙ ap (λ (l : List ℕ). (looking m.0 (stopping q 1 slot) m.0.read.kept l (m.0.slot.taken + 1), m.1)) (less_first slot m.0.slot.holds)))
 
   module _ (n₂ : Sat) (live : n₂ ≡ (taking n.0 slot, n.1)) where
     abbrev new : Kept
     new = record { slot = slot; since = m.0.seen; words = [] }
 
-    taken : (q : Reader) (looks : Looks m.0 q) → n₂ ≡ (looking m.0 (keyed q slot (keyed-is q looks).0 (keyed-is q looks).1) (new ∷ m.0.read.kept) (slot ∷ m.0.slot.holds), m.1)
+    taken : (q : Reader) (looks : Looks m.0 q) → n₂ ≡ (looking m.0 (keyed q slot (keyed-is q looks).0 (keyed-is q looks).1) (new ∷ m.0.read.kept) (slot ∷ m.0.slot.holds) (m.0.slot.taken + 1), m.1)
     taken q looks = live ∙ ap (λ (s : Sat). (taking s.0 slot, s.1)) (keyed-is q looks).3
 
     pub is_checking : a.q.best ≤ before → IsChecking slot key before n₂.0
@@ -186,4 +186,4 @@ module _ (slot : ℕ) (key : Packet) (least best before : ℕ) (m n : Sat) (a : 
             let c = other (keyed q slot k.0 k.1) new m.0.read.kept (ap (λ (s : Sat). s.0.read.reader) t) (ap (λ (s : Sat). s.0.read.kept) t) in
             e₄ ∙ (ap (λ (s : Sat). (with_kept (letting_go s.0 slot) (drop_at 0 s.0.read.kept), s.1)) c.1
             ∙ (ap (λ (s : Sat). (with_reader (with_kept (letting_go s.0 slot) m.0.read.kept) (stopping (keyed q slot k.0 k.1) 2 slot ∷ []), s.1)) t
-            ∙ ap (λ (l : List ℕ). (looking m.0 (stopping q 2 slot) m.0.read.kept l, m.1)) (less_first slot m.0.slot.holds)))
+            ∙ ap (λ (l : List ℕ). (looking m.0 (stopping q 2 slot) m.0.read.kept l (m.0.slot.taken + 1), m.1)) (less_first slot m.0.slot.holds)))

@@ -29,9 +29,9 @@ len-snoc [] e = refl
 len-snoc (x ∷ xs) e = omega (arith, len-snoc xs e)
 
 pub passed_seen : (layout : Layout) (n n' : Sat) (q : Reader) (r : Result (Option Best) PassEnd) → Passed layout n q r n' → n'.0.seen ≡ n.0.seen
-passed_seen layout n n' q (Ok None) t = ap (λ (s : Sat). s.0.seen) t.5
-passed_seen layout n n' q (Ok (Some b)) t = ap (λ (s : Sat). s.0.seen) t.7
-passed_seen layout n n' q (Err e) t = ap (λ (s : Sat). s.0.seen) t.3
+passed_seen layout n n' q (Ok None) t = ap (λ (s : Sat). s.0.seen) t.7
+passed_seen layout n n' q (Ok (Some b)) t = ap (λ (s : Sat). s.0.seen) t.9
+passed_seen layout n n' q (Err e) t = ap (λ (s : Sat). s.0.seen) t.5
 
 module _ (layout : Layout) (bucket : ℕ) (key : Packet) (least passes t₀ : ℕ) (m m₁ : Sat) (out : m₁ ≡ (setting_out m.0 bucket key least t₀, m.1)) where
   abbrev q₀ : Reader
@@ -40,7 +40,9 @@ module _ (layout : Layout) (bucket : ℕ) (key : Packet) (least passes t₀ : �
   pub between_none : (last : PassEnd) → Between m₁ q₀ 0 last m₁
   between_none last = record {
     q = q₀;
-    is = out ∙ ap (λ (s : Sat). (looking s.0 q₀ s.0.read.kept s.0.slot.holds, s.1)) (sym out);
+    taken = m₁.0.slot.taken;
+    more = omega arith;
+    is = out ∙ ap (λ (s : Sat). (looking s.0 q₀ s.0.read.kept s.0.slot.holds s.0.slot.taken, s.1)) (sym out);
     same = record { bucket = refl; key = refl; least = refl; since = refl };
     count = refl;
     last-is = λ h. absurd (omega (arith, h));
@@ -59,11 +61,16 @@ module _ (layout : Layout) (bucket : ℕ) (key : Packet) (least passes t₀ : �
     pub room_between : HasTwo m.0 → HasTwo n.0
     room_between h = omega (arith, h, ap (λ (s : Sat). length s.0.slot.holds) b.is, ap (λ (s : Sat). s.0.slot.parts) b.is, ap (λ (s : Sat). length s.0.slot.holds) out, ap (λ (s : Sat). s.0.slot.parts) out)
 
+    more-between : m.0.slot.taken ≤ n.0.slot.taken
+    more-between = omega (arith, b.more, ap (λ (s : Sat). s.0.slot.taken) b.is, ap (λ (s : Sat). s.0.slot.taken) out)
+
     -- a pass stopped
     pub between_more : (stop : PassEnd) → Passed layout n b.q (Err stop) n' → Between m₁ q₀ (done + 1) stop n'
     between_more stop t = record {
       q = t.0;
-      is = t.3 ∙ ap (λ (s : Sat). (looking s.0 t.0 s.0.read.kept s.0.slot.holds, s.1)) b.is;
+      taken = t.3;
+      more = omega (arith, b.more, ap (λ (s : Sat). s.0.slot.taken) b.is, t.4);
+      is = t.5 ∙ ap (λ (s : Sat). (looking s.0 t.0 s.0.read.kept s.0.slot.holds t.3, s.1)) b.is;
       same = record { bucket = t.1.bucket ∙ b.same.bucket; key = t.1.key ∙ b.same.key; least = t.1.least ∙ b.same.least; since = t.1.since ∙ b.same.since };
       count = ap (length {A = Stop}) t.2 ∙ (len-snoc b.q.stops (stop_of stop) ∙ ap (λ (k : ℕ). k + 1) b.count);
       last-is = λ h. (b.q.stops, t.2);
@@ -71,14 +78,14 @@ module _ (layout : Layout) (bucket : ℕ) (key : Packet) (least passes t₀ : �
 
     -- nothing better than least
     pub is_none : Passed layout n b.q (Ok None) n' → IsNone n'.0
-    is_none t = record { q = t.0; looks = ap (λ (s : Sat). s.0.read.reader) t.5; at = t.2; best = t.3 }
+    is_none t = record { q = t.0; looks = ap (λ (s : Sat). s.0.read.reader) t.7; at = t.2; best = t.3 }
 
     -- what was begun as q₀, and is q now
     told : (q : Reader) (kind t₁ : ℕ) (card : List ℕ) → IsLookup q₀ q → receipt q kind card t₁ ≡ record { bucket = bucket; key = key; least = least; from = t₀; to = t₁; kind = kind; card = card; stops = q.stops }
     told q kind t₁ card s = λ i. record { bucket = s.bucket i; key = s.key i; least = s.least i; from = s.since i; to = t₁; kind = kind; card = card; stops = q.stops }
 
-    from-start : (q : Reader) (ks : List Kept) (hs : List ℕ) → n' ≡ (looking n.0 q ks hs, n.1) → n' ≡ (looking (setting_out m.0 bucket key least t₀) q ks hs, m.1)
-    from-start q ks hs e = e ∙ (ap (λ (s : Sat). (looking s.0 q ks hs, s.1)) b.is ∙ ap (λ (s : Sat). (looking s.0 q ks hs, s.1)) out)
+    from-start : (q : Reader) (ks : List Kept) (hs : List ℕ) (taken : ℕ) → n' ≡ (looking n.0 q ks hs taken, n.1) → n' ≡ (looking (setting_out m.0 bucket key least t₀) q ks hs taken, m.1)
+    from-start q ks hs taken e = e ∙ (ap (λ (s : Sat). (looking s.0 q ks hs taken, s.1)) b.is ∙ ap (λ (s : Sat). (looking s.0 q ks hs taken, s.1)) out)
 
     kept-same : n.0.read.kept ≡ m.0.read.kept
     kept-same = ap (λ (s : Sat). s.0.read.kept) b.is ∙ ap (λ (s : Sat). s.0.read.kept) out
@@ -91,17 +98,19 @@ module _ (layout : Layout) (bucket : ℕ) (key : Packet) (least passes t₀ : �
 
     module _ (n'' : Sat) (t₁ : ℕ) where
       pub looked_none : Passed layout n b.q (Ok None) n' → ((q : Reader) → Looks n'.0 q → n'' ≡ (concluding n'.0 (receipt q 0 [] t₁), n'.1)) → LookedAs bucket key least passes m ends.None t₀ t₁ n''
-      looked_none t end = let e = from-start t.0 n.0.read.kept n.0.slot.holds t.5 in (
+      looked_none t end = let e = from-start t.0 n.0.read.kept n.0.slot.holds t.5 t.7 in (
         t.0.stops,
-        end t.0 (ap (λ (s : Sat). s.0.read.reader) t.5) ∙ (ap (λ (s : Sat). (concluding s.0 (receipt t.0 0 [] t₁), s.1)) e
-            ∙ (ap (λ (l : List Kept). (looked_view m.0 t₀ l n.0.slot.holds (receipt t.0 0 [] t₁), m.1)) kept-same
-            ∙ (ap (λ (l : List ℕ). (looked_view m.0 t₀ m.0.read.kept l (receipt t.0 0 [] t₁), m.1)) holds-same
-            ∙ ap (λ (c : Receipt). (looked_view m.0 t₀ m.0.read.kept m.0.slot.holds c, m.1)) (told t.0 0 t₁ [] (joined t.0 t.1))))),
+        t.5,
+        omega (arith, t.6, more-between),
+        end t.0 (ap (λ (s : Sat). s.0.read.reader) t.7) ∙ (ap (λ (s : Sat). (concluding s.0 (receipt t.0 0 [] t₁), s.1)) e
+            ∙ (ap (λ (l : List Kept). (looked_view m.0 t₀ l n.0.slot.holds t.5 (receipt t.0 0 [] t₁), m.1)) kept-same
+            ∙ (ap (λ (l : List ℕ). (looked_view m.0 t₀ m.0.read.kept l t.5 (receipt t.0 0 [] t₁), m.1)) holds-same
+            ∙ ap (λ (c : Receipt). (looked_view m.0 t₀ m.0.read.kept m.0.slot.holds t.5 c, m.1)) (told t.0 0 t₁ [] (joined t.0 t.1))))),
       )
 
       module _ (best : Best) (t : Passed layout n b.q (Ok (Some best)) n') where
-        found-at : n' ≡ (looking n.0 t.0 (held best t.5.0 ∷ n.0.read.kept) (best.slot ∷ n.0.slot.holds), n.1)
-        found-at = t.7 ∙ (ap (λ (l : List Kept). (looking n.0 t.0 l t.2, n.1)) t.5.5 ∙ ap (λ (l : List ℕ). (looking n.0 t.0 (held best t.5.0 ∷ n.0.read.kept) l, n.1)) t.5.6)
+        found-at : n' ≡ (looking n.0 t.0 (held best t.5.0 ∷ n.0.read.kept) (best.slot ∷ n.0.slot.holds) t.7, n.1)
+        found-at = t.9 ∙ (ap (λ (l : List Kept). (looking n.0 t.0 l t.2 t.7, n.1)) t.5.5 ∙ ap (λ (l : List ℕ). (looking n.0 t.0 (held best t.5.0 ∷ n.0.read.kept) l t.7, n.1)) t.5.6)
 
         pub is_found : IsFound n'.0
         is_found = record {
@@ -123,17 +132,19 @@ module _ (layout : Layout) (bucket : ℕ) (key : Packet) (least passes t₀ : �
 
         pub looked_found : ((q : Reader) (h : Kept) (hs : List Kept) → Looks n'.0 q → n'.0.read.kept ≡ h ∷ hs → n'' ≡ (concluding n'.0 (receipt q 1 h.words t₁), n'.1)) → LookedAs bucket key least passes m (ends.Found (record { slot = best.slot }) best.card) t₀ t₁ n''
         looked_found end =
-            let e = from-start t.0 (held best t.5.0 ∷ n.0.read.kept) (best.slot ∷ n.0.slot.holds) found-at in
+            let e = from-start t.0 (held best t.5.0 ∷ n.0.read.kept) (best.slot ∷ n.0.slot.holds) t.7 found-at in
             let s = joined t.0 t.3 in (
               t.5.0,
               t.0.stops,
               omega (arith, t.5.4, s.since),
               omega (arith, t.5.2, t.5.3, s.least, ap (λ (k : Packet). rank_of k (words_of best.card)) s.key),
+              t.7,
+              omega (arith, t.8, more-between),
               end t.0 (held best t.5.0) n.0.read.kept (ap (λ (s : Sat). s.0.read.reader) found-at) (ap (λ (s : Sat). s.0.read.kept) found-at)
                   ∙ (ap (λ (s : Sat). (concluding s.0 (receipt t.0 1 (words_of best.card) t₁), s.1)) e
-                  ∙ (ap (λ (l : List Kept). (looked_view m.0 t₀ (held best t.5.0 ∷ l) (best.slot ∷ n.0.slot.holds) (receipt t.0 1 (words_of best.card) t₁), m.1)) kept-same
-                  ∙ (ap (λ (l : List ℕ). (looked_view m.0 t₀ (held best t.5.0 ∷ m.0.read.kept) (best.slot ∷ l) (receipt t.0 1 (words_of best.card) t₁), m.1)) holds-same
-                  ∙ ap (λ (c : Receipt). (looked_view m.0 t₀ (held best t.5.0 ∷ m.0.read.kept) (best.slot ∷ m.0.slot.holds) c, m.1)) (told t.0 1 t₁ (words_of best.card) s)))),
+                  ∙ (ap (λ (l : List Kept). (looked_view m.0 t₀ (held best t.5.0 ∷ l) (best.slot ∷ n.0.slot.holds) t.7 (receipt t.0 1 (words_of best.card) t₁), m.1)) kept-same
+                  ∙ (ap (λ (l : List ℕ). (looked_view m.0 t₀ (held best t.5.0 ∷ m.0.read.kept) (best.slot ∷ l) t.7 (receipt t.0 1 (words_of best.card) t₁), m.1)) holds-same
+                  ∙ ap (λ (c : Receipt). (looked_view m.0 t₀ (held best t.5.0 ∷ m.0.read.kept) (best.slot ∷ m.0.slot.holds) t.7 c, m.1)) (told t.0 1 t₁ (words_of best.card) s)))),
             )
 
   -- each pass stopped
@@ -147,14 +158,16 @@ module _ (layout : Layout) (bucket : ℕ) (key : Packet) (least passes t₀ : �
           refl,
           (f.0,
           omega (arith, b.count, ap (length {A = Stop}) f.1, len-snoc f.0 (stop_of last)),
+          b.taken,
+          omega (arith, b.more, ap (λ (s : Sat). s.0.slot.taken) out),
           end b.q (ap (λ (s : Sat). s.0.read.reader) b.is) ∙ (ap (λ (s : Sat). (concluding s.0 (receipt b.q 2 [] t₁), s.1)) b.is
-              ∙ (ap (λ (s : Sat). (concluding (looking s.0 b.q s.0.read.kept s.0.slot.holds) (receipt b.q 2 [] t₁), s.1)) out
-              ∙ ap (λ (r : Receipt). (looked_view m.0 t₀ m.0.read.kept m.0.slot.holds r, m.1)) c))),
+              ∙ (ap (λ (s : Sat). (concluding (looking s.0 b.q s.0.read.kept s.0.slot.holds b.taken) (receipt b.q 2 [] t₁), s.1)) out
+              ∙ ap (λ (r : Receipt). (looked_view m.0 t₀ m.0.read.kept m.0.slot.holds b.taken r, m.1)) c))),
         )
 
 -- The answers of a sole pass
 
-module _ (bucket : ℕ) (key : Packet) (least t₀ : ℕ) (m : Sat) (whole : IsWhole m.0) (before : (k : ℕ) (c : Change) → get_elem? m.0.book.closed k ≡ some c → c.ends < t₀) (n : Sat) (q : Reader) (ks : List Kept) (hs : List ℕ) (e : n ≡ (looking (setting_out m.0 bucket key least t₀) q ks hs, m.1)) (same : IsLookup (begun bucket key least t₀) q) where
+module _ (bucket : ℕ) (key : Packet) (least t₀ : ℕ) (m : Sat) (whole : IsWhole m.0) (before : (k : ℕ) (c : Change) → get_elem? m.0.book.closed k ≡ some c → c.ends < t₀) (n : Sat) (q : Reader) (ks : List Kept) (hs : List ℕ) (taken : ℕ) (e : n ≡ (looking (setting_out m.0 bucket key least t₀) q ks hs taken, m.1)) (same : IsLookup (begun bucket key least t₀) q) where
   pub sole-at : IsAlone n.0 q.since
   sole-at = subst (λ (s : Sat). IsAlone s.0 q.since) (sym e) record { parts = whole.0; closed = whole.1; before = λ k c z. let b = before k c z in omega (arith, b, same.since) }
 
@@ -164,15 +177,15 @@ module _ (bucket : ℕ) (key : Packet) (least t₀ : ℕ) (m : Sat) (whole : IsW
       subst (λ (k : ℕ). NoneStands m.0 bucket key k best) same.least (subst (λ (k : Packet). NoneStands m.0 bucket k q.least best) same.key (subst (λ (k : ℕ). NoneStands m.0 k q.key q.least best) same.bucket a))
 
   pub card-told : (card : List ℕ) → CardStands n.0 card → CardStands m.0 card
-  card-told card o = let a : CardStands (looking (setting_out m.0 bucket key least t₀) q ks hs) card = subst (λ (s : Sat). CardStands s.0 card) e o in record { hash = a.hash; there = a.there; is-hash = a.is-hash; card-is = a.card-is; stands = a.stands }
+  card-told card o = let a : CardStands (looking (setting_out m.0 bucket key least t₀) q ks hs taken) card = subst (λ (s : Sat). CardStands s.0 card) e o in record { hash = a.hash; there = a.there; is-hash = a.is-hash; card-is = a.card-is; stands = a.stands }
 
 module _ (layout : Layout) (bucket : ℕ) (key : Packet) (least passes t₀ : ℕ) (m m₁ : Sat) (out : m₁ ≡ (setting_out m.0 bucket key least t₀, m.1)) (whole : IsWhole m.0) (before : (k : ℕ) (c : Change) → get_elem? m.0.book.closed k ≡ some c → c.ends < t₀) where
   module _ (done : ℕ) (last : PassEnd) (n n' : Sat) (b : Between m₁ (begun bucket key least t₀) done last n) where
     pub sole_none : Passed layout n b.q (Ok None) n' → ((q : Reader) → Looks n'.0 q → IsAlone n'.0 q.since → NoneStands n'.0 q.bucket q.key q.least 0) → NoneStands m.0 bucket key least 0
     sole_none t told =
-        let e = from-start layout bucket key least passes t₀ m m₁ out done last n n' b t.0 n.0.read.kept n.0.slot.holds t.5 in
+        let e = from-start layout bucket key least passes t₀ m m₁ out done last n n' b t.0 n.0.read.kept n.0.slot.holds t.5 t.7 in
         let s = joined layout bucket key least passes t₀ m m₁ out done last n n' b t.0 t.1 in
-        none-told bucket key least t₀ m whole before n' t.0 n.0.read.kept n.0.slot.holds e s 0 (told t.0 (ap (λ (x : Sat). x.0.read.reader) t.5) (sole-at bucket key least t₀ m whole before n' t.0 n.0.read.kept n.0.slot.holds e s))
+        none-told bucket key least t₀ m whole before n' t.0 n.0.read.kept n.0.slot.holds t.5 e s 0 (told t.0 (ap (λ (x : Sat). x.0.read.reader) t.7) (sole-at bucket key least t₀ m whole before n' t.0 n.0.read.kept n.0.slot.holds t.5 e s))
 
     pub sole_found : (best : Best) (t : Passed layout n b.q (Ok (Some best)) n') → ((q : Reader) (h : Kept) (hs : List Kept) → Looks n'.0 q → n'.0.read.kept ≡ h ∷ hs → IsAlone n'.0 q.since → CardStands n'.0 h.words × NoneStands n'.0 q.bucket q.key q.least (rank_of q.key h.words))
         → CardStands m.0 (words_of best.card) × NoneStands m.0 bucket key least (rank_of key (words_of best.card))
@@ -180,17 +193,17 @@ module _ (layout : Layout) (bucket : ℕ) (key : Packet) (least passes t₀ : �
         let at = found-at layout bucket key least passes t₀ m m₁ out done last n n' b n' 0 best t in
         let ks : List Kept = held best t.5.0 ∷ n.0.read.kept in
         let hs : List ℕ = best.slot ∷ n.0.slot.holds in
-        let e = from-start layout bucket key least passes t₀ m m₁ out done last n n' b t.0 ks hs at in
+        let e = from-start layout bucket key least passes t₀ m m₁ out done last n n' b t.0 ks hs t.7 at in
         let s = joined layout bucket key least passes t₀ m m₁ out done last n n' b t.0 t.3 in
-        let r = told t.0 (held best t.5.0) n.0.read.kept (ap (λ (x : Sat). x.0.read.reader) at) (ap (λ (x : Sat). x.0.read.kept) at) (sole-at bucket key least t₀ m whole before n' t.0 ks hs e s) in (
-          card-told bucket key least t₀ m whole before n' t.0 ks hs e s (words_of best.card) r.0,
-          subst (λ (k : Packet). NoneStands m.0 bucket key least (rank_of k (words_of best.card))) s.key (none-told bucket key least t₀ m whole before n' t.0 ks hs e s (rank_of t.0.key (words_of best.card)) r.1),
+        let r = told t.0 (held best t.5.0) n.0.read.kept (ap (λ (x : Sat). x.0.read.reader) at) (ap (λ (x : Sat). x.0.read.kept) at) (sole-at bucket key least t₀ m whole before n' t.0 ks hs t.7 e s) in (
+          card-told bucket key least t₀ m whole before n' t.0 ks hs t.7 e s (words_of best.card) r.0,
+          subst (λ (k : Packet). NoneStands m.0 bucket key least (rank_of k (words_of best.card))) s.key (none-told bucket key least t₀ m whole before n' t.0 ks hs t.7 e s (rank_of t.0.key (words_of best.card)) r.1),
         )
 
   pub sole_again : (last : PassEnd) (n : Sat) (b : Between m₁ (begun bucket key least t₀) passes last n) → ((q : Reader) → Looks n.0 q → IsAlone n.0 q.since → ⊥) → ⊥
   sole_again last n b told =
-      let e : n ≡ (looking (setting_out m.0 bucket key least t₀) b.q m.0.read.kept m.0.slot.holds, m.1) = b.is ∙ ap (λ (s : Sat). (looking s.0 b.q s.0.read.kept s.0.slot.holds, s.1)) out in
-      told b.q (ap (λ (s : Sat). s.0.read.reader) b.is) (sole-at bucket key least t₀ m whole before n b.q m.0.read.kept m.0.slot.holds e b.same)
+      let e : n ≡ (looking (setting_out m.0 bucket key least t₀) b.q m.0.read.kept m.0.slot.holds b.taken, m.1) = b.is ∙ ap (λ (s : Sat). (looking s.0 b.q s.0.read.kept s.0.slot.holds b.taken, s.1)) out in
+      told b.q (ap (λ (s : Sat). s.0.read.reader) b.is) (sole-at bucket key least t₀ m whole before n b.q m.0.read.kept m.0.slot.holds b.taken e b.same)
 
 module _ (layout : Layout) (bucket : ℕ) (key : Packet) (least passes t₀ : ℕ) (m m₁ : Sat) (out : m₁ ≡ (setting_out m.0 bucket key least t₀, m.1)) (done : ℕ) (last : PassEnd) (n n' : Sat) (b : Between m₁ (begun bucket key least t₀) done last n) where
   -- what was found is a card

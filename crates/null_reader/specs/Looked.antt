@@ -28,8 +28,9 @@ use Rattle.sock_card.specs.declared.card.Packet.{Packet}
 use Rattle.table_rule.specs.Beyond.{IsCardWords}
 use Rattle.table_rule.specs.Words.{words_of}
 
-abbrev pub looking : View → Reader → List Kept → List ℕ → View
-looking v q ks hs = record v { slot = record v.slot { holds = hs }; read = record v.read { reader = q ∷ []; kept = ks } }
+-- a view during a lookup: its reader, what it keeps and holds, and how often it has taken a count
+abbrev pub looking : View → Reader → List Kept → List ℕ → (taken : ℕ) → View
+looking v q ks hs taken = record v { slot = record v.slot { holds = hs; taken = taken }; read = record v.read { reader = q ∷ []; kept = ks } }
 
 abbrev pub stop_of : PassEnd → Stop
 stop_of (Foreign b) = record { kind = 0; at = b }
@@ -82,8 +83,8 @@ held t since = record { slot = t.slot; since = since; words = words_of t.card }
 abbrev pub Visited : (slot : ℕ) (key : Packet) (least best : ℕ) → Reader → Sat → Result (Option Best) PassEnd → Sat → Type 0
 Visited slot key least best q m (Ok None) n = (a : ℕ) × (b : ℕ) × ((rank key a b < least) ⊎ (rank key a b ≤ best)) × (n ≡ (with_reader m.0 (keyed q slot a b ∷ []), m.1))
 Visited slot key least best q m (Ok (Some t)) n = (a : ℕ) × (b : ℕ) × (t.slot ≡ slot) × (t.rank ≡ rank key a b) × (rank_of key (words_of t.card) ≡ t.rank) × (least ≤ t.rank)
-    × (n ≡ (looking m.0 (record (keyed q slot a b) { best = t.rank }) (held t m.0.seen ∷ m.0.read.kept) (slot ∷ m.0.slot.holds), m.1))
-Visited slot key least best q m (Err e) n = n ≡ (looking m.0 (stopped q e) m.0.read.kept m.0.slot.holds, m.1)
+    × (n ≡ (looking m.0 (record (keyed q slot a b) { best = t.rank }) (held t m.0.seen ∷ m.0.read.kept) (slot ∷ m.0.slot.holds) (m.0.slot.taken + 1), m.1))
+Visited slot key least best q m (Err e) n = n ≡ (looking m.0 (stopped q e) m.0.read.kept m.0.slot.holds (m.0.slot.taken + 1), m.1)
 
 abbrev pub so_far : Option Best → ℕ
 so_far None = 0
@@ -106,7 +107,9 @@ pub record Walking (layout : Layout) (m₀ : Sat) (q₀ : Reader) (best : Option
   pub q : Reader
   pub ks : List Kept
   pub hs : List ℕ
-  pub is : n ≡ (looking m₀.0 q ks hs, m₀.1)
+  pub taken : ℕ
+  pub more : m₀.0.slot.taken ≤ taken
+  pub is : n ≡ (looking m₀.0 q ks hs taken, m₀.1)
   pub same : IsLookup q₀ q
   pub best-is : IsBest layout m₀.0 q best ks hs
   pub slot : link % 2 ≡ 0 → followed ≤ layout.shape.slots → (q.walking ≡ 1) × (q.link ≡ link) × (q.followed ≡ followed) × (q.peeked ≡ record { slot = link / 2; words = [] } ∷ []) × (link / 2 < layout.shape.slots) × (q.stops ≡ q₀.stops)
@@ -116,9 +119,9 @@ pub record Walking (layout : Layout) (m₀ : Sat) (q₀ : Reader) (best : Option
 
 -- what a pass of the lookup q₀ leaves
 abbrev pub Passed : Layout → Sat → Reader → Result (Option Best) PassEnd → Sat → Type 0
-Passed layout m q₀ (Ok None) n = (q : Reader) × IsLookup q₀ q × IsAtEnd q × (q.best ≡ 0) × (q.stops ≡ q₀.stops) × (n ≡ (looking m.0 q m.0.read.kept m.0.slot.holds, m.1))
-Passed layout m q₀ (Ok (Some t)) n = (q : Reader) × (ks : List Kept) × (hs : List ℕ) × IsLookup q₀ q × (IsAtEnd q ⊎ (q.best ≡ 5)) × IsBest layout m.0 q (Some t) ks hs × (q.stops ≡ q₀.stops) × (n ≡ (looking m.0 q ks hs, m.1))
-Passed layout m q₀ (Err e) n = (q : Reader) × IsLookup q₀ q × (q.stops ≡ q₀.stops ++ stop_of e ∷ []) × (n ≡ (looking m.0 q m.0.read.kept m.0.slot.holds, m.1))
+Passed layout m q₀ (Ok None) n = (q : Reader) × IsLookup q₀ q × IsAtEnd q × (q.best ≡ 0) × (q.stops ≡ q₀.stops) × (taken : ℕ) × (m.0.slot.taken ≤ taken) × (n ≡ (looking m.0 q m.0.read.kept m.0.slot.holds taken, m.1))
+Passed layout m q₀ (Ok (Some t)) n = (q : Reader) × (ks : List Kept) × (hs : List ℕ) × IsLookup q₀ q × (IsAtEnd q ⊎ (q.best ≡ 5)) × IsBest layout m.0 q (Some t) ks hs × (q.stops ≡ q₀.stops) × (taken : ℕ) × (m.0.slot.taken ≤ taken) × (n ≡ (looking m.0 q ks hs taken, m.1))
+Passed layout m q₀ (Err e) n = (q : Reader) × IsLookup q₀ q × (q.stops ≡ q₀.stops ++ stop_of e ∷ []) × (taken : ℕ) × (m.0.slot.taken ≤ taken) × (n ≡ (looking m.0 q m.0.read.kept m.0.slot.holds taken, m.1))
 
 -- what a turn of a pass leaves: it found the best there is, or goes on
 abbrev pub Turned : Layout → Sat → Reader → ℕ → Result Turn PassEnd → Sat → Type 0
@@ -133,24 +136,26 @@ HasTwo v = length v.slot.holds + 2 ≤ v.slot.parts * 4294967296
 -- between two passes of a lookup that began at m as q₀: so many stopped, the last of them so
 pub record Between (m : Sat) (q₀ : Reader) (passes : ℕ) (last : PassEnd) (n : Sat) : Type 0 where
   pub q : Reader
-  pub is : n ≡ (looking m.0 q m.0.read.kept m.0.slot.holds, m.1)
+  pub taken : ℕ
+  pub more : m.0.slot.taken ≤ taken
+  pub is : n ≡ (looking m.0 q m.0.read.kept m.0.slot.holds taken, m.1)
   pub same : IsLookup q₀ q
   pub count : length q.stops ≡ passes
   pub last-is : 0 < passes → (front : List Stop) × (q.stops ≡ front ++ stop_of last ∷ [])
 
--- a view after a lookup: nothing else changed than what is held, the receipts, and what is seen
-abbrev pub looked_view : View → ℕ → List Kept → List ℕ → Receipt → View
-looked_view v t₀ ks hs c = record v { slot = record v.slot { holds = hs }; read = record v.read { kept = ks; reader = []; receipts = v.read.receipts ++ c ∷ [] }; seen = c.to; sights = settled v.sights t₀ }
+-- a view after a lookup: nothing else changed than what is held, how often a count was taken, the receipts, and what is seen
+abbrev pub looked_view : View → ℕ → List Kept → List ℕ → (taken : ℕ) → Receipt → View
+looked_view v t₀ ks hs taken c = record v { slot = record v.slot { holds = hs; taken = taken }; read = record v.read { kept = ks; reader = []; receipts = v.read.receipts ++ c ∷ [] }; seen = c.to; sights = settled v.sights t₀ }
 
 abbrev pub LookedAs : (bucket : ℕ) (key : Packet) (least passes : ℕ) → Sat → WordsEnd → (t₀ t₁ : ℕ) → Sat → Type 0
 -- the count on the slot is held, with the card's words, and its card is of rank least or more
-LookedAs bucket key least passes m (ends.Found h card) t₀ t₁ n = (since : ℕ) × (stops : List Stop) × (t₀ ≤ since) × (least ≤ rank_of key (words_of card))
-    × (n ≡ (looked_view m.0 t₀ (record { slot = h.slot; since = since; words = words_of card } ∷ m.0.read.kept) (h.slot ∷ m.0.slot.holds) (record { bucket = bucket; key = key; least = least; from = t₀; to = t₁; kind = 1; card = words_of card; stops = stops }), m.1))
-LookedAs bucket key least passes m ends.None t₀ t₁ n = (stops : List Stop)
-    × (n ≡ (looked_view m.0 t₀ m.0.read.kept m.0.slot.holds (record { bucket = bucket; key = key; least = least; from = t₀; to = t₁; kind = 0; card = []; stops = stops }), m.1))
+LookedAs bucket key least passes m (ends.Found h card) t₀ t₁ n = (since : ℕ) × (stops : List Stop) × (t₀ ≤ since) × (least ≤ rank_of key (words_of card)) × (taken : ℕ) × (m.0.slot.taken ≤ taken)
+    × (n ≡ (looked_view m.0 t₀ (record { slot = h.slot; since = since; words = words_of card } ∷ m.0.read.kept) (h.slot ∷ m.0.slot.holds) taken (record { bucket = bucket; key = key; least = least; from = t₀; to = t₁; kind = 1; card = words_of card; stops = stops }), m.1))
+LookedAs bucket key least passes m ends.None t₀ t₁ n = (stops : List Stop) × (taken : ℕ) × (m.0.slot.taken ≤ taken)
+    × (n ≡ (looked_view m.0 t₀ m.0.read.kept m.0.slot.holds taken (record { bucket = bucket; key = key; least = least; from = t₀; to = t₁; kind = 0; card = []; stops = stops }), m.1))
 -- each of the passes stopped, the last of them so
-LookedAs bucket key least passes m (ends.Again b stop) t₀ t₁ n = (b ≡ bucket) × ((front : List Stop) × (length front + 1 ≡ passes)
-    × (n ≡ (looked_view m.0 t₀ m.0.read.kept m.0.slot.holds (record { bucket = bucket; key = key; least = least; from = t₀; to = t₁; kind = 2; card = []; stops = front ++ stop_of stop ∷ [] }), m.1)))
+LookedAs bucket key least passes m (ends.Again b stop) t₀ t₁ n = (b ≡ bucket) × ((front : List Stop) × (length front + 1 ≡ passes) × (taken : ℕ) × (m.0.slot.taken ≤ taken)
+    × (n ≡ (looked_view m.0 t₀ m.0.read.kept m.0.slot.holds taken (record { bucket = bucket; key = key; least = least; from = t₀; to = t₁; kind = 2; card = []; stops = front ++ stop_of stop ∷ [] }), m.1)))
 
 -- the pass's changes are all there are, and none is open
 abbrev pub IsWhole : View → Type 0

@@ -25,10 +25,10 @@ pub returns-else-better-eq5-clause-turned : goal.returns-else-better-eq5-clause-
 returns-else-better-eq5-clause-turned g c = λ m q w k l early. on_better (layout_of c.args.chains.now) m q c.args.best c.args.link c.args.followed (me c.args.steps.now) w c.requires.even.0 c.requires.even.1 c.args.key c.args.least k l early c.in-Ok-Some.better (me c.visit.new.steps) (subst (λ (k : ℕ). Visited (c.args.link / 2) c.args.key c.args.least k w.q (me c.args.steps.now) (Ok (Some c.in-Ok-Some.better)) (me c.visit.new.steps)) c.rank_so_far.ensures (subst (λ (x : Option Best). Visited (c.args.link / 2) c.args.key c.args.least c.rank_so_far.result w.q (me c.args.steps.now) (Ok x) (me c.visit.new.steps)) c.in-Ok-Some.field-0-is (c.in-Ok-Some.ensures.visited w.q (looks (layout_of c.args.chains.now) m q c.args.best c.args.link c.args.followed (me c.args.steps.now) w c.requires.even.0 c.requires.even.1)))) (me c.change_best.new.steps) c.change_best.ensures.none c.change_best.ensures.some c.step_peek_link-next-in-Ok-Some.result (me c.step_peek_link-next-in-Ok-Some.new.steps) c.change_best.ensures.table.1 c.step_peek_link-next-in-Ok-Some.ensures.met
 
 pub drop_best-requires-clause-held : goal.drop_best-requires-clause-held
-drop_best-requires-clause-held g c = let w = c.requires.walking.5 in drop_nth (layout_of c.args.chains.now) c.requires.walking.0 w.q (stopped w.q c.in-Err.stop) c.args.best w.ks w.hs (me c.visit.new.steps) w.best-is (stopped_at (layout_of c.args.chains.now) c.requires.walking.0 c.requires.walking.1 c.args.best c.args.link c.args.followed (me c.args.steps.now) c.requires.walking.5 c.requires.even.0 c.requires.even.1 c.args.key c.args.least c.in-Err.stop (me c.visit.new.steps) (subst (λ (k : ℕ). Visited (c.args.link / 2) c.args.key c.args.least k c.requires.walking.5.q (me c.args.steps.now) (Err c.in-Err.stop) (me c.visit.new.steps)) c.rank_so_far.ensures (c.in-Err.ensures.visited c.requires.walking.5.q (looks (layout_of c.args.chains.now) c.requires.walking.0 c.requires.walking.1 c.args.best c.args.link c.args.followed (me c.args.steps.now) c.requires.walking.5 c.requires.even.0 c.requires.even.1))))
+drop_best-requires-clause-held g c = let w = c.requires.walking.5 in drop_nth (layout_of c.args.chains.now) c.requires.walking.0 w.q (stopped w.q c.in-Err.stop) c.args.best w.ks w.hs (w.taken + 1) (me c.visit.new.steps) w.best-is (stopped_at (layout_of c.args.chains.now) c.requires.walking.0 c.requires.walking.1 c.args.best c.args.link c.args.followed (me c.args.steps.now) c.requires.walking.5 c.requires.even.0 c.requires.even.1 c.args.key c.args.least c.in-Err.stop (me c.visit.new.steps) (subst (λ (k : ℕ). Visited (c.args.link / 2) c.args.key c.args.least k c.requires.walking.5.q (me c.args.steps.now) (Err c.in-Err.stop) (me c.visit.new.steps)) c.rank_so_far.ensures (c.in-Err.ensures.visited c.requires.walking.5.q (looks (layout_of c.args.chains.now) c.requires.walking.0 c.requires.walking.1 c.args.best c.args.link c.args.followed (me c.args.steps.now) c.requires.walking.5 c.requires.even.0 c.requires.even.1))))
 
 pub returns-in-Err-clause-turned : goal.returns-in-Err-clause-turned
-returns-in-Err-clause-turned g c = λ m q w k l early. (stopped w.q c.in-Err.stop, record { bucket = w.same.bucket; key = w.same.key; least = w.same.least; since = w.same.since }, ap (λ (x : List Stop). x ++ stop_of c.in-Err.stop ∷ []) (w.slot c.requires.even.0 c.requires.even.1).5, dropped (layout_of c.args.chains.now) m w.q (stopped w.q c.in-Err.stop) c.args.best w.ks w.hs (me c.visit.new.steps) w.best-is (stopped_at (layout_of c.args.chains.now) m q c.args.best c.args.link c.args.followed (me c.args.steps.now) w c.requires.even.0 c.requires.even.1 c.args.key c.args.least c.in-Err.stop (me c.visit.new.steps) (subst (λ (k : ℕ). Visited (c.args.link / 2) c.args.key c.args.least k w.q (me c.args.steps.now) (Err c.in-Err.stop) (me c.visit.new.steps)) c.rank_so_far.ensures (c.in-Err.ensures.visited w.q (looks (layout_of c.args.chains.now) m q c.args.best c.args.link c.args.followed (me c.args.steps.now) w c.requires.even.0 c.requires.even.1)))) (me c.drop_best.new.steps) c.drop_best.ensures.none c.drop_best.ensures.some)
+returns-in-Err-clause-turned g c = λ m q w k l early. (stopped w.q c.in-Err.stop, record { bucket = w.same.bucket; key = w.same.key; least = w.same.least; since = w.same.since }, ap (λ (x : List Stop). x ++ stop_of c.in-Err.stop ∷ []) (w.slot c.requires.even.0 c.requires.even.1).5, w.taken + 1, omega (arith, w.more), dropped (layout_of c.args.chains.now) m w.q (stopped w.q c.in-Err.stop) c.args.best w.ks w.hs (w.taken + 1) (me c.visit.new.steps) w.best-is (stopped_at (layout_of c.args.chains.now) m q c.args.best c.args.link c.args.followed (me c.args.steps.now) w c.requires.even.0 c.requires.even.1 c.args.key c.args.least c.in-Err.stop (me c.visit.new.steps) (subst (λ (k : ℕ). Visited (c.args.link / 2) c.args.key c.args.least k w.q (me c.args.steps.now) (Err c.in-Err.stop) (me c.visit.new.steps)) c.rank_so_far.ensures (c.in-Err.ensures.visited w.q (looks (layout_of c.args.chains.now) m q c.args.best c.args.link c.args.followed (me c.args.steps.now) w c.requires.even.0 c.requires.even.1)))) (me c.drop_best.new.steps) c.drop_best.ensures.none c.drop_best.ensures.some)
 
 pub overflow_cast-slot : goal.overflow_cast-slot
 overflow_cast-slot g c = omega (arith, c.args.chains.now.small, (c.requires.walking.5.slot c.requires.even.0 c.requires.even.1).4)
