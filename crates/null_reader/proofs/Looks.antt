@@ -1,8 +1,7 @@
 -- How a lookup ends.
-use Rattle.std.proofs.Common.{◌≡◌, ◌≢◌, ℕ, zero, suc, ◌+◌, ◌*◌, ◌<◌, ◌≤◌, ◌⊎◌, inl, inr, ⊎_elim, List, [], ◌∷◌, ◌++◌, length, sym, refl, ap, ◌∙◌, subst, arith, Option, Some, None, Result, Ok, Err}
+use Rattle.std.proofs.Common.{◌≡◌, ℕ, ◌+◌, ◌<◌, ◌≤◌, List, [], ◌∷◌, ◌++◌, length, sym, refl, ap, ◌∙◌, subst, arith, Option, Some, None, Result, Ok, Err}
 use Rattle.table_rule.specs.ReadersOk.{rank_of}
 use Rattle.table_rule.specs.Plays.{Sat, setting_out, concluding, receipt}
-
 use Rattle.table_rule.specs.LookCalls.{Looks, IsNone, IsFound, IsStopped}
 use Rattle.table_rule.specs.Alone.{IsAlone, NoneStands, CardStands}
 use mathlib.Core.Option.{some}
@@ -156,13 +155,15 @@ module _ (layout : Layout) (bucket : ℕ) (key : Packet) (least passes t₀ : �
     looked_again n'' t₁ end = let f = b.last-is some-pass in let s = b.same in
         let c : receipt b.q 2 [] t₁ ≡ record { bucket = bucket; key = key; least = least; from = t₀; to = t₁; kind = 2; card = []; stops = f.0 ++ stop_of last ∷ [] } = λ i. record { bucket = s.bucket i; key = s.key i; least = s.least i; from = s.since i; to = t₁; kind = 2; card = []; stops = f.1 i } in (
           refl,
-          (f.0,
-          omega (arith, b.count, ap (length {A = Stop}) f.1, len-snoc f.0 (stop_of last)),
-          b.taken,
-          omega (arith, b.more, ap (λ (s : Sat). s.0.slot.taken) out),
-          end b.q (ap (λ (s : Sat). s.0.read.reader) b.is) ∙ (ap (λ (s : Sat). (concluding s.0 (receipt b.q 2 [] t₁), s.1)) b.is
-              ∙ (ap (λ (s : Sat). (concluding (looking s.0 b.q s.0.read.kept s.0.slot.holds b.taken) (receipt b.q 2 [] t₁), s.1)) out
-              ∙ ap (λ (r : Receipt). (looked_view m.0 t₀ m.0.read.kept m.0.slot.holds b.taken r, m.1)) c))),
+          (
+            f.0,
+            omega (arith, b.count, ap (length {A = Stop}) f.1, len-snoc f.0 (stop_of last)),
+            b.taken,
+            omega (arith, b.more, ap (λ (s : Sat). s.0.slot.taken) out),
+            end b.q (ap (λ (s : Sat). s.0.read.reader) b.is) ∙ (ap (λ (s : Sat). (concluding s.0 (receipt b.q 2 [] t₁), s.1)) b.is
+                ∙ (ap (λ (s : Sat). (concluding (looking s.0 b.q s.0.read.kept s.0.slot.holds b.taken) (receipt b.q 2 [] t₁), s.1)) out
+                ∙ ap (λ (r : Receipt). (looked_view m.0 t₀ m.0.read.kept m.0.slot.holds b.taken r, m.1)) c)),
+          ),
         )
 
 -- The answers of a sole pass

@@ -1,6 +1,5 @@
 -- How a pass of a lookup goes on.
-use Rattle.std.proofs.Common.{◌≡◌, ◌≢◌, ℕ, zero, suc, ◌+◌, ◌*◌, ◌%◌, ◌/◌, ◌<◌, ◌≤◌, ◌⊎◌, inl, inr, ⊎_elim, List, [], ◌∷◌, ◌++◌, length, sym, refl, ap, ◌∙◌, subst, arith, cond, eqb, Bool, eq-eqb, ne_eqb, Option, Some, None, Result, Ok, Err, IfSome, IfNone}
-use mathlib.Core.Option.{some, some-injective}
+use Rattle.std.proofs.Common.{◌≡◌, ◌≢◌, ℕ, ◌+◌, ◌*◌, ◌%◌, ◌/◌, ◌<◌, ◌≤◌, inl, inr, ⊎_elim, List, [], ◌∷◌, ◌++◌, length, sym, refl, ap, ◌∙◌, arith, cond, Bool, eq-eqb, Option, Some, None, Ok, Err, IfSome, IfNone}
 use lib.ListN.{get_elem?}
 use mathlib.Core.Logic.{dite}
 use native.Mathlib.Decide.{ℕ_discrete, dec_le}
@@ -8,7 +7,6 @@ use Rattle.table_rule.specs.Lists.{less}
 use Rattle.sock_card.specs.Words.{word_rank as rank}
 use Rattle.table_rule.specs.ReadersOk.{rank_of}
 use Rattle.table_rule.specs.Plays.{Sat, with_reader, with_kept, entering, following, standing, stopping, Arrives, letting_go, drop_at}
-
 use Rattle.table_rule.specs.LookCalls.{Looks, IsPassed, IsNth, IsAtEnd, HasRoom}
 use Rattle.null_reader.specs.Looked.{keyed, Visited, looking, held, stopped, so_far, IsLookup, IsBest, Walking, Passed, HasTwo}
 use Rattle.table_rule.specs.declared.view.View.{View}
@@ -38,7 +36,13 @@ walks_on layout m q₀ best r F n n' q p ks hs taken own is more same bests stop
     let slots : n.0.layout.shape.slots ≡ layout.shape.slots = ap (λ (s : Layout). s.shape.slots) own in
     let bucket' : r ≡ 2 * q₀.bucket + 1 → r ≡ 2 * b + 1 = λ e. e ∙ ap (λ (k : ℕ). 2 * k + 1) (sym bucket) in
     let stand : n' ≡ (with_reader n.0 (standing p r ∷ []), n.1) → (r % 2 ≡ 0 → F ≤ layout.shape.slots → r / 2 < layout.shape.slots) → (r % 2 ≡ 0 → layout.shape.slots < F → ⊥) → (r % 2 ≡ 1 → r ≢ 2 * q₀.bucket + 1 → ⊥) → Walking layout m q₀ best r F n' = λ e inside long foreign. record {
-      q = standing p r; ks = ks; hs = hs; taken = taken; more = more; is = at (standing p r) e; same = record { bucket = same.bucket; key = same.key; least = same.least; since = same.since };
+      q = standing p r;
+      ks = ks;
+      hs = hs;
+      taken = taken;
+      more = more;
+      is = at (standing p r) e;
+      same = record { bucket = same.bucket; key = same.key; least = same.least; since = same.since };
       best-is = best_same layout m.0 p (standing p r) best ks hs refl refl refl refl bests;
       slot = λ even few. (refl, refl, count, ap (λ (c : Bool). cond c (record { slot = r / 2; words = [] } ∷ []) []) (eq-eqb (r % 2) 0 even), inside even few, stops);
       long = λ even many. absurd (long even many);
@@ -46,7 +50,13 @@ walks_on layout m q₀ best r F n n' q p ks hs taken own is more same bests stop
       foreign = λ odd ne. absurd (foreign odd ne);
     } in
     let stop : (kind a : ℕ) → n' ≡ (with_reader n.0 (stopping p kind a ∷ []), n.1) → (r % 2 ≡ 0 → F ≤ layout.shape.slots → ⊥) → (r % 2 ≡ 0 → (kind ≡ 3) × (a ≡ F)) → (r ≡ 2 * q₀.bucket + 1 → ⊥) → (r % 2 ≡ 1 → (kind ≡ 0) × (a ≡ r / 2)) → Walking layout m q₀ best r F n' = λ kind a e no-slot long no-own foreign. record {
-      q = stopping p kind a; ks = ks; hs = hs; taken = taken; more = more; is = at (stopping p kind a) e; same = record { bucket = same.bucket; key = same.key; least = same.least; since = same.since };
+      q = stopping p kind a;
+      ks = ks;
+      hs = hs;
+      taken = taken;
+      more = more;
+      is = at (stopping p kind a) e;
+      same = record { bucket = same.bucket; key = same.key; least = same.least; since = same.since };
       best-is = best_same layout m.0 p (stopping p kind a) best ks hs refl refl refl refl bests;
       slot = λ even few. absurd (no-slot even few);
       long = λ even many. let t = long even in λ k. stops k ++ record { kind = t.0 k; at = t.1 k } ∷ [];

@@ -3,7 +3,6 @@ use Rattle.std.specs.Prelude.{◌≡◌, ◌≢◌, ℕ, ◌+◌, ◌*◌, ◌/�
 use Rattle.sock_card.specs.Words.{word_rank as rank}
 use Rattle.table_rule.specs.ReadersOk.{rank_of}
 use Rattle.table_rule.specs.Plays.{settled, Sat, with_reader, with_kept, stopping}
-use Rattle.table_rule.specs.Calls.{view}
 use Rattle.table_rule.specs.Alone.{NoneStands, CardStands}
 use Rattle.table_rule.specs.LookCalls.{Looks, IsAtEnd}
 use Rattle.table_rule.specs.declared.view.View.{View}

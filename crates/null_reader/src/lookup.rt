@@ -11,7 +11,7 @@ ghost use Rattle.table_rule.specs.Words.{bucket_count};
 use super::answers::{Best, Pace, PassEnd, Point, Turn, WordsEnd, WordsLook};
 use shared_slots::Held;
 use sock_card::{CardWords, Packet, word_rank};
-use table_rule::{Chains, First, Steps, Second};
+use table_rule::{Chains, First, Second, Steps};
 
 const LIVE: u64 = 3 << 62;
 
@@ -47,7 +47,14 @@ fn key_rank<P: Pace>(chains: &Chains, steps: &mut Steps, slot: u32, key: Packet,
 }
 
 // Loads the card under the count that was taken last. None where its rank is another.
-fn check<P: Pace>(chains: &Chains, steps: &mut Steps, slot: u32, key: Packet, rank_before: u8, pace: &mut P) -> Option<CardWords>
+fn check<P: Pace>(
+    chains: &Chains,
+    steps: &mut Steps,
+    slot: u32,
+    key: Packet,
+    rank_before: u8,
+    pace: &mut P,
+) -> Option<CardWords>
     requires table { IsOf chains.now steps.old }
     requires slot { slot < (layout_of chains.now).shape.slots }
     requires at { IsChecking slot key rank_before (view steps.old) }
@@ -75,7 +82,15 @@ fn check<P: Pace>(chains: &Chains, steps: &mut Steps, slot: u32, key: Packet, ra
 }
 
 // Visits the slot at the link: it is passed over, or is better than the best, or the pass ends.
-fn visit<P: Pace>(chains: &Chains, steps: &mut Steps, slot: u32, key: Packet, least: u8, best: u8, pace: &mut P) -> Result<Option<Best>, PassEnd>
+fn visit<P: Pace>(
+    chains: &Chains,
+    steps: &mut Steps,
+    slot: u32,
+    key: Packet,
+    least: u8,
+    best: u8,
+    pace: &mut P,
+) -> Result<Option<Best>, PassEnd>
     requires table { IsOf chains.now steps.old }
     requires slot { slot < (layout_of chains.now).shape.slots }
     requires room { HasRoom (view steps.old) }
@@ -137,7 +152,16 @@ fn change_best<P: Pace>(chains: &Chains, steps: &mut Steps, best: Option<Best>, 
 }
 
 // Goes past the slot at the link.
-fn pass_by<P: Pace>(chains: &Chains, steps: &mut Steps, link: u64, followed: u64, key: Packet, least: u8, best: Option<Best>, pace: &mut P) -> Result<Turn, PassEnd>
+fn pass_by<P: Pace>(
+    chains: &Chains,
+    steps: &mut Steps,
+    link: u64,
+    followed: u64,
+    key: Packet,
+    least: u8,
+    best: Option<Best>,
+    pace: &mut P,
+) -> Result<Turn, PassEnd>
     requires table { IsOf chains.now steps.old }
     requires even { (link % 2 ≡ 0) × (followed ≤ (layout_of chains.now).shape.slots) }
     requires room { HasRoom (view steps.old) }
@@ -169,7 +193,14 @@ fn pass_by<P: Pace>(chains: &Chains, steps: &mut Steps, link: u64, followed: u64
 }
 
 // One pass of a lookup: its best, or none, or how it stopped.
-fn one_pass<P: Pace>(chains: &Chains, steps: &mut Steps, bucket: u32, key: Packet, least: u8, pace: &mut P) -> Result<Option<Best>, PassEnd>
+fn one_pass<P: Pace>(
+    chains: &Chains,
+    steps: &mut Steps,
+    bucket: u32,
+    key: Packet,
+    least: u8,
+    pace: &mut P,
+) -> Result<Option<Best>, PassEnd>
     requires table { IsOf chains.now steps.old }
     requires bucket { bucket < bucket_count (layout_of chains.now) }
     requires room { HasTwo (view steps.old) }
@@ -206,7 +237,15 @@ fn one_pass<P: Pace>(chains: &Chains, steps: &mut Steps, bucket: u32, key: Packe
 }
 
 // Looks up the best card of a bucket for a packet, in at most so many passes; of a card it answers the words.
-pub(crate) fn look_words<P: Pace>(chains: &Chains, steps: &mut Steps, bucket: u32, key: Packet, least: u8, passes: u32, pace: &mut P) -> WordsLook
+pub(crate) fn look_words<P: Pace>(
+    chains: &Chains,
+    steps: &mut Steps,
+    bucket: u32,
+    key: Packet,
+    least: u8,
+    passes: u32,
+    pace: &mut P,
+) -> WordsLook
     requires table { IsOf chains.now steps.old }
     requires bucket { bucket < bucket_count (layout_of chains.now) }
     requires idle { (view steps.old).read.reader ≡ [] }

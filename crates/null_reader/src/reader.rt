@@ -28,7 +28,15 @@ fn as_card(end: WordsEnd) -> LookEnd
 ///
 /// The algorithm is that of `__inet_lookup_established` of net/ipv4/inet_hashtables.c over hlist_nulls, which
 /// Documentation/RCU/rculist_nulls.rst explains.
-pub fn look<P: Pace>(chains: &Chains, steps: &mut Steps, bucket: u32, packet: &Packet, least: u8, passes: u32, pace: &mut P) -> answers::Look
+pub fn look<P: Pace>(
+    chains: &Chains,
+    steps: &mut Steps,
+    bucket: u32,
+    packet: &Packet,
+    least: u8,
+    passes: u32,
+    pace: &mut P,
+) -> answers::Look
     requires table { IsOf chains.now steps.old }
     requires bucket { bucket < bucket_count (layout_of chains.now) }
     requires idle { (view steps.old).read.reader ≡ [] }
@@ -40,7 +48,9 @@ pub fn look<P: Pace>(chains: &Chains, steps: &mut Steps, bucket: u32, packet: &P
     ensures looked { LookedAs bucket packet.now least passes (me steps.old) (words_end result.end) result.t0 result.t1 (me steps.new) }
     ensures sole { IsWhole (view steps.old) → SoleAs bucket packet.now least (view steps.old) (words_end result.end) }
 {
-    let WordsLook { end, from, to } = look_words(chains, steps, bucket, *packet, least, passes, pace);
+    let WordsLook { end, from, to } = look_words(
+        chains, steps, bucket, *packet, least, passes, pace,
+    );
     answers::Look {
         end: as_card(end),
         t0: from,

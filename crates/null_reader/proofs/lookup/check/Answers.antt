@@ -1,4 +1,4 @@
-use Rattle.std.proofs.Common.{rules, ◌≡◌, ◌+◌, ◌*◌, ◌<◌, ◌≤◌, ◌⊎◌, ℕ, List, [], ◌∷◌, ◌++◌, length, Ok, Err, Some, None, inl, inr, refl, sym, ap, ◌∙◌, arith, subst}
+use Rattle.std.proofs.Common.{[], ◌∷◌, sym, ◌∙◌}
 use Rattle.table_rule.proofs.Kepts.{knows_none, knows_more, is_kept}
 use Rattle.null_reader.proofs.LookViews.{is_judged, checked_same, checked_other}
 use Rattle.null_reader.proofs.lookup.check.Goals as goal

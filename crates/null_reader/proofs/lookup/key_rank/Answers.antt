@@ -1,4 +1,3 @@
-use Rattle.std.proofs.Common.{rules, ◌≡◌, ◌+◌, ◌*◌, ◌<◌, ◌≤◌, ◌⊎◌, ℕ, List, [], ◌∷◌, ◌++◌, length, Ok, Err, Some, None, inl, inr, refl, sym, ap, ◌∙◌, arith, subst}
 use Rattle.null_reader.proofs.LookViews.{at_second, both_known}
 use Rattle.null_reader.proofs.lookup.key_rank.Goals as goal
 use Rattle.table_rule.specs.Calls.{me}

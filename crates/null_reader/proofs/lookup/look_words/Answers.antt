@@ -1,4 +1,4 @@
-use Rattle.std.proofs.Common.{rules, ◌≡◌, ◌≢◌, ◌+◌, ◌*◌, ◌<◌, ◌≤◌, ◌⊎◌, ℕ, List, [], ◌∷◌, ◌++◌, length, Ok, Err, Option, Some, None, inl, inr, refl, sym, ap, ◌∙◌, arith, subst}
+use Rattle.std.proofs.Common.{Ok, Option, Some, None, sym, arith, subst}
 use Rattle.null_reader.specs.Looked.{Passed, LookedAs, SoleAs}
 use Rattle.table_rule.specs.Beyond.{IsCardWords}
 use Rattle.table_rule.specs.Calls.{view, me, layout_of}

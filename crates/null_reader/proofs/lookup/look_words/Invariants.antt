@@ -1,4 +1,3 @@
-use Rattle.std.proofs.Common.{◌≡◌, ◌+◌, ◌≤◌, ◌<◌, ℕ}
 use Rattle.table_rule.specs.Calls.{IsOf, me}
 use Rattle.null_reader.specs.Looked.{Between}
 use Rattle.null_reader.proofs.Looks.{begun}

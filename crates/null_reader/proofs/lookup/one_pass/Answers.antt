@@ -1,4 +1,4 @@
-use Rattle.std.proofs.Common.{rules, ◌≡◌, ◌≢◌, ◌+◌, ◌*◌, ◌/◌, ◌%◌, ◌<◌, ◌≤◌, ◌⊎◌, ℕ, List, [], ◌∷◌, ◌++◌, length, Ok, Err, Option, Some, None, inl, inr, refl, sym, ap, ◌∙◌, arith, subst}
+use Rattle.std.proofs.Common.{◌+◌, ◌*◌, ◌≤◌, ℕ, Ok, sym, ap, ◌∙◌, arith, subst}
 use Rattle.null_reader.specs.Looked.{Turned}
 use Rattle.table_rule.specs.declared.view.Reader.{Reader}
 use Rattle.null_reader.specs.declared.answers.Turn.{Turn}

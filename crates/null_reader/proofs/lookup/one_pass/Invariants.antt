@@ -1,4 +1,4 @@
-use Rattle.std.proofs.Common.{◌≡◌, ◌+◌, ◌≤◌, ℕ}
+use Rattle.std.proofs.Common.{◌+◌, ◌≤◌}
 use Rattle.table_rule.specs.Calls.{IsOf, view, me}
 use Rattle.table_rule.specs.LookCalls.{Looks}
 use Rattle.null_reader.specs.Looked.{Walking}

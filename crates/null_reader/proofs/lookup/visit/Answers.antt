@@ -1,4 +1,4 @@
-use Rattle.std.proofs.Common.{rules, ◌≡◌, ◌+◌, ◌*◌, ◌<◌, ◌≤◌, ◌⊎◌, ℕ, List, [], ◌∷◌, ◌++◌, length, Ok, Err, Some, None, inl, inr, refl, sym, ap, ◌∙◌, arith, subst}
+use Rattle.std.proofs.Common.{arith}
 use Rattle.null_reader.proofs.LookViews.{at_take, dead_more, visited_dead, visited_better, changed_nth, visited_changed}
 use Rattle.null_reader.proofs.lookup.visit.Goals as goal
 use Rattle.table_rule.specs.Calls.{me}
