@@ -1,5 +1,5 @@
 -- The receipt of a whole lookup follows from the pass's own receipts and sightings.
-use Rattle.std.proofs.Common.{◌≡◌, ℕ, ◌<◌, ◌≤◌, List, [], ◌∷◌, ◌++◌, ◌⊎◌, inl, inr, ⊎_elim, length, refl, sym, ap, ◌∙◌, subst, arith, slice_index}
+use Rattle.std.proofs.Common.{◌≡◌, ℕ, ◌<◌, ◌≤◌, List, [], ◌∷◌, ◌++◌, inl, inr, ⊎_elim, length, sym, ap, ◌∙◌, subst, arith, slice_index}
 use mathlib.Core.Logic.{dite}
 use native.Mathlib.Decide.{dec_le}
 use mathlib.Core.Option.{some}
@@ -10,7 +10,7 @@ use Rattle.sock_card.proofs.Most.{word_rank_most, two_words}
 use Rattle.chain_book.specs.Homes.{packet_home, listen_home}
 use Rattle.chain_book.proofs.RankHomes.{five_home, high_home, low_home}
 use Rattle.table_rule.specs.Lists.{Each}
-use Rattle.table_rule.specs.Words.{card_from, home_of, with_seed}
+use Rattle.table_rule.specs.Words.{card_from, with_seed}
 use Rattle.table_rule.specs.Book.{Life}
 use Rattle.table_rule.specs.ReadersOk.{rank_of, SlotMet, HashMet, NoneBetter, NoneAbove, CardStood, StopOk, ReceiptOk, SightedOk, WholeOk, ReadOk}
 use Rattle.table_rule.specs.Wholes.{Clears, IsClear, FoundIn, SeenIn, StoppedIn, Follows}
