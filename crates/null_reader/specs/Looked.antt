@@ -172,6 +172,12 @@ IsCardEnd (ends.Found h card) = IsCardWords (words_of card)
 IsCardEnd ends.None = Unit {0}
 IsCardEnd (ends.Again b stop) = Unit {0}
 
+-- the slot of what was found is one of the table, so that its count can be put
+abbrev pub IsInside : Layout → WordsEnd → Type 0
+IsInside layout (ends.Found h card) = h.slot < layout.shape.slots
+IsInside layout ends.None = Unit {0}
+IsInside layout (ends.Again b stop) = Unit {0}
+
 -- an answer with its card by its words
 abbrev pub words_end : LookEnd → WordsEnd
 words_end (answers.Found h card) = ends.Found h (packed card)

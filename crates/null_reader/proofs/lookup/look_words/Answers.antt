@@ -1,4 +1,4 @@
-use Rattle.std.proofs.Common.{Ok, Option, Some, None, sym, arith, subst}
+use Rattle.std.proofs.Common.{◌<◌, Ok, Option, Some, None, sym, arith, subst}
 use Rattle.null_reader.specs.Looked.{Passed, LookedAs, SoleAs}
 use Rattle.table_rule.specs.Beyond.{IsCardWords}
 use Rattle.table_rule.specs.Calls.{view, me, layout_of}
@@ -38,3 +38,8 @@ returns-in-Ok-Some-clause-sole g c = λ whole. subst (λ (x : Best). SoleAs c.ar
 
 pub returns-in-Ok-Some-clause-card : goal.returns-in-Ok-Some-clause-card
 returns-in-Ok-Some-clause-card g c = subst (λ (x : Best). IsCardWords (words_of x.card)) (sym c.in-Ok-Some.best-is) (card_found (layout_of c.args.chains.now) c.args.bucket c.args.key c.args.least c.args.passes c.step_clock_start-from.result (me c.args.steps.now) (me c.step_clock_start-from.new.steps) c.step_clock_start-from.ensures.view c.loop-done.done c.loop-done.last (me c.loop-done.steps) (me c.one_pass.new.steps) c.loop-done.invariant.between c.in-Ok-Some.best (subst (λ (x : Option Best). Passed (layout_of c.args.chains.now) (me c.loop-done.steps) c.loop-done.invariant.between.q (Ok x) (me c.one_pass.new.steps)) c.in-Ok-Some.field-0-is (c.in-Ok-Some.ensures.passed c.loop-done.invariant.between.q (looks_between (layout_of c.args.chains.now) c.args.bucket c.args.key c.args.least c.args.passes c.step_clock_start-from.result (me c.args.steps.now) (me c.step_clock_start-from.new.steps) c.step_clock_start-from.ensures.view c.loop-done.done c.loop-done.last (me c.loop-done.steps) (me c.one_pass.new.steps) c.loop-done.invariant.between))) c.step_clock_found-to.ensures.card)
+
+pub returns-in-Ok-Some-clause-inside : goal.returns-in-Ok-Some-clause-inside
+returns-in-Ok-Some-clause-inside g c =
+    let passed = (subst (λ (x : Option Best). Passed (layout_of c.args.chains.now) (me c.loop-done.steps) c.loop-done.invariant.between.q (Ok x) (me c.one_pass.new.steps)) c.in-Ok-Some.field-0-is (c.in-Ok-Some.ensures.passed c.loop-done.invariant.between.q (looks_between (layout_of c.args.chains.now) c.args.bucket c.args.key c.args.least c.args.passes c.step_clock_start-from.result (me c.args.steps.now) (me c.step_clock_start-from.new.steps) c.step_clock_start-from.ensures.view c.loop-done.done c.loop-done.last (me c.loop-done.steps) (me c.one_pass.new.steps) c.loop-done.invariant.between))) in
+    subst (λ (x : Best). x.slot < (layout_of c.args.chains.now).shape.slots) (sym c.in-Ok-Some.best-is) passed.5.7
