@@ -13,7 +13,7 @@ ghost use lib.ListN.{get_elem?};
 ghost use Rattle.table_rule.specs.Beyond.{IsCardWords};
 ghost use Rattle.table_rule.specs.Calls.{IsOf, view, Becomes, Stays};
 ghost use Rattle.table_rule.specs.LookCalls.{place_of, Looks, IsAtSlot, IsPassed, IsKept, IsNth, IsJudged, IsNone, IsFound, IsStopped, HasRoom};
-ghost use Rattle.table_rule.specs.Plays.{CardLearnt, setting_out, entering, following, Arrives, with_reader, with_kept, glancing, IsLive, taking, counting, stopping, letting_go, drop_at, learning, Judges, concluding, receipt};
+ghost use Rattle.table_rule.specs.Plays.{CardLearnt, setting_out, entering, following, Arrives, with_reader, with_kept, glancing, IsLive, taking, counting, stopping, letting_go, drop_at, learning, Judges, concluding, receipt, OwnExplains};
 
 use super::rule::{
     Asked, EndAgain, EndFound, EndNone, Glance, Judge, Learn, LetGo, LetGoDead, PeekHead, PeekLink,
@@ -199,6 +199,7 @@ impl Chains {
         ensures view { (q : Reader) → Looks (view steps.old) q → Becomes steps.old steps.new (concluding (view steps.old) (receipt q 0 [] result)) }
         ensures sole { (q : Reader) → Looks (view steps.old) q → IsAlone (view steps.old) q.since → NoneStands (view steps.old) q.bucket q.key q.least 0 }
         ensures known { (q : Reader) → Looks (view steps.old) q → NoneKnown (view steps.old) q.bucket q.key q.least 0 q.since }
+        ensures own { (q : Reader) → Looks (view steps.old) q → OwnExplains (view steps.old) result (receipt q 0 [] result) }
     {
         self.table.shared.load::<EndNone>(&mut steps.seat, 0)
     }
@@ -213,6 +214,7 @@ impl Chains {
         ensures sole { (q : Reader) (h : Kept) (hs : List Kept) → Looks (view steps.old) q → (view steps.old).read.kept ≡ h ∷ hs → IsAlone (view steps.old) q.since → CardStands (view steps.old) h.words × NoneStands (view steps.old) q.bucket q.key q.least (rank_of q.key h.words) }
         ensures card { (q : Reader) (h : Kept) (hs : List Kept) → Looks (view steps.old) q → (view steps.old).read.kept ≡ h ∷ hs → IsCardWords h.words }
         ensures known { (q : Reader) (h : Kept) (hs : List Kept) → Looks (view steps.old) q → (view steps.old).read.kept ≡ h ∷ hs → NoneKnown (view steps.old) q.bucket q.key q.least (rank_of q.key h.words) q.since }
+        ensures own { (q : Reader) (h : Kept) (hs : List Kept) → Looks (view steps.old) q → (view steps.old).read.kept ≡ h ∷ hs → OwnExplains (view steps.old) result (receipt q 1 h.words result) }
     {
         self.table.shared.load::<EndFound>(&mut steps.seat, 0)
     }
@@ -225,6 +227,7 @@ impl Chains {
         ensures seen { (view steps.old).seen ≤ result }
         ensures view { (q : Reader) → Looks (view steps.old) q → Becomes steps.old steps.new (concluding (view steps.old) (receipt q 2 [] result)) }
         ensures sole { (q : Reader) → Looks (view steps.old) q → IsAlone (view steps.old) q.since → ⊥ }
+        ensures own { (q : Reader) → Looks (view steps.old) q → OwnExplains (view steps.old) result (receipt q 2 [] result) }
     {
         self.table.shared.load::<EndAgain>(&mut steps.seat, 0)
     }

@@ -1,4 +1,5 @@
-// The single steps that a whole lookup of a packet has besides those through its buckets: counts that are put, and its end.
+// The single steps that a whole lookup of a packet has besides those through its buckets: counts that are put, and its
+// end.
 ghost use Rattle.std.specs.Prelude.{◌≡◌, ◌<◌, ◌≤◌, ℕ};
 ghost use mathlib.Core.Option.{some};
 ghost use lib.ListN.{get_elem?};
@@ -68,8 +69,8 @@ impl Chains {
         self.table.shared.load::<Sum<T>>(&mut steps.seat, 0)
     }
 
-    /// Loads the clock, as a whole lookup of a packet ends with an answer that follows from this pass's own receipts and
-    /// from the cards that it put.
+    /// Loads the clock, as a whole lookup of a packet ends with an answer that follows from this pass's own receipts
+    /// and from the cards that it put.
     pub fn step_clock_whole(
         &self,
         steps: &mut Steps,

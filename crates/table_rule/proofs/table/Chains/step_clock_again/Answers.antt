@@ -18,3 +18,6 @@ returns-clause-view c = λ q e. (c.load.ensures.2.1 q e).0
 
 pub returns-clause-sole : goal.returns-clause-sole
 returns-clause-sole c = λ q e. (c.load.ensures.2.1 q e).1
+
+pub returns-clause-own : goal.returns-clause-own
+returns-clause-own c = λ q e. (c.load.ensures.2.1 q e).2

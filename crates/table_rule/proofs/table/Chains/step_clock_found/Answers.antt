@@ -24,3 +24,6 @@ returns-clause-card c = λ q h hs e f. (c.load.ensures.2.1 q h hs e f).2
 
 pub returns-clause-known : goal.returns-clause-known
 returns-clause-known c = λ q h hs e f. (c.load.ensures.2.1 q h hs e f).3
+
+pub returns-clause-own : goal.returns-clause-own
+returns-clause-own c = λ q h hs e f. (c.load.ensures.2.1 q h hs e f).4

@@ -21,3 +21,6 @@ returns-clause-sole c = λ q e. (c.load.ensures.2.1 q e).1
 
 pub returns-clause-known : goal.returns-clause-known
 returns-clause-known c = λ q e. (c.load.ensures.2.1 q e).2
+
+pub returns-clause-own : goal.returns-clause-own
+returns-clause-own c = λ q e. (c.load.ensures.2.1 q e).3
