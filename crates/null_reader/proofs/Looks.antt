@@ -3,7 +3,7 @@ use Rattle.std.proofs.Common.{◌≡◌, ℕ, ◌+◌, ◌<◌, ◌≤◌, List,
 use Rattle.table_rule.specs.ReadersOk.{rank_of}
 use Rattle.table_rule.specs.Plays.{Sat, setting_out, concluding, receipt}
 use Rattle.table_rule.specs.LookCalls.{Looks, IsNone, IsFound, IsStopped}
-use Rattle.table_rule.specs.Alone.{IsAlone, NoneStands, CardStands}
+use Rattle.table_rule.specs.Alone.{IsAlone, NoneStands, CardStands, NoneKnown}
 use mathlib.Core.Option.{some}
 use lib.ListN.{get_elem?}
 use Rattle.table_rule.specs.declared.view.Change.{Change}
@@ -212,3 +212,26 @@ module _ (layout : Layout) (bucket : ℕ) (key : Packet) (least passes t₀ : �
   card_found best t told =
       let at = found-at layout bucket key least passes t₀ m m₁ out done last n n' b n' 0 best t in
       told t.0 (held best t.5.0) n.0.read.kept (ap (λ (x : Sat). x.0.read.reader) at) (ap (λ (x : Sat). x.0.read.kept) at)
+
+-- What a pass knows of its own changes
+
+known-told : (bucket : ℕ) (key : Packet) (least t₀ : ℕ) (m n : Sat) (q : Reader) (ks : List Kept) (hs : List ℕ) (taken : ℕ) → n ≡ (looking (setting_out m.0 bucket key least t₀) q ks hs taken, m.1) → IsLookup (begun bucket key least t₀) q → (best : ℕ) → NoneKnown n.0 q.bucket q.key q.least best q.since → NoneKnown m.0 bucket key least best t₀
+known-told bucket key least t₀ m n q ks hs taken e same best o =
+    let a : NoneKnown m.0 q.bucket q.key q.least best q.since = subst (λ (s : Sat). NoneKnown s.0 q.bucket q.key q.least best q.since) e o in
+    subst (λ (k : ℕ). NoneKnown m.0 bucket key least best k) same.since (subst (λ (k : ℕ). NoneKnown m.0 bucket key k best q.since) same.least (subst (λ (k : Packet). NoneKnown m.0 bucket k q.least best q.since) same.key (subst (λ (k : ℕ). NoneKnown m.0 k q.key q.least best q.since) same.bucket a)))
+
+module _ (layout : Layout) (bucket : ℕ) (key : Packet) (least passes t₀ : ℕ) (m m₁ : Sat) (out : m₁ ≡ (setting_out m.0 bucket key least t₀, m.1)) (done : ℕ) (last : PassEnd) (n n' : Sat) (b : Between m₁ (begun bucket key least t₀) done last n) where
+  pub known_none : Passed layout n b.q (Ok None) n' → ((q : Reader) → Looks n'.0 q → NoneKnown n'.0 q.bucket q.key q.least 0 q.since) → NoneKnown m.0 bucket key least 0 t₀
+  known_none t told =
+      known-told bucket key least t₀ m n' t.0 n.0.read.kept n.0.slot.holds t.5 (from-start layout bucket key least passes t₀ m m₁ out done last n n' b t.0 n.0.read.kept n.0.slot.holds t.5 t.7) (joined layout bucket key least passes t₀ m m₁ out done last n n' b t.0 t.1) 0
+      (told t.0 (ap (λ (x : Sat). x.0.read.reader) t.7))
+
+  pub known_found : (best : Best) → Passed layout n b.q (Ok (Some best)) n' → ((q : Reader) (h : Kept) (hs : List Kept) → Looks n'.0 q → n'.0.read.kept ≡ h ∷ hs → NoneKnown n'.0 q.bucket q.key q.least (rank_of q.key h.words) q.since) → NoneKnown m.0 bucket key least (rank_of key (words_of best.card)) t₀
+  known_found best t told =
+      let at = found-at layout bucket key least passes t₀ m m₁ out done last n n' b n' 0 best t in
+      let ks : List Kept = held best t.5.0 ∷ n.0.read.kept in
+      let hs : List ℕ = best.slot ∷ n.0.slot.holds in
+      let s = joined layout bucket key least passes t₀ m m₁ out done last n n' b t.0 t.3 in
+      subst (λ (k : Packet). NoneKnown m.0 bucket key least (rank_of k (words_of best.card)) t₀) s.key
+      (known-told bucket key least t₀ m n' t.0 ks hs t.7 (from-start layout bucket key least passes t₀ m m₁ out done last n n' b t.0 ks hs t.7 at) s (rank_of t.0.key (words_of best.card))
+      (told t.0 (held best t.5.0) n.0.read.kept (ap (λ (x : Sat). x.0.read.reader) at) (ap (λ (x : Sat). x.0.read.kept) at)))

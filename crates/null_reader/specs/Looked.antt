@@ -3,7 +3,7 @@ use Rattle.std.specs.Prelude.{◌≡◌, ◌≢◌, ℕ, ◌+◌, ◌*◌, ◌/�
 use Rattle.sock_card.specs.Words.{word_rank as rank}
 use Rattle.table_rule.specs.ReadersOk.{rank_of}
 use Rattle.table_rule.specs.Plays.{settled, Sat, with_reader, with_kept, stopping}
-use Rattle.table_rule.specs.Alone.{NoneStands, CardStands}
+use Rattle.table_rule.specs.Alone.{NoneStands, CardStands, NoneKnown}
 use Rattle.table_rule.specs.LookCalls.{Looks, IsAtEnd}
 use Rattle.table_rule.specs.declared.view.View.{View}
 use Rattle.table_rule.specs.declared.view.Layout.{Layout}
@@ -165,6 +165,12 @@ abbrev pub SoleAs : (bucket : ℕ) (key : Packet) (least : ℕ) → View → Wor
 SoleAs bucket key least v (ends.Found h card) = CardStands v (words_of card) × NoneStands v bucket key least (rank_of key (words_of card))
 SoleAs bucket key least v ends.None = NoneStands v bucket key least 0
 SoleAs bucket key least v (ends.Again b stop) = ⊥
+
+-- whatever others do: of what the pass hashed into the bucket before the lookup, each card that is better than the answer, and no TIME_WAIT's, it has begun to unhash
+abbrev pub KnownAs : (bucket : ℕ) (key : Packet) (least : ℕ) → View → WordsEnd → (t₀ : ℕ) → Type 0
+KnownAs bucket key least v (ends.Found h card) t₀ = NoneKnown v bucket key least (rank_of key (words_of card)) t₀
+KnownAs bucket key least v ends.None t₀ = NoneKnown v bucket key least 0 t₀
+KnownAs bucket key least v (ends.Again b stop) t₀ = Unit {0}
 
 -- what was found is a card
 abbrev pub IsCardEnd : WordsEnd → Type 0

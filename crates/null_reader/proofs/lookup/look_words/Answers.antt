@@ -1,11 +1,11 @@
 use Rattle.std.proofs.Common.{◌<◌, Ok, Option, Some, None, sym, arith, subst}
-use Rattle.null_reader.specs.Looked.{Passed, LookedAs, SoleAs}
+use Rattle.null_reader.specs.Looked.{Passed, LookedAs, SoleAs, KnownAs}
 use Rattle.table_rule.specs.Beyond.{IsCardWords}
 use Rattle.table_rule.specs.Calls.{view, me, layout_of}
 use Rattle.null_reader.specs.declared.answers.WordsEnd.TheVariants as ends
 use Rattle.null_reader.specs.declared.answers.Best.{Best}
 use Rattle.null_reader.specs.declared.answers.PassEnd.TheVariants.{Dead}
-use Rattle.null_reader.proofs.Looks.{between_none, looks_between, seen_between, is_none, looked_none, is_found, looked_found, card_found, passed_seen, sole_none, sole_found}
+use Rattle.null_reader.proofs.Looks.{between_none, looks_between, seen_between, is_none, looked_none, is_found, looked_found, card_found, passed_seen, sole_none, sole_found, known_none, known_found}
 use Rattle.null_reader.proofs.lookup.look_words.Goals as goal
 use Rattle.table_rule.specs.Words.{words_of}
 
@@ -43,3 +43,9 @@ pub returns-in-Ok-Some-clause-inside : goal.returns-in-Ok-Some-clause-inside
 returns-in-Ok-Some-clause-inside g c =
     let passed = (subst (λ (x : Option Best). Passed (layout_of c.args.chains.now) (me c.loop-done.steps) c.loop-done.invariant.between.q (Ok x) (me c.one_pass.new.steps)) c.in-Ok-Some.field-0-is (c.in-Ok-Some.ensures.passed c.loop-done.invariant.between.q (looks_between (layout_of c.args.chains.now) c.args.bucket c.args.key c.args.least c.args.passes c.step_clock_start-from.result (me c.args.steps.now) (me c.step_clock_start-from.new.steps) c.step_clock_start-from.ensures.view c.loop-done.done c.loop-done.last (me c.loop-done.steps) (me c.one_pass.new.steps) c.loop-done.invariant.between))) in
     subst (λ (x : Best). x.slot < (layout_of c.args.chains.now).shape.slots) (sym c.in-Ok-Some.best-is) passed.5.7
+
+pub returns-in-Ok-None-clause-known : goal.returns-in-Ok-None-clause-known
+returns-in-Ok-None-clause-known g c = known_none (layout_of c.args.chains.now) c.args.bucket c.args.key c.args.least c.args.passes c.step_clock_start-from.result (me c.args.steps.now) (me c.step_clock_start-from.new.steps) c.step_clock_start-from.ensures.view c.loop-done.done c.loop-done.last (me c.loop-done.steps) (me c.one_pass.new.steps) c.loop-done.invariant.between (subst (λ (x : Option Best). Passed (layout_of c.args.chains.now) (me c.loop-done.steps) c.loop-done.invariant.between.q (Ok x) (me c.one_pass.new.steps)) c.in-Ok-None.field-0-is (c.in-Ok-None.ensures.passed c.loop-done.invariant.between.q (looks_between (layout_of c.args.chains.now) c.args.bucket c.args.key c.args.least c.args.passes c.step_clock_start-from.result (me c.args.steps.now) (me c.step_clock_start-from.new.steps) c.step_clock_start-from.ensures.view c.loop-done.done c.loop-done.last (me c.loop-done.steps) (me c.one_pass.new.steps) c.loop-done.invariant.between))) c.step_clock_none-to.ensures.known
+
+pub returns-in-Ok-Some-clause-known : goal.returns-in-Ok-Some-clause-known
+returns-in-Ok-Some-clause-known g c = subst (λ (x : Best). KnownAs c.args.bucket c.args.key c.args.least (view c.args.steps.now) (ends.Found (record { slot = x.slot }) x.card) c.step_clock_start-from.result) (sym c.in-Ok-Some.best-is) (known_found (layout_of c.args.chains.now) c.args.bucket c.args.key c.args.least c.args.passes c.step_clock_start-from.result (me c.args.steps.now) (me c.step_clock_start-from.new.steps) c.step_clock_start-from.ensures.view c.loop-done.done c.loop-done.last (me c.loop-done.steps) (me c.one_pass.new.steps) c.loop-done.invariant.between c.in-Ok-Some.best (subst (λ (x : Option Best). Passed (layout_of c.args.chains.now) (me c.loop-done.steps) c.loop-done.invariant.between.q (Ok x) (me c.one_pass.new.steps)) c.in-Ok-Some.field-0-is (c.in-Ok-Some.ensures.passed c.loop-done.invariant.between.q (looks_between (layout_of c.args.chains.now) c.args.bucket c.args.key c.args.least c.args.passes c.step_clock_start-from.result (me c.args.steps.now) (me c.step_clock_start-from.new.steps) c.step_clock_start-from.ensures.view c.loop-done.done c.loop-done.last (me c.loop-done.steps) (me c.one_pass.new.steps) c.loop-done.invariant.between))) c.step_clock_found-to.ensures.known)
