@@ -16,6 +16,7 @@ const CARD: Card = Card {
     remote: 0x0A00_0002,
     rport: 1000,
     dev: 0,
+    net: 0,
     kind: Kind::Full,
     name: 0x100_0001,
     extra: 0,
