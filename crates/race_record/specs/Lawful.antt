@@ -80,8 +80,8 @@ pub record IsSpanned (clock : ℕ) (s : Step) : Type 0 where
   pub within : Each (λ (n : ℕ). (s.from ≤ n) × (n < s.to)) (drawn_in s.deeds)
   pub ascend : Pairs (λ (n m : ℕ). n < m) (drawn_in s.deeds)
 
--- A later step of the section begins with what its worker has seen by then: no less than before, and each number that it
--- drew. What it draws then lies at or above the end of the step before.
+-- A later step of the section begins with what its worker has seen by then: no less than at the step before, and more
+-- than each number that this drew. What the later one draws lies at or above the end of the step before.
 pub record Precedes (s later : Step) : Type 0 where
   pub seen : s.from ≤ later.from
   pub below : Each (λ (n : ℕ). n < later.from) (drawn_in s.deeds)
@@ -107,7 +107,8 @@ IsCalledBy n p = p.note.caller ≡ n
 -- of section n's entries each is its own, and each journal has them in the section's order
 pub record IsEnteredBy (buckets : ℕ) (journals : List (List (Note Entry))) (n : ℕ) (steps : List Step) : Type 0 where
   pub callers : Each (IsCalledBy n) (entries_in buckets (deeds_of steps))
-  pub in_order : EachFrom (λ place journal. by_caller n journal ≡ notes_at place (entries_in buckets (deeds_of steps))) 0 journals
+  pub in_order :
+      EachFrom (λ place journal. by_caller n journal ≡ notes_at place (entries_in buckets (deeds_of steps))) 0 journals
 
 -- the journals are legal, each for its bucket's number, and have the steps' entries, each once, those of one section in
 -- its order
