@@ -1,0 +1,4 @@
+pub mod Played
+pub mod Alone
+pub mod Told
+pub mod Turned

@@ -1,0 +1,9 @@
+pub mod Checks
+pub mod Turns
+pub mod Vain
+pub mod Says
+pub mod Gather
+pub mod Ports
+pub mod Homes
+pub mod Drawn
+pub mod Leads

@@ -1,0 +1,54 @@
+use Rattle.std.proofs.Common.{◌≡◌, ℕ, ◌≤◌, ◌<◌, List, [], ◌∷◌, refl, sym, ap, ◌∙◌, subst, arith, inl, inr}
+use Rattle.std.proofs.lemmas.Bool.{true≢false}
+use Rattle.jhash_words.specs.Jhash.{jhash_1word, jhash_3words, started_mix, final_mix, mixed}
+use Rattle.jhash_words.specs.Places.{tuple_hash, listen_hash}
+use Rattle.sock_card.specs.Rank.{rank}
+use Rattle.chain_book.specs.declared.book.Change.{Change}
+use Rattle.chain_book.specs.Homes.{home}
+use Rattle.race_book.specs.Among.{Among}
+use Rattle.race_book.specs.Explained.{IsAtHome, IsOfSlot, MeetsSome, buckets_of}
+use Rattle.race_book.specs.Lives.{Throughout, comes_after}
+use Rattle.race_record.specs.Worked.{first_race, hash_a, packet}
+use Rattle.race_record.proofs.rows.wrong_lookups.Goals as goal
+
+at_home : IsAtHome first_race.shape 0 hash_a
+unfolding home listen_hash jhash_1word started_mix final_mix mixed
+at_home = refl
+
+matches : rank hash_a.card (packet 0x0A000001 80) ≡ 3
+unfolding rank
+matches = refl
+
+stays : Throughout (Among first_race.book) hash_a 2 2
+stays = record {
+  before = omega arith;
+  still = λ u a t. elim a as (λ _. 2 ≤ u.begin) [ inl e ↦ absurd (true≢false (sym t ∙ ap (comes_after hash_a) e)) | inr b ↦ absurd b ];
+}
+
+pub returns-clause-nothing : goal.returns-clause-nothing
+returns-clause-nothing c l = l.items.0.explained hash_a (record { there = inl refl; hash = refl }) at_home (omega (arith, matches)) stays
+
+pub returns-clause-start : goal.returns-clause-start
+returns-clause-start c l = omega (arith, l.shares.turns.0.turns.0.0)
+
+no_change : MeetsSome (Among first_race.book) (IsOfSlot 1) 2 2 → ⊥
+no_change m = elim m.there as (λ _. ⊥) [ inl e ↦ omega (arith, m.sort, ap (λ (x : Change). x.slot) e) | inr n ↦ n ]
+
+pub returns-clause-cause : goal.returns-clause-cause
+returns-clause-cause c l = no_change l.items.0.explained
+
+its_buckets : buckets_of first_race.shape 0 (packet 0x0A000001 80) ≡ 0 ∷ 1 ∷ 1 ∷ []
+unfolding tuple_hash listen_hash jhash_1word jhash_3words started_mix final_mix mixed
+its_buckets = refl
+
+not_there : Among {A = ℕ} (0 ∷ 1 ∷ 1 ∷ []) 2 → ⊥
+not_there a = elim a as (λ _. ⊥) [
+  | inl e ↦ omega (arith, e)
+  | inr b ↦ elim b as (λ _. ⊥) [
+    | inl e ↦ omega (arith, e)
+    | inr d ↦ elim d as (λ _. ⊥) [ inl e ↦ omega (arith, e) | inr n ↦ n ]
+  ]
+]
+
+pub returns-clause-bucket : goal.returns-clause-bucket
+returns-clause-bucket c l = not_there (subst (λ (bs : List ℕ). Among bs 2) its_buckets l.items.0.bucket)

@@ -1,0 +1,80 @@
+use Rattle.std.proofs.Common.{◌≡◌, ℕ, ◌<◌, ◌==◌, ◌&&◌, true, nat_lt, List, [], ◌∷◌, refl, sym, ap, ◌∙◌, subst, arith, inl, inr, ◌⊎◌}
+use Rattle.std.proofs.lemmas.Bool.{true≢false}
+use Rattle.sock_card.specs.declared.card.Card.{Card}
+use Rattle.bind_buckets.specs.OwnerStep.{owner_step}
+use Rattle.chain_book.specs.declared.book.Act.{Act}
+use Rattle.chain_book.specs.declared.book.Act.TheVariants as acts
+use Rattle.chain_book.specs.declared.book.Change.{Change}
+use Rattle.flat_list.specs.declared.command.Command.TheVariants as commands
+use Rattle.flat_list.specs.declared.command.Reply.TheVariants as replies
+use Rattle.flat_list.specs.Rows.{a, one, socket}
+use Rattle.table_model.specs.Own.{Own, new_own}
+use Rattle.table_model.specs.Commands.{Replied, answers, plan}
+use Rattle.race_book.specs.Among.{Among}
+use Rattle.race_book.specs.Lives.{Leaves, comes_after, is_hash, is_unhash}
+use Rattle.race_book.specs.Serial.{EndsOne}
+use Rattle.race_record.specs.Goes.{Goes}
+use Rattle.race_record.specs.Deeds.{entered}
+use Rattle.race_record.specs.Worked.{first_bind, hash_a, card_a, card_e}
+use Rattle.race_record.specs.Refused as refused
+use Rattle.race_record.specs.Wrong.{twice_script, second_bind, twins_race, twin_b, drop_race, unhash_other}
+use Rattle.race_record.proofs.rows.wrong_races.Goals as goal
+
+pub returns-clause-number : goal.returns-clause-number
+returns-clause-number c l = omega (arith, l.book.numbers (λ n. 1))
+
+pub returns-clause-stamp : goal.returns-clause-stamp
+returns-clause-stamp c l = omega (arith, l.book.numbers (λ n. n))
+
+pub returns-clause-change : goal.returns-clause-change
+returns-clause-change c l = omega (arith, l.book.each_once (λ x. 1))
+
+-- what the section knows of itself once it has a socket
+abbrev once_there : Own → Type 0
+once_there own = (result : Own) → Goes (plan twice_script.header own (commands.Bind a (one 80))) (entered 80 first_bind ∷ entered 80 second_bind ∷ []) (answers result replies.Eaddrinuse) → ⊥
+
+-- one `bind` asks its bucket once
+asked_once : (next : Own) → Goes (plan twice_script.header (new_own twice_script.header 1) (socket a)) [] (answers next replies.Ok) → once_there next
+unfolding plan
+asked_once next g = subst once_there (sym (ap (λ (r : Replied). r.own) g)) (λ result h. h.2)
+
+pub returns-clause-entry : goal.returns-clause-entry
+returns-clause-entry c l =
+    let first = l.sections.0 in
+    let second = first.2 in
+    asked_once first.0 first.1.goes second.0 second.1.goes
+
+-- a hash doesn't end what another hash began
+not_after : (h c : Change) → c.act ≡ acts.Hash → comes_after h c ≡ true → ⊥
+not_after h c e t = true≢false (sym t ∙ ap (λ (a : Act). is_unhash a && (c.slot == h.slot) && nat_lt h.end c.begin) e)
+
+stays : Leaves (Among twins_race.book) refused.hash_a 2 → ⊥
+stays l = elim l.ends.there as (λ _. ⊥) [
+  | inl e ↦ not_after refused.hash_a l.unhash (ap (λ (x : Change). x.act) e) l.ends.after
+  | inr r ↦ elim r as (λ _. ⊥) [
+    | inl e ↦ not_after refused.hash_a l.unhash (ap (λ (x : Change). x.act) e) l.ends.after
+    | inr n ↦ n
+  ]
+]
+
+pub returns-clause-twins : goal.returns-clause-twins
+returns-clause-twins c l =
+    stays (l.serial.twins refused.hash_a twin_b (record { there = inl refl; hash = refl }) (record { there = inr (inl refl); hash = refl }) (record { one = refl; other = refl; tuple = refl }) (omega arith))
+
+names_differ : card_e ≡ card_a → ⊥
+names_differ e = omega (arith, ap (λ (c : Card). c.name) e)
+
+not_hers : EndsOne (Among drop_race.book) unhash_other → ⊥
+not_hers o = elim o.is.there as (λ _. ⊥) [
+  | inl e ↦ names_differ (o.card ∙ ap (λ (x : Change). x.card) e)
+  | inr r ↦ elim r as (λ _. ⊥) [
+    | inl e ↦ true≢false (sym (ap is_hash o.is.hash) ∙ ap (λ (x : Change). is_hash x.act) e)
+    | inr n ↦ n
+  ]
+]
+
+pub returns-clause-card : goal.returns-clause-card
+returns-clause-card c l = not_hers (l.serial.ends unhash_other (inr (inl refl)) refl)
+
+pub returns-clause-step : goal.returns-clause-step
+returns-clause-step c l = omega (arith, l.spans.0.pairs.1.1.0.0.below.0)

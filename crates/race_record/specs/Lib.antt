@@ -1,0 +1,11 @@
+-- What the contracts of this crate and of those above it cite.
+pub mod Deeds
+pub mod Goes
+pub mod Record
+pub mod Lawful
+pub mod Worked
+pub mod Refused
+pub mod Laws
+pub mod Headline
+pub mod Gathered
+pub mod Wrong

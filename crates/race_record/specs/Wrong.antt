@@ -1,0 +1,224 @@
+-- Records that aren't lawful, each but for one thing like one that is.
+use Rattle.std.specs.Prelude.{ℕ, List, [], ◌∷◌, ◌++◌, false, None}
+use Rattle.capture_reader.specs.declared.packet.Item.TheVariants as items
+use Rattle.capture_reader.specs.Captures.{Capture}
+use Rattle.bind_buckets.specs.declared.request.Entry.{Entry}
+use Rattle.bind_buckets.specs.declared.request.Request.TheVariants as requests
+use Rattle.bind_buckets.specs.declared.request.Answer.TheVariants as answers
+use Rattle.turn_table.specs.declared.note.Note.{Note}
+use Rattle.chain_book.specs.declared.book.Act.TheVariants as acts
+use Rattle.chain_book.specs.declared.book.Change.{Change}
+use Rattle.chain_book.specs.declared.book.PacketAnswer.{PacketAnswer}
+use Rattle.chain_book.specs.declared.book.PacketAnswer.TheVariants as found
+use Rattle.chain_book.specs.declared.book.PassEnd.TheVariants as ends
+use Rattle.flat_list.specs.declared.command.Command.TheVariants as commands
+use Rattle.flat_list.specs.declared.command.Reply.TheVariants as replies
+use Rattle.flat_list.specs.Rows.{with_slots, a, b, e, any, one, socket, reusable, connect}
+use Rattle.flat_list.specs.Script.{Script}
+use Rattle.flat_list.specs.Sections.{name_at}
+use Rattle.race_record.specs.declared.record.Looked.{Looked}
+use Rattle.race_record.specs.declared.record.Looked.TheVariants as looks
+use Rattle.race_record.specs.Deeds.{hashed, entered, inserted, added, left}
+use Rattle.race_record.specs.Record.{Race, Step}
+use Rattle.race_record.specs.Lawful.{Lawful}
+use Rattle.race_record.specs.Worked.{note, change, step, packet, receipt, first_script, no_capture, first_race, first_bind, first_may, first_listen, owner_a, card_a, hash_a, owner_e, card_e}
+use Rattle.race_record.specs.Refused as refused
+
+-- a number of the clock that belongs to nothing
+abbrev pub NumberTooMany : Type 0
+NumberTooMany = ¬ (Lawful first_script no_capture (record first_race { clock = 3 }))
+
+-- a change that was left out of the book
+abbrev pub ChangeLeftOut : Type 0
+ChangeLeftOut = ¬ (Lawful first_script no_capture (record first_race { book = []; clock = 0 }))
+
+-- one `bind` that enters its owner, and then again, and so is refused
+abbrev pub twice_script : Script
+twice_script =
+    record { header = with_slots 2; sections = (socket a ∷ commands.Bind a (one 80) ∷ []) ∷ []; capture = None }
+
+abbrev pub second_bind : Note Entry
+second_bind = note 1 1 (requests.Bind owner_a) (answers.InUse (name_at 1 0))
+
+abbrev pub twice_race : Race
+twice_race =
+    record first_race {
+      sections =
+          (step (socket a) replies.Ok [] 0 0
+          ∷ step (commands.Bind a (one 80)) replies.Eaddrinuse (entered 80 first_bind ∷ entered 80 second_bind ∷ []) 0 0
+          ∷ [])
+          ∷ [];
+      journals = (first_bind ∷ second_bind ∷ []) ∷ [];
+      book = [];
+      clock = 0;
+    }
+
+abbrev pub EnteredTwice : Type 0
+EnteredTwice = ¬ (Lawful twice_script no_capture twice_race)
+
+-- what came of packets to the listener, by one looker
+abbrev pub one_packet : Capture
+one_packet = record { items = items.Packet (packet 0x0A000001 80) ∷ []; cut = false }
+
+abbrev pub answered : PacketAnswer → ℕ → ℕ → Looked
+answered answer t0 t1 = looks.Answered (receipt (packet 0x0A000001 80) answer t0 t1)
+
+abbrev pub with_answer : PacketAnswer → Race
+with_answer answer = record first_race { looked = answered answer 2 2 ∷ []; shares = (0 ∷ []) ∷ [] }
+
+-- a packet that found nothing while the listener stood
+abbrev pub FoundNothing : Type 0
+FoundNothing = ¬ (Lawful first_script one_packet (with_answer found.None))
+
+-- one that claims to have been looked up from before the listener came on, by a looker that found it before
+abbrev pub two_packets : Capture
+two_packets =
+    record { items = items.Packet (packet 0x0A000001 80) ∷ items.Packet (packet 0x0A000001 80) ∷ []; cut = false }
+
+abbrev pub FromTheStart : Type 0
+FromTheStart =
+    ¬ (Lawful first_script two_packets
+    (record first_race { looked = answered (found.Found card_a) 2 2 ∷ answered found.None 0 2 ∷ []; shares = (0 ∷ 1 ∷ []) ∷ [] }))
+
+-- one that was given up at a slot of which there was no change
+abbrev pub CauseNeverWas : Type 0
+CauseNeverWas = ¬ (Lawful first_script one_packet (with_answer (found.Again 1 (ends.Dead 1))))
+
+-- one that was given up in a bucket that isn't the packet's
+abbrev pub AnotherBucket : Type 0
+AnotherBucket = ¬ (Lawful first_script one_packet (with_answer (found.Again 2 (ends.Dead 0))))
+
+-- two full sockets of one four-tuple
+abbrev pub twins_script : Script
+twins_script =
+    record {
+      header = with_slots 2;
+      sections =
+          (reusable a ∷ commands.Bind a (one 90) ∷ connect a 80 ∷ [])
+          ∷ (reusable b ∷ commands.Bind b (one 90) ∷ connect b 80 ∷ [])
+          ∷ [];
+      capture = None;
+    }
+
+abbrev pub twin_b : Change
+twin_b = change 0 1 (refused.connected refused.owner_b) acts.Hash 2 3
+
+abbrev pub connect_b : Note Entry
+connect_b = note 3 2 (requests.ConnectBound (name_at 2 0) 0x0A000001 0x0A000002 80) answers.Done
+
+abbrev pub twins_race : Race
+twins_race =
+    record first_race {
+      sections =
+          (step (reusable a) replies.Ok [] 0 0
+          ∷ step (commands.Bind a (one 90)) (replies.Port 90) (entered 90 refused.bind_a ∷ []) 0 0
+          ∷ step (connect a 80) (replies.End (one 90))
+          (inserted (refused.wished refused.owner_a) (hashed refused.hash_a None) ∷ entered 90 refused.connect_a ∷ []) 0 4
+          ∷ [])
+          ∷ (step (reusable b) replies.Ok [] 0 0
+          ∷ step (commands.Bind b (one 90)) (replies.Port 90) (entered 90 refused.bind_b ∷ []) 0 0
+          ∷ step (connect b 80) (replies.End (one 90))
+          (inserted (refused.wished refused.owner_b) (hashed twin_b None) ∷ entered 90 connect_b ∷ []) 0 4
+          ∷ [])
+          ∷ [];
+      journals = (refused.bind_a ∷ refused.connect_a ∷ refused.bind_b ∷ connect_b ∷ []) ∷ [];
+      book = refused.hash_a ∷ twin_b ∷ [];
+      clock = 4;
+    }
+
+abbrev pub Twins : Type 0
+Twins = ¬ (Lawful twins_script no_capture twins_race)
+
+-- a number of the clock that two changes have
+abbrev pub pair_script : Script
+pair_script =
+    record {
+      header = with_slots 2;
+      sections =
+          (socket a ∷ commands.Bind a (one 80) ∷ commands.Listen a ∷ [])
+          ∷ (socket e ∷ commands.Bind e (any 90) ∷ commands.Listen e ∷ [])
+          ∷ [];
+      capture = None;
+    }
+
+abbrev pub hash_e : Change
+hash_e = change 1 1 card_e acts.Hash 1 3
+
+abbrev pub bind_e : Note Entry
+bind_e = note 3 2 (requests.Bind owner_e) answers.Done
+
+abbrev pub may_e : Note Entry
+may_e = note 4 2 (requests.MayListen (name_at 2 0)) (answers.Group None)
+
+abbrev pub listen_e : Note Entry
+listen_e = note 5 2 (requests.Listen (name_at 2 0) 1) answers.Done
+
+abbrev pub pair_race : Race
+pair_race =
+    record first_race {
+      sections =
+          first_race.sections
+          ++ (step (socket e) replies.Ok [] 0 0
+          ∷ step (commands.Bind e (any 90)) (replies.Port 90) (entered 90 bind_e ∷ []) 0 0
+          ∷ step (commands.Listen e) (replies.Port 90)
+          (entered 90 may_e ∷ added card_e (hashed hash_e None) ∷ entered 90 listen_e ∷ []) 0 4
+          ∷ [])
+          ∷ [];
+      journals = (first_bind ∷ first_may ∷ first_listen ∷ bind_e ∷ may_e ∷ listen_e ∷ []) ∷ [];
+      book = hash_a ∷ hash_e ∷ [];
+      clock = 4;
+    }
+
+abbrev pub StampTwice : Type 0
+StampTwice = ¬ (Lawful pair_script no_capture pair_race)
+
+-- an unhash that takes out another's card
+abbrev pub drop_script : Script
+drop_script =
+    record {
+      header = with_slots 2;
+      sections = (socket a ∷ commands.Bind a (one 80) ∷ commands.Listen a ∷ commands.Drop a ∷ []) ∷ [];
+      capture = None;
+    }
+
+abbrev pub unhash_other : Change
+unhash_other = change 1 0 card_e acts.Unhash 2 3
+
+abbrev pub remove_a : Note Entry
+remove_a = note 3 1 (requests.Remove (name_at 1 0)) answers.Done
+
+-- the steps of the listener, and one more
+abbrev pub and_then : Step → List (List Step)
+and_then last =
+    (step (socket a) replies.Ok [] 0 0
+    ∷ step (commands.Bind a (one 80)) (replies.Port 80) (entered 80 first_bind ∷ []) 0 0
+    ∷ step (commands.Listen a) (replies.Port 80)
+    (entered 80 first_may ∷ added card_a (hashed hash_a None) ∷ entered 80 first_listen ∷ []) 0 2
+    ∷ last
+    ∷ [])
+    ∷ []
+
+abbrev pub drop_race : Race
+drop_race =
+    record first_race {
+      sections = and_then (step (commands.Drop a) replies.Ok (left unhash_other ∷ entered 80 remove_a ∷ []) 2 4);
+      journals = (first_bind ∷ first_may ∷ first_listen ∷ remove_a ∷ []) ∷ [];
+      book = hash_a ∷ unhash_other ∷ [];
+      clock = 4;
+    }
+
+abbrev pub AnothersCard : Type 0
+AnothersCard = ¬ (Lawful drop_script no_capture drop_race)
+
+-- a step that claims to have begun before what its worker drew
+abbrev pub at_script : Script
+at_script =
+    record {
+      header = with_slots 2;
+      sections = (socket a ∷ commands.Bind a (one 80) ∷ commands.Listen a ∷ commands.At 5 ∷ []) ∷ [];
+      capture = None;
+    }
+
+abbrev pub BeganBefore : Type 0
+BeganBefore =
+    ¬ (Lawful at_script no_capture (record first_race { sections = and_then (step (commands.At 5) replies.Ok [] 0 2) }))

@@ -1,0 +1,46 @@
+//! Worked records.
+
+ghost use Rattle.race_record.specs.Lawful.{Lawful};
+ghost use Rattle.race_record.specs.Refused.{refused_capture, refused_race, refused_script};
+ghost use Rattle.race_record.specs.Worked.{first_race, first_script, no_capture, second_capture, second_race, second_script};
+ghost use Rattle.race_record.specs.Wrong as wrong;
+
+/// The record of one listener by itself is lawful.
+pub fn one_listener()
+    ensures { Lawful first_script no_capture first_race }
+{}
+
+/// So is that of two sections beside each other: a TIME_WAIT is replaced; a packet that came meanwhile finds the newcomer;
+/// one to a listener that was being hashed finds nothing.
+pub fn two_sections()
+    ensures { Lawful second_script second_capture second_race }
+{}
+
+/// So is one of refusals: a four-tuple that another section has; a slot while the last one is held by a lookup; and
+/// lookups that never were answered.
+pub fn refusals()
+    ensures { Lawful refused_script refused_capture refused_race }
+{}
+
+/// Records that aren't lawful: in which a number of the clock belongs to nothing, or to two changes; a change is left out
+/// of the book; a `bind` enters its owner twice, and so is refused; two full sockets have one four-tuple; a card is taken
+/// out that is another's; a step begins with less than its worker has seen.
+pub fn wrong_races()
+    ensures number { wrong.NumberTooMany }
+    ensures stamp { wrong.StampTwice }
+    ensures change { wrong.ChangeLeftOut }
+    ensures entry { wrong.EnteredTwice }
+    ensures twins { wrong.Twins }
+    ensures card { wrong.AnothersCard }
+    ensures step { wrong.BeganBefore }
+{}
+
+/// So are those in which a packet finds nothing while a listener stands; or finds nothing as if it had been looked up
+/// before the listener came, by a looker that had found it already; or is given up for a change that never was, or in a
+/// bucket that isn't the packet's.
+pub fn wrong_lookups()
+    ensures nothing { wrong.FoundNothing }
+    ensures start { wrong.FromTheStart }
+    ensures cause { wrong.CauseNeverWas }
+    ensures bucket { wrong.AnotherBucket }
+{}
