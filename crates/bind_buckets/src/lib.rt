@@ -42,8 +42,6 @@ mod slot;
 mod tally;
 #[cfg(test)]
 mod tests;
-#[cfg(test)]
-mod turn_tests;
 pub mod turning;
 
 pub use bucket::Bucket;

@@ -175,6 +175,8 @@ pub fn bind(
     requires entry { 1 ≤ turn.old.value.value.entries }
     requires newcomer { 1 ≤ turn.old.value.value.newcomers }
     ensures asks { Asks turns.now pass.old turn.old pass.new turn.new (Request.Bind owner) (answer_of_bind result) }
+    ensures entries { turn.new.value.value.entries + 1 ≡ turn.old.value.value.entries }
+    ensures newcomers { TakesIfOk result turn.old.value.value.newcomers turn.new.value.value.newcomers }
 {
     bind_result(ask(turns, pass, turn, Request::Bind(owner)))
 }
@@ -193,6 +195,8 @@ pub fn bind_auto(
     requires entry { 1 ≤ turn.old.value.value.entries }
     requires newcomer { 1 ≤ turn.old.value.value.newcomers }
     ensures asks { Asks turns.now pass.old turn.old pass.new turn.new (Request.BindAuto owner) (answer_of_bind result) }
+    ensures entries { turn.new.value.value.entries + 1 ≡ turn.old.value.value.entries }
+    ensures newcomers { TakesIfOk result turn.old.value.value.newcomers turn.new.value.value.newcomers }
 {
     bind_result(ask(turns, pass, turn, Request::BindAuto(owner)))
 }

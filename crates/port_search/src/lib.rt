@@ -19,6 +19,8 @@
 //! ```
 #![tactic(auto)]
 
+#[cfg(test)]
+mod bucket_tests;
 pub mod laws;
 pub mod ports;
 pub mod search;

@@ -4,9 +4,7 @@ ghost use Rattle.std.specs.Prelude.{◌≡◌, ◌+◌, ◌^◌, ◌≤◌, leng
 ghost use Rattle.turn_table.specs.Passes as words;
 ghost use Rattle.bind_buckets.specs.Turned.{IsIdle, IsOut};
 
-use crate::bucket::Bucket;
-use crate::request::{InUse, ListenEnd, Sharing, Strange};
-use crate::turning;
+use bind_buckets::{Bucket, InUse, ListenEnd, Sharing, Strange, turning};
 use sock_card::{Owner, State};
 use std::alloc::{AllocError, Global};
 use std::process::Abort;
