@@ -1,17 +1,15 @@
 -- A lit slot of the locked chain has a card's words.
-use Rattle.std.proofs.Common.{◌≡◌, ℕ, suc, ◌+◌, ◌*◌, ◌<◌, ◌≤◌, List, [], ◌∷◌, ◌++◌, ◌⊎◌, ⊎_elim, map, length, get_or, Option, Some, None, refl, sym, ap, ◌∙◌, subst, arith}
+use Rattle.std.proofs.Common.{◌≡◌, ℕ, ◌+◌, ◌<◌, List, [], ◌∷◌, ◌++◌, ⊎_elim, length, refl, sym, ap, ◌∙◌, subst, arith}
 use mathlib.Core.Option.{some}
 use lib.ListN.{get_elem?}
 use Rattle.atomic_table.proofs.Lists.{at_map}
-use Rattle.table_rule.specs.Lists.{total, times, stands, slots_of, Each}
-use Rattle.table_rule.specs.Words.{at, bucket_count}
-use Rattle.table_rule.specs.SlotsOk.{unlit}
-use Rattle.table_rule.specs.ChainsOk.{list_of}
+use Rattle.table_rule.specs.Lists.{times, slots_of, Each}
+use Rattle.table_rule.specs.Words.{at}
 use Rattle.table_rule.specs.CardsOk.{SeenOk}
 use Rattle.table_rule.specs.Book.{Life}
 use Rattle.table_rule.specs.LinkedOk.{words_at}
 use Rattle.table_rule.specs.Beyond.{IsCardWords, Beyond}
-use Rattle.table_rule.specs.Rule.{slot_part, chain_part, known_part, card_of, Parts, More}
+use Rattle.table_rule.specs.Rule.{chain_part, known_part, card_of, Parts, More}
 use Rattle.table_rule.specs.declared.view.View.{View}
 use Rattle.table_rule.specs.declared.view.Layout.{Layout}
 use Rattle.table_rule.specs.declared.view.Seen.{Seen}

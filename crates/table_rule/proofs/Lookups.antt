@@ -1,31 +1,28 @@
 -- What each step of a lookup shows.
-use Rattle.std.proofs.Common.{◌≡◌, ◌≢◌, ℕ, zero, suc, ◌+◌, ◌*◌, ◌/◌, ◌%◌, ◌<◌, ◌≤◌, List, [], ◌∷◌, ◌++◌, ◌⊎◌, inl, inr, ⊎_elim, map, length, refl, sym, ap, ◌∙◌, subst, arith, slice_index, cond, eqb, Bool, eq-eqb, ne_eqb, true, false}
+use Rattle.std.proofs.Common.{◌≡◌, ◌≢◌, ℕ, zero, suc, ◌+◌, ◌*◌, ◌/◌, ◌%◌, ◌<◌, ◌≤◌, List, [], ◌∷◌, ◌++◌, ◌⊎◌, inl, inr, ⊎_elim, map, length, refl, sym, ap, ◌∙◌, subst, arith, slice_index, cond, eqb, Bool, eq-eqb, ne_eqb}
 use mathlib.Core.Logic.{dite}
 use native.Mathlib.Decide.{ℕ_discrete, dec_le}
 use mathlib.Core.Option.{some, some-injective, some-ne-none}
 use lib.ListN.{get_elem?}
 use Rattle.atomic_table.proofs.Lists.{at_map}
-use Rattle.table_rule.specs.Lists.{total, times, stands, slots_of, Each}
+use Rattle.table_rule.specs.Lists.{total, times, Each}
 use Rattle.table_rule.specs.Words.{at, head_at, bucket_count}
-use Rattle.table_rule.specs.SlotsOk.{owns, unlit, holds}
+use Rattle.table_rule.specs.SlotsOk.{owns}
 use Rattle.table_rule.specs.ChainsOk.{Path, linked_below}
 use Rattle.table_rule.specs.CardsOk.{SeenOk}
-use Rattle.table_rule.specs.Book.{open-end, below, Life, hash_of, unhash_of}
+use Rattle.table_rule.specs.Book.{open-end, below, Life}
 use Rattle.table_rule.specs.LinkedOk.{words_at, Whole, Busy}
 use Rattle.sock_card.specs.Words.{word_rank as rank}
-use Rattle.table_rule.specs.ReadersOk.{rank_of, Miss, ends, passes, SlotMet, HashMet, NoneBetter, StopOk, CardStood, ReceiptOk, SightedOk, Sought, Way, PeekOk, ReaderOk, KeptOk, Readers}
-use Rattle.table_rule.specs.Rule.{slot_part, book_part, dark_of, card_of, Parts, More}
+use Rattle.table_rule.specs.ReadersOk.{rank_of, Miss, ends, passes, SlotMet, HashMet, NoneBetter, StopOk, ReceiptOk, SightedOk, Sought, Way, PeekOk, ReaderOk, KeptOk, Readers}
+use Rattle.table_rule.specs.Rule.{slot_part, book_part, dark_of, Parts, More}
 use Rattle.table_rule.specs.Plays.{standing, stopping, glancing, knowing, IsLive, receipt}
 use Rattle.table_rule.specs.declared.view.View.{View}
 use Rattle.table_rule.specs.declared.view.Layout.{Layout}
-use Rattle.table_rule.specs.declared.view.SlotView.{SlotView}
 use Rattle.table_rule.specs.declared.view.Seen.{Seen}
 use Rattle.table_rule.specs.declared.view.Kept.{Kept}
-use Rattle.table_rule.specs.declared.view.Stop.{Stop}
 use Rattle.table_rule.specs.declared.view.Change.{Change}
 use Rattle.table_rule.specs.declared.view.Reader.{Reader}
-use Rattle.table_rule.specs.declared.view.Receipt.{Receipt}
-use Rattle.table_rule.proofs.Lists.{times-here, times-else, linked_le, each-append, term_le}
+use Rattle.table_rule.proofs.Lists.{times-here, linked_le, each-append}
 use Rattle.table_rule.proofs.CardSteps.{at_end, seen_reads}
 use Rattle.table_rule.proofs.SlotSteps.{counts_small}
 use Rattle.table_rule.proofs.Serial.{three}

@@ -6,7 +6,7 @@ use mathlib.Core.Option.{some, some-injective, some-ne-none}
 use lib.ListN.{get_elem?}
 use Rattle.atomic_table.proofs.Lists.{set_here, set_else, at_longer, at_last}
 use Rattle.table_rule.specs.Lists.{total}
-use Rattle.table_rule.specs.Book.{open-end, Part, InBook, BookOk, Life, hash_of, unhash_of, LivesOk, marks, with_lives}
+use Rattle.table_rule.specs.Book.{open-end, Part, BookOk, Life, hash_of, unhash_of, LivesOk, marks, with_lives}
 use Rattle.table_rule.specs.Owners.{time_waits, HasChange, OwnUnhash, OwnersOk, IsPlace, HasPlace}
 use Rattle.table_rule.specs.declared.view.Change.{Change}
 use Rattle.table_rule.specs.declared.view.BookView.{BookView}

@@ -1,15 +1,14 @@
 -- What a pass knows of its places, and of what it hashed before a lookup.
-use Rattle.std.proofs.Common.{◌≡◌, ◌≢◌, ℕ, suc, ◌+◌, ◌<◌, ◌≤◌, ◌⊎◌, inl, List, [], ◌∷◌, ◌++◌, inr, ⊎_elim, map, length, cond, Bool, eq-eqb, ne_eqb, refl, sym, ap, ◌∙◌, subst, arith, append-nil}
+use Rattle.std.proofs.Common.{◌≡◌, ◌≢◌, ℕ, ◌<◌, ◌≤◌, inl, List, [], ◌∷◌, ◌++◌, inr, ⊎_elim, map, length, cond, Bool, eq-eqb, ne_eqb, refl, sym, ap, ◌∙◌, subst, arith, append-nil}
 use mathlib.Core.Logic.{dite}
 use native.Mathlib.Decide.{ℕ_discrete}
 use mathlib.Core.Option.{some, some-ne-none}
 use lib.ListN.{get_elem?}
 use Rattle.atomic_table.proofs.Lists.{at_map, at_last, at_longer}
 use Rattle.table_rule.specs.Lists.{times, stands, slots_of, Each}
-use Rattle.table_rule.specs.Words.{bucket_count}
 use Rattle.table_rule.specs.ChainsOk.{list_of}
 use Rattle.table_rule.specs.CardsOk.{SeenOk}
-use Rattle.table_rule.specs.Book.{open-end, Part, Life, hash_of, unhash_of}
+use Rattle.table_rule.specs.Book.{open-end, Part, Life, unhash_of}
 use Rattle.table_rule.specs.LinkedOk.{words_at, Whole}
 use Rattle.table_rule.specs.Owners.{time_waits, IsPlace}
 use Rattle.table_rule.specs.ReadersOk.{rank_of, NoneBetter, Readers}

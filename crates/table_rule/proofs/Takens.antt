@@ -1,22 +1,18 @@
 -- Each kind of step keeps what counts are taken.
-use Rattle.std.proofs.Common.{◌≡◌, ◌≢◌, ℕ, zero, suc, ◌+◌, ◌*◌, ◌<◌, ◌≤◌, List, [], ◌∷◌, ◌++◌, ◌⊎◌, inl, inr, ⊎_elim, map, length, cond, eqb, Bool, true, false, set, refl, sym, ap, ◌∙◌, subst, arith}
-use mathlib.Core.Logic.{dite}
-use native.Mathlib.Decide.{ℕ_discrete}
+use Rattle.std.proofs.Common.{◌≡◌, ◌≢◌, ℕ, zero, suc, ◌+◌, ◌<◌, ◌≤◌, List, [], ◌∷◌, ◌++◌, ⊎_elim, map, length, cond, eqb, Bool, true, false, set, refl, sym, ap, ◌∙◌, subst, arith}
 use mathlib.Core.Option.{some, some-injective, some-ne-none}
 use lib.ListN.{get_elem?}
 use Rattle.atomic_table.proofs.Lists.{at_set, at_map}
-use Rattle.table_rule.specs.Lists.{total, times}
-use Rattle.table_rule.specs.Words.{at, bucket_count}
-use Rattle.table_rule.specs.SlotsOk.{SlotsOk, holds, owns, unlit}
+use Rattle.table_rule.specs.Lists.{total}
+use Rattle.table_rule.specs.SlotsOk.{SlotsOk, holds}
 use Rattle.table_rule.specs.Book.{open-end}
 use Rattle.table_rule.specs.Rule.{slot_part}
 use Rattle.table_rule.specs.TakenOk.{TakenOk, HeldByItself, held_alone, all_taken}
-use Rattle.table_rule.specs.Plays.{settled, settled_one}
+use Rattle.table_rule.specs.Plays.{settled}
 use Rattle.table_rule.specs.declared.view.View.{View}
 use Rattle.table_rule.specs.declared.view.SlotView.{SlotView}
 use Rattle.table_rule.specs.declared.view.Sight.{Sight}
-use Rattle.table_rule.proofs.Lists.{total-set, total-append, term_le, terms, times-le}
-use Rattle.table_rule.proofs.CardSteps.{views_moved}
+use Rattle.table_rule.proofs.Lists.{total-set, total-append, terms, times-le}
 
 -- a second number for a sighting changes nothing of what it saw
 pub held_settled : (xs : List Sight) (r : ℕ) → held_alone (settled xs r) ≡ held_alone xs

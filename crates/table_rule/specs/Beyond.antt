@@ -1,9 +1,8 @@
 -- What lives are to each other, in which order chains have them, and that what was seen stays true.
-use Rattle.std.specs.Prelude.{Some, ◌≡◌, ℕ, ◌+◌, ◌<◌, ◌≤◌, List, [], ◌∷◌, ◌++◌, ◌⊎◌, slice_set}
+use Rattle.std.specs.Prelude.{◌≡◌, ℕ, ◌+◌, ◌<◌, ◌≤◌, List, [], ◌∷◌, ◌++◌, ◌⊎◌, slice_set}
 use mathlib.Core.Option.{some}
 use Rattle.sock_card.specs.Words.{packed, unpacked}
 use Rattle.table_rule.specs.Words.{words_of, home_of, bucket_count}
-use Rattle.sock_card.specs.declared.card.Card.{Card}
 use Rattle.sock_card.specs.declared.words.CardWords.{CardWords}
 use lib.ListN.{get_elem?}
 use Rattle.table_rule.specs.Lists.{Each, times}

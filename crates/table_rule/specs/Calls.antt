@@ -1,5 +1,5 @@
 -- What the calls ask and say.
-use Rattle.std.specs.Prelude.{◌≡◌, ℕ, ◌<◌, ◌≤◌, ◌+◌, ◌*◌, ◌/◌, ◌%◌, ◌⊎◌, List, [], ◌∷◌, ◌++◌, length}
+use Rattle.std.specs.Prelude.{◌≡◌, ℕ, ◌<◌, ◌≤◌, ◌+◌, ◌*◌, ◌%◌, ◌⊎◌, List, [], ◌∷◌, ◌++◌, length}
 use Rattle.table_rule.specs.declared.view.SlotView.{SlotView}
 use Rattle.sock_card.specs.declared.words.CardWords.{CardWords}
 use Rattle.atomic_table.specs.Table.{Me}

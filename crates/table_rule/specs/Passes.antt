@@ -1,5 +1,5 @@
 -- Words for passes: what they know, and what splitting and joining make of it.
-use Rattle.std.specs.Prelude.{◌≡◌, ℕ, ◌*◌, ◌-◌, ◌≤◌, ◌^◌, [], length}
+use Rattle.std.specs.Prelude.{◌*◌, ◌-◌, ◌≤◌, [], length}
 use Rattle.atomic_table.specs.Table.{Me}
 use Rattle.table_rule.specs.declared.view.View.{View}
 use Rattle.table_rule.specs.declared.table.Chains.{Chains}

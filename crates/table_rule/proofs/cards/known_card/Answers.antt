@@ -1,4 +1,4 @@
-use Rattle.std.proofs.Common.{◌≡◌, ap, ◌∙◌}
+use Rattle.std.proofs.Common.{ap, ◌∙◌}
 use Rattle.sock_card.specs.Words.{packed}
 use Rattle.table_rule.proofs.CardWords.{packs_back}
 use Rattle.table_rule.proofs.cards.known_card.Goals as goal

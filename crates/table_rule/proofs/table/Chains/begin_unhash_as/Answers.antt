@@ -1,7 +1,7 @@
 use Rattle.std.proofs.Common.{rules, ◌≡◌, ℕ, ◌+◌, ◌%◌, ◌^◌, ap, ◌∙◌, refl, sym, subst, ◌<◌, ◌⊎◌}
 use mathlib.Core.Option.{none}
 use Rattle.atomic_table.specs.Table.{step}
-use Rattle.table_rule.specs.Plays.{left, card_in, Sat}
+use Rattle.table_rule.specs.Plays.{left, card_in}
 use Rattle.table_rule.proofs.Allowed.{leaves-it}
 use Rattle.table_rule.specs.Lists.{stands}
 use Rattle.table_rule.specs.Owners.{time_waits, HasPlace}

@@ -1,10 +1,9 @@
-use Rattle.std.proofs.Common.{rules, ◌≡◌, ℕ, ◌+◌, ◌-◌, ◌*◌, ◌%◌, ◌^◌, ◌<◌, ◌∷◌, [], sym, ap, ◌∙◌, refl, arith, length, subst}
+use Rattle.std.proofs.Common.{rules, refl}
 use mathlib.Core.Option.{none}
 use Rattle.atomic_table.specs.Table.{step}
-use Rattle.table_rule.specs.Words.{at, head_at}
-use Rattle.table_rule.specs.Plays.{Sat, set_out}
+use Rattle.table_rule.specs.Plays.{set_out}
 use Rattle.table_rule.proofs.AllowedLookups.{sets-out}
-use Rattle.table_rule.proofs.Calls.{moved_to, word_is}
+use Rattle.table_rule.proofs.Calls.{moved_to}
 use Rattle.table_rule.proofs.table.Chains.clock_start_as.Goals as goal
 
 pub load-requires : goal.load-requires

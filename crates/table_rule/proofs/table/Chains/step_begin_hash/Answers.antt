@@ -1,7 +1,7 @@
-use Rattle.std.proofs.Common.{rules, ◌≡◌, ℕ, ◌+◌, ◌%◌, ◌^◌, ap, ◌∙◌, refl}
+use Rattle.std.proofs.Common.{rules, ◌+◌, ◌%◌, ◌^◌, refl}
 use mathlib.Core.Option.{none}
 use Rattle.atomic_table.specs.Table.{step}
-use Rattle.table_rule.specs.Plays.{began, Sat}
+use Rattle.table_rule.specs.Plays.{began}
 use Rattle.table_rule.proofs.Allowed.{begins-it}
 use Rattle.table_rule.proofs.Calls.{moved_to}
 use Rattle.table_rule.proofs.table.Chains.step_begin_hash.Goals as goal

@@ -1,7 +1,7 @@
-use Rattle.std.proofs.Common.{rules, ◌≡◌, ℕ, ◌+◌, ◌%◌, ◌^◌, ap, ◌∙◌, refl}
+use Rattle.std.proofs.Common.{rules, ◌+◌, ◌%◌, ◌^◌, refl}
 use mathlib.Core.Option.{none}
 use Rattle.atomic_table.specs.Table.{step}
-use Rattle.table_rule.specs.Plays.{ended, Sat}
+use Rattle.table_rule.specs.Plays.{ended}
 use Rattle.table_rule.proofs.Allowed.{closes-it}
 use Rattle.table_rule.proofs.Calls.{moved_to}
 use Rattle.table_rule.proofs.table.Chains.step_end.Goals as goal

@@ -1,7 +1,7 @@
-use Rattle.std.proofs.Common.{rules, ◌≡◌, ℕ, ◌+◌, ◌%◌, ◌^◌, ap, ◌∙◌, refl}
+use Rattle.std.proofs.Common.{rules, refl}
 use mathlib.Core.Option.{none}
 use Rattle.atomic_table.specs.Table.{step}
-use Rattle.table_rule.specs.Plays.{forgot, Sat}
+use Rattle.table_rule.specs.Plays.{forgot}
 use Rattle.table_rule.proofs.Allowed.{drops-it}
 use Rattle.table_rule.proofs.Calls.{moved_to}
 use Rattle.table_rule.proofs.table.Chains.step_forget.Goals as goal

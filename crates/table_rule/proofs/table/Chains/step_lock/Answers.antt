@@ -1,11 +1,11 @@
-use Rattle.std.proofs.Common.{rules, ◌≡◌, ℕ, ◌+◌, ◌*◌, ◌∷◌, [], eqb, sym, ap, ◌∙◌, refl, arith, bit_or, bit_and, length, subst}
+use Rattle.std.proofs.Common.{rules, eqb, ◌∙◌}
 use mathlib.Core.Option.{none}
 use prog.Atomic.{either}
 use Rattle.atomic_table.specs.Table.{step}
-use Rattle.table_rule.specs.Words.{at, head_at, lock_at}
-use Rattle.table_rule.specs.Plays.{locked, Sat}
+use Rattle.table_rule.specs.Words.{lock_at}
+use Rattle.table_rule.specs.Plays.{locked}
 use Rattle.table_rule.proofs.Allowed.{locks-it}
-use Rattle.table_rule.proofs.Calls.{moved_to, word_is, claimed_shape, locked_shape}
+use Rattle.table_rule.proofs.Calls.{moved_to, locked_shape}
 use Rattle.table_rule.proofs.table.Chains.step_lock.Goals as goal
 
 pub compare_exchange-requires : goal.compare_exchange-requires

@@ -1,11 +1,10 @@
-use Rattle.std.proofs.Common.{rules, ◌≡◌, ℕ, ◌+◌, ◌*◌, ◌∷◌, [], eqb, sym, ap, ◌∙◌, refl, arith, bit_or, bit_and, length, subst}
+use Rattle.std.proofs.Common.{rules, ap, ◌∙◌, subst}
 use mathlib.Core.Option.{none}
-use prog.Atomic.{either}
 use Rattle.atomic_table.specs.Table.{step}
-use Rattle.table_rule.specs.Words.{at, head_at, lock_at}
+use Rattle.table_rule.specs.Words.{head_at}
 use Rattle.table_rule.specs.Plays.{advanced, Inside, Sat}
 use Rattle.table_rule.proofs.Allowed.{starts}
-use Rattle.table_rule.proofs.Calls.{moved_to, word_is, claimed_shape, locked_shape}
+use Rattle.table_rule.proofs.Calls.{moved_to}
 use Rattle.table_rule.proofs.table.Chains.step_next_head.Goals as goal
 
 pub load-requires : goal.load-requires

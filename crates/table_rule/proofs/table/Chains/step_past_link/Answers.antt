@@ -1,13 +1,10 @@
-use Rattle.std.proofs.Common.{rules, ◌≡◌, ℕ, ◌+◌, ◌*◌, ◌∷◌, ◌++◌, [], eqb, sym, ap, ◌∙◌, refl, arith, length, subst, append-nil}
+use Rattle.std.proofs.Common.{rules, ℕ, ◌∷◌, [], sym, ap, ◌∙◌, arith}
 use mathlib.Core.Option.{none}
-use Rattle.atomic_table.specs.Table.{step, Allows}
-use Rattle.table_rule.specs.Words.{at, head_at, lock_at}
-use Rattle.table_rule.specs.Rule.{Holds}
-use Rattle.table_rule.specs.Plays.{passed, Sat, place}
-use Rattle.table_rule.specs.declared.view.Layout.{Layout}
-use Rattle.table_rule.specs.declared.view.Seen.{Seen}
+use Rattle.atomic_table.specs.Table.{step}
+use Rattle.table_rule.specs.Words.{at}
+use Rattle.table_rule.specs.Plays.{passed, Sat}
 use Rattle.table_rule.proofs.Allowed.{passes-link}
-use Rattle.table_rule.proofs.Calls.{moved_to, word_is, place_last}
+use Rattle.table_rule.proofs.Calls.{moved_to}
 use Rattle.table_rule.proofs.table.Chains.step_past_link.Goals as goal
 
 pub store-requires : goal.store-requires

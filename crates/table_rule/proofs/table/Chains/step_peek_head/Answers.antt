@@ -1,10 +1,10 @@
-use Rattle.std.proofs.Common.{rules, ◌≡◌, ℕ, ◌+◌, ◌-◌, ◌*◌, ◌%◌, ◌^◌, ◌<◌, ◌∷◌, [], sym, ap, ◌∙◌, refl, arith, length, subst}
+use Rattle.std.proofs.Common.{rules, sym, ap, ◌∙◌, arith}
 use mathlib.Core.Option.{none}
 use Rattle.atomic_table.specs.Table.{step}
-use Rattle.table_rule.specs.Words.{at, head_at}
-use Rattle.table_rule.specs.Plays.{Sat, arrived, entering}
+use Rattle.table_rule.specs.Words.{head_at}
+use Rattle.table_rule.specs.Plays.{arrived, entering}
 use Rattle.table_rule.proofs.AllowedLookups.{peeks-head}
-use Rattle.table_rule.proofs.Calls.{moved_to, word_is, arrives_shape}
+use Rattle.table_rule.proofs.Calls.{moved_to, arrives_shape}
 use Rattle.table_rule.proofs.table.Chains.step_peek_head.Goals as goal
 
 pub load-requires : goal.load-requires

@@ -1,7 +1,7 @@
-use Rattle.std.proofs.Common.{rules, ◌≡◌, ℕ, ◌+◌, ◌-◌, ◌*◌, ◌%◌, ◌^◌, ◌<◌, ◌∷◌, [], sym, ap, ◌∙◌, refl, arith, length, subst}
+use Rattle.std.proofs.Common.{rules, ◌+◌, ◌-◌, ◌%◌, ◌^◌, ap, ◌∙◌}
 use mathlib.Core.Option.{none}
 use Rattle.atomic_table.specs.Table.{step}
-use Rattle.table_rule.specs.Words.{at, head_at}
+use Rattle.table_rule.specs.Words.{at}
 use Rattle.table_rule.specs.Plays.{Sat, let_go}
 use Rattle.table_rule.proofs.AllowedLookups.{lets-go}
 use Rattle.table_rule.proofs.Calls.{moved_to, word_is}

@@ -1,10 +1,10 @@
-use Rattle.std.proofs.Common.{rules, ◌≡◌, ℕ, ◌+◌, ◌-◌, ◌*◌, ◌%◌, ◌^◌, ◌<◌, ◌∷◌, [], sym, ap, ◌∙◌, refl, arith, length, subst}
+use Rattle.std.proofs.Common.{rules, ℕ, ◌+◌, sym, ap, ◌∙◌, arith, length}
 use mathlib.Core.Option.{none}
 use Rattle.atomic_table.specs.Table.{step}
-use Rattle.table_rule.specs.Words.{at, head_at}
+use Rattle.table_rule.specs.Words.{at}
 use Rattle.table_rule.specs.Plays.{Sat, learned}
 use Rattle.table_rule.proofs.AllowedLookups.{learns-it}
-use Rattle.table_rule.proofs.Calls.{moved_to, word_is}
+use Rattle.table_rule.proofs.Calls.{moved_to}
 use Rattle.table_rule.proofs.table.Chains.step_read_held.Goals as goal
 
 pub load-requires : goal.load-requires

@@ -1,10 +1,10 @@
-use Rattle.std.proofs.Common.{rules, ◌≡◌, ℕ, ◌+◌, ◌-◌, ◌*◌, ◌%◌, ◌^◌, ◌<◌, ◌∷◌, [], sym, ap, ◌∙◌, refl, arith, length, subst}
+use Rattle.std.proofs.Common.{rules, ℕ, ◌+◌, sym, ap, ◌∙◌, arith, length}
 use mathlib.Core.Option.{none}
 use Rattle.atomic_table.specs.Table.{step}
-use Rattle.table_rule.specs.Words.{at, head_at}
-use Rattle.table_rule.specs.Plays.{Sat, judged}
+use Rattle.table_rule.specs.Words.{at}
+use Rattle.table_rule.specs.Plays.{judged}
 use Rattle.table_rule.proofs.AllowedLookups.{judges-it}
-use Rattle.table_rule.proofs.Calls.{moved_to, word_is, judged_shape}
+use Rattle.table_rule.proofs.Calls.{moved_to, judged_shape}
 use Rattle.table_rule.proofs.table.Chains.step_read_last.Goals as goal
 
 pub load-requires : goal.load-requires

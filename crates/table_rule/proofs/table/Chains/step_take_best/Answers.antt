@@ -1,8 +1,8 @@
-use Rattle.std.proofs.Common.{rules, ◌≡◌, ℕ, ◌+◌, ◌-◌, ◌*◌, ◌%◌, ◌^◌, ◌<◌, ◌∷◌, [], sym, ap, ◌∙◌, refl, arith, length, subst}
+use Rattle.std.proofs.Common.{rules, ◌+◌, ◌%◌, ◌^◌, ◌∙◌}
 use mathlib.Core.Option.{none}
 use Rattle.atomic_table.specs.Table.{step}
-use Rattle.table_rule.specs.Words.{at, head_at}
-use Rattle.table_rule.specs.Plays.{Sat, reached}
+use Rattle.table_rule.specs.Words.{at}
+use Rattle.table_rule.specs.Plays.{reached}
 use Rattle.table_rule.proofs.AllowedLookups.{reaches-it}
 use Rattle.table_rule.proofs.Calls.{moved_to, word_is, reached_shape}
 use Rattle.table_rule.proofs.table.Chains.step_take_best.Goals as goal

@@ -1,11 +1,10 @@
-use Rattle.std.proofs.Common.{rules, ◌≡◌, ℕ, ◌+◌, ◌*◌, ◌∷◌, [], eqb, sym, ap, ◌∙◌, refl, arith, bit_or, bit_and, length, subst}
+use Rattle.std.proofs.Common.{rules, ℕ, ap, ◌∙◌}
 use mathlib.Core.Option.{none}
-use prog.Atomic.{either}
 use Rattle.atomic_table.specs.Table.{step}
-use Rattle.table_rule.specs.Words.{at, head_at, lock_at}
+use Rattle.table_rule.specs.Words.{lock_at}
 use Rattle.table_rule.specs.Plays.{unlocked, Sat}
 use Rattle.table_rule.proofs.Allowed.{unlocks-it}
-use Rattle.table_rule.proofs.Calls.{moved_to, word_is, claimed_shape, locked_shape}
+use Rattle.table_rule.proofs.Calls.{moved_to}
 use Rattle.table_rule.proofs.table.Chains.step_unlock.Goals as goal
 
 pub store-requires : goal.store-requires
