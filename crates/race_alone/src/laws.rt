@@ -2,6 +2,7 @@
 
 ghost use Rattle.race_alone.specs.Order.{TurnsAreFlat};
 ghost use Rattle.race_alone.specs.Plays.{PlayedRefines, PlayedRuns, RunsGo};
+ghost use Rattle.race_alone.specs.Sole.{SoleIsFlat};
 
 /// A plan that goes on by deeds at such tables is carried out by them, and so a step refines the flat list.
 pub fn played_plans()
@@ -14,4 +15,9 @@ pub fn played_plans()
 /// commands in that order.
 pub fn any_order()
     ensures { TurnsAreFlat }
+{}
+
+/// Where they were made one section after the other, these are the replies that a run of the script has.
+pub fn sole_worker()
+    ensures { SoleIsFlat }
 {}

@@ -42,7 +42,7 @@ fn label_in<'a>(row: &[&'a [u8]], number: usize) -> &'a [u8]
 #[derive(Drop)]
 pub struct Labels<'a> {
     /// The labels of each section, at its number. None has number 0.
-    by_section: Vec<Vec<&'a [u8]>>,
+    pub by_section: Vec<Vec<&'a [u8]>>,
 }
 
 impl<'a> Labels<'a> {
@@ -59,7 +59,7 @@ impl<'a> Labels<'a> {
     }
 
     /// The label of the socket of that name, or none.
-    fn of_name(&self, name: u32) -> &'a [u8]
+    pub fn of_name(&self, name: u32) -> &'a [u8]
         ensures { result.now ≡ label_at (tables self.now.by_section.items) name }
     {
         match self.by_section.get((name >> 24) as usize) {

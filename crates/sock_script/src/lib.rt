@@ -27,7 +27,7 @@ pub mod capture;
 pub mod counts;
 mod draft;
 pub mod form;
-mod label;
+pub mod label;
 pub mod law;
 pub mod line;
 pub mod make;

@@ -14,14 +14,14 @@ use sock_card::{Card, Kind};
 use std::alloc::{AllocError, Global};
 
 /// Appends a text.
-fn put(out: &mut Vec<u8>, text: &[u8]) -> Result<(), AllocError>
+pub fn put(out: &mut Vec<u8>, text: &[u8]) -> Result<(), AllocError>
     ensures { OnOk result (out.new.items ≡ out.old.items ++ text.now) }
 {
     out.extend_from_slice(text)
 }
 
 /// Appends a number.
-fn put_number(out: &mut Vec<u8>, n: u64) -> Result<(), AllocError>
+pub fn put_number(out: &mut Vec<u8>, n: u64) -> Result<(), AllocError>
     ensures { OnOk result (out.new.items ≡ out.old.items ++ decimal n) }
 {
     let mut digits = [0; 20];
@@ -30,7 +30,7 @@ fn put_number(out: &mut Vec<u8>, n: u64) -> Result<(), AllocError>
 }
 
 /// Appends an address with its dots, a colon and a port.
-fn put_end(out: &mut Vec<u8>, end: End) -> Result<(), AllocError>
+pub fn put_end(out: &mut Vec<u8>, end: End) -> Result<(), AllocError>
     ensures { OnOk result (out.new.items ≡ out.old.items ++ end_text end.addr end.port) }
 {
     let mut addr = [0; 15];
@@ -51,7 +51,7 @@ fn kind_word(kind: Kind) -> &'static [u8]
 }
 
 /// Appends the answer of a look.
-fn put_answer(out: &mut Vec<u8>, answer: Option<Card>, label: &[u8]) -> Result<(), AllocError>
+pub fn put_answer(out: &mut Vec<u8>, answer: Option<Card>, label: &[u8]) -> Result<(), AllocError>
     ensures { OnOk result (out.new.items ≡ out.old.items ++ spec.answer_with label.now answer) }
 {
     let Some(card) = answer else {

@@ -1,0 +1,4 @@
+pub mod Named
+pub mod Whole
+pub mod Commands
+pub mod Numbers
