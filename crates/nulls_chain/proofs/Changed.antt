@@ -1,0 +1,63 @@
+-- What the calls that change chains show.
+use Rattle.std.proofs.Common.{◌≡◌, ◌≢◌, ℕ, ◌+◌, ◌*◌, ◌%◌, ◌<◌, List, [], ◌∷◌, ◌++◌, ◌⊎◌, length, Option, None, Some, true, false, cond, eqb, Bool, eq-eqb, ne_eqb, ◌/◌, sym, refl, ap, ◌∙◌, arith, subst}
+use Rattle.table_rule.specs.Lists.{times, stands, slots_of}
+use Rattle.table_rule.specs.CardsOk.{Differs, MayLight}
+use Rattle.table_rule.specs.Plays.{advancing}
+use Rattle.nulls_chain.specs.Changes.{going, Apart, IsAlone, Stands}
+use Rattle.bucket_locks.specs.Locks.{IsAt}
+use Rattle.table_rule.specs.Calls.{seen_of}
+use Rattle.table_rule.specs.declared.view.View.{View}
+use Rattle.table_rule.specs.declared.view.ChainView.{ChainView}
+use Rattle.table_rule.specs.declared.view.Layout.{Layout}
+use Rattle.table_rule.specs.declared.view.Seen.{Seen}
+use Rattle.sock_card.specs.declared.words.CardWords.{CardWords}
+use Rattle.table_rule.proofs.Lists.{times-here, times-append, slots-append, each-map}
+use mathlib.Core.Option.{some-injective}
+use lib.ListN.{get_elem?}
+use Rattle.table_rule.specs.Words.{bucket_count, home_of}
+
+stands_there : (front : List Seen) (s : Seen) (back : List Seen) (slot : ℕ) → s.slot ≡ slot → 0 < stands slot (front ++ s ∷ back)
+stands_there front s back slot is = omega (arith, ap (times slot) (slots-append front (s ∷ back)), times-append slot (slots_of front) (s.slot ∷ slots_of back), ap (λ (k : ℕ). times slot (k ∷ slots_of back)) is, times-here slot (slots_of back))
+
+pub stands_in : (layout : Layout) (before : Option ℕ) (slot : ℕ) (v : View) → Stands layout before slot v → 0 < stands slot v.chain.walked
+stands_in layout None slot v h = subst (λ (l : List Seen). 0 < stands slot l) (sym h.3) (stands_there [] h.0 h.1 slot h.2)
+stands_in layout (Some before) slot v h = let t = h.1 in subst (λ (l : List Seen). 0 < stands slot l) (sym t.6) (stands_there (t.0 ++ t.1 ∷ []) t.2 t.3 slot t.5)
+
+pub may_light : (slot : ℕ) (card : CardWords) (xs : List Seen) → IsAlone card xs → MayLight slot (seen_of slot card ∷ xs)
+may_light slot card xs alone = record {
+  nth = 0;
+  seen = seen_of slot card;
+  there = refl;
+  slot = refl;
+  a = card.ends;
+  b = card.ports;
+  has-a = refl;
+  has-b = refl;
+  alone = λ full. (
+    record { ends = card.ends; ports = card.ports; has-ends = refl; has-ports = refl; apart = λ ne. absurd (ne refl) },
+    each-map (Apart card.ends card.ports) (Differs slot card.ends card.ports) xs (λ s d. record { ends = d.ends; ports = d.ports; has-ends = d.has-ends; has-ports = d.has-ports; apart = λ ne. d.apart }) (alone full),
+  );
+}
+
+-- a link that was loaded leads on, or is the end
+pub leads_on : (v : View) (r : ℕ) → r % 2 ≡ 0 → (advancing v r).chain ≡ going v.chain (record { slot = r / 2; words = [] } ∷ []) 0
+leads_on v r e = λ k. going v.chain (ap (λ (b : Bool). cond b (record { slot = r / 2; words = [] } ∷ []) []) (eq-eqb (r % 2) 0 e) k) (e k)
+
+pub leads_end : (v : View) (r : ℕ) → r % 2 ≡ 1 → (advancing v r).chain ≡ going v.chain [] 1
+leads_end v r e = λ k. going v.chain (ap (λ (b : Bool). cond b (record { slot = r / 2; words = [] } ∷ []) []) (ne_eqb (r % 2) 0 (omega (arith, e))) k) (e k)
+
+not-both : true ≡ false → ⊥
+not-both e = omega (arith, ap {B = ℕ} (λ (b : Bool). cond b 1 0) e)
+
+-- where a walk stands once it has gone on
+pub at_even : (layout : Layout) (bucket r : ℕ) (v w : View) (card : CardWords) → v.chain.locked ≡ bucket ∷ [] → bucket < bucket_count layout → r % 2 ≡ 0 → r / 2 < layout.shape.slots → w.chain ≡ going v.chain (seen_of (r / 2) card ∷ []) 0 → IsAt layout (record { bucket = bucket; started = true; link = r }) w
+at_even layout bucket r v w card had near even inside is = (
+  ap (λ (c : ChainView). c.locked) is ∙ had,
+  near,
+  (λ e. absurd (not-both e)),
+  (λ _. (even ∙ sym (ap (λ (c : ChainView). c.met) is), (λ _. (inside, (seen_of (r / 2) card, refl, refl, ap (λ (c : ChainView). c.ahead) is))), (λ odd. absurd (omega (arith, even, odd))))),
+)
+
+-- the first of a list is at home
+pub home_first : (layout : Layout) (b : ℕ) (x s : Seen) (xs rest : List Seen) → x ∷ xs ≡ s ∷ rest → home_of layout x.words ≡ b → home_of layout s.words ≡ b
+home_first layout b x s xs rest e h = subst (λ (y : Seen). home_of layout y.words ≡ b) (some-injective x s (ap (λ (l : List Seen). get_elem? l 0) e)) h
