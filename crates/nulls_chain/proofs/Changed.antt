@@ -1,18 +1,22 @@
 -- What the calls that change chains show.
-use Rattle.std.proofs.Common.{◌≡◌, ◌≢◌, ℕ, ◌+◌, ◌*◌, ◌%◌, ◌<◌, List, [], ◌∷◌, ◌++◌, ◌⊎◌, length, Option, None, Some, true, false, cond, eqb, Bool, eq-eqb, ne_eqb, ◌/◌, sym, refl, ap, ◌∙◌, arith, subst}
+use Rattle.std.proofs.Common.{◌≡◌, ◌≢◌, ℕ, ◌+◌, ◌*◌, ◌%◌, ◌<◌, List, [], ◌∷◌, ◌++◌, ◌⊎◌, inl, inr, ⊎_elim, length, Option, None, Some, true, false, cond, eqb, Bool, eq-eqb, ne_eqb, ◌/◌, sym, refl, ap, ◌∙◌, arith, subst}
 use Rattle.table_rule.specs.Lists.{times, stands, slots_of}
 use Rattle.table_rule.specs.CardsOk.{Differs, MayLight}
 use Rattle.table_rule.specs.Plays.{advancing}
-use Rattle.nulls_chain.specs.Changes.{going, Apart, IsAlone, Stands}
+use Rattle.nulls_chain.specs.Changes.{going, Apart, IsAlone, Stands, Adds}
 use Rattle.bucket_locks.specs.Locks.{IsAt}
 use Rattle.table_rule.specs.Calls.{seen_of}
 use Rattle.table_rule.specs.declared.view.View.{View}
 use Rattle.table_rule.specs.declared.view.ChainView.{ChainView}
 use Rattle.table_rule.specs.declared.view.Layout.{Layout}
 use Rattle.table_rule.specs.declared.view.Seen.{Seen}
+use Rattle.table_rule.specs.declared.view.Change.{Change}
+use Rattle.table_rule.specs.Owners.{HasPlace, IsPlace}
+use Rattle.atomic_table.proofs.Lists.{at_longer}
+use Rattle.table_rule.proofs.CardSteps.{at_end}
 use Rattle.sock_card.specs.declared.words.CardWords.{CardWords}
 use Rattle.table_rule.proofs.Lists.{times-here, times-append, slots-append, each-map}
-use mathlib.Core.Option.{some-injective}
+use mathlib.Core.Option.{some, some-injective, some-ne-none}
 use lib.ListN.{get_elem?}
 use Rattle.table_rule.specs.Words.{bucket_count, home_of}
 
@@ -61,3 +65,42 @@ at_even layout bucket r v w card had near even inside is = (
 -- the first of a list is at home
 pub home_first : (layout : Layout) (b : ℕ) (x s : Seen) (xs rest : List Seen) → x ∷ xs ≡ s ∷ rest → home_of layout x.words ≡ b → home_of layout s.words ≡ b
 home_first layout b x s xs rest e h = subst (λ (y : Seen). home_of layout y.words ≡ b) (some-injective x s (ap (λ (l : List Seen). get_elem? l 0) e)) h
+
+module _ (v w : View) (h : Change) (opened : w.book.opened ≡ []) where
+  -- a place stays one, where the list of closed changes is longer by no unhash of its slot
+  still_place : ((n : ℕ) → get_elem? v.book.closed n ≡ some h → get_elem? w.book.closed n ≡ some h)
+      → ((u : Change) (n : ℕ) → get_elem? w.book.closed n ≡ some u → (get_elem? v.book.closed n ≡ some u) ⊎ (u.kind ≡ 0 → u.slot ≢ h.slot))
+      → IsPlace v.book h → IsPlace w.book h
+  still_place stays new p = record {
+    nth = p.nth;
+    there = stays p.nth p.there;
+    is-hash = p.is-hash;
+    stays = p.stays;
+    last = λ u has unhash slot after. ⊎_elim
+        (λ z. ⊎_elim (λ y. p.last u record { nth = has.nth; is = inl y } unhash slot after) (λ far. far unhash slot) (new u has.nth z))
+        (λ z. some-ne-none u (sym (ap (λ (l : List Change). get_elem? l has.nth) (sym opened) ∙ z))) has.is;
+  }
+
+pub places_stay : (v w : View) (kind bucket slot : ℕ) (card : List ℕ) (other : ℕ) → (kind ≡ 0 → other ≢ slot) → Adds v w kind bucket slot card → HasPlace other v.book → HasPlace other w.book
+places_stay v w kind bucket slot card other far a p =
+    let c : Change = record { kind = kind; bucket = bucket; slot = slot; card = card; begins = a.0; ends = a.1 } in (
+      p.0,
+      p.1,
+      still_place v w p.0 a.2.4.2
+          (λ n there. ap (λ (l : List Change). get_elem? l n) a.2.3 ∙ at_longer v.book.closed (c ∷ []) n p.0 there)
+          (λ u n there. ⊎_elim
+          (λ y. inl y.0)
+          (λ y. inr (λ unhash at. far (ap (λ (x : Change). x.kind) y.0 ∙ unhash) (sym p.1 ∙ (sym at ∙ ap (λ (x : Change). x.slot) (sym y.0)))))
+          (at_end v.book.closed c u n (ap (λ (l : List Change). get_elem? l n) (sym a.2.3) ∙ there)))
+          p.2,
+    )
+
+pub places_kept : (v w : View) (other : ℕ) → w.book.closed ≡ v.book.closed → w.book.opened ≡ [] → HasPlace other v.book → HasPlace other w.book
+places_kept v w other closed opened p = (
+  p.0,
+  p.1,
+  still_place v w p.0 opened
+      (λ n there. ap (λ (l : List Change). get_elem? l n) closed ∙ there)
+      (λ u n there. inl (ap (λ (l : List Change). get_elem? l n) (sym closed) ∙ there))
+      p.2,
+)

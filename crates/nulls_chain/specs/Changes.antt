@@ -1,4 +1,4 @@
-use Rattle.std.specs.Prelude.{◌≡◌, ℕ, ◌<◌, ◌≤◌, ◌+◌, ◌*◌, ◌/◌, ◌%◌, ◌⊎◌, List, [], ◌∷◌, ◌++◌, Option, None, Some}
+use Rattle.std.specs.Prelude.{◌≡◌, ◌≢◌, ℕ, ◌<◌, ◌≤◌, ◌+◌, ◌*◌, ◌/◌, ◌%◌, ◌⊎◌, List, [], ◌∷◌, ◌++◌, Option, None, Some}
 use mathlib.Core.Option.{some}
 use lib.ListN.{get_elem?}
 use Rattle.table_rule.specs.CardsOk.{bears, tuple}
@@ -9,6 +9,7 @@ use Rattle.table_rule.specs.declared.view.View.{View}
 use Rattle.table_rule.specs.declared.view.Layout.{Layout}
 use Rattle.table_rule.specs.declared.view.Seen.{Seen}
 use Rattle.table_rule.specs.Calls.{Tells, seen_of}
+use Rattle.table_rule.specs.Owners.{HasPlace}
 
 -- s is no full socket's card with the four-tuple of a card that begins with a and b
 pub record Apart (a b : ℕ) (s : Seen) : Type 0 where
@@ -44,14 +45,22 @@ going v ahead met = record v { walked = v.walked ++ v.ahead; ahead = ahead; met 
 abbrev pub Same : View → View → Type 0
 Same v w = (w.slot.parts ≡ v.slot.parts) × (w.slot.holds ≡ v.slot.holds) × (w.book.opened ≡ []) × (v.seen ≤ w.seen)
 
--- one change more is closed, later than all that the pass had seen
-abbrev pub Adds : View → View → ℕ → ℕ → ℕ → List ℕ → Type 0
-Adds v w kind bucket slot card = (b : ℕ) × (e : ℕ) × (v.seen ≤ b) × (b < e) × (e < w.seen) × (w.book.closed ≡ v.book.closed ++ record { kind = kind; bucket = bucket; slot = slot; card = card; begins = b; ends = e } ∷ []) × Same v w
-
--- the same, with its numbers
+-- one change more is closed, later than all that the pass had seen, with these numbers
 abbrev pub AddsAt : View → View → ℕ → ℕ → ℕ → List ℕ → ℕ → ℕ → Type 0
 AddsAt v w kind bucket slot card b e = (v.seen ≤ b) × (b < e) × (e < w.seen) × (w.book.closed ≡ v.book.closed ++ record { kind = kind; bucket = bucket; slot = slot; card = card; begins = b; ends = e } ∷ []) × Same v w
+
+-- the same, with some numbers
+abbrev pub Adds : View → View → ℕ → ℕ → ℕ → List ℕ → Type 0
+Adds v w kind bucket slot card = (b : ℕ) × (e : ℕ) × AddsAt v w kind bucket slot card b e
 
 -- what a change leaves
 abbrev pub Rest : View → View → Type 0
 Rest v w = (w.slot.parts ≡ v.slot.parts) × (w.slot.holds ≡ v.slot.holds) × (w.book.lost ≡ v.book.lost)
+
+-- each place of the pass but the slot stays one
+abbrev pub OthersStay : ℕ → View → View → Type 0
+OthersStay slot v w = (other : ℕ) → other ≢ slot → HasPlace other v.book → HasPlace other w.book
+
+-- each place of the pass stays one
+abbrev pub PlacesStay : View → View → Type 0
+PlacesStay v w = (other : ℕ) → HasPlace other v.book → HasPlace other w.book

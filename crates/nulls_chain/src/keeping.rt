@@ -3,6 +3,7 @@ ghost use Rattle.chain_book.specs.Homes.{home};
 ghost use Rattle.sock_card.specs.Words.{packed};
 ghost use Rattle.table_rule.specs.declared.view.View.{View};
 ghost use Rattle.table_rule.specs.Lists.{stands};
+ghost use Rattle.table_rule.specs.Owners.{time_waits, HasPlace};
 ghost use Rattle.table_rule.specs.Sole.{IsBare, FirstFree, AllUsed};
 ghost use Rattle.table_rule.specs.Beyond.{IsCardWords};
 ghost use Rattle.table_rule.specs.Calls.{IsIdle, HasShares, MayUnhash, layout_of};
@@ -11,7 +12,7 @@ ghost use Rattle.table_rule.specs.Words.{words_of, home_of};
 ghost use Rattle.table_rule.specs.Plays.{beginning, dropping_beginning, without, card_in};
 ghost use Rattle.bucket_locks.specs.Locks.{IsAt};
 ghost use Rattle.shared_slots.specs.Claims.{IsFull};
-ghost use Rattle.nulls_chain.specs.Changes.{IsAlone, hashed, Stands, Adds, Rest};
+ghost use Rattle.nulls_chain.specs.Changes.{IsAlone, hashed, Stands, Adds, Rest, PlacesStay, OthersStay};
 
 use super::changes::{hash_numbered, unhash_numbered};
 use bucket_locks::Locked;
@@ -39,6 +40,8 @@ fn hash_words(chains: &Chains, pass: &mut Pass, locked: &Locked, from: u32, card
     ensures far { IfOk result (λ slot. stands slot (known pass.old).chain.walked ≡ 0) }
     ensures first { IfOk result (λ slot. IsBare (known pass.old) → FirstFree (known pass.old).book.closed (layout_of chains.now).shape.slots from slot) }
     ensures all { IfErr result (λ f. IsBare (known pass.old) → AllUsed (known pass.old).book.closed 0 (layout_of chains.now).shape.slots × (f.held ≡ 0)) }
+    ensures place { IfOk result (λ slot. time_waits (words_of words.now) ≡ 0 → HasPlace slot (known pass.new).book) }
+    ensures stay { PlacesStay (known pass.old) (known pass.new) }
     ensures change { IfOk result (λ slot. Adds (known pass.old) (known pass.new) 1 locked.now.bucket slot (words_of words.now)) }
     ensures rest { IfOk result (λ slot. Rest (known pass.old) (known pass.new)) }
     ensures full { IfErr result (λ f. (b : ℕ) × (w : View) × IsFull (layout_of chains.now) (beginning (known pass.old) b) w f × ((known pass.old).seen ≤ b) × ((known pass.new) ≡ dropping_beginning w)) }
@@ -86,6 +89,8 @@ pub fn hash(chains: &Chains, pass: &mut Pass, locked: &Locked, from: u32, card: 
     ensures far { IfOk result (λ slot. stands slot (known pass.old).chain.walked ≡ 0) }
     ensures first { IfOk result (λ slot. IsBare (known pass.old) → FirstFree (known pass.old).book.closed (layout_of chains.now).shape.slots from slot) }
     ensures all { IfErr result (λ f. IsBare (known pass.old) → AllUsed (known pass.old).book.closed 0 (layout_of chains.now).shape.slots × (f.held ≡ 0)) }
+    ensures place { IfOk result (λ slot. time_waits (words_of (packed card.now)) ≡ 0 → HasPlace slot (known pass.new).book) }
+    ensures stay { PlacesStay (known pass.old) (known pass.new) }
     ensures change { IfOk result (λ slot. Adds (known pass.old) (known pass.new) 1 locked.now.bucket slot (words_of (packed card.now))) }
     ensures rest { IfOk result (λ slot. Rest (known pass.old) (known pass.new)) }
     ensures full { IfErr result (λ f. (b : ℕ) × (w : View) × IsFull (layout_of chains.now) (beginning (known pass.old) b) w f × ((known pass.old).seen ≤ b) × ((known pass.new) ≡ dropping_beginning w)) }
@@ -116,6 +121,7 @@ pub fn unhash(chains: &Chains, pass: &mut Pass, locked: &Locked, before: Option<
     ensures table { IsPassOf chains.now pass.new }
     ensures idle { IsIdle (known pass.new).slot × ((known pass.new).book.opened ≡ []) }
     ensures change { Adds (known pass.old) (known pass.new) 0 locked.now.bucket slot (words_of (packed card.now)) }
+    ensures stay { OthersStay slot (known pass.old) (known pass.new) }
     ensures rest { Rest (known pass.old) (known pass.new) }
     ensures at { IsAt (layout_of chains.now) locked.now (known pass.new) }
     ensures gone { (known pass.new).chain ≡ record (known pass.old).chain { walked = without slot (known pass.old).chain.walked } }

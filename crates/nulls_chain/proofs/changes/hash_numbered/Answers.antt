@@ -36,3 +36,8 @@ returns-in-Ok-clause-first c = λ b.
 
 pub write_card-requires-clause-begun : goal.write_card-requires-clause-begun
 write_card-requires-clause-begun c = (record { kind = 1; bucket = first_of (view c.args.steps.now).chain.locked; slot = c.in-Ok.slot; card = []; begins = c.step_begin_hash-begin.result; ends = open-end }, search rules, refl, refl)
+
+pub returns-in-Ok-clause-place : goal.returns-in-Ok-clause-place
+returns-in-Ok-clause-place c = λ stays.
+    let h : Change = record { kind = 1; bucket = first_of (view c.args.steps.now).chain.locked; slot = c.in-Ok.slot; card = words_of c.args.card.now; begins = c.step_begin_hash-begin.result; ends = open-end } in
+    (record h { ends = c.step_end-end.result }, refl, c.step_end-end.ensures.place h (search rules) refl stays)
