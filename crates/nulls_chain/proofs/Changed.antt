@@ -1,5 +1,5 @@
 -- What the calls that change chains show.
-use Rattle.std.proofs.Common.{◌≡◌, ◌≢◌, ℕ, ◌+◌, ◌*◌, ◌%◌, ◌<◌, List, [], ◌∷◌, ◌++◌, ◌⊎◌, inl, inr, ⊎_elim, length, Option, None, Some, true, false, cond, eqb, Bool, eq-eqb, ne_eqb, ◌/◌, sym, refl, ap, ◌∙◌, arith, subst}
+use Rattle.std.proofs.Common.{◌≡◌, ◌≢◌, ℕ, ◌%◌, ◌<◌, List, [], ◌∷◌, ◌++◌, ◌⊎◌, inl, inr, ⊎_elim, Option, None, Some, true, false, cond, Bool, eq-eqb, ne_eqb, ◌/◌, sym, refl, ap, ◌∙◌, arith, subst}
 use Rattle.table_rule.specs.Lists.{times, stands, slots_of}
 use Rattle.table_rule.specs.CardsOk.{Differs, MayLight}
 use Rattle.table_rule.specs.Plays.{advancing}

@@ -56,7 +56,13 @@ fn link(chains: &Chains, steps: &mut Steps, bucket: u32, slot: u32, card: &CardW
 }
 
 // Hashes a card: its slot is first in the list.
-pub(crate) fn hash_numbered(chains: &Chains, steps: &mut Steps, locked: &Locked, from: u32, card: &CardWords) -> Result<Hashed, Full>
+pub(crate) fn hash_numbered(
+    chains: &Chains,
+    steps: &mut Steps,
+    locked: &Locked,
+    from: u32,
+    card: &CardWords,
+) -> Result<Hashed, Full>
     requires table { IsOf chains.now steps.old }
     requires at { IsAt (layout_of chains.now) locked.now (view steps.old) × (locked.now.started ≡ true) }
     requires idle { IsIdle (view steps.old).slot × ((view steps.old).book.opened ≡ []) }
@@ -95,7 +101,13 @@ pub(crate) fn hash_numbered(chains: &Chains, steps: &mut Steps, locked: &Locked,
 }
 
 // Unhashes the slot that stands in the list behind another, or first.
-pub(crate) fn unhash_numbered(chains: &Chains, steps: &mut Steps, locked: &Locked, before: Option<u32>, slot: u32) -> Unhashed
+pub(crate) fn unhash_numbered(
+    chains: &Chains,
+    steps: &mut Steps,
+    locked: &Locked,
+    before: Option<u32>,
+    slot: u32,
+) -> Unhashed
     requires table { IsOf chains.now steps.old }
     requires at { IsAt (layout_of chains.now) locked.now (view steps.old) × (locked.now.started ≡ true) }
     requires slot { slot < (layout_of chains.now).shape.slots }

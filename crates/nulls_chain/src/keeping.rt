@@ -21,7 +21,14 @@ use shared_slots::Full;
 use sock_card::{Card, CardWords, pack};
 use table_rule::{Chains, Pass};
 
-fn hash_words(chains: &Chains, pass: &mut Pass, locked: &Locked, from: u32, card: &Card, words: &CardWords) -> Result<u32, Full>
+fn hash_words(
+    chains: &Chains,
+    pass: &mut Pass,
+    locked: &Locked,
+    from: u32,
+    card: &Card,
+    words: &CardWords,
+) -> Result<u32, Full>
     requires table { IsPassOf chains.now pass.old }
     requires at { IsAt (layout_of chains.now) locked.now (known pass.old) × (locked.now.started ≡ true) }
     requires idle { IsIdle (known pass.old).slot × ((known pass.old).book.opened ≡ []) }
@@ -72,7 +79,13 @@ fn hash_words(chains: &Chains, pass: &mut Pass, locked: &Locked, from: u32, card
 /// is free, and of the change only its first number is gone.
 ///
 /// As `inet_ehash_insert` of net/ipv4/inet_hashtables.c does by `hlist_nulls_add_head_rcu`.
-pub fn hash(chains: &Chains, pass: &mut Pass, locked: &Locked, from: u32, card: &Card) -> Result<u32, Full>
+pub fn hash(
+    chains: &Chains,
+    pass: &mut Pass,
+    locked: &Locked,
+    from: u32,
+    card: &Card,
+) -> Result<u32, Full>
     requires table { IsPassOf chains.now pass.old }
     requires at { IsAt (layout_of chains.now) locked.now (known pass.old) × (locked.now.started ≡ true) }
     requires idle { IsIdle (known pass.old).slot × ((known pass.old).book.opened ≡ []) }
@@ -108,7 +121,14 @@ pub fn hash(chains: &Chains, pass: &mut Pass, locked: &Locked, from: u32, card: 
 /// kept in room that was made before. A card that is no TIME_WAIT's is unhashed by the pass that hashed it alone.
 ///
 /// As `inet_unhash` of net/ipv4/inet_hashtables.c does by `hlist_nulls_del_init_rcu`.
-pub fn unhash(chains: &Chains, pass: &mut Pass, locked: &Locked, before: Option<u32>, slot: u32, card: &Card)
+pub fn unhash(
+    chains: &Chains,
+    pass: &mut Pass,
+    locked: &Locked,
+    before: Option<u32>,
+    slot: u32,
+    card: &Card,
+)
     requires table { IsPassOf chains.now pass.old }
     requires at { IsAt (layout_of chains.now) locked.now (known pass.old) × (locked.now.started ≡ true) }
     requires slot { slot < (layout_of chains.now).shape.slots }

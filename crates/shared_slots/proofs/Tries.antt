@@ -1,5 +1,5 @@
 -- Slots that aren't free, read one after the other.
-use Rattle.std.proofs.Common.{◌≡◌, ◌≢◌, ℕ, zero, suc, ◌+◌, ◌<◌, ◌≤◌, List, [], ◌∷◌, ◌++◌, map, sym, refl, ap, ◌∙◌, arith, subst, append_assoc, cond, Bool, true, false}
+use Rattle.std.proofs.Common.{◌≡◌, ℕ, zero, suc, ◌+◌, ◌<◌, ◌≤◌, List, [], ◌∷◌, ◌++◌, map, sym, refl, ap, ◌∙◌, arith, subst, append_assoc, cond, Bool, true, false}
 use mathlib.Core.Logic.{dite}
 use native.Mathlib.Decide.{ℕ_discrete}
 use mathlib.Core.Option.{some, some-injective, some-ne-none}
@@ -12,7 +12,7 @@ use Rattle.table_rule.specs.declared.view.Change.{Change}
 use Rattle.table_rule.specs.declared.view.View.{View}
 use Rattle.table_rule.specs.declared.view.Sight.{Sight}
 use Rattle.table_rule.proofs.Lists.{times-append, times-here, times-else, each-append, each-map}
-use Rattle.shared_slots.specs.Claims.{Tried, Read, slot_in, sight_by, owned_in, held_in}
+use Rattle.shared_slots.specs.Claims.{Tried, Read, slot_in, sight_by}
 
 map-append : {A C : Type 0} (f : A → C) (l m : List A) → map f (l ++ m) ≡ map f l ++ map f m
 map-append f [] m = refl

@@ -1,7 +1,6 @@
-use Rattle.std.proofs.Common.{rules, ◌≡◌, ℕ, ◌+◌, ◌<◌, ◌∷◌, ◌++◌, [], List, Option, None, Some, sym, ap, ◌∙◌, refl, arith, subst}
+use Rattle.std.proofs.Common.{rules, [], List, sym, ap, refl, arith, subst}
 use Rattle.table_rule.specs.Plays.{Sat, first_of}
 use Rattle.table_rule.specs.Book.{open-end}
-
 use Rattle.table_rule.specs.declared.view.Change.{Change}
 use Rattle.table_rule.specs.Sole.{IsBare, FirstFree, AllUsed}
 use Rattle.shared_slots.proofs.Tries.{bare_began}

@@ -1,4 +1,4 @@
-use Rattle.std.proofs.Common.{rules, ◌≡◌, ℕ, ◌+◌, ◌∷◌, ◌++◌, [], List, Option, None, Some, sym, ap, ◌∙◌, refl, arith, length, subst}
+use Rattle.std.proofs.Common.{◌≡◌, ℕ, ◌+◌, ◌∷◌, ◌++◌, [], List, Option, sym, ap, ◌∙◌, length, subst}
 use Rattle.table_rule.specs.Plays.{Sat}
 use Rattle.table_rule.specs.Lists.{stands}
 use Rattle.table_rule.specs.Calls.{link_after, view, layout_of}

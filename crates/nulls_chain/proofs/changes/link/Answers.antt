@@ -1,4 +1,4 @@
-use Rattle.std.proofs.Common.{rules, ◌≡◌, ℕ, ◌+◌, ◌∷◌, ◌++◌, [], List, Option, None, Some, sym, ap, ◌∙◌, refl, arith, length, subst}
+use Rattle.std.proofs.Common.{◌++◌, List, sym, ap, ◌∙◌, refl, subst}
 use Rattle.table_rule.specs.Plays.{Sat}
 use Rattle.table_rule.specs.CardsOk.{MayLight}
 use Rattle.table_rule.specs.Calls.{seen_of, view, layout_of}
@@ -15,8 +15,8 @@ step_head-requires-clause-tied c = (seen_of c.args.slot c.args.card.now, refl, a
 pub step_live-requires-clause-held : goal.step_live-requires-clause-held
 step_live-requires-clause-held c =
     let walked = ap (λ (s : Sat). s.0.chain.walked) c.step_head.ensures.view
-        ∙ (ap (λ (s : Sat). s.0.slot.tied ++ s.0.chain.walked) c.step_link.ensures.view
-        ∙ (ap (λ (s : Sat). s.0.slot.fresh ++ s.0.chain.walked) c.step_again_head-head.ensures.same ∙ ap (λ (l : List Seen). l ++ (view c.args.steps.now).chain.walked) c.requires.fresh)) in (
+    ∙ (ap (λ (s : Sat). s.0.slot.tied ++ s.0.chain.walked) c.step_link.ensures.view
+    ∙ (ap (λ (s : Sat). s.0.slot.fresh ++ s.0.chain.walked) c.step_again_head-head.ensures.same ∙ ap (λ (l : List Seen). l ++ (view c.args.steps.now).chain.walked) c.requires.fresh)) in (
       c.args.bucket,
       ap (λ (s : Sat). s.0.chain.locked) c.step_head.ensures.view ∙ (ap (λ (s : Sat). s.0.chain.locked) c.step_link.ensures.view ∙ (ap (λ (s : Sat). s.0.chain.locked) c.step_again_head-head.ensures.same ∙ c.requires.held)),
       λ s rest e. home_first (layout_of c.args.chains.now) c.args.bucket (seen_of c.args.slot c.args.card.now) s (view c.args.steps.now).chain.walked rest (sym walked ∙ e) c.requires.home,

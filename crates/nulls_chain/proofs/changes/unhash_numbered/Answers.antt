@@ -1,4 +1,4 @@
-use Rattle.std.proofs.Common.{rules, ◌≡◌, ℕ, ◌+◌, ◌<◌, ◌∷◌, ◌++◌, [], List, Option, None, Some, sym, ap, ◌∙◌, refl, arith, subst}
+use Rattle.std.proofs.Common.{rules, ap, ◌∙◌, refl, arith}
 use Rattle.table_rule.specs.Plays.{Sat, card_in, first_of}
 use Rattle.table_rule.specs.Book.{open-end}
 use Rattle.nulls_chain.proofs.Changed.{stands_in}

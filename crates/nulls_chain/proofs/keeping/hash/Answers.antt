@@ -1,12 +1,11 @@
-use Rattle.std.proofs.Common.{◌≡◌, ◌<◌, ℕ, refl, sym, ap, ◌∙◌, subst}
-use Rattle.sock_card.specs.Words.{packed, unpacked}
+use Rattle.std.proofs.Common.{refl, sym, ap, ◌∙◌, subst}
+use Rattle.sock_card.specs.Words.{packed}
 use Rattle.sock_card.specs.declared.words.CardWords.{CardWords}
 use Rattle.sock_card.specs.declared.card.Card.{Card}
 use Rattle.chain_book.specs.Homes.{home}
-use Rattle.table_rule.specs.Words.{words_of}
 use Rattle.table_rule.specs.Calls.{layout_of}
 use Rattle.table_rule.specs.Passes.{known}
-use Rattle.nulls_chain.specs.Changes.{IsAlone, hashed, Adds}
+use Rattle.nulls_chain.specs.Changes.{IsAlone}
 use Rattle.nulls_chain.proofs.keeping.hash.Goals as goal
 
 pub hash_words-requires-clause-words : goal.hash_words-requires-clause-words

@@ -1,4 +1,4 @@
-use Rattle.std.proofs.Common.{ap, sym, ◌∙◌, arith}
+use Rattle.std.proofs.Common.{arith}
 use Rattle.table_rule.specs.Calls.{view}
 use Rattle.table_rule.specs.Words.{words_of}
 use Rattle.nulls_chain.proofs.Changed.{places_stay, places_kept}

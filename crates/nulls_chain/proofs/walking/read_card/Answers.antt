@@ -1,4 +1,4 @@
-use Rattle.std.proofs.Common.{rules, ◌≡◌, ℕ, ◌∷◌, [], List, ap, ◌∙◌, refl}
+use Rattle.std.proofs.Common.{◌≡◌, ℕ, ◌∷◌, [], List, ap, ◌∙◌, refl}
 use Rattle.table_rule.specs.Plays.{Sat, knowing}
 use Rattle.table_rule.specs.declared.view.Seen.{Seen}
 use Rattle.nulls_chain.proofs.walking.read_card.Goals as goal

@@ -1,4 +1,4 @@
-use Rattle.std.proofs.Common.{rules, ◌≡◌, ℕ, ◌%◌, ◌/◌, ◌∷◌, [], List, subst, sym, ap, ◌∙◌, refl, arith}
+use Rattle.std.proofs.Common.{◌≡◌, ◌%◌, ◌/◌, ◌∷◌, [], subst, sym, ap, ◌∙◌, arith}
 use Rattle.table_rule.specs.Plays.{Sat}
 use Rattle.table_rule.specs.Calls.{IsIdle, seen_of, view, layout_of}
 use Rattle.table_rule.specs.declared.view.ChainView.{ChainView}

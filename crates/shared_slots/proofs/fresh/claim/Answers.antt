@@ -1,6 +1,6 @@
-use Rattle.std.proofs.Common.{rules, ◌≡◌, ◌<◌, ◌≤◌, ◌+◌, ℕ, List, ap, ◌∙◌, arith}
+use Rattle.std.proofs.Common.{◌≡◌, ◌≤◌, ◌+◌, ℕ, ap, ◌∙◌, arith}
 use Rattle.shared_slots.specs.Claims.{Between}
-use Rattle.table_rule.specs.Calls.{view, me, layout_of}
+use Rattle.table_rule.specs.Calls.{view, layout_of}
 use Rattle.table_rule.specs.Plays.{claiming}
 use Rattle.shared_slots.proofs.Tries.{tried_both, tried_wide}
 use Rattle.shared_slots.proofs.fresh.claim.Goals as goal

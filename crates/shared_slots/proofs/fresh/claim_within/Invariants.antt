@@ -1,4 +1,4 @@
-use Rattle.std.proofs.Common.{◌≡◌, ◌+◌, ◌<◌, ◌≤◌}
+use Rattle.std.proofs.Common.{◌≡◌, ◌+◌}
 use Rattle.table_rule.specs.Calls.{IsOf, view, me}
 use Rattle.table_rule.specs.Sole.{IsBare, AllUsed}
 use Rattle.shared_slots.specs.Claims.{Tried, Between}

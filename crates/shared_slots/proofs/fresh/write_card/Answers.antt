@@ -1,4 +1,4 @@
-use Rattle.std.proofs.Common.{rules, ◌≡◌, ℕ, ◌+◌, ◌∷◌, ◌++◌, [], List, Option, None, Some, sym, ap, ◌∙◌, refl, arith, length, subst}
+use Rattle.std.proofs.Common.{◌∷◌, [], List, ap, ◌∙◌, refl}
 use Rattle.table_rule.specs.Plays.{Sat, knowing}
 use Rattle.table_rule.specs.declared.view.Seen.{Seen}
 use Rattle.shared_slots.proofs.fresh.write_card.Goals as goal

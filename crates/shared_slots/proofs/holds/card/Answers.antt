@@ -1,4 +1,4 @@
-use Rattle.std.proofs.Common.{rules, ◌≡◌, ◌+◌, ◌*◌, ◌<◌, ◌≤◌, ℕ, List, [], ◌∷◌, ◌++◌, length, refl, sym, ap, ◌∙◌, arith, subst}
+use Rattle.std.proofs.Common.{[], ◌∷◌, refl, ap}
 use Rattle.table_rule.proofs.Kepts.{knows_none, knows_more, is_kept}
 use Rattle.shared_slots.proofs.holds.card.Goals as goal
 use Rattle.table_rule.specs.LookCalls.{with_words}
