@@ -1,10 +1,12 @@
 -- What the calls that change chains show.
-use Rattle.std.proofs.Common.{◌≡◌, ◌≢◌, ℕ, ◌%◌, ◌<◌, List, [], ◌∷◌, ◌++◌, ◌⊎◌, inl, inr, ⊎_elim, Option, None, Some, true, false, cond, Bool, eq-eqb, ne_eqb, ◌/◌, sym, refl, ap, ◌∙◌, arith, subst}
-use Rattle.table_rule.specs.Lists.{times, stands, slots_of}
+use Rattle.std.proofs.Common.{map, ◌≡◌, ◌≢◌, ℕ, ◌%◌, ◌<◌, List, [], ◌∷◌, ◌++◌, ◌⊎◌, inl, inr, ⊎_elim, Option, None, Some, true, false, cond, Bool, eq-eqb, ne_eqb, ◌/◌, sym, refl, ap, ◌∙◌, arith, subst}
+use Rattle.table_rule.specs.Lists.{times, total, stands, slots_of}
 use Rattle.table_rule.specs.CardsOk.{Differs, MayLight}
-use Rattle.table_rule.specs.Plays.{advancing}
-use Rattle.nulls_chain.specs.Changes.{going, Apart, IsAlone, Stands, Adds}
+use Rattle.table_rule.specs.Plays.{advancing, beginning, dropping_beginning}
+use Rattle.nulls_chain.specs.Changes.{going, Apart, IsAlone, Stands, Adds, Rest, TwoDrawn}
 use Rattle.bucket_locks.specs.Locks.{IsAt}
+use Rattle.shared_slots.specs.Claims.{IsFull, sight_by}
+use Rattle.shared_slots.specs.declared.fresh.Full.{Full}
 use Rattle.table_rule.specs.Calls.{seen_of}
 use Rattle.table_rule.specs.declared.view.View.{View}
 use Rattle.table_rule.specs.declared.view.ChainView.{ChainView}
@@ -15,7 +17,7 @@ use Rattle.table_rule.specs.Owners.{HasPlace, IsPlace}
 use Rattle.atomic_table.proofs.Lists.{at_longer}
 use Rattle.table_rule.proofs.CardSteps.{at_end}
 use Rattle.sock_card.specs.declared.words.CardWords.{CardWords}
-use Rattle.table_rule.proofs.Lists.{times-here, times-append, slots-append, each-map}
+use Rattle.table_rule.proofs.Lists.{total-append, times-here, times-append, slots-append, each-map}
 use mathlib.Core.Option.{some, some-injective, some-ne-none}
 use lib.ListN.{get_elem?}
 use Rattle.table_rule.specs.Words.{bucket_count, home_of}
@@ -104,3 +106,33 @@ places_kept v w other closed opened p = (
       (λ u n there. inl (ap (λ (l : List Change). get_elem? l n) (sym closed) ∙ there))
       p.2,
 )
+
+pub two_drawn : (v w : View) (kind bucket slot : ℕ) (card : List ℕ) → v.book.opened ≡ [] → Adds v w kind bucket slot card → Rest v w → TwoDrawn v w
+two_drawn v w kind bucket slot card idle a rest more share =
+    let c : Change = record { kind = kind; bucket = bucket; slot = slot; card = card; begins = a.0; ends = a.1 } in
+    let one : Change → ℕ = λ _. 1 in
+    let two : Change → ℕ = λ _. 2 in omega (
+      arith,
+      share,
+      ap (total two) a.2.3,
+      total-append two v.book.closed (c ∷ []),
+      ap (total one) a.2.4.2,
+      ap (total one) idle,
+      ap (total (λ (_ : ℕ). 1)) rest.2,
+      rest.0,
+    )
+
+pub one_lost : (layout : Layout) (v u w : View) (b : ℕ) (f : Full) → v.book.opened ≡ [] → IsFull layout (beginning v b) u f → w ≡ dropping_beginning u → TwoDrawn v w
+one_lost layout v u w b f idle full is more share =
+    let tried = full.1 in
+    let view : w ≡ dropping_beginning (record (beginning v b) { sights = (beginning v b).sights ++ map (sight_by (beginning v b)) tried.reads }) = is ∙ ap dropping_beginning tried.is in
+    let one : Change → ℕ = λ _. 1 in
+    let two : Change → ℕ = λ _. 2 in omega (
+      arith,
+      share,
+      ap (λ (x : View). total two x.book.closed) view,
+      ap (λ (x : View). total one x.book.opened) view,
+      ap (total one) idle,
+      ap (λ (x : View). total (λ (_ : ℕ). 1) x.book.lost) view,
+      ap (λ (x : View). x.slot.parts) view,
+    )

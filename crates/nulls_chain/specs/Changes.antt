@@ -1,4 +1,4 @@
-use Rattle.std.specs.Prelude.{◌≡◌, ◌≢◌, ℕ, ◌<◌, ◌≤◌, ◌%◌, List, [], ◌∷◌, ◌++◌, Option, None, Some}
+use Rattle.std.specs.Prelude.{◌+◌, ◌≡◌, ◌≢◌, ℕ, ◌<◌, ◌≤◌, ◌%◌, List, [], ◌∷◌, ◌++◌, Option, None, Some}
 use mathlib.Core.Option.{some}
 use lib.ListN.{get_elem?}
 use Rattle.table_rule.specs.CardsOk.{bears, tuple}
@@ -8,7 +8,7 @@ use Rattle.table_rule.specs.Lists.{Each}
 use Rattle.table_rule.specs.declared.view.View.{View}
 use Rattle.table_rule.specs.declared.view.Layout.{Layout}
 use Rattle.table_rule.specs.declared.view.Seen.{Seen}
-use Rattle.table_rule.specs.Calls.{Tells, seen_of}
+use Rattle.table_rule.specs.Calls.{Tells, HasShares, seen_of}
 use Rattle.table_rule.specs.Owners.{HasPlace}
 
 -- s is no full socket's card with the four-tuple of a card that begins with a and b
@@ -64,3 +64,7 @@ OthersStay slot v w = (other : ℕ) → other ≢ slot → HasPlace other v.book
 -- each place of the pass stays one
 abbrev pub PlacesStay : View → View → Type 0
 PlacesStay v w = (other : ℕ) → HasPlace other v.book → HasPlace other w.book
+
+-- a change draws two numbers of the clock at most: what else the pass could draw it still can
+abbrev pub TwoDrawn : View → View → Type 0
+TwoDrawn v w = (more : ℕ) → HasShares (more + 2) v → HasShares more w

@@ -12,7 +12,7 @@ ghost use Rattle.table_rule.specs.Words.{words_of, home_of};
 ghost use Rattle.table_rule.specs.Plays.{beginning, dropping_beginning, without, card_in};
 ghost use Rattle.bucket_locks.specs.Locks.{IsAt};
 ghost use Rattle.shared_slots.specs.Claims.{IsFull};
-ghost use Rattle.nulls_chain.specs.Changes.{IsAlone, hashed, Stands, Adds, Rest, PlacesStay, OthersStay};
+ghost use Rattle.nulls_chain.specs.Changes.{IsAlone, hashed, Stands, Adds, Rest, PlacesStay, OthersStay, TwoDrawn};
 
 use super::changes::{hash_numbered, unhash_numbered};
 use bucket_locks::Locked;
@@ -49,6 +49,7 @@ fn hash_words(
     ensures all { IfErr result (λ f. IsBare (known pass.old) → AllUsed (known pass.old).book.closed 0 (layout_of chains.now).shape.slots × (f.held ≡ 0)) }
     ensures place { IfOk result (λ slot. time_waits (words_of words.now) ≡ 0 → HasPlace slot (known pass.new).book) }
     ensures stay { PlacesStay (known pass.old) (known pass.new) }
+    ensures share { TwoDrawn (known pass.old) (known pass.new) }
     ensures change { IfOk result (λ slot. Adds (known pass.old) (known pass.new) 1 locked.now.bucket slot (words_of words.now)) }
     ensures rest { IfOk result (λ slot. Rest (known pass.old) (known pass.new)) }
     ensures full { IfErr result (λ f. (b : ℕ) × (w : View) × IsFull (layout_of chains.now) (beginning (known pass.old) b) w f × ((known pass.old).seen ≤ b) × ((known pass.new) ≡ dropping_beginning w)) }
@@ -104,6 +105,7 @@ pub fn hash(
     ensures all { IfErr result (λ f. IsBare (known pass.old) → AllUsed (known pass.old).book.closed 0 (layout_of chains.now).shape.slots × (f.held ≡ 0)) }
     ensures place { IfOk result (λ slot. time_waits (words_of (packed card.now)) ≡ 0 → HasPlace slot (known pass.new).book) }
     ensures stay { PlacesStay (known pass.old) (known pass.new) }
+    ensures share { TwoDrawn (known pass.old) (known pass.new) }
     ensures change { IfOk result (λ slot. Adds (known pass.old) (known pass.new) 1 locked.now.bucket slot (words_of (packed card.now))) }
     ensures rest { IfOk result (λ slot. Rest (known pass.old) (known pass.new)) }
     ensures full { IfErr result (λ f. (b : ℕ) × (w : View) × IsFull (layout_of chains.now) (beginning (known pass.old) b) w f × ((known pass.old).seen ≤ b) × ((known pass.new) ≡ dropping_beginning w)) }
@@ -142,6 +144,7 @@ pub fn unhash(
     ensures idle { IsIdle (known pass.new).slot × ((known pass.new).book.opened ≡ []) }
     ensures change { Adds (known pass.old) (known pass.new) 0 locked.now.bucket slot (words_of (packed card.now)) }
     ensures stay { OthersStay slot (known pass.old) (known pass.new) }
+    ensures share { TwoDrawn (known pass.old) (known pass.new) }
     ensures rest { Rest (known pass.old) (known pass.new) }
     ensures at { IsAt (layout_of chains.now) locked.now (known pass.new) }
     ensures gone { (known pass.new).chain ≡ record (known pass.old).chain { walked = without slot (known pass.old).chain.walked } }

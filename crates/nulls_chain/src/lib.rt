@@ -13,6 +13,8 @@
 
 mod changes;
 mod keeping;
+#[cfg(test)]
+mod tests;
 mod walking;
 
 pub use keeping::{hash, unhash};

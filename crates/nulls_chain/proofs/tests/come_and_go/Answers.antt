@@ -1,0 +1,4 @@
+use Rattle.nulls_chain.proofs.tests.come_and_go.Goals as goal
+
+pub unhash-requires-clause-share : goal.unhash-requires-clause-share
+unhash-requires-clause-share c = c.hash.ensures.share 2 c.requires.share
