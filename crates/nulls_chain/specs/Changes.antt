@@ -53,9 +53,9 @@ AddsAt v w kind bucket slot card b e = (v.seen ≤ b) × (b < e) × (e < w.seen)
 abbrev pub Adds : View → View → ℕ → ℕ → ℕ → List ℕ → Type 0
 Adds v w kind bucket slot card = (b : ℕ) × (e : ℕ) × AddsAt v w kind bucket slot card b e
 
--- what a change leaves
+-- what a change leaves: its parts and counts, its lookups, the numbers that it lost
 abbrev pub Rest : View → View → Type 0
-Rest v w = (w.slot.parts ≡ v.slot.parts) × (w.slot.holds ≡ v.slot.holds) × (w.book.lost ≡ v.book.lost)
+Rest v w = (w.slot.parts ≡ v.slot.parts) × (w.slot.holds ≡ v.slot.holds) × (w.book.lost ≡ v.book.lost) × (w.slot.taken ≡ v.slot.taken) × (w.read ≡ v.read) × (w.since ≡ v.since)
 
 -- each place of the pass but the slot stays one
 abbrev pub OthersStay : ℕ → View → View → Type 0

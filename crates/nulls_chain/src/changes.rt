@@ -45,8 +45,9 @@ fn link(chains: &Chains, steps: &mut Steps, bucket: u32, slot: u32, card: &CardW
     requires home { home_of (layout_of chains.now) (words_of card.now) ≡ bucket }
     ensures table { IsOf chains.now steps.new }
     ensures chain { (view steps.new).chain ≡ hashed (view steps.old).chain slot card.now }
-    ensures idle { IsIdle (view steps.new).slot × ((view steps.new).slot.parts ≡ (view steps.old).slot.parts) }
-    ensures rest { ((view steps.new).slot.holds ≡ (view steps.old).slot.holds) × ((view steps.new).seen ≡ (view steps.old).seen) }
+    ensures idle { IsIdle (view steps.new).slot }
+    ensures rest { Rest (view steps.old) (view steps.new) }
+    ensures seen { (view steps.new).seen ≡ (view steps.old).seen }
     ensures book { ((view steps.new).book ≡ record (view steps.old).book { opened = carding (view steps.old).book.opened (words_of card.now) }) × ((view steps.new).done ≡ 1) }
 {
     let head = chains.step_again_head(steps, bucket);
@@ -138,8 +139,9 @@ fn leave(chains: &Chains, steps: &mut Steps, bucket: u32, before: Option<u32>, s
     requires begun { IsUnhashOf slot (view steps.old) × ((view steps.old).done ≡ 0) }
     requires listed { Stands (layout_of chains.now) before slot (view steps.old) }
     ensures table { IsOf chains.now steps.new }
-    ensures idle { IsIdle (view steps.new).slot × ((view steps.new).slot.parts ≡ (view steps.old).slot.parts) }
-    ensures rest { ((view steps.new).slot.holds ≡ (view steps.old).slot.holds) × ((view steps.new).seen ≡ (view steps.old).seen) }
+    ensures idle { IsIdle (view steps.new).slot }
+    ensures rest { Rest (view steps.old) (view steps.new) }
+    ensures seen { (view steps.new).seen ≡ (view steps.old).seen }
     ensures gone { (view steps.new).chain ≡ record (view steps.old).chain { walked = without slot (view steps.old).chain.walked } }
     ensures book { ((view steps.new).book ≡ (view steps.old).book) × ((view steps.new).done ≡ 1) }
 {
