@@ -1,5 +1,6 @@
 -- An input has one fault at most, and a script with a capture has none.
-use Rattle.std.proofs.Common.{◌≡◌, ◌≢◌, ℕ, List, [], refl, ap, sym, subst}
+use Rattle.std.proofs.Common.{◌≡◌, ◌≢◌, ℕ, List, [], Option, Some, refl, ap, sym, subst}
+use Rattle.std.specs.Prelude.{Result, Ok, Err, IfOk}
 use Rattle.capture_reader.specs.Header.{HasHeader}
 use Rattle.flat_list.specs.Script.{Script}
 use Rattle.sock_script.specs.declared.parse.Mode.TheVariants as modes
@@ -11,7 +12,8 @@ use Rattle.sock_script.proofs.Scripts.{one_script}
 use Rattle.capture_reader.proofs.Captures.{no_other}
 use Rattle.inet_tool.specs.declared.fault.Fault.{Fault}
 use Rattle.inet_tool.specs.declared.fault.Fault.TheVariants as faults
-use Rattle.inet_tool.specs.Table.{HasFault, IsGood}
+use Rattle.inet_tool.specs.Table.{HasFault, IsGood, IsReply, fault_text}
+use Rattle.inet_tool.specs.declared.reply.Reply.{Reply}
 
 -- a script's lines are in the grammar
 pub is_inside : (bytes : List ℕ) (script : Script) → IsScript modes.Run bytes script → IsInside modes.Run (lines_of bytes)
@@ -41,3 +43,13 @@ module _ (bytes : List ℕ) where
   pub no_fault : (f : Fault) → IsGood bytes → HasFault bytes f → ⊥
   no_fault (faults.Line n) good h = no_script n good.0 h good.2.script_is
   no_fault faults.Capture good h = not_both good h
+
+-- a reply that tells what is wrong
+pub bad_reply : {E : Type 0} (bytes : List ℕ) (fault : Fault) (result : Result Reply E) → HasFault bytes fault → IfOk result (λ reply. reply.text.items ≡ fault_text fault) → IfOk result (λ reply. reply.fault ≡ Some fault)
+    → IfOk result (λ reply. IsReply bytes reply.fault reply.text.items)
+bad_reply bytes fault (Ok reply) bad text is = subst (λ (o : Option Fault). IsReply bytes o reply.text.items) (sym is) (bad, text)
+bad_reply bytes fault (Err end) bad text is = tt
+
+-- what a reply tells that says what is wrong: the input has that fault, and the text tells it
+pub told_by : (bytes held : List ℕ) (told : Option Fault) (text : List ℕ) (fault : Fault) → held ≡ bytes → told ≡ Some fault → IsReply held told text → HasFault bytes fault × (text ≡ fault_text fault)
+told_by bytes held told text fault same is reply = subst (λ (b : List ℕ). HasFault b fault × (text ≡ fault_text fault)) same (subst (λ (o : Option Fault). IsReply held o text) is reply)

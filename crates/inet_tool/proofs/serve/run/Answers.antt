@@ -1,10 +1,12 @@
-use Rattle.std.proofs.Common.{rules, ◌≡◌, ◌≤◌, ℕ, List, length, subst, inl, ap}
+use Rattle.std.proofs.Common.{rules, ◌≡◌, ◌≤◌, Some, ℕ, List, length, subst, inl, ap}
 use Rattle.sock_script.specs.Output.{FlatOut}
 use Rattle.inet_tool.specs.declared.fault.Fault.TheVariants as faults
-use Rattle.inet_tool.specs.Table.{limit, HasFault, IsGood, WritesFault}
+use Rattle.inet_tool.specs.Table.{limit, HasFault, IsGood, ReadsInput, WritesFault, fault_text}
+use Rattle.std.specs.Io.KnownBytes.{Appends}
 use Rattle.inet_tool.specs.Verdict.{fault_status}
-use Rattle.inet_tool.proofs.Faults.{one_fault, no_fault}
+use Rattle.inet_tool.proofs.Faults.{one_fault, no_fault, told_by}
 use Rattle.inet_tool.proofs.Told.{told}
+use Rattle.inet_tool.proofs.serve.run.Given.{Over}
 use Rattle.inet_tool.proofs.serve.run.Goals as goal
 
 pub returns-in-Ok-Some-Line-clause-bad_script : goal.returns-in-Ok-Some-Line-clause-bad_script
@@ -29,24 +31,40 @@ returns-in-Ok-Some-Line-clause-complete g c =
     told _ _ _ bytes c.in-Ok.ensures.whole
     (λ within good read written. absurd (no_fault bytes (faults.Line c.in-Ok-Some-Line.n) good bad))
 
+-- the capture is bad, and the reply tells it
+bad_capture : (g : Over) (c : goal.After-drop-bytes-in-Ok-Some-Capture g) → HasFault c.in-Ok.bytes.items faults.Capture × (c.in-Ok-reply_to.reply.text.items ≡ fault_text faults.Capture)
+bad_capture g c =
+    let told : c.in-Ok-reply_to.reply.fault ≡ Some faults.Capture = search rules in
+    told_by c.in-Ok.bytes.items _ _ _ faults.Capture c.deref.ensures.value told c.in-Ok-reply_to.ensures
+
+pub returns-in-Ok-Some-Capture-clause-bad_capture : goal.returns-in-Ok-Some-Capture-clause-bad_capture
+returns-in-Ok-Some-Capture-clause-bad_capture g c = λ is.
+    let reads : ReadsInput (g.S.Source.left c.args.source.now) (g.S.Source.left c.read_all.new.source) c.in-Ok.bytes.items = search rules in
+    let out : Appends (g.K.Sink.written c.args.sink.now) (g.K.Sink.written c.write_all.new.sink) c.in-Ok-reply_to.reply.text.items = search rules in (
+      c.in-Ok.bytes.items,
+      reads,
+      (bad_capture g c).0,
+      subst (λ (text : List ℕ). Appends (g.K.Sink.written c.args.sink.now) (g.K.Sink.written c.write_all.new.sink) text) (bad_capture g c).1 out,
+    )
+
 pub returns-in-Ok-Some-Capture-clause-verdict : goal.returns-in-Ok-Some-Capture-clause-verdict
 returns-in-Ok-Some-Capture-clause-verdict g c =
     let bytes : List ℕ = c.in-Ok.bytes.items in
-    let bad : HasFault bytes faults.Capture = search rules in
+    let bad : HasFault bytes faults.Capture = (bad_capture g c).0 in
     let within : length bytes ≤ limit = search rules in
     told _ _ _ bytes c.in-Ok.ensures.whole (within, bad)
 
 pub returns-in-Ok-Some-Capture-clause-broken : goal.returns-in-Ok-Some-Capture-clause-broken
 returns-in-Ok-Some-Capture-clause-broken g c =
     let bytes : List ℕ = c.in-Ok.bytes.items in
-    let bad : HasFault bytes faults.Capture = search rules in
+    let bad : HasFault bytes faults.Capture = (bad_capture g c).0 in
     told _ _ _ bytes c.in-Ok.ensures.whole
     (λ fault within other. inl (ap fault_status (one_fault bytes faults.Capture fault bad other)))
 
 pub returns-in-Ok-Some-Capture-clause-complete : goal.returns-in-Ok-Some-Capture-clause-complete
 returns-in-Ok-Some-Capture-clause-complete g c =
     let bytes : List ℕ = c.in-Ok.bytes.items in
-    let bad : HasFault bytes faults.Capture = search rules in
+    let bad : HasFault bytes faults.Capture = (bad_capture g c).0 in
     told _ _ _ bytes c.in-Ok.ensures.whole
     (λ within good read written. absurd (no_fault bytes faults.Capture good bad))
 
