@@ -41,7 +41,8 @@ fn a_number_that_is_drawn_is_seen(rt: HostRuntime) -> Result<(), Fail> {
     let lock = chains.step_lock(&mut pass.steps, 0);
     assert_eq!(rt; lock, 0);
     let number = chains.step_begin_hash(&mut pass.steps);
+    assert_eq!(rt; number, 0);
     chains.step_forget(&mut pass.steps);
-    check_numbers(&rt, &pass, number + 1, 1);
+    check_numbers(&rt, &pass, 1, 1);
     Ok(())
 }
