@@ -1,5 +1,5 @@
 ghost use Rattle.std.specs.Prelude.{◌≡◌, ◌<◌, ◌∷◌, [], false};
-ghost use Rattle.table_rule.specs.Calls.{IsOf, view, Becomes, layout_of};
+ghost use Rattle.table_rule.specs.Calls.{IsOf, view, Becomes, MayUnlock, layout_of};
 ghost use Rattle.bucket_locks.specs.Locks.{IsAt};
 ghost use Rattle.table_rule.specs.Plays.{locking, unlocking};
 ghost use Rattle.table_rule.specs.Words.{bucket_count};
@@ -47,6 +47,7 @@ pub fn unlock(chains: &Chains, steps: &mut Steps, locked: Locked)
     requires closed { (view steps.old).book.opened ≡ [] }
     requires at { ((view steps.old).chain.locked ≡ locked.bucket ∷ []) × (locked.bucket < bucket_count (layout_of chains.now)) }
     requires idle { ((view steps.old).slot.tied ≡ []) × ((view steps.old).slot.hung ≡ []) × ((view steps.old).slot.dimmed ≡ []) }
+    requires alone { MayUnlock (view steps.old) }
     ensures table { IsOf chains.now steps.new }
     ensures view { Becomes steps.old steps.new (unlocking (view steps.old)) }
 {

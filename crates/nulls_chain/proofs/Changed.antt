@@ -1,7 +1,7 @@
 -- What the calls that change chains show.
 use Rattle.std.proofs.Common.{map, ◌≡◌, ◌≢◌, ℕ, ◌%◌, ◌<◌, List, [], ◌∷◌, ◌++◌, ◌⊎◌, inl, inr, ⊎_elim, Option, None, Some, true, false, cond, Bool, eq-eqb, ne_eqb, ◌/◌, sym, refl, ap, ◌∙◌, arith, subst}
-use Rattle.table_rule.specs.Lists.{times, total, stands, slots_of}
-use Rattle.table_rule.specs.CardsOk.{Differs, MayLight}
+use Rattle.table_rule.specs.Lists.{Each, times, total, stands, slots_of}
+use Rattle.table_rule.specs.CardsOk.{tuple, claims, has_tuple, may_claim, all_claims, beside, Differs, MayLight}
 use Rattle.table_rule.specs.Plays.{advancing, beginning, dropping_beginning}
 use Rattle.nulls_chain.specs.Changes.{going, Apart, IsAlone, Stands, Adds, Rest, TwoDrawn}
 use Rattle.bucket_locks.specs.Locks.{IsAt}
@@ -15,7 +15,7 @@ use Rattle.table_rule.specs.declared.view.Seen.{Seen}
 use Rattle.table_rule.specs.declared.view.Change.{Change}
 use Rattle.table_rule.specs.Owners.{HasPlace, IsPlace}
 use Rattle.atomic_table.proofs.Lists.{at_longer}
-use Rattle.table_rule.proofs.CardSteps.{at_end}
+use Rattle.table_rule.proofs.CardSteps.{at_end, bears_few, full_has}
 use Rattle.sock_card.specs.declared.words.CardWords.{CardWords}
 use Rattle.table_rule.proofs.Lists.{total-append, times-here, times-append, slots-append, each-map}
 use mathlib.Core.Option.{some, some-injective, some-ne-none}
@@ -41,9 +41,35 @@ may_light slot card xs alone = record {
   has-b = refl;
   alone = λ full. (
     record { ends = card.ends; ports = card.ports; has-ends = refl; has-ports = refl; apart = λ ne. absurd (ne refl) },
-    each-map (Apart card.ends card.ports) (Differs slot card.ends card.ports) xs (λ s d. record { ends = d.ends; ports = d.ports; has-ends = d.has-ends; has-ports = d.has-ports; apart = λ ne. d.apart }) (alone full),
+    each-map (Apart card.ends card.ports) (Differs slot card.ends card.ports) xs (λ s d. record { ends = d.ends; ports = d.ports; has-ends = d.has-ends; has-ports = d.has-ports; apart = λ ne. omega (arith, bears_few (tuple card.ends card.ports) d.ends d.ports, d.apart) }) (alone (full_has card.ports full)),
   );
 }
+
+one_apart : (a b : ℕ) (s : Seen) → Apart a b s → may_claim (tuple a b) s.words ≡ 0
+one_apart a b s d = go s.words refl
+  where
+    at : (ws : List ℕ) → s.words ≡ ws → (k x : ℕ) → get_elem? s.words k ≡ some x → get_elem? ws k ≡ some x
+    at ws e k x h = ap (λ (l : List ℕ). get_elem? l k) (sym e) ∙ h
+
+    go : (ws : List ℕ) → s.words ≡ ws → may_claim (tuple a b) ws ≡ 0
+    go [] e = absurd (some-ne-none d.ends (sym (at [] e 0 d.ends d.has-ends)))
+    go (x ∷ []) e = absurd (some-ne-none d.ports (sym (at (x ∷ []) e 1 d.ports d.has-ports)))
+    go (x ∷ y ∷ ws) e = ap (λ (k : ℕ). claims (tuple a b) k y) (some-injective x d.ends (at (x ∷ y ∷ ws) e 0 d.ends d.has-ends)) ∙ (ap (claims (tuple a b) d.ends) (some-injective y d.ports (at (x ∷ y ∷ ws) e 1 d.ports d.has-ports)) ∙ d.apart)
+
+all_apart : (a b : ℕ) (xs : List Seen) → Each (Apart a b) xs → all_claims (tuple a b) xs ≡ 0
+all_apart a b [] h = refl
+all_apart a b (x ∷ xs) h = omega (arith, one_apart a b x h.0, all_apart a b xs h.1)
+
+-- a card that is alone comes beside none of its four-tuple
+pub beside_none : (slot : ℕ) (card : CardWords) (xs : List Seen) → IsAlone card xs → beside (seen_of slot card ∷ xs) ≡ 0
+beside_none slot card xs alone = go (has_tuple card.ports) refl
+  where
+    there : ℕ
+    there = all_claims (tuple card.ends card.ports) xs
+
+    go : (k : Bool) → has_tuple card.ports ≡ k → beside (seen_of slot card ∷ xs) ≡ 0
+    go false q = ap (λ (k : Bool). cond k there 0) q
+    go true q = ap (λ (k : Bool). cond k there 0) q ∙ all_apart card.ends card.ports xs (alone q)
 
 -- a link that was loaded leads on, or is the end
 pub leads_on : (v : View) (r : ℕ) → r % 2 ≡ 0 → (advancing v r).chain ≡ going v.chain (record { slot = r / 2; words = [] } ∷ []) 0

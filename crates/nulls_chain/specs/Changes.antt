@@ -1,7 +1,7 @@
-use Rattle.std.specs.Prelude.{◌+◌, ◌≡◌, ◌≢◌, ℕ, ◌<◌, ◌≤◌, ◌%◌, List, [], ◌∷◌, ◌++◌, Option, None, Some}
+use Rattle.std.specs.Prelude.{true, ◌+◌, ◌≡◌, ◌≢◌, ℕ, ◌<◌, ◌≤◌, ◌%◌, List, [], ◌∷◌, ◌++◌, Option, None, Some}
 use mathlib.Core.Option.{some}
 use lib.ListN.{get_elem?}
-use Rattle.table_rule.specs.CardsOk.{bears, tuple}
+use Rattle.table_rule.specs.CardsOk.{claims, has_tuple, tuple}
 use Rattle.table_rule.specs.declared.view.ChainView.{ChainView}
 use Rattle.sock_card.specs.declared.words.CardWords.{CardWords}
 use Rattle.table_rule.specs.Lists.{Each}
@@ -11,17 +11,17 @@ use Rattle.table_rule.specs.declared.view.Seen.{Seen}
 use Rattle.table_rule.specs.Calls.{Tells, HasShares, seen_of}
 use Rattle.table_rule.specs.Owners.{HasPlace}
 
--- s is no full socket's card with the four-tuple of a card that begins with a and b
+-- s is no full socket's or request's card with the four-tuple of a card that begins with a and b
 pub record Apart (a b : ℕ) (s : Seen) : Type 0 where
   pub ends : ℕ
   pub ports : ℕ
   pub has-ends : get_elem? s.words 0 ≡ some ends
   pub has-ports : get_elem? s.words 1 ≡ some ports
-  pub apart : bears (tuple a b) ends ports ≡ 0
+  pub apart : claims (tuple a b) ends ports ≡ 0
 
--- where the card is a full socket's, no full socket's card of the list has its four-tuple
+-- where the card is a full socket's or a request's, no such card of the list has its four-tuple
 abbrev pub IsAlone : CardWords → List Seen → Type 0
-IsAlone card xs = card.ports % 16 ≡ 1 → Each (Apart card.ends card.ports) xs
+IsAlone card xs = has_tuple card.ports ≡ true → Each (Apart card.ends card.ports) xs
 
 abbrev pub hashed : ChainView → ℕ → CardWords → ChainView
 hashed v slot card = record v { walked = seen_of slot card ∷ v.walked }

@@ -48,6 +48,7 @@ fn link(chains: &Chains, steps: &mut Steps, bucket: u32, slot: u32, card: &CardW
     ensures idle { IsIdle (view steps.new).slot }
     ensures rest { Rest (view steps.old) (view steps.new) }
     ensures seen { (view steps.new).seen ≡ (view steps.old).seen }
+    ensures twice { (view steps.new).twice ≡ (view steps.old).twice }
     ensures book { ((view steps.new).book ≡ record (view steps.old).book { opened = carding (view steps.old).book.opened (words_of card.now) }) × ((view steps.new).done ≡ 1) }
 {
     let head = chains.step_again_head(steps, bucket);
@@ -83,6 +84,7 @@ pub(crate) fn hash_numbered(
     ensures place { IfOk result (λ d. time_waits (words_of card.now) ≡ 0 → HasPlace d.slot (view steps.new).book) }
     ensures change { IfOk result (λ d. AddsAt (view steps.old) (view steps.new) 1 locked.now.bucket d.slot (words_of card.now) d.begin d.end) }
     ensures rest { IfOk result (λ d. Rest (view steps.old) (view steps.new)) }
+    ensures twice { (view steps.new).twice ≡ (view steps.old).twice }
     ensures full { IfErr result (λ f. (b : ℕ) × (w : View) × IsFull (layout_of chains.now) (beginning (view steps.old) b) w f × ((view steps.old).seen ≤ b) × ((view steps.new) ≡ dropping_beginning w)) }
     ensures same { IfErr result (λ f. (view steps.new).book.closed ≡ (view steps.old).book.closed) }
 {
@@ -121,6 +123,7 @@ pub(crate) fn unhash_numbered(
     ensures idle { IsIdle (view steps.new).slot × ((view steps.new).book.opened ≡ []) }
     ensures change { AddsAt (view steps.old) (view steps.new) 0 locked.now.bucket slot (card_in slot (view steps.old).chain.walked) result.begin result.end }
     ensures rest { Rest (view steps.old) (view steps.new) }
+    ensures twice { (view steps.new).twice ≡ (view steps.old).twice }
     ensures at { IsAt (layout_of chains.now) locked.now (view steps.new) }
     ensures gone { (view steps.new).chain ≡ record (view steps.old).chain { walked = without slot (view steps.old).chain.walked } }
 {
@@ -142,6 +145,7 @@ fn leave(chains: &Chains, steps: &mut Steps, bucket: u32, before: Option<u32>, s
     ensures idle { IsIdle (view steps.new).slot }
     ensures rest { Rest (view steps.old) (view steps.new) }
     ensures seen { (view steps.new).seen ≡ (view steps.old).seen }
+    ensures twice { (view steps.new).twice ≡ (view steps.old).twice }
     ensures gone { (view steps.new).chain ≡ record (view steps.old).chain { walked = without slot (view steps.old).chain.walked } }
     ensures book { ((view steps.new).book ≡ (view steps.old).book) × ((view steps.new).done ≡ 1) }
 {

@@ -49,6 +49,7 @@ fn hash_words(
     ensures all { IfErr result (λ f. IsBare (known pass.old) → AllUsed (known pass.old).book.closed 0 (layout_of chains.now).shape.slots × (f.held ≡ 0)) }
     ensures place { IfOk result (λ slot. time_waits (words_of words.now) ≡ 0 → HasPlace slot (known pass.new).book) }
     ensures stay { PlacesStay (known pass.old) (known pass.new) }
+    ensures twice { (known pass.new).twice ≡ (known pass.old).twice }
     ensures share { TwoDrawn (known pass.old) (known pass.new) }
     ensures change { IfOk result (λ slot. Adds (known pass.old) (known pass.new) 1 locked.now.bucket slot (words_of words.now)) }
     ensures rest { IfOk result (λ slot. Rest (known pass.old) (known pass.new)) }
@@ -105,6 +106,7 @@ pub fn hash(
     ensures all { IfErr result (λ f. IsBare (known pass.old) → AllUsed (known pass.old).book.closed 0 (layout_of chains.now).shape.slots × (f.held ≡ 0)) }
     ensures place { IfOk result (λ slot. time_waits (words_of (packed card.now)) ≡ 0 → HasPlace slot (known pass.new).book) }
     ensures stay { PlacesStay (known pass.old) (known pass.new) }
+    ensures twice { (known pass.new).twice ≡ (known pass.old).twice }
     ensures share { TwoDrawn (known pass.old) (known pass.new) }
     ensures change { IfOk result (λ slot. Adds (known pass.old) (known pass.new) 1 locked.now.bucket slot (words_of (packed card.now))) }
     ensures rest { IfOk result (λ slot. Rest (known pass.old) (known pass.new)) }
@@ -146,6 +148,7 @@ pub fn unhash(
     ensures stay { OthersStay slot (known pass.old) (known pass.new) }
     ensures share { TwoDrawn (known pass.old) (known pass.new) }
     ensures rest { Rest (known pass.old) (known pass.new) }
+    ensures twice { (known pass.new).twice ≡ (known pass.old).twice }
     ensures at { IsAt (layout_of chains.now) locked.now (known pass.new) }
     ensures gone { (known pass.new).chain ≡ record (known pass.old).chain { walked = without slot (known pass.old).chain.walked } }
     ensures room { vec_capacity pass.new.changes ≡ vec_capacity pass.old.changes }

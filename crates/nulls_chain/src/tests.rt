@@ -50,6 +50,7 @@ fn come_and_go(chains: &Chains, pass: &mut Pass, locked: &Locked, card: &Card) -
     ensures table { IsPassOf chains.now pass.new }
     ensures idle { IsIdle (known pass.new).slot × ((known pass.new).book.opened ≡ []) }
     ensures at { IsAt (layout_of chains.now) locked.now (known pass.new) }
+    ensures twice { (known pass.new).twice ≡ (known pass.old).twice }
 {
     match hash(chains, pass, locked, 0, card) {
         Ok(slot) => {

@@ -8,6 +8,7 @@ use Rattle.table_rule.specs.declared.table.Steps.{Steps}
 use Rattle.table_rule.specs.Lists.{slots_of}
 use Rattle.table_rule.specs.Words.{words_of}
 use Rattle.table_rule.specs.ChainsOk.{first_link}
+use Rattle.table_rule.specs.CardsOk.{NoneTwice}
 use Rattle.table_rule.specs.Owners.{time_waits, HasPlace}
 use Rattle.table_rule.specs.Plays.{card_in}
 use Rattle.table_rule.specs.Rule.{drawn}
@@ -71,6 +72,10 @@ IsUnhashOf slot v = (c : Change) × (v.book.opened ≡ c ∷ []) × (c.kind ≡ 
 -- the slot's card in the list is a TIME_WAIT's, or the slot is a place of the pass
 abbrev pub MayUnhash : ℕ → View → Type 0
 MayUnhash slot v = (time_waits (card_in slot v.chain.walked) ≡ 1) ⊎ HasPlace slot v.book
+
+-- it lit no card under this lock beside one of its four-tuple, or no two of the list have one any more
+abbrev pub MayUnlock : View → Type 0
+MayUnlock v = (v.twice ≡ 0) ⊎ ((v.chain.met ≡ 1) × NoneTwice v.chain.walked)
 
 -- the pass may draw one number more
 abbrev pub HasShare : View → Type 0

@@ -1,5 +1,5 @@
 -- What views know of card words, and that no chain has two lit cards of one four-tuple.
-use Rattle.std.specs.Prelude.{◌≡◌, ◌≢◌, ℕ, ◌+◌, ◌*◌, ◌/◌, ◌%◌, ◌<◌, ◌≤◌, List, cond, ◌==◌}
+use Rattle.std.specs.Prelude.{◌≡◌, ◌≢◌, ℕ, ◌+◌, ◌*◌, ◌/◌, ◌%◌, ◌<◌, ◌≤◌, List, [], ◌∷◌, Bool, true, cond, ◌==◌}
 use mathlib.Core.Option.{some}
 use lib.ListN.{get_elem?}
 use Rattle.table_rule.specs.Lists.{total, Each}
@@ -32,12 +32,47 @@ tuple a b = (a * 4294967296 + b / 4294967296) * 256 + b / 16 % 256
 abbrev pub bears : ℕ → ℕ → ℕ → ℕ
 bears t a b = cond (b % 16 == 1) (cond (tuple a b == t) 1 0) 0
 
--- the same of slot i, where it is lit
-abbrev pub shows : (ℕ → ℕ → ℕ) → (ℕ → ℕ) → ℕ → ℕ → ℕ
-shows card dark t i = cond (dark i == 0) (bears t (card i 0) (card i 1)) 0
+-- the card is that of a full socket or of a request, whose kind is 4
+abbrev pub has_tuple : ℕ → Bool
+has_tuple b = cond (b % 16 == 1) true (b % 16 == 4)
 
-abbrev pub TuplesOk : ℕ → (ℕ → List ℕ) → (ℕ → ℕ → ℕ) → (ℕ → ℕ) → Type 0
-TuplesOk buckets chain card dark = (b t : ℕ) → b < buckets → total (shows card dark t) (chain b) ≤ 1
+-- 1 where it is the card of one of these, with the four-tuple t
+abbrev pub claims : ℕ → ℕ → ℕ → ℕ
+claims t a b = cond (has_tuple b) (cond (tuple a b == t) 1 0) 0
+
+-- what a test of cards says of slot i, where it is lit
+abbrev pub shows : (ℕ → ℕ → ℕ → ℕ) → (ℕ → ℕ → ℕ) → (ℕ → ℕ) → ℕ → ℕ → ℕ
+shows test card dark t i = cond (dark i == 0) (test t (card i 0) (card i 1)) 0
+
+pub record TuplesOk (buckets : ℕ) (chain : ℕ → List ℕ) (card : ℕ → ℕ → ℕ) (dark twice : ℕ → ℕ) : Type 0 where
+  -- no chain has two lit full cards of one four-tuple
+  pub full : (b t : ℕ) → b < buckets → total (shows bears card dark t) (chain b) ≤ 1
+  -- nor two of full sockets and requests, but for a bucket in which one was lit beside another, under its present lock
+  pub taken : (b t : ℕ) → b < buckets → twice b ≡ 0 → total (shows claims card dark t) (chain b) ≤ 1
+
+-- 1 where a card that begins with these words has the four-tuple t, or may have it
+abbrev pub may_claim : ℕ → List ℕ → ℕ
+may_claim t [] = 1
+may_claim t (a ∷ []) = 1
+may_claim t (a ∷ b ∷ ws) = claims t a b
+
+abbrev pub all_claims : ℕ → List Seen → ℕ
+all_claims t xs = total (λ (s : Seen). may_claim t s.words) xs
+
+-- of a list, how many have the four-tuple of a card with these words
+abbrev pub others_of : List ℕ → List Seen → ℕ
+others_of [] xs = 1
+others_of (a ∷ []) xs = 1
+others_of (a ∷ b ∷ ws) xs = cond (has_tuple b) (all_claims (tuple a b) xs) 0
+
+-- how many of a list have the four-tuple of its first
+abbrev pub beside : List Seen → ℕ
+beside [] = 0
+beside (s ∷ ss) = others_of s.words ss
+
+-- no two of the list, of full sockets and requests, have one four-tuple
+abbrev pub NoneTwice : List Seen → Type 0
+NoneTwice xs = (t : ℕ) → all_claims t xs ≤ 1
 
 -- s has another four-tuple than a full socket's card that begins with the words a and b, or is no full socket's, or is slot i itself
 pub record Differs (i a b : ℕ) (s : Seen) : Type 0 where

@@ -1,9 +1,9 @@
-use Rattle.std.proofs.Common.{◌++◌, List, sym, ap, ◌∙◌, refl, subst}
+use Rattle.std.proofs.Common.{◌++◌, List, sym, ap, ◌∙◌, refl, subst, arith}
 use Rattle.table_rule.specs.Plays.{Sat}
-use Rattle.table_rule.specs.CardsOk.{MayLight}
+use Rattle.table_rule.specs.CardsOk.{MayLight, beside}
 use Rattle.table_rule.specs.Calls.{seen_of, view, layout_of}
 use Rattle.table_rule.specs.declared.view.Seen.{Seen}
-use Rattle.nulls_chain.proofs.Changed.{may_light, home_first}
+use Rattle.nulls_chain.proofs.Changed.{may_light, home_first, beside_none}
 use Rattle.nulls_chain.proofs.changes.link.Goals as goal
 
 pub step_link-requires-clause-fresh : goal.step_link-requires-clause-fresh
@@ -46,3 +46,10 @@ step_live-requires-clause-first c = (
 
 pub step_link-requires-clause-begun : goal.step_link-requires-clause-begun
 step_link-requires-clause-begun c = let b = c.requires.begun.0 in (b.0, ap (λ (s : Sat). s.0.book.opened) c.step_again_head-head.ensures.same ∙ b.1, b.2, b.3)
+
+pub returns-clause-twice : goal.returns-clause-twice
+returns-clause-twice c =
+    let walked = ap (λ (s : Sat). s.0.chain.walked) c.step_head.ensures.view
+    ∙ (ap (λ (s : Sat). s.0.slot.tied ++ s.0.chain.walked) c.step_link.ensures.view
+    ∙ (ap (λ (s : Sat). s.0.slot.fresh ++ s.0.chain.walked) c.step_again_head-head.ensures.same ∙ ap (λ (l : List Seen). l ++ (view c.args.steps.now).chain.walked) c.requires.fresh)) in
+    omega (arith, ap (λ (s : Sat). s.0.twice) c.step_live.ensures.view, ap (λ (s : Sat). s.0.twice) c.step_head.ensures.view, ap (λ (s : Sat). s.0.twice) c.step_link.ensures.view, ap (λ (s : Sat). s.0.twice) c.step_again_head-head.ensures.same, ap beside walked, beside_none c.args.slot c.args.card.now (view c.args.steps.now).chain.walked c.requires.alone)
