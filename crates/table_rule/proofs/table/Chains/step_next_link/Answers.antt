@@ -27,3 +27,6 @@ returns-clause-places c = c.load.ensures.2.4
 
 pub returns-clause-apart : goal.returns-clause-apart
 returns-clause-apart c = c.load.ensures.2.5
+
+pub returns-clause-tuples : goal.returns-clause-tuples
+returns-clause-tuples c = c.load.ensures.2.6
