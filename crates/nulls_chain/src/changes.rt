@@ -1,7 +1,7 @@
 ghost use Rattle.std.specs.Prelude.{◌≡◌, ◌<◌, ◌≤◌, ◌∷◌, [], ℕ, true, IfOk, IfErr};
 ghost use Rattle.table_rule.specs.declared.view.View.{View};
 ghost use Rattle.table_rule.specs.Lists.{stands};
-ghost use Rattle.table_rule.specs.Owners.{time_waits, HasPlace};
+ghost use Rattle.table_rule.specs.Owners.{time_waits, IsPlace};
 ghost use Rattle.table_rule.specs.Sole.{IsBare, FirstFree, AllUsed};
 ghost use Rattle.table_rule.specs.Beyond.{IsCardWords};
 ghost use Rattle.table_rule.specs.Calls.{IsOf, IsIdle, IsHashOf, IsUnhashOf, HasShares, MayUnhash, seen_of, view, me, layout_of};
@@ -81,7 +81,7 @@ pub(crate) fn hash_numbered(
     ensures far { IfOk result (λ d. stands d.slot (view steps.old).chain.walked ≡ 0) }
     ensures first { IfOk result (λ d. IsBare (view steps.old) → FirstFree (view steps.old).book.closed (layout_of chains.now).shape.slots from d.slot) }
     ensures all { IfErr result (λ f. IsBare (view steps.old) → AllUsed (view steps.old).book.closed 0 (layout_of chains.now).shape.slots × (f.held ≡ 0)) }
-    ensures place { IfOk result (λ d. time_waits (words_of card.now) ≡ 0 → HasPlace d.slot (view steps.new).book) }
+    ensures place { IfOk result (λ d. time_waits (words_of card.now) ≡ 0 → IsPlace (view steps.new).book (record { kind = 1; bucket = locked.now.bucket; slot = d.slot; card = words_of card.now; begins = d.begin; ends = d.end })) }
     ensures change { IfOk result (λ d. AddsAt (view steps.old) (view steps.new) 1 locked.now.bucket d.slot (words_of card.now) d.begin d.end) }
     ensures rest { IfOk result (λ d. Rest (view steps.old) (view steps.new)) }
     ensures twice { (view steps.new).twice ≡ (view steps.old).twice }

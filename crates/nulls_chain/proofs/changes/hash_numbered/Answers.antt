@@ -1,7 +1,8 @@
-use Rattle.std.proofs.Common.{rules, [], List, sym, ap, refl, arith, subst}
+use Rattle.std.proofs.Common.{rules, ℕ, [], List, sym, ap, refl, arith, subst}
 use Rattle.table_rule.specs.Plays.{Sat, first_of}
 use Rattle.table_rule.specs.Book.{open-end}
 use Rattle.table_rule.specs.declared.view.Change.{Change}
+use Rattle.table_rule.specs.Owners.{IsPlace}
 use Rattle.table_rule.specs.Sole.{IsBare, FirstFree, AllUsed}
 use Rattle.shared_slots.proofs.Tries.{bare_began}
 use Rattle.nulls_chain.proofs.changes.hash_numbered.Goals as goal
@@ -39,4 +40,4 @@ write_card-requires-clause-begun c = (record { kind = 1; bucket = first_of (view
 pub returns-in-Ok-clause-place : goal.returns-in-Ok-clause-place
 returns-in-Ok-clause-place c = λ stays.
     let h : Change = record { kind = 1; bucket = first_of (view c.args.steps.now).chain.locked; slot = c.in-Ok.slot; card = words_of c.args.card.now; begins = c.step_begin_hash-begin.result; ends = open-end } in
-    (record h { ends = c.step_end-end.result }, refl, c.step_end-end.ensures.place h (search rules) refl stays)
+    subst (λ (b : ℕ). IsPlace (view c.step_end-end.new.steps).book (record { kind = 1; bucket = b; slot = c.in-Ok.slot; card = words_of c.args.card.now; begins = c.step_begin_hash-begin.result; ends = c.step_end-end.result })) (ap first_of c.requires.at.0.0) (c.step_end-end.ensures.place h (search rules) refl stays)
