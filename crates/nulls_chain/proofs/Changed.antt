@@ -45,6 +45,17 @@ may_light slot card xs alone = record {
   );
 }
 
+-- a card of another four-tuple, or of another kind than a full socket's and a request's
+pub claims_apart : (t a b : ℕ) → ((b % 16 ≡ 1) ⊎ (b % 16 ≡ 4) → tuple a b ≢ t) → claims t a b ≡ 0
+claims_apart t a b far = dite (ℕ_discrete (tuple a b) t)
+    (λ q. ap (λ (k : Bool). cond k (cond (eqb (tuple a b) t) 1 0) 0)
+    (ap (λ (k : Bool). cond k true (eqb (b % 16) 4)) (ne_eqb (b % 16) 1 (λ e. far (inl e) q)) ∙ ne_eqb (b % 16) 4 (λ e. far (inr e) q)))
+    (λ n. ap (λ (k : Bool). cond (has_tuple b) (cond k 1 0) 0) (ne_eqb (tuple a b) t n) ∙ none (has_tuple b))
+  where
+    none : (k : Bool) → ◌≡◌ {A = ℕ} (cond k 0 0) 0
+    none true = refl
+    none false = refl
+
 one_apart : (a b : ℕ) (s : Seen) → Apart a b s → may_claim (tuple a b) s.words ≡ 0
 one_apart a b s d = go s.words refl
   where

@@ -11,6 +11,7 @@ ghost use Rattle.nulls_chain.specs.Changes.{IsAlone, hashed, Stands, Adds, AddsA
 ghost use Rattle.shared_slots.specs.Claims.{IsFull};
 ghost use Rattle.table_rule.specs.Plays.{beginning, dropping_beginning, without, carding, card_in};
 
+use super::halting::{Halt, Turning};
 use bucket_locks::Locked;
 use shared_slots::{Full, claim, write_card};
 use sock_card::CardWords;
@@ -31,7 +32,14 @@ pub struct Unhashed {
     pub end: u64,
 }
 
-fn link(chains: &Chains, steps: &mut Steps, bucket: u32, slot: u32, card: &CardWords)
+fn link<H: Halt>(
+    chains: &Chains,
+    steps: &mut Steps,
+    bucket: u32,
+    slot: u32,
+    card: &CardWords,
+    halt: &mut H,
+)
     requires table { IsOf chains.now steps.old }
     requires slot { slot < (layout_of chains.now).shape.slots }
     requires bucket { bucket < bucket_count (layout_of chains.now) }
@@ -52,18 +60,22 @@ fn link(chains: &Chains, steps: &mut Steps, bucket: u32, slot: u32, card: &CardW
     ensures book { ((view steps.new).book ≡ record (view steps.old).book { opened = carding (view steps.old).book.opened (words_of card.now) }) × ((view steps.new).done ≡ 1) }
 {
     let head = chains.step_again_head(steps, bucket);
+    halt.step(Turning::Link);
     chains.step_link(steps, slot, bucket, head);
+    halt.step(Turning::Head);
     chains.step_head(steps, bucket, slot);
+    halt.step(Turning::Live);
     chains.step_live(steps, slot);
 }
 
 // Hashes a card: its slot is first in the list.
-pub(crate) fn hash_numbered(
+pub(crate) fn hash_numbered<H: Halt>(
     chains: &Chains,
     steps: &mut Steps,
     locked: &Locked,
     from: u32,
     card: &CardWords,
+    halt: &mut H,
 ) -> Result<Hashed, Full>
     requires table { IsOf chains.now steps.old }
     requires at { IsAt (layout_of chains.now) locked.now (view steps.old) × (locked.now.started ≡ true) }
@@ -88,15 +100,19 @@ pub(crate) fn hash_numbered(
     ensures full { IfErr result (λ f. (b : ℕ) × (w : View) × IsFull (layout_of chains.now) (beginning (view steps.old) b) w f × ((view steps.old).seen ≤ b) × ((view steps.new) ≡ dropping_beginning w)) }
     ensures same { IfErr result (λ f. (view steps.new).book.closed ≡ (view steps.old).book.closed) }
 {
+    halt.step(Turning::Begin);
     let begin = chains.step_begin_hash(steps);
+    halt.step(Turning::Claim);
     match claim(chains, steps, from) {
         Err(full) => {
             chains.step_forget(steps);
             Err(full)
         }
         Ok(slot) => {
+            halt.step(Turning::Fill);
             write_card(chains, steps, slot, card);
-            link(chains, steps, locked.bucket, slot, card);
+            link(chains, steps, locked.bucket, slot, card, halt);
+            halt.step(Turning::End);
             let end = chains.step_end(steps);
             Ok(Hashed { slot, begin, end })
         }
@@ -104,12 +120,13 @@ pub(crate) fn hash_numbered(
 }
 
 // Unhashes the slot that stands in the list behind another, or first.
-pub(crate) fn unhash_numbered(
+pub(crate) fn unhash_numbered<H: Halt>(
     chains: &Chains,
     steps: &mut Steps,
     locked: &Locked,
     before: Option<u32>,
     slot: u32,
+    halt: &mut H,
 ) -> Unhashed
     requires table { IsOf chains.now steps.old }
     requires at { IsAt (layout_of chains.now) locked.now (view steps.old) × (locked.now.started ≡ true) }
@@ -127,14 +144,23 @@ pub(crate) fn unhash_numbered(
     ensures at { IsAt (layout_of chains.now) locked.now (view steps.new) }
     ensures gone { (view steps.new).chain ≡ record (view steps.old).chain { walked = without slot (view steps.old).chain.walked } }
 {
+    halt.step(Turning::Begin);
     let begin = chains.step_begin_unhash(steps, slot);
-    leave(chains, steps, locked.bucket, before, slot);
+    leave(chains, steps, locked.bucket, before, slot, halt);
+    halt.step(Turning::End);
     let end = chains.step_end(steps);
     Unhashed { begin, end }
 }
 
 // The steps of an unhash between its draws.
-fn leave(chains: &Chains, steps: &mut Steps, bucket: u32, before: Option<u32>, slot: u32)
+fn leave<H: Halt>(
+    chains: &Chains,
+    steps: &mut Steps,
+    bucket: u32,
+    before: Option<u32>,
+    slot: u32,
+    halt: &mut H,
+)
     requires table { IsOf chains.now steps.old }
     requires held { ((view steps.old).chain.locked ≡ bucket ∷ []) × (bucket < bucket_count (layout_of chains.now)) }
     requires slot { slot < (layout_of chains.now).shape.slots }
@@ -149,11 +175,14 @@ fn leave(chains: &Chains, steps: &mut Steps, bucket: u32, before: Option<u32>, s
     ensures gone { (view steps.new).chain ≡ record (view steps.old).chain { walked = without slot (view steps.old).chain.walked } }
     ensures book { ((view steps.new).book ≡ (view steps.old).book) × ((view steps.new).done ≡ 1) }
 {
+    halt.step(Turning::Clear);
     chains.step_clear_live(steps, slot);
     let link = chains.step_again_link(steps, slot);
+    halt.step(Turning::Past);
     match before {
         None => chains.step_past_head(steps, bucket, slot, link),
         Some(before) => chains.step_past_link(steps, before, slot, link),
     }
+    halt.step(Turning::Release);
     chains.step_clear_own(steps, slot);
 }

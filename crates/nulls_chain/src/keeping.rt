@@ -16,6 +16,7 @@ ghost use Rattle.nulls_chain.specs.Changes.{IsAlone, hashed, Adds, Rest, PlacesS
 
 use super::changes::{hash_numbered, unhash_numbered};
 use super::finding::slot_before;
+use super::halting::{Halt, Unhalted};
 use bucket_locks::Locked;
 use chain_book::{Act, Change};
 use shared_slots::Full;
@@ -65,17 +66,58 @@ pub fn hash(
     ensures all { IfErr result (λ f. IsBare (known pass.old) → AllUsed (known pass.old).book.closed 0 (layout_of chains.now).shape.slots × (f.held ≡ 0)) }
     ensures place { IfOk result (λ place. time_waits (words_of (packed card.now)) ≡ 0 → IsPlaced place (known pass.new).book) }
     ensures stay { PlacesStay (known pass.old) (known pass.new) }
-    ensures twice { (known pass.new).twice ≡ (known pass.old).twice }
     ensures share { TwoDrawn (known pass.old) (known pass.new) }
     ensures change { IfOk result (λ place. Adds (known pass.old) (known pass.new) 1 locked.now.bucket place.slot (words_of (packed card.now))) }
     ensures rest { IfOk result (λ place. Rest (known pass.old) (known pass.new)) }
+    ensures twice { (known pass.new).twice ≡ (known pass.old).twice }
+    ensures full { IfErr result (λ f. (b : ℕ) × (w : View) × IsFull (layout_of chains.now) (beginning (known pass.old) b) w f × ((known pass.old).seen ≤ b) × ((known pass.new) ≡ dropping_beginning w)) }
+    ensures same { IfErr result (λ f. (known pass.new).book.closed ≡ (known pass.old).book.closed) }
+    ensures room { vec_capacity pass.new.changes ≡ vec_capacity pass.old.changes }
+    ensures len { vec_len pass.new.changes ≤ vec_len pass.old.changes + 1 }
+{
+    hash_with(chains, pass, locked, from, card, &mut Unhalted)
+}
+
+/// [`hash`], with a halt that is called before each of its steps.
+pub fn hash_with<H: Halt>(
+    chains: &Chains,
+    pass: &mut Pass,
+    locked: &Locked,
+    from: u32,
+    card: &Card,
+    halt: &mut H,
+) -> Result<Place, Full>
+    requires table { IsPassOf chains.now pass.old }
+    requires at { IsAt (layout_of chains.now) locked.now (known pass.old) × (locked.now.started ≡ true) }
+    requires idle { IsIdle (known pass.old).slot × ((known pass.old).book.opened ≡ []) }
+    requires from { from ≤ (layout_of chains.now).shape.slots }
+    requires room { vec_len pass.old.changes < vec_capacity pass.old.changes }
+    requires share { HasShares 2 (known pass.old) }
+    requires whole { ((known pass.old).chain.met ≡ 1) × ((known pass.old).chain.ahead ≡ []) }
+    requires alone { IsAlone (packed card.now) (known pass.old).chain.walked }
+    requires home { home (layout_of chains.now).shape (layout_of chains.now).seed card.now ≡ locked.now.bucket }
+    ensures table { IsPassOf chains.now pass.new }
+    ensures at { IsAt (layout_of chains.now) locked.now (known pass.new) }
+    ensures idle { IsIdle (known pass.new).slot × ((known pass.new).book.opened ≡ []) }
+    ensures some { IfOk result (λ place. (place.slot < (layout_of chains.now).shape.slots) × (place.bucket ≡ locked.now.bucket) × (place.card ≡ card.now)) }
+    ensures chain { IfOk result (λ place. (known pass.new).chain ≡ hashed (known pass.old).chain place.slot (packed card.now)) }
+    ensures far { IfOk result (λ place. stands place.slot (known pass.old).chain.walked ≡ 0) }
+    ensures known { IfOk result (λ place. WalkKnown (layout_of chains.now) (known pass.old) → WalkKnown (layout_of chains.now) (known pass.new)) }
+    ensures first { IfOk result (λ place. IsBare (known pass.old) → FirstFree (known pass.old).book.closed (layout_of chains.now).shape.slots from place.slot) }
+    ensures all { IfErr result (λ f. IsBare (known pass.old) → AllUsed (known pass.old).book.closed 0 (layout_of chains.now).shape.slots × (f.held ≡ 0)) }
+    ensures place { IfOk result (λ place. time_waits (words_of (packed card.now)) ≡ 0 → IsPlaced place (known pass.new).book) }
+    ensures stay { PlacesStay (known pass.old) (known pass.new) }
+    ensures share { TwoDrawn (known pass.old) (known pass.new) }
+    ensures change { IfOk result (λ place. Adds (known pass.old) (known pass.new) 1 locked.now.bucket place.slot (words_of (packed card.now))) }
+    ensures rest { IfOk result (λ place. Rest (known pass.old) (known pass.new)) }
+    ensures twice { (known pass.new).twice ≡ (known pass.old).twice }
     ensures full { IfErr result (λ f. (b : ℕ) × (w : View) × IsFull (layout_of chains.now) (beginning (known pass.old) b) w f × ((known pass.old).seen ≤ b) × ((known pass.new) ≡ dropping_beginning w)) }
     ensures same { IfErr result (λ f. (known pass.new).book.closed ≡ (known pass.old).book.closed) }
     ensures room { vec_capacity pass.new.changes ≡ vec_capacity pass.old.changes }
     ensures len { vec_len pass.new.changes ≤ vec_len pass.old.changes + 1 }
 {
     let words = pack(card);
-    match hash_numbered(chains, &mut pass.steps, locked, from, &words) {
+    match hash_numbered(chains, &mut pass.steps, locked, from, &words, halt) {
         Err(full) => Err(full),
         Ok(done) => {
             pass.changes.push_reserved(Change {
@@ -125,8 +167,43 @@ pub fn unhash_slot(chains: &Chains, pass: &mut Pass, locked: &Locked, slot: u32,
     ensures room { vec_capacity pass.new.changes ≡ vec_capacity pass.old.changes }
     ensures len { vec_len pass.new.changes ≡ vec_len pass.old.changes + 1 }
 {
+    unhash_slot_with(chains, pass, locked, slot, card, &mut Unhalted);
+}
+
+// The same, with a halt that is called before each step.
+pub(crate) fn unhash_slot_with<H: Halt>(
+    chains: &Chains,
+    pass: &mut Pass,
+    locked: &Locked,
+    slot: u32,
+    card: &Card,
+    halt: &mut H,
+)
+    requires table { IsPassOf chains.now pass.old }
+    requires at { IsAt (layout_of chains.now) locked.now (known pass.old) × (locked.now.started ≡ true) }
+    requires slot { slot < (layout_of chains.now).shape.slots }
+    requires idle { IsIdle (known pass.old).slot × ((known pass.old).book.opened ≡ []) }
+    requires share { HasShares 2 (known pass.old) }
+    requires card { card_in slot (known pass.old).chain.walked ≡ words_of (packed card.now) }
+    requires room { vec_len pass.old.changes < vec_capacity pass.old.changes }
+    requires own { MayUnhash slot (known pass.old) }
+    requires whole { ((known pass.old).chain.met ≡ 1) × ((known pass.old).chain.ahead ≡ []) }
+    requires known { WalkKnown (layout_of chains.now) (known pass.old) }
+    requires listed { 0 < stands slot (known pass.old).chain.walked }
+    ensures table { IsPassOf chains.now pass.new }
+    ensures idle { IsIdle (known pass.new).slot × ((known pass.new).book.opened ≡ []) }
+    ensures change { Adds (known pass.old) (known pass.new) 0 locked.now.bucket slot (words_of (packed card.now)) }
+    ensures stay { OthersStay slot (known pass.old) (known pass.new) }
+    ensures share { TwoDrawn (known pass.old) (known pass.new) }
+    ensures rest { Rest (known pass.old) (known pass.new) }
+    ensures twice { (known pass.new).twice ≡ (known pass.old).twice }
+    ensures at { IsAt (layout_of chains.now) locked.now (known pass.new) }
+    ensures gone { (known pass.new).chain ≡ record (known pass.old).chain { walked = without slot (known pass.old).chain.walked } }
+    ensures room { vec_capacity pass.new.changes ≡ vec_capacity pass.old.changes }
+    ensures len { vec_len pass.new.changes ≡ vec_len pass.old.changes + 1 }
+{
     let before = slot_before(chains, &mut pass.steps, locked.bucket, slot);
-    let done = unhash_numbered(chains, &mut pass.steps, locked, before, slot);
+    let done = unhash_numbered(chains, &mut pass.steps, locked, before, slot, halt);
     pass.changes.push_reserved(Change {
         bucket: locked.bucket,
         slot,

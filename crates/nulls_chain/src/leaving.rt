@@ -8,7 +8,8 @@ ghost use Rattle.bucket_locks.specs.Locks.{IsAt, WalkKnown};
 ghost use Rattle.nulls_chain.specs.Changes.{Adds, Rest, PlacesStay, OthersStay, TwoDrawn, IsPlaced, TookWait, HasNoWait};
 
 use super::finding::{find_wait, finish};
-use super::keeping::{Place, unhash_slot};
+use super::halting::{Halt, Unhalted};
+use super::keeping::{Place, unhash_slot, unhash_slot_with};
 use bucket_locks::Locked;
 use table_rule::{Chains, Pass, known_card};
 
@@ -36,8 +37,39 @@ pub fn unhash(chains: &Chains, pass: &mut Pass, locked: &mut Locked, place: Plac
     ensures room { vec_capacity pass.new.changes ≡ vec_capacity pass.old.changes }
     ensures len { vec_len pass.new.changes ≡ vec_len pass.old.changes + 1 }
 {
+    unhash_with(chains, pass, locked, place, &mut Unhalted);
+}
+
+/// [`unhash`], with a halt that is called before each of its steps.
+pub fn unhash_with<H: Halt>(
+    chains: &Chains,
+    pass: &mut Pass,
+    locked: &mut Locked,
+    place: Place,
+    halt: &mut H,
+)
+    requires table { IsPassOf chains.now pass.old }
+    requires at { IsAt (layout_of chains.now) locked.old (known pass.old) }
+    requires known { WalkKnown (layout_of chains.now) (known pass.old) }
+    requires place { IsPlaced place (known pass.old).book × (place.bucket ≡ locked.old.bucket) }
+    requires idle { IsIdle (known pass.old).slot × ((known pass.old).book.opened ≡ []) }
+    requires share { HasShares 2 (known pass.old) }
+    requires room { vec_len pass.old.changes < vec_capacity pass.old.changes }
+    ensures table { IsPassOf chains.now pass.new }
+    ensures idle { IsIdle (known pass.new).slot × ((known pass.new).book.opened ≡ []) }
+    ensures change { Adds (known pass.old) (known pass.new) 0 locked.old.bucket place.slot (words_of (packed place.card)) }
+    ensures stay { OthersStay place.slot (known pass.old) (known pass.new) }
+    ensures share { TwoDrawn (known pass.old) (known pass.new) }
+    ensures rest { Rest (known pass.old) (known pass.new) }
+    ensures twice { (known pass.new).twice ≡ (known pass.old).twice }
+    ensures at { IsAt (layout_of chains.now) locked.new (known pass.new) × (locked.new.started ≡ true) × (locked.new.bucket ≡ locked.old.bucket) }
+    ensures whole { ((known pass.new).chain.met ≡ 1) × ((known pass.new).chain.ahead ≡ []) }
+    ensures gone { (known pass.old).chain.met ≡ 1 → (known pass.new).chain ≡ record (known pass.old).chain { walked = without place.slot (known pass.old).chain.walked } }
+    ensures room { vec_capacity pass.new.changes ≡ vec_capacity pass.old.changes }
+    ensures len { vec_len pass.new.changes ≡ vec_len pass.old.changes + 1 }
+{
     finish(chains, &mut pass.steps, locked);
-    unhash_slot(chains, pass, locked, place.slot, &place.card);
+    unhash_slot_with(chains, pass, locked, place.slot, &place.card, halt);
 }
 
 /// Unhashes the first TIME_WAIT of this name in the chain of a bucket that was just locked: its slot. None: the chain

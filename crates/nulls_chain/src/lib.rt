@@ -3,6 +3,7 @@
 //! [`walk`] goes on to the next socket of a locked bucket's chain. [`hash`] puts a card first into it, and answers its
 //! [`Place`]; [`unhash`] takes a place out, [`unhash_tw`] a TIME_WAIT by its name, [`unhash_slot`] a slot that a walk
 //! found: one change each, with two numbers of the clock, which lookups that lock nothing may meet at any step.
+//! [`hash_with`] and [`unhash_with`] tell a [`Halt`] of each step before it comes.
 //!
 //! ```text
 //! let mut locked = lock(&chains, &rt, &mut pass.steps, bucket);
@@ -15,12 +16,14 @@
 
 mod changes;
 mod finding;
+mod halting;
 mod keeping;
 mod leaving;
 #[cfg(test)]
 mod tests;
 mod walking;
 
-pub use keeping::{Place, hash, unhash_slot};
-pub use leaving::{unhash, unhash_tw};
+pub use halting::{Halt, Turning, Unhalted};
+pub use keeping::{Place, hash, hash_with, unhash_slot};
+pub use leaving::{unhash, unhash_tw, unhash_with};
 pub use walking::walk;

@@ -1,0 +1,6 @@
+pub mod Noted
+pub mod Found
+pub mod Admitted
+pub mod Known
+pub mod Rows
+pub mod Alone

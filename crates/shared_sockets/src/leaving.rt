@@ -1,0 +1,41 @@
+//! Sockets that leave their chains, and the TIME_WAITs that they leave there.
+
+ghost use Rattle.std.specs.Prelude.{◌≡◌, ◌+◌, ◌<◌, [], vec_len, vec_capacity};
+ghost use Rattle.nulls_chain.specs.Changes.{IsPlaced, OthersStay, TwoDrawn};
+ghost use Rattle.shared_sockets.specs.Alone.{LeavesAlone};
+ghost use Rattle.shared_sockets.specs.Leavings.{Leaves};
+ghost use Rattle.table_rule.specs.Calls.{IsIdle, HasShares, layout_of};
+ghost use Rattle.table_rule.specs.Passes.{IsPassOf, known};
+ghost use Rattle.table_rule.specs.Words.{bucket_count};
+
+use bucket_locks::{lock, unlock};
+use nulls_chain::{Place, unhash};
+use std::sync::Wait;
+use table_rule::{Chains, Pass};
+
+/// Takes out the socket at that place.
+///
+/// As `inet_unhash` of net/ipv4/inet_hashtables.c. Only the pass that hashed a connected socket or a listener takes it
+/// out.
+pub fn remove<R: Wait>(chains: &Chains, rt: &R, pass: &mut Pass, place: Place)
+    requires table { IsPassOf chains.now pass.old }
+    requires bucket { place.bucket < bucket_count (layout_of chains.now) }
+    requires place { IsPlaced place (known pass.old).book }
+    requires idle { IsIdle (known pass.old).slot × ((known pass.old).book.opened ≡ []) }
+    requires free { (known pass.old).chain.locked ≡ [] }
+    requires room { vec_len pass.old.changes < vec_capacity pass.old.changes }
+    requires share { HasShares 2 (known pass.old) }
+    ensures table { IsPassOf chains.now pass.new }
+    ensures idle { IsIdle (known pass.new).slot × ((known pass.new).book.opened ≡ []) }
+    ensures free { (known pass.new).chain.locked ≡ [] }
+    ensures goes { Leaves place (known pass.old) (known pass.new) }
+    ensures alone { LeavesAlone (layout_of chains.now) place (known pass.old) (known pass.new) }
+    ensures stay { OthersStay place.slot (known pass.old) (known pass.new) }
+    ensures share { TwoDrawn (known pass.old) (known pass.new) }
+    ensures room { vec_capacity pass.new.changes ≡ vec_capacity pass.old.changes }
+    ensures len { vec_len pass.new.changes ≡ vec_len pass.old.changes + 1 }
+{
+    let mut locked = lock(chains, rt, &mut pass.steps, place.bucket);
+    unhash(chains, pass, &mut locked, place);
+    unlock(chains, &mut pass.steps, locked);
+}
