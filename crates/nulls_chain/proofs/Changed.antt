@@ -1,5 +1,7 @@
 -- What the calls that change chains show.
-use Rattle.std.proofs.Common.{map, ◌≡◌, ◌≢◌, ℕ, ◌%◌, ◌<◌, List, [], ◌∷◌, ◌++◌, ◌⊎◌, inl, inr, ⊎_elim, Option, None, Some, true, false, cond, Bool, eq-eqb, ne_eqb, ◌/◌, sym, refl, ap, ◌∙◌, arith, subst}
+use Rattle.std.proofs.Common.{map, ◌≡◌, ◌≢◌, ℕ, ◌%◌, ◌<◌, List, [], ◌∷◌, ◌++◌, ◌⊎◌, inl, inr, ⊎_elim, Option, None, Some, true, false, cond, Bool, eqb, eq-eqb, ne_eqb, ◌/◌, sym, refl, ap, ◌∙◌, arith, subst}
+use mathlib.Core.Logic.{dite}
+use native.Mathlib.Decide.{ℕ_discrete}
 use Rattle.table_rule.specs.Lists.{Each, times, total, stands, slots_of}
 use Rattle.table_rule.specs.CardsOk.{tuple, claims, has_tuple, may_claim, all_claims, beside, Differs, MayLight}
 use Rattle.table_rule.specs.Plays.{advancing, beginning, dropping_beginning}

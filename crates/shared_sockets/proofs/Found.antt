@@ -1,5 +1,5 @@
 -- What a survey tells the changes that follow it.
-use Rattle.std.proofs.Common.{◌≡◌, ◌≢◌, ℕ, ◌+◌, ◌/◌, ◌%◌, ◌<◌, ◌≤◌, ◌^◌, List, [], ◌∷◌, Option, None, Some, cond, Bool, true, false, eqb, eq-eqb, ne_eqb, sym, refl, ap, ◌∙◌, arith, subst, find, ◌&&◌, ◌||◌, not, slice_index}
+use Rattle.std.proofs.Common.{◌≡◌, ◌≢◌, ℕ, ◌+◌, ◌/◌, ◌%◌, ◌<◌, ◌≤◌, ◌^◌, List, [], ◌∷◌, Option, None, Some, cond, Bool, true, false, eqb, eq-eqb, ne_eqb, sym, refl, ap, ◌∙◌, arith, subst, find, ◌&&◌, ◌||◌, ⊎_elim, not, slice_index}
 use mathlib.Core.Logic.{dite}
 use native.Mathlib.Decide.{ℕ_discrete}
 use lib.ListN.{get_elem?}
@@ -24,6 +24,7 @@ use Rattle.table_rule.specs.declared.view.Change.{Change}
 use Rattle.table_rule.specs.declared.view.Seen.{Seen}
 use Rattle.table_rule.proofs.Lists.{times-here, times-else}
 use Rattle.nulls_chain.specs.Changes.{Apart, IsAlone}
+use Rattle.nulls_chain.proofs.Changed.{claims_apart}
 use Rattle.shared_sockets.specs.Rows.{hashed_in, row_of, card_words, HasCard, IsIn}
 use Rattle.shared_sockets.specs.Surveys.{Surveyed}
 use Rattle.shared_sockets.specs.declared.survey.Newcomer.{Newcomer}

@@ -1,4 +1,4 @@
-use Rattle.std.proofs.Common.{◌≡◌, ◌+◌, ℕ, ◌∷◌, [], ap, ◌∙◌, sym, subst}
+use Rattle.std.proofs.Common.{◌≡◌, ◌+◌, ℕ, inl, ◌∷◌, [], ap, ◌∙◌, sym, subst}
 use Rattle.table_rule.specs.Calls.{layout_of, view, HasShares}
 use Rattle.table_rule.specs.Passes.{known}
 use Rattle.table_rule.specs.Plays.{Sat, locking}
@@ -44,3 +44,6 @@ returns-clause-share g c = λ more share.
     let is : w ≡ record (locking v c.args.bucket) { chain = w.chain } =
     ap (λ (x : Sat). x.0) c.survey_chain-survey.ensures.kept ∙ ap (λ (x : Sat). record x.0 { chain = w.chain }) c.lock-locked.ensures.view in
     subst (HasShares more) (sym (ap (λ (x : Sat). x.0) c.unlock.ensures.view)) (c.admit-answer.ensures.share more (subst (HasShares (more + 4)) (sym is) share))
+
+pub unlock-requires-clause-alone : goal.unlock-requires-clause-alone
+unlock-requires-clause-alone g c = inl (c.admit-answer.ensures.twice ∙ (ap (λ (x : Sat). x.0.twice) c.survey_chain-survey.ensures.kept ∙ ap (λ (x : Sat). x.0.twice) c.lock-locked.ensures.view))

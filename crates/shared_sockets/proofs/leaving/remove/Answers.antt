@@ -1,4 +1,4 @@
-use Rattle.std.proofs.Common.{◌≡◌, ◌+◌, ℕ, ap, ◌∙◌, sym, subst}
+use Rattle.std.proofs.Common.{◌≡◌, ◌+◌, ℕ, inl, ap, ◌∙◌, sym, subst}
 use Rattle.table_rule.specs.Calls.{layout_of, view, HasShares}
 use Rattle.table_rule.specs.Passes.{known}
 use Rattle.table_rule.specs.Plays.{Sat, locking}
@@ -50,3 +50,6 @@ pub returns-clause-share : goal.returns-clause-share
 returns-clause-share g c = λ more share.
     let lv = ap (λ (y : Sat). y.0) c.lock-locked.ensures.view in
     subst (HasShares more) (sym (ap (λ (y : Sat). y.0) c.unlock.ensures.view)) (c.unhash.ensures.share more (subst (HasShares (more + 2)) (sym lv) share))
+
+pub unlock-requires-clause-alone : goal.unlock-requires-clause-alone
+unlock-requires-clause-alone g c = inl (c.unhash.ensures.twice ∙ ap (λ (x : Sat). x.0.twice) c.lock-locked.ensures.view)
