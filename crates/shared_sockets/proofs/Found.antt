@@ -142,7 +142,7 @@ module _ (card : Card) (moment : ℕ) (rule : Replace) (says : unpacked (packed 
       (eq-eqb card.rport (w.ports / 2 ^ 32 % 2 ^ 16) (sym (ap (λ (c : Card). c.rport) says) ∙ ap (λ (k : ℕ). k % 2 ^ 16) ports)) in
       ap (λ (k : Bool). k && (is_full_kind (unpacked w).kind || is_time_wait_kind (unpacked w).kind && not (may_replace rule moment (unpacked w)))) same
       ∙ (ap (λ (n : ℕ). is_full_kind (kind_at n) || is_time_wait_kind (kind_at n) && not (may_replace rule moment (unpacked w))) at
-          ∙ ap (λ (k : Bool). k || is_time_wait_kind (kind_at kind) && not (may_replace rule moment (unpacked w))) full)
+      ∙ ap (λ (k : Bool). k || is_time_wait_kind (kind_at kind) && not (may_replace rule moment (unpacked w))) full)
 
   apart-one : (s : Seen) → HasCard s → keeps_from card moment rule (hashed_in s).card ≡ false → Apart (packed card).ends (packed card).ports s
   apart-one s h nay =
