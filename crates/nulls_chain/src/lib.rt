@@ -1,6 +1,6 @@
 //! Chains whose ends have numbers: walked, and changed by a hash or an unhash under the bucket's lock.
 //!
-//! [`walk`] goes on to the next socket of a locked bucket's chain, [`finish`] to its end. [`hash`] puts a card first into it, and answers its
+//! [`walk`] goes on to the next socket of a locked bucket's chain. [`hash`] puts a card first into it, and answers its
 //! [`Place`]; [`unhash`] takes a place out, [`unhash_tw`] a TIME_WAIT by its name, [`unhash_slot`] a slot that a walk
 //! found: one change each, with two numbers of the clock, which lookups that lock nothing may meet at any step.
 //! [`hash_with`] and [`unhash_with`] tell a [`Halt`] of each step before it comes.
@@ -23,7 +23,7 @@ mod leaving;
 mod tests;
 mod walking;
 
-pub use finding::finish;
+pub use finding::walk_to_end;
 pub use halting::{Halt, Turning, Unhalted};
 pub use keeping::{Place, hash, hash_with, unhash_slot};
 pub use leaving::{unhash, unhash_tw, unhash_with};

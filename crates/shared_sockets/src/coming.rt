@@ -20,7 +20,7 @@ ghost use Rattle.table_rule.specs.Words.{bucket_count};
 use super::survey::{Newcomer, Survey, survey_chain};
 use bucket_locks::{Locked, lock, unlock};
 use chain_book::Hashed;
-use nulls_chain::{Place, finish, hash, unhash_slot};
+use nulls_chain::{Place, hash, unhash_slot, walk_to_end};
 use shared_slots::Full;
 use sock_card::{Card, pack};
 use std::sync::Wait;
@@ -200,7 +200,7 @@ pub fn add<R: Wait>(
     ensures len { vec_len pass.new.changes ≤ vec_len pass.old.changes + 1 }
 {
     let mut locked = lock(chains, rt, &mut pass.steps, bucket);
-    finish(chains, &mut pass.steps, &mut locked);
+    walk_to_end(chains, &mut pass.steps, &mut locked);
     is_told(card);
     let answer = hash(chains, pass, &locked, from, card);
     unlock(chains, &mut pass.steps, locked);

@@ -13,7 +13,7 @@ ghost use Rattle.table_rule.specs.Words.{bucket_count};
 
 use super::coming::is_told;
 use bucket_locks::{lock, unlock};
-use nulls_chain::{Place, finish, hash, unhash};
+use nulls_chain::{Place, hash, unhash, walk_to_end};
 use shared_slots::Full;
 use sock_card::Card;
 use std::sync::Wait;
@@ -81,7 +81,7 @@ pub fn time_wait<R: Wait>(
     ensures len { vec_len pass.new.changes ≤ vec_len pass.old.changes + 2 }
 {
     let mut locked = lock(chains, rt, &mut pass.steps, place.bucket);
-    finish(chains, &mut pass.steps, &mut locked);
+    walk_to_end(chains, &mut pass.steps, &mut locked);
     is_told(card);
     let answer = hash(chains, pass, &locked, from, card);
     unhash(chains, pass, &mut locked, place);
