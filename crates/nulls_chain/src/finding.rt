@@ -40,8 +40,8 @@ pub(crate) fn slot_before(chains: &Chains, steps: &mut Steps, bucket: u32, slot:
     unreachable!()
 }
 
-// Walks on to the end of the chain.
-pub(crate) fn finish(chains: &Chains, steps: &mut Steps, locked: &mut Locked)
+/// Walks on to the end of the chain, from wherever the walk stands.
+pub fn walk_to_end(chains: &Chains, steps: &mut Steps, locked: &mut Locked)
     requires table { IsOf chains.now steps.old }
     requires at { IsAt (layout_of chains.now) locked.old (view steps.old) }
     requires known { WalkKnown (layout_of chains.now) (view steps.old) }

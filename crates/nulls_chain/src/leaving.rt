@@ -7,7 +7,7 @@ ghost use Rattle.table_rule.specs.Words.{words_of};
 ghost use Rattle.bucket_locks.specs.Locks.{IsAt, WalkKnown};
 ghost use Rattle.nulls_chain.specs.Changes.{Adds, Rest, PlacesStay, OthersStay, TwoDrawn, IsPlaced, TookWait, HasNoWait};
 
-use super::finding::{find_wait, finish};
+use super::finding::{find_wait, walk_to_end};
 use super::halting::{Halt, Unhalted};
 use super::keeping::{Place, unhash_slot, unhash_slot_with};
 use bucket_locks::Locked;
@@ -68,7 +68,7 @@ pub fn unhash_with<H: Halt>(
     ensures room { vec_capacity pass.new.changes ≡ vec_capacity pass.old.changes }
     ensures len { vec_len pass.new.changes ≡ vec_len pass.old.changes + 1 }
 {
-    finish(chains, &mut pass.steps, locked);
+    walk_to_end(chains, &mut pass.steps, locked);
     unhash_slot_with(chains, pass, locked, place.slot, &place.card, halt);
 }
 
@@ -96,7 +96,7 @@ pub fn unhash_tw(chains: &Chains, pass: &mut Pass, locked: &mut Locked, name: u3
     ensures len { vec_len pass.new.changes ≤ vec_len pass.old.changes + 1 }
 {
     let (slot, card) = find_wait(chains, &mut pass.steps, locked, name)?;
-    finish(chains, &mut pass.steps, locked);
+    walk_to_end(chains, &mut pass.steps, locked);
     unhash_slot(chains, pass, locked, slot, &known_card(&card));
     Some(slot)
 }

@@ -23,6 +23,7 @@ mod leaving;
 mod tests;
 mod walking;
 
+pub use finding::walk_to_end;
 pub use halting::{Halt, Turning, Unhalted};
 pub use keeping::{Place, hash, hash_with, unhash_slot};
 pub use leaving::{unhash, unhash_tw, unhash_with};

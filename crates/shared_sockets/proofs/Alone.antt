@@ -7,7 +7,7 @@ use Rattle.sock_card.specs.declared.card.Card.{Card}
 use Rattle.chain_book.specs.Homes.{chain_count, home}
 use Rattle.chain_book.specs.Slots.{free_slot}
 use Rattle.chain_book.specs.declared.outcome.Hashed.{Hashed}
-use Rattle.chain_book.specs.Chains.{Chains, Outcome, put, taken, full, row_at, home_in, keeps, waits, tried, slot_outcome, insert_outcome, placed, hashed, without_replaced}
+use Rattle.chain_book.specs.Chains.{Chains, Outcome, put, taken, full, row_at, home_in, keeps, waits, tried, slot_outcome, insert_outcome, add_outcome, placed, hashed, without_replaced, unhashed}
 use Rattle.table_rule.specs.Plays.{beginning, dropping_beginning, unlocking}
 use Rattle.table_rule.specs.Sole.{Rises, IsNow, IsBare}
 use Rattle.table_rule.specs.declared.view.View.{View}
@@ -21,8 +21,10 @@ use Rattle.shared_slots.specs.declared.fresh.Full.{Full}
 use Rattle.nulls_chain.specs.declared.keeping.Place.{Place}
 use Rattle.shared_sockets.specs.Rows.{row_of, card_words}
 use Rattle.shared_sockets.specs.Surveys.{keeper_in, waiting_in}
-use Rattle.shared_sockets.specs.Comings.{walking, IsChain, Comes, Goes, IsFree, FindsNone, Admits, Refuses, FindsNoSlot, Inserts, name_of}
-use Rattle.shared_sockets.specs.Alone.{chains_of, next_after, IsTold, InsertsAlone, LeavesAlone}
+use Rattle.shared_sockets.specs.Comings as spec
+use Rattle.shared_sockets.specs.Leavings.{Waits}
+use Rattle.shared_sockets.specs.Comings.{HashesTo, walking, IsChain, Comes, Goes, IsFree, FindsNone, Admits, Refuses, FindsNoSlot, Inserts, name_of}
+use Rattle.shared_sockets.specs.Alone.{chains_of, next_after, IsTold, InsertsAlone, LeavesAlone, IsAdded, AddsAlone, WaitsAlone}
 use Rattle.shared_sockets.specs.declared.survey.Newcomer.{Newcomer}
 use Rattle.shared_sockets.specs.declared.coming.Inserted.{Inserted}
 use Rattle.shared_sockets.specs.declared.coming.InsertEnd.{InsertEnd}
@@ -124,6 +126,22 @@ module _ (layout : Layout) (from bucket : ℕ) (le : from ≤ layout.shape.slots
           ap (λ (x : View). x.book.closed) is,
         )
 
+    module _ (card : Card) (home : home_in t card ≡ bucket) where
+      abbrev EndsAdd : Result Place Full → View → Outcome → Type 0
+      EndsAdd r u x = IsAdded bucket card x r × (chains_of layout (next_after x from) u.book.closed ≡ hashed t card x) × IsNow u
+
+      hash_alone : (r : Result Place Full) (u : View) → HashesTo layout from bucket card xs r (walking v bucket xs) u → EndsAdd r u (add_outcome t)
+      hash_alone (Ok place) u h =
+          let told : place ≡ record { bucket = bucket; slot = place.slot; card = card } = λ k. record { bucket = h.bucket_is k; slot = place.slot; card = h.card_is k } in
+          subst (EndsAdd (Ok place) u) (sym (put-is place.slot None h.slot)) (
+            told,
+            comes_left place.slot card (walking v bucket xs) u h.comes ∙ ap (λ (b : ℕ). placed t b place.slot card) (sym home),
+            adds_now (walking v bucket xs) u 1 bucket place.slot _ h.comes.change (walking_now v bucket xs now),
+          )
+      hash_alone (Err f) u h =
+          let none = finds_now u f h in
+          subst (EndsAdd (Err f) u) (sym (full-is u f None h)) (refl, ap (chains_of layout from) none.1, none.0)
+
     module _ (new : Newcomer) (home : home_in t new.card ≡ bucket) where
       abbrev outcome : Outcome
       outcome = insert_outcome t new.card new.moment new.replace
@@ -189,10 +207,30 @@ module _ (layout : Layout) (from bucket : ℕ) (le : from ≤ layout.shape.slots
 
 pub insert_alone : (layout : Layout) (from bucket : ℕ) (new : Newcomer) (result : Result Inserted InsertEnd) (v w : View) → from ≤ layout.shape.slots → bucket < chain_count layout.shape
     → home layout.shape layout.seed new.card ≡ bucket → Inserts layout from bucket new result v w → InsertsAlone layout from bucket new result v w
-insert_alone layout from bucket new result v w le near home h now = ends_alone layout from bucket le near v now h.chain h.seen new home result w h refl
+insert_alone layout from bucket new result v w le near at h now = ends_alone layout from bucket le near v now h.chain h.seen new at result w h refl
 
 pub leaves_alone : (layout : Layout) (place : Place) (v w : View) → place.bucket < chain_count layout.shape → Adds v w 0 place.bucket place.slot (card_words place.card) → LeavesAlone layout place v w
 leaves_alone layout place v w near a now = (
   λ next. ap (chains_of layout next) a.2.3 ∙ unhashed_as_book layout next v.book.closed place.bucket place.slot a.0 a.1 near _,
   adds_now v w 0 place.bucket place.slot _ a now,
 )
+
+pub adds_alone : (layout : Layout) (from bucket : ℕ) (card : Card) (r : Result Place Full) (v w : View) → from ≤ layout.shape.slots → bucket < chain_count layout.shape
+    → home layout.shape layout.seed card ≡ bucket → spec.Adds layout from bucket card r v w → AddsAlone layout from bucket card r v w
+adds_alone layout from bucket card r v w le near at h now =
+    let a = hash_alone layout from bucket le near v now h.chain h.seen card at r h.left h.comes in
+    let next = next_after (add_outcome (chains_of layout from v.book.closed)) from in
+    (a.0, ap (λ (x : View). chains_of layout next x.book.closed) h.unlocked ∙ a.1, unlocking_now h.left w h.unlocked a.2)
+
+pub waits_alone : (layout : Layout) (from : ℕ) (place : Place) (card : Card) (r : Result Place Full) (v w : View) → from ≤ layout.shape.slots → place.bucket < chain_count layout.shape
+    → home layout.shape layout.seed card ≡ place.bucket → Waits layout from place card r v w → WaitsAlone layout from place card r v w
+waits_alone layout from place card r v w le near at h now =
+    let a = hash_alone layout from place.bucket le near v now h.chain h.seen card at r h.between h.comes in
+    let next = next_after (add_outcome (chains_of layout from v.book.closed)) from in (
+      a.0,
+      ap (λ (x : View). chains_of layout next x.book.closed) h.unlocked
+          ∙ (ap (chains_of layout next) h.change.2.3
+          ∙ (unhashed_as_book layout next h.between.book.closed place.bucket place.slot h.change.0 h.change.1 near _
+          ∙ ap (λ (x : Chains). unhashed x (record { bucket = place.bucket; slot = place.slot })) a.1)),
+      unlocking_now h.left w h.unlocked (adds_now h.between h.left 0 place.bucket place.slot _ h.change a.2),
+    )

@@ -5,9 +5,9 @@ ghost use Rattle.bucket_locks.specs.Locks.{IsAt, WalkKnown};
 ghost use Rattle.chain_book.specs.Homes.{home};
 ghost use Rattle.chain_book.specs.declared.outcome.Hashed.{Hashed as Stood};
 ghost use Rattle.nulls_chain.specs.Changes.{IsPlaced, OthersStay, PlacesStay, TwoDrawn};
-ghost use Rattle.shared_sockets.specs.Alone.{InsertsAlone};
+ghost use Rattle.shared_sockets.specs.Alone.{AddsAlone, InsertsAlone};
 ghost use Rattle.shared_sockets.specs.Comings as spec;
-ghost use Rattle.shared_sockets.specs.Comings.{ComesTo, FourDrawn, Goes, Inserts, IsOut};
+ghost use Rattle.shared_sockets.specs.Comings.{Adds, ComesTo, FourDrawn, Goes, Inserts, IsOut};
 ghost use Rattle.shared_sockets.specs.Surveys.{Surveyed};
 ghost use Rattle.sock_card.specs.Words.{packed, unpacked};
 ghost use Rattle.sock_card.specs.declared.card.Kind.TheVariants as kinds;
@@ -20,7 +20,7 @@ ghost use Rattle.table_rule.specs.Words.{bucket_count};
 use super::survey::{Newcomer, Survey, survey_chain};
 use bucket_locks::{Locked, lock, unlock};
 use chain_book::Hashed;
-use nulls_chain::{Place, hash, unhash_slot};
+use nulls_chain::{Place, hash, unhash_slot, walk_to_end};
 use shared_slots::Full;
 use sock_card::{Card, pack};
 use std::sync::Wait;
@@ -74,7 +74,7 @@ fn name_of(found: &Option<Hashed>) -> Option<u32>
 }
 
 // A card is what its words tell, and they fit 64 bits.
-fn is_told(card: &Card)
+pub fn is_told(card: &Card)
     ensures told { unpacked (packed card.now) ≡ card.now }
     ensures fits { (packed card.now).ports < 2 ^ 64 }
 {
@@ -166,6 +166,45 @@ pub fn insert<R: Wait>(
     let mut locked = lock(chains, rt, &mut pass.steps, bucket);
     let survey = survey_chain(chains, &mut pass.steps, &mut locked, new);
     let answer = admit(chains, pass, &locked, from, new, &survey);
+    unlock(chains, &mut pass.steps, locked);
+    answer
+}
+
+/// Hashes a listener into its chain, whatever stands there. `Full`: no slot is free, and nothing has changed.
+///
+/// As `__inet_hash` of net/ipv4/inet_hashtables.c.
+pub fn add<R: Wait>(
+    chains: &Chains,
+    rt: &R,
+    pass: &mut Pass,
+    bucket: u32,
+    from: u32,
+    card: &Card,
+) -> Result<Place, Full>
+    requires table { IsPassOf chains.now pass.old }
+    requires bucket { bucket < bucket_count (layout_of chains.now) }
+    requires home { home (layout_of chains.now).shape (layout_of chains.now).seed card.now ≡ bucket }
+    requires listens { card.now.kind ≡ kinds.Listen }
+    requires idle { IsIdle (known pass.old).slot × ((known pass.old).book.opened ≡ []) }
+    requires free { (known pass.old).chain.locked ≡ [] }
+    requires from { from ≤ (layout_of chains.now).shape.slots }
+    requires room { vec_len pass.old.changes < vec_capacity pass.old.changes }
+    requires share { HasShares 2 (known pass.old) }
+    ensures table { IsPassOf chains.now pass.new }
+    ensures idle { IsIdle (known pass.new).slot × ((known pass.new).book.opened ≡ []) }
+    ensures free { (known pass.new).chain.locked ≡ [] }
+    ensures answer { Adds (layout_of chains.now) from bucket card.now result (known pass.old) (known pass.new) }
+    ensures alone { AddsAlone (layout_of chains.now) from bucket card.now result (known pass.old) (known pass.new) }
+    ensures place { IfOk result (λ place. IsPlaced place (known pass.new).book) }
+    ensures stay { PlacesStay (known pass.old) (known pass.new) }
+    ensures share { TwoDrawn (known pass.old) (known pass.new) }
+    ensures room { vec_capacity pass.new.changes ≡ vec_capacity pass.old.changes }
+    ensures len { vec_len pass.new.changes ≤ vec_len pass.old.changes + 1 }
+{
+    let mut locked = lock(chains, rt, &mut pass.steps, bucket);
+    walk_to_end(chains, &mut pass.steps, &mut locked);
+    is_told(card);
+    let answer = hash(chains, pass, &locked, from, card);
     unlock(chains, &mut pass.steps, locked);
     answer
 }

@@ -16,6 +16,6 @@ mod coming;
 mod leaving;
 mod survey;
 
-pub use coming::{InsertEnd, Inserted, insert};
-pub use leaving::remove;
+pub use coming::{InsertEnd, Inserted, add, insert};
+pub use leaving::{remove, time_wait};
 pub use survey::Newcomer;

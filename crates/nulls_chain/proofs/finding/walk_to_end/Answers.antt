@@ -3,7 +3,7 @@ use Rattle.table_rule.specs.Plays.{Sat}
 use Rattle.table_rule.specs.Calls.{view, seen_of}
 use Rattle.table_rule.specs.declared.view.Seen.{Seen}
 use Rattle.nulls_chain.proofs.Found.{was_chain, went}
-use Rattle.nulls_chain.proofs.finding.finish.Goals as goal
+use Rattle.nulls_chain.proofs.finding.walk_to_end.Goals as goal
 
 pub returns-in-None-clause-sole : goal.returns-in-None-clause-sole
 returns-in-None-clause-sole c = λ _.

@@ -2,7 +2,7 @@ use Rattle.std.proofs.Common.{◌≡◌, ◌≤◌, ◌+◌, ◌%◌, ◌++◌, 
 use Rattle.table_rule.specs.Calls.{IsOf, me, view, layout_of}
 use Rattle.table_rule.specs.declared.view.Seen.{Seen}
 use Rattle.bucket_locks.specs.Locks.{IsAt, WalkKnown}
-use Rattle.nulls_chain.proofs.finding.finish.Given as goal
+use Rattle.nulls_chain.proofs.finding.walk_to_end.Given as goal
 
 abbrev pub invariant-loop-count : goal.invariant-loop-count
 invariant-loop-count l = record {
