@@ -47,11 +47,20 @@ may_light slot card xs alone = record {
   );
 }
 
+not-both : true ≡ false → ⊥
+not-both e = omega (arith, ap {B = ℕ} (λ (b : Bool). cond b 1 0) e)
+
+no_tuple : (b : ℕ) → ((b % 16 ≡ 1) ⊎ (b % 16 ≡ 4) → ⊥) → has_tuple b ≡ false
+no_tuple b other = ap (λ (k : Bool). cond k true (eqb (b % 16) 4)) (ne_eqb (b % 16) 1 (λ e. other (inl e))) ∙ ne_eqb (b % 16) 4 (λ e. other (inr e))
+
+-- a card of another kind than a full socket's and a request's is kept from no chain
+pub kind_alone : (card : CardWords) (xs : List Seen) → ((card.ports % 16 ≡ 1) ⊎ (card.ports % 16 ≡ 4) → ⊥) → IsAlone card xs
+kind_alone card xs other h = absurd (not-both (sym h ∙ no_tuple card.ports other))
+
 -- a card of another four-tuple, or of another kind than a full socket's and a request's
 pub claims_apart : (t a b : ℕ) → ((b % 16 ≡ 1) ⊎ (b % 16 ≡ 4) → tuple a b ≢ t) → claims t a b ≡ 0
 claims_apart t a b far = dite (ℕ_discrete (tuple a b) t)
-    (λ q. ap (λ (k : Bool). cond k (cond (eqb (tuple a b) t) 1 0) 0)
-    (ap (λ (k : Bool). cond k true (eqb (b % 16) 4)) (ne_eqb (b % 16) 1 (λ e. far (inl e) q)) ∙ ne_eqb (b % 16) 4 (λ e. far (inr e) q)))
+    (λ q. ap (λ (k : Bool). cond k (cond (eqb (tuple a b) t) 1 0) 0) (no_tuple b (λ k. far k q)))
     (λ n. ap (λ (k : Bool). cond (has_tuple b) (cond k 1 0) 0) (ne_eqb (tuple a b) t n) ∙ none (has_tuple b))
   where
     none : (k : Bool) → ◌≡◌ {A = ℕ} (cond k 0 0) 0
@@ -90,9 +99,6 @@ leads_on v r e = λ k. going v.chain (ap (λ (b : Bool). cond b (record { slot =
 
 pub leads_end : (v : View) (r : ℕ) → r % 2 ≡ 1 → (advancing v r).chain ≡ going v.chain [] 1
 leads_end v r e = λ k. going v.chain (ap (λ (b : Bool). cond b (record { slot = r / 2; words = [] } ∷ []) []) (ne_eqb (r % 2) 0 (omega (arith, e))) k) (e k)
-
-not-both : true ≡ false → ⊥
-not-both e = omega (arith, ap {B = ℕ} (λ (b : Bool). cond b 1 0) e)
 
 -- where a walk stands once it has gone on
 pub at_even : (layout : Layout) (bucket r : ℕ) (v w : View) (card : CardWords) → v.chain.locked ≡ bucket ∷ [] → bucket < bucket_count layout → r % 2 ≡ 0 → r / 2 < layout.shape.slots → w.chain ≡ going v.chain (seen_of (r / 2) card ∷ []) 0 → IsAt layout (record { bucket = bucket; started = true; link = r }) w

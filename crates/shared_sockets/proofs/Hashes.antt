@@ -16,15 +16,15 @@ use Rattle.shared_slots.specs.declared.fresh.Full.{Full}
 use Rattle.bucket_locks.specs.Locks.{WalkKnown}
 use Rattle.nulls_chain.specs.Changes.{Adds, Rest, IsAlone, IsPlaced, PlacesStay}
 use Rattle.nulls_chain.specs.declared.keeping.Place.{Place}
-use Rattle.nulls_chain.proofs.Changed.{places_kept}
+use Rattle.nulls_chain.proofs.Changed.{places_kept, kind_alone}
 use Rattle.shared_sockets.specs.Rows.{card_words}
 use Rattle.shared_sockets.specs.Comings.{HashesTo}
 
 pub listens_alone : (card : Card) (xs : List Seen) → card.kind ≡ kinds.Listen → IsAlone (packed card) xs
-listens_alone card xs kind full = absurd (omega (arith, ap number_of kind, full))
+listens_alone card xs kind = kind_alone (packed card) xs (⊎_elim (λ full. omega (arith, ap number_of kind, full)) (λ request. omega (arith, ap number_of kind, request)))
 
 pub waits_alone : (card : Card) (xs : List Seen) → card.kind ≡ kinds.TimeWait → IsAlone (packed card) xs
-waits_alone card xs kind full = absurd (omega (arith, ap number_of kind, full))
+waits_alone card xs kind = kind_alone (packed card) xs (⊎_elim (λ full. omega (arith, ap number_of kind, full)) (λ request. omega (arith, ap number_of kind, request)))
 
 -- what `hash` says of its answer
 pub record Said (layout : Layout) (from b : ℕ) (card : Card) (v w : View) (r : Result Place Full) : Type 0 where

@@ -1,4 +1,4 @@
-use Rattle.std.proofs.Common.{◌≡◌, ◌+◌, ℕ, ◌∷◌, [], ap, ◌∙◌, sym, subst}
+use Rattle.std.proofs.Common.{◌≡◌, ◌+◌, ℕ, inl, ◌∷◌, [], ap, ◌∙◌, sym, subst}
 use Rattle.table_rule.specs.Calls.{layout_of, view, HasShares}
 use Rattle.table_rule.specs.Owners.{IsPlace}
 use Rattle.table_rule.specs.Passes.{known}
@@ -62,3 +62,6 @@ returns-clause-share g c = λ more share.
     let is : w ≡ record (locking v c.args.bucket) { chain = w.chain } =
     ap (λ (x : Sat). x.0) c.walk_to_end.ensures.kept ∙ ap (λ (x : Sat). record x.0 { chain = w.chain }) c.lock-locked.ensures.view in
     subst (HasShares more) (sym (ap (λ (x : Sat). x.0) c.unlock.ensures.view)) (c.hash-answer.ensures.share more (subst (HasShares (more + 2)) (sym is) share))
+
+pub unlock-requires-clause-alone : goal.unlock-requires-clause-alone
+unlock-requires-clause-alone g c = inl (c.hash-answer.ensures.twice ∙ (ap (λ (x : Sat). x.0.twice) c.walk_to_end.ensures.kept ∙ ap (λ (x : Sat). x.0.twice) c.lock-locked.ensures.view))
