@@ -1,5 +1,5 @@
 -- What a survey tells the changes that follow it.
-use Rattle.std.proofs.Common.{◌≡◌, ◌≢◌, ℕ, ◌+◌, ◌/◌, ◌%◌, ◌<◌, ◌≤◌, ◌^◌, List, [], ◌∷◌, Option, None, Some, cond, Bool, true, false, eqb, eq-eqb, ne_eqb, sym, refl, ap, ◌∙◌, arith, subst, find, ◌&&◌, ◌||◌, ⊎_elim, not, slice_index}
+use Rattle.std.proofs.Common.{◌≡◌, ◌≢◌, ℕ, ◌+◌, ◌/◌, ◌%◌, ◌<◌, ◌≤◌, ◌^◌, List, [], ◌∷◌, Option, None, Some, cond, Bool, true, false, eq-eqb, ne_eqb, sym, refl, ap, ◌∙◌, arith, subst, find, ◌&&◌, ◌||◌, ⊎_elim, not, slice_index}
 use mathlib.Core.Logic.{dite}
 use native.Mathlib.Decide.{ℕ_discrete}
 use lib.ListN.{get_elem?}

@@ -1,11 +1,11 @@
-use Rattle.std.proofs.Common.{◌<◌, Ok, Option, Some, None, sym, arith, subst}
-use Rattle.null_reader.specs.Looked.{Passed, LookedAs, SoleAs, KnownAs}
+use Rattle.std.proofs.Common.{ℕ, ◌<◌, Ok, Option, Some, None, sym, arith, subst}
+use Rattle.null_reader.specs.Looked.{Between, Passed, LookedAs, SoleAs, KnownAs}
 use Rattle.table_rule.specs.Beyond.{IsCardWords}
 use Rattle.table_rule.specs.Calls.{view, me, layout_of}
 use Rattle.null_reader.specs.declared.answers.WordsEnd.TheVariants as ends
 use Rattle.null_reader.specs.declared.answers.Best.{Best}
 use Rattle.null_reader.specs.declared.answers.PassEnd.TheVariants.{Dead}
-use Rattle.null_reader.proofs.Looks.{between_none, looks_between, seen_between, is_none, looked_none, is_found, looked_found, card_found, passed_seen, sole_none, sole_found, known_none, known_found}
+use Rattle.null_reader.proofs.Looks.{begun, looked_again, between_none, looks_between, seen_between, is_none, looked_none, is_found, looked_found, card_found, passed_seen, sole_none, sole_found, known_none, known_found}
 use Rattle.null_reader.proofs.lookup.look_words.Goals as goal
 use Rattle.table_rule.specs.Words.{words_of}
 
@@ -49,3 +49,8 @@ returns-in-Ok-None-clause-known g c = known_none (layout_of c.args.chains.now) c
 
 pub returns-in-Ok-Some-clause-known : goal.returns-in-Ok-Some-clause-known
 returns-in-Ok-Some-clause-known g c = subst (λ (x : Best). KnownAs c.args.bucket c.args.key c.args.least (view c.args.steps.now) (ends.Found (record { slot = x.slot }) x.card) c.step_clock_start-from.result) (sym c.in-Ok-Some.best-is) (known_found (layout_of c.args.chains.now) c.args.bucket c.args.key c.args.least c.args.passes c.step_clock_start-from.result (me c.args.steps.now) (me c.step_clock_start-from.new.steps) c.step_clock_start-from.ensures.view c.loop-done.done c.loop-done.last (me c.loop-done.steps) (me c.one_pass.new.steps) c.loop-done.invariant.between c.in-Ok-Some.best (subst (λ (x : Option Best). Passed (layout_of c.args.chains.now) (me c.loop-done.steps) c.loop-done.invariant.between.q (Ok x) (me c.one_pass.new.steps)) c.in-Ok-Some.field-0-is (c.in-Ok-Some.ensures.passed c.loop-done.invariant.between.q (looks_between (layout_of c.args.chains.now) c.args.bucket c.args.key c.args.least c.args.passes c.step_clock_start-from.result (me c.args.steps.now) (me c.step_clock_start-from.new.steps) c.step_clock_start-from.ensures.view c.loop-done.done c.loop-done.last (me c.loop-done.steps) (me c.one_pass.new.steps) c.loop-done.invariant.between))) c.step_clock_found-to.ensures.known)
+
+pub returns-clause-looked : goal.returns-clause-looked
+returns-clause-looked g c =
+    let between = subst (λ (d : ℕ). Between (me c.step_clock_start-from.new.steps) (begun c.args.bucket c.args.key c.args.least c.step_clock_start-from.result) d c.loop-done.last (me c.loop-done.steps)) (omega (arith, c.loop-done-test.false, c.loop-done.auto.done-end)) c.loop-done.invariant.between in
+    looked_again (layout_of c.args.chains.now) c.args.bucket c.args.key c.args.least c.args.passes c.step_clock_start-from.result (me c.args.steps.now) (me c.step_clock_start-from.new.steps) c.step_clock_start-from.ensures.view c.loop-done.last (me c.loop-done.steps) between c.requires.passes (me c.step_clock_again-to.new.steps) c.step_clock_again-to.result c.step_clock_again-to.ensures.view
