@@ -5,7 +5,10 @@ use Rattle.table_rule.specs.ReadersOk.{rank_of}
 use Rattle.table_rule.specs.Plays.{settled, Sat, with_reader, with_kept, stopping}
 use Rattle.table_rule.specs.Alone.{NoneStands, CardStands, NoneKnown}
 use Rattle.table_rule.specs.LookCalls.{Looks, IsAtEnd}
+use mathlib.Core.Option.{some}
+use lib.ListN.{get_elem?}
 use Rattle.table_rule.specs.declared.view.View.{View}
+use Rattle.table_rule.specs.declared.view.Change.{Change}
 use Rattle.table_rule.specs.declared.view.Layout.{Layout}
 use Rattle.sock_card.specs.declared.words.CardWords.{CardWords}
 use Rattle.table_rule.specs.declared.view.Kept.{Kept}
@@ -159,6 +162,10 @@ LookedAs bucket key least passes m (ends.Again b stop) t₀ t₁ n = (b ≡ buck
 -- the pass's changes are all there are, and none is open
 abbrev pub IsWhole : View → Type 0
 IsWhole v = (v.slot.parts ≡ 16384) × (v.book.opened ≡ [])
+
+-- all that the pass closed had ended before this number
+abbrev pub HadEnded : View → (number : ℕ) → Type 0
+HadEnded v number = (n : ℕ) (c : Change) → get_elem? v.book.closed n ≡ some c → c.ends < number
 
 -- then the answer is the one of its own changes, and never that the passes stopped
 abbrev pub SoleAs : (bucket : ℕ) (key : Packet) (least : ℕ) → View → WordsEnd → Type 0

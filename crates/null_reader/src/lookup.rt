@@ -4,7 +4,7 @@ ghost use Rattle.table_rule.specs.declared.view.Kept.{Kept};
 ghost use Rattle.sock_card.specs.Words.{word_rank as rank};
 ghost use Rattle.table_rule.specs.Calls.{IsOf, view, me, Becomes, Stays, layout_of};
 ghost use Rattle.table_rule.specs.LookCalls.{Looks, HasRoom, IsNth};
-ghost use Rattle.null_reader.specs.Looked.{so_far, HasTwo, IsVisiting, IsChecking, Keyed, Checked, Visited, Walking, Turned, Passed, LookedAs, IsWhole, SoleAs, KnownAs, IsCardEnd, IsInside};
+ghost use Rattle.null_reader.specs.Looked.{so_far, HasTwo, IsVisiting, IsChecking, Keyed, Checked, Visited, Walking, Turned, Passed, LookedAs, IsWhole, SoleAs, KnownAs, HadEnded, IsCardEnd, IsInside};
 ghost use Rattle.table_rule.specs.Plays.{Sat, with_kept, letting_go, drop_at};
 ghost use Rattle.table_rule.specs.Words.{bucket_count};
 
@@ -258,6 +258,7 @@ pub(crate) fn look_words<P: Pace>(
     ensures inside { IsInside (layout_of chains.now) result.end }
     ensures sole { IsWhole (view steps.old) → SoleAs bucket key least (view steps.old) result.end }
     ensures known { KnownAs bucket key least (view steps.old) result.end result.from }
+    ensures before { HadEnded (view steps.old) result.from }
 {
     pace.step(Point::Start);
     let from = chains.step_clock_start(steps, bucket, key, least);
