@@ -116,33 +116,29 @@ fn look_listener<P: Pace>(
     ensures known { IsKnownWhole (view steps.old) (whole_to packet.now tables.now.layout.seed from result.t1 result.end) }
     ensures own { DrewAll (view steps.old) result.t1 → IsWholeExplained (mine (view steps.old)) (view steps.old).layout (whole_to packet.now tables.now.layout.seed from result.t1 result.end) }
 {
+    let chains = tables.chains;
     let layout = tables.layout;
-    let Look { end, t0: _, t1: _ } = listeners::find(
-        tables.chains,
-        &layout,
-        steps,
-        packet,
-        passes,
-        pace,
-    );
+    let Look { end, t0: _, t1: _ } = listeners::find(chains, &layout, steps, packet, passes, pace);
     match end {
         LookEnd::Found(held, best) => {
+            let groups = tables.groups;
+            let seed = layout.seed;
             let card = by_group(
-                tables.chains,
-                tables.groups,
-                layout.seed,
+                chains,
+                groups,
+                seed,
                 steps,
                 group_passes,
                 packet,
                 &best,
                 pace,
             );
-            put_best(tables.chains, steps, held, pace);
+            put_best(chains, steps, held, pace);
             finish(tables, steps, packet, from, PacketAnswer::Found(card), pace)
         }
         LookEnd::None => finish(tables, steps, packet, from, PacketAnswer::None, pace),
         LookEnd::Again(bucket, stop) => {
-            let stop = book_end(tables.chains, stop);
+            let stop = book_end(chains, stop);
             finish(
                 tables,
                 steps,
