@@ -1,6 +1,6 @@
 ghost use Rattle.std.specs.Prelude.{◌≡◌, ◌<◌, ◌∷◌, [], false};
 ghost use Rattle.table_rule.specs.Calls.{IsOf, view, Becomes, layout_of};
-ghost use Rattle.bucket_locks.specs.Locks.{IsAt};
+ghost use Rattle.bucket_locks.specs.Locks.{IsAt, WalkKnown};
 ghost use Rattle.table_rule.specs.Plays.{locking, unlocking};
 ghost use Rattle.table_rule.specs.Words.{bucket_count};
 
@@ -28,6 +28,8 @@ pub fn lock<R: Wait>(chains: &Chains, rt: &R, steps: &mut Steps, bucket: u32) ->
     ensures table { IsOf chains.now steps.new }
     ensures view { Becomes steps.old steps.new (locking (view steps.old) bucket) }
     ensures at { IsAt (layout_of chains.now) result (view steps.new) }
+    ensures fresh { result.started ≡ false }
+    ensures known { WalkKnown (layout_of chains.now) (view steps.new) }
 {
     for _ in rt.forever() {
         if chains.step_lock(steps, bucket) == 0 {

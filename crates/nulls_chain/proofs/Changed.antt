@@ -13,7 +13,7 @@ use Rattle.table_rule.specs.declared.view.ChainView.{ChainView}
 use Rattle.table_rule.specs.declared.view.Layout.{Layout}
 use Rattle.table_rule.specs.declared.view.Seen.{Seen}
 use Rattle.table_rule.specs.declared.view.Change.{Change}
-use Rattle.table_rule.specs.Owners.{HasPlace, IsPlace}
+use Rattle.table_rule.specs.Owners.{IsPlace}
 use Rattle.atomic_table.proofs.Lists.{at_longer}
 use Rattle.table_rule.proofs.CardSteps.{at_end}
 use Rattle.sock_card.specs.declared.words.CardWords.{CardWords}
@@ -83,29 +83,23 @@ module _ (v w : View) (h : Change) (opened : w.book.opened ≡ []) where
         (λ z. some-ne-none u (sym (ap (λ (l : List Change). get_elem? l has.nth) (sym opened) ∙ z))) has.is;
   }
 
-pub places_stay : (v w : View) (kind bucket slot : ℕ) (card : List ℕ) (other : ℕ) → (kind ≡ 0 → other ≢ slot) → Adds v w kind bucket slot card → HasPlace other v.book → HasPlace other w.book
-places_stay v w kind bucket slot card other far a p =
-    let c : Change = record { kind = kind; bucket = bucket; slot = slot; card = card; begins = a.0; ends = a.1 } in (
-      p.0,
-      p.1,
-      still_place v w p.0 a.2.4.2
-          (λ n there. ap (λ (l : List Change). get_elem? l n) a.2.3 ∙ at_longer v.book.closed (c ∷ []) n p.0 there)
-          (λ u n there. ⊎_elim
-          (λ y. inl y.0)
-          (λ y. inr (λ unhash at. far (ap (λ (x : Change). x.kind) y.0 ∙ unhash) (sym p.1 ∙ (sym at ∙ ap (λ (x : Change). x.slot) (sym y.0)))))
-          (at_end v.book.closed c u n (ap (λ (l : List Change). get_elem? l n) (sym a.2.3) ∙ there)))
-          p.2,
-    )
+pub places_stay : (v w : View) (kind bucket slot : ℕ) (card : List ℕ) (hash : Change) → (kind ≡ 0 → hash.slot ≢ slot) → Adds v w kind bucket slot card → IsPlace v.book hash → IsPlace w.book hash
+places_stay v w kind bucket slot card hash far a p =
+    let c : Change = record { kind = kind; bucket = bucket; slot = slot; card = card; begins = a.0; ends = a.1 } in
+    still_place v w hash a.2.4.2
+    (λ n there. ap (λ (l : List Change). get_elem? l n) a.2.3 ∙ at_longer v.book.closed (c ∷ []) n hash there)
+    (λ u n there. ⊎_elim
+    (λ y. inl y.0)
+    (λ y. inr (λ unhash at. far (ap (λ (x : Change). x.kind) y.0 ∙ unhash) (sym at ∙ ap (λ (x : Change). x.slot) (sym y.0))))
+    (at_end v.book.closed c u n (ap (λ (l : List Change). get_elem? l n) (sym a.2.3) ∙ there)))
+    p
 
-pub places_kept : (v w : View) (other : ℕ) → w.book.closed ≡ v.book.closed → w.book.opened ≡ [] → HasPlace other v.book → HasPlace other w.book
-places_kept v w other closed opened p = (
-  p.0,
-  p.1,
-  still_place v w p.0 opened
-      (λ n there. ap (λ (l : List Change). get_elem? l n) closed ∙ there)
-      (λ u n there. inl (ap (λ (l : List Change). get_elem? l n) (sym closed) ∙ there))
-      p.2,
-)
+pub places_kept : (v w : View) (hash : Change) → w.book.closed ≡ v.book.closed → w.book.opened ≡ [] → IsPlace v.book hash → IsPlace w.book hash
+places_kept v w hash closed opened p =
+    still_place v w hash opened
+    (λ n there. ap (λ (l : List Change). get_elem? l n) closed ∙ there)
+    (λ u n there. inl (ap (λ (l : List Change). get_elem? l n) (sym closed) ∙ there))
+    p
 
 pub two_drawn : (v w : View) (kind bucket slot : ℕ) (card : List ℕ) → v.book.opened ≡ [] → Adds v w kind bucket slot card → Rest v w → TwoDrawn v w
 two_drawn v w kind bucket slot card idle a rest more share =

@@ -1,4 +1,4 @@
-use Rattle.std.specs.Prelude.{◌+◌, ◌≡◌, ◌≢◌, ℕ, ◌<◌, ◌≤◌, ◌%◌, List, [], ◌∷◌, ◌++◌, Option, None, Some}
+use Rattle.std.specs.Prelude.{◌+◌, ◌≡◌, ◌≢◌, ◌==◌, ℕ, ◌<◌, ◌≤◌, ◌%◌, List, [], ◌∷◌, ◌++◌, Option, None, Some, Bool, cond, false, find, slice_index}
 use mathlib.Core.Option.{some}
 use lib.ListN.{get_elem?}
 use Rattle.table_rule.specs.CardsOk.{bears, tuple}
@@ -9,7 +9,14 @@ use Rattle.table_rule.specs.declared.view.View.{View}
 use Rattle.table_rule.specs.declared.view.Layout.{Layout}
 use Rattle.table_rule.specs.declared.view.Seen.{Seen}
 use Rattle.table_rule.specs.Calls.{Tells, HasShares, seen_of}
-use Rattle.table_rule.specs.Owners.{HasPlace}
+use Rattle.table_rule.specs.Owners.{IsPlace}
+use Rattle.table_rule.specs.Sole.{IsSole, chain_from}
+use Rattle.table_rule.specs.Plays.{without}
+use Rattle.table_rule.specs.Words.{words_of}
+use Rattle.table_rule.specs.declared.view.BookView.{BookView}
+use Rattle.table_rule.specs.declared.view.Change.{Change}
+use Rattle.sock_card.specs.Words.{packed}
+use Rattle.nulls_chain.specs.declared.keeping.Place.{Place}
 
 -- s is no full socket's card with the four-tuple of a card that begins with a and b
 pub record Apart (a b : ℕ) (s : Seen) : Type 0 where
@@ -57,14 +64,38 @@ Adds v w kind bucket slot card = (b : ℕ) × (e : ℕ) × AddsAt v w kind bucke
 abbrev pub Rest : View → View → Type 0
 Rest v w = (w.slot.parts ≡ v.slot.parts) × (w.slot.holds ≡ v.slot.holds) × (w.book.lost ≡ v.book.lost) × (w.slot.taken ≡ v.slot.taken) × (w.read ≡ v.read) × (w.since ≡ v.since)
 
--- each place of the pass but the slot stays one
+-- each place of the pass but those in that slot stays one
 abbrev pub OthersStay : ℕ → View → View → Type 0
-OthersStay slot v w = (other : ℕ) → other ≢ slot → HasPlace other v.book → HasPlace other w.book
+OthersStay slot v w = (hash : Change) → hash.slot ≢ slot → IsPlace v.book hash → IsPlace w.book hash
 
 -- each place of the pass stays one
 abbrev pub PlacesStay : View → View → Type 0
-PlacesStay v w = (other : ℕ) → HasPlace other v.book → HasPlace other w.book
+PlacesStay v w = (hash : Change) → IsPlace v.book hash → IsPlace w.book hash
+
+-- the pass hashed this card into this slot of this bucket, and has not begun to unhash it
+abbrev pub IsPlaced : Place → BookView → Type 0
+IsPlaced place b = (hash : Change) × (hash.bucket ≡ place.bucket) × (hash.slot ≡ place.slot) × (hash.card ≡ words_of (packed place.card)) × IsPlace b hash
 
 -- a change draws two numbers of the clock at most: what else the pass could draw it still can
 abbrev pub TwoDrawn : View → View → Type 0
 TwoDrawn v w = (more : ℕ) → HasShares (more + 2) v → HasShares more w
+
+-- the card is a TIME_WAIT's of this name
+abbrev pub waits_as : ℕ → List ℕ → Bool
+waits_as name ws = cond (slice_index ws 1 % 16 == 2) (slice_index ws 2 == name) false
+
+-- the first TIME_WAIT of this name in a list
+abbrev pub wait_in : ℕ → List Seen → Option Seen
+wait_in name xs = find (λ (s : Seen). waits_as name s.words) xs
+
+-- the whole chain as it was found: on a sole pass it is what the pass's changes make
+abbrev pub WasChain : List Seen → ℕ → View → Type 0
+WasChain whole bucket v = IsSole v → whole ≡ chain_from v.book.closed bucket
+
+-- the first TIME_WAIT of this name was taken out of the chain
+abbrev pub TookWait : (name bucket slot : ℕ) → View → View → Type 0
+TookWait name bucket slot v w = (whole : List Seen) × (s : Seen) × WasChain whole bucket v × (wait_in name whole ≡ Some s) × (s.slot ≡ slot) × Adds v w 0 bucket slot s.words × (w.chain.walked ≡ without slot whole)
+
+-- the chain has no TIME_WAIT of this name, and the walk has met its end
+abbrev pub HasNoWait : (name bucket : ℕ) → View → View → Type 0
+HasNoWait name bucket v w = WasChain w.chain.walked bucket v × (wait_in name w.chain.walked ≡ None) × (w.chain.met ≡ 1) × (w ≡ record v { chain = w.chain })

@@ -3,74 +3,33 @@ ghost use Rattle.chain_book.specs.Homes.{home};
 ghost use Rattle.sock_card.specs.Words.{packed};
 ghost use Rattle.table_rule.specs.declared.view.View.{View};
 ghost use Rattle.table_rule.specs.Lists.{stands};
-ghost use Rattle.table_rule.specs.Owners.{time_waits, HasPlace};
+ghost use Rattle.table_rule.specs.Owners.{time_waits};
 ghost use Rattle.table_rule.specs.Sole.{IsBare, FirstFree, AllUsed};
 ghost use Rattle.table_rule.specs.Beyond.{IsCardWords};
 ghost use Rattle.table_rule.specs.Calls.{IsIdle, HasShares, MayUnhash, layout_of};
 ghost use Rattle.table_rule.specs.Passes.{IsPassOf, known};
 ghost use Rattle.table_rule.specs.Words.{words_of, home_of};
 ghost use Rattle.table_rule.specs.Plays.{beginning, dropping_beginning, without, card_in};
-ghost use Rattle.bucket_locks.specs.Locks.{IsAt};
+ghost use Rattle.bucket_locks.specs.Locks.{IsAt, WalkKnown};
 ghost use Rattle.shared_slots.specs.Claims.{IsFull};
-ghost use Rattle.nulls_chain.specs.Changes.{IsAlone, hashed, Stands, Adds, Rest, PlacesStay, OthersStay, TwoDrawn};
+ghost use Rattle.nulls_chain.specs.Changes.{IsAlone, hashed, Adds, Rest, PlacesStay, OthersStay, TwoDrawn, IsPlaced};
 
 use super::changes::{hash_numbered, unhash_numbered};
+use super::finding::slot_before;
+use super::halting::{Halt, Unhalted};
 use bucket_locks::Locked;
 use chain_book::{Act, Change};
 use shared_slots::Full;
 use sock_card::{Card, CardWords, pack};
 use table_rule::{Chains, Pass};
 
-fn hash_words(
-    chains: &Chains,
-    pass: &mut Pass,
-    locked: &Locked,
-    from: u32,
-    card: &Card,
-    words: &CardWords,
-) -> Result<u32, Full>
-    requires table { IsPassOf chains.now pass.old }
-    requires at { IsAt (layout_of chains.now) locked.now (known pass.old) × (locked.now.started ≡ true) }
-    requires idle { IsIdle (known pass.old).slot × ((known pass.old).book.opened ≡ []) }
-    requires from { from ≤ (layout_of chains.now).shape.slots }
-    requires room { vec_len pass.old.changes < vec_capacity pass.old.changes }
-    requires share { HasShares 2 (known pass.old) }
-    requires whole { ((known pass.old).chain.met ≡ 1) × ((known pass.old).chain.ahead ≡ []) }
-    requires alone { IsAlone words.now (known pass.old).chain.walked }
-    requires words { IsCardWords (words_of words.now) }
-    requires same { words.now ≡ packed card.now }
-    requires home { home_of (layout_of chains.now) (words_of words.now) ≡ locked.now.bucket }
-    ensures table { IsPassOf chains.now pass.new }
-    ensures at { IsAt (layout_of chains.now) locked.now (known pass.new) }
-    ensures idle { IsIdle (known pass.new).slot × ((known pass.new).book.opened ≡ []) }
-    ensures some { IfOk result (λ slot. (slot < (layout_of chains.now).shape.slots) × ((known pass.new).chain ≡ hashed (known pass.old).chain slot words.now)) }
-    ensures far { IfOk result (λ slot. stands slot (known pass.old).chain.walked ≡ 0) }
-    ensures first { IfOk result (λ slot. IsBare (known pass.old) → FirstFree (known pass.old).book.closed (layout_of chains.now).shape.slots from slot) }
-    ensures all { IfErr result (λ f. IsBare (known pass.old) → AllUsed (known pass.old).book.closed 0 (layout_of chains.now).shape.slots × (f.held ≡ 0)) }
-    ensures place { IfOk result (λ slot. time_waits (words_of words.now) ≡ 0 → HasPlace slot (known pass.new).book) }
-    ensures stay { PlacesStay (known pass.old) (known pass.new) }
-    ensures share { TwoDrawn (known pass.old) (known pass.new) }
-    ensures change { IfOk result (λ slot. Adds (known pass.old) (known pass.new) 1 locked.now.bucket slot (words_of words.now)) }
-    ensures rest { IfOk result (λ slot. Rest (known pass.old) (known pass.new)) }
-    ensures full { IfErr result (λ f. (b : ℕ) × (w : View) × IsFull (layout_of chains.now) (beginning (known pass.old) b) w f × ((known pass.old).seen ≤ b) × ((known pass.new) ≡ dropping_beginning w)) }
-    ensures same { IfErr result (λ f. (known pass.new).book.closed ≡ (known pass.old).book.closed) }
-    ensures room { vec_capacity pass.new.changes ≡ vec_capacity pass.old.changes }
-    ensures len { vec_len pass.new.changes ≤ vec_len pass.old.changes + 1 }
-{
-    match hash_numbered(chains, &mut pass.steps, locked, from, words) {
-        Err(full) => Err(full),
-        Ok(done) => {
-            pass.changes.push_reserved(Change {
-                bucket: locked.bucket,
-                slot: done.slot,
-                card: *card,
-                act: Act::Hash,
-                begin: done.begin,
-                end: done.end,
-            });
-            Ok(done.slot)
-        }
-    }
+/// Where a card stands that a pass hashed: the bucket, the slot, and the card, which nobody reads again once the chain
+/// was walked.
+#[derive(Debug, Drop)]
+pub struct Place {
+    pub bucket: u32,
+    pub slot: u32,
+    pub card: Card,
 }
 
 /// Hashes a card into its bucket, whose chain was walked to its end: from then on its slot is first in the chain.
@@ -86,7 +45,7 @@ pub fn hash(
     locked: &Locked,
     from: u32,
     card: &Card,
-) -> Result<u32, Full>
+) -> Result<Place, Full>
     requires table { IsPassOf chains.now pass.old }
     requires at { IsAt (layout_of chains.now) locked.now (known pass.old) × (locked.now.started ≡ true) }
     requires idle { IsIdle (known pass.old).slot × ((known pass.old).book.opened ≡ []) }
@@ -99,38 +58,90 @@ pub fn hash(
     ensures table { IsPassOf chains.now pass.new }
     ensures at { IsAt (layout_of chains.now) locked.now (known pass.new) }
     ensures idle { IsIdle (known pass.new).slot × ((known pass.new).book.opened ≡ []) }
-    ensures some { IfOk result (λ slot. (slot < (layout_of chains.now).shape.slots) × ((known pass.new).chain ≡ hashed (known pass.old).chain slot (packed card.now))) }
-    ensures far { IfOk result (λ slot. stands slot (known pass.old).chain.walked ≡ 0) }
-    ensures first { IfOk result (λ slot. IsBare (known pass.old) → FirstFree (known pass.old).book.closed (layout_of chains.now).shape.slots from slot) }
+    ensures some { IfOk result (λ place. (place.slot < (layout_of chains.now).shape.slots) × (place.bucket ≡ locked.now.bucket) × (place.card ≡ card.now)) }
+    ensures chain { IfOk result (λ place. (known pass.new).chain ≡ hashed (known pass.old).chain place.slot (packed card.now)) }
+    ensures far { IfOk result (λ place. stands place.slot (known pass.old).chain.walked ≡ 0) }
+    ensures known { IfOk result (λ place. WalkKnown (layout_of chains.now) (known pass.old) → WalkKnown (layout_of chains.now) (known pass.new)) }
+    ensures first { IfOk result (λ place. IsBare (known pass.old) → FirstFree (known pass.old).book.closed (layout_of chains.now).shape.slots from place.slot) }
     ensures all { IfErr result (λ f. IsBare (known pass.old) → AllUsed (known pass.old).book.closed 0 (layout_of chains.now).shape.slots × (f.held ≡ 0)) }
-    ensures place { IfOk result (λ slot. time_waits (words_of (packed card.now)) ≡ 0 → HasPlace slot (known pass.new).book) }
+    ensures place { IfOk result (λ place. time_waits (words_of (packed card.now)) ≡ 0 → IsPlaced place (known pass.new).book) }
     ensures stay { PlacesStay (known pass.old) (known pass.new) }
     ensures share { TwoDrawn (known pass.old) (known pass.new) }
-    ensures change { IfOk result (λ slot. Adds (known pass.old) (known pass.new) 1 locked.now.bucket slot (words_of (packed card.now))) }
-    ensures rest { IfOk result (λ slot. Rest (known pass.old) (known pass.new)) }
+    ensures change { IfOk result (λ place. Adds (known pass.old) (known pass.new) 1 locked.now.bucket place.slot (words_of (packed card.now))) }
+    ensures rest { IfOk result (λ place. Rest (known pass.old) (known pass.new)) }
+    ensures full { IfErr result (λ f. (b : ℕ) × (w : View) × IsFull (layout_of chains.now) (beginning (known pass.old) b) w f × ((known pass.old).seen ≤ b) × ((known pass.new) ≡ dropping_beginning w)) }
+    ensures same { IfErr result (λ f. (known pass.new).book.closed ≡ (known pass.old).book.closed) }
+    ensures room { vec_capacity pass.new.changes ≡ vec_capacity pass.old.changes }
+    ensures len { vec_len pass.new.changes ≤ vec_len pass.old.changes + 1 }
+{
+    hash_with(chains, pass, locked, from, card, &mut Unhalted)
+}
+
+/// [`hash`], with a halt that is called before each of its steps.
+pub fn hash_with<H: Halt>(
+    chains: &Chains,
+    pass: &mut Pass,
+    locked: &Locked,
+    from: u32,
+    card: &Card,
+    halt: &mut H,
+) -> Result<Place, Full>
+    requires table { IsPassOf chains.now pass.old }
+    requires at { IsAt (layout_of chains.now) locked.now (known pass.old) × (locked.now.started ≡ true) }
+    requires idle { IsIdle (known pass.old).slot × ((known pass.old).book.opened ≡ []) }
+    requires from { from ≤ (layout_of chains.now).shape.slots }
+    requires room { vec_len pass.old.changes < vec_capacity pass.old.changes }
+    requires share { HasShares 2 (known pass.old) }
+    requires whole { ((known pass.old).chain.met ≡ 1) × ((known pass.old).chain.ahead ≡ []) }
+    requires alone { IsAlone (packed card.now) (known pass.old).chain.walked }
+    requires home { home (layout_of chains.now).shape (layout_of chains.now).seed card.now ≡ locked.now.bucket }
+    ensures table { IsPassOf chains.now pass.new }
+    ensures at { IsAt (layout_of chains.now) locked.now (known pass.new) }
+    ensures idle { IsIdle (known pass.new).slot × ((known pass.new).book.opened ≡ []) }
+    ensures some { IfOk result (λ place. (place.slot < (layout_of chains.now).shape.slots) × (place.bucket ≡ locked.now.bucket) × (place.card ≡ card.now)) }
+    ensures chain { IfOk result (λ place. (known pass.new).chain ≡ hashed (known pass.old).chain place.slot (packed card.now)) }
+    ensures far { IfOk result (λ place. stands place.slot (known pass.old).chain.walked ≡ 0) }
+    ensures known { IfOk result (λ place. WalkKnown (layout_of chains.now) (known pass.old) → WalkKnown (layout_of chains.now) (known pass.new)) }
+    ensures first { IfOk result (λ place. IsBare (known pass.old) → FirstFree (known pass.old).book.closed (layout_of chains.now).shape.slots from place.slot) }
+    ensures all { IfErr result (λ f. IsBare (known pass.old) → AllUsed (known pass.old).book.closed 0 (layout_of chains.now).shape.slots × (f.held ≡ 0)) }
+    ensures place { IfOk result (λ place. time_waits (words_of (packed card.now)) ≡ 0 → IsPlaced place (known pass.new).book) }
+    ensures stay { PlacesStay (known pass.old) (known pass.new) }
+    ensures share { TwoDrawn (known pass.old) (known pass.new) }
+    ensures change { IfOk result (λ place. Adds (known pass.old) (known pass.new) 1 locked.now.bucket place.slot (words_of (packed card.now))) }
+    ensures rest { IfOk result (λ place. Rest (known pass.old) (known pass.new)) }
     ensures full { IfErr result (λ f. (b : ℕ) × (w : View) × IsFull (layout_of chains.now) (beginning (known pass.old) b) w f × ((known pass.old).seen ≤ b) × ((known pass.new) ≡ dropping_beginning w)) }
     ensures same { IfErr result (λ f. (known pass.new).book.closed ≡ (known pass.old).book.closed) }
     ensures room { vec_capacity pass.new.changes ≡ vec_capacity pass.old.changes }
     ensures len { vec_len pass.new.changes ≤ vec_len pass.old.changes + 1 }
 {
     let words = pack(card);
-    hash_words(chains, pass, locked, from, card, &words)
+    match hash_numbered(chains, &mut pass.steps, locked, from, &words, halt) {
+        Err(full) => Err(full),
+        Ok(done) => {
+            pass.changes.push_reserved(Change {
+                bucket: locked.bucket,
+                slot: done.slot,
+                card: *card,
+                act: Act::Hash,
+                begin: done.begin,
+                end: done.end,
+            });
+            Ok(Place {
+                bucket: locked.bucket,
+                slot: done.slot,
+                card: *card,
+            })
+        }
+    }
 }
 
-/// Unhashes the slot that stands in the walked list behind another, or first.
+/// Unhashes a slot of a chain that was walked to its end.
 ///
-/// A number is drawn from the clock, the slot dimmed, passed over and released, and a second number drawn. The change is
+/// Its predecessor is found by the links alone, from the head on. Then a number is drawn from the clock, the slot dimmed, passed over and released, and a second number drawn. The change is
 /// kept in room that was made before. A card that is no TIME_WAIT's is unhashed by the pass that hashed it alone.
 ///
 /// As `inet_unhash` of net/ipv4/inet_hashtables.c does by `hlist_nulls_del_init_rcu`.
-pub fn unhash(
-    chains: &Chains,
-    pass: &mut Pass,
-    locked: &Locked,
-    before: Option<u32>,
-    slot: u32,
-    card: &Card,
-)
+pub fn unhash_slot(chains: &Chains, pass: &mut Pass, locked: &Locked, slot: u32, card: &Card)
     requires table { IsPassOf chains.now pass.old }
     requires at { IsAt (layout_of chains.now) locked.now (known pass.old) × (locked.now.started ≡ true) }
     requires slot { slot < (layout_of chains.now).shape.slots }
@@ -139,7 +150,9 @@ pub fn unhash(
     requires card { card_in slot (known pass.old).chain.walked ≡ words_of (packed card.now) }
     requires room { vec_len pass.old.changes < vec_capacity pass.old.changes }
     requires own { MayUnhash slot (known pass.old) }
-    requires listed { Stands (layout_of chains.now) before slot (known pass.old) }
+    requires whole { ((known pass.old).chain.met ≡ 1) × ((known pass.old).chain.ahead ≡ []) }
+    requires known { WalkKnown (layout_of chains.now) (known pass.old) }
+    requires listed { 0 < stands slot (known pass.old).chain.walked }
     ensures table { IsPassOf chains.now pass.new }
     ensures idle { IsIdle (known pass.new).slot × ((known pass.new).book.opened ≡ []) }
     ensures change { Adds (known pass.old) (known pass.new) 0 locked.now.bucket slot (words_of (packed card.now)) }
@@ -151,7 +164,42 @@ pub fn unhash(
     ensures room { vec_capacity pass.new.changes ≡ vec_capacity pass.old.changes }
     ensures len { vec_len pass.new.changes ≡ vec_len pass.old.changes + 1 }
 {
-    let done = unhash_numbered(chains, &mut pass.steps, locked, before, slot);
+    unhash_slot_with(chains, pass, locked, slot, card, &mut Unhalted);
+}
+
+// The same, with a halt that is called before each step.
+pub(crate) fn unhash_slot_with<H: Halt>(
+    chains: &Chains,
+    pass: &mut Pass,
+    locked: &Locked,
+    slot: u32,
+    card: &Card,
+    halt: &mut H,
+)
+    requires table { IsPassOf chains.now pass.old }
+    requires at { IsAt (layout_of chains.now) locked.now (known pass.old) × (locked.now.started ≡ true) }
+    requires slot { slot < (layout_of chains.now).shape.slots }
+    requires idle { IsIdle (known pass.old).slot × ((known pass.old).book.opened ≡ []) }
+    requires share { HasShares 2 (known pass.old) }
+    requires card { card_in slot (known pass.old).chain.walked ≡ words_of (packed card.now) }
+    requires room { vec_len pass.old.changes < vec_capacity pass.old.changes }
+    requires own { MayUnhash slot (known pass.old) }
+    requires whole { ((known pass.old).chain.met ≡ 1) × ((known pass.old).chain.ahead ≡ []) }
+    requires known { WalkKnown (layout_of chains.now) (known pass.old) }
+    requires listed { 0 < stands slot (known pass.old).chain.walked }
+    ensures table { IsPassOf chains.now pass.new }
+    ensures idle { IsIdle (known pass.new).slot × ((known pass.new).book.opened ≡ []) }
+    ensures change { Adds (known pass.old) (known pass.new) 0 locked.now.bucket slot (words_of (packed card.now)) }
+    ensures stay { OthersStay slot (known pass.old) (known pass.new) }
+    ensures share { TwoDrawn (known pass.old) (known pass.new) }
+    ensures rest { Rest (known pass.old) (known pass.new) }
+    ensures at { IsAt (layout_of chains.now) locked.now (known pass.new) }
+    ensures gone { (known pass.new).chain ≡ record (known pass.old).chain { walked = without slot (known pass.old).chain.walked } }
+    ensures room { vec_capacity pass.new.changes ≡ vec_capacity pass.old.changes }
+    ensures len { vec_len pass.new.changes ≡ vec_len pass.old.changes + 1 }
+{
+    let before = slot_before(chains, &mut pass.steps, locked.bucket, slot);
+    let done = unhash_numbered(chains, &mut pass.steps, locked, before, slot, halt);
     pass.changes.push_reserved(Change {
         bucket: locked.bucket,
         slot,

@@ -5,10 +5,11 @@ ghost use Rattle.chain_book.specs.Homes.{home};
 ghost use Rattle.sock_card.specs.declared.card.Kind.TheVariants as kinds;
 ghost use Rattle.table_rule.specs.Calls.{HasShares, IsIdle, layout_of};
 ghost use Rattle.table_rule.specs.Passes.{IsPassOf, known};
-ghost use Rattle.bucket_locks.specs.Locks.{IsAt};
+ghost use Rattle.bucket_locks.specs.Locks.{IsAt, WalkKnown};
 ghost use Rattle.table_rule.specs.Words.{bucket_count};
 
-use crate::keeping::{hash, unhash};
+use crate::keeping::hash;
+use crate::leaving::unhash;
 use crate::walking::walk;
 use bucket_locks::{Locked, lock, unlock};
 use chain_book::{Shape, home};
@@ -38,22 +39,24 @@ const CARD: Card = Card {
 };
 
 // Hashes the card into the chain, which is empty, and unhashes it: the slot that it had.
-fn come_and_go(chains: &Chains, pass: &mut Pass, locked: &Locked, card: &Card) -> Option<u32>
+fn come_and_go(chains: &Chains, pass: &mut Pass, locked: &mut Locked, card: &Card) -> Option<u32>
     requires table { IsPassOf chains.now pass.old }
-    requires at { IsAt (layout_of chains.now) locked.now (known pass.old) × (locked.now.started ≡ true) }
+    requires at { IsAt (layout_of chains.now) locked.old (known pass.old) × (locked.old.started ≡ true) }
     requires empty { ((known pass.old).chain.walked ≡ []) × ((known pass.old).chain.met ≡ 1) × ((known pass.old).chain.ahead ≡ []) }
+    requires walked { WalkKnown (layout_of chains.now) (known pass.old) }
     requires idle { IsIdle (known pass.old).slot × ((known pass.old).book.opened ≡ []) }
-    requires home { home (layout_of chains.now).shape (layout_of chains.now).seed card.now ≡ locked.now.bucket }
+    requires home { home (layout_of chains.now).shape (layout_of chains.now).seed card.now ≡ locked.old.bucket }
     requires share { HasShares 4 (known pass.old) }
     requires listens { card.now.kind ≡ kinds.Listen }
     requires room { vec_len pass.old.changes + 2 ≤ vec_capacity pass.old.changes }
     ensures table { IsPassOf chains.now pass.new }
     ensures idle { IsIdle (known pass.new).slot × ((known pass.new).book.opened ≡ []) }
-    ensures at { IsAt (layout_of chains.now) locked.now (known pass.new) }
+    ensures at { IsAt (layout_of chains.now) locked.new (known pass.new) }
 {
     match hash(chains, pass, locked, 0, card) {
-        Ok(slot) => {
-            unhash(chains, pass, locked, None, slot, card);
+        Ok(place) => {
+            let slot = place.slot;
+            unhash(chains, pass, locked, place);
             Some(slot)
         }
         Err(_) => None,
@@ -80,7 +83,7 @@ fn come_and_go_in<R: Wait>(
     let mut locked = lock(chains, rt, &mut pass.steps, bucket);
     let slot = match walk(chains, &mut pass.steps, &mut locked) {
         Some(_) => None,
-        None => come_and_go(chains, pass, &locked, card),
+        None => come_and_go(chains, pass, &mut locked, card),
     };
     unlock(chains, &mut pass.steps, locked);
     slot

@@ -4,7 +4,7 @@ ghost use Rattle.table_rule.specs.Sole.{SoleKnown};
 ghost use Rattle.table_rule.specs.Beyond.{IsCardWords};
 ghost use Rattle.table_rule.specs.Calls.{IsOf, IsIdle, seen_of, view, me, layout_of, Becomes};
 ghost use Rattle.table_rule.specs.Words.{words_of};
-ghost use Rattle.bucket_locks.specs.Locks.{IsAt};
+ghost use Rattle.bucket_locks.specs.Locks.{IsAt, WalkKnown};
 ghost use Rattle.nulls_chain.specs.Changes.{going};
 
 use bucket_locks::Locked;
@@ -66,6 +66,7 @@ pub fn walk(chains: &Chains, steps: &mut Steps, locked: &mut Locked) -> Option<(
     ensures known { IfNone result (SoleKnown (view steps.new)) }
     ensures places { IfNone result (PlacesListed (view steps.new)) }
     ensures fits { Fits (layout_of chains.now) (view steps.new) }
+    ensures walked { WalkKnown (layout_of chains.now) (view steps.old) → WalkKnown (layout_of chains.now) (view steps.new) }
 {
     let link = step(chains, steps, locked);
     locked.started = true;

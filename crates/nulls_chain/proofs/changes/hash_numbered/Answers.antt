@@ -1,7 +1,8 @@
-use Rattle.std.proofs.Common.{rules, [], List, sym, ap, refl, arith, subst}
+use Rattle.std.proofs.Common.{rules, ℕ, [], List, sym, ap, refl, arith, subst}
 use Rattle.table_rule.specs.Plays.{Sat, first_of}
 use Rattle.table_rule.specs.Book.{open-end}
 use Rattle.table_rule.specs.declared.view.Change.{Change}
+use Rattle.table_rule.specs.Owners.{IsPlace}
 use Rattle.table_rule.specs.Sole.{IsBare, FirstFree, AllUsed}
 use Rattle.shared_slots.proofs.Tries.{bare_began}
 use Rattle.nulls_chain.proofs.changes.hash_numbered.Goals as goal
@@ -9,34 +10,34 @@ use Rattle.table_rule.specs.Calls.{view, layout_of}
 use Rattle.table_rule.specs.Words.{words_of}
 
 pub claim-requires-clause-begun : goal.claim-requires-clause-begun
-claim-requires-clause-begun c = (record { kind = 2; bucket = first_of (view c.args.steps.now).chain.locked; slot = 0; card = []; begins = c.step_begin_hash-begin.result; ends = open-end }, ap (λ (s : Sat). s.0.book.opened) c.step_begin_hash-begin.ensures.view, refl)
+claim-requires-clause-begun g c = (record { kind = 2; bucket = first_of (view c.args.steps.now).chain.locked; slot = 0; card = []; begins = c.step_begin_hash-begin.result; ends = open-end }, ap (λ (s : Sat). s.0.book.opened) c.step_begin_hash-begin.ensures.view, refl)
 
 pub step_forget-requires-clause-open : goal.step_forget-requires-clause-open
-step_forget-requires-clause-open c = (record { kind = 2; bucket = first_of (view c.args.steps.now).chain.locked; slot = 0; card = []; begins = c.step_begin_hash-begin.result; ends = open-end }, search rules, refl)
+step_forget-requires-clause-open g c = (record { kind = 2; bucket = first_of (view c.args.steps.now).chain.locked; slot = 0; card = []; begins = c.step_begin_hash-begin.result; ends = open-end }, search rules, refl)
 
 pub link-requires-clause-begun : goal.link-requires-clause-begun
-link-requires-clause-begun c = ((record { kind = 1; bucket = first_of (view c.args.steps.now).chain.locked; slot = c.in-Ok.slot; card = []; begins = c.step_begin_hash-begin.result; ends = open-end }, search rules, refl, refl), search rules)
+link-requires-clause-begun g c = ((record { kind = 1; bucket = first_of (view c.args.steps.now).chain.locked; slot = c.in-Ok.slot; card = []; begins = c.step_begin_hash-begin.result; ends = open-end }, search rules, refl, refl), search rules)
 
 pub step_end-end-requires-clause-held : goal.step_end-end-requires-clause-held
-step_end-end-requires-clause-held c = (c.args.locked.now.bucket, search rules)
+step_end-end-requires-clause-held g c = (c.args.locked.now.bucket, search rules)
 
 pub step_end-end-requires-clause-open : goal.step_end-end-requires-clause-open
-step_end-end-requires-clause-open c = (record { kind = 1; bucket = first_of (view c.args.steps.now).chain.locked; slot = c.in-Ok.slot; card = words_of c.args.card.now; begins = c.step_begin_hash-begin.result; ends = open-end }, search rules, omega arith)
+step_end-end-requires-clause-open g c = (record { kind = 1; bucket = first_of (view c.args.steps.now).chain.locked; slot = c.in-Ok.slot; card = words_of c.args.card.now; begins = c.step_begin_hash-begin.result; ends = open-end }, search rules, omega arith)
 
 pub returns-in-Err-clause-all : goal.returns-in-Err-clause-all
-returns-in-Err-clause-all c = λ b.
+returns-in-Err-clause-all g c = λ b.
     let w = subst IsBare (sym (ap (λ (s : Sat). s.0) c.step_begin_hash-begin.ensures.view)) (bare_began (view c.args.steps.now) c.step_begin_hash-begin.result b) in
     (subst (λ (l : List Change). AllUsed l 0 (layout_of c.args.chains.now).shape.slots) (ap (λ (s : Sat). s.0.book.closed) c.step_begin_hash-begin.ensures.view) (c.in-Err.ensures.all w).0, (c.in-Err.ensures.all w).1)
 
 pub returns-in-Ok-clause-first : goal.returns-in-Ok-clause-first
-returns-in-Ok-clause-first c = λ b.
+returns-in-Ok-clause-first g c = λ b.
     let w = subst IsBare (sym (ap (λ (s : Sat). s.0) c.step_begin_hash-begin.ensures.view)) (bare_began (view c.args.steps.now) c.step_begin_hash-begin.result b) in
     subst (λ (l : List Change). FirstFree l (layout_of c.args.chains.now).shape.slots c.args.from c.in-Ok.slot) (ap (λ (s : Sat). s.0.book.closed) c.step_begin_hash-begin.ensures.view) (c.in-Ok.ensures.first w)
 
 pub write_card-requires-clause-begun : goal.write_card-requires-clause-begun
-write_card-requires-clause-begun c = (record { kind = 1; bucket = first_of (view c.args.steps.now).chain.locked; slot = c.in-Ok.slot; card = []; begins = c.step_begin_hash-begin.result; ends = open-end }, search rules, refl, refl)
+write_card-requires-clause-begun g c = (record { kind = 1; bucket = first_of (view c.args.steps.now).chain.locked; slot = c.in-Ok.slot; card = []; begins = c.step_begin_hash-begin.result; ends = open-end }, search rules, refl, refl)
 
 pub returns-in-Ok-clause-place : goal.returns-in-Ok-clause-place
-returns-in-Ok-clause-place c = λ stays.
+returns-in-Ok-clause-place g c = λ stays.
     let h : Change = record { kind = 1; bucket = first_of (view c.args.steps.now).chain.locked; slot = c.in-Ok.slot; card = words_of c.args.card.now; begins = c.step_begin_hash-begin.result; ends = open-end } in
-    (record h { ends = c.step_end-end.result }, refl, c.step_end-end.ensures.place h (search rules) refl stays)
+    subst (λ (b : ℕ). IsPlace (view c.step_end-end.new.steps).book (record { kind = 1; bucket = b; slot = c.in-Ok.slot; card = words_of c.args.card.now; begins = c.step_begin_hash-begin.result; ends = c.step_end-end.result })) (ap first_of c.requires.at.0.0) (c.step_end-end.ensures.place h (search rules) refl stays)

@@ -10,16 +10,16 @@ use Rattle.std.proofs.Common.{append_assoc, ◌⊎◌, ◌<◌}
 use Rattle.nulls_chain.proofs.changes.leave.Goals as goal
 
 pub step_clear_live-requires-clause-listed : goal.step_clear_live-requires-clause-listed
-step_clear_live-requires-clause-listed c = stands_in (layout_of c.args.chains.now) c.args.before c.args.slot (view c.args.steps.now) c.requires.listed
+step_clear_live-requires-clause-listed g c = stands_in (layout_of c.args.chains.now) c.args.before c.args.slot (view c.args.steps.now) c.requires.listed
 
 pub step_again_link-link-requires-clause-held : goal.step_again_link-link-requires-clause-held
-step_again_link-link-requires-clause-held c = (c.args.bucket, ap (λ (s : Sat). s.0.chain.locked) c.step_clear_live.ensures.view ∙ c.requires.held.0)
+step_again_link-link-requires-clause-held g c = (c.args.bucket, ap (λ (s : Sat). s.0.chain.locked) c.step_clear_live.ensures.view ∙ c.requires.held.0)
 
 pub step_again_link-link-requires-clause-listed : goal.step_again_link-link-requires-clause-listed
-step_again_link-link-requires-clause-listed c = subst (λ (l : List Seen). 0 < stands c.args.slot l) (sym (ap (λ (s : Sat). s.0.chain.walked) c.step_clear_live.ensures.view)) (stands_in (layout_of c.args.chains.now) c.args.before c.args.slot (view c.args.steps.now) c.requires.listed)
+step_again_link-link-requires-clause-listed g c = subst (λ (l : List Seen). 0 < stands c.args.slot l) (sym (ap (λ (s : Sat). s.0.chain.walked) c.step_clear_live.ensures.view)) (stands_in (layout_of c.args.chains.now) c.args.before c.args.slot (view c.args.steps.now) c.requires.listed)
 
 pub step_past_head-requires-clause-first : goal.step_past_head-requires-clause-first
-step_past_head-requires-clause-first c =
+step_past_head-requires-clause-first g c =
     let h = subst (λ (o : Option ℕ). Stands (layout_of c.args.chains.now) o c.args.slot (view c.args.steps.now)) c.in-None.is c.requires.listed in
     let was = ap (λ (s : Sat). s.0.chain) c.step_clear_live.ensures.view in
     let now = ap (λ (s : Sat). s.0.chain) c.step_again_link-link.ensures.same ∙ was in
@@ -34,7 +34,7 @@ step_past_head-requires-clause-first c =
     )
 
 pub step_past_link-requires-clause-next : goal.step_past_link-requires-clause-next
-step_past_link-requires-clause-next c =
+step_past_link-requires-clause-next g c =
     let g = subst (λ (o : Option ℕ). Stands (layout_of c.args.chains.now) o c.args.slot (view c.args.steps.now)) c.in-Some.is c.requires.listed in
     let h = g.1 in
     let was = ap (λ (s : Sat). s.0.chain) c.step_clear_live.ensures.view in

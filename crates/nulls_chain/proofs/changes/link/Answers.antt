@@ -7,13 +7,13 @@ use Rattle.nulls_chain.proofs.Changed.{may_light, home_first}
 use Rattle.nulls_chain.proofs.changes.link.Goals as goal
 
 pub step_link-requires-clause-fresh : goal.step_link-requires-clause-fresh
-step_link-requires-clause-fresh c = (seen_of c.args.slot c.args.card.now, refl, ap (λ (s : Sat). s.0.slot.fresh) c.step_again_head-head.ensures.same ∙ c.requires.fresh)
+step_link-requires-clause-fresh g c = (seen_of c.args.slot c.args.card.now, refl, ap (λ (s : Sat). s.0.slot.fresh) c.step_again_head-head.ensures.same ∙ c.requires.fresh)
 
 pub step_head-requires-clause-tied : goal.step_head-requires-clause-tied
-step_head-requires-clause-tied c = (seen_of c.args.slot c.args.card.now, refl, ap (λ (s : Sat). s.0.slot.tied) c.step_link.ensures.view ∙ (ap (λ (s : Sat). s.0.slot.fresh) c.step_again_head-head.ensures.same ∙ c.requires.fresh))
+step_head-requires-clause-tied g c = (seen_of c.args.slot c.args.card.now, refl, ap (λ (s : Sat). s.0.slot.tied) c.step_link.ensures.view ∙ (ap (λ (s : Sat). s.0.slot.fresh) c.step_again_head-head.ensures.same ∙ c.requires.fresh))
 
 pub step_live-requires-clause-held : goal.step_live-requires-clause-held
-step_live-requires-clause-held c =
+step_live-requires-clause-held g c =
     let walked = ap (λ (s : Sat). s.0.chain.walked) c.step_head.ensures.view
     ∙ (ap (λ (s : Sat). s.0.slot.tied ++ s.0.chain.walked) c.step_link.ensures.view
     ∙ (ap (λ (s : Sat). s.0.slot.fresh ++ s.0.chain.walked) c.step_again_head-head.ensures.same ∙ ap (λ (l : List Seen). l ++ (view c.args.steps.now).chain.walked) c.requires.fresh)) in (
@@ -23,13 +23,13 @@ step_live-requires-clause-held c =
     )
 
 pub step_live-requires-clause-alone : goal.step_live-requires-clause-alone
-step_live-requires-clause-alone c = subst (MayLight c.args.slot) (sym (ap (λ (s : Sat). s.0.chain.walked) c.step_head.ensures.view
+step_live-requires-clause-alone g c = subst (MayLight c.args.slot) (sym (ap (λ (s : Sat). s.0.chain.walked) c.step_head.ensures.view
     ∙ (ap (λ (s : Sat). s.0.slot.tied ++ s.0.chain.walked) c.step_link.ensures.view
     ∙ (ap (λ (s : Sat). s.0.slot.fresh ++ s.0.chain.walked) c.step_again_head-head.ensures.same ∙ ap (λ (l : List Seen). l ++ (view c.args.steps.now).chain.walked) c.requires.fresh))))
     (may_light c.args.slot c.args.card.now (view c.args.steps.now).chain.walked c.requires.alone)
 
 pub step_live-requires-clause-first : goal.step_live-requires-clause-first
-step_live-requires-clause-first c = (
+step_live-requires-clause-first g c = (
   seen_of c.args.slot c.args.card.now,
   (view c.args.steps.now).chain.walked,
   c.args.card.now.ends,
@@ -45,4 +45,4 @@ step_live-requires-clause-first c = (
 )
 
 pub step_link-requires-clause-begun : goal.step_link-requires-clause-begun
-step_link-requires-clause-begun c = let b = c.requires.begun.0 in (b.0, ap (λ (s : Sat). s.0.book.opened) c.step_again_head-head.ensures.same ∙ b.1, b.2, b.3)
+step_link-requires-clause-begun g c = let b = c.requires.begun.0 in (b.0, ap (λ (s : Sat). s.0.book.opened) c.step_again_head-head.ensures.same ∙ b.1, b.2, b.3)

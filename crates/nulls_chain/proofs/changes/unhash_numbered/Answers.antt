@@ -6,13 +6,13 @@ use Rattle.nulls_chain.proofs.changes.unhash_numbered.Goals as goal
 use Rattle.table_rule.specs.Calls.{view, layout_of}
 
 pub step_begin_unhash-begin-requires-clause-listed : goal.step_begin_unhash-begin-requires-clause-listed
-step_begin_unhash-begin-requires-clause-listed c = stands_in (layout_of c.args.chains.now) c.args.before c.args.slot (view c.args.steps.now) c.requires.listed
+step_begin_unhash-begin-requires-clause-listed g c = stands_in (layout_of c.args.chains.now) c.args.before c.args.slot (view c.args.steps.now) c.requires.listed
 
 pub leave-requires-clause-begun : goal.leave-requires-clause-begun
-leave-requires-clause-begun c = ((record { kind = 0; bucket = first_of (view c.args.steps.now).chain.locked; slot = c.args.slot; card = card_in c.args.slot (view c.args.steps.now).chain.walked; begins = c.step_begin_unhash-begin.result; ends = open-end }, ap (λ (s : Sat). s.0.book.opened) c.step_begin_unhash-begin.ensures.view, refl, refl), ap (λ (s : Sat). s.0.done) c.step_begin_unhash-begin.ensures.view)
+leave-requires-clause-begun g c = ((record { kind = 0; bucket = first_of (view c.args.steps.now).chain.locked; slot = c.args.slot; card = card_in c.args.slot (view c.args.steps.now).chain.walked; begins = c.step_begin_unhash-begin.result; ends = open-end }, ap (λ (s : Sat). s.0.book.opened) c.step_begin_unhash-begin.ensures.view, refl, refl), ap (λ (s : Sat). s.0.done) c.step_begin_unhash-begin.ensures.view)
 
 pub step_end-end-requires-clause-held : goal.step_end-end-requires-clause-held
-step_end-end-requires-clause-held c = (c.args.locked.now.bucket, search rules)
+step_end-end-requires-clause-held g c = (c.args.locked.now.bucket, search rules)
 
 pub step_end-end-requires-clause-open : goal.step_end-end-requires-clause-open
-step_end-end-requires-clause-open c = (record { kind = 0; bucket = first_of (view c.args.steps.now).chain.locked; slot = c.args.slot; card = card_in c.args.slot (view c.args.steps.now).chain.walked; begins = c.step_begin_unhash-begin.result; ends = open-end }, ap (λ (b : Rattle.table_rule.specs.declared.view.BookView.BookView). b.opened) c.leave.ensures.book.0 ∙ ap (λ (s : Sat). s.0.book.opened) c.step_begin_unhash-begin.ensures.view, omega arith)
+step_end-end-requires-clause-open g c = (record { kind = 0; bucket = first_of (view c.args.steps.now).chain.locked; slot = c.args.slot; card = card_in c.args.slot (view c.args.steps.now).chain.walked; begins = c.step_begin_unhash-begin.result; ends = open-end }, ap (λ (b : Rattle.table_rule.specs.declared.view.BookView.BookView). b.opened) c.leave.ensures.book.0 ∙ ap (λ (s : Sat). s.0.book.opened) c.step_begin_unhash-begin.ensures.view, omega arith)
