@@ -1,5 +1,5 @@
 ghost use Rattle.std.specs.Prelude.{◌≡◌, ◌+◌, ◌%◌, true, ◌<◌, ◌++◌, ◌∷◌, [], ℕ, IfSome, IfNone};
-ghost use Rattle.table_rule.specs.Plays.{PlacesListed, advancing, Inside, Fits};
+ghost use Rattle.table_rule.specs.Plays.{PlacesListed, PlacesApart, advancing, Inside, Fits};
 ghost use Rattle.table_rule.specs.Sole.{SoleKnown};
 ghost use Rattle.table_rule.specs.Beyond.{IsCardWords};
 ghost use Rattle.table_rule.specs.Calls.{IsOf, IsIdle, seen_of, view, me, layout_of, Becomes};
@@ -42,6 +42,7 @@ fn step(chains: &Chains, steps: &mut Steps, locked: &Locked) -> u64
     ensures known { SoleKnown (view steps.new) }
     ensures fits { Fits (layout_of chains.now) (view steps.new) }
     ensures places { PlacesListed (view steps.new) }
+    ensures apart { PlacesApart (view steps.new) }
 {
     if locked.started {
         chains.step_next_link(steps, (locked.link / 2) as u32)
@@ -65,6 +66,7 @@ pub fn walk(chains: &Chains, steps: &mut Steps, locked: &mut Locked) -> Option<(
     ensures none { IfNone result (((view steps.new).chain.walked ≡ (view steps.old).chain.walked ++ (view steps.old).chain.ahead) × ((view steps.new).chain.ahead ≡ []) × ((view steps.new).chain.met ≡ 1)) }
     ensures known { IfNone result (SoleKnown (view steps.new)) }
     ensures places { IfNone result (PlacesListed (view steps.new)) }
+    ensures apart { IfNone result (PlacesApart (view steps.new)) }
     ensures fits { Fits (layout_of chains.now) (view steps.new) }
     ensures walked { WalkKnown (layout_of chains.now) (view steps.old) → WalkKnown (layout_of chains.now) (view steps.new) }
 {

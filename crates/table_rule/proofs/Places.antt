@@ -15,13 +15,14 @@ use Rattle.table_rule.specs.ReadersOk.{rank_of, NoneBetter, Readers}
 use Rattle.table_rule.specs.Rule.{chain_part, known_part, book_part, card_of, Parts, More}
 use Rattle.table_rule.specs.Sole.{IsRead}
 use Rattle.table_rule.specs.Alone.{NoneKnown}
-use Rattle.table_rule.specs.Plays.{card_in, PlacesListed, PlaceMade, ending, closing, beginning, dropping_beginning, leaving}
+use Rattle.table_rule.specs.Plays.{card_in, PlacesListed, PlacesApart, PlaceMade, ending, closing, beginning, dropping_beginning, leaving}
+use Rattle.table_rule.specs.Words.{bucket_count}
 use Rattle.table_rule.specs.declared.view.View.{View}
 use Rattle.table_rule.specs.declared.view.Layout.{Layout}
 use Rattle.table_rule.specs.declared.view.Seen.{Seen}
 use Rattle.table_rule.specs.declared.view.Change.{Change}
 use Rattle.sock_card.specs.declared.card.Packet.{Packet}
-use Rattle.table_rule.proofs.Lists.{times-else}
+use Rattle.table_rule.proofs.Lists.{times-else, times-append, linked_two}
 use Rattle.table_rule.proofs.CardSteps.{at_end}
 use Rattle.table_rule.proofs.BookSteps.{one_of}
 use Rattle.table_rule.proofs.Owners.{place_life}
@@ -52,6 +53,25 @@ module _ (layout : Layout) (word : ℕ → ℕ) (chain : ℕ → List ℕ) (live
       let there : 0 < stands h.slot v.chain.walked = omega (arith, w.1, ap (λ (c : ℕ). times h.slot (chain c)) bucket, ap (times h.slot) all) in (
         there,
         λ read. card_read_in (card_of layout word) h.slot v.chain.walked read (p.cards id (known_part v) (at_map known_part vs id v me)).walked there ∙ (sym (whole_card layout word chain lives vs p o q h.slot t.0 t.1 t.2 whole) ∙ sym card),
+      )
+
+  -- a walk meets no place of another bucket
+  pub places_apart : PlacesApart v
+  places_apart b h had place apart =
+      let t = place_life (word 0) lives (map book_part vs) o.book o.lived o.owners id (book_part v) (at_map book_part vs id v me) h place in
+      let few = o.book.few in
+      let w = o.linked.whole h.slot t.0 t.1 t.2 (omega (arith, t.4, few), t.5) in
+      let bucket : h.bucket ≡ t.1.bucket = ap (λ (c : Change). c.bucket) t.3 in
+      let walks = p.chains.walks id v.chain (at_map chain_part vs id v me) in
+      let list = walks.list b had in
+      omega (
+        arith,
+        w.1,
+        linked_two h.slot chain b t.1.bucket (bucket_count layout) (walks.near b had) w.0 (λ e. apart (bucket ∙ sym e)),
+        p.chains.once h.slot,
+        ap (times h.slot) list.1,
+        times-append h.slot (list_of v.chain) list.0,
+        times-append h.slot (slots_of v.chain.walked) (slots_of v.chain.ahead),
       )
 
   -- what nobody was better than throughout, this pass has begun to unhash

@@ -24,3 +24,6 @@ returns-clause-fits c = subst (λ (g : Rattle.table_rule.specs.declared.view.Lay
 
 pub returns-clause-places : goal.returns-clause-places
 returns-clause-places c = c.load.ensures.2.4
+
+pub returns-clause-apart : goal.returns-clause-apart
+returns-clause-apart c = c.load.ensures.2.5

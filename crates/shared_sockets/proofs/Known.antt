@@ -1,0 +1,26 @@
+-- A pass that has walked the whole of a bucket that it locked.
+use Rattle.std.proofs.Common.{◌≡◌, ℕ, ◌≤◌, List, [], ◌∷◌, length, ap, ◌∙◌, sym, subst}
+use Rattle.table_rule.specs.Lists.{Each, stands}
+use Rattle.table_rule.specs.Plays.{locking}
+use Rattle.table_rule.specs.Sole.{IsRead, IsSole, chain_from}
+use Rattle.table_rule.specs.declared.view.View.{View}
+use Rattle.table_rule.specs.declared.view.Seen.{Seen}
+use Rattle.nulls_chain.specs.Changes.{WasChain}
+use Rattle.shared_sockets.specs.Rows.{HasCard}
+use Rattle.shared_sockets.specs.Comings.{walking, IsChain}
+
+pub walking_is : (v u w : View) (bucket : ℕ) → u ≡ locking v bucket → w ≡ record u { chain = w.chain } → w.chain.locked ≡ bucket ∷ [] → w.chain.met ≡ 1
+    → w.chain.ahead ≡ [] → w ≡ walking v bucket w.chain.walked
+walking_is v u w bucket q e a b c =
+    e ∙ (ap (λ (x : View). record x { chain = w.chain }) q
+    ∙ (λ k. record (locking v bucket) { chain = record { locked = a k; walked = w.chain.walked; ahead = c k; met = b k } }))
+
+pub is_read : (xs : List Seen) → Each HasCard xs → Each IsRead xs
+is_read [] a = tt
+is_read (x ∷ xs) a = (ap length a.0.0.is, is_read xs a.1)
+
+pub chain_is : (v u : View) (bucket : ℕ) (xs : List Seen) → u ≡ locking v bucket → WasChain xs bucket u → ((i : ℕ) → stands i xs ≤ 1) → IsChain v bucket xs
+chain_is v u bucket xs is was once = record {
+  once = once;
+  sole = λ s. was (subst IsSole (sym is) record { all = s.all; rises = s.rises; waits = s.waits }) ∙ ap (λ (x : View). chain_from x.book.closed bucket) is;
+}

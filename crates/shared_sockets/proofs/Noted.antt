@@ -1,0 +1,38 @@
+-- A walk reads one card more.
+use Rattle.std.proofs.Common.{◌≡◌, ◌+◌, List, [], ◌∷◌, ◌++◌, Option, None, Some, Bool, sym, refl, ap, ◌∙◌, arith, find, length}
+use Rattle.std.specs.Option.{option_or}
+use Rattle.std.proofs.lemmas.List.Folds.{find-append}
+use Rattle.chain_book.specs.declared.outcome.Hashed.{Hashed}
+use Rattle.chain_book.specs.Chains.{keeps, waits}
+use Rattle.table_rule.specs.declared.view.Seen.{Seen}
+use Rattle.table_rule.proofs.Lists.{each-append}
+use Rattle.shared_sockets.specs.Rows.{hashed_in, row_of, HasCard}
+use Rattle.shared_sockets.specs.Surveys.{Surveyed, first_of, noted}
+use Rattle.shared_sockets.specs.declared.survey.Newcomer.{Newcomer}
+use Rattle.shared_sockets.specs.declared.survey.Survey.{Survey}
+
+row-more : (xs : List Seen) (s : Seen) → row_of (xs ++ s ∷ []) ≡ row_of xs ++ hashed_in s ∷ []
+row-more [] s = refl
+row-more (x ∷ xs) s = ap (λ (l : List Hashed). hashed_in x ∷ l) (row-more xs s)
+
+first-more : (test : Hashed → Bool) (o : Option Hashed) (x : Hashed) (ys : List Hashed) → o ≡ find test ys → first_of o (test x) x ≡ find test (ys ++ x ∷ [])
+first-more test (Some first) x ys e = ap (λ (k : Option Hashed). option_or k (find test (x ∷ []))) e ∙ sym (find-append test ys (x ∷ []))
+first-more test None x ys e = ap (λ (k : Option Hashed). option_or k (find test (x ∷ []))) e ∙ sym (find-append test ys (x ∷ []))
+
+pub noted_ok : (new : Newcomer) (survey : Survey) (xs : List Seen) (s : Seen) → HasCard s → Surveyed new survey xs
+    → Surveyed new (noted new survey (hashed_in s)) (xs ++ s ∷ [])
+noted_ok new survey xs s card o =
+    let keep = keeps new.card new.moment new.replace in
+    let wait = waits new.card in
+    record {
+      keeper = first-more keep survey.keeper (hashed_in s) (row_of xs) o.keeper ∙ ap (find keep) (sym (row-more xs s));
+      waiting = first-more wait survey.waiting (hashed_in s) (row_of xs) o.waiting ∙ ap (find wait) (sym (row-more xs s));
+      cards = each-append HasCard xs (s ∷ []) o.cards (card, tt);
+    }
+
+pub surveyed_none : (new : Newcomer) → Surveyed new (record { keeper = None; waiting = None }) []
+surveyed_none new = record { keeper = refl; waiting = refl; cards = tt }
+
+pub length-more : (xs ys : List Seen) (s : Seen) → length (xs ++ ys) + length (s ∷ []) ≡ length xs + length ys + 1
+length-more [] ys s = omega arith
+length-more (x ∷ xs) ys s = omega (arith, length-more xs ys s)

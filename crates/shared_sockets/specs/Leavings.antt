@@ -1,0 +1,33 @@
+-- What it comes to that a socket leaves a shared chain: inet_unhash of net/ipv4/inet_hashtables.c, and
+-- inet_twsk_hashdance_schedule of net/ipv4/inet_timewait_sock.c, where the TIME_WAIT comes under the same lock.
+use Rattle.std.specs.Prelude.{◌≡◌, ℕ, List, Result}
+use Rattle.sock_card.specs.declared.card.Card.{Card}
+use Rattle.table_rule.specs.Plays.{unlocking}
+use Rattle.table_rule.specs.declared.view.View.{View}
+use Rattle.table_rule.specs.declared.view.Layout.{Layout}
+use Rattle.table_rule.specs.declared.view.Seen.{Seen}
+use Rattle.shared_slots.specs.declared.fresh.Full.{Full}
+use Rattle.nulls_chain.specs.Changes.{Adds, Rest}
+use Rattle.nulls_chain.specs.declared.keeping.Place.{Place}
+use Rattle.shared_sockets.specs.Rows.{card_words}
+use Rattle.shared_sockets.specs.Comings.{walking, IsChain, HashesTo}
+
+-- what a call leaves of all else that its pass knows: the numbers that it lost, the counts that it took, its lookups
+abbrev pub Quiet : View → View → Type 0
+Quiet v w = (w.book.lost ≡ v.book.lost) × (w.slot.taken ≡ v.slot.taken) × (w.read ≡ v.read)
+
+-- one change: who stood at the place is gone
+pub record Leaves (place : Place) (v w : View) : Type 0 where
+  pub change : Adds v w 0 place.bucket place.slot (card_words place.card)
+  pub quiet : Quiet v w
+
+-- under one lock a TIME_WAIT comes, if a slot is free, and then who stood at the place is gone
+pub record Waits (layout : Layout) (from : ℕ) (place : Place) (card : Card) (result : Result Place Full) (v w : View) : Type 0 where
+  pub chain : List Seen
+  pub seen : IsChain v place.bucket chain
+  pub between : View
+  pub comes : HashesTo layout from place.bucket card chain result (walking v place.bucket chain) between
+  pub left : View
+  pub change : Adds between left 0 place.bucket place.slot (card_words place.card)
+  pub rest : Rest between left
+  pub unlocked : w ≡ unlocking left

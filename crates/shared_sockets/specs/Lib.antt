@@ -1,0 +1,5 @@
+pub mod Rows
+pub mod Surveys
+pub mod Comings
+pub mod Leavings
+pub mod Alone

@@ -1,0 +1,21 @@
+//! Sockets that come into shared chains and leave them, each under its bucket's lock.
+//!
+//! What `established` and `listeners` do to plain chains is done here to chains that threads share: [`insert`] and
+//! [`add`] hash a socket, [`remove`] takes one out, [`time_wait`] leaves a TIME_WAIT in its place, and [`remove_tw`] ends
+//! one. Each takes one lock, walks one chain, and makes one change or two, which lookups that lock nothing may meet at
+//! any step. They wait for a bucket's lock alone, and none takes memory.
+//!
+//! ```text
+//! let inserted = insert(&chains, &rt, &mut pass, bucket, from, &newcomer)?;
+//! let waiting = time_wait(&chains, &rt, &mut pass, inserted.place, from, &card)?;
+//! let slot = remove_tw(&chains, &rt, &mut pass, bucket, name);
+//! ```
+#![tactic(auto)]
+
+mod coming;
+mod leaving;
+mod survey;
+
+pub use coming::{InsertEnd, Inserted, add, insert};
+pub use leaving::{remove, time_wait};
+pub use survey::Newcomer;
