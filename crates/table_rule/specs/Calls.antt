@@ -8,10 +8,9 @@ use Rattle.table_rule.specs.declared.table.Steps.{Steps}
 use Rattle.table_rule.specs.Lists.{slots_of}
 use Rattle.table_rule.specs.Words.{words_of}
 use Rattle.table_rule.specs.ChainsOk.{first_link}
-use Rattle.table_rule.specs.Book.{marks}
 use Rattle.table_rule.specs.Owners.{time_waits, HasPlace}
 use Rattle.table_rule.specs.Plays.{card_in}
-use Rattle.table_rule.specs.Rule.{book_part}
+use Rattle.table_rule.specs.Rule.{drawn}
 use Rattle.table_rule.specs.declared.view.Change.{Change}
 use Rattle.table_rule.specs.declared.view.View.{View}
 use Rattle.table_rule.specs.declared.view.Layout.{Layout}
@@ -75,10 +74,10 @@ MayUnhash slot v = (time_waits (card_in slot v.chain.walked) ≡ 1) ⊎ HasPlace
 
 -- the pass may draw one number more
 abbrev pub HasShare : View → Type 0
-HasShare v = marks (λ _. 1) (book_part v) + 1 ≤ v.slot.parts * 4294967296
+HasShare v = drawn v + 1 ≤ v.slot.parts * 4294967296
 
 abbrev pub HasShares : ℕ → View → Type 0
-HasShares n v = marks (λ _. 1) (book_part v) + n ≤ v.slot.parts * 4294967296
+HasShares n v = drawn v + n ≤ v.slot.parts * 4294967296
 
 -- what word q is at the start: a head is its own end, all else is 0
 abbrev pub FirstWord : ℕ → ℕ → ℕ → Type 0

@@ -1,11 +1,11 @@
 -- Words for passes: what they know, and what splitting and joining make of it.
-use Rattle.std.specs.Prelude.{◌*◌, ◌-◌, ◌≤◌, [], length}
+use Rattle.std.specs.Prelude.{ℕ, ◌*◌, ◌-◌, ◌≤◌, List, [], length, vec_len, vec_capacity}
 use Rattle.atomic_table.specs.Table.{Me}
 use Rattle.table_rule.specs.declared.view.View.{View}
+use Rattle.table_rule.specs.declared.view.Change.{Change}
 use Rattle.table_rule.specs.declared.table.Chains.{Chains}
 use Rattle.table_rule.specs.declared.pass.Pass.{Pass}
-use Rattle.table_rule.specs.Book.{marks}
-use Rattle.table_rule.specs.Rule.{book_part}
+use Rattle.table_rule.specs.Rule.{drawn}
 use Rattle.table_rule.specs.Plays.{cut, newcomer, both}
 use Rattle.table_rule.specs.Calls.{view, IsOf}
 
@@ -13,13 +13,29 @@ use Rattle.table_rule.specs.Calls.{view, IsOf}
 abbrev pub known : Pass → View
 known pass = view pass.steps
 
+-- the greatest value of the clock that it knows
+abbrev pub seen_by : Pass → ℕ
+seen_by pass = (known pass).seen
+
+-- how many numbers of the clock it drew, with those of the passes that it joined
+abbrev pub drawn_by : Pass → ℕ
+drawn_by pass = drawn (known pass)
+
+-- the changes that it closed, oldest first, and behind them those of the passes that it joined
+abbrev pub changed_by : Pass → List Change
+changed_by pass = (known pass).book.closed
+
+-- how many changes more it can keep without growth
+abbrev pub room_of : Pass → ℕ
+room_of pass = vec_capacity pass.changes - vec_len pass.changes
+
 -- it is a pass of this table
 abbrev pub IsPassOf : Chains → Pass → Type 0
 IsPassOf t pass = IsOf t pass.steps
 
 -- a split leaves it what it has drawn and what it holds
 abbrev pub HasShareLeft : View → Type 0
-HasShareLeft v = (length v.slot.holds ≤ (v.slot.parts - 1) * 4294967296) × (marks (λ _. 1) (book_part v) ≤ (v.slot.parts - 1) * 4294967296)
+HasShareLeft v = (length v.slot.holds ≤ (v.slot.parts - 1) * 4294967296) × (drawn v ≤ (v.slot.parts - 1) * 4294967296)
 
 -- what a pass is after a split, what the one is that was split off, and what a pass is that took another in
 abbrev pub cut_of : Pass → Me (Unit {0}) View

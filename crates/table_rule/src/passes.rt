@@ -2,7 +2,7 @@ ghost use Rattle.std.specs.Prelude.{◌≡◌, ◌+◌, ◌-◌, ◌*◌, ◌≤
 ghost use Rattle.table_rule.specs.Closes.{change_of};
 ghost use Rattle.table_rule.specs.Calls.{view, IsOf};
 ghost use Rattle.table_rule.specs.Rule.{first};
-ghost use Rattle.table_rule.specs.Passes.{known, IsPassOf, HasShareLeft, cut_of, new_of, joined_of};
+ghost use Rattle.table_rule.specs.Passes.{known, seen_by, drawn_by, changed_by, room_of, IsPassOf, HasShareLeft, cut_of, new_of, joined_of};
 ghost use Rattle.table_rule.specs.Plays.{IsFree};
 
 use super::pass::Pass;
@@ -13,7 +13,7 @@ use std::alloc::{AllocError, Global};
 impl Pass {
     /// All changes that it closed, and those of the passes that it joined.
     pub fn changes(&self) -> &[Change]
-        ensures { map change_of result.now ≡ (known self.now).book.closed }
+        ensures { map change_of result.now ≡ changed_by self.now }
     {
         self.changes.as_slice()
     }
@@ -32,9 +32,28 @@ impl Pass {
 
     /// How many changes can still be kept without growth.
     pub fn room(&self) -> usize
-        ensures { result + vec_len self.now.changes ≡ vec_capacity self.now.changes }
+        ensures { result ≡ room_of self.now }
     {
         self.changes.capacity() - self.changes.len()
+    }
+
+    /// The greatest value of the clock that it knows.
+    ///
+    /// It is above each number that it drew, and no less than each value that it loaded; so it is with what a pass
+    /// knew from which it was split, and with what those know that it joined.
+    pub fn seen(&self) -> u64
+        ensures { result ≡ seen_by self.now }
+    {
+        self.steps.seen
+    }
+
+    /// How many numbers of the clock it drew, with those of the passes that it joined.
+    ///
+    /// Two for each change, and one for each beginning for which no slot was free.
+    pub fn drawn(&self) -> u64
+        ensures { result ≡ drawn_by self.now }
+    {
+        self.steps.drawn
     }
 }
 

@@ -155,6 +155,14 @@ impl Play<(), View> for End {
     ghost then = { ended };
 }
 
+pub struct Count;
+
+impl Play<(), View> for Count {
+    ghost use Rattle.table_rule.specs.Plays.{counted};
+
+    ghost then = { counted };
+}
+
 pub struct Forget;
 
 impl Play<(), View> for Forget {

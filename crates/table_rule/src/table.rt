@@ -2,6 +2,7 @@
 
 ghost use Rattle.std.specs.Prelude.{◌≡◌, ◌+◌, ◌*◌, ◌^◌, ◌<◌};
 ghost use Rattle.table_rule.specs.Words.{bucket_count};
+ghost use Rattle.table_rule.specs.Rule.{HasNumbers};
 
 use super::rule::Rule;
 use super::view::{Layout, View};
@@ -20,8 +21,14 @@ pub struct Chains {
     ghost sized: { table.shared.table_id.words ≡ 1 + 2 * bucket_count layout + 6 * layout.shape.slots },
 }
 
-/// A thread's part in the chain table. It has no bytes: what the thread knows of the table stands in proofs alone.
+/// A thread's part in the chain table. Of what the thread knows of the table it has two numbers; all else stands in
+/// proofs alone.
 #[derive(Drop)]
 pub struct Steps {
     pub(crate) seat: Seat<(), View>,
+    /// The greatest value of the clock that it knows.
+    pub(crate) seen: u64,
+    /// How many numbers of the clock it drew, with those of the passes that it joined.
+    pub(crate) drawn: u64,
+    ghost numbers: { HasNumbers seat.me.0 seen drawn },
 }

@@ -16,6 +16,11 @@ const SHAPE: Shape = Shape {
 fn check_new(rt: &impl Abort, pass: &Pass, now: u64) {
     let fits = pass.room() >= 2;
     assert_eq!(rt; (pass.changes().len(), fits, now), (0, true, 0));
+    check_numbers(rt, pass, 0, 0);
+}
+
+fn check_numbers(rt: &impl Abort, pass: &Pass, seen: u64, drawn: u64) {
+    assert_eq!(rt; (pass.seen(), pass.drawn()), (seen, drawn));
 }
 
 #[test]
@@ -27,5 +32,17 @@ fn a_new_table_has_no_changes(rt: HostRuntime) -> Result<(), Fail> {
     chains.join(&mut pass, other);
     let now = chains.step_clock(&mut pass.steps);
     check_new(&rt, &pass, now);
+    Ok(())
+}
+
+#[test]
+fn a_number_that_is_drawn_is_seen(rt: HostRuntime) -> Result<(), Fail> {
+    let (chains, mut pass) = Chains::new(rt.alloc(), SHAPE, 7)?;
+    let lock = chains.step_lock(&mut pass.steps, 0);
+    assert_eq!(rt; lock, 0);
+    let number = chains.step_begin_hash(&mut pass.steps);
+    assert_eq!(rt; number, 0);
+    chains.step_forget(&mut pass.steps);
+    check_numbers(&rt, &pass, 1, 1);
     Ok(())
 }

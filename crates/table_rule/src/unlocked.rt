@@ -39,7 +39,9 @@ impl Chains {
         ensures view { Becomes steps.old steps.new (setting_out (view steps.old) bucket key least result) }
         ensures before { (k : ℕ) (c : Change) → get_elem? (view steps.old).book.closed k ≡ some c → c.ends < result }
     {
-        self.table.shared.load::<SetOut<T>>(&mut steps.seat, 0)
+        let now = self.table.shared.load::<SetOut<T>>(&mut steps.seat, 0);
+        steps.seen = now;
+        now
     }
 
     /// Loads the clock, as a lookup begins.
@@ -201,7 +203,9 @@ impl Chains {
         ensures known { (q : Reader) → Looks (view steps.old) q → NoneKnown (view steps.old) q.bucket q.key q.least 0 q.since }
         ensures own { (q : Reader) → Looks (view steps.old) q → OwnExplains (view steps.old) result (receipt q 0 [] result) }
     {
-        self.table.shared.load::<EndNone>(&mut steps.seat, 0)
+        let now = self.table.shared.load::<EndNone>(&mut steps.seat, 0);
+        steps.seen = now;
+        now
     }
 
     /// Loads the clock, as a lookup ends with its best.
@@ -216,7 +220,9 @@ impl Chains {
         ensures known { (q : Reader) (h : Kept) (hs : List Kept) → Looks (view steps.old) q → (view steps.old).read.kept ≡ h ∷ hs → NoneKnown (view steps.old) q.bucket q.key q.least (rank_of q.key h.words) q.since }
         ensures own { (q : Reader) (h : Kept) (hs : List Kept) → Looks (view steps.old) q → (view steps.old).read.kept ≡ h ∷ hs → OwnExplains (view steps.old) result (receipt q 1 h.words result) }
     {
-        self.table.shared.load::<EndFound>(&mut steps.seat, 0)
+        let now = self.table.shared.load::<EndFound>(&mut steps.seat, 0);
+        steps.seen = now;
+        now
     }
 
     /// Loads the clock, as a lookup ends where each pass stopped.
@@ -229,6 +235,8 @@ impl Chains {
         ensures sole { (q : Reader) → Looks (view steps.old) q → IsAlone (view steps.old) q.since → ⊥ }
         ensures own { (q : Reader) → Looks (view steps.old) q → OwnExplains (view steps.old) result (receipt q 2 [] result) }
     {
-        self.table.shared.load::<EndAgain>(&mut steps.seat, 0)
+        let now = self.table.shared.load::<EndAgain>(&mut steps.seat, 0);
+        steps.seen = now;
+        now
     }
 }

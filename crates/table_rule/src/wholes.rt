@@ -4,8 +4,7 @@ ghost use Rattle.std.specs.Prelude.{◌≡◌, ◌<◌, ◌≤◌, ℕ};
 ghost use mathlib.Core.Option.{some};
 ghost use lib.ListN.{get_elem?};
 ghost use Rattle.table_rule.specs.declared.view.Kept.{Kept};
-ghost use Rattle.table_rule.specs.Book.{marks};
-ghost use Rattle.table_rule.specs.Rule.{book_part};
+ghost use Rattle.table_rule.specs.Rule.{drawn};
 ghost use Rattle.table_rule.specs.Alone.{mine, IsAlone, IsSoleWhole, IsKnownWhole, SlotStands};
 ghost use Rattle.table_rule.specs.Explained.{IsWholeExplained};
 ghost use Rattle.table_rule.specs.Calls.{IsOf, view, Becomes};
@@ -63,10 +62,12 @@ impl Chains {
         ensures seen { (view steps.old).seen ≤ result }
         ensures view { Becomes steps.old steps.new (summing (view steps.old) (record T.whole { to = result })) }
         ensures sole { IsAlone (view steps.old) T.whole.from → IsSoleWhole (view steps.old) (record T.whole { to = result }) }
-        ensures own { marks (λ _. 1) (book_part (view steps.old)) ≡ result → IsWholeExplained (mine (view steps.old)) (view steps.old).layout (record T.whole { to = result }) }
+        ensures own { drawn (view steps.old) ≡ result → IsWholeExplained (mine (view steps.old)) (view steps.old).layout (record T.whole { to = result }) }
         ensures known { IsKnownWhole (view steps.old) (record T.whole { to = result }) }
     {
-        self.table.shared.load::<Sum<T>>(&mut steps.seat, 0)
+        let now = self.table.shared.load::<Sum<T>>(&mut steps.seat, 0);
+        steps.seen = now;
+        now
     }
 
     /// Loads the clock, as a whole lookup of a packet ends with an answer that follows from this pass's own receipts
@@ -85,7 +86,7 @@ impl Chains {
         ensures seen { (view steps.old).seen ≤ result }
         ensures view { Becomes steps.old steps.new (summing (view steps.old) (record (whole_of packet seed from answer) { to = result })) }
         ensures sole { IsAlone (view steps.old) from → IsSoleWhole (view steps.old) (record (whole_of packet seed from answer) { to = result }) }
-        ensures own { marks (λ _. 1) (book_part (view steps.old)) ≡ result → IsWholeExplained (mine (view steps.old)) (view steps.old).layout (record (whole_of packet seed from answer) { to = result }) }
+        ensures own { drawn (view steps.old) ≡ result → IsWholeExplained (mine (view steps.old)) (view steps.old).layout (record (whole_of packet seed from answer) { to = result }) }
         ensures known { IsKnownWhole (view steps.old) (record (whole_of packet seed from answer) { to = result }) }
     {
         self.clock_whole_as::<Brand>(steps, packet, seed, from, answer)

@@ -4,7 +4,7 @@ use Rattle.atomic_table.specs.Table.{step}
 use Rattle.table_rule.specs.Words.{at}
 use Rattle.table_rule.specs.Plays.{Sat, let_see}
 use Rattle.table_rule.proofs.AllowedLookups.{lets-see}
-use Rattle.table_rule.proofs.Calls.{moved_to, word_is}
+use Rattle.table_rule.proofs.Calls.{moved_to, word_is, lasting, numbers_last}
 use Rattle.table_rule.proofs.table.Chains.put_seen_as.Goals as goal
 
 pub fetch_sub-requires : goal.fetch_sub-requires
@@ -18,3 +18,6 @@ returns-clause-view g c = c.fetch_sub.ensures.2.0 c.args.slot (word_is _ _ _ 0 _
 
 pub returns-clause-stands : goal.returns-clause-stands
 returns-clause-stands g c = λ from h sole is early. c.fetch_sub.ensures.2.1 c.args.slot from h (word_is _ _ _ 0 _ c.requires.table.1 c.word_at-word.ensures.is) sole is early
+
+pub invariant_of-steps : goal.invariant_of-steps
+invariant_of-steps g c = record { numbers = numbers_last c.args.steps.now.seat.me.0 c.fetch_sub.new.seat.me.0 c.args.steps.now.seen c.args.steps.now.drawn (ap (λ (s : Sat). lasting s.0) (c.fetch_sub.ensures.2.0 c.args.slot (word_is _ _ _ 0 _ c.requires.table.1 c.word_at-word.ensures.is))) c.args.steps.now.numbers }

@@ -5,14 +5,14 @@ use Rattle.atomic_table.specs.Table.{step}
 use Rattle.table_rule.specs.Words.{at}
 use Rattle.table_rule.specs.Plays.{claimed}
 use Rattle.table_rule.proofs.Allowed.{claims}
-use Rattle.table_rule.proofs.Calls.{moved_to, word_is, claimed_shape}
+use Rattle.table_rule.proofs.Calls.{moved_to, word_is, claimed_lasts, layout_lasts, numbers_last}
 use Rattle.table_rule.proofs.table.Chains.step_claim.Goals as goal
 
 pub compare_exchange-requires : goal.compare_exchange-requires
 compare_exchange-requires c = (search rules, search rules, moved_to c.args.self.now.layout c.args.self.now.table.shared.key c.args.self.now.table.shared.table_id.slots c.args.steps.now.seat.id c.args.steps.now.seat.me (at c.args.self.now.layout c.args.slot 0) c.word_at-word.result (λ n. either (eqb n 0) 9223372036854775808 n) (λ x. claimed (step c.args.self.now.table.shared.table_id.slots x 0 9223372036854775808 none) c.args.steps.now.seat.me) c.args.self.now.keyed c.word_at-word.ensures.is (claims c.args.self.now.layout c.args.self.now.table.shared.table_id.slots c.args.steps.now.seat.id c.args.steps.now.seat.me c.requires.table.1 c.args.slot c.requires.slot c.requires.begun.0 c.requires.begun.1 c.requires.begun.2 c.requires.free))
 
 pub returns-clause-table : goal.returns-clause-table
-returns-clause-table c = (c.compare_exchange.ensures.0 ∙ c.requires.table.0, claimed_shape (step c.args.self.now.table.shared.table_id.slots c.word_at-word.result 0 9223372036854775808 none) c.args.steps.now.seat.me _ _ c.args.slot (word_is _ _ _ 0 _ c.requires.table.1 c.word_at-word.ensures.is) c.compare_exchange.ensures.2 ∙ c.requires.table.1)
+returns-clause-table c = (c.compare_exchange.ensures.0 ∙ c.requires.table.0, layout_lasts c.args.steps.now.seat.me.0 c.compare_exchange.new.seat.me.0 (claimed_lasts (step c.args.self.now.table.shared.table_id.slots c.word_at-word.result 0 9223372036854775808 none) c.args.steps.now.seat.me _ _ c.args.slot c.requires.begun.0 c.requires.begun.1 (word_is _ _ _ 0 _ c.requires.table.1 c.word_at-word.ensures.is) c.compare_exchange.ensures.2) ∙ c.requires.table.1)
 
 pub returns-clause-claimed : goal.returns-clause-claimed
 returns-clause-claimed c = λ z. c.compare_exchange.ensures.2.0 z c.args.slot (word_is _ _ _ 0 _ c.requires.table.1 c.word_at-word.ensures.is)
@@ -28,3 +28,6 @@ returns-clause-known c = λ sole none. c.compare_exchange.ensures.2.3 sole none 
 
 pub returns-clause-far : goal.returns-clause-far
 returns-clause-far c = λ e. c.compare_exchange.ensures.2.4 e c.args.slot (word_is _ _ _ 0 _ c.requires.table.1 c.word_at-word.ensures.is)
+
+pub invariant_of-steps : goal.invariant_of-steps
+invariant_of-steps c = record { numbers = numbers_last c.args.steps.now.seat.me.0 c.compare_exchange.new.seat.me.0 c.args.steps.now.seen c.args.steps.now.drawn (claimed_lasts (step c.args.self.now.table.shared.table_id.slots c.word_at-word.result 0 9223372036854775808 none) c.args.steps.now.seat.me _ _ c.args.slot c.requires.begun.0 c.requires.begun.1 (word_is _ _ _ 0 _ c.requires.table.1 c.word_at-word.ensures.is) c.compare_exchange.ensures.2) c.args.steps.now.numbers }

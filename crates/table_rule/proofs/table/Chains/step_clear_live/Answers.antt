@@ -4,7 +4,7 @@ use Rattle.atomic_table.specs.Table.{step}
 use Rattle.table_rule.specs.Words.{at}
 use Rattle.table_rule.specs.Plays.{dimmed, Sat}
 use Rattle.table_rule.proofs.Allowed.{dims-it}
-use Rattle.table_rule.proofs.Calls.{moved_to, word_is}
+use Rattle.table_rule.proofs.Calls.{moved_to, word_is, lasting, numbers_last}
 use Rattle.table_rule.proofs.table.Chains.step_clear_live.Goals as goal
 
 pub fetch_and-requires : goal.fetch_and-requires
@@ -15,3 +15,6 @@ returns-clause-table c = (c.fetch_and.ensures.0 ∙ c.requires.table.0, ap (λ (
 
 pub returns-clause-view : goal.returns-clause-view
 returns-clause-view c = c.fetch_and.ensures.2 c.args.slot (word_is _ _ _ 0 _ c.requires.table.1 c.word_at-word.ensures.is)
+
+pub invariant_of-steps : goal.invariant_of-steps
+invariant_of-steps c = record { numbers = numbers_last c.args.steps.now.seat.me.0 c.fetch_and.new.seat.me.0 c.args.steps.now.seen c.args.steps.now.drawn (ap (λ (s : Sat). lasting s.0) (c.fetch_and.ensures.2 c.args.slot (word_is _ _ _ 0 _ c.requires.table.1 c.word_at-word.ensures.is))) c.args.steps.now.numbers }

@@ -4,7 +4,7 @@ use Rattle.atomic_table.specs.Table.{step}
 use Rattle.table_rule.specs.Words.{at}
 use Rattle.table_rule.specs.Plays.{Sat, glanced}
 use Rattle.table_rule.proofs.AllowedLookups.{glances-at}
-use Rattle.table_rule.proofs.Calls.{moved_to}
+use Rattle.table_rule.proofs.Calls.{moved_to, lasting, numbers_last}
 use Rattle.table_rule.proofs.table.Chains.step_read_peeked.Goals as goal
 
 pub load-requires : goal.load-requires
@@ -12,3 +12,6 @@ load-requires c = (search rules, search rules, moved_to c.args.self.now.layout c
 
 pub returns-clause-table : goal.returns-clause-table
 returns-clause-table c = (c.load.ensures.0 ∙ c.requires.table.0, ap (λ (s : Sat). s.0.layout) (c.load.ensures.2 c.requires.at.q c.requires.at.looks) ∙ c.requires.table.1)
+
+pub invariant_of-steps : goal.invariant_of-steps
+invariant_of-steps c = record { numbers = numbers_last c.args.steps.now.seat.me.0 c.load.new.seat.me.0 c.args.steps.now.seen c.args.steps.now.drawn (ap (λ (s : Sat). lasting s.0) (c.load.ensures.2 c.requires.at.q c.requires.at.looks)) c.args.steps.now.numbers }
