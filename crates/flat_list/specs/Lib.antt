@@ -12,6 +12,7 @@ pub mod Step
 pub mod Run
 pub mod Sound
 pub mod Rows
+pub mod MoreRows
 pub mod Script
 pub mod Padded
 pub mod Labels

@@ -1,7 +1,9 @@
 //! What the definitions of the flat list imply of every list that commands reach.
 
-ghost use Rattle.std.specs.Prelude.{None, Some, true, false};
+ghost use Rattle.std.specs.Prelude.{None, Some, true, false, [], ◌∷◌};
 ghost use Rattle.flat_list.specs.Rows.{Answer, with_slots, with_range, with_seed, until_one_listens, beside_by_device, one_slot, accepted_goes_first, one_four_tuple, slot_is_freed, states_refuse, four_ports, binds_from_two, connects_from_two, shared_by_connect, listens_anywhere, port_without_slot, words_are_drawn, closed_without_slot, child_stays, child_lets_in, shared_by_user, with_reuse, reused, waited_for, by_rank, with_known_hashes, chosen_by_hash, seventeen_listeners};
+ghost use Rattle.flat_list.specs.Flat.{new_flat};
+ghost use Rattle.flat_list.specs.MoreRows as more;
 ghost use Rattle.flat_list.specs.Ports as ports;
 ghost use Rattle.flat_list.specs.Sound as law;
 
@@ -57,4 +59,17 @@ pub fn rows()
     ensures rank { Answer (with_slots 1024) by_rank }
     ensures hash { Answer with_known_hashes chosen_by_hash }
     ensures full_group { Answer (with_slots 1024) seventeen_listeners }
+{}
+
+/// They give those of several causes of a refusal, and of several sections.
+pub fn more_rows()
+    ensures refusals { Answer (with_slots 3) more.refusals }
+    ensures full_and_grouped { Answer (with_slots 8) more.full_and_grouped }
+    ensures sections { more.AllAnswer (new_flat more.for_sections) 1 (more.section_one ∷ more.section_two ∷ more.section_three ∷ []) }
+    ensures waits { Answer (with_slots 3) more.waits }
+    ensures wait_taken { Answer (with_slots 1024) more.wait_taken }
+    ensures wait_shared { Answer (with_slots 1024) more.wait_shared }
+    ensures searches { Answer (with_range 40000 40001 (Some 65535)) more.searches }
+    ensures kept_mark { Answer (with_range 40000 40001 None) more.kept_mark }
+    ensures devices { Answer (with_slots 1024) more.devices }
 {}

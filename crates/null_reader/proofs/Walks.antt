@@ -1,5 +1,5 @@
 -- How a pass of a lookup goes on.
-use Rattle.std.proofs.Common.{◌≡◌, ◌≢◌, ℕ, ◌+◌, ◌*◌, ◌%◌, ◌/◌, ◌<◌, ◌≤◌, inl, inr, ⊎_elim, List, [], ◌∷◌, ◌++◌, length, sym, refl, ap, ◌∙◌, arith, cond, Bool, eq-eqb, Option, Some, None, Ok, Err, IfSome, IfNone}
+use Rattle.std.proofs.Common.{◌≡◌, ◌≢◌, ℕ, ◌+◌, ◌*◌, ◌%◌, ◌/◌, ◌<◌, ◌≤◌, inl, inr, ⊎_elim, List, [], ◌∷◌, ◌++◌, length, sym, refl, ap, ◌∙◌, subst, arith, cond, Bool, eq-eqb, Option, Some, None, Ok, Err, IfSome, IfNone}
 use lib.ListN.{get_elem?}
 use mathlib.Core.Logic.{dite}
 use native.Mathlib.Decide.{ℕ_discrete, dec_le}
@@ -18,7 +18,7 @@ use Rattle.null_reader.specs.declared.answers.PassEnd.{PassEnd}
 use Rattle.null_reader.specs.declared.answers.PassEnd.TheVariants.{Foreign, Long}
 use Rattle.null_reader.proofs.LookViews.{less_first, less_second}
 use Rattle.sock_card.specs.declared.card.Packet.{Packet}
-use Rattle.table_rule.specs.Words.{words_of}
+use Rattle.table_rule.specs.Words.{words_of, bucket_count}
 
 pub best_same : (layout : Layout) (v : View) (q q' : Reader) (best : Option Best) (ks : List Kept) (hs : List ℕ) → q'.best ≡ q.best → q'.key ≡ q.key → q'.least ≡ q.least → q'.since ≡ q.since → IsBest layout v q best ks hs → IsBest layout v q' best ks hs
 best_same layout v q q' None ks hs a b c d o = (a ∙ o.0, o.1, o.2)
@@ -34,6 +34,7 @@ pub walks_on : (layout : Layout) (m : Sat) (q₀ : Reader) (best : Option Best) 
 walks_on layout m q₀ best r F n n' q p ks hs taken own is more same bests stops count b bucket a =
     let at : (p' : Reader) → n' ≡ (with_reader n.0 (p' ∷ []), n.1) → n' ≡ (looking m.0 p' ks hs taken, m.1) = λ p' e. e ∙ ap (λ (s : Sat). (with_reader s.0 (p' ∷ []), s.1)) is in
     let slots : n.0.layout.shape.slots ≡ layout.shape.slots = ap (λ (s : Layout). s.shape.slots) own in
+    let near : r % 2 ≡ 1 → r / 2 < bucket_count layout = λ odd. subst (λ (l : Layout). r / 2 < bucket_count l) own (a.4 odd) in
     let bucket' : r ≡ 2 * q₀.bucket + 1 → r ≡ 2 * b + 1 = λ e. e ∙ ap (λ (k : ℕ). 2 * k + 1) (sym bucket) in
     let stand : n' ≡ (with_reader n.0 (standing p r ∷ []), n.1) → (r % 2 ≡ 0 → F ≤ layout.shape.slots → r / 2 < layout.shape.slots) → (r % 2 ≡ 0 → layout.shape.slots < F → ⊥) → (r % 2 ≡ 1 → r ≢ 2 * q₀.bucket + 1 → ⊥) → Walking layout m q₀ best r F n' = λ e inside long foreign. record {
       q = standing p r;
@@ -47,6 +48,7 @@ walks_on layout m q₀ best r F n n' q p ks hs taken own is more same bests stop
       slot = λ even few. (refl, refl, count, ap (λ (c : Bool). cond c (record { slot = r / 2; words = [] } ∷ []) []) (eq-eqb (r % 2) 0 even), inside even few, stops);
       long = λ even many. absurd (long even many);
       own = λ end. ((refl, end ∙ ap (λ (k : ℕ). 2 * k + 1) (sym same.bucket)), stops);
+      near = near;
       foreign = λ odd ne. absurd (foreign odd ne);
     } in
     let stop : (kind a : ℕ) → n' ≡ (with_reader n.0 (stopping p kind a ∷ []), n.1) → (r % 2 ≡ 0 → F ≤ layout.shape.slots → ⊥) → (r % 2 ≡ 0 → (kind ≡ 3) × (a ≡ F)) → (r ≡ 2 * q₀.bucket + 1 → ⊥) → (r % 2 ≡ 1 → (kind ≡ 0) × (a ≡ r / 2)) → Walking layout m q₀ best r F n' = λ kind a e no-slot long no-own foreign. record {
@@ -61,6 +63,7 @@ walks_on layout m q₀ best r F n n' q p ks hs taken own is more same bests stop
       slot = λ even few. absurd (no-slot even few);
       long = λ even many. let t = long even in λ k. stops k ++ record { kind = t.0 k; at = t.1 k } ∷ [];
       own = λ end. absurd (no-own end);
+      near = near;
       foreign = λ odd ne. let t = foreign odd in λ k. stops k ++ record { kind = t.0 k; at = t.1 k } ∷ [];
     } in
     dite (ℕ_discrete (r % 2) 0)

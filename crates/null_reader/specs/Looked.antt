@@ -5,7 +5,10 @@ use Rattle.table_rule.specs.ReadersOk.{rank_of}
 use Rattle.table_rule.specs.Plays.{settled, Sat, with_reader, with_kept, stopping}
 use Rattle.table_rule.specs.Alone.{NoneStands, CardStands, NoneKnown}
 use Rattle.table_rule.specs.LookCalls.{Looks, IsAtEnd}
+use mathlib.Core.Option.{some}
+use lib.ListN.{get_elem?}
 use Rattle.table_rule.specs.declared.view.View.{View}
+use Rattle.table_rule.specs.declared.view.Change.{Change}
 use Rattle.table_rule.specs.declared.view.Layout.{Layout}
 use Rattle.sock_card.specs.declared.words.CardWords.{CardWords}
 use Rattle.table_rule.specs.declared.view.Kept.{Kept}
@@ -25,7 +28,7 @@ use Rattle.null_reader.specs.declared.answers.PassEnd.TheVariants.{Foreign, Dead
 use Rattle.table_rule.specs.LookCalls.{with_words}
 use Rattle.sock_card.specs.declared.card.Packet.{Packet}
 use Rattle.table_rule.specs.Beyond.{IsCardWords}
-use Rattle.table_rule.specs.Words.{words_of}
+use Rattle.table_rule.specs.Words.{words_of, bucket_count}
 
 -- a view during a lookup: its reader, what it keeps and holds, and how often it has taken a count
 abbrev pub looking : View → Reader → List Kept → List ℕ → (taken : ℕ) → View
@@ -114,6 +117,7 @@ pub record Walking (layout : Layout) (m₀ : Sat) (q₀ : Reader) (best : Option
   pub slot : link % 2 ≡ 0 → followed ≤ layout.shape.slots → (q.walking ≡ 1) × (q.link ≡ link) × (q.followed ≡ followed) × (q.peeked ≡ record { slot = link / 2; words = [] } ∷ []) × (link / 2 < layout.shape.slots) × (q.stops ≡ q₀.stops)
   pub long : link % 2 ≡ 0 → layout.shape.slots < followed → q.stops ≡ q₀.stops ++ stop_of (Long followed) ∷ []
   pub own : link ≡ 2 * q₀.bucket + 1 → IsAtEnd q × (q.stops ≡ q₀.stops)
+  pub near : link % 2 ≡ 1 → link / 2 < bucket_count layout
   pub foreign : link % 2 ≡ 1 → link ≢ 2 * q₀.bucket + 1 → q.stops ≡ q₀.stops ++ stop_of (Foreign (link / 2)) ∷ []
 
 -- what a pass of the lookup q₀ leaves
@@ -160,6 +164,10 @@ LookedAs bucket key least passes m (ends.Again b stop) t₀ t₁ n = (b ≡ buck
 abbrev pub IsWhole : View → Type 0
 IsWhole v = (v.slot.parts ≡ 16384) × (v.book.opened ≡ [])
 
+-- all that the pass closed had ended before this number
+abbrev pub HadEnded : View → (number : ℕ) → Type 0
+HadEnded v number = (n : ℕ) (c : Change) → get_elem? v.book.closed n ≡ some c → c.ends < number
+
 -- then the answer is the one of its own changes, and never that the passes stopped
 abbrev pub SoleAs : (bucket : ℕ) (key : Packet) (least : ℕ) → View → WordsEnd → Type 0
 SoleAs bucket key least v (ends.Found h card) = CardStands v (words_of card) × NoneStands v bucket key least (rank_of key (words_of card))
@@ -178,11 +186,18 @@ IsCardEnd (ends.Found h card) = IsCardWords (words_of card)
 IsCardEnd ends.None = Unit {0}
 IsCardEnd (ends.Again b stop) = Unit {0}
 
--- the slot of what was found is one of the table, so that its count can be put
+-- how a pass stopped: at the end of a bucket of the table, or after one link more than there are slots
+abbrev pub IsStopInside : Layout → PassEnd → Type 0
+IsStopInside layout (Foreign b) = b < bucket_count layout
+IsStopInside layout (Dead i) = Unit {0}
+IsStopInside layout (Changed i) = Unit {0}
+IsStopInside layout (Long n) = n ≡ layout.shape.slots + 1
+
+-- the slot of what was found is one of the table, so that its count can be put; and so is the bucket at whose end the last pass stopped
 abbrev pub IsInside : Layout → WordsEnd → Type 0
 IsInside layout (ends.Found h card) = h.slot < layout.shape.slots
 IsInside layout ends.None = Unit {0}
-IsInside layout (ends.Again b stop) = Unit {0}
+IsInside layout (ends.Again b stop) = IsStopInside layout stop
 
 -- an answer with its card by its words
 abbrev pub words_end : LookEnd → WordsEnd

@@ -1,10 +1,10 @@
-ghost use Rattle.std.specs.Prelude.{◌≡◌, ◌+◌, ◌*◌, ◌<◌, ◌≤◌, List, [], ◌∷◌, ◌%◌, Ok, Err, Some, None, IfSome, IfNone};
+ghost use Rattle.std.specs.Prelude.{◌≡◌, ◌+◌, ◌*◌, ◌<◌, ◌≤◌, List, [], ◌∷◌, ◌%◌, Ok, Err, Some, None, IfSome, IfNone, IfErr};
 ghost use Rattle.table_rule.specs.declared.view.Reader.{Reader};
 ghost use Rattle.table_rule.specs.declared.view.Kept.{Kept};
 ghost use Rattle.sock_card.specs.Words.{word_rank as rank};
 ghost use Rattle.table_rule.specs.Calls.{IsOf, view, me, Becomes, Stays, layout_of};
 ghost use Rattle.table_rule.specs.LookCalls.{Looks, HasRoom, IsNth};
-ghost use Rattle.null_reader.specs.Looked.{so_far, HasTwo, IsVisiting, IsChecking, Keyed, Checked, Visited, Walking, Turned, Passed, LookedAs, IsWhole, SoleAs, KnownAs, IsCardEnd, IsInside};
+ghost use Rattle.null_reader.specs.Looked.{so_far, HasTwo, IsVisiting, IsChecking, Keyed, Checked, Visited, Walking, Turned, Passed, LookedAs, IsWhole, SoleAs, KnownAs, HadEnded, IsCardEnd, IsInside, IsStopInside};
 ghost use Rattle.table_rule.specs.Plays.{Sat, with_kept, letting_go, drop_at};
 ghost use Rattle.table_rule.specs.Words.{bucket_count};
 
@@ -97,6 +97,7 @@ fn visit<P: Pace>(
     requires at { IsVisiting slot key (view steps.old) }
     requires best { (q : Reader) → Looks (view steps.old) q → q.best ≡ best }
     ensures table { IsOf chains.now steps.new }
+    ensures inside { IfErr result (IsStopInside (layout_of chains.now)) }
     ensures visited { (q : Reader) → Looks (view steps.old) q → Visited slot key least best q (me steps.old) result (me steps.new) }
 {
     let rank_before = key_rank(chains, steps, slot, key, pace);
@@ -167,6 +168,7 @@ fn pass_by<P: Pace>(
     requires room { HasRoom (view steps.old) }
     requires walking { (m : Sat) × (q : Reader) × (q.key ≡ key) × (q.least ≡ least) × (q.since ≤ m.0.seen) × Walking (layout_of chains.now) m q best link followed (me steps.old) }
     ensures table { IsOf chains.now steps.new }
+    ensures inside { IfErr result (IsStopInside (layout_of chains.now)) }
     ensures turned { (m : Sat) (q : Reader) → Walking (layout_of chains.now) m q best link followed (me steps.old) → q.key ≡ key → q.least ≡ least → q.since ≤ m.0.seen → Turned (layout_of chains.now) m q followed result (me steps.new) }
 {
     let slot = (link / 2) as u32;
@@ -206,6 +208,7 @@ fn one_pass<P: Pace>(
     requires room { HasTwo (view steps.old) }
     requires looks { (q : Reader) × Looks (view steps.old) q × (q.bucket ≡ bucket) × (q.key ≡ key) × (q.least ≡ least) × (q.since ≤ (view steps.old).seen) }
     ensures table { IsOf chains.now steps.new }
+    ensures inside { IfErr result (IsStopInside (layout_of chains.now)) }
     ensures passed { (q : Reader) → Looks (view steps.old) q → Passed (layout_of chains.now) (me steps.old) q result (me steps.new) }
 {
     pace.step(Point::Head);
@@ -258,6 +261,7 @@ pub(crate) fn look_words<P: Pace>(
     ensures inside { IsInside (layout_of chains.now) result.end }
     ensures sole { IsWhole (view steps.old) → SoleAs bucket key least (view steps.old) result.end }
     ensures known { KnownAs bucket key least (view steps.old) result.end result.from }
+    ensures before { HadEnded (view steps.old) result.from }
 {
     pace.step(Point::Start);
     let from = chains.step_clock_start(steps, bucket, key, least);

@@ -15,6 +15,8 @@
 mod coming;
 mod leaving;
 mod survey;
+#[cfg(test)]
+mod tests;
 
 pub use coming::{InsertEnd, Inserted, add, insert};
 pub use leaving::{remove, time_wait};

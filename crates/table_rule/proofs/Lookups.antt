@@ -86,10 +86,10 @@ module _ (layout : Layout) (word : ℕ → ℕ) (chain : ℕ → List ℕ) (live
   Cd i w = word (at layout i (2 + w))
 
   abbrev pub Rd : Reader → Type 0
-  Rd q = ReaderOk layout.shape.slots Nx Lk Cd lives (word 0) q
+  Rd q = ReaderOk B layout.shape.slots Nx Lk Cd lives (word 0) q
 
   abbrev pub Wy : Reader → Type 0
-  Wy q = Way layout.shape.slots Nx Lk lives (word 0) q
+  Wy q = Way B layout.shape.slots Nx Lk lives (word 0) q
 
   abbrev pub Kp : Kept → Type 0
   Kp h = KeptOk Cd lives (word 0) h
@@ -197,6 +197,14 @@ module _ (layout : Layout) (word : ℕ → ℕ) (chain : ℕ → List ℕ) (live
       }
       on (x ∷ xs) path = absurd (let z = path.0 in omega arith)
 
+  -- it is the end of a bucket of the table
+  pub near_end : (q : Reader) (r : ℕ) → Wy (standing q r) → r % 2 ≡ 1 → r / 2 < B
+  near_end q r w odd = on w.way w.leads
+    where
+      on : (xs : List ℕ) → Path Nx r xs (2 * w.end + 1) → r / 2 < B
+      on [] path = let is : w.end ≡ r / 2 = omega (arith, path) in let n = w.near in omega (arith, is)
+      on (x ∷ xs) path = absurd (let z = path.0 in omega arith)
+
   -- the head is loaded: no life that is sought is missed, and the way is the chain
   pub from_head : (q : Reader) → q.since ≤ word 0 → q.bucket < B → q.followed ≡ 0 → Finds q (word (head_at q.bucket)) × Wy (standing q (word (head_at q.bucket)))
   from_head q low near none = let path = p.chains.paths q.bucket near in (
@@ -205,6 +213,7 @@ module _ (layout : Layout) (word : ℕ → ℕ) (chain : ℕ → List ℕ) (live
     record {
       way = chain q.bucket;
       end = q.bucket;
+      near = near;
       leads = path;
       slots-ok = each_in' (chain q.bucket) (λ i h. (dite (dec_le layout.shape.slots i) (λ g. absurd (omega (arith, h, p.chains.inside i g, linked_le i chain q.bucket B near))) (λ n. omega (arith, n)), inl (omega (arith, h, linked_le i chain q.bucket B near))));
       foreign = inl refl;
@@ -238,6 +247,7 @@ module _ (layout : Layout) (word : ℕ → ℕ) (chain : ℕ → List ℕ) (live
       onward (y ∷ ys) path a long = let same : y ≡ i = let z = path.0 in omega (arith, at) in record {
         way = ys;
         end = (o.way on).end;
+        near = (o.way on).near;
         leads = subst (λ (j : ℕ). Path Nx (Nx j) ys (2 * (o.way on).end + 1)) same path.1;
         slots-ok = a.1;
         foreign = (o.way on).foreign;
@@ -254,7 +264,7 @@ module _ (layout : Layout) (word : ℕ → ℕ) (chain : ℕ → List ℕ) (live
       record {
         low = low;
         finds = λ on i n x e t. o.finds on i n x e (copy_sought q (glancing q r) x refl refl refl refl (omega arith) t);
-        way = λ on. let w = o.way on in record { way = w.way; end = w.end; leads = w.leads; slots-ok = w.slots-ok; foreign = w.foreign; long = w.long };
+        way = λ on. let w = o.way on in record { way = w.way; end = w.end; near = w.near; leads = w.leads; slots-ok = w.slots-ok; foreign = w.foreign; long = w.long };
         peeked = subst (λ (l : List Seen). Each (PeekOk Cd lives q.since (word 0)) (knowing l r)) (sym peek) (
           record {
             sure = λ n x e before still w y h z. ⊎_elim (λ t. pk.sure n x e before still w y h t.0)
@@ -359,7 +369,7 @@ module _ (layout : Layout) (word : ℕ → ℕ) (chain : ℕ → List ℕ) (live
   judged_same q k o more = record {
     low = o.low;
     finds = λ on i n x e t. o.finds on i n x e (copy_sought q (record q { best = k }) x refl refl refl refl more t);
-    way = λ on. let w = o.way on in record { way = w.way; end = w.end; leads = w.leads; slots-ok = w.slots-ok; foreign = w.foreign; long = w.long };
+    way = λ on. let w = o.way on in record { way = w.way; end = w.end; near = w.near; leads = w.leads; slots-ok = w.slots-ok; foreign = w.foreign; long = w.long };
     peeked = o.peeked;
     stops = o.stops;
   }

@@ -1,6 +1,6 @@
 -- Which seat keeps a caller's entries, step by step.
 use Rattle.std.proofs.Common.{◌≡◌, ℕ, zero, suc, ◌⊎◌, ◌+◌, ◌<◌, ◌≢◌, eqb, cond, List, [], ◌∷◌, ◌++◌, map, length, set, sym, refl, ap, ◌∙◌, subst, inl, inr, ⊎_elim, arith, length-set, eq-eqb, ne_eqb}
-use Rattle.std.proofs.lemmas.List.{length-append}
+use Rattle.std.proofs.lemmas.List.{length-append, append-nil}
 use mathlib.Core.Logic.{dite}
 use native.Mathlib.Decide.{ℕ_discrete}
 use mathlib.Core.Option.{some, some-injective, some-ne-none}
@@ -13,7 +13,6 @@ use Rattle.turn_table.specs.Turning.{CallersOk}
 use Rattle.turn_table.specs.declared.note.Note.{Note}
 use Rattle.turn_table.specs.declared.note.Placed.{Placed}
 use Rattle.turn_table.specs.declared.view.TurnView.{TurnView}
-use Rattle.turn_table.proofs.Sums.{append-nil}
 use Rattle.turn_table.proofs.OfCallers.{by-append, at-append, by_none, by_at_none, at_here, at_else, by_first, has_each}
 use Rattle.turn_table.proofs.Updates.{upd, upd_here, upd_else}
 use Rattle.turn_table.proofs.ViewLists.{at_each}

@@ -15,7 +15,8 @@ use Rattle.turn_table.specs.Turning.{below, entries, has_turn, Orderly}
 use Rattle.turn_table.specs.declared.note.Note.{Note}
 use Rattle.turn_table.specs.declared.note.Placed.{Placed}
 use Rattle.turn_table.specs.declared.view.TurnView.{TurnView}
-use Rattle.turn_table.proofs.Sums.{total-map, total-alone, below_total}
+use Rattle.list_words.proofs.PlaceLemmas.{total-alone}
+use Rattle.turn_table.proofs.Sums.{total-map, below_total}
 use Rattle.turn_table.proofs.ViewLists.{turn_no}
 use Rattle.turn_table.proofs.OfCallers.{by_at_none}
 use Rattle.turn_table.proofs.CallerSteps.{there_below}

@@ -11,7 +11,8 @@ use Rattle.turn_table.specs.Turning.{EntriesOk}
 use Rattle.turn_table.specs.declared.note.Note.{Note}
 use Rattle.turn_table.specs.declared.note.Placed.{Placed}
 use Rattle.turn_table.specs.declared.view.TurnView.{TurnView}
-use Rattle.turn_table.proofs.Sums.{total-set, total-map, ascends_more, below_more}
+use Rattle.list_words.proofs.PlaceLemmas.{total-set}
+use Rattle.turn_table.proofs.Sums.{total-map, ascends_more, below_more}
 use Rattle.turn_table.proofs.Updates.{upd, upd_here, upd_else, entries_upd}
 
 module _ {E H : Type 0} where

@@ -14,7 +14,8 @@ use Rattle.turn_table.specs.declared.note.Note.{Note}
 use Rattle.turn_table.specs.declared.note.Placed.{Placed}
 use Rattle.turn_table.specs.declared.note.Find.{Find}
 use Rattle.turn_table.specs.declared.view.TurnView.{TurnView}
-use Rattle.turn_table.proofs.Sums.{at_append, each_of_map, map-append, append-nil, ascends_more, ascends_push, ascends_last}
+use Rattle.std.proofs.lemmas.List.{map-append, append-nil}
+use Rattle.turn_table.proofs.Sums.{at_append, each_of_map, ascends_more, ascends_push, ascends_last}
 use Rattle.turn_table.proofs.Updates.{upd, upd_here, upd_else}
 use Rattle.turn_table.proofs.ViewLists.{zero_not, at_each, at_each_snoc, at_each_two, found_back, found_same, found_snoc, found_two}
 

@@ -9,7 +9,7 @@ use Rattle.list_words.proofs.EachLemmas.{each_filter, each_map}
 use Rattle.turn_table.specs.Journals.{placed, by_caller, notes_at}
 use Rattle.turn_table.specs.declared.note.Note.{Note}
 use Rattle.turn_table.specs.declared.note.Placed.{Placed}
-use Rattle.turn_table.proofs.Sums.{map-append}
+use Rattle.std.proofs.lemmas.List.{map-append}
 
 module _ {E : Type 0} where
   -- a list with an item isn't empty

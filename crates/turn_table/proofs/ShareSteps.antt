@@ -8,7 +8,8 @@ use Rattle.list_words.proofs.TotalLemmas.{total-append}
 use Rattle.turn_table.specs.Views.{nobody}
 use Rattle.turn_table.specs.Turning.{HasShare, SharesOk}
 use Rattle.turn_table.specs.declared.view.TurnView.{TurnView}
-use Rattle.turn_table.proofs.Sums.{total-set, total-within}
+use Rattle.list_words.proofs.PlaceLemmas.{total-set}
+use Rattle.turn_table.proofs.Sums.{total-within}
 use Rattle.turn_table.proofs.ViewLists.{at_each, at_each_snoc, at_each_two}
 
 -- what a pass and those that it joined drew is within its parts' budget

@@ -18,7 +18,8 @@ use Rattle.turn_table.specs.Plays.{Sat, in_hand, Took, took, gave, drew, saw}
 use Rattle.turn_table.specs.declared.note.Note.{Note}
 use Rattle.turn_table.specs.declared.note.Placed.{Placed}
 use Rattle.turn_table.specs.declared.view.TurnView.{TurnView}
-use Rattle.turn_table.proofs.Sums.{total-set, term_le, terms_le, ascends_more}
+use Rattle.list_words.proofs.PlaceLemmas.{total-set, term_le, terms_le}
+use Rattle.turn_table.proofs.Sums.{ascends_more}
 use Rattle.turn_table.proofs.ViewLists.{zero_not, turn_yes, turn_no}
 use Rattle.turn_table.proofs.Updates.{upd, entries_none}
 use Rattle.turn_table.proofs.ShareSteps.{share_within, share_draw, share_many, share_cut, share_new, share_none, share_first, share_join, shares_set, shares_snoc, shares_two, shares_few}

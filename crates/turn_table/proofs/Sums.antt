@@ -1,6 +1,6 @@
--- Sums over lists that change at one place, and lists that ascend.
-use Rattle.std.proofs.Common.{◌≡◌, ℕ, zero, suc, ◌+◌, ◌*◌, ◌<◌, ◌≤◌, ◌≢◌, ◌⊎◌, List, [], ◌∷◌, ◌++◌, map, set, length, sym, refl, ap, arith, inl, inr}
-use mathlib.Core.Option.{some, some-injective, some-ne-none}
+-- Sums over lists, and lists that ascend.
+use Rattle.std.proofs.Common.{◌≡◌, ℕ, zero, suc, ◌+◌, ◌*◌, ◌<◌, ◌≤◌, ◌⊎◌, List, [], ◌∷◌, ◌++◌, map, length, refl, ap, arith, inl, inr}
+use mathlib.Core.Option.{some}
 use lib.ListN.{get_elem?}
 use Rattle.list_words.specs.Lists.{total, Each}
 use Rattle.list_words.proofs.EachLemmas.{each_append, each_weaken}
@@ -10,42 +10,10 @@ use Rattle.turn_table.specs.Journals.{Ascends, numbers_below}
 use Rattle.turn_table.specs.Turning.{below}
 
 module _ {A : Type 0} where
-  module _ (g : A → ℕ) where
-    -- a sum after a change at one place
-    pub total-set : (l : List A) (j : ℕ) (v w : A) → get_elem? l j ≡ some v → total g (set l j w) + g v ≡ total g l + g w
-    total-set [] j v w e = absurd (some-ne-none v (sym e))
-    total-set (x ∷ xs) zero v w e = omega (arith, ap g (some-injective x v e))
-    total-set (x ∷ xs) (suc j) v w e = omega (arith, total-set xs j v w e)
-
-    -- one term is within the sum
-    pub term_le : (l : List A) (j : ℕ) (v : A) → get_elem? l j ≡ some v → g v ≤ total g l
-    term_le [] j v e = absurd (some-ne-none v (sym e))
-    term_le (x ∷ xs) zero v e = omega (arith, ap g (some-injective x v e))
-    term_le (x ∷ xs) (suc j) v e = omega (arith, term_le xs j v e)
-
-    -- two terms are within the sum
-    pub terms_le : (l : List A) (j k : ℕ) (v u : A) → k ≢ j → get_elem? l j ≡ some v → get_elem? l k ≡ some u → g v + g u ≤ total g l
-    terms_le [] j k v u n e d = absurd (some-ne-none v (sym e))
-    terms_le (x ∷ xs) zero zero v u n e d = absurd (n refl)
-    terms_le (x ∷ xs) zero (suc k) v u n e d = omega (arith, ap g (some-injective x v e), term_le xs k u d)
-    terms_le (x ∷ xs) (suc j) zero v u n e d = omega (arith, ap g (some-injective x u d), term_le xs j v e)
-    terms_le (x ∷ xs) (suc j) (suc k) v u n e d = omega (arith, terms_le xs j k v u (λ h. n (ap suc h)) e d)
-
-  -- where each term is 0, so is the sum
-  pub total-none : (g : A → ℕ) (l : List A) → ((k : ℕ) (u : A) → get_elem? l k ≡ some u → g u ≡ 0) → total g l ≡ 0
-  total-none g [] h = refl
-  total-none g (x ∷ xs) h = omega (arith, h zero x refl, total-none g xs (λ k u d. h (suc k) u d))
-
   -- where each term is within its part of a budget, so is the sum
   pub total-within : (g h : A → ℕ) (l : List A) → ((k : ℕ) (v : A) → get_elem? l k ≡ some v → g v ≤ h v * 281474976710656) → total g l ≤ total h l * 281474976710656
   total-within g h [] p = omega arith
   total-within g h (x ∷ xs) p = let a = p 0 x refl in let b = total-within g h xs (λ k v e. p (suc k) v e) in omega arith
-
-  -- where only one term isn't 0, it is the sum
-  pub total-alone : (g : A → ℕ) (l : List A) (j : ℕ) (v : A) → get_elem? l j ≡ some v → ((k : ℕ) (u : A) → k ≢ j → get_elem? l k ≡ some u → g u ≡ 0) → total g l ≡ g v
-  total-alone g [] j v e h = absurd (some-ne-none v (sym e))
-  total-alone g (x ∷ xs) zero v e h = omega (arith, ap g (some-injective x v e), total-none g xs (λ k u d. h (suc k) u (λ z. absurd (omega arith)) d))
-  total-alone g (x ∷ xs) (suc j) v e h = omega (arith, h zero x (λ z. absurd (omega arith)) refl, total-alone g xs j v e (λ k u n d. h (suc k) u (λ z. n (omega arith)) d))
 
   -- a place of two lists put together is one of the first or of the second
   pub at_append : (l m : List A) (k : ℕ) (a : A) → get_elem? (l ++ m) k ≡ some a → (get_elem? l k ≡ some a) ⊎ ((j : ℕ) × (get_elem? m j ≡ some a))
@@ -67,16 +35,6 @@ module _ {A : Type 0} where
   pub each_of_map : {B : Type 0} (P : B → Type 0) (h : A → B) (l : List A) → Each P (map h l) → Each (λ x. P (h x)) l
   each_of_map P h [] p = tt
   each_of_map P h (x ∷ xs) p = (p.0, each_of_map P h xs p.1)
-
-  -- two mapped lists put together
-  pub map-append : {B : Type 0} (h : A → B) (l m : List A) → map h (l ++ m) ≡ map h l ++ map h m
-  map-append h [] m = refl
-  map-append h (x ∷ xs) m = ap (λ (l : List _). h x ∷ l) (map-append h xs m)
-
-  -- nothing put behind a list
-  pub append-nil : (l : List A) → l ++ [] ≡ l
-  append-nil [] = refl
-  append-nil (x ∷ xs) = ap (λ (l : List _). x ∷ l) (append-nil xs)
 
   -- the second part of a list of which each item has the fact
   pub each_last : (P : A → Type 0) (l m : List A) → Each P (l ++ m) → Each P m

@@ -9,7 +9,7 @@ use Rattle.list_words.specs.Lists.{total}
 use Rattle.turn_table.specs.Turning.{has_turn, Home, TurnsOk}
 use Rattle.turn_table.specs.declared.note.Note.{Note}
 use Rattle.turn_table.specs.declared.view.TurnView.{TurnView}
-use Rattle.turn_table.proofs.Sums.{total-set, term_le}
+use Rattle.list_words.proofs.PlaceLemmas.{total-set, term_le}
 use Rattle.turn_table.proofs.Updates.{upd, upd_here, upd_else}
 use Rattle.turn_table.proofs.ViewLists.{turn_yes, turn_no}
 

@@ -7,7 +7,8 @@ use Rattle.turn_table.specs.Turning.{SharesOk, EntriesOk, KnowledgeOk}
 use Rattle.turn_table.specs.declared.note.Note.{Note}
 use Rattle.turn_table.specs.declared.note.Placed.{Placed}
 use Rattle.turn_table.specs.declared.view.TurnView.{TurnView}
-use Rattle.turn_table.proofs.Sums.{terms_le, total-alone, total-one, below-one}
+use Rattle.list_words.proofs.PlaceLemmas.{terms_le, total-alone}
+use Rattle.turn_table.proofs.Sums.{total-one, below-one}
 
 module _ {E H : Type 0} (key : H) (js : ℕ → List (Note E)) (n places : ℕ) (vs : List (TurnView E H)) (id : ℕ) (v : TurnView E H) where
   -- they have no part

@@ -10,7 +10,7 @@ use Rattle.null_reader.proofs.lookup.look_words.Goals as goal
 use Rattle.table_rule.specs.Words.{words_of}
 
 pub loop-done-init : goal.loop-done-init
-loop-done-init g c = record { table = c.step_clock_start-from.ensures.table; between = between_none (layout_of c.args.chains.now) c.args.bucket c.args.key c.args.least c.args.passes c.step_clock_start-from.result (me c.args.steps.now) (me c.step_clock_start-from.new.steps) c.step_clock_start-from.ensures.view (Dead 0) }
+loop-done-init g c = record { table = c.step_clock_start-from.ensures.table; inside = tt; between = between_none (layout_of c.args.chains.now) c.args.bucket c.args.key c.args.least c.args.passes c.step_clock_start-from.result (me c.args.steps.now) (me c.step_clock_start-from.new.steps) c.step_clock_start-from.ensures.view (Dead 0) }
 
 pub step_clock_found-to-requires-clause-found : goal.step_clock_found-to-requires-clause-found
 step_clock_found-to-requires-clause-found g c = is_found (layout_of c.args.chains.now) c.args.bucket c.args.key c.args.least c.args.passes c.step_clock_start-from.result (me c.args.steps.now) (me c.step_clock_start-from.new.steps) c.step_clock_start-from.ensures.view c.loop-done.done c.loop-done.last (me c.loop-done.steps) (me c.one_pass.new.steps) c.loop-done.invariant.between (me c.one_pass.new.steps) 0 c.in-Ok-Some.best (subst (λ (x : Option Best). Passed (layout_of c.args.chains.now) (me c.loop-done.steps) c.loop-done.invariant.between.q (Ok x) (me c.one_pass.new.steps)) c.in-Ok-Some.field-0-is (c.in-Ok-Some.ensures.passed c.loop-done.invariant.between.q (looks_between (layout_of c.args.chains.now) c.args.bucket c.args.key c.args.least c.args.passes c.step_clock_start-from.result (me c.args.steps.now) (me c.step_clock_start-from.new.steps) c.step_clock_start-from.ensures.view c.loop-done.done c.loop-done.last (me c.loop-done.steps) (me c.one_pass.new.steps) c.loop-done.invariant.between)))

@@ -33,3 +33,9 @@ returns-in-Ok-Found-clause-passed g c = λ q e. subst (λ (x : Turn). Turned (la
 
 pub loop-followed-preserved : goal.loop-followed-preserved
 loop-followed-preserved g c = record { table = c.pass_by.ensures.table; walking = λ q e. subst (λ (x : Turn). Turned (layout_of c.args.chains.now) (me c.args.steps.now) q c.loop-followed.followed (Ok x) (me c.pass_by.new.steps)) c.in-Ok-On.field-0-is (c.in-Ok-On.ensures.turned (me c.args.steps.now) q (c.loop-followed.invariant.walking q e) (ap (λ (p : Reader). p.key) (sym (same_reader (view c.args.steps.now) c.requires.looks.0 q c.requires.looks.1 e)) ∙ c.requires.looks.3) (ap (λ (p : Reader). p.least) (sym (same_reader (view c.args.steps.now) c.requires.looks.0 q c.requires.looks.1 e)) ∙ c.requires.looks.4) (subst (λ (p : Reader). p.since ≤ (view c.args.steps.now).seen) (same_reader (view c.args.steps.now) c.requires.looks.0 q c.requires.looks.1 e) c.requires.looks.5)); few = omega (arith, c.if-followed-slots.false, c.slot_count-slots.ensures) }
+
+pub returns-then-link-eq1-clause-inside : goal.returns-then-link-eq1-clause-inside
+returns-then-link-eq1-clause-inside g c = (c.loop-followed.invariant.walking c.requires.looks.0 c.requires.looks.1).near c.if-link-eq1.true
+
+pub returns-then-followed-slots-clause-inside : goal.returns-then-followed-slots-clause-inside
+returns-then-followed-slots-clause-inside g c = omega (arith, c.if-followed-slots.true, c.loop-followed.invariant.few, c.slot_count-slots.ensures)

@@ -1,0 +1,23 @@
+-- What the tests ask of a pass between two of its calls.
+use Rattle.std.specs.Prelude.{◌≡◌, ℕ, ◌+◌, ◌<◌, ◌≤◌, [], vec_len, vec_capacity}
+use Rattle.table_rule.specs.declared.table.Chains.{Chains}
+use Rattle.table_rule.specs.declared.pass.Pass.{Pass}
+use Rattle.table_rule.specs.Calls.{IsIdle, HasShares, layout_of}
+use Rattle.table_rule.specs.Passes.{IsPassOf, known}
+use Rattle.table_rule.specs.Words.{bucket_count}
+use Rattle.table_rule.specs.declared.view.View.{View}
+use Rattle.null_reader.specs.Looked.{HasTwo}
+use Rattle.nulls_chain.specs.declared.keeping.Place.{Place}
+use Rattle.nulls_chain.specs.Changes.{IsPlaced}
+
+-- it is in the middle of nothing, and can make so many changes more
+abbrev pub IsReady : Chains → Pass → ℕ → Type 0
+IsReady t pass changes = IsPassOf t pass × IsIdle (known pass).slot × ((known pass).book.opened ≡ []) × ((known pass).chain.locked ≡ []) × HasShares (changes + changes) (known pass) × (vec_len pass.changes + changes ≤ vec_capacity pass.changes)
+
+-- it may unhash the place
+abbrev pub CanUnhash : Chains → Pass → Place → Type 0
+CanUnhash t pass place = IsPlaced place (known pass).book × (place.bucket < bucket_count (layout_of t))
+
+-- it can look
+abbrev pub CanLook : View → Type 0
+CanLook v = (v.read.reader ≡ []) × HasTwo v
