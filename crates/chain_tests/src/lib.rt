@@ -5,3 +5,5 @@
 mod calls;
 #[cfg(test)]
 mod halted;
+#[cfg(test)]
+mod met;
