@@ -17,5 +17,7 @@
 
 mod group;
 mod packet;
+#[cfg(test)]
+mod tests;
 
 pub use packet::{Lookups, look_packet};
