@@ -1,9 +1,9 @@
-use Rattle.std.proofs.Common.{ap, ◌∙◌, ℕ, refl, subst, sym}
+use Rattle.std.proofs.Common.{rules, ap, ◌∙◌, ℕ, refl, subst, sym}
 use Rattle.chain_book.specs.declared.book.PacketAnswer.TheVariants as answers
 use Rattle.chain_book.specs.declared.book.PassEnd.{PassEnd}
 use Rattle.null_reader.specs.declared.answers.LookEnd.{LookEnd}
 use Rattle.reuseport_group.specs.Passes.{groups}
-use Rattle.shared_demux.proofs.Follows.{full_stays, alone_before, sole_before, concluded_on}
+use Rattle.shared_demux.proofs.Follows.{full_follows, full_stays, alone_before, sole_before, concluded_on}
 use Rattle.shared_demux.proofs.packet.look_packet.Goals as goal
 use Rattle.shared_demux.specs.Concludes.{AfterFull, Concluded, whole_to}
 use Rattle.shared_finds.specs.Finds.{FindsFull}
@@ -36,3 +36,6 @@ returns-in-None-clause-sole g c = λ w. let alone : IsAlone (view c.args.steps.n
 
 pub returns-in-Again-clause-sole : goal.returns-in-Again-clause-sole
 returns-in-Again-clause-sole g c = λ w. let alone : IsAlone (view c.args.steps.now) c.find-end.result.t0 = (record { parts = w.0; closed = w.1; before = c.find-end.ensures.before }) in subst (λ (k : ℕ). IsSoleWhole (view c.args.steps.now) (whole_to c.args.packet.now c.args.tables.now.layout.seed k c.finish-in-Again.result.t1 c.finish-in-Again.result.end)) (sym c.finish-in-Again.ensures.answer.1) (sole_before (me c.args.steps.now) (me c.find-end.new.steps) (subst (λ (e : LookEnd). FindsFull c.args.tables.now.layout c.args.packet.now (me c.args.steps.now) e c.find-end.result.t0 (me c.find-end.new.steps)) c.in-Again.is c.find-end.ensures.finds).0 (whole_to c.args.packet.now c.args.tables.now.layout.seed c.find-end.result.t0 c.finish-in-Again.result.t1 c.finish-in-Again.result.end) (c.finish-in-Again.ensures.sole (alone_before (me c.args.steps.now) (me c.find-end.new.steps) (subst (λ (e : LookEnd). FindsFull c.args.tables.now.layout c.args.packet.now (me c.args.steps.now) e c.find-end.result.t0 (me c.find-end.new.steps)) c.in-Again.is c.find-end.ensures.finds).0 c.find-end.result.t0 alone)))
+
+pub finish-requires-clause-follows : goal.finish-requires-clause-follows
+finish-requires-clause-follows g c = full_follows c.args.tables.now.layout c.args.packet.now c.find-end.result.t0 (me c.args.steps.now) (me c.find-end.new.steps) c.in-Found.held c.in-Found.card (subst (λ (e : LookEnd). FindsFull c.args.tables.now.layout c.args.packet.now (me c.args.steps.now) e c.find-end.result.t0 (me c.find-end.new.steps)) c.in-Found.is c.find-end.ensures.finds) (me c.put_best.new.steps) c.put_best.ensures.put (search rules)
