@@ -54,3 +54,22 @@ four_drawn v u w one two more share = two more (one (more + 2) (omega (arith, sh
 
 pub two_of_four : (v w : View) → TwoDrawn v w → FourDrawn v w
 two_of_four v w one more share = one more (omega (arith, share))
+
+-- Where nobody comes first, the same of the list as it was walked
+
+pub out_of : (sought : Sought) (s : Survey) (v : View) → Surveyed sought s v.chain.walked → ((i : ℕ) → stands i v.chain.walked ≤ 1) → IsOut s.waiting v
+out_of sought s v o once = go s.waiting refl
+  where
+    go : (f : Option Hashed) → s.waiting ≡ f → IsOut f v
+    go None e = tt
+    go (Some x) e = let t = waiting_there sought s v x o once e in (t.0, inl t.1)
+
+pub stay_of : (sought : Sought) (s : Survey) (v w : View) → Surveyed sought s v.chain.walked → ((i : ℕ) → stands i v.chain.walked ≤ 1) → (bucket : ℕ) → v.chain.locked ≡ bucket ∷ [] → v.chain.met ≡ 1
+    → Each IsRead v.chain.walked → PlacesListed v → PlacesApart v → Goes v w bucket s.waiting → ((x : Hashed) → s.waiting ≡ Some x → OthersStay x.slot v w) → PlacesStay v w
+stay_of sought s v w o once bucket had met read listed apart goes others h p = go s.waiting refl goes
+  where
+    go : (f : Option Hashed) → s.waiting ≡ f → Goes v w bucket f → IsPlace w.book h
+    go None e g = subst (λ (x : View). IsPlace x.book h) (sym g) p
+    go (Some x) e g =
+        let t = waiting_there sought s v x o once e in
+        others x e h (waiting_apart v bucket x.slot h had met read listed apart t.0.listed t.1 p) p

@@ -22,9 +22,9 @@ use Rattle.nulls_chain.specs.declared.keeping.Place.{Place}
 use Rattle.shared_sockets.specs.Rows.{row_of, card_words}
 use Rattle.shared_sockets.specs.Surveys.{keeper_in, waiting_in}
 use Rattle.shared_sockets.specs.Comings as spec
-use Rattle.shared_sockets.specs.Leavings.{Waits}
+use Rattle.shared_sockets.specs.Leavings.{Waits, Reaps, slot_of, waiting_as}
 use Rattle.shared_sockets.specs.Comings.{HashesTo, walking, IsChain, Comes, Goes, IsFree, FindsNone, Admits, Refuses, FindsNoSlot, Inserts, name_of}
-use Rattle.shared_sockets.specs.Alone.{chains_of, next_after, IsTold, InsertsAlone, LeavesAlone, IsAdded, AddsAlone, WaitsAlone}
+use Rattle.shared_sockets.specs.Alone.{chains_of, next_after, IsTold, InsertsAlone, LeavesAlone, IsAdded, AddsAlone, WaitsAlone, ReapsAlone}
 use Rattle.shared_sockets.specs.declared.survey.Newcomer.{Newcomer}
 use Rattle.shared_sockets.specs.declared.coming.Inserted.{Inserted}
 use Rattle.shared_sockets.specs.declared.coming.InsertEnd.{InsertEnd}
@@ -87,12 +87,12 @@ unlocking_now v w e o = subst IsNow (sym e) record { bare = (record { all = o.ba
 
 -- What a change leaves
 
-module _ (layout : Layout) (from bucket : ℕ) (le : from ≤ layout.shape.slots) (near : bucket < chain_count layout.shape) where
-  goes_left : (next : ℕ) (found : Option Hashed) (u w : View) → Goes u w bucket found
-      → chains_of layout next w.book.closed ≡ without_replaced (chains_of layout next u.book.closed) bucket found
-  goes_left next None u w t = ap (λ (x : View). chains_of layout next x.book.closed) t
-  goes_left next (Some x) u w t = ap (chains_of layout next) t.0.2.3 ∙ unhashed_as_book layout next u.book.closed bucket x.slot t.0.0 t.0.1 near _
+goes_left : (layout : Layout) (bucket : ℕ) → bucket < chain_count layout.shape → (next : ℕ) (found : Option Hashed) (u w : View) → Goes u w bucket found
+    → chains_of layout next w.book.closed ≡ without_replaced (chains_of layout next u.book.closed) bucket found
+goes_left layout bucket near next None u w t = ap (λ (x : View). chains_of layout next x.book.closed) t
+goes_left layout bucket near next (Some x) u w t = ap (chains_of layout next) t.0.2.3 ∙ unhashed_as_book layout next u.book.closed bucket x.slot t.0.0 t.0.1 near _
 
+module _ (layout : Layout) (from bucket : ℕ) (le : from ≤ layout.shape.slots) (near : bucket < chain_count layout.shape) where
   comes_left : (slot : ℕ) (card : Card) (v u : View) → Comes v u bucket slot card
       → chains_of layout (slot + 1) u.book.closed ≡ placed (chains_of layout from v.book.closed) bucket slot card
   comes_left slot card v u c = ap (chains_of layout (slot + 1)) c.change.2.3 ∙ hashed_as_book layout from v.book.closed bucket slot c.change.0 c.change.1 near card c.told
@@ -180,7 +180,7 @@ module _ (layout : Layout) (from bucket : ℕ) (le : from ≤ layout.shape.slots
           let out : outcome ≡ put i.place.slot old = free-is a.unkept ∙ put-is i.place.slot old a.slot in
           let left : chains_of layout (i.place.slot + 1) w.book.closed ≡ hashed t new.card (put i.place.slot old) =
           ap (λ (x : View). chains_of layout (i.place.slot + 1) x.book.closed) h.unlocked
-          ∙ (goes_left (i.place.slot + 1) old a.between h.left a.goes_out
+          ∙ (goes_left layout bucket near (i.place.slot + 1) old a.between h.left a.goes_out
           ∙ (ap (λ (x : Chains). without_replaced x bucket old) (comes_left i.place.slot new.card (walking v bucket xs) a.between a.comes)
           ∙ ap (λ (b : ℕ). without_replaced (placed t b i.place.slot new.card) b old) (sym home))) in
           let told : i.place ≡ record { bucket = bucket; slot = i.place.slot; card = new.card } = λ k. record { bucket = a.bucket_is k; slot = i.place.slot; card = a.card_is k } in
@@ -234,3 +234,17 @@ waits_alone layout from place card r v w le near at h now =
           ∙ ap (λ (x : Chains). unhashed x (record { bucket = place.bucket; slot = place.slot })) a.1)),
       unlocking_now h.left w h.unlocked (adds_now h.between h.left 0 place.bucket place.slot _ h.change a.2),
     )
+
+pub reaps_alone : (layout : Layout) (bucket name : ℕ) (result : Option ℕ) (v w : View) → bucket < chain_count layout.shape → Reaps bucket name result v w → ReapsAlone layout bucket name result v w
+reaps_alone layout bucket name result v w near h now = (
+  λ next.
+      let t = chains_of layout next v.book.closed in
+      let row : row_at t bucket ≡ row_of h.chain = row_at_is layout next v.book.closed bucket near ∙ ap row_of (sym (h.seen.sole now.bare.0)) in
+      let is : waiting_as name (row_at t bucket) ≡ waiting_as name (row_of h.chain) = ap (waiting_as name) row in (
+        h.slot ∙ ap (option_map slot_of) (sym is),
+        ap (λ (x : View). chains_of layout next x.book.closed) h.unlocked
+            ∙ (goes_left layout bucket near next (waiting_as name (row_of h.chain)) (walking v bucket h.chain) h.left h.goes
+            ∙ ap (without_replaced t bucket) (sym is)),
+      ),
+  unlocking_now h.left w h.unlocked (goes_now (walking v bucket h.chain) h.left bucket (waiting_as name (row_of h.chain)) h.goes (walking_now v bucket h.chain now)),
+)

@@ -4,7 +4,7 @@ use Rattle.std.specs.List.{range_with_len}
 use Rattle.std.specs.Option.{option_map}
 use Rattle.sock_card.specs.declared.card.Card.{Card}
 use Rattle.chain_book.specs.Homes.{chain_count}
-use Rattle.chain_book.specs.Chains.{Chains, Outcome, put, taken, full, insert_outcome, add_outcome, hashed, unhashed}
+use Rattle.chain_book.specs.Chains.{Chains, Outcome, put, taken, full, insert_outcome, add_outcome, hashed, unhashed, row_at, without_replaced}
 use Rattle.table_rule.specs.Sole.{IsNow, chain_from, used_in}
 use Rattle.table_rule.specs.declared.view.View.{View}
 use Rattle.table_rule.specs.declared.view.Layout.{Layout}
@@ -13,6 +13,7 @@ use Rattle.shared_slots.specs.declared.fresh.Full.{Full}
 use Rattle.nulls_chain.specs.declared.keeping.Place.{Place}
 use Rattle.shared_sockets.specs.Rows.{row_of}
 use Rattle.shared_sockets.specs.Comings.{name_of}
+use Rattle.shared_sockets.specs.Leavings.{slot_of, waiting_as}
 use Rattle.shared_sockets.specs.declared.survey.Newcomer.{Newcomer}
 use Rattle.shared_sockets.specs.declared.coming.Inserted.{Inserted}
 use Rattle.shared_sockets.specs.declared.coming.InsertEnd.{InsertEnd}
@@ -84,4 +85,15 @@ WaitsAlone layout from place card result v w =
     → IsAdded place.bucket card outcome result
     × (chains_of layout (next_after outcome from) w.book.closed
     ≡ unhashed (hashed before card outcome) (record { bucket = place.bucket; slot = place.slot }))
+    × IsNow w
+
+-- the first TIME_WAIT of that name is gone from its chain, if there is one
+abbrev pub ReapsAlone : Layout → (bucket name : ℕ) → Option ℕ → View → View → Type 0
+ReapsAlone layout bucket name result v w =
+    IsNow v
+    → ((next : ℕ) →
+    let before = chains_of layout next v.book.closed in
+    let waiting = waiting_as name (row_at before bucket) in
+    (result ≡ option_map slot_of waiting)
+    × (chains_of layout next w.book.closed ≡ without_replaced before bucket waiting))
     × IsNow w

@@ -1,7 +1,11 @@
 -- What it comes to that a socket leaves a shared chain: inet_unhash of net/ipv4/inet_hashtables.c, and
--- inet_twsk_hashdance_schedule of net/ipv4/inet_timewait_sock.c, where the TIME_WAIT comes under the same lock.
-use Rattle.std.specs.Prelude.{◌≡◌, ℕ, List, Result}
+-- inet_twsk_hashdance_schedule of net/ipv4/inet_timewait_sock.c, where the TIME_WAIT comes under the same lock; inet_twsk_kill of the same file.
+use Rattle.std.specs.Prelude.{◌≡◌, ℕ, List, Option, Result, find}
+use Rattle.std.specs.Option.{option_map}
 use Rattle.sock_card.specs.declared.card.Card.{Card}
+use Rattle.chain_book.specs.declared.outcome.Hashed.{Hashed}
+use Rattle.chain_book.specs.Chains.{waits_as}
+use Rattle.table_rule.specs.Lists.{Each}
 use Rattle.table_rule.specs.Plays.{unlocking}
 use Rattle.table_rule.specs.declared.view.View.{View}
 use Rattle.table_rule.specs.declared.view.Layout.{Layout}
@@ -9,8 +13,8 @@ use Rattle.table_rule.specs.declared.view.Seen.{Seen}
 use Rattle.shared_slots.specs.declared.fresh.Full.{Full}
 use Rattle.nulls_chain.specs.Changes.{Adds, Rest}
 use Rattle.nulls_chain.specs.declared.keeping.Place.{Place}
-use Rattle.shared_sockets.specs.Rows.{card_words}
-use Rattle.shared_sockets.specs.Comings.{walking, IsChain, HashesTo}
+use Rattle.shared_sockets.specs.Rows.{row_of, card_words, HasCard}
+use Rattle.shared_sockets.specs.Comings.{walking, IsChain, Goes, HashesTo}
 
 -- what a call leaves of all else that its pass knows: the numbers that it lost, the counts that it took, its lookups
 abbrev pub Quiet : View → View → Type 0
@@ -30,4 +34,21 @@ pub record Waits (layout : Layout) (from : ℕ) (place : Place) (card : Card) (r
   pub left : View
   pub change : Adds between left 0 place.bucket place.slot (card_words place.card)
   pub rest : Rest between left
+  pub unlocked : w ≡ unlocking left
+
+abbrev pub slot_of : Hashed → ℕ
+slot_of x = x.slot
+
+-- the first TIME_WAIT of that name
+abbrev pub waiting_as : ℕ → List Hashed → Option Hashed
+waiting_as name row = find (waits_as name) row
+
+-- under one lock the first TIME_WAIT of that name is gone, if the chain has one
+pub record Reaps (bucket name : ℕ) (result : Option ℕ) (v w : View) : Type 0 where
+  pub chain : List Seen
+  pub seen : IsChain v bucket chain
+  pub cards : Each HasCard chain
+  pub slot : result ≡ option_map slot_of (waiting_as name (row_of chain))
+  pub left : View
+  pub goes : Goes (walking v bucket chain) left bucket (waiting_as name (row_of chain))
   pub unlocked : w ≡ unlocking left

@@ -2,16 +2,17 @@
 
 ghost use Rattle.std.specs.Prelude.{◌≡◌, ◌+◌, ◌<◌, ◌≤◌, [], vec_len, vec_capacity};
 ghost use Rattle.chain_book.specs.Homes.{home};
-ghost use Rattle.nulls_chain.specs.Changes.{IsPlaced, OthersStay, TwoDrawn};
-ghost use Rattle.shared_sockets.specs.Alone.{LeavesAlone, WaitsAlone};
+ghost use Rattle.nulls_chain.specs.Changes.{IsPlaced, OthersStay, PlacesStay, TwoDrawn};
+ghost use Rattle.shared_sockets.specs.Alone.{LeavesAlone, ReapsAlone, WaitsAlone};
 ghost use Rattle.shared_sockets.specs.Comings.{FourDrawn};
-ghost use Rattle.shared_sockets.specs.Leavings.{Leaves, Waits};
+ghost use Rattle.shared_sockets.specs.Leavings.{Leaves, Reaps, Waits};
 ghost use Rattle.sock_card.specs.declared.card.Kind.TheVariants as kinds;
 ghost use Rattle.table_rule.specs.Calls.{IsIdle, HasShares, layout_of};
 ghost use Rattle.table_rule.specs.Passes.{IsPassOf, known};
 ghost use Rattle.table_rule.specs.Words.{bucket_count};
 
-use super::coming::is_told;
+use super::coming::{is_told, take_out};
+use super::survey::{Sought, survey_chain};
 use bucket_locks::{lock, unlock};
 use nulls_chain::{Place, hash, unhash, walk_to_end};
 use shared_slots::Full;
@@ -87,4 +88,39 @@ pub fn time_wait<R: Wait>(
     unhash(chains, pass, &mut locked, place);
     unlock(chains, &mut pass.steps, locked);
     answer
+}
+
+/// Takes out the first TIME_WAIT of that name from a chain, and answers its slot. None: the chain has none, and nothing
+/// has changed.
+///
+/// Whichever pass has the bucket's lock takes a TIME_WAIT out, so no place stands for it. As `inet_twsk_kill` of
+/// net/ipv4/inet_timewait_sock.c.
+pub fn remove_tw<R: Wait>(
+    chains: &Chains,
+    rt: &R,
+    pass: &mut Pass,
+    bucket: u32,
+    name: u32,
+) -> Option<u32>
+    requires table { IsPassOf chains.now pass.old }
+    requires bucket { bucket < bucket_count (layout_of chains.now) }
+    requires idle { IsIdle (known pass.old).slot × ((known pass.old).book.opened ≡ []) }
+    requires free { (known pass.old).chain.locked ≡ [] }
+    requires room { vec_len pass.old.changes < vec_capacity pass.old.changes }
+    requires share { HasShares 2 (known pass.old) }
+    ensures table { IsPassOf chains.now pass.new }
+    ensures idle { IsIdle (known pass.new).slot × ((known pass.new).book.opened ≡ []) }
+    ensures free { (known pass.new).chain.locked ≡ [] }
+    ensures answer { Reaps bucket name result (known pass.old) (known pass.new) }
+    ensures alone { ReapsAlone (layout_of chains.now) bucket name result (known pass.old) (known pass.new) }
+    ensures stay { PlacesStay (known pass.old) (known pass.new) }
+    ensures share { TwoDrawn (known pass.old) (known pass.new) }
+    ensures room { vec_capacity pass.new.changes ≡ vec_capacity pass.old.changes }
+    ensures len { vec_len pass.new.changes ≤ vec_len pass.old.changes + 1 }
+{
+    let mut locked = lock(chains, rt, &mut pass.steps, bucket);
+    let survey = survey_chain(chains, &mut pass.steps, &mut locked, &Sought::Waiting(name));
+    take_out(chains, pass, &locked, &survey.waiting);
+    unlock(chains, &mut pass.steps, locked);
+    survey.waiting.map(|found| found.slot)
 }

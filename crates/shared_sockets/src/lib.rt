@@ -19,5 +19,5 @@ mod survey;
 mod tests;
 
 pub use coming::{InsertEnd, Inserted, add, insert};
-pub use leaving::{remove, time_wait};
+pub use leaving::{remove, remove_tw, time_wait};
 pub use survey::Newcomer;
