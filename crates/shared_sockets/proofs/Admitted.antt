@@ -12,11 +12,11 @@ use Rattle.nulls_chain.specs.declared.keeping.Place.{Place}
 use Rattle.shared_sockets.specs.Rows.{IsIn}
 use Rattle.shared_sockets.specs.Surveys.{Surveyed}
 use Rattle.shared_sockets.specs.Comings.{IsOut, Goes, FourDrawn}
-use Rattle.shared_sockets.specs.declared.survey.Newcomer.{Newcomer}
+use Rattle.shared_sockets.specs.declared.survey.Sought.{Sought}
 use Rattle.shared_sockets.specs.declared.survey.Survey.{Survey}
 use Rattle.shared_sockets.proofs.Found.{in_behind, waiting_there, waiting_apart}
 
-module _ (new : Newcomer) (s : Survey) (v u w : View) (first : Seen) (o : Surveyed new s v.chain.walked) (once : (i : ℕ) → stands i v.chain.walked ≤ 1) (far : stands first.slot v.chain.walked ≡ 0) where
+module _ (sought : Sought) (s : Survey) (v u w : View) (first : Seen) (o : Surveyed sought s v.chain.walked) (once : (i : ℕ) → stands i v.chain.walked ≤ 1) (far : stands first.slot v.chain.walked ≡ 0) where
   -- it stands in the list still, and may be unhashed
   pub out_after : u.chain.walked ≡ first ∷ v.chain.walked → IsOut s.waiting u
   out_after list = go s.waiting refl
@@ -24,7 +24,7 @@ module _ (new : Newcomer) (s : Survey) (v u w : View) (first : Seen) (o : Survey
       go : (f : Option Hashed) → s.waiting ≡ f → IsOut f u
       go None e = tt
       go (Some x) e =
-          let t = waiting_there new s v x o once e in
+          let t = waiting_there sought s v x o once e in
           let h : IsIn x u.chain.walked = subst (IsIn x) (sym list) (in_behind x first v.chain.walked far t.0) in
           (h, inl (ap time_waits (h.words ∙ sym t.0.words) ∙ t.1))
 
@@ -35,7 +35,7 @@ module _ (new : Newcomer) (s : Survey) (v u w : View) (first : Seen) (o : Survey
       go : (f : Option Hashed) → s.waiting ≡ f → Goes u w bucket f → IsPlaced place w.book
       go None e g = subst (λ (x : View). IsPlaced place x.book) (sym g) p
       go (Some x) e g =
-          let t = waiting_there new s v x o once e in
+          let t = waiting_there sought s v x o once e in
           (p.0, p.1, p.2, p.3, others x e p.0 (λ q. omega (arith, t.0.listed, far, ap (λ (i : ℕ). stands i v.chain.walked) (sym q ∙ (p.2 ∙ at)))) p.4)
 
   -- and so do all others
@@ -46,7 +46,7 @@ module _ (new : Newcomer) (s : Survey) (v u w : View) (first : Seen) (o : Survey
       go : (f : Option Hashed) → s.waiting ≡ f → Goes u w bucket f → IsPlace w.book h
       go None e g = subst (λ (x : View). IsPlace x.book h) (sym g) (stay h p)
       go (Some x) e g =
-          let t = waiting_there new s v x o once e in
+          let t = waiting_there sought s v x o once e in
           others x e h (waiting_apart v bucket x.slot h had met read listed apart t.0.listed t.1 p) (stay h p)
 
 pub four_drawn : (v u w : View) → TwoDrawn v u → TwoDrawn u w → FourDrawn v w

@@ -1,5 +1,5 @@
 -- What a survey tells the changes that follow it.
-use Rattle.std.proofs.Common.{◌≡◌, ◌≢◌, ℕ, ◌+◌, ◌/◌, ◌%◌, ◌<◌, ◌≤◌, ◌^◌, List, [], ◌∷◌, Option, None, Some, cond, Bool, true, false, eq-eqb, ne_eqb, sym, refl, ap, ◌∙◌, arith, subst, find, ◌&&◌, ◌||◌, ⊎_elim, not, slice_index}
+use Rattle.std.proofs.Common.{◌==◌, ◌≡◌, ◌≢◌, ℕ, ◌+◌, ◌/◌, ◌%◌, ◌<◌, ◌≤◌, ◌^◌, List, [], ◌∷◌, Option, None, Some, cond, Bool, true, false, eq-eqb, ne_eqb, sym, refl, ap, ◌∙◌, arith, subst, find, ◌&&◌, ◌||◌, ⊎_elim, not, slice_index}
 use mathlib.Core.Logic.{dite}
 use native.Mathlib.Decide.{ℕ_discrete}
 use lib.ListN.{get_elem?}
@@ -26,8 +26,10 @@ use Rattle.table_rule.proofs.Lists.{times-here, times-else}
 use Rattle.nulls_chain.specs.Changes.{Apart, IsAlone}
 use Rattle.nulls_chain.proofs.Changed.{claims_apart}
 use Rattle.shared_sockets.specs.Rows.{hashed_in, row_of, card_words, HasCard, IsIn}
-use Rattle.shared_sockets.specs.Surveys.{Surveyed}
+use Rattle.shared_sockets.specs.Surveys.{goes_out, Surveyed}
 use Rattle.shared_sockets.specs.declared.survey.Newcomer.{Newcomer}
+use Rattle.shared_sockets.specs.declared.survey.Sought.{Sought}
+use Rattle.shared_sockets.specs.declared.survey.Sought.TheVariants as seeks
 use Rattle.shared_sockets.specs.declared.survey.Survey.{Survey}
 
 not-both : true ≡ false → ⊥
@@ -166,7 +168,7 @@ module _ (card : Card) (moment : ℕ) (rule : Replace) (says : unpacked (packed 
   apart-all (x ∷ xs) a b = (apart-one x a.0 b.0, apart-all xs a.1 b.1)
 
 pub alone_of : (new : Newcomer) (s : Survey) (xs : List Seen) → unpacked (packed new.card) ≡ new.card → (packed new.card).ports < 2 ^ 64
-    → Surveyed new s xs → s.keeper ≡ None → IsAlone (packed new.card) xs
+    → Surveyed (seeks.Room new) s xs → s.keeper ≡ None → IsAlone (packed new.card) xs
 alone_of new s xs says fits o none full =
     apart-all new.card new.moment new.replace says fits xs o.cards (find-none (keeps new.card new.moment new.replace) xs (sym o.keeper ∙ none))
 
@@ -186,13 +188,17 @@ wait-words card waits =
     let two : (packed card).ports % 16 ≡ 2 = omega (arith, ap number_of waits) in
     ap (λ (b : Bool). cond b 1 0) (eq-eqb ((packed card).ports % 16) 2 two)
 
--- the TIME_WAIT that a survey found for a newcomer stands in the list, and may be unhashed
-pub waiting_there : (new : Newcomer) (s : Survey) (v : View) (x : Hashed) → Surveyed new s v.chain.walked → ((i : ℕ) → stands i v.chain.walked ≤ 1) → s.waiting ≡ Some x
+-- who goes is a TIME_WAIT
+goes-waits : (sought : Sought) (x : Hashed) → goes_out sought x ≡ true → x.card.kind ≡ kinds.TimeWait
+goes-waits (seeks.Room new) x e = waiting-kind x.card.kind (right-true (same_cards new.card x.card) (is_time_wait_kind x.card.kind) e)
+goes-waits (seeks.Waiting name) x e = waiting-kind x.card.kind (right-true (x.card.name == name) (is_time_wait_kind x.card.kind) e)
+
+-- the TIME_WAIT that a survey found stands in the list, and may be unhashed
+pub waiting_there : (sought : Sought) (s : Survey) (v : View) (x : Hashed) → Surveyed sought s v.chain.walked → ((i : ℕ) → stands i v.chain.walked ≤ 1) → s.waiting ≡ Some x
     → IsIn x v.chain.walked × (time_waits (card_in x.slot v.chain.walked) ≡ 1)
-waiting_there new s v x o once is =
-    let t = found_in (waits new.card) v.chain.walked x (sym o.waiting ∙ is) once o.cards in
-    let kind = waiting-kind x.card.kind (right-true (same_cards new.card x.card) (is_time_wait_kind x.card.kind) t.1) in
-    (t.0, ap time_waits t.0.words ∙ wait-words x.card kind)
+waiting_there sought s v x o once is =
+    let t = found_in (goes_out sought) v.chain.walked x (sym o.waiting ∙ is) once o.cards in
+    (t.0, ap time_waits t.0.words ∙ wait-words x.card (goes-waits sought x t.1))
 
 -- no place of the pass has its slot
 pub waiting_apart : (v : View) (b i : ℕ) (h : Change) → v.chain.locked ≡ b ∷ [] → v.chain.met ≡ 1 → Each IsRead v.chain.walked → PlacesListed v → PlacesApart v

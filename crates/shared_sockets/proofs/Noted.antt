@@ -3,12 +3,11 @@ use Rattle.std.proofs.Common.{◌≡◌, ◌+◌, List, [], ◌∷◌, ◌++◌,
 use Rattle.std.specs.Option.{option_or}
 use Rattle.std.proofs.lemmas.List.Folds.{find-append}
 use Rattle.chain_book.specs.declared.outcome.Hashed.{Hashed}
-use Rattle.chain_book.specs.Chains.{keeps, waits}
 use Rattle.table_rule.specs.declared.view.Seen.{Seen}
 use Rattle.table_rule.proofs.Lists.{each-append}
 use Rattle.shared_sockets.specs.Rows.{hashed_in, row_of, HasCard}
-use Rattle.shared_sockets.specs.Surveys.{Surveyed, first_of, noted}
-use Rattle.shared_sockets.specs.declared.survey.Newcomer.{Newcomer}
+use Rattle.shared_sockets.specs.Surveys.{keeps_out, goes_out, Surveyed, first_of, noted}
+use Rattle.shared_sockets.specs.declared.survey.Sought.{Sought}
 use Rattle.shared_sockets.specs.declared.survey.Survey.{Survey}
 
 row-more : (xs : List Seen) (s : Seen) → row_of (xs ++ s ∷ []) ≡ row_of xs ++ hashed_in s ∷ []
@@ -19,19 +18,13 @@ first-more : (test : Hashed → Bool) (o : Option Hashed) (x : Hashed) (ys : Lis
 first-more test (Some first) x ys e = ap (λ (k : Option Hashed). option_or k (find test (x ∷ []))) e ∙ sym (find-append test ys (x ∷ []))
 first-more test None x ys e = ap (λ (k : Option Hashed). option_or k (find test (x ∷ []))) e ∙ sym (find-append test ys (x ∷ []))
 
-pub noted_ok : (new : Newcomer) (survey : Survey) (xs : List Seen) (s : Seen) → HasCard s → Surveyed new survey xs
-    → Surveyed new (noted new survey (hashed_in s)) (xs ++ s ∷ [])
-noted_ok new survey xs s card o =
-    let keep = keeps new.card new.moment new.replace in
-    let wait = waits new.card in
-    record {
-      keeper = first-more keep survey.keeper (hashed_in s) (row_of xs) o.keeper ∙ ap (find keep) (sym (row-more xs s));
-      waiting = first-more wait survey.waiting (hashed_in s) (row_of xs) o.waiting ∙ ap (find wait) (sym (row-more xs s));
-      cards = each-append HasCard xs (s ∷ []) o.cards (card, tt);
-    }
-
-pub surveyed_none : (new : Newcomer) → Surveyed new (record { keeper = None; waiting = None }) []
-surveyed_none new = record { keeper = refl; waiting = refl; cards = tt }
+pub noted_ok : (sought : Sought) (survey : Survey) (xs : List Seen) (s : Seen) → HasCard s → Surveyed sought survey xs
+    → Surveyed sought (noted sought survey (hashed_in s)) (xs ++ s ∷ [])
+noted_ok sought survey xs s card o = record {
+  keeper = first-more (keeps_out sought) survey.keeper (hashed_in s) (row_of xs) o.keeper ∙ ap (find (keeps_out sought)) (sym (row-more xs s));
+  waiting = first-more (goes_out sought) survey.waiting (hashed_in s) (row_of xs) o.waiting ∙ ap (find (goes_out sought)) (sym (row-more xs s));
+  cards = each-append HasCard xs (s ∷ []) o.cards (card, tt);
+}
 
 pub length-more : (xs ys : List Seen) (s : Seen) → length (xs ++ ys) + length (s ∷ []) ≡ length xs + length ys + 1
 length-more [] ys s = omega arith

@@ -1,11 +1,13 @@
--- What one walk over a locked chain finds for a newcomer: our own.
-use Rattle.std.specs.Prelude.{◌≡◌, Option, None, Some, List, find, cond, Bool}
+-- What one walk over a locked chain finds: our own.
+use Rattle.std.specs.Prelude.{◌≡◌, Option, None, Some, List, find, cond, Bool, false}
 use Rattle.chain_book.specs.declared.outcome.Hashed.{Hashed}
-use Rattle.chain_book.specs.Chains.{keeps, waits}
+use Rattle.chain_book.specs.Chains.{keeps, waits, waits_as}
 use Rattle.table_rule.specs.Lists.{Each}
 use Rattle.table_rule.specs.declared.view.Seen.{Seen}
 use Rattle.shared_sockets.specs.Rows.{row_of, HasCard}
 use Rattle.shared_sockets.specs.declared.survey.Newcomer.{Newcomer}
+use Rattle.shared_sockets.specs.declared.survey.Sought.{Sought}
+use Rattle.shared_sockets.specs.declared.survey.Sought.TheVariants as seeks
 use Rattle.shared_sockets.specs.declared.survey.Survey.{Survey}
 
 -- the first of a chain that keeps the newcomer's four-tuple from it
@@ -16,9 +18,19 @@ keeper_in new row = find (keeps new.card new.moment new.replace) row
 abbrev pub waiting_in : Newcomer → List Hashed → Option Hashed
 waiting_in new row = find (waits new.card) row
 
-pub record Surveyed (new : Newcomer) (survey : Survey) (xs : List Seen) : Type 0 where
-  pub keeper : survey.keeper ≡ keeper_in new (row_of xs)
-  pub waiting : survey.waiting ≡ waiting_in new (row_of xs)
+-- it keeps a newcomer's four-tuple from it
+abbrev pub keeps_out : Sought → Hashed → Bool
+keeps_out (seeks.Room new) x = keeps new.card new.moment new.replace x
+keeps_out (seeks.Waiting name) x = false
+
+-- it is the TIME_WAIT that is sought
+abbrev pub goes_out : Sought → Hashed → Bool
+goes_out (seeks.Room new) x = waits new.card x
+goes_out (seeks.Waiting name) x = waits_as name x
+
+pub record Surveyed (sought : Sought) (survey : Survey) (xs : List Seen) : Type 0 where
+  pub keeper : survey.keeper ≡ find (keeps_out sought) (row_of xs)
+  pub waiting : survey.waiting ≡ find (goes_out sought) (row_of xs)
   pub cards : Each HasCard xs
 
 -- the first stays
@@ -26,9 +38,9 @@ abbrev pub first_of : Option Hashed → Bool → Hashed → Option Hashed
 first_of (Some first) fits x = Some first
 first_of None fits x = cond fits (Some x) None
 
-abbrev pub noted : Newcomer → Survey → Hashed → Survey
-noted new survey x =
+abbrev pub noted : Sought → Survey → Hashed → Survey
+noted sought survey x =
     record {
-      keeper = first_of survey.keeper (keeps new.card new.moment new.replace x) x;
-      waiting = first_of survey.waiting (waits new.card x) x;
+      keeper = first_of survey.keeper (keeps_out sought x) x;
+      waiting = first_of survey.waiting (goes_out sought x) x;
     }

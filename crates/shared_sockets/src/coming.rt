@@ -9,6 +9,7 @@ ghost use Rattle.shared_sockets.specs.Alone.{AddsAlone, InsertsAlone};
 ghost use Rattle.shared_sockets.specs.Comings as spec;
 ghost use Rattle.shared_sockets.specs.Comings.{Adds, ComesTo, FourDrawn, Goes, Inserts, IsOut};
 ghost use Rattle.shared_sockets.specs.Surveys.{Surveyed};
+ghost use Rattle.shared_sockets.specs.declared.survey.Sought.TheVariants as seeks;
 ghost use Rattle.sock_card.specs.Words.{packed, unpacked};
 ghost use Rattle.sock_card.specs.declared.card.Kind.TheVariants as kinds;
 ghost use Rattle.std.specs.Option.{option_map};
@@ -17,7 +18,7 @@ ghost use Rattle.table_rule.specs.Passes.{IsPassOf, known};
 ghost use Rattle.table_rule.specs.Plays.{PlacesApart};
 ghost use Rattle.table_rule.specs.Words.{bucket_count};
 
-use super::survey::{Newcomer, Survey, survey_chain};
+use super::survey::{Newcomer, Sought, Survey, survey_chain};
 use bucket_locks::{Locked, lock, unlock};
 use chain_book::Hashed;
 use nulls_chain::{Place, hash, unhash_slot, walk_to_end};
@@ -99,7 +100,7 @@ fn admit(
     requires whole { ((known pass.old).chain.met ≡ 1) × ((known pass.old).chain.ahead ≡ []) }
     requires known { WalkKnown (layout_of chains.now) (known pass.old) }
     requires apart { PlacesApart (known pass.old) }
-    requires surveyed { Surveyed new.now survey.now (known pass.old).chain.walked }
+    requires surveyed { Surveyed (seeks.Room new.now) survey.now (known pass.old).chain.walked }
     requires full { new.now.card.kind ≡ kinds.Full }
     requires home { home (layout_of chains.now).shape (layout_of chains.now).seed new.now.card ≡ locked.now.bucket }
     ensures table { IsPassOf chains.now pass.new }
@@ -164,7 +165,7 @@ pub fn insert<R: Wait>(
     ensures len { vec_len pass.new.changes ≤ vec_len pass.old.changes + 2 }
 {
     let mut locked = lock(chains, rt, &mut pass.steps, bucket);
-    let survey = survey_chain(chains, &mut pass.steps, &mut locked, new);
+    let survey = survey_chain(chains, &mut pass.steps, &mut locked, &Sought::Room(*new));
     let answer = admit(chains, pass, &locked, from, new, &survey);
     unlock(chains, &mut pass.steps, locked);
     answer

@@ -1,8 +1,9 @@
-//! One walk over a locked chain, and what it finds there for a newcomer.
+//! One walk over a locked chain, and what it finds there.
 
 ghost use Rattle.std.specs.Prelude.{◌≡◌, false, true, []};
 ghost use Rattle.bucket_locks.specs.Locks.{IsAt, WalkKnown};
 ghost use Rattle.nulls_chain.specs.Changes.{WasChain};
+ghost use Rattle.shared_sockets.specs.Surveys as spec;
 ghost use Rattle.shared_sockets.specs.Surveys.{Surveyed, noted};
 ghost use Rattle.table_rule.specs.Calls.{IsOf, IsIdle, Becomes, view, layout_of};
 ghost use Rattle.table_rule.specs.Plays.{PlacesApart};
@@ -10,7 +11,7 @@ ghost use Rattle.table_rule.specs.Plays.{PlacesApart};
 use bucket_locks::Locked;
 use chain_book::{Hashed, Replace, keeps_from, waits_at};
 use nulls_chain::walk;
-use sock_card::{Card, unpack};
+use sock_card::{Card, Kind, unpack};
 use table_rule::{Chains, Steps};
 
 /// A card that is to come at a moment, in seconds, and the rule on which TIME_WAIT gives way to it.
@@ -21,25 +22,54 @@ pub struct Newcomer {
     pub replace: Replace,
 }
 
-/// What a walk has found: the first that keeps the newcomer out, and the first TIME_WAIT of its four-tuple.
+/// What a walk seeks.
+#[derive(Clone, Copy)]
+pub enum Sought {
+    /// Who keeps the newcomer out, and the TIME_WAIT of its four-tuple.
+    Room(Newcomer),
+    /// The TIME_WAIT of that name.
+    Waiting(u32),
+}
+
+/// What a walk has found: the first that keeps a newcomer out, and the first TIME_WAIT that is sought.
 #[derive(Clone, Copy)]
 pub struct Survey {
     pub keeper: Option<Hashed>,
     pub waiting: Option<Hashed>,
 }
 
+fn keeps_out(sought: &Sought, stood: &Hashed) -> bool
+    ensures { result ≡ spec.keeps_out sought.now stood.now }
+{
+    match sought {
+        Sought::Room(new) => keeps_from(&new.card, new.moment, new.replace, &stood.card),
+        Sought::Waiting(_) => false,
+    }
+}
+
+fn goes_out(sought: &Sought, stood: &Hashed) -> bool
+    ensures { result ≡ spec.goes_out sought.now stood.now }
+{
+    match sought {
+        Sought::Room(new) => waits_at(&new.card, &stood.card),
+        Sought::Waiting(name) => {
+            stood.card.name == *name && matches!(stood.card.kind, Kind::TimeWait)
+        }
+    }
+}
+
 /// What is known once a further card was read: the first of each kind stays.
-fn note(survey: &Survey, new: &Newcomer, stood: Hashed) -> Survey
-    ensures { result ≡ noted new.now survey.now stood }
+fn note(survey: &Survey, sought: &Sought, stood: Hashed) -> Survey
+    ensures { result ≡ noted sought.now survey.now stood }
 {
     let keeper = match survey.keeper {
         Some(first) => Some(first),
-        None if keeps_from(&new.card, new.moment, new.replace, &stood.card) => Some(stood),
+        None if keeps_out(sought, &stood) => Some(stood),
         None => None,
     };
     let waiting = match survey.waiting {
         Some(first) => Some(first),
-        None if waits_at(&new.card, &stood.card) => Some(stood),
+        None if goes_out(sought, &stood) => Some(stood),
         None => None,
     };
     Survey { keeper, waiting }
@@ -50,7 +80,7 @@ pub fn survey_chain(
     chains: &Chains,
     steps: &mut Steps,
     locked: &mut Locked,
-    new: &Newcomer,
+    sought: &Sought,
 ) -> Survey
     requires table { IsOf chains.now steps.old }
     requires at { IsAt (layout_of chains.now) locked.old (view steps.old) }
@@ -64,7 +94,7 @@ pub fn survey_chain(
     ensures known { WalkKnown (layout_of chains.now) (view steps.new) }
     ensures sole { WasChain (view steps.new).chain.walked locked.old.bucket (view steps.old) }
     ensures apart { PlacesApart (view steps.new) }
-    ensures surveyed { Surveyed new.now result (view steps.new).chain.walked }
+    ensures surveyed { Surveyed sought.now result (view steps.new).chain.walked }
 {
     let mut survey = Survey {
         keeper: None,
@@ -78,7 +108,7 @@ pub fn survey_chain(
                     slot,
                     card: unpack(&words),
                 };
-                survey = note(&survey, new, stood);
+                survey = note(&survey, sought, stood);
             }
         }
     }

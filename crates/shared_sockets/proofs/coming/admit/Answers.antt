@@ -7,6 +7,7 @@ use Rattle.table_rule.specs.declared.view.ChainView.{ChainView}
 use Rattle.shared_sockets.proofs.Found.{alone_of, full_words}
 use Rattle.shared_sockets.proofs.Known.{is_read}
 use Rattle.shared_sockets.proofs.Admitted.{out_after, placed_after, stay_after, four_drawn}
+use Rattle.shared_sockets.specs.declared.survey.Sought.TheVariants as seeks
 use Rattle.shared_sockets.proofs.coming.admit.Goals as goal
 
 pub hash-requires-clause-alone : goal.hash-requires-clause-alone
@@ -20,7 +21,7 @@ take_out-requires-clause-known c = c.in-Ok.ensures.known c.requires.known
 
 pub take_out-requires-clause-found : goal.take_out-requires-clause-found
 take_out-requires-clause-found c =
-    out_after c.args.new.now c.args.survey.now (known c.args.pass.now) (known c.hash.new.pass) (known c.hash.new.pass) (seen_of c.in-Ok.place.slot (packed c.args.new.now.card)) c.requires.surveyed c.requires.known.2 c.in-Ok.ensures.far
+    out_after (seeks.Room c.args.new.now) c.args.survey.now (known c.args.pass.now) (known c.hash.new.pass) (known c.hash.new.pass) (seen_of c.in-Ok.place.slot (packed c.args.new.now.card)) c.requires.surveyed c.requires.known.2 c.in-Ok.ensures.far
     (ap (λ (x : ChainView). x.walked) c.in-Ok.ensures.chain)
 
 pub returns-in-Ok-clause-comes : goal.returns-in-Ok-clause-comes
@@ -39,14 +40,14 @@ returns-in-Ok-clause-comes c =
 
 pub returns-in-Ok-clause-place : goal.returns-in-Ok-clause-place
 returns-in-Ok-clause-place c =
-    placed_after c.args.new.now c.args.survey.now (known c.args.pass.now) (known c.hash.new.pass) (known c.take_out.new.pass) (seen_of c.in-Ok.place.slot (packed c.args.new.now.card)) c.requires.surveyed c.requires.known.2 c.in-Ok.ensures.far
+    placed_after (seeks.Room c.args.new.now) c.args.survey.now (known c.args.pass.now) (known c.hash.new.pass) (known c.take_out.new.pass) (seen_of c.in-Ok.place.slot (packed c.args.new.now.card)) c.requires.surveyed c.requires.known.2 c.in-Ok.ensures.far
     c.args.locked.now.bucket c.in-Ok.place refl c.take_out.ensures.goes c.take_out.ensures.stay (c.in-Ok.ensures.place (full_words c.args.new.now.card c.requires.full))
 
 pub returns-in-Ok-clause-stay : goal.returns-in-Ok-clause-stay
 returns-in-Ok-clause-stay c =
     let v = known c.args.pass.now in
     let listed : PlacesListed v = ⊎_elim (λ z. absurd (omega (arith, z, c.requires.whole.0))) (λ z. z) c.requires.known.3 in
-    stay_after c.args.new.now c.args.survey.now v (known c.hash.new.pass) (known c.take_out.new.pass) (seen_of c.in-Ok.place.slot (packed c.args.new.now.card)) c.requires.surveyed c.requires.known.2 c.in-Ok.ensures.far
+    stay_after (seeks.Room c.args.new.now) c.args.survey.now v (known c.hash.new.pass) (known c.take_out.new.pass) (seen_of c.in-Ok.place.slot (packed c.args.new.now.card)) c.requires.surveyed c.requires.known.2 c.in-Ok.ensures.far
     c.args.locked.now.bucket c.requires.at.0.0 c.requires.whole.0 (is_read v.chain.walked c.requires.surveyed.cards) listed c.requires.apart c.hash.ensures.stay c.take_out.ensures.goes c.take_out.ensures.stay
 
 pub returns-in-Ok-clause-share : goal.returns-in-Ok-clause-share

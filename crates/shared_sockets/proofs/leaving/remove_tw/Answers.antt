@@ -1,5 +1,4 @@
-use Rattle.std.proofs.Common.{◌≡◌, ◌≢◌, ◌+◌, ℕ, ◌∷◌, [], inl, inr, ⊎_elim, Option, None, Some, ap, ◌∙◌, sym, subst, arith, rules}
-use Rattle.std.specs.Option.{option_map}
+use Rattle.std.proofs.Common.{◌≡◌, ◌+◌, ℕ, ◌∷◌, [], inl, ⊎_elim, Option, ap, ◌∙◌, sym, subst, arith, rules}
 use Rattle.chain_book.specs.declared.outcome.Hashed.{Hashed}
 use Rattle.table_rule.specs.Calls.{layout_of, view, HasShares}
 use Rattle.table_rule.specs.Owners.{IsPlace}
@@ -9,7 +8,6 @@ use Rattle.table_rule.specs.declared.view.View.{View}
 use Rattle.table_rule.proofs.ChainSteps.{cons_is}
 use Rattle.nulls_chain.specs.Changes.{WasChain}
 use Rattle.shared_sockets.specs.Comings.{walking, Goes}
-use Rattle.shared_sockets.specs.Leavings.{slot_of}
 use Rattle.shared_sockets.specs.declared.survey.Sought.TheVariants as seeks
 use Rattle.shared_sockets.proofs.Admitted.{out_of, stay_of}
 use Rattle.shared_sockets.proofs.Known.{walking_is, chain_is, is_read}
@@ -73,3 +71,6 @@ returns-clause-share g c = λ more share.
     let is : w ≡ record (locking (known c.args.pass.now) c.args.bucket) { chain = w.chain } =
     ap (λ (x : Sat). x.0) c.survey_chain-survey.ensures.kept ∙ ap (λ (x : Sat). record x.0 { chain = w.chain }) c.lock-locked.ensures.view in
     subst (HasShares more) (sym (ap (λ (x : Sat). x.0) c.unlock.ensures.view)) (c.take_out.ensures.share more (subst (HasShares (more + 2)) (sym is) share))
+
+pub unlock-requires-clause-alone : goal.unlock-requires-clause-alone
+unlock-requires-clause-alone g c = inl (c.take_out.ensures.twice ∙ (ap (λ (x : Sat). x.0.twice) c.survey_chain-survey.ensures.kept ∙ ap (λ (x : Sat). x.0.twice) c.lock-locked.ensures.view))

@@ -14,5 +14,5 @@ invariant-loop-count l = record {
   known : WalkKnown l.chains.layout (view l.steps);
   count : length (view l.steps).chain.walked + length (view l.steps).chain.ahead ≡ l._count;
   few : l._count ≤ l.chains.layout.shape.slots;
-  surveyed : Surveyed l.new l.survey ((view l.steps).chain.walked ++ (view l.steps).chain.ahead);
+  surveyed : Surveyed l.sought l.survey ((view l.steps).chain.walked ++ (view l.steps).chain.ahead);
 }
