@@ -76,7 +76,7 @@ same_now v w slot closed opened later o = record {
 
 goes_now : (v w : View) (bucket : ℕ) (found : Option Hashed) → Goes v w bucket found → IsNow v → IsNow w
 goes_now v w bucket None t o = subst IsNow (sym t) o
-goes_now v w bucket (Some x) t o = adds_now v w 0 bucket x.slot _ t.0 o
+goes_now v w bucket (Some x) t o = adds_now v w 0 bucket x.slot _ t.change o
 
 -- a bucket is locked and walked, or given back
 pub walking_now : (v : View) (bucket : ℕ) (xs : List Seen) → IsNow v → IsNow (walking v bucket xs)
@@ -90,7 +90,7 @@ unlocking_now v w e o = subst IsNow (sym e) record { bare = (record { all = o.ba
 goes_left : (layout : Layout) (bucket : ℕ) → bucket < chain_count layout.shape → (next : ℕ) (found : Option Hashed) (u w : View) → Goes u w bucket found
     → chains_of layout next w.book.closed ≡ without_replaced (chains_of layout next u.book.closed) bucket found
 goes_left layout bucket near next None u w t = ap (λ (x : View). chains_of layout next x.book.closed) t
-goes_left layout bucket near next (Some x) u w t = ap (chains_of layout next) t.0.2.3 ∙ unhashed_as_book layout next u.book.closed bucket x.slot t.0.0 t.0.1 near _
+goes_left layout bucket near next (Some x) u w t = ap (chains_of layout next) t.change.2.3 ∙ unhashed_as_book layout next u.book.closed bucket x.slot t.change.0 t.change.1 near _
 
 module _ (layout : Layout) (from bucket : ℕ) (le : from ≤ layout.shape.slots) (near : bucket < chain_count layout.shape) where
   comes_left : (slot : ℕ) (card : Card) (v u : View) → Comes v u bucket slot card
@@ -229,10 +229,10 @@ waits_alone layout from place card r v w le near at h now =
     let next = next_after (add_outcome (chains_of layout from v.book.closed)) from in (
       a.0,
       ap (λ (x : View). chains_of layout next x.book.closed) h.unlocked
-          ∙ (ap (chains_of layout next) h.change.2.3
-          ∙ (unhashed_as_book layout next h.between.book.closed place.bucket place.slot h.change.0 h.change.1 near _
+          ∙ (ap (chains_of layout next) h.departs.change.2.3
+          ∙ (unhashed_as_book layout next h.between.book.closed place.bucket place.slot h.departs.change.0 h.departs.change.1 near _
           ∙ ap (λ (x : Chains). unhashed x (record { bucket = place.bucket; slot = place.slot })) a.1)),
-      unlocking_now h.left w h.unlocked (adds_now h.between h.left 0 place.bucket place.slot _ h.change a.2),
+      unlocking_now h.left w h.unlocked (adds_now h.between h.left 0 place.bucket place.slot _ h.departs.change a.2),
     )
 
 pub reaps_alone : (layout : Layout) (bucket name : ℕ) (result : Option ℕ) (v w : View) → bucket < chain_count layout.shape → Reaps bucket name result v w → ReapsAlone layout bucket name result v w

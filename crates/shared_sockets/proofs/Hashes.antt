@@ -14,7 +14,7 @@ use Rattle.table_rule.specs.declared.view.Seen.{Seen}
 use Rattle.shared_slots.specs.Claims.{IsFull}
 use Rattle.shared_slots.specs.declared.fresh.Full.{Full}
 use Rattle.bucket_locks.specs.Locks.{WalkKnown}
-use Rattle.nulls_chain.specs.Changes.{Adds, Rest, IsAlone, IsPlaced, PlacesStay}
+use Rattle.nulls_chain.specs.Changes.{Adds, Rest, IsAlone, IsPlaced, PlacesStay, hashed}
 use Rattle.nulls_chain.specs.declared.keeping.Place.{Place}
 use Rattle.nulls_chain.proofs.Changed.{places_kept, kind_alone}
 use Rattle.shared_sockets.specs.Rows.{card_words}
@@ -32,6 +32,7 @@ pub record Said (layout : Layout) (from b : ℕ) (card : Card) (v w : View) (r :
   pub some : IfOk r (λ p. (p.slot < layout.shape.slots) × (p.bucket ≡ b) × (p.card ≡ card))
   pub far : IfOk r (λ p. stands p.slot v.chain.walked ≡ 0)
   pub first : IfOk r (λ p. IsBare v → FirstFree v.book.closed layout.shape.slots from p.slot)
+  pub chain : IfOk r (λ p. w.chain ≡ hashed v.chain p.slot (packed card))
   pub change : IfOk r (λ p. Adds v w 1 b p.slot (card_words card))
   pub rest : IfOk r (λ p. Rest v w)
   pub full : IfErr r (λ f. (x : ℕ) × (y : View) × IsFull layout (beginning v x) y f × (v.seen ≤ x) × (w ≡ dropping_beginning y))
@@ -42,7 +43,7 @@ hashes_to layout from b card v w (Ok place) s = record {
   bucket_is = s.some.1;
   card_is = s.some.2;
   slot = record { inside = s.some.0; far = s.far; first = s.first };
-  comes = record { change = s.change; rest = s.rest; told = s.told };
+  comes = record { chain = s.chain; change = s.change; rest = s.rest; told = s.told };
 }
 hashes_to layout from b card v w (Err f) s =
     let t = s.full in record { begin = t.0; later = t.3; seen = t.1; full = t.2; is = t.4; alone = s.all }
@@ -82,3 +83,8 @@ pub placed_of : (r : Result Place Full) (card : Card) (v w : View) → w.book �
     → IfOk r (λ p. time_waits (card_words card) ≡ 0 → IsPlaced p v.book) → IfOk r (λ p. IsPlaced p w.book)
 placed_of (Ok p) card v w same kind h = subst (IsPlaced p) (sym same) (h (listens_words card kind))
 placed_of (Err f) card v w same kind h = tt
+
+-- the walk has met the end still
+pub met_still : (layout : Layout) (from b : ℕ) (card : Card) (xs : List Seen) (v w : View) (r : Result Place Full) → HashesTo layout from b card xs r v w → v.chain.met ≡ 1 → w.chain.met ≡ 1
+met_still layout from b card xs v w (Ok place) h met = ap (λ (x : ChainView). x.met) h.comes.chain ∙ met
+met_still layout from b card xs v w (Err f) h met = ap (λ (x : ChainView). x.met) (full_chain layout v w f h.begin h.seen h.full h.is) ∙ met

@@ -9,7 +9,7 @@ use Rattle.chain_book.specs.declared.outcome.Hashed.{Hashed}
 use Rattle.table_rule.specs.Calls.{HasShares, MayUnhash}
 use Rattle.table_rule.specs.Lists.{Each, stands}
 use Rattle.table_rule.specs.Sole.{IsSole, IsBare, FirstFree, AllUsed, chain_from}
-use Rattle.table_rule.specs.Plays.{beginning, dropping_beginning, locking, unlocking}
+use Rattle.table_rule.specs.Plays.{without, beginning, dropping_beginning, locking, unlocking}
 use Rattle.table_rule.specs.declared.view.View.{View}
 use Rattle.table_rule.specs.declared.view.Layout.{Layout}
 use Rattle.table_rule.specs.declared.view.Seen.{Seen}
@@ -35,16 +35,23 @@ pub record IsChain (v : View) (bucket : ℕ) (xs : List Seen) : Type 0 where
   pub once : (i : ℕ) → stands i xs ≤ 1
   pub sole : IsSole v → xs ≡ chain_from v.book.closed bucket
 
--- one change: that card, which its words tell, came into that slot
+-- one change: that card, which its words tell, came into that slot, and is first in the chain that the pass walked
 pub record Comes (v w : View) (bucket slot : ℕ) (card : Card) : Type 0 where
+  pub chain : w.chain ≡ changes.hashed v.chain slot (packed card)
   pub change : changes.Adds v w 1 bucket slot (card_words card)
   pub rest : Rest v w
   pub told : unpacked (packed card) ≡ card
 
--- one change: that card went, if there is one
+-- one change: that card went, and the chain that the pass walked is without its slot
+pub record Departs (v w : View) (bucket slot : ℕ) (card : Card) : Type 0 where
+  pub chain : w.chain ≡ record v.chain { walked = without slot v.chain.walked }
+  pub change : changes.Adds v w 0 bucket slot (card_words card)
+  pub rest : Rest v w
+
+-- the same, if anybody goes
 abbrev pub Goes : View → View → ℕ → Option Hashed → Type 0
 Goes v w bucket None = w ≡ v
-Goes v w bucket (Some x) = changes.Adds v w 0 bucket x.slot (card_words x.card) × Rest v w
+Goes v w bucket (Some x) = Departs v w bucket x.slot x.card
 
 -- who is found stands in the walked list, and the pass may unhash it
 abbrev pub IsOut : Option Hashed → View → Type 0

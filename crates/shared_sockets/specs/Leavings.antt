@@ -1,5 +1,6 @@
 -- What it comes to that a socket leaves a shared chain: inet_unhash of net/ipv4/inet_hashtables.c, and
--- inet_twsk_hashdance_schedule of net/ipv4/inet_timewait_sock.c, where the TIME_WAIT comes under the same lock; inet_twsk_kill of the same file.
+-- inet_twsk_hashdance_schedule of net/ipv4/inet_timewait_sock.c, where the TIME_WAIT comes under the same lock;
+-- inet_twsk_kill of the same file.
 use Rattle.std.specs.Prelude.{◌≡◌, ℕ, List, Option, Result, find}
 use Rattle.std.specs.Option.{option_map}
 use Rattle.sock_card.specs.declared.card.Card.{Card}
@@ -11,10 +12,10 @@ use Rattle.table_rule.specs.declared.view.View.{View}
 use Rattle.table_rule.specs.declared.view.Layout.{Layout}
 use Rattle.table_rule.specs.declared.view.Seen.{Seen}
 use Rattle.shared_slots.specs.declared.fresh.Full.{Full}
-use Rattle.nulls_chain.specs.Changes.{Adds, Rest}
+use Rattle.nulls_chain.specs.Changes.{Adds}
 use Rattle.nulls_chain.specs.declared.keeping.Place.{Place}
 use Rattle.shared_sockets.specs.Rows.{row_of, card_words, HasCard}
-use Rattle.shared_sockets.specs.Comings.{walking, IsChain, Goes, HashesTo}
+use Rattle.shared_sockets.specs.Comings.{walking, IsChain, Departs, Goes, HashesTo}
 
 -- what a call leaves of all else that its pass knows: the numbers that it lost, the counts that it took, its lookups
 abbrev pub Quiet : View → View → Type 0
@@ -32,8 +33,7 @@ pub record Waits (layout : Layout) (from : ℕ) (place : Place) (card : Card) (r
   pub between : View
   pub comes : HashesTo layout from place.bucket card chain result (walking v place.bucket chain) between
   pub left : View
-  pub change : Adds between left 0 place.bucket place.slot (card_words place.card)
-  pub rest : Rest between left
+  pub departs : Departs between left place.bucket place.slot place.card
   pub unlocked : w ≡ unlocking left
 
 abbrev pub slot_of : Hashed → ℕ

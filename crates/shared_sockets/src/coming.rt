@@ -171,7 +171,8 @@ pub fn insert<R: Wait>(
     answer
 }
 
-/// Hashes a listener into its chain, whatever stands there. `Full`: no slot is free, and nothing has changed.
+/// Hashes a listener into its chain, whatever stands there. `Full`: no slot is free, and of the change only its first
+/// number is gone.
 ///
 /// As `__inet_hash` of net/ipv4/inet_hashtables.c.
 pub fn add<R: Wait>(

@@ -49,8 +49,8 @@ pub fn remove<R: Wait>(chains: &Chains, rt: &R, pass: &mut Pass, place: Place)
 
 /// Hashes a TIME_WAIT into the chain of a connected socket, and then takes that socket out, from which it comes.
 ///
-/// Where no slot is free the socket goes without one, and the answer tells how full the slots are. The TIME_WAIT belongs
-/// into the socket's chain, as one with its four-tuple does.
+/// Where no slot is free the socket goes without one, and the answer tells how full the slots are. The TIME_WAIT
+/// belongs into the socket's chain, as one with its four-tuple does.
 ///
 /// As `inet_twsk_hashdance_schedule` of net/ipv4/inet_timewait_sock.c.
 pub fn time_wait<R: Wait>(

@@ -48,7 +48,8 @@ const WAITING: Card = Card {
     extra: 5,
 };
 
-/// What became of a newcomer: 0 where its four-tuple is kept from it, 1 where it came, 2 where a TIME_WAIT gave way to it.
+/// What became of a newcomer: 0 where its four-tuple is kept from it, 1 where it came, 2 where a TIME_WAIT gave way to
+/// it, 3 where no slot was free.
 fn come<R: Wait>(chains: &Chains, rt: &R, pass: &mut Pass, bucket: u32, new: &Newcomer) -> u32
     requires table { IsPassOf chains.now pass.old }
     requires bucket { bucket < bucket_count (layout_of chains.now) }
@@ -67,7 +68,7 @@ fn come<R: Wait>(chains: &Chains, rt: &R, pass: &mut Pass, bucket: u32, new: &Ne
     }
 }
 
-/// The first comes and waits, and then the second comes.
+/// The first comes and waits, and then the second comes: 4 where the first left no TIME_WAIT, 5 where it didn't come.
 fn come_after<R: Wait>(
     chains: &Chains,
     rt: &R,
