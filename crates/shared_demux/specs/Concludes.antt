@@ -17,7 +17,8 @@ use Rattle.shared_finds.specs.Homes.{full_home}
 use Rattle.shared_finds.specs.Stays.{Stays}
 use Rattle.shared_finds.specs.Finds.{InOrder}
 use Rattle.table_rule.specs.Book.{marks}
-use Rattle.table_rule.specs.Plays.{Sat, summing}
+use Rattle.table_rule.specs.LookCalls.{place_of}
+use Rattle.table_rule.specs.Plays.{Sat, summing, with_kept, letting_go, drop_at}
 use Rattle.table_rule.specs.Rule.{book_part}
 use Rattle.table_rule.specs.Wholes.{whole_of}
 use Rattle.table_rule.specs.declared.view.View.{View}
@@ -44,27 +45,41 @@ book_end (ends.Dead slot) = stops.Dead slot
 book_end (ends.Changed slot) = stops.Changed slot
 book_end (ends.Long links) = stops.Long links
 
--- The order of the lookups: the first that isn't None decides, and where it is Again its bucket and end are handed on
+-- The order of the lookups: the first that isn't None decides, and where it is Again its bucket and end are handed on.
+-- What is said of one of them is said of what the pass knew as it began, and each begins with what the one before left.
 
--- after the lookup of a listener: of one that was found, its group's choice
-abbrev pub AfterListener : (slots groups : ℕ) → (seed : ℕ) → Packet → Sat → GroupPasses → LookEnd → PacketAnswer → GroupPasses → Type 0
-AfterListener slots groups seed packet k p (looks.Found held best) end p' =
-    (card : Card) × (n : Sat) × (end ≡ answers.Found card) × ByGroup slots groups packet (packet_hash packet seed) k best p card n p'
-AfterListener slots groups seed packet k p looks.None end p' = (end ≡ answers.None) × (p' ≡ p)
-AfterListener slots groups seed packet k p (looks.Again bucket stop) end p' = (end ≡ answers.Again bucket (book_end stop)) × (p' ≡ p)
+-- the count of the best is given back
+abbrev pub LetsGo : Sat → (slot : ℕ) → Sat → Type 0
+LetsGo k slot n = n ≡ (with_kept (letting_go k.0 slot) (drop_at (place_of slot k.0.read.kept) k.0.read.kept), k.1)
 
-abbrev pub ByListener : (slots groups : ℕ) → Layout → Packet → (passes : ℕ) → Sat → GroupPasses → PacketAnswer → GroupPasses → Type 0
-ByListener slots groups layout packet passes m p end p' =
+-- the receipt of the whole lookup is made
+abbrev pub Sums : Sat → Whole → Sat → Type 0
+Sums k c n = n ≡ (summing k.0 c, k.1)
+
+-- after the lookup of a listener: of one that was found, its group's choice, while it is held
+abbrev pub AfterListener : (slots groups : ℕ) → (seed : ℕ) → Packet → Sat → GroupPasses → LookEnd → PacketAnswer → GroupPasses → Whole → Sat → Type 0
+AfterListener slots groups seed packet k p (looks.Found held best) end p' c n =
+    (card : Card) × (chosen : Sat) × (put : Sat) × (end ≡ answers.Found card)
+    × ByGroup slots groups packet (packet_hash packet seed) k best p card chosen p' × LetsGo chosen held.slot put × Sums put c n
+AfterListener slots groups seed packet k p looks.None end p' c n = (end ≡ answers.None) × (p' ≡ p) × Sums k c n
+AfterListener slots groups seed packet k p (looks.Again bucket stop) end p' c n =
+    (end ≡ answers.Again bucket (book_end stop)) × (p' ≡ p) × Sums k c n
+
+abbrev pub ByListener : (slots groups : ℕ) → Layout → Packet → (passes : ℕ) → Sat → GroupPasses → PacketAnswer → GroupPasses → Whole → Sat → Type 0
+ByListener slots groups layout packet passes m p end p' c n =
     (look : LookEnd) × (from : ℕ) × (to : ℕ) × (k : Sat) × InOrder layout packet passes m look from to k
-    × AfterListener slots groups layout.seed packet k p look end p'
+    × AfterListener slots groups layout.seed packet k p look end p' c n
 
 -- after the lookup of a connected socket
-abbrev pub AfterFull : (slots groups : ℕ) → Layout → Packet → (passes : ℕ) → Sat → GroupPasses → LookEnd → PacketAnswer → GroupPasses → Type 0
-AfterFull slots groups layout packet passes k p (looks.Found held card) end p' = (end ≡ answers.Found card) × (p' ≡ p)
-AfterFull slots groups layout packet passes k p looks.None end p' = ByListener slots groups layout packet passes k p end p'
-AfterFull slots groups layout packet passes k p (looks.Again bucket stop) end p' = (end ≡ answers.Again bucket (book_end stop)) × (p' ≡ p)
+abbrev pub AfterFull : (slots groups : ℕ) → Layout → Packet → (passes : ℕ) → Sat → GroupPasses → LookEnd → PacketAnswer → GroupPasses → Whole → Sat → Type 0
+AfterFull slots groups layout packet passes k p (looks.Found held card) end p' c n =
+    (put : Sat) × (end ≡ answers.Found card) × (p' ≡ p) × LetsGo k held.slot put × Sums put c n
+AfterFull slots groups layout packet passes k p looks.None end p' c n = ByListener slots groups layout packet passes k p end p' c n
+AfterFull slots groups layout packet passes k p (looks.Again bucket stop) end p' c n =
+    (end ≡ answers.Again bucket (book_end stop)) × (p' ≡ p) × Sums k c n
 
-abbrev pub ByOrder : (slots groups : ℕ) → Layout → Packet → (passes : ℕ) → Sat → GroupPasses → PacketAnswer → GroupPasses → Type 0
-ByOrder slots groups layout packet passes m p end p' =
-    (look : LookEnd) × (from : ℕ) × (to : ℕ) × (k : Sat) × LookedAs (full_home layout packet) packet 5 passes m (words_end look) from to k
-    × AfterFull slots groups layout packet passes k p look end p'
+-- the whole lookup began as that of a connected socket did
+abbrev pub ByOrder : (slots groups : ℕ) → Layout → Packet → (passes : ℕ) → Sat → GroupPasses → PacketAnswer → GroupPasses → (from : ℕ) → Whole → Sat → Type 0
+ByOrder slots groups layout packet passes m p end p' from c n =
+    (look : LookEnd) × (to : ℕ) × (k : Sat) × LookedAs (full_home layout packet) packet 5 passes m (words_end look) from to k
+    × AfterFull slots groups layout packet passes k p look end p' c n

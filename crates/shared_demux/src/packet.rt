@@ -111,7 +111,7 @@ fn look_listener<P: Pace>(
     ensures from { result.t0 ≡ from }
     ensures span { (view steps.old).seen ≤ result.t1 }
     ensures concluded { Concluded (me steps.old) (whole_to packet.now tables.now.layout.seed from result.t1 result.end) (me steps.new) }
-    ensures order { ByListener (layout_of tables.now.chains.now).shape.slots (group_words.groups tables.now.groups.now) tables.now.layout packet.now passes (me steps.old) group_passes.old result.end group_passes.new }
+    ensures order { ByListener (layout_of tables.now.chains.now).shape.slots (group_words.groups tables.now.groups.now) tables.now.layout packet.now passes (me steps.old) group_passes.old result.end group_passes.new (whole_to packet.now tables.now.layout.seed from result.t1 result.end) (me steps.new) }
     ensures sole { IsAlone (view steps.old) from → IsSoleWhole (view steps.old) (whole_to packet.now tables.now.layout.seed from result.t1 result.end) }
     ensures known { IsKnownWhole (view steps.old) (whole_to packet.now tables.now.layout.seed from result.t1 result.end) }
     ensures own { DrewAll (view steps.old) result.t1 → IsWholeExplained (mine (view steps.old)) (view steps.old).layout (whole_to packet.now tables.now.layout.seed from result.t1 result.end) }
@@ -157,7 +157,7 @@ fn look_listener<P: Pace>(
 /// no memory, and lets each count go before it answers. Where a pass through a chain ends without an answer each time,
 /// as others change that chain, it answers Again, of that chain and how the last pass ended: the caller may try anew.
 ///
-/// The clock is loaded first and last, and the answer is true of a moment between the two.
+/// The clock is loaded first and last: what was found stood at some time between, and nothing better stood throughout.
 pub fn look_packet<P: Pace>(
     tables: &Lookups,
     steps: &mut Steps,
@@ -177,7 +177,7 @@ pub fn look_packet<P: Pace>(
     ensures fresh { (view steps.old).seen ≤ result.t0 }
     ensures span { result.t0 ≤ result.t1 }
     ensures concluded { Concluded (me steps.old) (whole_to packet.now tables.now.layout.seed result.t0 result.t1 result.end) (me steps.new) }
-    ensures order { ByOrder (layout_of tables.now.chains.now).shape.slots (group_words.groups tables.now.groups.now) tables.now.layout packet.now passes (me steps.old) group_passes.old result.end group_passes.new }
+    ensures order { ByOrder (layout_of tables.now.chains.now).shape.slots (group_words.groups tables.now.groups.now) tables.now.layout packet.now passes (me steps.old) group_passes.old result.end group_passes.new result.t0 (whole_to packet.now tables.now.layout.seed result.t0 result.t1 result.end) (me steps.new) }
     ensures sole { IsWhole (view steps.old) → IsSoleWhole (view steps.old) (whole_to packet.now tables.now.layout.seed result.t0 result.t1 result.end) }
     ensures known { IsKnownWhole (view steps.old) (whole_to packet.now tables.now.layout.seed result.t0 result.t1 result.end) }
     ensures own { DrewAll (view steps.old) result.t1 → IsWholeExplained (mine (view steps.old)) (view steps.old).layout (whole_to packet.now tables.now.layout.seed result.t0 result.t1 result.end) }
