@@ -131,14 +131,29 @@ fn each_order_resolution_and_link_type_is_read(rt: HostRuntime) -> Result<(), Fa
 
 #[test]
 fn packets_are_looked_up_where_the_script_asks(rt: HostRuntime) -> Result<(), Fail> {
-    let text = "script 1\nsocket a\nbind a 0.0.0.0:80\npackets 1\nlisten a\npackets 0\npackets 2\n\
-                drop a\nscript 2\ncapture\n";
-    let wanted = "1 socket a ok\n1 bind a ok 80\npacket 1 none\n1 listen a ok 80\npacket 2 skip\n\
-                  packet 3 listen 1.a\n1 drop a ok\npacket 4 skip\ncut\n";
-    assert!(rt; writes(&rt, text, &[HEADER, RECORDS], [wanted, ""])?);
-    let text = "script 1\npackets 1000000\nsocket a\npackets 1\ncapture\n";
-    let wanted = "packet 1 none\npacket 2 skip\npacket 3 none\npacket 4 skip\n1 socket a ok\ncut\n";
-    assert!(rt; writes(&rt, text, &[HEADER, RECORDS], [wanted, ""])?);
+    let cases: [[&str; 2]; 3] = [
+        [
+            "script 1\nsocket a\nbind a 0.0.0.0:80\npackets 1\nlisten a\npackets 0\npackets 2\n\
+             drop a\nscript 2\ncapture\n",
+            "1 socket a ok\n1 bind a ok 80\npacket 1 none\n1 listen a ok 80\npacket 2 skip\n\
+             packet 3 listen 1.a\n1 drop a ok\npacket 4 skip\ncut\n",
+        ],
+        [
+            "script 1\nsocket a\nbind a 0.0.0.0:80\nlisten a\npackets 1\ndrop a\ncapture\n",
+            "1 socket a ok\n1 bind a ok 80\n1 listen a ok 80\npacket 1 listen 1.a\n1 drop a ok\n\
+             packet 2 skip\npacket 3 none\npacket 4 skip\ncut\n",
+        ],
+        [
+            "script 1\npackets 1000000\nsocket a\npackets 1\ncapture\n",
+            "packet 1 none\npacket 2 skip\npacket 3 none\npacket 4 skip\n1 socket a ok\ncut\n",
+        ],
+    ];
+    for [text, wanted] in cases {
+        assert!(rt;
+            writes(&rt, text, &[HEADER, RECORDS], [wanted, ""])?,
+            "for {text}"
+        );
+    }
     Ok(())
 }
 

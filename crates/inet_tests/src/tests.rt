@@ -28,9 +28,61 @@ pub const PLAIN: Ends<'static> = Ends {
     failing_writes: &[],
 };
 
+/// Scripts of searches for a port, each with what is written for it.
+const SEARCHES: [(&str, &str); 5] = [
+    (
+        "range 40000 40003\noffset 0\nscript 1\nsocket a\nsocket b\nsocket c\nsocket d\n\
+         socket e\nsocket f\nbind a 0.0.0.0:0\nbind b 0.0.0.0:0\nbind c 0.0.0.0:0\n\
+         bind d 0.0.0.0:0\nbind e 0.0.0.0:0\nconnect f from 10.0.0.1 to 10.0.0.2:80\n",
+        "1 socket a ok\n1 socket b ok\n1 socket c ok\n1 socket d ok\n1 socket e ok\n\
+         1 socket f ok\n1 bind a ok 40001\n1 bind b ok 40003\n1 bind c ok 40000\n\
+         1 bind d ok 40002\n1 bind e EADDRINUSE\n1 connect f EADDRNOTAVAIL\n",
+    ),
+    (
+        "range 40000 40001\nscript 1\nsocket a\nsocket b\nsocket c\nsocket d\n\
+         connect a from 10.0.0.1 to 10.0.0.2:80\nconnect b from 10.0.0.1 to 10.0.0.2:80\n\
+         connect c from 10.0.0.1 to 10.0.0.2:80\nconnect d from 10.0.0.1 to 10.0.0.2:81\n",
+        "1 socket a ok\n1 socket b ok\n1 socket c ok\n1 socket d ok\n\
+         1 connect a ok 10.0.0.1:40000\n1 connect b ok 10.0.0.1:40001\n\
+         1 connect c EADDRNOTAVAIL\n1 connect d ok 10.0.0.1:40000\n",
+    ),
+    (
+        "range 40000 40001\nscript 1\nsocket a\nlisten a\nlook 10.0.0.2:5 10.0.0.7:40001\n",
+        "1 socket a ok\n1 listen a ok 40001\n1 look listen 1.a\n",
+    ),
+    (
+        "range 40000 40003\noffset 2\nscript 1\nsocket a\nsocket b\nsocket c\nsocket d\n\
+         bind a 0.0.0.0:0\nbind b 0.0.0.0:0\nbind c 0.0.0.0:0\nbind d 0.0.0.0:0\n",
+        "1 socket a ok\n1 socket b ok\n1 socket c ok\n1 socket d ok\n1 bind a ok 40003\n\
+         1 bind b ok 40001\n1 bind c ok 40002\n1 bind d ok 40000\n",
+    ),
+    (
+        "range 40000 40003\noffset 2\nscript 1\nsocket a\nsocket b\nsocket c\nsocket d\n\
+         connect a from 10.0.0.1 to 10.0.0.2:80\nconnect b from 10.0.0.1 to 10.0.0.2:80\n\
+         connect c from 10.0.0.1 to 10.0.0.2:80\nconnect d from 10.0.0.1 to 10.0.0.2:80\n",
+        "1 socket a ok\n1 socket b ok\n1 socket c ok\n1 socket d ok\n\
+         1 connect a ok 10.0.0.1:40002\n1 connect b ok 10.0.0.1:40000\n\
+         1 connect c ok 10.0.0.1:40003\n1 connect d ok 10.0.0.1:40001\n",
+    ),
+];
+
 /// Scripts of sockets that were closed, that share an end, or whose commands are refused, each with
 /// what is written for it.
-const ROWS: [(&str, &str); 10] = [
+const ROWS: [(&str, &str); 12] = [
+    (
+        "script 1\nsocket a\nbind a 10.0.0.1:80\nlisten a\n\
+         accept a c from 10.0.0.2:1000 at 10.0.0.1:80\n\
+         accept a d from 10.0.0.2:1000 at 10.0.0.1:80\nlook 10.0.0.2:1000 10.0.0.1:80\n\
+         drop c\nlook 10.0.0.2:1000 10.0.0.1:80\n",
+        "1 socket a ok\n1 bind a ok 80\n1 listen a ok 80\n1 accept c ok\n\
+         1 accept d EADDRNOTAVAIL\n1 look full 1.c\n1 drop c ok\n1 look listen 1.a\n",
+    ),
+    (
+        "script 1\nsocket a reuseaddr\nsocket b reuseaddr\nbind a 10.0.0.1:90\n\
+         bind b 10.0.0.1:90\nconnect a to 10.0.0.2:80\nconnect b to 10.0.0.2:80\n",
+        "1 socket a ok\n1 socket b ok\n1 bind a ok 90\n1 bind b ok 90\n\
+         1 connect a ok 10.0.0.1:90\n1 connect b EADDRNOTAVAIL\n",
+    ),
     (
         "range 40000 40001\noffset 0\nscript 1\nsocket a\nsocket b\nsocket c\nbind a 0.0.0.0:0\n\
          listen b\nbind c 0.0.0.0:0\nlisten c\nconnect c from 10.0.0.1 to 10.0.0.2:80\n",
@@ -163,7 +215,7 @@ fn run(rt: &HostRuntime, input: &str, ends: Ends<'_>) -> Result<(Status, Vec<u8>
 
 #[test]
 fn answers_worked_scripts(rt: HostRuntime) -> Result<(), Fail> {
-    let rows: [(&str, Status, &str); 7] = [
+    let rows: [(&str, Status, &str); 8] = [
         ("", Status::Done, ""),
         (SCRIPT, Status::Done, OUTPUT),
         (
@@ -198,6 +250,7 @@ fn answers_worked_scripts(rt: HostRuntime) -> Result<(), Fail> {
             Status::BadScript(1),
             "bad script line 1\n",
         ),
+        ("capture\nabc", Status::BadCapture, "bad capture\n"),
     ];
     for (input, status, written) in rows {
         let answer = run(&rt, input, PLAIN)?;
@@ -208,8 +261,10 @@ fn answers_worked_scripts(rt: HostRuntime) -> Result<(), Fail> {
 }
 
 #[test]
-fn answers_what_becomes_of_closed_and_shared_sockets(rt: HostRuntime) -> Result<(), Fail> {
-    for (input, written) in ROWS {
+fn answers_searches_and_what_becomes_of_closed_and_shared_sockets(
+    rt: HostRuntime,
+) -> Result<(), Fail> {
+    for (input, written) in SEARCHES.into_iter().chain(ROWS) {
         let answer = run(&rt, input, PLAIN)?;
         assert!(rt; answer.0 == Status::Done, "status of {input}");
         assert_eq!(rt; answer.1.as_slice(), written.as_bytes());
@@ -306,25 +361,26 @@ fn refuses_other_words(rt: HostRuntime) -> Result<(), Fail> {
 
 #[test]
 fn made_scripts_are_counted(rt: HostRuntime) -> Result<(), Fail> {
-    let rows: [(&[&str], &[u8]); 2] = [
-        (
-            &["inet", "make", "1", "0"],
-            b"commands 0\nok 0\nrefused 0\nfound 0\nnone 0\n",
-        ),
-        (
-            &["inet", "make", "7", "20000"],
-            b"commands 35033\nok 25869\nrefused 9164\nfound 822\nnone 1732\n",
-        ),
+    // The second is made twice, and so are its counts.
+    let rows: [(&str, &str, [u32; 5]); 3] = [
+        ("1", "0", [0, 0, 0, 0, 0]),
+        ("7", "20000", [35033, 25869, 9164, 822, 1732]),
+        ("7", "20000", [35033, 25869, 9164, 822, 1732]),
     ];
-    for (words, wanted) in rows {
+    for (seed, count, [commands, ok, refused, found, none]) in rows {
+        assert_eq!(rt; commands, ok.saturating_add(refused));
         // `make` reads nothing, so what the source holds is no matter, nor that its reads fail.
         let ends = Ends {
             failing_reads: &[1],
             ..PLAIN
         };
-        let (status, written) = call(&rt, words, b"no script".to_vec(rt.alloc())?, ends)?;
+        let words = ["inet", "make", seed, count];
+        let (status, written) = call(&rt, &words, b"no script".to_vec(rt.alloc())?, ends)?;
         assert!(rt; status == Status::Done, "status of {words:?}");
-        assert_eq!(rt; written.as_slice(), wanted);
+        let wanted = format!(in rt.alloc();
+            "commands {commands}\nok {ok}\nrefused {refused}\nfound {found}\nnone {none}\n"
+        )?;
+        assert_eq!(rt; written.as_slice(), wanted.as_bytes());
     }
     Ok(())
 }
