@@ -1,4 +1,4 @@
-use Rattle.std.specs.Prelude.{true, ◌+◌, ◌≡◌, ◌≢◌, ◌==◌, ℕ, ◌<◌, ◌≤◌, ◌%◌, List, [], ◌∷◌, ◌++◌, Option, None, Some, Bool, cond, false, find, slice_index}
+use Rattle.std.specs.Prelude.{true, ◌+◌, ◌≡◌, ◌≢◌, ◌==◌, ℕ, ◌<◌, ◌≤◌, ◌%◌, List, [], ◌∷◌, ◌++◌, Option, None, Some, Bool, cond, false, find, slice_index, ◌⊎◌}
 use mathlib.Core.Option.{some}
 use lib.ListN.{get_elem?}
 use Rattle.table_rule.specs.CardsOk.{claims, has_tuple, tuple}
@@ -8,6 +8,8 @@ use Rattle.table_rule.specs.Lists.{Each}
 use Rattle.table_rule.specs.declared.view.View.{View}
 use Rattle.table_rule.specs.declared.view.Layout.{Layout}
 use Rattle.table_rule.specs.declared.view.Seen.{Seen}
+use Rattle.table_rule.specs.declared.view.Sight.{Sight}
+use Rattle.table_rule.specs.Book.{open-end}
 use Rattle.table_rule.specs.Calls.{Tells, HasShares, seen_of}
 use Rattle.table_rule.specs.Owners.{IsPlace}
 use Rattle.table_rule.specs.Sole.{IsSole, chain_from}
@@ -64,6 +66,19 @@ Adds v w kind bucket slot card = (b : ℕ) × (e : ℕ) × AddsAt v w kind bucke
 abbrev pub Rest : View → View → Type 0
 Rest v w = (w.slot.parts ≡ v.slot.parts) × (w.slot.holds ≡ v.slot.holds) × (w.book.lost ≡ v.book.lost) × (w.slot.taken ≡ v.slot.taken) × (w.read ≡ v.read) × (w.since ≡ v.since)
 
+-- a sighting as it was, or one that waited for its second number and got one that is no smaller than this
+abbrev pub IsSettled : (least : ℕ) → Sight → Sight → Type 0
+IsSettled least s t = (t ≡ s) ⊎ ((s.until ≡ open-end) × (r : ℕ) × (least ≤ r) × (t ≡ record s { until = r }))
+
+abbrev pub AreSettled : (least : ℕ) → List Sight → List Sight → Type 0
+AreSettled least [] [] = Unit {0}
+AreSettled least (s ∷ ss) (t ∷ ts) = IsSettled least s t × AreSettled least ss ts
+AreSettled least ss ts = ⊥
+
+-- all that the pass saw before stands, with more behind it
+abbrev pub Sees : View → View → Type 0
+Sees v w = (earlier : List Sight) × (more : List Sight) × AreSettled v.seen v.sights earlier × (w.sights ≡ earlier ++ more)
+
 -- each place of the pass but those in that slot stays one
 abbrev pub OthersStay : ℕ → View → View → Type 0
 OthersStay slot v w = (hash : Change) → hash.slot ≢ slot → IsPlace v.book hash → IsPlace w.book hash
@@ -72,7 +87,7 @@ OthersStay slot v w = (hash : Change) → hash.slot ≢ slot → IsPlace v.book 
 abbrev pub PlacesStay : View → View → Type 0
 PlacesStay v w = (hash : Change) → IsPlace v.book hash → IsPlace w.book hash
 
--- the pass hashed this card into this slot of this bucket, and has not begun to unhash it
+-- the pass hashed this card, no TIME_WAIT's, into this slot of this bucket, and has not begun to unhash it
 abbrev pub IsPlaced : Place → BookView → Type 0
 IsPlaced place b = (hash : Change) × (hash.bucket ≡ place.bucket) × (hash.slot ≡ place.slot) × (hash.card ≡ words_of (packed place.card)) × IsPlace b hash
 

@@ -4,10 +4,10 @@ ghost use Rattle.table_rule.specs.Lists.{stands};
 ghost use Rattle.table_rule.specs.Owners.{time_waits, IsPlace};
 ghost use Rattle.table_rule.specs.Sole.{IsBare, FirstFree, AllUsed};
 ghost use Rattle.table_rule.specs.Beyond.{IsCardWords};
-ghost use Rattle.table_rule.specs.Calls.{IsOf, IsIdle, IsHashOf, IsUnhashOf, HasShares, MayUnhash, seen_of, view, me, layout_of};
+ghost use Rattle.table_rule.specs.Calls.{IsOf, IsIdle, IsHashOf, IsUnhashOf, HasShares, MayUnhash, seen_of, view, layout_of};
 ghost use Rattle.table_rule.specs.Words.{words_of, home_of, bucket_count};
 ghost use Rattle.bucket_locks.specs.Locks.{IsAt};
-ghost use Rattle.nulls_chain.specs.Changes.{IsAlone, hashed, Stands, Adds, AddsAt, Rest};
+ghost use Rattle.nulls_chain.specs.Changes.{IsAlone, hashed, Stands, AddsAt, Rest, Sees};
 ghost use Rattle.shared_slots.specs.Claims.{IsFull};
 ghost use Rattle.table_rule.specs.Plays.{beginning, dropping_beginning, without, carding, card_in};
 
@@ -56,6 +56,7 @@ fn link<H: Halt>(
     ensures idle { IsIdle (view steps.new).slot }
     ensures rest { Rest (view steps.old) (view steps.new) }
     ensures seen { (view steps.new).seen ≡ (view steps.old).seen }
+    ensures sights { (view steps.new).sights ≡ (view steps.old).sights }
     ensures twice { (view steps.new).twice ≡ (view steps.old).twice }
     ensures book { ((view steps.new).book ≡ record (view steps.old).book { opened = carding (view steps.old).book.opened (words_of card.now) }) × ((view steps.new).done ≡ 1) }
 {
@@ -96,6 +97,7 @@ pub(crate) fn hash_numbered<H: Halt>(
     ensures place { IfOk result (λ d. time_waits (words_of card.now) ≡ 0 → IsPlace (view steps.new).book (record { kind = 1; bucket = locked.now.bucket; slot = d.slot; card = words_of card.now; begins = d.begin; ends = d.end })) }
     ensures change { IfOk result (λ d. AddsAt (view steps.old) (view steps.new) 1 locked.now.bucket d.slot (words_of card.now) d.begin d.end) }
     ensures rest { IfOk result (λ d. Rest (view steps.old) (view steps.new)) }
+    ensures saw { Sees (view steps.old) (view steps.new) }
     ensures twice { (view steps.new).twice ≡ (view steps.old).twice }
     ensures full { IfErr result (λ f. (b : ℕ) × (w : View) × IsFull (layout_of chains.now) (beginning (view steps.old) b) w f × ((view steps.old).seen ≤ b) × ((view steps.new) ≡ dropping_beginning w)) }
     ensures same { IfErr result (λ f. (view steps.new).book.closed ≡ (view steps.old).book.closed) }
@@ -140,6 +142,7 @@ pub(crate) fn unhash_numbered<H: Halt>(
     ensures idle { IsIdle (view steps.new).slot × ((view steps.new).book.opened ≡ []) }
     ensures change { AddsAt (view steps.old) (view steps.new) 0 locked.now.bucket slot (card_in slot (view steps.old).chain.walked) result.begin result.end }
     ensures rest { Rest (view steps.old) (view steps.new) }
+    ensures saw { Sees (view steps.old) (view steps.new) }
     ensures twice { (view steps.new).twice ≡ (view steps.old).twice }
     ensures at { IsAt (layout_of chains.now) locked.now (view steps.new) }
     ensures gone { (view steps.new).chain ≡ record (view steps.old).chain { walked = without slot (view steps.old).chain.walked } }
@@ -171,6 +174,7 @@ fn leave<H: Halt>(
     ensures idle { IsIdle (view steps.new).slot }
     ensures rest { Rest (view steps.old) (view steps.new) }
     ensures seen { (view steps.new).seen ≡ (view steps.old).seen }
+    ensures sights { (view steps.new).sights ≡ (view steps.old).sights }
     ensures twice { (view steps.new).twice ≡ (view steps.old).twice }
     ensures gone { (view steps.new).chain ≡ record (view steps.old).chain { walked = without slot (view steps.old).chain.walked } }
     ensures book { ((view steps.new).book ≡ (view steps.old).book) × ((view steps.new).done ≡ 1) }

@@ -5,14 +5,13 @@ ghost use Rattle.table_rule.specs.declared.view.View.{View};
 ghost use Rattle.table_rule.specs.Lists.{stands};
 ghost use Rattle.table_rule.specs.Owners.{time_waits};
 ghost use Rattle.table_rule.specs.Sole.{IsBare, FirstFree, AllUsed};
-ghost use Rattle.table_rule.specs.Beyond.{IsCardWords};
 ghost use Rattle.table_rule.specs.Calls.{IsIdle, HasShares, MayUnhash, layout_of};
 ghost use Rattle.table_rule.specs.Passes.{IsPassOf, known};
-ghost use Rattle.table_rule.specs.Words.{words_of, home_of};
+ghost use Rattle.table_rule.specs.Words.{words_of};
 ghost use Rattle.table_rule.specs.Plays.{beginning, dropping_beginning, without, card_in};
 ghost use Rattle.bucket_locks.specs.Locks.{IsAt, WalkKnown};
 ghost use Rattle.shared_slots.specs.Claims.{IsFull};
-ghost use Rattle.nulls_chain.specs.Changes.{IsAlone, hashed, Adds, Rest, PlacesStay, OthersStay, TwoDrawn, IsPlaced};
+ghost use Rattle.nulls_chain.specs.Changes.{IsAlone, hashed, Adds, Rest, Sees, PlacesStay, OthersStay, TwoDrawn, IsPlaced};
 
 use super::changes::{hash_numbered, unhash_numbered};
 use super::finding::slot_before;
@@ -20,7 +19,7 @@ use super::halting::{Halt, Unhalted};
 use bucket_locks::Locked;
 use chain_book::{Act, Change};
 use shared_slots::Full;
-use sock_card::{Card, CardWords, pack};
+use sock_card::{Card, pack};
 use table_rule::{Chains, Pass};
 
 /// Where a card stands that a pass hashed: the bucket, the slot, and the card, which nobody reads again once the chain
@@ -34,9 +33,9 @@ pub struct Place {
 
 /// Hashes a card into its bucket, whose chain was walked to its end: from then on its slot is first in the chain.
 ///
-/// A number is drawn from the clock, a slot claimed from `from` on and round to it, its card written, its link stored, the
-/// head stored, the slot lit, and a second number drawn. The change is kept in room that was made before. `Full`: no slot
-/// is free, and of the change only its first number is gone.
+/// A number is drawn from the clock, a slot claimed from `from` on and round to it, its card written, its link stored,
+/// the head stored, the slot lit, and a second number drawn. The change is kept in room that was made before. `Full`:
+/// no slot is free, and of the change only its first number is gone.
 ///
 /// As `inet_ehash_insert` of net/ipv4/inet_hashtables.c does by `hlist_nulls_add_head_rcu`.
 pub fn hash(
@@ -69,6 +68,7 @@ pub fn hash(
     ensures share { TwoDrawn (known pass.old) (known pass.new) }
     ensures change { IfOk result (λ place. Adds (known pass.old) (known pass.new) 1 locked.now.bucket place.slot (words_of (packed card.now))) }
     ensures rest { IfOk result (λ place. Rest (known pass.old) (known pass.new)) }
+    ensures saw { Sees (known pass.old) (known pass.new) }
     ensures twice { (known pass.new).twice ≡ (known pass.old).twice }
     ensures full { IfErr result (λ f. (b : ℕ) × (w : View) × IsFull (layout_of chains.now) (beginning (known pass.old) b) w f × ((known pass.old).seen ≤ b) × ((known pass.new) ≡ dropping_beginning w)) }
     ensures same { IfErr result (λ f. (known pass.new).book.closed ≡ (known pass.old).book.closed) }
@@ -110,6 +110,7 @@ pub fn hash_with<H: Halt>(
     ensures share { TwoDrawn (known pass.old) (known pass.new) }
     ensures change { IfOk result (λ place. Adds (known pass.old) (known pass.new) 1 locked.now.bucket place.slot (words_of (packed card.now))) }
     ensures rest { IfOk result (λ place. Rest (known pass.old) (known pass.new)) }
+    ensures saw { Sees (known pass.old) (known pass.new) }
     ensures twice { (known pass.new).twice ≡ (known pass.old).twice }
     ensures full { IfErr result (λ f. (b : ℕ) × (w : View) × IsFull (layout_of chains.now) (beginning (known pass.old) b) w f × ((known pass.old).seen ≤ b) × ((known pass.new) ≡ dropping_beginning w)) }
     ensures same { IfErr result (λ f. (known pass.new).book.closed ≡ (known pass.old).book.closed) }
@@ -139,8 +140,9 @@ pub fn hash_with<H: Halt>(
 
 /// Unhashes a slot of a chain that was walked to its end.
 ///
-/// Its predecessor is found by the links alone, from the head on. Then a number is drawn from the clock, the slot dimmed, passed over and released, and a second number drawn. The change is
-/// kept in room that was made before. A card that is no TIME_WAIT's is unhashed by the pass that hashed it alone.
+/// Its predecessor is found by the links alone, from the head on. Then a number is drawn from the clock, the slot
+/// dimmed, passed over and released, and a second number drawn. The change is kept in room that was made before. A card
+/// that is no TIME_WAIT's is unhashed by the pass that hashed it alone.
 ///
 /// As `inet_unhash` of net/ipv4/inet_hashtables.c does by `hlist_nulls_del_init_rcu`.
 pub fn unhash_slot(chains: &Chains, pass: &mut Pass, locked: &Locked, slot: u32, card: &Card)
@@ -161,6 +163,7 @@ pub fn unhash_slot(chains: &Chains, pass: &mut Pass, locked: &Locked, slot: u32,
     ensures stay { OthersStay slot (known pass.old) (known pass.new) }
     ensures share { TwoDrawn (known pass.old) (known pass.new) }
     ensures rest { Rest (known pass.old) (known pass.new) }
+    ensures saw { Sees (known pass.old) (known pass.new) }
     ensures twice { (known pass.new).twice ≡ (known pass.old).twice }
     ensures at { IsAt (layout_of chains.now) locked.now (known pass.new) }
     ensures gone { (known pass.new).chain ≡ record (known pass.old).chain { walked = without slot (known pass.old).chain.walked } }
@@ -196,6 +199,7 @@ pub(crate) fn unhash_slot_with<H: Halt>(
     ensures stay { OthersStay slot (known pass.old) (known pass.new) }
     ensures share { TwoDrawn (known pass.old) (known pass.new) }
     ensures rest { Rest (known pass.old) (known pass.new) }
+    ensures saw { Sees (known pass.old) (known pass.new) }
     ensures twice { (known pass.new).twice ≡ (known pass.old).twice }
     ensures at { IsAt (layout_of chains.now) locked.now (known pass.new) }
     ensures gone { (known pass.new).chain ≡ record (known pass.old).chain { walked = without slot (known pass.old).chain.walked } }

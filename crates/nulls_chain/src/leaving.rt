@@ -5,7 +5,7 @@ ghost use Rattle.table_rule.specs.Passes.{IsPassOf, known};
 ghost use Rattle.table_rule.specs.Plays.{without};
 ghost use Rattle.table_rule.specs.Words.{words_of};
 ghost use Rattle.bucket_locks.specs.Locks.{IsAt, WalkKnown};
-ghost use Rattle.nulls_chain.specs.Changes.{Adds, Rest, PlacesStay, OthersStay, TwoDrawn, IsPlaced, TookWait, HasNoWait};
+ghost use Rattle.nulls_chain.specs.Changes.{Adds, Rest, Sees, OthersStay, TwoDrawn, IsPlaced, TookWait, HasNoWait};
 
 use super::finding::{find_wait, walk_to_end};
 use super::halting::{Halt, Unhalted};
@@ -30,6 +30,7 @@ pub fn unhash(chains: &Chains, pass: &mut Pass, locked: &mut Locked, place: Plac
     ensures stay { OthersStay place.slot (known pass.old) (known pass.new) }
     ensures share { TwoDrawn (known pass.old) (known pass.new) }
     ensures rest { Rest (known pass.old) (known pass.new) }
+    ensures saw { Sees (known pass.old) (known pass.new) }
     ensures twice { (known pass.new).twice ≡ (known pass.old).twice }
     ensures at { IsAt (layout_of chains.now) locked.new (known pass.new) × (locked.new.started ≡ true) × (locked.new.bucket ≡ locked.old.bucket) }
     ensures whole { ((known pass.new).chain.met ≡ 1) × ((known pass.new).chain.ahead ≡ []) }
@@ -61,6 +62,7 @@ pub fn unhash_with<H: Halt>(
     ensures stay { OthersStay place.slot (known pass.old) (known pass.new) }
     ensures share { TwoDrawn (known pass.old) (known pass.new) }
     ensures rest { Rest (known pass.old) (known pass.new) }
+    ensures saw { Sees (known pass.old) (known pass.new) }
     ensures twice { (known pass.new).twice ≡ (known pass.old).twice }
     ensures at { IsAt (layout_of chains.now) locked.new (known pass.new) × (locked.new.started ≡ true) × (locked.new.bucket ≡ locked.old.bucket) }
     ensures whole { ((known pass.new).chain.met ≡ 1) × ((known pass.new).chain.ahead ≡ []) }

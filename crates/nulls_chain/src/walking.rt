@@ -2,7 +2,7 @@ ghost use Rattle.std.specs.Prelude.{◌≡◌, ◌+◌, ◌%◌, true, ◌<◌, 
 ghost use Rattle.table_rule.specs.Plays.{PlacesListed, PlacesApart, TuplesListed, advancing, Inside, Fits};
 ghost use Rattle.table_rule.specs.Sole.{SoleKnown};
 ghost use Rattle.table_rule.specs.Beyond.{IsCardWords};
-ghost use Rattle.table_rule.specs.Calls.{IsOf, IsIdle, seen_of, view, me, layout_of, Becomes};
+ghost use Rattle.table_rule.specs.Calls.{IsOf, IsIdle, seen_of, view, layout_of, Becomes};
 ghost use Rattle.table_rule.specs.Words.{words_of};
 ghost use Rattle.bucket_locks.specs.Locks.{IsAt, WalkKnown};
 ghost use Rattle.nulls_chain.specs.Changes.{going};

@@ -14,7 +14,7 @@ use Rattle.table_rule.specs.declared.view.Seen.{Seen}
 use Rattle.shared_slots.specs.Claims.{IsFull}
 use Rattle.shared_slots.specs.declared.fresh.Full.{Full}
 use Rattle.bucket_locks.specs.Locks.{WalkKnown}
-use Rattle.nulls_chain.specs.Changes.{Adds, Rest, IsAlone, IsPlaced, PlacesStay, hashed}
+use Rattle.nulls_chain.specs.Changes.{Adds, Rest, IsAlone, IsPlaced, PlacesStay, hashed, Sees}
 use Rattle.nulls_chain.specs.declared.keeping.Place.{Place}
 use Rattle.nulls_chain.proofs.Changed.{places_kept, kind_alone}
 use Rattle.shared_sockets.specs.Rows.{card_words}
@@ -34,6 +34,7 @@ pub record Said (layout : Layout) (from b : ℕ) (card : Card) (v w : View) (r :
   pub first : IfOk r (λ p. IsBare v → FirstFree v.book.closed layout.shape.slots from p.slot)
   pub chain : IfOk r (λ p. w.chain ≡ hashed v.chain p.slot (packed card))
   pub change : IfOk r (λ p. Adds v w 1 b p.slot (card_words card))
+  pub saw : Sees v w
   pub rest : IfOk r (λ p. Rest v w)
   pub full : IfErr r (λ f. (x : ℕ) × (y : View) × IsFull layout (beginning v x) y f × (v.seen ≤ x) × (w ≡ dropping_beginning y))
   pub all : IfErr r (λ f. IsBare v → AllUsed v.book.closed 0 layout.shape.slots × (f.held ≡ 0))
@@ -43,7 +44,7 @@ hashes_to layout from b card v w (Ok place) s = record {
   bucket_is = s.some.1;
   card_is = s.some.2;
   slot = record { inside = s.some.0; far = s.far; first = s.first };
-  comes = record { chain = s.chain; change = s.change; rest = s.rest; told = s.told };
+  comes = record { chain = s.chain; change = s.change; rest = s.rest; saw = s.saw; told = s.told };
 }
 hashes_to layout from b card v w (Err f) s =
     let t = s.full in record { begin = t.0; later = t.3; seen = t.1; full = t.2; is = t.4; alone = s.all }

@@ -1,11 +1,12 @@
 -- A pass that has walked the whole of a bucket that it locked.
-use Rattle.std.proofs.Common.{◌≡◌, ℕ, ◌≤◌, List, [], ◌∷◌, length, ap, ◌∙◌, sym, subst}
+use Rattle.std.proofs.Common.{◌≡◌, ℕ, ◌≤◌, List, [], ◌∷◌, length, ap, ◌∙◌, sym, subst, ◌++◌, append_assoc}
 use Rattle.table_rule.specs.Lists.{Each, stands}
-use Rattle.table_rule.specs.Plays.{locking}
+use Rattle.table_rule.specs.Plays.{locking, unlocking, sight_of}
 use Rattle.table_rule.specs.Sole.{IsRead, IsSole, chain_from}
+use Rattle.table_rule.specs.declared.view.Sight.{Sight}
 use Rattle.table_rule.specs.declared.view.View.{View}
 use Rattle.table_rule.specs.declared.view.Seen.{Seen}
-use Rattle.nulls_chain.specs.Changes.{WasChain}
+use Rattle.nulls_chain.specs.Changes.{WasChain, Sees}
 use Rattle.shared_sockets.specs.Rows.{HasCard}
 use Rattle.shared_sockets.specs.Comings.{walking, IsChain}
 
@@ -24,3 +25,9 @@ chain_is v u bucket xs is was once = record {
   once = once;
   sole = λ s. was (subst IsSole (sym is) record { all = s.all; rises = s.rises; waits = s.waits }) ∙ ap (λ (x : View). chain_from x.book.closed bucket) is;
 }
+
+-- as the lock is given back, what was walked is one sighting more
+pub sees_unlocked : (u x w v : View) {bucket : ℕ} → u ≡ locking v bucket → w ≡ unlocking x → Sees u x → Sees v w
+sees_unlocked u x w v {bucket} lv un s =
+    let t : Sees (locking v bucket) x = subst (λ (y : View). Sees y x) lv s in
+    (t.0, t.1 ++ sight_of x ∷ [], t.2, ap (λ (y : View). y.sights) un ∙ (ap (λ (l : List Sight). l ++ sight_of x ∷ []) t.3 ∙ append_assoc t.0 t.1 (sight_of x ∷ [])))

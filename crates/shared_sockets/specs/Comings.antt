@@ -16,7 +16,7 @@ use Rattle.table_rule.specs.declared.view.Seen.{Seen}
 use Rattle.shared_slots.specs.declared.fresh.Full.{Full}
 use Rattle.shared_slots.specs.Claims.{IsFull}
 use Rattle.nulls_chain.specs.Changes as changes
-use Rattle.nulls_chain.specs.Changes.{Rest}
+use Rattle.nulls_chain.specs.Changes.{Rest, Sees}
 use Rattle.nulls_chain.specs.declared.keeping.Place.{Place}
 use Rattle.shared_sockets.specs.Rows.{row_of, card_words, HasCard, IsIn}
 use Rattle.shared_sockets.specs.Surveys.{keeper_in, waiting_in}
@@ -40,6 +40,7 @@ pub record Comes (v w : View) (bucket slot : ℕ) (card : Card) : Type 0 where
   pub chain : w.chain ≡ changes.hashed v.chain slot (packed card)
   pub change : changes.Adds v w 1 bucket slot (card_words card)
   pub rest : Rest v w
+  pub saw : Sees v w
   pub told : unpacked (packed card) ≡ card
 
 -- one change: that card went, and the chain that the pass walked is without its slot
@@ -47,6 +48,7 @@ pub record Departs (v w : View) (bucket slot : ℕ) (card : Card) : Type 0 where
   pub chain : w.chain ≡ record v.chain { walked = without slot v.chain.walked }
   pub change : changes.Adds v w 0 bucket slot (card_words card)
   pub rest : Rest v w
+  pub saw : Sees v w
 
 -- the same, if anybody goes
 abbrev pub Goes : View → View → ℕ → Option Hashed → Type 0

@@ -12,7 +12,7 @@ use Rattle.table_rule.specs.declared.view.View.{View}
 use Rattle.table_rule.specs.declared.view.Layout.{Layout}
 use Rattle.table_rule.specs.declared.view.Seen.{Seen}
 use Rattle.shared_slots.specs.declared.fresh.Full.{Full}
-use Rattle.nulls_chain.specs.Changes.{Adds}
+use Rattle.nulls_chain.specs.Changes.{Adds, Sees}
 use Rattle.nulls_chain.specs.declared.keeping.Place.{Place}
 use Rattle.shared_sockets.specs.Rows.{row_of, card_words, HasCard}
 use Rattle.shared_sockets.specs.Comings.{walking, IsChain, Departs, Goes, HashesTo}
@@ -24,6 +24,7 @@ Quiet v w = (w.book.lost ≡ v.book.lost) × (w.slot.taken ≡ v.slot.taken) × 
 -- one change: who stood at the place is gone
 pub record Leaves (place : Place) (v w : View) : Type 0 where
   pub change : Adds v w 0 place.bucket place.slot (card_words place.card)
+  pub saw : Sees v w
   pub quiet : Quiet v w
 
 -- under one lock a TIME_WAIT comes, if a slot is free, and then who stood at the place is gone

@@ -1,5 +1,9 @@
-use Rattle.std.proofs.Common.{rules, ℕ, [], List, sym, ap, refl, arith, subst}
-use Rattle.table_rule.specs.Plays.{Sat, first_of}
+use Rattle.std.proofs.Common.{rules, ◌≡◌, ◌++◌, map, ◌∙◌, ℕ, [], List, sym, ap, refl, arith, subst}
+use Rattle.table_rule.specs.Plays.{Sat, beginning, first_of, settled}
+use Rattle.table_rule.specs.declared.view.Sight.{Sight}
+use Rattle.table_rule.specs.declared.view.View.{View}
+use Rattle.shared_slots.specs.Claims.{IsFull, sight_by}
+use Rattle.nulls_chain.proofs.Saw.{saw, saw_none}
 use Rattle.table_rule.specs.Book.{open-end}
 use Rattle.table_rule.specs.declared.view.Change.{Change}
 use Rattle.table_rule.specs.Owners.{IsPlace}
@@ -41,3 +45,24 @@ pub returns-in-Ok-clause-place : goal.returns-in-Ok-clause-place
 returns-in-Ok-clause-place g c = λ stays.
     let h : Change = record { kind = 1; bucket = first_of (view c.args.steps.now).chain.locked; slot = c.in-Ok.slot; card = words_of c.args.card.now; begins = c.step_begin_hash-begin.result; ends = open-end } in
     subst (λ (b : ℕ). IsPlace (view c.step_end-end.new.steps).book (record { kind = 1; bucket = b; slot = c.in-Ok.slot; card = words_of c.args.card.now; begins = c.step_begin_hash-begin.result; ends = c.step_end-end.result })) (ap first_of c.requires.at.0.0) (c.step_end-end.ensures.place h (search rules) refl stays)
+
+pub returns-in-Ok-clause-saw : goal.returns-in-Ok-clause-saw
+returns-in-Ok-clause-saw g c =
+    let v = view c.args.steps.now in
+    let t = c.in-Ok.ensures.some in
+    let b : ℕ = c.step_begin_hash-begin.result in
+    let e : ℕ = c.step_end-end.result in
+    let begun = ap (λ (s : Sat). s.0) c.step_begin_hash-begin.ensures.view in
+    let low = c.step_begin_hash-begin.ensures.seen in
+    let more : List Sight = map (sight_by (view c.step_begin_hash-begin.new.steps)) t.4.reads in
+    let claimed : (view c.claim.new.steps).sights ≡ settled v.sights b ++ more =
+    ap (λ (s : Sat). s.0.sights) t.5 ∙ (ap (λ (x : View). x.sights) t.4.is ∙ ap (λ (x : View). x.sights ++ more) begun) in
+    let linked : (view c.link.new.steps).sights ≡ settled v.sights b ++ more = c.link.ensures.sights ∙ (ap (λ (s : Sat). s.0.sights) c.write_card.ensures.fresh ∙ claimed) in
+    saw v (view c.step_end-end.new.steps) b e more low (search rules) (ap (λ (s : Sat). s.0.sights) c.step_end-end.ensures.view ∙ ap (λ (l : List Sight). settled l e) linked)
+
+pub returns-in-Err-clause-saw : goal.returns-in-Err-clause-saw
+returns-in-Err-clause-saw g c =
+    let b : ℕ = c.step_begin_hash-begin.result in
+    let begun : view c.step_begin_hash-begin.new.steps ≡ beginning (view c.args.steps.now) b = ap (λ (s : Sat). s.0) c.step_begin_hash-begin.ensures.view in
+    saw_none (layout_of c.args.chains.now) (view c.args.steps.now) (view c.claim.new.steps) (view c.step_forget.new.steps) b c.in-Err.full
+    (subst (λ (x : View). IsFull (layout_of c.args.chains.now) x (view c.claim.new.steps) c.in-Err.full) begun c.in-Err.ensures.full.0) c.step_begin_hash-begin.ensures.seen (ap (λ (s : Sat). s.0) c.step_forget.ensures.view)

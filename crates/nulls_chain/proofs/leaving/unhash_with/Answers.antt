@@ -1,6 +1,7 @@
 use Rattle.std.proofs.Common.{◌+◌, ◌∷◌, [], sym, ap, ◌∙◌, subst}
 use Rattle.table_rule.specs.Calls.{view, layout_of, HasShares}
 use Rattle.table_rule.specs.Plays.{Sat}
+use Rattle.nulls_chain.specs.Changes.{Sees}
 use Rattle.nulls_chain.proofs.Walked.{inside_of}
 use Rattle.nulls_chain.proofs.Found.{place_listed}
 use Rattle.nulls_chain.proofs.leaving.unhash_with.Goals as goal
@@ -19,3 +20,6 @@ unhash_slot_with-requires-clause-card g c =
 
 pub returns-clause-share : goal.returns-clause-share
 returns-clause-share g c = λ more share. c.unhash_slot_with.ensures.share more (subst (λ (s : Sat). HasShares (more + 2) s.0) (sym c.walk_to_end.ensures.kept) share)
+
+pub returns-clause-saw : goal.returns-clause-saw
+returns-clause-saw g c = subst (λ (s : Sat). Sees s.0 (view c.unhash_slot_with.new.pass.steps)) c.walk_to_end.ensures.kept c.unhash_slot_with.ensures.saw

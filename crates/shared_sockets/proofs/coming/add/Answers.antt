@@ -29,7 +29,7 @@ returns-clause-answer g c =
     let b0 : c.lock-locked.result.bucket ≡ b = cons_is c.lock-locked.result.bucket b (sym c.lock-locked.ensures.at.0 ∙ ap (λ (y : View). y.chain.locked) lv) in
     let b1 : c.walk_to_end.new.locked.bucket ≡ b = s.at.2 ∙ b0 in
     let is = walking_is v u w b lv (ap (λ (y : Sat). y.0) s.kept) (s.at.0.0 ∙ ap (λ (n : ℕ). n ∷ []) b1) s.whole.0 s.whole.1 in
-    let said : Said layout c.args.from c.walk_to_end.new.locked.bucket c.args.card.now w x c.hash-answer.result = record { told = c.is_told.ensures.told; some = e.some; far = e.far; first = e.first; chain = e.chain; change = e.change; rest = e.rest; full = e.full; all = e.all } in
+    let said : Said layout c.args.from c.walk_to_end.new.locked.bucket c.args.card.now w x c.hash-answer.result = record { told = c.is_told.ensures.told; some = e.some; far = e.far; first = e.first; chain = e.chain; change = e.change; rest = e.rest; saw = e.saw; full = e.full; all = e.all } in
     record {
       chain = w.chain.walked;
       seen = chain_is v u b w.chain.walked lv (subst (λ (n : ℕ). WasChain w.chain.walked n u) b0 (s.sole (ap (λ (y : View). y.chain.met) lv))) s.known.2;

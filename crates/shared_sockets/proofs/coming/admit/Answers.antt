@@ -34,7 +34,7 @@ returns-in-Ok-clause-comes c =
       replaced = search rules;
       slot = record { inside = e.some.0; far = e.far; first = e.first };
       between = known c.hash.new.pass;
-      comes = record { chain = e.chain; change = e.change; rest = e.rest; told = c.is_told.ensures.told };
+      comes = record { chain = e.chain; change = e.change; rest = e.rest; saw = c.hash.ensures.saw; told = c.is_told.ensures.told };
       goes_out = search rules;
     }
 

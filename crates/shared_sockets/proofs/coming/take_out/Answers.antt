@@ -23,4 +23,4 @@ unhash_slot-requires-clause-own c = (subst (λ (o : Option Hashed). IsOut o (kno
 
 pub returns-in-Some-clause-goes : goal.returns-in-Some-clause-goes
 returns-in-Some-clause-goes c =
-    subst (λ (o : Option Hashed). Goes (known c.args.pass.now) (known c.unhash_slot.new.pass) c.args.locked.now.bucket o) (sym c.in-Some.is) (record { chain = c.unhash_slot.ensures.gone; change = c.unhash_slot.ensures.change; rest = c.unhash_slot.ensures.rest })
+    subst (λ (o : Option Hashed). Goes (known c.args.pass.now) (known c.unhash_slot.new.pass) c.args.locked.now.bucket o) (sym c.in-Some.is) (record { chain = c.unhash_slot.ensures.gone; change = c.unhash_slot.ensures.change; rest = c.unhash_slot.ensures.rest; saw = c.unhash_slot.ensures.saw })

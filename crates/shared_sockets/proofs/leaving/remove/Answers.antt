@@ -7,6 +7,7 @@ use Rattle.table_rule.specs.declared.view.View.{View}
 use Rattle.table_rule.proofs.ChainSteps.{cons_is}
 use Rattle.nulls_chain.specs.Changes.{Adds, IsPlaced}
 use Rattle.shared_sockets.specs.Rows.{card_words}
+use Rattle.shared_sockets.proofs.Known.{sees_unlocked}
 use Rattle.shared_sockets.proofs.Alone.{leaves_alone}
 use Rattle.shared_sockets.proofs.leaving.remove.Goals as goal
 
@@ -31,6 +32,7 @@ returns-clause-goes g c =
       change = subst (λ (y : View). Adds v y 0 p.bucket p.slot (card_words p.card)) (sym un)
           (subst (λ (y : View). Adds y x 0 p.bucket p.slot (card_words p.card)) lv
           (subst (λ (n : ℕ). Adds u x 0 n p.slot (card_words p.card)) b c.unhash.ensures.change));
+      saw = sees_unlocked u x (view c.unlock.new.steps) v lv un c.unhash.ensures.saw;
       quiet = (
         ap (λ (y : View). y.book.lost) un ∙ (c.unhash.ensures.rest.2 ∙ ap (λ (y : View). y.book.lost) lv),
         ap (λ (y : View). y.slot.taken) un ∙ (c.unhash.ensures.rest.3 ∙ ap (λ (y : View). y.slot.taken) lv),

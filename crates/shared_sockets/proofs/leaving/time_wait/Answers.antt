@@ -20,7 +20,7 @@ pub unhash-requires-clause-known : goal.unhash-requires-clause-known
 unhash-requires-clause-known g c =
     let e = c.hash-answer.ensures in
     known_after (layout_of c.args.chains.now) c.args.from c.walk_to_end.new.locked.bucket c.args.card.now (view c.walk_to_end.new.steps) (known c.hash-answer.new.pass) c.hash-answer.result
-    (record { told = c.is_told.ensures.told; some = e.some; far = e.far; first = e.first; chain = e.chain; change = e.change; rest = e.rest; full = e.full; all = e.all })
+    (record { told = c.is_told.ensures.told; some = e.some; far = e.far; first = e.first; chain = e.chain; change = e.change; rest = e.rest; saw = e.saw; full = e.full; all = e.all })
     (ap (λ (x : Sat). x.0.book.opened) c.walk_to_end.ensures.kept ∙ (ap (λ (x : Sat). x.0.book.opened) c.lock-locked.ensures.view ∙ c.requires.idle.1)) e.known e.same c.walk_to_end.ensures.known
 
 pub unhash-requires-clause-place : goal.unhash-requires-clause-place
@@ -57,7 +57,7 @@ returns-clause-answer g c =
     let b0 : c.lock-locked.result.bucket ≡ b = cons_is c.lock-locked.result.bucket b (sym c.lock-locked.ensures.at.0 ∙ ap (λ (y : View). y.chain.locked) lv) in
     let b1 : c.walk_to_end.new.locked.bucket ≡ b = s.at.2 ∙ b0 in
     let is = walking_is v u w b lv (ap (λ (y : Sat). y.0) s.kept) (s.at.0.0 ∙ ap (λ (n : ℕ). n ∷ []) b1) s.whole.0 s.whole.1 in
-    let said : Said layout c.args.from c.walk_to_end.new.locked.bucket c.args.card.now w x c.hash-answer.result = record { told = c.is_told.ensures.told; some = e.some; far = e.far; first = e.first; chain = e.chain; change = e.change; rest = e.rest; full = e.full; all = e.all } in
+    let said : Said layout c.args.from c.walk_to_end.new.locked.bucket c.args.card.now w x c.hash-answer.result = record { told = c.is_told.ensures.told; some = e.some; far = e.far; first = e.first; chain = e.chain; change = e.change; rest = e.rest; saw = e.saw; full = e.full; all = e.all } in
     let came = hashes_to layout c.args.from c.walk_to_end.new.locked.bucket c.args.card.now w x c.hash-answer.result said in
     record {
       chain = w.chain.walked;
@@ -71,6 +71,7 @@ returns-clause-answer g c =
         chain = c.unhash.ensures.gone (met_still layout c.args.from c.walk_to_end.new.locked.bucket c.args.card.now w.chain.walked w x c.hash-answer.result came s.whole.0);
         change = subst (λ (n : ℕ). Adds x (known c.unhash.new.pass) 0 n p.slot (card_words p.card)) b1 c.unhash.ensures.change;
         rest = c.unhash.ensures.rest;
+        saw = c.unhash.ensures.saw;
       };
       unlocked = ap (λ (y : Sat). y.0) c.unlock.ensures.view;
     }

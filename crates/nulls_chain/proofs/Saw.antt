@@ -1,0 +1,63 @@
+-- What a change leaves of all that its pass saw before.
+use Rattle.std.proofs.Common.{◌≡◌, ℕ, ◌≤◌, List, [], ◌∷◌, ◌++◌, ◌⊎◌, inl, inr, ⊎_elim, cond, Bool, eq-eqb, ne_eqb, sym, refl, ap, ◌∙◌, arith, append-nil, map}
+use mathlib.Core.Logic.{dite}
+use native.Mathlib.Decide.{ℕ_discrete}
+use Rattle.shared_slots.specs.Claims.{IsFull, sight_by}
+use Rattle.shared_slots.specs.declared.fresh.Full.{Full}
+use Rattle.table_rule.specs.Book.{open-end}
+use Rattle.table_rule.specs.Plays.{settled, settled_one, beginning, dropping_beginning}
+use Rattle.table_rule.specs.declared.view.Layout.{Layout}
+use Rattle.table_rule.specs.declared.view.Sight.{Sight}
+use Rattle.table_rule.specs.declared.view.View.{View}
+use Rattle.nulls_chain.specs.Changes.{IsSettled, AreSettled, Sees}
+
+one-is : (least r : ℕ) (s : Sight) → least ≤ r → IsSettled least s (settled_one r s)
+one-is least r s le = dite (ℕ_discrete s.until open-end)
+    (λ e. inr (e, r, le, ap (λ (b : Bool). cond b (record s { until = r }) s) (eq-eqb s.until open-end e)))
+    (λ ne. inl (ap (λ (b : Bool). cond b (record s { until = r }) s) (ne_eqb s.until open-end ne)))
+
+are : (least r : ℕ) (xs : List Sight) → least ≤ r → AreSettled least xs (settled xs r)
+are least r [] le = tt
+are least r (x ∷ xs) le = (one-is least r x le, are least r xs le)
+
+one-then : (least : ℕ) (s t u : Sight) → IsSettled least s t → IsSettled least t u → IsSettled least s u
+one-then least s t u a b = ⊎_elim
+    (λ same. ⊎_elim
+    (λ z. inl (z ∙ same))
+    (λ z. inr (ap (λ (x : Sight). x.until) (sym same) ∙ z.0, z.1, z.2, z.3 ∙ ap (λ (x : Sight). record x { until = z.1 }) same))
+    b)
+    (λ was. ⊎_elim
+    (λ z. inr (was.0, was.1, was.2, z ∙ was.3))
+    (λ z. inr (was.0, z.1, z.2, z.3 ∙ ap (λ (x : Sight). record x { until = z.1 }) was.3))
+    b)
+    a
+
+then : (least : ℕ) (xs ys zs : List Sight) → AreSettled least xs ys → AreSettled least ys zs → AreSettled least xs zs
+then least [] [] [] a b = tt
+then least (x ∷ xs) (y ∷ ys) (z ∷ zs) a b = (one-then least x y z a.0 b.0, then least xs ys zs a.1 b.1)
+then least [] [] (z ∷ zs) a b = absurd b
+then least [] (y ∷ ys) zs a b = absurd a
+then least (x ∷ xs) [] zs a b = absurd a
+then least (x ∷ xs) (y ∷ ys) [] a b = absurd b
+
+settled-append : (xs ys : List Sight) (r : ℕ) → settled (xs ++ ys) r ≡ settled xs r ++ settled ys r
+settled-append [] ys r = refl
+settled-append (x ∷ xs) ys r = ap (λ (l : List Sight). settled_one r x ∷ l) (settled-append xs ys r)
+
+-- a change, with what was seen between its two numbers
+pub saw : (v w : View) (b e : ℕ) (more : List Sight) → v.seen ≤ b → b ≤ e → w.sights ≡ settled (settled v.sights b ++ more) e → Sees v w
+saw v w b e more low order is = (
+  settled (settled v.sights b) e,
+  settled more e,
+  then v.seen v.sights (settled v.sights b) (settled (settled v.sights b) e) (are v.seen b v.sights low) (are v.seen e (settled v.sights b) (omega (arith, low, order))),
+  is ∙ settled-append (settled v.sights b) more e,
+)
+
+-- one of which only its beginning was drawn
+pub saw_none : (layout : Layout) (v u w : View) (b : ℕ) (f : Full) → IsFull layout (beginning v b) u f → v.seen ≤ b → w ≡ dropping_beginning u → Sees v w
+saw_none layout v u w b f full low is = (
+  settled v.sights b,
+  map (sight_by (beginning v b)) full.1.reads,
+  are v.seen b v.sights low,
+  ap (λ (x : View). x.sights) is ∙ ap (λ (x : View). x.sights) full.1.is,
+)
