@@ -116,7 +116,7 @@ pub record Listed (s : Sight) (i : ℕ) (x : Life) : Type 0 where
 
 pub record SightOk (clock : ℕ) (lives : ℕ → List Life) (s : Sight) : Type 0 where
   pub since : s.since ≤ clock
-  pub until : s.until ≤ open-end
+  pub until : (s.until ≤ clock) ⊎ (s.until ≡ open-end)
   pub listed : (n : ℕ) (e : Seen) → get_elem? s.listed n ≡ some e → StoodAs lives s e
   -- each life of the bucket that was hashed before the sighting began, and that nobody began to unhash before its second number
   pub whole : s.whole ≡ 1 → (b : ℕ) → s.bucket ≡ b ∷ [] → (i n : ℕ) (x : Life) → get_elem? (lives i) n ≡ some x → x.bucket ≡ b → x.linked < s.since → s.until ≤ x.leaving → Listed s i x
