@@ -1,11 +1,14 @@
 -- A slot found in a walked list.
 use Rattle.std.proofs.Common.{◌≡◌, ◌≢◌, ◌==◌, ◌%◌, ℕ, ◌+◌, ◌*◌, ◌<◌, ◌≤◌, List, [], ◌∷◌, ◌++◌, inl, ⊎_elim, Option, None, Some, true, false, cond, Bool, ne_eqb, eq-eqb, sym, refl, ap, ◌∙◌, arith, subst, length, append_assoc, find, eqb, slice_index}
+use mathlib.Core.Logic.{dite}
+use native.Mathlib.Decide.{ℕ_discrete}
 use Rattle.table_rule.specs.Lists.{times, stands, slots_of, Each}
 use Rattle.table_rule.specs.ChainsOk.{first_link}
 use Rattle.table_rule.specs.Owners.{time_waits, IsPlace}
-use Rattle.table_rule.specs.Plays.{card_in, PlacesListed}
+use Rattle.table_rule.specs.Plays.{card_in, PlacesListed, PlacesApart}
 use Rattle.table_rule.specs.Words.{words_of}
 use Rattle.table_rule.specs.declared.view.BookView.{BookView}
+use Rattle.table_rule.specs.declared.view.Change.{Change}
 use Rattle.sock_card.specs.Words.{packed}
 use Rattle.bucket_locks.specs.Locks.{WalkKnown}
 use Rattle.nulls_chain.specs.declared.keeping.Place.{Place}
@@ -17,7 +20,7 @@ use Rattle.table_rule.specs.Sole.{IsSole, SoleKnown, IsRead, chain_from}
 use Rattle.table_rule.specs.declared.view.ChainView.{ChainView}
 use Rattle.std.specs.Option.{option_or}
 use Rattle.std.proofs.lemmas.List.Folds.{find-append}
-use Rattle.nulls_chain.specs.Changes.{Stands, WasChain, IsPlaced, going, waits_as, wait_in}
+use Rattle.nulls_chain.specs.Changes.{Stands, WasChain, IsPlaced, IsApart, OthersStay, OtherPlacesStay, going, waits_as, wait_in}
 
 -- the front ends in that slot of the table, or is empty
 abbrev pub EndsAt : Layout → Option ℕ → List Seen → Type 0
@@ -164,3 +167,24 @@ place_listed layout v b place locked met book k p =
     let listed : PlacesListed v = ⊎_elim (λ z. absurd (omega (arith, met, z))) (λ l. l) k.3 in
     let there = listed place.bucket p.0 locked met (subst (λ (x : BookView). IsPlace x p.0) (sym book) p.4) p.1 in
     subst (λ (i : ℕ). (0 < stands i v.chain.walked) × (card_in i v.chain.walked ≡ words_of (packed place.card))) p.2 (there.0, there.1 k.0 ∙ p.3)
+
+-- A place of the pass in a chain that was walked to its end, and the other places
+module _ (layout : Layout) (v : View) (place : Place) (locked : v.chain.locked ≡ place.bucket ∷ []) (met : v.chain.met ≡ 1) (k : WalkKnown layout v) (p : IsPlaced place v.book) where
+  mine : (0 < stands place.slot v.chain.walked) × (card_in place.slot v.chain.walked ≡ words_of (packed place.card))
+  mine = place_listed layout v v.book place locked met refl k p
+
+  -- those of other buckets have other slots
+  pub is_apart : PlacesApart v → IsApart place v.book
+  is_apart apart hash h at = dite (ℕ_discrete hash.bucket place.bucket)
+      (λ e. e)
+      (λ ne. absurd (omega (arith, mine.0, apart place.bucket hash locked h ne, ap (λ (i : ℕ). stands i v.chain.walked) at)))
+
+  -- and so has each of another card
+  pub other_slot : IsApart place v.book → (hash : Change) → hash.card ≢ words_of (packed place.card) → IsPlace v.book hash → hash.slot ≢ place.slot
+  other_slot apart hash other h at =
+      let listed : PlacesListed v = ⊎_elim (λ z. absurd (omega (arith, met, z))) (λ l. l) k.3 in
+      let there = listed place.bucket hash locked met h (apart hash h at) in
+      other (sym (there.1 k.0) ∙ (ap (λ (i : ℕ). card_in i v.chain.walked) at ∙ mine.1))
+
+  pub others_stay : (w : View) → IsApart place v.book → OthersStay place.slot v w → OtherPlacesStay place v w
+  others_stay w apart stay hash other h = stay hash (other_slot apart hash other h) h

@@ -87,6 +87,14 @@ OthersStay slot v w = (hash : Change) → hash.slot ≢ slot → IsPlace v.book 
 abbrev pub PlacesStay : View → View → Type 0
 PlacesStay v w = (hash : Change) → IsPlace v.book hash → IsPlace w.book hash
 
+-- each place of the pass with another card than this place's stays one
+abbrev pub OtherPlacesStay : Place → View → View → Type 0
+OtherPlacesStay place v w = (hash : Change) → hash.card ≢ words_of (packed place.card) → IsPlace v.book hash → IsPlace w.book hash
+
+-- no place of the pass in another bucket has this place's slot
+abbrev pub IsApart : Place → BookView → Type 0
+IsApart place b = (hash : Change) → IsPlace b hash → hash.slot ≡ place.slot → hash.bucket ≡ place.bucket
+
 -- the pass hashed this card, no TIME_WAIT's, into this slot of this bucket, and has not begun to unhash it
 abbrev pub IsPlaced : Place → BookView → Type 0
 IsPlaced place b = (hash : Change) × (hash.bucket ≡ place.bucket) × (hash.slot ≡ place.slot) × (hash.card ≡ words_of (packed place.card)) × IsPlace b hash

@@ -58,6 +58,7 @@ fn link<H: Halt>(
     ensures seen { (view steps.new).seen ≡ (view steps.old).seen }
     ensures sights { (view steps.new).sights ≡ (view steps.old).sights }
     ensures twice { (view steps.new).twice ≡ (view steps.old).twice }
+    ensures hand { steps.new.seat.me.1 ≡ steps.old.seat.me.1 }
     ensures book { ((view steps.new).book ≡ record (view steps.old).book { opened = carding (view steps.old).book.opened (words_of card.now) }) × ((view steps.new).done ≡ 1) }
 {
     let head = chains.step_again_head(steps, bucket);
@@ -99,6 +100,7 @@ pub(crate) fn hash_numbered<H: Halt>(
     ensures rest { IfOk result (λ d. Rest (view steps.old) (view steps.new)) }
     ensures saw { Sees (view steps.old) (view steps.new) }
     ensures twice { (view steps.new).twice ≡ (view steps.old).twice }
+    ensures hand { steps.new.seat.me.1 ≡ steps.old.seat.me.1 }
     ensures full { IfErr result (λ f. (b : ℕ) × (w : View) × IsFull (layout_of chains.now) (beginning (view steps.old) b) w f × ((view steps.old).seen ≤ b) × ((view steps.new) ≡ dropping_beginning w)) }
     ensures same { IfErr result (λ f. (view steps.new).book.closed ≡ (view steps.old).book.closed) }
 {
@@ -144,6 +146,7 @@ pub(crate) fn unhash_numbered<H: Halt>(
     ensures rest { Rest (view steps.old) (view steps.new) }
     ensures saw { Sees (view steps.old) (view steps.new) }
     ensures twice { (view steps.new).twice ≡ (view steps.old).twice }
+    ensures hand { steps.new.seat.me.1 ≡ steps.old.seat.me.1 }
     ensures at { IsAt (layout_of chains.now) locked.now (view steps.new) }
     ensures gone { (view steps.new).chain ≡ record (view steps.old).chain { walked = without slot (view steps.old).chain.walked } }
 {
@@ -176,6 +179,7 @@ fn leave<H: Halt>(
     ensures seen { (view steps.new).seen ≡ (view steps.old).seen }
     ensures sights { (view steps.new).sights ≡ (view steps.old).sights }
     ensures twice { (view steps.new).twice ≡ (view steps.old).twice }
+    ensures hand { steps.new.seat.me.1 ≡ steps.old.seat.me.1 }
     ensures gone { (view steps.new).chain ≡ record (view steps.old).chain { walked = without slot (view steps.old).chain.walked } }
     ensures book { ((view steps.new).book ≡ (view steps.old).book) × ((view steps.new).done ≡ 1) }
 {

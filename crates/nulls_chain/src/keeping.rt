@@ -70,6 +70,7 @@ pub fn hash(
     ensures rest { IfOk result (λ place. Rest (known pass.old) (known pass.new)) }
     ensures saw { Sees (known pass.old) (known pass.new) }
     ensures twice { (known pass.new).twice ≡ (known pass.old).twice }
+    ensures hand { pass.new.steps.seat.me.1 ≡ pass.old.steps.seat.me.1 }
     ensures full { IfErr result (λ f. (b : ℕ) × (w : View) × IsFull (layout_of chains.now) (beginning (known pass.old) b) w f × ((known pass.old).seen ≤ b) × ((known pass.new) ≡ dropping_beginning w)) }
     ensures same { IfErr result (λ f. (known pass.new).book.closed ≡ (known pass.old).book.closed) }
     ensures room { vec_capacity pass.new.changes ≡ vec_capacity pass.old.changes }
@@ -112,6 +113,7 @@ pub fn hash_with<H: Halt>(
     ensures rest { IfOk result (λ place. Rest (known pass.old) (known pass.new)) }
     ensures saw { Sees (known pass.old) (known pass.new) }
     ensures twice { (known pass.new).twice ≡ (known pass.old).twice }
+    ensures hand { pass.new.steps.seat.me.1 ≡ pass.old.steps.seat.me.1 }
     ensures full { IfErr result (λ f. (b : ℕ) × (w : View) × IsFull (layout_of chains.now) (beginning (known pass.old) b) w f × ((known pass.old).seen ≤ b) × ((known pass.new) ≡ dropping_beginning w)) }
     ensures same { IfErr result (λ f. (known pass.new).book.closed ≡ (known pass.old).book.closed) }
     ensures room { vec_capacity pass.new.changes ≡ vec_capacity pass.old.changes }
@@ -165,6 +167,7 @@ pub fn unhash_slot(chains: &Chains, pass: &mut Pass, locked: &Locked, slot: u32,
     ensures rest { Rest (known pass.old) (known pass.new) }
     ensures saw { Sees (known pass.old) (known pass.new) }
     ensures twice { (known pass.new).twice ≡ (known pass.old).twice }
+    ensures hand { pass.new.steps.seat.me.1 ≡ pass.old.steps.seat.me.1 }
     ensures at { IsAt (layout_of chains.now) locked.now (known pass.new) }
     ensures gone { (known pass.new).chain ≡ record (known pass.old).chain { walked = without slot (known pass.old).chain.walked } }
     ensures room { vec_capacity pass.new.changes ≡ vec_capacity pass.old.changes }
@@ -201,6 +204,7 @@ pub(crate) fn unhash_slot_with<H: Halt>(
     ensures rest { Rest (known pass.old) (known pass.new) }
     ensures saw { Sees (known pass.old) (known pass.new) }
     ensures twice { (known pass.new).twice ≡ (known pass.old).twice }
+    ensures hand { pass.new.steps.seat.me.1 ≡ pass.old.steps.seat.me.1 }
     ensures at { IsAt (layout_of chains.now) locked.now (known pass.new) }
     ensures gone { (known pass.new).chain ≡ record (known pass.old).chain { walked = without slot (known pass.old).chain.walked } }
     ensures room { vec_capacity pass.new.changes ≡ vec_capacity pass.old.changes }

@@ -1,11 +1,12 @@
-ghost use Rattle.std.specs.Prelude.{◌≡◌, ◌+◌, ◌≤◌, ◌<◌, [], false, true, vec_len, vec_capacity, IfSome, IfNone};
+ghost use Rattle.std.specs.Prelude.{◌≡◌, ◌+◌, ◌≤◌, ◌<◌, [], false, true, vec_len, vec_capacity, IfSome, IfNone, ◌⊎◌};
 ghost use Rattle.sock_card.specs.Words.{packed};
 ghost use Rattle.table_rule.specs.Calls.{IsIdle, HasShares, layout_of};
 ghost use Rattle.table_rule.specs.Passes.{IsPassOf, known};
 ghost use Rattle.table_rule.specs.Plays.{without};
 ghost use Rattle.table_rule.specs.Words.{words_of};
 ghost use Rattle.bucket_locks.specs.Locks.{IsAt, WalkKnown};
-ghost use Rattle.nulls_chain.specs.Changes.{Adds, Rest, Sees, OthersStay, TwoDrawn, IsPlaced, TookWait, HasNoWait};
+ghost use Rattle.nulls_chain.specs.Changes.{Adds, Rest, Sees, TwoDrawn, TookWait, HasNoWait};
+ghost use Rattle.nulls_chain.specs.Changes.{IsPlaced, IsApart, OthersStay, OtherPlacesStay};
 
 use super::finding::{find_wait, walk_to_end};
 use super::halting::{Halt, Unhalted};
@@ -28,10 +29,14 @@ pub fn unhash(chains: &Chains, pass: &mut Pass, locked: &mut Locked, place: Plac
     ensures idle { IsIdle (known pass.new).slot × ((known pass.new).book.opened ≡ []) }
     ensures change { Adds (known pass.old) (known pass.new) 0 locked.old.bucket place.slot (words_of (packed place.card)) }
     ensures stay { OthersStay place.slot (known pass.old) (known pass.new) }
+    // Where the chain was walked before, its caller knows that no place of another bucket has this slot.
+    ensures others { ((known pass.old).chain.met ≡ 0) ⊎ IsApart place (known pass.old).book
+        → OtherPlacesStay place (known pass.old) (known pass.new) }
     ensures share { TwoDrawn (known pass.old) (known pass.new) }
     ensures rest { Rest (known pass.old) (known pass.new) }
     ensures saw { Sees (known pass.old) (known pass.new) }
     ensures twice { (known pass.new).twice ≡ (known pass.old).twice }
+    ensures hand { pass.new.steps.seat.me.1 ≡ pass.old.steps.seat.me.1 }
     ensures at { IsAt (layout_of chains.now) locked.new (known pass.new) × (locked.new.started ≡ true) × (locked.new.bucket ≡ locked.old.bucket) }
     ensures whole { ((known pass.new).chain.met ≡ 1) × ((known pass.new).chain.ahead ≡ []) }
     ensures gone { (known pass.old).chain.met ≡ 1 → (known pass.new).chain ≡ record (known pass.old).chain { walked = without place.slot (known pass.old).chain.walked } }
@@ -60,10 +65,14 @@ pub fn unhash_with<H: Halt>(
     ensures idle { IsIdle (known pass.new).slot × ((known pass.new).book.opened ≡ []) }
     ensures change { Adds (known pass.old) (known pass.new) 0 locked.old.bucket place.slot (words_of (packed place.card)) }
     ensures stay { OthersStay place.slot (known pass.old) (known pass.new) }
+    // Where the chain was walked before, its caller knows that no place of another bucket has this slot.
+    ensures others { ((known pass.old).chain.met ≡ 0) ⊎ IsApart place (known pass.old).book
+        → OtherPlacesStay place (known pass.old) (known pass.new) }
     ensures share { TwoDrawn (known pass.old) (known pass.new) }
     ensures rest { Rest (known pass.old) (known pass.new) }
     ensures saw { Sees (known pass.old) (known pass.new) }
     ensures twice { (known pass.new).twice ≡ (known pass.old).twice }
+    ensures hand { pass.new.steps.seat.me.1 ≡ pass.old.steps.seat.me.1 }
     ensures at { IsAt (layout_of chains.now) locked.new (known pass.new) × (locked.new.started ≡ true) × (locked.new.bucket ≡ locked.old.bucket) }
     ensures whole { ((known pass.new).chain.met ≡ 1) × ((known pass.new).chain.ahead ≡ []) }
     ensures gone { (known pass.old).chain.met ≡ 1 → (known pass.new).chain ≡ record (known pass.old).chain { walked = without place.slot (known pass.old).chain.walked } }
@@ -93,6 +102,7 @@ pub fn unhash_tw(chains: &Chains, pass: &mut Pass, locked: &mut Locked, name: u3
     ensures share { TwoDrawn (known pass.old) (known pass.new) }
     ensures rest { Rest (known pass.old) (known pass.new) }
     ensures twice { (known pass.new).twice ≡ (known pass.old).twice }
+    ensures hand { pass.new.steps.seat.me.1 ≡ pass.old.steps.seat.me.1 }
     ensures at { IsAt (layout_of chains.now) locked.new (known pass.new) × (locked.new.bucket ≡ locked.old.bucket) }
     ensures room { vec_capacity pass.new.changes ≡ vec_capacity pass.old.changes }
     ensures len { vec_len pass.new.changes ≤ vec_len pass.old.changes + 1 }
