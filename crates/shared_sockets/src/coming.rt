@@ -60,6 +60,7 @@ pub fn take_out(chains: &Chains, pass: &mut Pass, locked: &Locked, found: &Optio
     ensures goes { Goes (known pass.old) (known pass.new) locked.now.bucket found.now }
     ensures stay { (x : Stood) → found.now ≡ Some x → OthersStay x.slot (known pass.old) (known pass.new) }
     ensures share { TwoDrawn (known pass.old) (known pass.new) }
+    ensures hand { pass.new.steps.seat.me.1 ≡ pass.old.steps.seat.me.1 }
     ensures room { vec_capacity pass.new.changes ≡ vec_capacity pass.old.changes }
     ensures len { vec_len pass.new.changes ≤ vec_len pass.old.changes + 1 }
 {
@@ -111,6 +112,7 @@ fn admit(
     ensures place { IfOk result (λ i. IsPlaced i.place (known pass.new).book) }
     ensures stay { PlacesStay (known pass.old) (known pass.new) }
     ensures share { FourDrawn (known pass.old) (known pass.new) }
+    ensures hand { pass.new.steps.seat.me.1 ≡ pass.old.steps.seat.me.1 }
     ensures room { vec_capacity pass.new.changes ≡ vec_capacity pass.old.changes }
     ensures len { vec_len pass.new.changes ≤ vec_len pass.old.changes + 2 }
 {
@@ -161,6 +163,7 @@ pub fn insert<R: Wait>(
     ensures place { IfOk result (λ i. IsPlaced i.place (known pass.new).book) }
     ensures stay { PlacesStay (known pass.old) (known pass.new) }
     ensures share { FourDrawn (known pass.old) (known pass.new) }
+    ensures hand { pass.new.steps.seat.me.1 ≡ pass.old.steps.seat.me.1 }
     ensures room { vec_capacity pass.new.changes ≡ vec_capacity pass.old.changes }
     ensures len { vec_len pass.new.changes ≤ vec_len pass.old.changes + 2 }
 {
@@ -200,6 +203,7 @@ pub fn add<R: Wait>(
     ensures place { IfOk result (λ place. IsPlaced place (known pass.new).book) }
     ensures stay { PlacesStay (known pass.old) (known pass.new) }
     ensures share { TwoDrawn (known pass.old) (known pass.new) }
+    ensures hand { pass.new.steps.seat.me.1 ≡ pass.old.steps.seat.me.1 }
     ensures room { vec_capacity pass.new.changes ≡ vec_capacity pass.old.changes }
     ensures len { vec_len pass.new.changes ≤ vec_len pass.old.changes + 1 }
 {

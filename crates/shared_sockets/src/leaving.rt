@@ -2,7 +2,7 @@
 
 ghost use Rattle.std.specs.Prelude.{◌≡◌, ◌+◌, ◌<◌, ◌≤◌, [], vec_len, vec_capacity};
 ghost use Rattle.chain_book.specs.Homes.{home};
-ghost use Rattle.nulls_chain.specs.Changes.{IsPlaced, OthersStay, PlacesStay, TwoDrawn};
+ghost use Rattle.nulls_chain.specs.Changes.{IsPlaced, OthersStay, OtherPlacesStay, PlacesStay, TwoDrawn};
 ghost use Rattle.shared_sockets.specs.Alone.{LeavesAlone, ReapsAlone, WaitsAlone};
 ghost use Rattle.shared_sockets.specs.Comings.{FourDrawn};
 ghost use Rattle.shared_sockets.specs.Leavings.{Leaves, Reaps, Waits};
@@ -38,7 +38,9 @@ pub fn remove<R: Wait>(chains: &Chains, rt: &R, pass: &mut Pass, place: Place)
     ensures goes { Leaves place (known pass.old) (known pass.new) }
     ensures alone { LeavesAlone (layout_of chains.now) place (known pass.old) (known pass.new) }
     ensures stay { OthersStay place.slot (known pass.old) (known pass.new) }
+    ensures others { OtherPlacesStay place (known pass.old) (known pass.new) }
     ensures share { TwoDrawn (known pass.old) (known pass.new) }
+    ensures hand { pass.new.steps.seat.me.1 ≡ pass.old.steps.seat.me.1 }
     ensures room { vec_capacity pass.new.changes ≡ vec_capacity pass.old.changes }
     ensures len { vec_len pass.new.changes ≡ vec_len pass.old.changes + 1 }
 {
@@ -77,7 +79,9 @@ pub fn time_wait<R: Wait>(
     ensures answer { Waits (layout_of chains.now) from place card.now result (known pass.old) (known pass.new) }
     ensures alone { WaitsAlone (layout_of chains.now) from place card.now result (known pass.old) (known pass.new) }
     ensures stay { OthersStay place.slot (known pass.old) (known pass.new) }
+    ensures others { OtherPlacesStay place (known pass.old) (known pass.new) }
     ensures share { FourDrawn (known pass.old) (known pass.new) }
+    ensures hand { pass.new.steps.seat.me.1 ≡ pass.old.steps.seat.me.1 }
     ensures room { vec_capacity pass.new.changes ≡ vec_capacity pass.old.changes }
     ensures len { vec_len pass.new.changes ≤ vec_len pass.old.changes + 2 }
 {
@@ -115,6 +119,7 @@ pub fn remove_tw<R: Wait>(
     ensures alone { ReapsAlone (layout_of chains.now) bucket name result (known pass.old) (known pass.new) }
     ensures stay { PlacesStay (known pass.old) (known pass.new) }
     ensures share { TwoDrawn (known pass.old) (known pass.new) }
+    ensures hand { pass.new.steps.seat.me.1 ≡ pass.old.steps.seat.me.1 }
     ensures room { vec_capacity pass.new.changes ≡ vec_capacity pass.old.changes }
     ensures len { vec_len pass.new.changes ≤ vec_len pass.old.changes + 1 }
 {

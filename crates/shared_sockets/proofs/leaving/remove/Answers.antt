@@ -48,6 +48,11 @@ returns-clause-stay g c = λ hash ne place.
     let lv = ap (λ (y : Sat). y.0) c.lock-locked.ensures.view in
     subst (λ (y : View). IsPlace y.book hash) (sym (ap (λ (y : Sat). y.0) c.unlock.ensures.view)) (c.unhash.ensures.stay hash ne (subst (λ (y : View). IsPlace y.book hash) (sym lv) place))
 
+pub returns-clause-others : goal.returns-clause-others
+returns-clause-others g c = λ hash other place.
+    let lv = ap (λ (y : Sat). y.0) c.lock-locked.ensures.view in
+    subst (λ (y : View). IsPlace y.book hash) (sym (ap (λ (y : Sat). y.0) c.unlock.ensures.view)) (c.unhash.ensures.others (inl (ap (λ (y : View). y.chain.met) lv)) hash other (subst (λ (y : View). IsPlace y.book hash) (sym lv) place))
+
 pub returns-clause-share : goal.returns-clause-share
 returns-clause-share g c = λ more share.
     let lv = ap (λ (y : Sat). y.0) c.lock-locked.ensures.view in

@@ -6,6 +6,7 @@ use Rattle.table_rule.specs.Plays.{Sat, locking}
 use Rattle.table_rule.specs.declared.view.View.{View}
 use Rattle.table_rule.proofs.ChainSteps.{cons_is}
 use Rattle.nulls_chain.specs.Changes.{Adds, IsPlaced, WasChain}
+use Rattle.nulls_chain.proofs.Found.{is_apart, other_slot}
 use Rattle.shared_sockets.specs.Rows.{card_words}
 use Rattle.shared_sockets.specs.Comings.{HashesTo}
 use Rattle.shared_sockets.proofs.Hashes.{Said, waits_alone as alone_where_waits, hashes_to, known_after, placed_still, met_still}
@@ -86,6 +87,21 @@ returns-clause-stay g c = λ hash ne place.
     let is : w ≡ record (locking v c.args.place.bucket) { chain = w.chain } =
     ap (λ (x : Sat). x.0) c.walk_to_end.ensures.kept ∙ ap (λ (x : Sat). record x.0 { chain = w.chain }) c.lock-locked.ensures.view in
     subst (λ (y : View). IsPlace y.book hash) (sym (ap (λ (y : Sat). y.0) c.unlock.ensures.view)) (c.unhash.ensures.stay hash ne (c.hash-answer.ensures.stay hash (subst (λ (y : View). IsPlace y.book hash) (sym is) place)))
+
+pub returns-clause-others : goal.returns-clause-others
+returns-clause-others g c = λ hash other place.
+    let v : View = known c.args.pass.now in
+    let p = c.args.place in
+    let u : View = view c.lock-locked.new.steps in
+    let w : View = view c.walk_to_end.new.steps in
+    let s = c.walk_to_end.ensures in
+    let lv : u ≡ locking v p.bucket = ap (λ (y : Sat). y.0) c.lock-locked.ensures.view in
+    let b0 : c.lock-locked.result.bucket ≡ p.bucket = cons_is c.lock-locked.result.bucket p.bucket (sym c.lock-locked.ensures.at.0 ∙ ap (λ (y : View). y.chain.locked) lv) in
+    let is : w ≡ record (locking v p.bucket) { chain = w.chain } = ap (λ (y : Sat). y.0) s.kept ∙ ap (λ (y : View). record y { chain = w.chain }) lv in
+    let locked : w.chain.locked ≡ p.bucket ∷ [] = s.at.0.0 ∙ ap (λ (n : ℕ). n ∷ []) (s.at.2 ∙ b0) in
+    let placed : IsPlaced p w.book = subst (λ (y : View). IsPlaced p y.book) (sym is) c.requires.place in
+    let apart = is_apart (layout_of c.args.chains.now) w p locked s.whole.0 s.known placed (s.apart (ap (λ (y : View). y.chain.met) lv)) in
+    returns-clause-stay g c hash (other_slot (layout_of c.args.chains.now) w p locked s.whole.0 s.known placed apart hash other (subst (λ (y : View). IsPlace y.book hash) (sym is) place)) place
 
 pub returns-clause-share : goal.returns-clause-share
 returns-clause-share g c = λ more share.
