@@ -122,7 +122,7 @@ record ToldReap (card : Card) (was : Bool) : Type 0 where
 
 tell_reap : (card : Card) (found : Option Hashed) → ToldReap card (was_found found)
 tell_reap card None = record { unhash = None; is = tt; same = refl }
-tell_reap card (Some x) = record { unhash = Some (change 0 x.slot card acts.Unhash); is = record { act = refl; card_is = refl }; same = refl }
+tell_reap card (Some x) = record { unhash = Some (change 0 x.slot card acts.Unhash); is = record { act = refl; kind = refl; name = refl }; same = refl }
 
 record Ran {R : Type 0} (t : Tables) (p : Asking R) (ended : Ended R) : Type 0 where
   deeds : List Deed

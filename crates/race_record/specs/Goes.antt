@@ -46,9 +46,15 @@ Admits card (hashed c (Some u)) = ⊥
 Admits card (kept_out name) = ⊥
 Admits card (no_slot number owned held) = Unit {0}
 
+-- the unhash of a TIME_WAIT that was sought by the card's name
+pub record IsReap (card : Card) (c : Change) : Type 0 where
+  pub act : c.act ≡ acts.Unhash
+  pub kind : c.card.kind ≡ card.kind
+  pub name : c.card.name ≡ card.name
+
 abbrev pub IsReapOf : Card → Option Change → Type 0
 IsReapOf card None = Unit {0}
-IsReapOf card (Some u) = IsUnhashOf card u
+IsReapOf card (Some u) = IsReap card u
 
 abbrev pub hashed_of : Change → Hashed
 hashed_of c = record { slot = c.slot; card = c.card }
