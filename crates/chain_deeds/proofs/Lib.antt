@@ -1,0 +1,10 @@
+pub mod Found
+pub mod Seen
+pub mod Stays
+pub mod Left
+pub mod Alone
+pub mod Comes
+pub mod Goes
+pub mod Reaps
+pub mod Rooms
+pub mod Holds

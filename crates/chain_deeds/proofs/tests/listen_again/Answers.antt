@@ -1,0 +1,14 @@
+use Rattle.std.proofs.Common.{arith}
+use Rattle.chain_deeds.proofs.tests.listen_again.Goals as goal
+
+pub remove-requires-clause-room : goal.remove-requires-clause-room
+remove-requires-clause-room g c = let z = c.in-Ok.ensures.room 2 c.requires.room in omega (arith, z)
+
+pub remove-requires-clause-share : goal.remove-requires-clause-share
+remove-requires-clause-share g c = let z = c.add.ensures.share 4 c.requires.share in omega (arith, z)
+
+pub listen-requires-clause-room : goal.listen-requires-clause-room
+listen-requires-clause-room g c = c.remove.ensures.room 1 (c.in-Ok.ensures.room 2 c.requires.room)
+
+pub listen-requires-clause-share : goal.listen-requires-clause-share
+listen-requires-clause-share g c = c.remove.ensures.share 2 (c.add.ensures.share 4 c.requires.share)

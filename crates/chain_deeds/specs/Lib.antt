@@ -1,0 +1,4 @@
+pub mod Sizes
+pub mod Sides
+pub mod Made
+pub mod Answers
