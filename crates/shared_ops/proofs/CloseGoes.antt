@@ -1,0 +1,186 @@
+-- How the plans of `close` and `drop` go on.
+use Rattle.std.proofs.Common.{◌≡◌, ℕ, ◌+◌, ◌≤◌, ◌%◌, List, [], ◌∷◌, None, Result, Ok, Err, refl, sym, ap, subst, ◌∙◌, arith}
+use Rattle.sock_card.specs.declared.owner.Owner.{Owner}
+use Rattle.sock_card.specs.declared.owner.State.{State}
+use Rattle.sock_card.specs.declared.card.Card.{Card}
+use Rattle.sock_card.specs.declared.card.Kind.TheVariants as kinds
+use Rattle.sock_card.specs.Became.{as_waiting}
+use Rattle.turn_table.specs.declared.note.Placed.{Placed}
+use Rattle.turn_table.specs.Journals.{placed}
+use Rattle.bind_buckets.specs.declared.request.Request.TheVariants as requests
+use Rattle.bind_buckets.specs.declared.request.Answer.TheVariants as answers
+use Rattle.bind_buckets.specs.declared.request.Entry.{Entry}
+use Rattle.bind_buckets.specs.Turned.{View, Gave, IsAlone, KnowsAll}
+use Rattle.chain_book.specs.declared.book.Change.{Change}
+use Rattle.chain_book.specs.declared.outcome.Place.{Place}
+use Rattle.chain_book.specs.declared.shape.Shape.{Shape}
+use Rattle.chain_book.specs.Homes.{home}
+use Rattle.flat_list.specs.Owned.{card_as}
+use Rattle.nulls_chain.specs.declared.keeping.Place.{Place as Stood}
+use Rattle.table_rule.specs.Sole.{IsNow}
+use Rattle.table_rule.specs.Calls.{HasShares}
+use Rattle.table_rule.specs.declared.view.View.{View as ChainView}
+use Rattle.table_model.specs.declared.operation.OpEnd.{OpEnd}
+use Rattle.table_model.specs.declared.operation.OpEnd.TheVariants as errors
+use Rattle.table_model.specs.Own.{Mine, card_of}
+use Rattle.table_model.specs.Asking.{Asking, ends, asks, unhashes}
+use Rattle.table_model.specs.Operations as plan
+use Rattle.table_model.specs.Operations.{when_done, wait_of, close_full, close_hashed, waits_in, leave, waiting, no_slot}
+use Rattle.race_record.specs.Deeds.{Deed, Tried, hashed, added, left}
+use Rattle.race_record.specs.Deeds as deeds
+use Rattle.race_record.specs.Goes.{IsUnhashAt}
+use Rattle.chain_deeds.specs.Sides.{Side}
+use Rattle.chain_deeds.specs.Made.{Does}
+use Rattle.shared_ops.specs.declared.sock.Sock.{Sock}
+use Rattle.shared_ops.specs.declared.sock.Sock.TheVariants as socks
+use Rattle.shared_ops.specs.declared.leaving.Closed.{Closed}
+use Rattle.shared_ops.specs.Socks.{mine_of, FitsState, without_socket}
+use Rattle.shared_ops.specs.Closes.{Replaces, GoesAlone, ClosedBy, ClosedByAlone, Leaves, became, close_answer, drop_answer, is_gone, leave_entry, spot_of}
+use Rattle.shared_ops.specs.Goes.{Went, LeftOff, AskedAll, AreAsked}
+use Rattle.shared_ops.specs.Leads.{Leads}
+use Rattle.shared_ops.specs.Stands.{place_in}
+use Rattle.shared_ops.proofs.Goes.{deed_at, entry_is, by_entry, by_added, by_left, does_both, does_entry, does_none, One, all_one, went_alone}
+
+abbrev pub wait_entry : Owner → Entry
+wait_entry a = record { request = requests.ToTimeWait a.name; answer = answers.Done }
+
+-- a TIME_WAIT belongs in the chain of its socket
+pub same_home : (shape : Shape) (seed : ℕ) (a : Owner) (stamp extra : ℕ) → home shape seed (card_as kinds.TimeWait (as_waiting a) stamp) ≡ home shape seed (card_as kinds.Full a extra)
+unfolding home
+same_home shape seed a stamp extra = refl
+
+none_of : (place : ℕ) (v w : View) (xs : List (Placed Entry)) → AreAsked place [] xs → Gave v w xs → Gave v w []
+none_of place v w [] are gave = gave
+none_of place v w (x ∷ xs) are gave = absurd are
+
+-- nothing was asked in a turn
+pub all_none : (place : ℕ) (v w : View) → AskedAll place [] v w → Gave v w []
+all_none place v w all = none_of place v w all.xs all.asked all.gave
+
+gave_one : (count port : ℕ) (e : Entry) (v w : View) (one : One (port % count) e v w) → Gave v w (placed (port % count) one.x.note ∷ [])
+gave_one count port e v w one = subst (λ (p : Placed Entry). Gave v w (p ∷ [])) (sym (entry_is count port e.request e.answer one.x one.is)) one.gave
+
+-- a plan was left off before its first question
+pub left_first : {R : Type 0} (count name place : ℕ) (p : Asking R) (v w : View) (c d : Side) → c ≡ d → AskedAll place [] v w → LeftOff count name p v w c d
+left_first count name place p v w c d same all =
+    record { rest = p; deeds = []; leads = refl; back = []; gives = tt; gave = all_none place v w all; does = subst (λ (k : Side). Does [] c k) same (does_none c) }
+
+module _ (count : ℕ) (m : Mine) (moment : ℕ) (v w : View) (c d : Side) where
+  abbrev closing : Asking plan.Closed
+  closing = close_full c.layout.shape c.layout.seed m (wait_of m moment)
+
+  abbrev card : Card
+  card = card_of kinds.TimeWait (wait_of m moment)
+
+  -- a slot was free
+  pub close_waits : (o : Owner) (k : Card) (p : Place) → o ≡ as_waiting m.owner → k ≡ card_as kinds.TimeWait o moment → Replaces (place_in kinds.Full m) k p c d
+      → AskedAll (m.owner.port % count) (wait_entry m.owner ∷ []) v w
+      → Went count closing v w c d (ends (waiting (record { owner = o; extra = moment; place = p })))
+  close_waits o k p o_is k_is waits_as all =
+      let one = all_one (m.owner.port % count) (wait_entry m.owner) v w all in
+      let same : k ≡ card = k_is ∙ ap (λ (x : Owner). card_as kinds.TimeWait x moment) o_is in
+      let waits : Replaces (place_in kinds.Full m) card p c d = subst (λ (x : Card). Replaces (place_in kinds.Full m) x p c d) same waits_as in
+      let slot : ℕ = waits.hash.slot in
+      let tried : Tried = hashed waits.hash None in
+      let at : p ≡ record { bucket = home c.layout.shape c.layout.seed card; slot = slot } = λ i. record { bucket = waits.bucket i; slot = waits.slot i } in
+      let stays : Mine = waits_in c.layout.shape c.layout.seed (wait_of m moment) slot in
+      let there : Asking plan.Closed = ends (waiting stays) in
+      let end : stays ≡ record { owner = o; extra = moment; place = p } =
+      ap (λ (q : Place). let x : Mine = record { owner = as_waiting m.owner; extra = moment; place = q } in x) (sym at) ∙ ap (λ (x : Owner). let y : Mine = record { owner = x; extra = moment; place = p } in y) (sym o_is) in
+      let last : List Deed = deed_at m.owner.port one.x ∷ [] in
+      let later : List Deed = left waits.unhash ∷ last in
+      let all_deeds : List Deed = added card tried ∷ later in
+      record {
+        deeds = added card tried ∷ left waits.unhash ∷ deed_at m.owner.port one.x ∷ [];
+        leads = subst (λ (n : Mine). Leads closing all_deeds (ends (waiting n))) end
+            (by_added card tried (close_hashed c.layout.shape c.layout.seed m (wait_of m moment)) later there waits.is
+            (by_left m.place (card_of kinds.Full m) (asks m.owner.port (requests.ToTimeWait m.owner.name) (when_done there)) waits.unhash last there waits.goes
+            (by_entry count m.owner.port (requests.ToTimeWait m.owner.name) answers.Done (when_done there) one.x [] there one.is refl)));
+        gave = gave_one count m.owner.port (wait_entry m.owner) v w one;
+        does = does_both (added card tried ∷ left waits.unhash ∷ []) last c d d waits.does (does_entry m.owner.port one.x d);
+      }
+
+  -- none was
+  pub close_goes : (o : Owner) (k : Card) (owned held : ℕ) → o ≡ as_waiting m.owner → k ≡ card_as kinds.TimeWait o moment → GoesAlone (place_in kinds.Full m) k owned held c d
+      → AskedAll (m.owner.port % count) (leave_entry m.owner ∷ []) v w
+      → Went count closing v w c d (ends (no_slot owned held))
+  close_goes o k owned held o_is k_is goes_as all =
+      let one = all_one (m.owner.port % count) (leave_entry m.owner) v w all in
+      let same : k ≡ card = k_is ∙ ap (λ (x : Owner). card_as kinds.TimeWait x moment) o_is in
+      let goes : GoesAlone (place_in kinds.Full m) card owned held c d = subst (λ (x : Card). GoesAlone (place_in kinds.Full m) x owned held c d) same goes_as in
+      let tried : Tried = deeds.no_slot goes.number owned held in
+      let there : Asking plan.Closed = ends (no_slot owned held) in
+      let last : List Deed = deed_at m.owner.port one.x ∷ [] in
+      let later : List Deed = left goes.unhash ∷ last in
+      record {
+        deeds = added card tried ∷ left goes.unhash ∷ deed_at m.owner.port one.x ∷ [];
+        leads = by_added card tried (close_hashed c.layout.shape c.layout.seed m (wait_of m moment)) later there tt
+            (by_left m.place (card_of kinds.Full m) (leave m.owner (no_slot owned held)) goes.unhash last there goes.goes
+            (by_entry count m.owner.port (requests.Remove m.owner.name) answers.Done (when_done there) one.x [] there one.is refl));
+        gave = gave_one count m.owner.port (leave_entry m.owner) v w one;
+        does = does_both (added card tried ∷ left goes.unhash ∷ []) last c d d goes.does (does_entry m.owner.port one.x d);
+      }
+
+-- a bound socket, and one that stands hashed
+module _ (count : ℕ) (a : Owner) (v w : View) where
+  pub bound_leaves : (c : Side) → AskedAll (a.port % count) (leave_entry a ∷ []) v w → Went count (leave a plan.gone) v w c c (ends plan.gone)
+  bound_leaves c all =
+      let one = all_one (a.port % count) (leave_entry a) v w all in
+      let there : Asking plan.Closed = ends plan.gone in
+      record {
+        deeds = deed_at a.port one.x ∷ [];
+        leads = by_entry count a.port (requests.Remove a.name) answers.Done (when_done there) one.x [] there one.is refl;
+        gave = gave_one count a.port (leave_entry a) v w one;
+        does = does_entry a.port one.x c;
+      }
+
+  pub hashed_leaves : (p : Stood) (u : Change) (c d : Side) → IsUnhashAt (spot_of p) p.card u → Does (left u ∷ []) c d → AskedAll (a.port % count) (leave_entry a ∷ []) v w
+      → Went count (unhashes (spot_of p) p.card (leave a plan.gone)) v w c d (ends plan.gone)
+  hashed_leaves p u c d is does all =
+      let one = all_one (a.port % count) (leave_entry a) v w all in
+      let there : Asking plan.Closed = ends plan.gone in
+      let last : List Deed = deed_at a.port one.x ∷ [] in
+      record {
+        deeds = left u ∷ deed_at a.port one.x ∷ [];
+        leads = by_left (spot_of p) p.card (leave a plan.gone) u last there is
+            (by_entry count a.port (requests.Remove a.name) answers.Done (when_done there) one.x [] there one.is refl);
+        gave = gave_one count a.port (leave_entry a) v w one;
+        does = does_both (left u ∷ []) last c d d does (does_entry a.port one.x d);
+      }
+
+-- where nobody else is at the tables
+pub closed_alone : {X : Type 0} (did : X → plan.Closed) (count name : ℕ) (p : Asking plan.Closed) (v w : View) (c d : Side) (r : Result X OpEnd) → 1 ≤ count → KnowsAll count w → IsAlone v → IsNow c.view
+    → ClosedBy did count name p v w c d r → ClosedByAlone did count p v.mine w.mine c d r
+closed_alone did count name p v w c d (Ok x) some knows alone now went = went_alone count p (ends (did x)) v w c d some went alone knows now
+closed_alone did count name p v w c d (Err errors.Memory) some knows alone now went = refl
+closed_alone did count name p v w c d (Err (errors.InUse n)) some knows alone now went = absurd went
+closed_alone did count name p v w c d (Err errors.NoPort) some knows alone now went = absurd went
+closed_alone did count name p v w c d (Err (errors.Taken n)) some knows alone now went = absurd went
+closed_alone did count name p v w c d (Err errors.Inval) some knows alone now went = absurd went
+closed_alone did count name p v w c d (Err errors.IsConn) some knows alone now went = absurd went
+closed_alone did count name p v w c d (Err errors.GroupFull) some knows alone now went = absurd went
+closed_alone did count name p v w c d (Err errors.GroupsFull) some knows alone now went = absurd went
+closed_alone did count name p v w c d (Err (errors.Full owned held)) some knows alone now went = absurd went
+
+-- `close` of a socket that isn't connected
+pub close_drops : (shape : Shape) (seed : ℕ) (s : Sock) (moment : ℕ) → FitsState s → ((x : Mine) → s ≡ socks.Full x → ⊥) → plan.close shape seed (mine_of s) moment ≡ plan.drop (mine_of s) plan.gone
+close_drops shape seed (socks.Unbound m) moment state other =
+    ap (λ (st : State). plan.close_as shape seed st m moment) state ∙ sym (ap (λ (st : State). plan.drop_as st m plan.gone) state)
+close_drops shape seed (socks.Bound m) moment state other =
+    ap (λ (st : State). plan.close_as shape seed st m moment) state ∙ sym (ap (λ (st : State). plan.drop_as st m plan.gone) state)
+close_drops shape seed (socks.Listening m) moment state other =
+    ap (λ (st : State). plan.close_as shape seed st m moment) state ∙ sym (ap (λ (st : State). plan.drop_as st m plan.gone) state)
+close_drops shape seed (socks.Full m) moment state other = absurd (other m refl)
+
+pub fewer : (more : ℕ) (v : ChainView) → HasShares (more + 4) v → HasShares (more + 2) v
+fewer more v may = omega arith
+
+-- what is handed back beside the answer
+module _ {E : Type 0} (count name : ℕ) (p : Asking plan.Closed) (v w : View) (c d : Side) (s : Sock) where
+  pub close_answers : (r : Result Closed E) → Leaves became count name p v w c d r → ClosedBy became count name p v w c d (without_socket (close_answer s r))
+  close_answers (Ok closed) k = k
+  close_answers (Err end) k = k
+
+  pub drop_answers : (r : Result (Unit {0}) E) → Leaves is_gone count name p v w c d r → ClosedBy is_gone count name p v w c d (without_socket (drop_answer s r))
+  drop_answers (Ok done) k = k
+  drop_answers (Err end) k = k

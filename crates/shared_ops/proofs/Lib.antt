@@ -1,0 +1,14 @@
+pub mod Goes
+pub mod There
+pub mod Groups
+pub mod Knows
+pub mod BindGoes
+mod ListenGoes
+mod ListenStands
+mod CloseGoes
+pub mod Inserted
+pub mod ConnectGoes
+pub mod SearchGoes
+pub mod SockGoes
+pub mod AcceptGoes
+mod ReapGoes

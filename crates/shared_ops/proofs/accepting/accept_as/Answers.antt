@@ -1,0 +1,132 @@
+use Rattle.std.proofs.Common.{◌≡◌, ◌+◌, ◌++◌, ◌∷◌, [], List, Err, ap, sym, subst, ◌∙◌, ◌%◌, refl}
+use Rattle.turn_table.specs.Passes.{known}
+use Rattle.sock_card.specs.declared.owner.Owner.{Owner}
+use Rattle.bind_buckets.specs.Notes.{Note}
+use Rattle.bind_buckets.specs.Bucket.{entries_of}
+use Rattle.bind_buckets.specs.OwnTold.{StandsOwn}
+use Rattle.bind_buckets.specs.Turned.{made}
+use Rattle.chain_book.specs.declared.outcome.Replace.TheVariants as rules
+use Rattle.table_rule.specs.Calls.{HasShares}
+use Rattle.table_rule.specs.Passes as chain_words
+use Rattle.table_model.specs.Own.{Mine}
+use Rattle.chain_deeds.specs.Sides.{Side, side_of}
+use Rattle.shared_ops.specs.Goes.{AskedAll, gone_of}
+use Rattle.shared_ops.specs.Hashing.{InsertsAs, PutsIn, wish_for}
+use Rattle.shared_ops.specs.Stands.{buckets_of, turned}
+use Rattle.shared_ops.proofs.Goes.{asked_all}
+use Rattle.shared_ops.proofs.Inserted.{drawn_four}
+use Rattle.shared_ops.proofs.ConnectGoes.{all_none, hashed_at, stands_still}
+use Rattle.shared_ops.proofs.AcceptGoes.{child_entry, accept_done, accept_refused, accept_left, child_stands, parent_stands}
+use Rattle.shared_ops.proofs.accepting.accept_as.Goals as goal
+
+pub returns-in-Ok-insert-clause-carried : goal.returns-in-Ok-insert-clause-carried
+returns-in-Ok-insert-clause-carried g c =
+    let a : Owner = c.args.child in
+    let l : Owner = c.args.listener.now in
+    let t = c.args.tables.now in
+    let n = buckets_of t in
+    let v = turned c.args.worker.now in
+    let w = known c.end_turn.new.pass in
+    let d = side_of t.chains c.insert.new.pass in
+    let came = c.in-Ok-insert.came in
+    let asks = c.inherit.ensures.asks in
+    let once = asks.made_is ∙ ap (λ (ms : List Note). entries_of ms ++ child_entry l a ∷ []) (c.make_room.ensures.made ∙ c.take-turn.ensures.none) in
+    let place = asks.place ∙ (c.make_room.ensures.place ∙ c.take-turn.ensures.place) in
+    let end = c.end_turn.ensures.gave v (asks.within v (c.make_room.ensures.within v c.take-turn.ensures.within)) in
+    let all = subst (λ at. AskedAll at (child_entry l a ∷ gone_of came.replaced end.0) v w) place
+    (subst (λ es. AskedAll c.inherit.new.turn.place (es ++ gone_of came.replaced end.0) v w) once end.1) in
+    let puts = subst (λ (k : Side). PutsIn (wish_for a 0 rules.Always) came.place came.replaced k d) c.make_room.ensures.side c.in-Ok-insert.ensures.inserts in
+    accept_done n l a (ap (λ (o : Owner). o.port) c.requires.child) v w (side_of t.chains c.args.worker.now.chain) d came.place came.replaced c.at_place.result end.0 puts c.at_place.ensures all
+
+pub returns-in-Ok-insert-clause-stands : goal.returns-in-Ok-insert-clause-stands
+returns-in-Ok-insert-clause-stands g c =
+    let a : Owner = c.args.child in
+    let l : Owner = c.args.listener.now in
+    let t = c.args.tables.now in
+    let n = buckets_of t in
+    let v = turned c.args.worker.now in
+    let w = known c.end_turn.new.pass in
+    let d = side_of t.chains c.insert.new.pass in
+    let came = c.in-Ok-insert.came in
+    let asks = c.inherit.ensures.asks in
+    let once = asks.made_is ∙ ap (λ (ms : List Note). entries_of ms ++ child_entry l a ∷ []) (c.make_room.ensures.made ∙ c.take-turn.ensures.none) in
+    let place = asks.place ∙ (c.make_room.ensures.place ∙ c.take-turn.ensures.place) in
+    let end = c.end_turn.ensures.gave v (asks.within v (c.make_room.ensures.within v c.take-turn.ensures.within)) in
+    let all = subst (λ at. AskedAll at (child_entry l a ∷ gone_of came.replaced end.0) v w) place
+    (subst (λ es. AskedAll c.inherit.new.turn.place (es ++ gone_of came.replaced end.0) v w) once end.1) in
+    let port : l.port ≡ a.port = sym (ap (λ (o : Owner). o.port) c.requires.child) in
+    let stands = subst (λ p. StandsOwn a (p % n) w) port (child_stands l a (l.port % n) v w came.replaced end.0 c.requires.stands all c.requires.child c.requires.may c.requires.new) in (
+      subst (λ (m : Mine). StandsOwn m.owner (m.owner.port % n) w) (sym c.at_place.ensures) stands,
+      hashed_at a 0 rules.Always came.place came.replaced c.at_place.result (side_of t.chains c.make_room.new.worker.chain) d c.in-Ok-insert.ensures.inserts refl c.at_place.ensures,
+    )
+
+pub returns-in-Ok-insert-clause-listener : goal.returns-in-Ok-insert-clause-listener
+returns-in-Ok-insert-clause-listener g c =
+    let a : Owner = c.args.child in
+    let l : Owner = c.args.listener.now in
+    let t = c.args.tables.now in
+    let n = buckets_of t in
+    let v = turned c.args.worker.now in
+    let w = known c.end_turn.new.pass in
+    let came = c.in-Ok-insert.came in
+    let asks = c.inherit.ensures.asks in
+    let once = asks.made_is ∙ ap (λ (ms : List Note). entries_of ms ++ child_entry l a ∷ []) (c.make_room.ensures.made ∙ c.take-turn.ensures.none) in
+    let place = asks.place ∙ (c.make_room.ensures.place ∙ c.take-turn.ensures.place) in
+    let end = c.end_turn.ensures.gave v (asks.within v (c.make_room.ensures.within v c.take-turn.ensures.within)) in
+    let all = subst (λ at. AskedAll at (child_entry l a ∷ gone_of came.replaced end.0) v w) place
+    (subst (λ es. AskedAll c.inherit.new.turn.place (es ++ gone_of came.replaced end.0) v w) once end.1) in
+    parent_stands l a (l.port % n) v w came.replaced end.0 c.requires.stands all
+
+pub returns-in-Ok-insert-clause-drawn : goal.returns-in-Ok-insert-clause-drawn
+returns-in-Ok-insert-clause-drawn g c = λ more has.
+    drawn_four c.insert.result (chain_words.known c.make_room.new.worker.chain.pass) (chain_words.known c.insert.new.pass.pass) c.insert.ensures.share more
+    (subst (λ (s : Side). HasShares (more + 4) s.view) (sym c.make_room.ensures.side) has)
+
+pub returns-in-Err-insert-clause-drawn : goal.returns-in-Err-insert-clause-drawn
+returns-in-Err-insert-clause-drawn g c = λ more has.
+    drawn_four c.insert.result (chain_words.known c.make_room.new.worker.chain.pass) (chain_words.known c.insert.new.pass.pass) c.insert.ensures.share more
+    (subst (λ (s : Side). HasShares (more + 4) s.view) (sym c.make_room.ensures.side) has)
+
+pub returns-in-Err-insert-clause-carried : goal.returns-in-Err-insert-clause-carried
+returns-in-Err-insert-clause-carried g c =
+    let a : Owner = c.args.child in
+    let t = c.args.tables.now in
+    let v = turned c.args.worker.now in
+    let w = known c.give.new.pass in
+    let d = side_of t.chains c.insert.new.pass in
+    let turn = c.make_room.new.turn in
+    let made_is = ap (λ (ms : List Note). entries_of ms) (c.make_room.ensures.made ∙ c.take-turn.ensures.none) in
+    let gave = all_none turn.place v w (asked_all turn.place turn.place [] v w (made c.make_room.new.worker.turns turn) refl made_is (c.give.ensures.gave v (c.make_room.ensures.within v c.take-turn.ensures.within))) in
+    let ins = subst (λ (k : Side). InsertsAs (wish_for a 0 rules.Always) k d (Err c.in-Err-insert.end)) c.make_room.ensures.side c.in-Err-insert.ensures.inserts in
+    accept_refused (buckets_of t) c.args.listener.now a (ap (λ (o : Owner). o.port) c.requires.child) v w (side_of t.chains c.args.worker.now.chain) d c.in-Err-insert.end ins gave
+
+pub returns-in-Err-insert-clause-listener : goal.returns-in-Err-insert-clause-listener
+returns-in-Err-insert-clause-listener g c =
+    let l : Owner = c.args.listener.now in
+    let v = turned c.args.worker.now in
+    let w = known c.give.new.pass in
+    let turn = c.make_room.new.turn in
+    let made_is = ap (λ (ms : List Note). entries_of ms) (c.make_room.ensures.made ∙ c.take-turn.ensures.none) in
+    let gave = all_none turn.place v w (asked_all turn.place turn.place [] v w (made c.make_room.new.worker.turns turn) refl made_is (c.give.ensures.gave v (c.make_room.ensures.within v c.take-turn.ensures.within))) in
+    stands_still l (l.port % buckets_of c.args.tables.now) v w gave c.requires.stands
+
+pub returns-in-Err-clause-carried : goal.returns-in-Err-clause-carried
+returns-in-Err-clause-carried g c =
+    let a : Owner = c.args.child in
+    let t = c.args.tables.now in
+    let v = turned c.args.worker.now in
+    let w = known c.give-in-Err.new.pass in
+    let turn = c.make_room.new.turn in
+    let made_is = ap (λ (ms : List Note). entries_of ms) (c.make_room.ensures.made ∙ c.take-turn.ensures.none) in
+    let gave = all_none turn.place v w (asked_all turn.place turn.place [] v w (made c.make_room.new.worker.turns turn) refl made_is (c.give-in-Err.ensures.gave v (c.make_room.ensures.within v c.take-turn.ensures.within))) in
+    accept_left (buckets_of t) c.args.listener.now a (ap (λ (o : Owner). o.port) c.requires.child) v w (side_of t.chains c.args.worker.now.chain) (side_of t.chains c.make_room.new.worker.chain) (sym c.make_room.ensures.side) gave
+
+pub returns-in-Err-clause-listener : goal.returns-in-Err-clause-listener
+returns-in-Err-clause-listener g c =
+    let l : Owner = c.args.listener.now in
+    let v = turned c.args.worker.now in
+    let w = known c.give-in-Err.new.pass in
+    let turn = c.make_room.new.turn in
+    let made_is = ap (λ (ms : List Note). entries_of ms) (c.make_room.ensures.made ∙ c.take-turn.ensures.none) in
+    let gave = all_none turn.place v w (asked_all turn.place turn.place [] v w (made c.make_room.new.worker.turns turn) refl made_is (c.give-in-Err.ensures.gave v (c.make_room.ensures.within v c.take-turn.ensures.within))) in
+    stands_still l (l.port % buckets_of c.args.tables.now) v w gave c.requires.stands

@@ -1,0 +1,60 @@
+use Rattle.std.proofs.Common.{◌≡◌, refl, ap, sym, subst, ◌∙◌}
+use Rattle.turn_table.specs.Passes.{known}
+use Rattle.sock_card.specs.declared.owner.Owner.{Owner}
+use Rattle.sock_card.specs.declared.owner.State.TheVariants as states
+use Rattle.table_model.specs.Own.{Mine}
+use Rattle.table_model.specs.declared.operation.OpEnd.TheVariants as errors
+use Rattle.table_model.specs.Asking.{ends}
+use Rattle.table_model.specs.Operations.{refused, bind, bind_unbound}
+use Rattle.shared_ops.specs.declared.sock.Sock.{Sock}
+use Rattle.shared_ops.specs.declared.sock.Sock.TheVariants as socks
+use Rattle.shared_ops.specs.Binding.{bound_to, bound_answer}
+use Rattle.shared_ops.specs.Goes.{Went, CarriedOut}
+use Rattle.shared_ops.specs.Socks.{FitsState, mine_of, first_mine, without_socket}
+use Rattle.shared_ops.specs.Stands.{buckets_of, chained, turned}
+use Rattle.shared_ops.proofs.BindGoes.{bind_answers, has_port}
+use Rattle.shared_ops.proofs.binding.bind_shared.Goals as goal
+
+pub returns-in-Unbound-clause-carried : goal.returns-in-Unbound-clause-carried
+returns-in-Unbound-clause-carried g c =
+    let t = c.args.tables.now in
+    let n = buckets_of t in
+    let v = turned c.args.worker.now in
+    let w = known c.bind_unbound-bound.new.pass in
+    let k = chained t c.args.worker.now in
+    let m : Mine = c.in-Unbound.unbound in
+    let end = c.args.end in
+    let ports = c.args.ports in
+    let r = c.bind_unbound-bound.result in
+    let s = socks.Unbound m in
+    let owner : c.owner-owner.result.now ≡ m.owner = c.owner-owner.ensures.owner ∙ ap (λ (x : Sock). (mine_of x).owner) c.in-Unbound.is in
+    let state = subst FitsState c.in-Unbound.is c.owner-owner.ensures.state in
+    let carried = subst (λ (o : Owner). CarriedOut (bound_to o end.addr) refused n o.name (bind_unbound o end ports) v w k k r) owner (c.bind_unbound-bound.ensures.carried k) in
+    let said : c.bound_answer.result ≡ bound_answer s m.owner end.addr r = subst (λ (o : Owner). c.bound_answer.result ≡ bound_answer s o end.addr r) owner c.bound_answer.ensures in
+    let answered = bind_answers n m end ports v w k s r state carried in
+    subst (λ (x : Sock). CarriedOut first_mine refused n (mine_of x).owner.name (bind (mine_of x) end ports) v w k k (without_socket c.bound_answer.result)) (sym c.in-Unbound.is)
+    (subst (λ q. CarriedOut first_mine refused n m.owner.name (bind m end ports) v w k k (without_socket q)) (sym said) answered)
+
+pub returns-in-Bound-clause-carried : goal.returns-in-Bound-clause-carried
+returns-in-Bound-clause-carried g c =
+    let t = c.args.tables.now in
+    let v = turned c.args.worker.now in
+    let k = chained t c.args.worker.now in
+    subst (λ (x : Sock). Went (buckets_of t) (bind (mine_of x) c.args.end c.args.ports) v v k k (ends (refused errors.Inval))) (sym c.in-Bound.is)
+    (has_port (buckets_of t) c.in-Bound.bound c.args.end c.args.ports v k states.Bound (subst FitsState c.in-Bound.is c.owner-owner.ensures.state) refl)
+
+pub returns-in-Listening-clause-carried : goal.returns-in-Listening-clause-carried
+returns-in-Listening-clause-carried g c =
+    let t = c.args.tables.now in
+    let v = turned c.args.worker.now in
+    let k = chained t c.args.worker.now in
+    subst (λ (x : Sock). Went (buckets_of t) (bind (mine_of x) c.args.end c.args.ports) v v k k (ends (refused errors.Inval))) (sym c.in-Listening.is)
+    (has_port (buckets_of t) c.in-Listening.listener c.args.end c.args.ports v k states.Listening (subst FitsState c.in-Listening.is c.owner-owner.ensures.state) refl)
+
+pub returns-in-Full-clause-carried : goal.returns-in-Full-clause-carried
+returns-in-Full-clause-carried g c =
+    let t = c.args.tables.now in
+    let v = turned c.args.worker.now in
+    let k = chained t c.args.worker.now in
+    subst (λ (x : Sock). Went (buckets_of t) (bind (mine_of x) c.args.end c.args.ports) v v k k (ends (refused errors.Inval))) (sym c.in-Full.is)
+    (has_port (buckets_of t) c.in-Full.full c.args.end c.args.ports v k states.Full (subst FitsState c.in-Full.is c.owner-owner.ensures.state) refl)

@@ -1,0 +1,118 @@
+use Rattle.std.proofs.Common.{◌+◌, ◌++◌, ◌∷◌, [], List, Err, ap, sym, subst, ◌∙◌, ◌%◌, refl, ℕ}
+use Rattle.turn_table.specs.Passes.{known}
+use Rattle.sock_card.specs.declared.owner.Owner.{Owner}
+use Rattle.bind_buckets.specs.declared.request.Request.TheVariants as requests
+use Rattle.bind_buckets.specs.declared.request.Answer.TheVariants as answers
+use Rattle.bind_buckets.specs.declared.request.Entry.{Entry}
+use Rattle.bind_buckets.specs.Notes.{Note}
+use Rattle.bind_buckets.specs.Bucket.{entries_of}
+use Rattle.bind_buckets.specs.OwnTold.{StandsOwn}
+use Rattle.bind_buckets.specs.Turned.{made}
+use Rattle.table_rule.specs.Calls.{HasShares}
+use Rattle.table_rule.specs.Passes as chain_words
+use Rattle.table_model.specs.Own.{Mine}
+use Rattle.chain_deeds.specs.Sides.{Side, side_of}
+use Rattle.shared_ops.specs.Goes.{AskedAll, gone_of}
+use Rattle.shared_ops.specs.Hashing.{InsertsAs, PutsIn, wish_for}
+use Rattle.shared_ops.specs.Stands.{buckets_of, turned}
+use Rattle.shared_ops.proofs.Goes.{asked_all}
+use Rattle.shared_ops.proofs.Inserted.{drawn_four}
+use Rattle.shared_ops.proofs.ConnectGoes.{bound_entry, all_none, connect_done, connect_refused, connect_left, connect_stands, hashed_at, stands_still}
+use Rattle.shared_ops.proofs.connecting.connect_bound.Goals as goal
+
+abbrev entry : ℕ → Owner → Entry
+entry name a = record { request = requests.ConnectBound name a.addr a.remote a.rport; answer = answers.Done }
+
+pub returns-in-Ok-insert-clause-carried : goal.returns-in-Ok-insert-clause-carried
+returns-in-Ok-insert-clause-carried g c =
+    let a : Owner = c.args.full in
+    let b : Owner = c.args.bound.now in
+    let t = c.args.tables.now in
+    let n = buckets_of t in
+    let v = turned c.args.worker.now in
+    let w = known c.end_turn.new.pass in
+    let d = side_of t.chains c.insert.new.pass in
+    let came = c.in-Ok-insert.came in
+    let asks = c.connect_bound.ensures.asks in
+    let once = asks.made_is ∙ ap (λ (ms : List Note). entries_of ms ++ entry b.name a ∷ []) (c.make_room.ensures.made ∙ c.take-turn.ensures.none) ∙ ap (λ name. entry name a ∷ []) (sym (ap (λ (o : Owner). o.name) c.requires.full)) in
+    let place = asks.place ∙ (c.make_room.ensures.place ∙ c.take-turn.ensures.place) ∙ ap (λ p. p % n) (sym (ap (λ (o : Owner). o.port) c.requires.full)) in
+    let end = c.end_turn.ensures.gave v (asks.within v (c.make_room.ensures.within v c.take-turn.ensures.within)) in
+    let all = subst (λ at. AskedAll at (bound_entry a ∷ gone_of came.replaced end.0) v w) place
+    (subst (λ es. AskedAll c.connect_bound.new.turn.place (es ++ gone_of came.replaced end.0) v w) once end.1) in
+    let puts = subst (λ (k : Side). PutsIn (wish_for a c.args.moment c.args.rule) came.place came.replaced k d) c.make_room.ensures.side c.in-Ok-insert.ensures.inserts in
+    connect_done n a c.args.moment c.args.rule v w (side_of t.chains c.args.worker.now.chain) d came.place came.replaced c.at_place.result end.0 puts c.at_place.ensures all
+
+pub returns-in-Ok-insert-clause-stands : goal.returns-in-Ok-insert-clause-stands
+returns-in-Ok-insert-clause-stands g c =
+    let a : Owner = c.args.full in
+    let b : Owner = c.args.bound.now in
+    let t = c.args.tables.now in
+    let n = buckets_of t in
+    let v = turned c.args.worker.now in
+    let w = known c.end_turn.new.pass in
+    let d = side_of t.chains c.insert.new.pass in
+    let came = c.in-Ok-insert.came in
+    let asks = c.connect_bound.ensures.asks in
+    let once = asks.made_is ∙ ap (λ (ms : List Note). entries_of ms ++ entry b.name a ∷ []) (c.make_room.ensures.made ∙ c.take-turn.ensures.none) ∙ ap (λ name. entry name a ∷ []) (sym (ap (λ (o : Owner). o.name) c.requires.full)) in
+    let place = asks.place ∙ (c.make_room.ensures.place ∙ c.take-turn.ensures.place) ∙ ap (λ p. p % n) (sym (ap (λ (o : Owner). o.port) c.requires.full)) in
+    let end = c.end_turn.ensures.gave v (asks.within v (c.make_room.ensures.within v c.take-turn.ensures.within)) in
+    let all = subst (λ at. AskedAll at (bound_entry a ∷ gone_of came.replaced end.0) v w) place
+    (subst (λ es. AskedAll c.connect_bound.new.turn.place (es ++ gone_of came.replaced end.0) v w) once end.1) in
+    let stands = connect_stands n b a v w came.replaced end.0 c.requires.full c.requires.stands all in (
+      subst (λ (m : Mine). StandsOwn m.owner (m.owner.port % n) w) (sym c.at_place.ensures) stands,
+      hashed_at a c.args.moment c.args.rule came.place came.replaced c.at_place.result (side_of t.chains c.make_room.new.worker.chain) d c.in-Ok-insert.ensures.inserts refl c.at_place.ensures,
+    )
+
+pub returns-in-Ok-insert-clause-drawn : goal.returns-in-Ok-insert-clause-drawn
+returns-in-Ok-insert-clause-drawn g c = λ more has.
+    drawn_four c.insert.result (chain_words.known c.make_room.new.worker.chain.pass) (chain_words.known c.insert.new.pass.pass) c.insert.ensures.share more
+    (subst (λ (s : Side). HasShares (more + 4) s.view) (sym c.make_room.ensures.side) has)
+
+pub returns-in-Err-insert-clause-drawn : goal.returns-in-Err-insert-clause-drawn
+returns-in-Err-insert-clause-drawn g c = λ more has.
+    drawn_four c.insert.result (chain_words.known c.make_room.new.worker.chain.pass) (chain_words.known c.insert.new.pass.pass) c.insert.ensures.share more
+    (subst (λ (s : Side). HasShares (more + 4) s.view) (sym c.make_room.ensures.side) has)
+
+pub returns-in-Err-insert-clause-carried : goal.returns-in-Err-insert-clause-carried
+returns-in-Err-insert-clause-carried g c =
+    let a : Owner = c.args.full in
+    let t = c.args.tables.now in
+    let v = turned c.args.worker.now in
+    let w = known c.give.new.pass in
+    let d = side_of t.chains c.insert.new.pass in
+    let turn = c.make_room.new.turn in
+    let made_is = ap (λ (ms : List Note). entries_of ms) (c.make_room.ensures.made ∙ c.take-turn.ensures.none) in
+    let gave = all_none turn.place v w (asked_all turn.place turn.place [] v w (made c.make_room.new.worker.turns turn) refl made_is (c.give.ensures.gave v (c.make_room.ensures.within v c.take-turn.ensures.within))) in
+    let ins = subst (λ (k : Side). InsertsAs (wish_for a c.args.moment c.args.rule) k d (Err c.in-Err-insert.end)) c.make_room.ensures.side c.in-Err-insert.ensures.inserts in
+    connect_refused (buckets_of t) a c.args.moment c.args.rule v w (side_of t.chains c.args.worker.now.chain) d c.in-Err-insert.end ins gave
+
+pub returns-in-Err-insert-clause-kept : goal.returns-in-Err-insert-clause-kept
+returns-in-Err-insert-clause-kept g c =
+    let b : Owner = c.args.bound.now in
+    let v = turned c.args.worker.now in
+    let w = known c.give.new.pass in
+    let turn = c.make_room.new.turn in
+    let made_is = ap (λ (ms : List Note). entries_of ms) (c.make_room.ensures.made ∙ c.take-turn.ensures.none) in
+    let gave = all_none turn.place v w (asked_all turn.place turn.place [] v w (made c.make_room.new.worker.turns turn) refl made_is (c.give.ensures.gave v (c.make_room.ensures.within v c.take-turn.ensures.within))) in
+    stands_still b (b.port % buckets_of c.args.tables.now) v w gave c.requires.stands
+
+pub returns-in-Err-clause-carried : goal.returns-in-Err-clause-carried
+returns-in-Err-clause-carried g c =
+    let a : Owner = c.args.full in
+    let t = c.args.tables.now in
+    let v = turned c.args.worker.now in
+    let w = known c.give-in-Err.new.pass in
+    let turn = c.make_room.new.turn in
+    let made_is = ap (λ (ms : List Note). entries_of ms) (c.make_room.ensures.made ∙ c.take-turn.ensures.none) in
+    let gave = all_none turn.place v w (asked_all turn.place turn.place [] v w (made c.make_room.new.worker.turns turn) refl made_is (c.give-in-Err.ensures.gave v (c.make_room.ensures.within v c.take-turn.ensures.within))) in
+    connect_left (buckets_of t) a c.args.moment c.args.rule v w (side_of t.chains c.args.worker.now.chain) (side_of t.chains c.make_room.new.worker.chain) (sym c.make_room.ensures.side) gave
+
+pub returns-in-Err-clause-kept : goal.returns-in-Err-clause-kept
+returns-in-Err-clause-kept g c =
+    let b : Owner = c.args.bound.now in
+    let v = turned c.args.worker.now in
+    let w = known c.give-in-Err.new.pass in
+    let turn = c.make_room.new.turn in
+    let made_is = ap (λ (ms : List Note). entries_of ms) (c.make_room.ensures.made ∙ c.take-turn.ensures.none) in
+    let gave = all_none turn.place v w (asked_all turn.place turn.place [] v w (made c.make_room.new.worker.turns turn) refl made_is (c.give-in-Err.ensures.gave v (c.make_room.ensures.within v c.take-turn.ensures.within))) in
+    stands_still b (b.port % buckets_of c.args.tables.now) v w gave c.requires.stands

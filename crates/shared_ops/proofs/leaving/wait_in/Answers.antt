@@ -1,0 +1,57 @@
+use Rattle.std.proofs.Common.{◌≡◌, ◌++◌, ◌∷◌, [], List, Ok, Err, ap, sym, subst, ◌∙◌, ◌%◌}
+use Rattle.sock_card.specs.declared.owner.Owner.{Owner}
+use Rattle.sock_card.specs.declared.card.Kind.TheVariants as kinds
+use Rattle.sock_card.specs.Became.{as_waiting}
+use Rattle.turn_table.specs.Passes.{known}
+use Rattle.bind_buckets.specs.Notes.{Note}
+use Rattle.bind_buckets.specs.Bucket.{entries_of}
+use Rattle.bind_buckets.specs.Turned.{made}
+use Rattle.chain_book.specs.Homes.{home}
+use Rattle.flat_list.specs.Owned.{card_as}
+use Rattle.nulls_chain.specs.declared.keeping.Place.{Place as Stood}
+use Rattle.chain_deeds.specs.Sides.{side_of}
+use Rattle.table_model.specs.Own.{Mine}
+use Rattle.shared_ops.specs.Closes.{WaitsAs, leave_entry}
+use Rattle.shared_ops.specs.Stands.{buckets_of}
+use Rattle.shared_ops.proofs.Goes.{asked_all}
+use Rattle.shared_ops.proofs.CloseGoes.{same_home, wait_entry, close_waits, close_goes}
+use Rattle.shared_ops.proofs.leaving.wait_in.Goals as goal
+
+pub replace-requires-clause-chain : goal.replace-requires-clause-chain
+replace-requires-clause-chain g c =
+    let m : Mine = c.args.full.now in
+    let own : c.full.inside.owner ≡ m.owner = ap (λ (x : Mine). x.owner) c.full.view_is in
+    let l = c.args.tables.now.chains.layout in
+    ap (home l.shape l.seed) (c.card_as-card.ensures ∙ ap (λ (o : Owner). card_as kinds.TimeWait o c.args.moment) (c.as_waiting-waiting.ensures ∙ ap as_waiting own))
+    ∙ same_home l.shape l.seed m.owner c.args.moment m.extra ∙ sym c.requires.hashed.home ∙ sym (ap (λ (p : Stood). p.bucket) c.full_place.ensures)
+
+pub returns-in-Ok-clause-went : goal.returns-in-Ok-clause-went
+returns-in-Ok-clause-went g c = λ v within.
+    let m : Mine = c.args.full.now in
+    let own : c.full.inside.owner ≡ m.owner = ap (λ (x : Mine). x.owner) c.full.view_is in
+    let t = c.args.tables.now in
+    let n = buckets_of t in
+    let w = known c.give.new.pass in
+    let k = side_of t.chains c.args.worker.now.chain in
+    let d = side_of t.chains c.replace.new.pass in
+    let asks = c.to_time_wait.ensures.asks in
+    let once = asks.made_is ∙ ap (λ (ms : List Note). entries_of ms ++ wait_entry c.full.inside.owner ∷ []) c.requires.made ∙ ap (λ (o : Owner). wait_entry o ∷ []) own in
+    let all = asked_all c.to_time_wait.new.turn.place (m.owner.port % n) (wait_entry m.owner ∷ []) v w (made c.to_time_wait.new.pass c.to_time_wait.new.turn) (asks.place ∙ c.requires.place) once (c.give.ensures.gave v (asks.within v within)) in
+    let waits = subst (λ (p : Stood). WaitsAs p c.card_as-card.result k d (Ok c.in-Ok.place)) c.full_place.ensures c.in-Ok.ensures.waits in
+    close_waits n m c.args.moment v w k d c.as_waiting-waiting.result c.card_as-card.result c.in-Ok.place (c.as_waiting-waiting.ensures ∙ ap as_waiting own) c.card_as-card.ensures waits all
+
+pub returns-in-Err-clause-went : goal.returns-in-Err-clause-went
+returns-in-Err-clause-went g c = λ v within.
+    let m : Mine = c.args.full.now in
+    let own : c.full.inside.owner ≡ m.owner = ap (λ (x : Mine). x.owner) c.full.view_is in
+    let t = c.args.tables.now in
+    let n = buckets_of t in
+    let w = known c.give-in-Err.new.pass in
+    let k = side_of t.chains c.args.worker.now.chain in
+    let d = side_of t.chains c.replace.new.pass in
+    let asks = c.remove.ensures.asks in
+    let once = asks.made_is ∙ ap (λ (ms : List Note). entries_of ms ++ leave_entry c.full.inside.owner ∷ []) c.requires.made ∙ ap (λ (o : Owner). leave_entry o ∷ []) own in
+    let all = asked_all c.remove.new.turn.place (m.owner.port % n) (leave_entry m.owner ∷ []) v w (made c.remove.new.pass c.remove.new.turn) (asks.place ∙ c.requires.place) once (c.give-in-Err.ensures.gave v (asks.within v within)) in
+    let slots = c.in-Err.slots in
+    let goes = subst (λ (p : Stood). WaitsAs p c.card_as-card.result k d (Err slots)) c.full_place.ensures c.in-Err.ensures.waits in
+    close_goes n m c.args.moment v w k d c.as_waiting-waiting.result c.card_as-card.result slots.owned slots.held (c.as_waiting-waiting.ensures ∙ ap as_waiting own) c.card_as-card.ensures goes all

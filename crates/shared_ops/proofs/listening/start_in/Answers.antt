@@ -1,0 +1,62 @@
+use Rattle.std.proofs.Common.{◌++◌, ◌∷◌, [], List, ap, subst, ◌∙◌, ◌%◌}
+use Rattle.turn_table.specs.Passes.{known}
+use Rattle.bind_buckets.specs.declared.request.Entry.{Entry}
+use Rattle.bind_buckets.specs.declared.request.Answer.TheVariants as answers
+use Rattle.bind_buckets.specs.Turned.{made}
+use Rattle.chain_deeds.specs.Sides.{side_of}
+use Rattle.table_model.specs.Own.{Mine}
+use Rattle.shared_ops.specs.Goes.{AskedAll, gone_if}
+use Rattle.shared_ops.specs.Stands.{buckets_of}
+use Rattle.shared_ops.proofs.Goes.{asked_all}
+use Rattle.shared_ops.specs.Listens.{asked_listen, said_listen}
+use Rattle.shared_ops.proofs.ListenStands.{first_told, told_so}
+use Rattle.shared_ops.proofs.ListenGoes.{listen_done, listen_full}
+use Rattle.shared_ops.proofs.listening.start_in.Goals as goal
+
+pub returns-in-Ok-clause-carried : goal.returns-in-Ok-clause-carried
+returns-in-Ok-clause-carried g c = λ v within only.
+    let a = c.args.owner.now in
+    let t = c.args.tables.now in
+    let n = buckets_of t in
+    let w = known c.give.new.pass in
+    let asks = c.listen.ensures.asks in
+    let group = c.args.group in
+    let said = said_listen a c.in-Ok.place.slot in
+    listen_done n a c.args.took v w (side_of t.chains c.args.worker.now.chain) (side_of t.chains c.hash.new.pass) group c.as_listener-listener.result c.extra_of-extra.result c.card_as-card.result c.in-Ok.place c.at_place.result
+    c.as_listener-listener.ensures c.extra_of-extra.ensures c.card_as-card.ensures c.in-Ok.ensures.adds c.at_place.ensures
+    (asked_all c.listen.new.turn.place (a.port % n) (asked_listen a (answers.Group group) ∷ said ∷ []) v w (made c.listen.new.pass c.listen.new.turn) (asks.place ∙ c.requires.place)
+    (asks.made_is ∙ ap (λ (xs : List Entry). xs ++ said ∷ []) only) (c.give.ensures.gave v (asks.within v within)))
+
+pub returns-in-Err-clause-carried : goal.returns-in-Err-clause-carried
+returns-in-Err-clause-carried g c = λ v within only.
+    let a = c.args.owner.now in
+    let t = c.args.tables.now in
+    let n = buckets_of t in
+    let took = c.args.took in
+    let w = known c.give_back.new.pass in
+    let all = subst (λ place. AskedAll place (asked_listen a (answers.Group c.args.group) ∷ gone_if took a) v w) c.requires.place
+    (subst (λ (es : List Entry). AskedAll c.args.turn.place (es ++ gone_if took a) v w) only (c.give_back.ensures.gave v within)) in
+    listen_full n a took v w (side_of t.chains c.args.worker.now.chain) (side_of t.chains c.hash.new.pass) c.args.group c.as_listener-listener.result c.extra_of-extra.result c.card_as-card.result c.in-Err.end
+    c.as_listener-listener.ensures c.extra_of-extra.ensures c.card_as-card.ensures c.in-Err.ensures.adds all
+
+pub returns-in-Ok-clause-tells : goal.returns-in-Ok-clause-tells
+returns-in-Ok-clause-tells g c = λ v within only.
+    let a = c.args.owner.now in
+    let t = c.args.tables.now in
+    let place = a.port % buckets_of t in
+    let w = known c.give.new.pass in
+    let asks = c.listen.ensures.asks in
+    let said = said_listen a c.in-Ok.place.slot in
+    told_so place a v w c.at_place.result c.args.group c.in-Ok.place.slot (ap (λ (m : Mine). m.owner) c.at_place.ensures ∙ c.as_listener-listener.ensures)
+    (asked_all c.listen.new.turn.place place (asked_listen a (answers.Group c.args.group) ∷ said ∷ []) v w (made c.listen.new.pass c.listen.new.turn) (asks.place ∙ c.requires.place)
+    (asks.made_is ∙ ap (λ (xs : List Entry). xs ++ said ∷ []) only) (c.give.ensures.gave v (asks.within v within)))
+
+pub returns-in-Err-clause-tells : goal.returns-in-Err-clause-tells
+returns-in-Err-clause-tells g c = λ v within only.
+    let a = c.args.owner.now in
+    let took = c.args.took in
+    let w = known c.give_back.new.pass in
+    let answer = answers.Group c.args.group in
+    let all = subst (λ place. AskedAll place (asked_listen a answer ∷ gone_if took a) v w) c.requires.place
+    (subst (λ (es : List Entry). AskedAll c.args.turn.place (es ++ gone_if took a) v w) only (c.give_back.ensures.gave v within)) in
+    first_told (a.port % buckets_of c.args.tables.now) a v w took answer all

@@ -1,0 +1,80 @@
+-- What an operation did by its plan, among others and alone: our own.
+use Rattle.std.specs.Prelude.{◌≡◌, ℕ, ◌%◌, Bool, true, false, List, [], ◌∷◌, ◌++◌, Option, None, Some, Result, Ok, Err}
+use Rattle.sock_card.specs.declared.owner.Owner.{Owner}
+use Rattle.turn_table.specs.declared.note.Placed.{Placed}
+use Rattle.bind_buckets.specs.declared.request.Entry.{Entry}
+use Rattle.bind_buckets.specs.declared.request.Request.TheVariants as requests
+use Rattle.bind_buckets.specs.declared.request.Answer.{Answer}
+use Rattle.bind_buckets.specs.declared.request.Answer.TheVariants as answers
+use Rattle.bind_buckets.specs.Turned.{View, Gave, IsAsked}
+use Rattle.chain_deeds.specs.Sides.{Side, chains_by}
+use Rattle.chain_deeds.specs.Made.{Does}
+use Rattle.table_model.specs.declared.operation.OpEnd.{OpEnd}
+use Rattle.table_model.specs.declared.operation.OpEnd.TheVariants as errors
+use Rattle.table_model.specs.Asking.{Asking, ends}
+use Rattle.table_model.specs.Tables.{run}
+use Rattle.table_model.specs.Goes.{tables_by}
+use Rattle.race_record.specs.Deeds.{Deed, entries_in}
+use Rattle.shared_ops.specs.Leads.{Leads}
+
+-- The plan went on so far by these deeds: the pass of the buckets gave their entries, of so many buckets, and the pass of
+-- the chains made their changes, and neither did anything else.
+pub record Went {R : Type 0} (count : ℕ) (plan : Asking R) (v w : View) (c d : Side) (rest : Asking R) : Type 0 where
+  pub deeds : List Deed
+  pub leads : Leads plan deeds rest
+  pub gave : Gave v w (entries_in count deeds)
+  pub does : Does deeds c d
+
+-- the owner of that name leaves its port
+abbrev pub GivesUp : ℕ → ℕ → List (Placed Entry) → Type 0
+GivesUp count name [] = Unit {0}
+GivesUp count name (x ∷ []) = (port : ℕ) × IsAsked (port % count) (requests.Remove name) answers.Done x
+GivesUp count name _ = ⊥
+
+-- for want of memory the plan was left off somewhere, and a port that it had taken was given up
+pub record LeftOff {R : Type 0} (count name : ℕ) (plan : Asking R) (v w : View) (c d : Side) : Type 0 where
+  pub rest : Asking R
+  pub deeds : List Deed
+  pub leads : Leads plan deeds rest
+  pub back : List (Placed Entry)
+  pub gives : GivesUp count name back
+  pub gave : Gave v w (entries_in count deeds ++ back)
+  pub does : Does deeds c d
+
+-- the plan of a socket of that name went on to the end that the result says, whoever else was there
+abbrev pub CarriedOut : {X R : Type 0} → (X → R) → (OpEnd → R) → ℕ → ℕ → Asking R → View → View → Side → Side → Result X OpEnd → Type 0
+CarriedOut did not_done count name plan v w c d (Ok x) = Went count plan v w c d (ends (did x))
+CarriedOut did not_done count name plan v w c d (Err errors.Memory) = LeftOff count name plan v w c d
+CarriedOut did not_done count name plan v w c d (Err end) = Went count plan v w c d (ends (not_done end))
+
+-- the plan comes to that on the tables that the old entries and changes make, and leaves those that all of them make
+abbrev pub Comes : {R : Type 0} → ℕ → Asking R → List (Placed Entry) → List (Placed Entry) → Side → Side → R → Type 0
+Comes count plan old new c d did =
+    run (tables_by count old (chains_by c)) plan ≡ Some (record { tables = tables_by count new (chains_by d); result = did })
+
+abbrev pub CarriedOutAlone : {X R : Type 0} → (X → R) → (OpEnd → R) → ℕ → Asking R → List (Placed Entry) → List (Placed Entry) → Side → Side → Result X OpEnd → Type 0
+CarriedOutAlone did not_done count plan old new c d (Ok x) = Comes count plan old new c d (did x)
+CarriedOutAlone did not_done count plan old new c d (Err errors.Memory) = Unit {0}
+CarriedOutAlone did not_done count plan old new c d (Err end) = Comes count plan old new c d (not_done end)
+
+-- the bucket of that place was asked so in turn
+abbrev pub AreAsked : ℕ → List Entry → List (Placed Entry) → Type 0
+AreAsked place [] [] = Unit {0}
+AreAsked place (e ∷ es) (x ∷ xs) = IsAsked place e.request e.answer x × AreAsked place es xs
+AreAsked place _ _ = ⊥
+
+-- in one turn, and nothing else
+pub record AskedAll (place : ℕ) (es : List Entry) (v w : View) : Type 0 where
+  pub xs : List (Placed Entry)
+  pub asked : AreAsked place es xs
+  pub gave : Gave v w xs
+
+-- what an owner asks that gives up a port which this call took
+abbrev pub gone_if : Bool → Owner → List Entry
+gone_if true a = record { request = requests.Remove a.name; answer = answers.Done } ∷ []
+gone_if false a = []
+
+-- what is asked for the owner of a TIME_WAIT that was replaced, if there was one
+abbrev pub gone_of : Option ℕ → Answer → List Entry
+gone_of None answer = []
+gone_of (Some name) answer = record { request = requests.RemoveWaiting name; answer = answer } ∷ []

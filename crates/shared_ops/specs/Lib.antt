@@ -1,0 +1,14 @@
+pub mod Socks
+pub mod Stands
+pub mod Spends
+pub mod There
+pub mod Listens
+pub mod Closes
+pub mod Leads
+pub mod Goes
+pub mod Binding
+pub mod Hashing
+pub mod Connecting
+pub mod Searching
+pub mod Accepting
+pub mod Reaping

@@ -1,0 +1,246 @@
+//! `bind`.
+
+ghost use Rattle.std.specs.Prelude.{◌≡◌, ◌+◌, ◌%◌, ◌^◌, ◌<◌, ◌≤◌, length, IfOk, IfErr, OnErr};
+ghost use Rattle.turn_table.specs.Passes as words;
+ghost use Rattle.turn_table.specs.Passes.{known};
+ghost use Rattle.bind_buckets.specs.Callers.{MayName};
+ghost use Rattle.bind_buckets.specs.OwnTold.{StandsOwn};
+ghost use Rattle.bind_buckets.specs.Turned.{IsAlone, IsIdle};
+ghost use Rattle.bind_buckets.specs.declared.request.Request.TheVariants as requests;
+ghost use Rattle.chain_deeds.specs.Sides.{Side};
+ghost use Rattle.flat_list.specs.Owned.{bound_at};
+ghost use Rattle.table_model.specs.Asking.{asks, ends};
+ghost use Rattle.table_model.specs.Operations as plans;
+ghost use Rattle.table_model.specs.Operations.{bind_answered, refused, search_bind};
+ghost use Rattle.table_model.specs.declared.operation.OpEnd.TheVariants as errors;
+ghost use Rattle.table_rule.specs.Calls.{HasShares};
+ghost use Rattle.table_rule.specs.Passes as chain_words;
+ghost use Rattle.table_rule.specs.Sole.{IsNow};
+ghost use Rattle.shared_ops.specs.Binding as spec;
+ghost use Rattle.shared_ops.specs.Binding.{bound_to};
+ghost use Rattle.shared_ops.specs.Goes.{CarriedOut, CarriedOutAlone};
+ghost use Rattle.shared_ops.specs.Socks.{mine_of, first_mine, without_socket};
+ghost use Rattle.shared_ops.specs.Stands.{IsReady, MayEnter, MayTell, IsAway, StandsAs, buckets_of, chained, turned};
+
+use crate::sock::{Bound, Sock};
+use crate::tables::{Tables, Worker};
+use bind_buckets::{Bucket, InUse, turning};
+use flat_list::{End, owned};
+use port_search::turning::find_bind;
+use port_search::{Ports, SearchEnd};
+use sock_card::Owner;
+use std::sync::Wait;
+use table_model::OpEnd;
+use turn_table::{TurnPass, Turns};
+
+fn end_of_bind(bound: Result<(), InUse>) -> Result<(), OpEnd>
+    ensures { result ≡ spec.end_of_bind bound }
+{
+    match bound {
+        Ok(()) => Ok(()),
+        Err(InUse(name)) => Err(OpEnd::InUse(name)),
+    }
+}
+
+pub(crate) fn end_of_search(found: Result<u16, SearchEnd>) -> Result<u16, OpEnd>
+    ensures { result ≡ spec.end_of_search found }
+{
+    match found {
+        Ok(port) => Ok(port),
+        Err(SearchEnd::NoPort) => Err(OpEnd::NoPort),
+        Err(SearchEnd::Full { owned, held }) => Err(OpEnd::Full { owned, held }),
+        Err(SearchEnd::Memory) => Err(OpEnd::Memory),
+    }
+}
+
+/// Binds an owner without a port to the port that the end gives.
+fn bind_given<R: Wait>(
+    rt: &R,
+    buckets: &Turns<Box<Bucket>>,
+    pass: &mut TurnPass<Box<Bucket>>,
+    owner: Owner,
+    end: End,
+) -> Result<(), OpEnd>
+    requires idle { IsIdle buckets.now pass.old }
+    requires few { words.draws pass.old < 2 ^ 48 }
+    requires may { MayName (words.caller pass.old) owner.name }
+    ensures idle { IsIdle buckets.now pass.new }
+    ensures caller { words.caller pass.new ≡ words.caller pass.old }
+    ensures draws { words.draws pass.new ≤ words.draws pass.old + 1 }
+    ensures carried { (c : Side) → CarriedOut (λ _. bound_to owner end.addr end.port) refused
+        (words.places buckets.now) owner.name
+        (asks end.port (requests.Bind (bound_at owner end.addr end.port)) (bind_answered owner end))
+        (known pass.old) (known pass.new) c c result }
+    ensures stands { IsAway owner.name (known pass.old) → IfOk result (λ _.
+        StandsOwn (bound_at owner end.addr end.port) (end.port % words.places buckets.now) (known pass.new)) }
+    ensures kept { IsAway owner.name (known pass.old) → OnErr result (IsAway owner.name (known pass.new)) }
+{
+    let mut turn = turning::take(rt, buckets, pass, end.port);
+    match turning::reserve(buckets, pass, &mut turn) {
+        Ok(()) => {
+            let bound_owner = owned::bound_at(owner, end.addr, end.port);
+            let bound = turning::bind(buckets, pass, &mut turn, bound_owner);
+            turning::give(buckets, pass, turn);
+            end_of_bind(bound)
+        }
+        Err(_) => {
+            turning::give(buckets, pass, turn);
+            Err(OpEnd::Memory)
+        }
+    }
+}
+
+/// Binds it to a port that is searched for.
+fn bind_searched<R: Wait>(
+    rt: &R,
+    buckets: &Turns<Box<Bucket>>,
+    pass: &mut TurnPass<Box<Bucket>>,
+    owner: Owner,
+    addr: u32,
+    ports: Ports,
+) -> Result<u16, OpEnd>
+    requires idle { IsIdle buckets.now pass.old }
+    requires few { words.draws pass.old + length ports ≤ 2 ^ 48 }
+    requires may { MayName (words.caller pass.old) owner.name }
+    ensures idle { IsIdle buckets.now pass.new }
+    ensures caller { words.caller pass.new ≡ words.caller pass.old }
+    ensures draws { words.draws pass.new ≤ words.draws pass.old + length ports }
+    ensures carried { (c : Side) → CarriedOut (bound_to owner addr) refused (words.places buckets.now) owner.name
+        (search_bind owner addr (plans.bound owner addr) (ends (refused errors.NoPort)) ports)
+        (known pass.old) (known pass.new) c c result }
+    ensures stands { IsAway owner.name (known pass.old) → IfOk result (λ port.
+        StandsOwn (bound_at owner addr port) (port % words.places buckets.now) (known pass.new)) }
+    ensures kept { IsAway owner.name (known pass.old) → OnErr result (IsAway owner.name (known pass.new)) }
+{
+    let bound = owned::bound_at(owner, addr, 0);
+    let found = find_bind(rt, buckets, pass, ports, bound);
+    end_of_search(found)
+}
+
+/// Binds an owner without a port.
+fn bind_unbound<R: Wait>(
+    rt: &R,
+    buckets: &Turns<Box<Bucket>>,
+    pass: &mut TurnPass<Box<Bucket>>,
+    owner: Owner,
+    end: End,
+    ports: Ports,
+) -> Result<u16, OpEnd>
+    requires idle { IsIdle buckets.now pass.old }
+    requires few { words.draws pass.old + (length ports + 1) ≤ 2 ^ 48 }
+    requires may { MayName (words.caller pass.old) owner.name }
+    ensures idle { IsIdle buckets.now pass.new }
+    ensures caller { words.caller pass.new ≡ words.caller pass.old }
+    ensures draws { words.draws pass.new ≤ words.draws pass.old + (length ports + 1) }
+    ensures carried { (c : Side) → CarriedOut (bound_to owner end.addr) refused (words.places buckets.now) owner.name
+        (plans.bind_unbound owner end ports) (known pass.old) (known pass.new) c c result }
+    ensures stands { IsAway owner.name (known pass.old) → IfOk result (λ port.
+        StandsOwn (bound_at owner end.addr port) (port % words.places buckets.now) (known pass.new)) }
+    ensures kept { IsAway owner.name (known pass.old) → OnErr result (IsAway owner.name (known pass.new)) }
+{
+    if end.port == 0 {
+        return bind_searched(rt, buckets, pass, owner, end.addr, ports);
+    }
+    match bind_given(rt, buckets, pass, owner, end) {
+        Ok(()) => Ok(end.port),
+        Err(refusal) => Err(refusal),
+    }
+}
+
+fn bound_answer(
+    socket: Sock,
+    owner: Owner,
+    addr: u32,
+    bound: Result<u16, OpEnd>,
+) -> Result<(Sock, u16), (Sock, OpEnd)>
+    ensures { result ≡ spec.bound_answer socket owner addr bound }
+{
+    match bound {
+        Ok(port) => {
+            let bound = Bound::new(owned::bound_at(owner, addr, port));
+            Ok((Sock::Bound(bound), port))
+        }
+        Err(refusal) => Err((socket, refusal)),
+    }
+}
+
+/// [`bind`], among others.
+fn bind_shared<R: Wait>(
+    rt: &R,
+    tables: &Tables,
+    worker: &mut Worker,
+    socket: Sock,
+    end: End,
+    ports: Ports,
+) -> Result<(Sock, u16), (Sock, OpEnd)>
+    requires ready { IsReady tables.now worker.old }
+    requires enters { MayEnter (length ports + 1) worker.old }
+    requires may { MayTell worker.old (mine_of socket).owner.name }
+    requires stands { StandsAs tables.now socket (turned worker.old) (chained tables.now worker.old) }
+    ensures ready { IsReady tables.now worker.new }
+    ensures caller { words.caller worker.new.turns ≡ words.caller worker.old.turns }
+    ensures entered { words.draws worker.new.turns ≤ words.draws worker.old.turns + (length ports + 1) }
+    ensures chain { worker.new.chain ≡ worker.old.chain }
+    ensures carried { CarriedOut first_mine refused (buckets_of tables.now) (mine_of socket).owner.name
+        (plans.bind (mine_of socket) end ports) (turned worker.old) (turned worker.new)
+        (chained tables.now worker.old) (chained tables.now worker.new) (without_socket result) }
+    ensures port { IfOk result (λ bound. bound.1 ≡ (mine_of bound.0).owner.port) }
+    ensures back { IfErr result (λ refusal. refusal.0 ≡ socket) }
+    ensures stands { IfOk result (λ bound.
+        StandsAs tables.now bound.0 (turned worker.new) (chained tables.now worker.new)) }
+    ensures kept { OnErr result (StandsAs tables.now socket (turned worker.new) (chained tables.now worker.new)) }
+{
+    let owner = *socket.owner();
+    match socket {
+        Sock::Unbound(unbound) => {
+            let bound = bind_unbound(rt, &tables.buckets, &mut worker.turns, owner, end, ports);
+            bound_answer(Sock::Unbound(unbound), owner, end.addr, bound)
+        }
+        Sock::Bound(bound) => Err((Sock::Bound(bound), OpEnd::Inval)),
+        Sock::Listening(listener) => Err((Sock::Listening(listener), OpEnd::Inval)),
+        Sock::Full(full) => Err((Sock::Full(full), OpEnd::Inval)),
+    }
+}
+
+/// Binds a socket to an address and a port, or to the first port of a search where the end's port is 0; the port comes
+/// with the bound socket.
+///
+/// Its plan goes on so by the answers of the entries that this call gave, whoever else was at the tables. On a worker
+/// that was never split, the plan comes to that on the tables that its own entries make.
+///
+/// # Errors
+///
+/// `Inval`: it has a port already. `InUse`: the owner of that name keeps it from its port. `NoPort`: each of the ports
+/// was refused, at its own turn. `Memory`: a bucket wanted memory; the ports that were refused before stay told. A
+/// refused socket comes back as it was.
+pub fn bind<R: Wait>(
+    rt: &R,
+    tables: &Tables,
+    worker: &mut Worker,
+    socket: Sock,
+    end: End,
+    ports: Ports,
+) -> Result<(Sock, u16), (Sock, OpEnd)>
+    requires ready { IsReady tables.now worker.old }
+    requires enters { MayEnter (length ports + 1) worker.old }
+    requires may { MayTell worker.old (mine_of socket).owner.name }
+    requires stands { StandsAs tables.now socket (turned worker.old) (chained tables.now worker.old) }
+    ensures ready { IsReady tables.now worker.new }
+    ensures caller { words.caller worker.new.turns ≡ words.caller worker.old.turns }
+    ensures entered { words.draws worker.new.turns ≤ words.draws worker.old.turns + (length ports + 1) }
+    ensures chain { worker.new.chain ≡ worker.old.chain }
+    ensures carried { CarriedOut first_mine refused (buckets_of tables.now) (mine_of socket).owner.name
+        (plans.bind (mine_of socket) end ports) (turned worker.old) (turned worker.new)
+        (chained tables.now worker.old) (chained tables.now worker.new) (without_socket result) }
+    ensures alone { IsAlone (turned worker.old) → IsNow (chained tables.now worker.old).view
+        → CarriedOutAlone first_mine refused (buckets_of tables.now) (plans.bind (mine_of socket) end ports)
+        (words.given worker.old.turns) (words.given worker.new.turns)
+        (chained tables.now worker.old) (chained tables.now worker.new) (without_socket result) }
+    ensures port { IfOk result (λ bound. bound.1 ≡ (mine_of bound.0).owner.port) }
+    ensures back { IfErr result (λ refusal. refusal.0 ≡ socket) }
+    ensures stands { IfOk result (λ bound.
+        StandsAs tables.now bound.0 (turned worker.new) (chained tables.now worker.new)) }
+    ensures kept { OnErr result (StandsAs tables.now socket (turned worker.new) (chained tables.now worker.new)) }
+{
+    bind_shared(rt, tables, worker, socket, end, ports)
+}

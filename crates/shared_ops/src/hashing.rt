@@ -1,0 +1,67 @@
+//! Connected sockets that come into their chains.
+
+ghost use Rattle.std.specs.Prelude.{◌≡◌};
+ghost use Rattle.chain_deeds.specs.Sides.{HasRoom, IsResting, side_of};
+ghost use Rattle.nulls_chain.specs.Changes.{PlacesStay};
+ghost use Rattle.table_rule.specs.Calls.{HasShares};
+ghost use Rattle.table_rule.specs.Passes.{known};
+ghost use Rattle.shared_ops.specs.Hashing as spec;
+ghost use Rattle.shared_ops.specs.Hashing.{DrawnAs, InsertsAs, wish_for};
+
+use chain_book::{Place, Replace};
+use chain_deeds::{ChainPass, ChainTable};
+use flat_list::owned;
+use shared_sockets::InsertEnd;
+use sock_card::{Kind, Owner};
+use std::sync::Wait;
+use table_model::OpEnd;
+
+/// A connected socket that came: where it is hashed, and the name of the TIME_WAIT that it replaced.
+#[derive(Debug, Drop)]
+pub struct Came {
+    pub place: Place,
+    pub replaced: Option<u32>,
+}
+
+fn end_of(end: InsertEnd) -> OpEnd
+    ensures { result ≡ spec.insert_error end }
+{
+    match end {
+        InsertEnd::Taken(name) => OpEnd::Taken(name),
+        InsertEnd::Full(slots) => OpEnd::Full {
+            owned: slots.owned,
+            held: slots.held,
+        },
+    }
+}
+
+/// Hashes a full owner at that moment; a TIME_WAIT of its four-tuple may give way by that rule.
+pub(crate) fn insert<R: Wait>(
+    rt: &R,
+    chains: &ChainTable,
+    pass: &mut ChainPass,
+    full: &Owner,
+    moment: u32,
+    rule: Replace,
+) -> Result<Came, OpEnd>
+    requires rests { IsResting chains.now pass.old }
+    requires room { HasRoom 2 pass.old }
+    requires share { HasShares 4 (known pass.old.pass) }
+    ensures rests { IsResting chains.now pass.new }
+    ensures inserts { InsertsAs (wish_for full.now moment rule)
+        (side_of chains.now pass.old) (side_of chains.now pass.new) result }
+    ensures stay { PlacesStay (known pass.old.pass) (known pass.new.pass) }
+    ensures share { DrawnAs result (known pass.old.pass) (known pass.new.pass) }
+{
+    let card = owned::card_as(Kind::Full, full, 0);
+    match chain_deeds::insert(chains, rt, pass, &card, moment, rule) {
+        Ok(inserted) => Ok(Came {
+            place: Place {
+                bucket: inserted.place.bucket,
+                slot: inserted.place.slot,
+            },
+            replaced: inserted.replaced,
+        }),
+        Err(end) => Err(end_of(end)),
+    }
+}

@@ -1,0 +1,445 @@
+//! `close`, and `drop_sock` beside it, by which a socket is gone at once.
+
+ghost use Rattle.std.specs.Prelude.{◌≡◌, ◌+◌, ◌%◌, ◌^◌, ◌<◌, ◌≤◌, ◌∷◌, [], IfErr, OnErr};
+ghost use Rattle.sock_card.specs.declared.card.Kind.TheVariants as kinds;
+ghost use Rattle.turn_table.specs.Passes as words;
+ghost use Rattle.turn_table.specs.Passes.{known};
+ghost use Rattle.table_rule.specs.Passes as chain_words;
+ghost use Rattle.table_rule.specs.Calls.{HasShares};
+ghost use Rattle.table_rule.specs.Sole.{IsNow};
+ghost use Rattle.chain_book.specs.Homes.{home};
+ghost use Rattle.nulls_chain.specs.Changes.{IsPlaced, OthersStay};
+ghost use Rattle.shared_sockets.specs.Comings.{FourDrawn};
+ghost use Rattle.bind_buckets.specs.Callers.{MayName};
+ghost use Rattle.bind_buckets.specs.OwnTold.{StandsOwn};
+ghost use Rattle.bind_buckets.specs.Turned.{View, IsIdle, IsOut, IsAlone, Within, made};
+ghost use Rattle.chain_deeds.specs.Sides.{HasRoom, IsResting, side_of};
+ghost use Rattle.table_model.specs.Asking.{ends, unhashes};
+ghost use Rattle.table_model.specs.Operations as plans;
+ghost use Rattle.shared_ops.specs.Closes as spec;
+ghost use Rattle.shared_ops.specs.Closes.{ClosedBy, ClosedByAlone, Leaves, OthersKept, WaitsAs, is_gone, leave_entry, spot_of};
+ghost use Rattle.shared_ops.specs.Goes.{AskedAll, Went};
+ghost use Rattle.shared_ops.specs.Socks.{mine_of, without_socket};
+ghost use Rattle.shared_ops.specs.Spends.{Draws};
+ghost use Rattle.shared_ops.specs.Stands.{IsHashed, IsOwner, IsReady, IsThere, MayDraw, MayEnter, MayTell, StandsAs, buckets_of, chained, place_in, turned};
+
+use crate::asking;
+use crate::room::make_room;
+use crate::sock::{Connected, Listening, Sock};
+use crate::tables::{Tables, Worker};
+use bind_buckets::{Bucket, turning};
+use chain_book::Place;
+use chain_deeds::{ChainPass, ChainTable};
+use flat_list::owned;
+use shared_slots::Full;
+use sock_card::{Card, Kind, Owner, as_waiting};
+use std::alloc::AllocError;
+use std::marker::Model;
+use std::sync::Wait;
+use table_model::OpEnd;
+use turn_table::{Turn, TurnPass, Turns};
+
+/// A socket in TIME_WAIT, from the moment of its stamp on, and where it is hashed.
+#[derive(Debug, Drop)]
+pub struct Waiting {
+    pub(crate) owner: Owner,
+    pub(crate) stamp: u32,
+    pub(crate) place: Place,
+}
+
+impl Model for Waiting {
+    ghost use Rattle.table_model.specs.Own.{Mine};
+
+    ghost Value = { Mine };
+
+    ghost view = { λ w. record { owner = w.owner; extra = w.stamp; place = w.place } };
+}
+
+/// What became of a socket that was closed.
+#[derive(Debug, Drop)]
+pub enum Closed {
+    /// It is gone.
+    Plain,
+    /// It waits.
+    TimeWait(Waiting),
+    /// It is gone, since no slot was free for its TIME_WAIT: so many were seen owned, and so many only held.
+    NoSlot { owned: u32, held: u32 },
+}
+
+/// Where a connected socket stands, with its card.
+fn full_place(full: &Connected) -> nulls_chain::Place
+    ensures { result ≡ place_in kinds.Full full.now }
+{
+    nulls_chain::Place {
+        bucket: full.place.bucket,
+        slot: full.place.slot,
+        card: owned::card_as(Kind::Full, &full.owner, 0),
+    }
+}
+
+/// Where a listener stands, with its card.
+fn listener_place(listener: &Listening) -> nulls_chain::Place
+    ensures { result ≡ place_in kinds.Listen listener.now }
+{
+    nulls_chain::Place {
+        bucket: listener.place.bucket,
+        slot: listener.place.slot,
+        card: owned::card_as(Kind::Listen, &listener.owner, listener.extra),
+    }
+}
+
+/// Hashes a TIME_WAIT, and then takes out who stands at that place of the same chain.
+fn replace<R: Wait>(
+    rt: &R,
+    chains: &ChainTable,
+    pass: &mut ChainPass,
+    place: nulls_chain::Place,
+    card: &Card,
+) -> Result<Place, Full>
+    requires rests { IsResting chains.now pass.old }
+    requires home { place.bucket ≡ home chains.now.layout.shape chains.now.layout.seed place.card }
+    requires chain { home chains.now.layout.shape chains.now.layout.seed card.now ≡ place.bucket }
+    requires waits { card.now.kind ≡ kinds.TimeWait }
+    requires place { IsPlaced place (chain_words.known pass.old.pass).book }
+    requires room { HasRoom 2 pass.old }
+    requires share { HasShares 4 (chain_words.known pass.old.pass) }
+    ensures rests { IsResting chains.now pass.new }
+    ensures waits { WaitsAs place card.now (side_of chains.now pass.old) (side_of chains.now pass.new) result }
+    ensures stay { OthersStay place.slot (chain_words.known pass.old.pass) (chain_words.known pass.new.pass) }
+    ensures share { FourDrawn (chain_words.known pass.old.pass) (chain_words.known pass.new.pass) }
+{
+    match chain_deeds::time_wait(chains, rt, pass, place, card) {
+        Ok(place) => Ok(Place {
+            bucket: place.bucket,
+            slot: place.slot,
+        }),
+        Err(slots) => Err(slots),
+    }
+}
+
+/// Leaves a TIME_WAIT in the place of a connected socket, and then tells the bucket that is out.
+fn wait_in<R: Wait>(
+    rt: &R,
+    tables: &Tables,
+    worker: &mut Worker,
+    turn: Turn<Box<Bucket>>,
+    full: &Connected,
+    moment: u32,
+) -> Closed
+    requires out { IsOut tables.now.buckets worker.old.turns turn }
+    requires place { turn.place ≡ full.now.owner.port % buckets_of tables.now }
+    requires made { made worker.old.turns turn ≡ [] }
+    requires enters { MayEnter 1 worker.old }
+    requires may { MayTell worker.old full.now.owner.name }
+    requires there { IsThere turn full.now.owner }
+    requires entry { 1 ≤ turn.value.value.entries }
+    requires rests { IsResting tables.now.chains worker.old.chain }
+    requires room { HasRoom 2 worker.old.chain }
+    requires draws { MayDraw 4 worker.old }
+    requires hashed { IsHashed kinds.Full full.now (chained tables.now worker.old) }
+    ensures ready { IsReady tables.now worker.new }
+    ensures caller { words.caller worker.new.turns ≡ words.caller worker.old.turns }
+    ensures entered { words.draws worker.new.turns ≤ words.draws worker.old.turns + 1 }
+    ensures drawn { Draws 4 worker.old worker.new }
+    ensures went { (v : View) → Within v (turned worker.old) → Went (buckets_of tables.now)
+        (plans.close_full tables.now.chains.layout.shape tables.now.chains.layout.seed full.now (plans.wait_of full.now moment))
+        v (turned worker.new) (chained tables.now worker.old) (chained tables.now worker.new) (ends (spec.became result)) }
+    ensures stay { OthersStay full.now.place.slot (chained tables.now worker.old).view (chained tables.now worker.new).view }
+{
+    let waiting = as_waiting(full.owner);
+    let card = owned::card_as(Kind::TimeWait, &waiting, moment);
+    let mut turn = turn;
+    match replace(
+        rt,
+        &tables.chains,
+        &mut worker.chain,
+        full_place(full),
+        &card,
+    ) {
+        Ok(place) => {
+            asking::to_time_wait(&tables.buckets, &mut worker.turns, &mut turn, &full.owner);
+            turning::give(&tables.buckets, &mut worker.turns, turn);
+            Closed::TimeWait(Waiting {
+                owner: waiting,
+                stamp: moment,
+                place,
+            })
+        }
+        Err(slots) => {
+            asking::remove(&tables.buckets, &mut worker.turns, &mut turn, &full.owner);
+            turning::give(&tables.buckets, &mut worker.turns, turn);
+            Closed::NoSlot {
+                owned: slots.owned,
+                held: slots.held,
+            }
+        }
+    }
+}
+
+/// Closes a connected socket: its TIME_WAIT stands before it is gone, and then its port's bucket knows, in one turn.
+fn close_full<R: Wait>(
+    rt: &R,
+    tables: &Tables,
+    worker: &mut Worker,
+    full: &Connected,
+    moment: u32,
+) -> Result<Closed, AllocError>
+    requires ready { IsReady tables.now worker.old }
+    requires enters { MayEnter 1 worker.old }
+    requires draws { MayDraw 4 worker.old }
+    requires may { MayTell worker.old full.now.owner.name }
+    requires stands { IsOwner tables.now full.now.owner (turned worker.old) }
+    requires hashed { IsHashed kinds.Full full.now (chained tables.now worker.old) }
+    ensures ready { IsReady tables.now worker.new }
+    ensures caller { words.caller worker.new.turns ≡ words.caller worker.old.turns }
+    ensures entered { words.draws worker.new.turns ≤ words.draws worker.old.turns + 1 }
+    ensures drawn { Draws 4 worker.old worker.new }
+    ensures carried { Leaves spec.became (buckets_of tables.now) full.now.owner.name
+        (plans.close_full tables.now.chains.layout.shape tables.now.chains.layout.seed full.now (plans.wait_of full.now moment))
+        (turned worker.old) (turned worker.new)
+        (chained tables.now worker.old) (chained tables.now worker.new) result }
+    ensures kept { OnErr result (IsOwner tables.now full.now.owner (turned worker.new)
+        × IsHashed kinds.Full full.now (chained tables.now worker.new)) }
+    ensures stay { OthersStay full.now.place.slot (chained tables.now worker.old).view (chained tables.now worker.new).view }
+{
+    let mut turn = asking::take(rt, &tables.buckets, &mut worker.turns, &full.owner);
+    match make_room(tables, worker, &mut turn, 2) {
+        Ok(()) => Ok(wait_in(rt, tables, worker, turn, full, moment)),
+        Err(end) => {
+            turning::give(&tables.buckets, &mut worker.turns, turn);
+            Err(end)
+        }
+    }
+}
+
+/// Lets a bound owner leave its port. It takes no memory.
+fn leave_port<R: Wait>(
+    rt: &R,
+    buckets: &Turns<Box<Bucket>>,
+    pass: &mut TurnPass<Box<Bucket>>,
+    owner: &Owner,
+)
+    requires idle { IsIdle buckets.now pass.old }
+    requires few { words.draws pass.old < 2 ^ 48 }
+    requires may { MayName (words.caller pass.old) owner.now.name }
+    requires stands { StandsOwn owner.now (owner.now.port % words.places buckets.now) (known pass.old) }
+    ensures idle { IsIdle buckets.now pass.new }
+    ensures caller { words.caller pass.new ≡ words.caller pass.old }
+    ensures draws { words.draws pass.new ≤ words.draws pass.old + 1 }
+    ensures gave { AskedAll (owner.now.port % words.places buckets.now) (leave_entry owner.now ∷ []) (known pass.old) (known pass.new) }
+{
+    let mut turn = asking::take(rt, buckets, pass, owner);
+    asking::remove(buckets, pass, &mut turn, owner);
+    turning::give(buckets, pass, turn);
+}
+
+/// Takes a socket out of its chain, and then its owner out of its port's bucket, in one turn.
+fn leave_chain<R: Wait>(
+    rt: &R,
+    tables: &Tables,
+    worker: &mut Worker,
+    owner: &Owner,
+    place: nulls_chain::Place,
+) -> Result<(), AllocError>
+    requires ready { IsReady tables.now worker.old }
+    requires enters { MayEnter 1 worker.old }
+    requires draws { MayDraw 2 worker.old }
+    requires may { MayTell worker.old owner.now.name }
+    requires stands { IsOwner tables.now owner.now (turned worker.old) }
+    requires home { place.bucket ≡ home tables.now.chains.layout.shape tables.now.chains.layout.seed place.card }
+    requires placed { IsPlaced place (chained tables.now worker.old).view.book }
+    ensures ready { IsReady tables.now worker.new }
+    ensures caller { words.caller worker.new.turns ≡ words.caller worker.old.turns }
+    ensures entered { words.draws worker.new.turns ≤ words.draws worker.old.turns + 1 }
+    ensures drawn { Draws 2 worker.old worker.new }
+    ensures carried { Leaves is_gone (buckets_of tables.now) owner.now.name
+        (unhashes (spot_of place) place.card (plans.leave owner.now plans.gone))
+        (turned worker.old) (turned worker.new)
+        (chained tables.now worker.old) (chained tables.now worker.new) result }
+    ensures kept { OnErr result (IsOwner tables.now owner.now (turned worker.new)) }
+    ensures side { OnErr result (chained tables.now worker.new ≡ chained tables.now worker.old) }
+    ensures stay { OthersStay place.slot (chained tables.now worker.old).view (chained tables.now worker.new).view }
+{
+    let mut turn = asking::take(rt, &tables.buckets, &mut worker.turns, owner);
+    match make_room(tables, worker, &mut turn, 1) {
+        Ok(()) => {
+            chain_deeds::remove(&tables.chains, rt, &mut worker.chain, place);
+            asking::remove(&tables.buckets, &mut worker.turns, &mut turn, owner);
+            turning::give(&tables.buckets, &mut worker.turns, turn);
+            Ok(())
+        }
+        Err(end) => {
+            turning::give(&tables.buckets, &mut worker.turns, turn);
+            Err(end)
+        }
+    }
+}
+
+/// Lets a socket go at once, without TIME_WAIT.
+fn leave<R: Wait>(
+    rt: &R,
+    tables: &Tables,
+    worker: &mut Worker,
+    socket: &Sock,
+) -> Result<(), AllocError>
+    requires ready { IsReady tables.now worker.old }
+    requires enters { MayEnter 1 worker.old }
+    requires draws { MayDraw 2 worker.old }
+    requires may { MayTell worker.old (mine_of socket.now).owner.name }
+    requires stands { StandsAs tables.now socket.now (turned worker.old) (chained tables.now worker.old) }
+    ensures ready { IsReady tables.now worker.new }
+    ensures caller { words.caller worker.new.turns ≡ words.caller worker.old.turns }
+    ensures entered { words.draws worker.new.turns ≤ words.draws worker.old.turns + 1 }
+    ensures drawn { Draws 2 worker.old worker.new }
+    ensures carried { Leaves is_gone (buckets_of tables.now) (mine_of socket.now).owner.name
+        (plans.drop (mine_of socket.now) plans.gone)
+        (turned worker.old) (turned worker.new)
+        (chained tables.now worker.old) (chained tables.now worker.new) result }
+    ensures kept { OnErr result (StandsAs tables.now socket.now (turned worker.new) (chained tables.now worker.new)) }
+    ensures stay { OthersKept socket.now (chained tables.now worker.old).view (chained tables.now worker.new).view }
+{
+    let owner = socket.owner();
+    match socket {
+        Sock::Unbound(_) => Ok(()),
+        Sock::Bound(_) => {
+            leave_port(rt, &tables.buckets, &mut worker.turns, owner);
+            Ok(())
+        }
+        Sock::Listening(listener) => {
+            leave_chain(rt, tables, worker, owner, listener_place(listener))
+        }
+        Sock::Full(full) => leave_chain(rt, tables, worker, owner, full_place(full)),
+    }
+}
+
+fn drop_answer(socket: Sock, left: Result<(), AllocError>) -> Result<(), (Sock, OpEnd)>
+    ensures { result ≡ spec.drop_answer socket left }
+{
+    match left {
+        Ok(()) => Ok(()),
+        Err(_) => Err((socket, OpEnd::Memory)),
+    }
+}
+
+fn close_answer(socket: Sock, closed: Result<Closed, AllocError>) -> Result<Closed, (Sock, OpEnd)>
+    ensures { result ≡ spec.close_answer socket closed }
+{
+    match closed {
+        Ok(closed) => Ok(closed),
+        Err(_) => Err((socket, OpEnd::Memory)),
+    }
+}
+
+/// What [`close`] comes to; the socket stays where memory is wanting.
+fn close_as<R: Wait>(
+    rt: &R,
+    tables: &Tables,
+    worker: &mut Worker,
+    socket: &Sock,
+    moment: u32,
+) -> Result<Closed, AllocError>
+    requires ready { IsReady tables.now worker.old }
+    requires enters { MayEnter 1 worker.old }
+    requires draws { MayDraw 4 worker.old }
+    requires may { MayTell worker.old (mine_of socket.now).owner.name }
+    requires stands { StandsAs tables.now socket.now (turned worker.old) (chained tables.now worker.old) }
+    ensures ready { IsReady tables.now worker.new }
+    ensures caller { words.caller worker.new.turns ≡ words.caller worker.old.turns }
+    ensures entered { words.draws worker.new.turns ≤ words.draws worker.old.turns + 1 }
+    ensures drawn { Draws 4 worker.old worker.new }
+    ensures carried { Leaves spec.became (buckets_of tables.now) (mine_of socket.now).owner.name
+        (plans.close tables.now.chains.layout.shape tables.now.chains.layout.seed (mine_of socket.now) moment)
+        (turned worker.old) (turned worker.new)
+        (chained tables.now worker.old) (chained tables.now worker.new) result }
+    ensures kept { OnErr result (StandsAs tables.now socket.now (turned worker.new) (chained tables.now worker.new)) }
+    ensures stay { OthersKept socket.now (chained tables.now worker.old).view (chained tables.now worker.new).view }
+{
+    let _owner = socket.owner();
+    if let Sock::Full(full) = socket {
+        return close_full(rt, tables, worker, full, moment);
+    }
+    match leave(rt, tables, worker, socket) {
+        Ok(()) => Ok(Closed::Plain),
+        Err(end) => Err(end),
+    }
+}
+
+/// Closes a socket at that moment, in seconds: a connected one leaves a TIME_WAIT, any other is gone.
+///
+/// Where no slot is free for the TIME_WAIT the socket goes without one, and the answer tells how full the slots are. Its
+/// plan goes on so by the answers of the entries that this call gave and by the changes that it made, whoever else was at
+/// the tables. On a worker that was never split, the plan comes to that on the tables that its own entries and changes
+/// make.
+///
+/// # Errors
+///
+/// `Memory`: a bucket or the worker's list of changes wanted memory, before anything was done. The socket comes back as it
+/// was.
+pub fn close<R: Wait>(
+    rt: &R,
+    tables: &Tables,
+    worker: &mut Worker,
+    socket: Sock,
+    moment: u32,
+) -> Result<Closed, (Sock, OpEnd)>
+    requires ready { IsReady tables.now worker.old }
+    requires enters { MayEnter 1 worker.old }
+    requires draws { MayDraw 4 worker.old }
+    requires may { MayTell worker.old (mine_of socket).owner.name }
+    requires stands { StandsAs tables.now socket (turned worker.old) (chained tables.now worker.old) }
+    ensures ready { IsReady tables.now worker.new }
+    ensures caller { words.caller worker.new.turns ≡ words.caller worker.old.turns }
+    ensures entered { words.draws worker.new.turns ≤ words.draws worker.old.turns + 1 }
+    ensures drawn { Draws 4 worker.old worker.new }
+    ensures carried { ClosedBy spec.became (buckets_of tables.now) (mine_of socket).owner.name
+        (plans.close tables.now.chains.layout.shape tables.now.chains.layout.seed (mine_of socket) moment)
+        (turned worker.old) (turned worker.new)
+        (chained tables.now worker.old) (chained tables.now worker.new) (without_socket result) }
+    ensures alone { IsAlone (turned worker.old) → IsNow (chained tables.now worker.old).view
+        → ClosedByAlone spec.became (buckets_of tables.now)
+        (plans.close tables.now.chains.layout.shape tables.now.chains.layout.seed (mine_of socket) moment)
+        (words.given worker.old.turns) (words.given worker.new.turns)
+        (chained tables.now worker.old) (chained tables.now worker.new) (without_socket result) }
+    ensures back { IfErr result (λ refusal. refusal.0 ≡ socket) }
+    ensures kept { OnErr result (StandsAs tables.now socket (turned worker.new) (chained tables.now worker.new)) }
+    ensures stay { OthersKept socket (chained tables.now worker.old).view (chained tables.now worker.new).view }
+{
+    let closed = close_as(rt, tables, worker, &socket, moment);
+    close_answer(socket, closed)
+}
+
+/// Lets a socket go at once, without TIME_WAIT. Its plan goes on so as that of [`close`] does.
+///
+/// # Errors
+///
+/// `Memory`, as for [`close`].
+pub fn drop_sock<R: Wait>(
+    rt: &R,
+    tables: &Tables,
+    worker: &mut Worker,
+    socket: Sock,
+) -> Result<(), (Sock, OpEnd)>
+    requires ready { IsReady tables.now worker.old }
+    requires enters { MayEnter 1 worker.old }
+    requires draws { MayDraw 2 worker.old }
+    requires may { MayTell worker.old (mine_of socket).owner.name }
+    requires stands { StandsAs tables.now socket (turned worker.old) (chained tables.now worker.old) }
+    ensures ready { IsReady tables.now worker.new }
+    ensures caller { words.caller worker.new.turns ≡ words.caller worker.old.turns }
+    ensures entered { words.draws worker.new.turns ≤ words.draws worker.old.turns + 1 }
+    ensures drawn { Draws 2 worker.old worker.new }
+    ensures carried { ClosedBy is_gone (buckets_of tables.now) (mine_of socket).owner.name
+        (plans.drop (mine_of socket) plans.gone)
+        (turned worker.old) (turned worker.new)
+        (chained tables.now worker.old) (chained tables.now worker.new) (without_socket result) }
+    ensures alone { IsAlone (turned worker.old) → IsNow (chained tables.now worker.old).view
+        → ClosedByAlone is_gone (buckets_of tables.now) (plans.drop (mine_of socket) plans.gone)
+        (words.given worker.old.turns) (words.given worker.new.turns)
+        (chained tables.now worker.old) (chained tables.now worker.new) (without_socket result) }
+    ensures back { IfErr result (λ refusal. refusal.0 ≡ socket) }
+    ensures kept { OnErr result (StandsAs tables.now socket (turned worker.new) (chained tables.now worker.new)) }
+    ensures stay { OthersKept socket (chained tables.now worker.old).view (chained tables.now worker.new).view }
+{
+    let left = leave(rt, tables, worker, &socket);
+    drop_answer(socket, left)
+}

@@ -1,0 +1,40 @@
+//! The operations on TCP sockets over tables that threads share: `bind`, `listen`, `connect`, `accept`, `close`, `reap`.
+//!
+//! [`Tables`] are the bind buckets under turns and the chain table; a [`Worker`] is a thread's part in both. A socket is a value of its own type for each state, [`Sock`], which an operation takes and hands
+//! back: a refused one as it came. An operation takes the turn of its port's bind bucket, makes room, and then takes a
+//! chain's lock: never two turns and never two locks. So want of memory comes before anything has changed. What an
+//! operation asks of buckets and chains, in which order, and what it comes to is its plan in table_model; each
+//! contract says which deeds it did by that plan, whoever else was at the tables, and that on a worker which was never
+//! split the plan, carried out on the tables that its own entries and changes make, comes to the same.
+//!
+//! ```text
+//! let (tables, mut worker) = Tables::new(alloc, shape, seed)?;
+//! let socket = Sock::Unbound(Unbound::new(name, options));
+//! let (socket, port) = bind(&rt, &tables, &mut worker, socket, end, ports)?;
+//! ```
+#![tactic(auto)]
+
+pub mod accepting;
+mod asking;
+pub mod binding;
+pub mod connecting;
+mod hashing;
+pub mod leaving;
+pub mod listening;
+pub mod reaping;
+mod room;
+mod searching;
+pub mod sock;
+pub mod tables;
+#[cfg(test)]
+mod tests;
+
+pub use accepting::accept;
+pub use binding::bind;
+pub use connecting::connect;
+pub use leaving::{Closed, Waiting, close, drop_sock};
+pub use listening::listen;
+pub use reaping::reap_one;
+pub use sock::{Bound, Connected, Listening, Sock, Unbound};
+pub use table_model::OpEnd;
+pub use tables::{Tables, Worker};

@@ -1,0 +1,364 @@
+//! `listen`.
+
+ghost use Rattle.std.specs.Prelude.{◌≡◌, ◌+◌, ◌%◌, ◌^◌, ◌<◌, ◌≤◌, ◌++◌, ◌∷◌, [], length, IfOk, IfErr, OnErr, IfSome};
+ghost use Rattle.std.specs.Option.{option_map_or};
+ghost use Rattle.sock_card.specs.declared.card.Kind.TheVariants as kinds;
+ghost use Rattle.turn_table.specs.Passes as words;
+ghost use Rattle.turn_table.specs.Passes.{known};
+ghost use Rattle.table_rule.specs.Passes as chain_words;
+ghost use Rattle.table_rule.specs.Calls.{HasShares};
+ghost use Rattle.table_rule.specs.Sole.{IsNow};
+ghost use Rattle.nulls_chain.specs.Changes.{PlacesStay, TwoDrawn};
+ghost use Rattle.bind_buckets.specs.declared.request.Answer.TheVariants as answers;
+ghost use Rattle.bind_buckets.specs.Answers.{answer_of_end};
+ghost use Rattle.bind_buckets.specs.Bucket.{entries_of, CanListen};
+ghost use Rattle.bind_buckets.specs.Callers.{MayName};
+ghost use Rattle.bind_buckets.specs.Turned.{View, IsIdle, IsOut, IsAlone, Within, made};
+ghost use Rattle.chain_deeds.specs.Sides.{HasRoom, IsResting, side_of};
+ghost use Rattle.table_model.specs.Asking.{ends};
+ghost use Rattle.table_model.specs.Operations as plans;
+ghost use Rattle.shared_ops.specs.Goes.{AskedAll, CarriedOut, CarriedOutAlone, gone_if};
+ghost use Rattle.shared_ops.specs.Listens as spec;
+ghost use Rattle.shared_ops.specs.Listens.{AddsAs, IsKnownEnd, SaysListen, TellsAs, asked_listen};
+ghost use Rattle.shared_ops.specs.Socks.{mine_of, first_mine, without_socket};
+ghost use Rattle.shared_ops.specs.Stands.{IsAway, IsHashed, IsOwner, IsReady, IsThere, MayDraw, MayEnter, MayTell, StandsAs, buckets_of, chained, turned};
+ghost use Rattle.shared_ops.specs.Spends.{Draws};
+
+use crate::asking;
+use crate::room::make_room;
+use crate::sock::{Listening, Sock};
+use crate::tables::{Tables, Worker};
+use bind_buckets::{Bucket, ListenEnd, turning};
+use chain_book::Place;
+use chain_deeds::{ChainPass, ChainTable};
+use flat_list::owned;
+use port_search::turning::find_bind;
+use port_search::{Ports, SearchEnd};
+use sock_card::{Card, Kind, Owner, as_listener};
+use std::sync::Wait;
+use table_model::OpEnd;
+use turn_table::{Turn, TurnPass, Turns};
+
+fn end_of(end: ListenEnd) -> OpEnd
+    requires { IsKnownEnd end }
+    ensures { SaysListen (answer_of_end end) result }
+{
+    match end {
+        ListenEnd::InUse(name) => OpEnd::InUse(name),
+        ListenEnd::GroupFull => OpEnd::GroupFull,
+        ListenEnd::GroupsFull => OpEnd::GroupsFull,
+        ListenEnd::Strange(_) => unreachable!(),
+    }
+}
+
+/// What a listener's card says of its group: its number and 1, or 0.
+fn extra_of(group: Option<u32>) -> u32
+    requires { IfSome group (λ number. number < 2048) }
+    ensures { result ≡ option_map_or (λ number. number + 1) group 0 }
+{
+    match group {
+        Some(number) => number + 1,
+        None => 0,
+    }
+}
+
+/// Hashes a listener, whose place comes with it.
+fn hash<R: Wait>(
+    rt: &R,
+    chains: &ChainTable,
+    pass: &mut ChainPass,
+    card: &Card,
+) -> Result<Place, OpEnd>
+    requires rests { IsResting chains.now pass.old }
+    requires listens { card.now.kind ≡ Kind.Listen }
+    requires room { HasRoom 1 pass.old }
+    requires share { HasShares 2 (chain_words.known pass.old.pass) }
+    ensures rests { IsResting chains.now pass.new }
+    ensures adds { AddsAs card.now (side_of chains.now pass.old) (side_of chains.now pass.new) result }
+    ensures stay { PlacesStay (chain_words.known pass.old.pass) (chain_words.known pass.new.pass) }
+    ensures share { TwoDrawn (chain_words.known pass.old.pass) (chain_words.known pass.new.pass) }
+{
+    match chain_deeds::add(chains, rt, pass, card) {
+        Ok(place) => Ok(Place {
+            bucket: place.bucket,
+            slot: place.slot,
+        }),
+        Err(slots) => Err(OpEnd::Full {
+            owned: slots.owned,
+            held: slots.held,
+        }),
+    }
+}
+
+/// Gives a bucket back; an owner whose port this call took leaves it before.
+fn give_back(
+    buckets: &Turns<Box<Bucket>>,
+    pass: &mut TurnPass<Box<Bucket>>,
+    turn: Turn<Box<Bucket>>,
+    owner: &Owner,
+    took: bool,
+)
+    requires out { IsOut buckets.now pass.old turn }
+    requires few { words.draws pass.old < 2 ^ 48 }
+    requires may { MayName (words.caller pass.old) owner.now.name }
+    requires there { IsThere turn owner.now }
+    ensures idle { IsIdle buckets.now pass.new }
+    ensures caller { words.caller pass.new ≡ words.caller pass.old }
+    ensures draws { words.draws pass.new ≤ words.draws pass.old + 1 }
+    ensures gave { (v : View) → Within v (known pass.old)
+        → AskedAll turn.place (entries_of (made pass.old turn) ++ gone_if took owner.now) v (known pass.new) }
+{
+    let mut turn = turn;
+    if took {
+        asking::remove(buckets, pass, &mut turn, owner);
+        turning::give(buckets, pass, turn);
+    } else {
+        turning::give(buckets, pass, turn);
+    }
+}
+
+/// Hashes the owner, which may listen as the bucket stands that is out, and tells the bucket.
+fn start_in<R: Wait>(
+    rt: &R,
+    tables: &Tables,
+    worker: &mut Worker,
+    turn: Turn<Box<Bucket>>,
+    owner: &Owner,
+    took: bool,
+    group: Option<u32>,
+) -> Result<Listening, OpEnd>
+    requires out { IsOut tables.now.buckets worker.old.turns turn }
+    requires place { turn.place ≡ owner.now.port % buckets_of tables.now }
+    requires enters { MayEnter 1 worker.old }
+    requires may { MayTell worker.old owner.now.name }
+    requires there { IsThere turn owner.now }
+    requires free { CanListen turn.value.value owner.now.name }
+    requires entry { 1 ≤ turn.value.value.entries }
+    requires group { IfSome group (λ number. number < 2048) }
+    requires rests { IsResting tables.now.chains worker.old.chain }
+    requires room { HasRoom 1 worker.old.chain }
+    requires draws { MayDraw 2 worker.old }
+    ensures ready { IsReady tables.now worker.new }
+    ensures caller { words.caller worker.new.turns ≡ words.caller worker.old.turns }
+    ensures entered { words.draws worker.new.turns ≤ words.draws worker.old.turns + 1 }
+    ensures drawn { Draws 2 worker.old worker.new }
+    ensures carried { (v : View) → Within v (turned worker.old)
+        → entries_of (made worker.old.turns turn) ≡ asked_listen owner.now (answers.Group group) ∷ []
+        → CarriedOut plans.done plans.refused (buckets_of tables.now) owner.now.name
+        (plans.listen_at tables.now.chains.layout.shape tables.now.chains.layout.seed took owner.now)
+        v (turned worker.new) (chained tables.now worker.old) (chained tables.now worker.new) result }
+    ensures tells { (v : View) → Within v (turned worker.old)
+        → entries_of (made worker.old.turns turn) ≡ asked_listen owner.now (answers.Group group) ∷ []
+        → TellsAs (owner.now.port % buckets_of tables.now) owner.now took v (turned worker.new) result }
+    ensures hashed { IfOk result (λ l. IsHashed kinds.Listen l (chained tables.now worker.new)) }
+    ensures stay { PlacesStay (chained tables.now worker.old).view (chained tables.now worker.new).view }
+{
+    let listener = as_listener(*owner);
+    let extra = extra_of(group);
+    let card = owned::card_as(Kind::Listen, &listener, extra);
+    match hash(rt, &tables.chains, &mut worker.chain, &card) {
+        Ok(place) => {
+            let mut turn = turn;
+            turning::listen(
+                &tables.buckets,
+                &mut worker.turns,
+                &mut turn,
+                owner.name,
+                place.slot,
+            );
+            turning::give(&tables.buckets, &mut worker.turns, turn);
+            Ok(Listening::at_place(listener, extra, place))
+        }
+        Err(end) => {
+            give_back(&tables.buckets, &mut worker.turns, turn, owner, took);
+            Err(end)
+        }
+    }
+}
+
+/// Lets a bound owner listen: its port's bucket says whether it may and in which group, it is hashed, and then the
+/// bucket knows, all in one turn. One that is refused, and whose port this call took, leaves its port in that turn.
+fn start<R: Wait>(
+    rt: &R,
+    tables: &Tables,
+    worker: &mut Worker,
+    owner: &Owner,
+    took: bool,
+) -> Result<Listening, OpEnd>
+    requires ready { IsReady tables.now worker.old }
+    requires enters { MayEnter 2 worker.old }
+    requires draws { MayDraw 2 worker.old }
+    requires may { MayTell worker.old owner.now.name }
+    requires stands { IsOwner tables.now owner.now (turned worker.old) }
+    ensures ready { IsReady tables.now worker.new }
+    ensures caller { words.caller worker.new.turns ≡ words.caller worker.old.turns }
+    ensures entered { words.draws worker.new.turns ≤ words.draws worker.old.turns + 2 }
+    ensures drawn { Draws 2 worker.old worker.new }
+    ensures carried { CarriedOut plans.done plans.refused (buckets_of tables.now) owner.now.name
+        (plans.listen_at tables.now.chains.layout.shape tables.now.chains.layout.seed took owner.now)
+        (turned worker.old) (turned worker.new)
+        (chained tables.now worker.old) (chained tables.now worker.new) result }
+    ensures tells { TellsAs (owner.now.port % buckets_of tables.now) owner.now took
+        (turned worker.old) (turned worker.new) result }
+    ensures hashed { IfOk result (λ l. IsHashed kinds.Listen l (chained tables.now worker.new)) }
+    ensures stay { PlacesStay (chained tables.now worker.old).view (chained tables.now worker.new).view }
+{
+    let mut turn = asking::take(rt, &tables.buckets, &mut worker.turns, owner);
+    match make_room(tables, worker, &mut turn, 1) {
+        Ok(()) => match asking::may_listen(&tables.buckets, &mut worker.turns, &mut turn, owner) {
+            Ok(group) => start_in(rt, tables, worker, turn, owner, took, group),
+            Err(end) => {
+                give_back(&tables.buckets, &mut worker.turns, turn, owner, took);
+                Err(end_of(end))
+            }
+        },
+        Err(_) => {
+            give_back(&tables.buckets, &mut worker.turns, turn, owner, took);
+            Err(OpEnd::Memory)
+        }
+    }
+}
+
+/// Lets an owner without a port listen, at 0.0.0.0 and the first port that it can have.
+fn start_unbound<R: Wait>(
+    rt: &R,
+    tables: &Tables,
+    worker: &mut Worker,
+    owner: Owner,
+    ports: Ports,
+) -> Result<Listening, OpEnd>
+    requires ready { IsReady tables.now worker.old }
+    requires enters { MayEnter (length ports + 2) worker.old }
+    requires draws { MayDraw 2 worker.old }
+    requires may { MayTell worker.old owner.name }
+    requires away { IsAway owner.name (turned worker.old) }
+    ensures ready { IsReady tables.now worker.new }
+    ensures caller { words.caller worker.new.turns ≡ words.caller worker.old.turns }
+    ensures entered { words.draws worker.new.turns ≤ words.draws worker.old.turns + (length ports + 2) }
+    ensures drawn { Draws 2 worker.old worker.new }
+    ensures carried { CarriedOut plans.done plans.refused (buckets_of tables.now) owner.name
+        (plans.search_bind owner 0
+        (plans.listen_found tables.now.chains.layout.shape tables.now.chains.layout.seed owner)
+        (ends (plans.refused OpEnd.NoPort)) ports)
+        (turned worker.old) (turned worker.new)
+        (chained tables.now worker.old) (chained tables.now worker.new) result }
+    ensures stands { IfOk result (λ l. IsOwner tables.now l.owner (turned worker.new)) }
+    ensures hashed { IfOk result (λ l. IsHashed kinds.Listen l (chained tables.now worker.new)) }
+    ensures kept { OnErr result (IsAway owner.name (turned worker.new)) }
+    ensures stay { PlacesStay (chained tables.now worker.old).view (chained tables.now worker.new).view }
+{
+    let wanted = owned::bound_at(owner, 0, 0);
+    match find_bind(rt, &tables.buckets, &mut worker.turns, ports, wanted) {
+        Ok(port) => {
+            let bound = owned::bound_at(owner, 0, port);
+            start(rt, tables, worker, &bound, true)
+        }
+        Err(SearchEnd::NoPort) => Err(OpEnd::NoPort),
+        Err(SearchEnd::Full { owned, held }) => Err(OpEnd::Full { owned, held }),
+        Err(SearchEnd::Memory) => Err(OpEnd::Memory),
+    }
+}
+
+fn listen_answer(
+    socket: Sock,
+    started: Result<Listening, OpEnd>,
+) -> Result<(Sock, u16), (Sock, OpEnd)>
+    ensures { result ≡ spec.listen_answer socket started }
+{
+    match started {
+        Ok(listener) => {
+            let port = listener.port();
+            Ok((Sock::Listening(listener), port))
+        }
+        Err(end) => Err((socket, end)),
+    }
+}
+
+/// [`listen`], among others.
+fn listen_shared<R: Wait>(
+    rt: &R,
+    tables: &Tables,
+    worker: &mut Worker,
+    socket: Sock,
+    ports: Ports,
+) -> Result<(Sock, u16), (Sock, OpEnd)>
+    requires ready { IsReady tables.now worker.old }
+    requires enters { MayEnter (length ports + 2) worker.old }
+    requires draws { MayDraw 2 worker.old }
+    requires may { MayTell worker.old (mine_of socket).owner.name }
+    requires stands { StandsAs tables.now socket (turned worker.old) (chained tables.now worker.old) }
+    ensures ready { IsReady tables.now worker.new }
+    ensures caller { words.caller worker.new.turns ≡ words.caller worker.old.turns }
+    ensures entered { words.draws worker.new.turns ≤ words.draws worker.old.turns + (length ports + 2) }
+    ensures drawn { Draws 2 worker.old worker.new }
+    ensures carried { CarriedOut first_mine plans.refused (buckets_of tables.now) (mine_of socket).owner.name
+        (plans.listen tables.now.chains.layout.shape tables.now.chains.layout.seed (mine_of socket) ports)
+        (turned worker.old) (turned worker.new)
+        (chained tables.now worker.old) (chained tables.now worker.new) (without_socket result) }
+    ensures port { IfOk result (λ listens. listens.1 ≡ (mine_of listens.0).owner.port) }
+    ensures back { IfErr result (λ refusal. refusal.0 ≡ socket) }
+    ensures stands { IfOk result (λ listens. StandsAs tables.now listens.0 (turned worker.new) (chained tables.now worker.new)) }
+    ensures kept { OnErr result (StandsAs tables.now socket (turned worker.new) (chained tables.now worker.new)) }
+    ensures stay { PlacesStay (chained tables.now worker.old).view (chained tables.now worker.new).view }
+{
+    let owner = *socket.owner();
+    match socket {
+        Sock::Unbound(unbound) => {
+            let started = start_unbound(rt, tables, worker, owner, ports);
+            listen_answer(Sock::Unbound(unbound), started)
+        }
+        Sock::Bound(bound) => {
+            let started = start(rt, tables, worker, &owner, false);
+            listen_answer(Sock::Bound(bound), started)
+        }
+        Sock::Listening(listener) => Ok((Sock::Listening(listener), owner.port)),
+        Sock::Full(full) => Err((Sock::Full(full), OpEnd::Inval)),
+    }
+}
+
+/// Lets a socket listen; its port comes with it. One without a port takes the first of a search, at 0.0.0.0. A listener
+/// stays as it is.
+///
+/// Its plan goes on so by the answers of the entries that this call gave and by the changes that it made, whoever else was
+/// at the tables. On a worker that was never split, the plan comes to that on the tables that its own entries and changes
+/// make.
+///
+/// # Errors
+///
+/// `Inval`: it is connected. `InUse`: the owner of that name keeps it from listening. `NoPort`: each of the ports was
+/// refused, at its own turn. `GroupFull` and `GroupsFull`: no place in a group of listeners. `Full`: no slot was free.
+/// `Memory`: a bucket or the worker's list of changes wanted memory; the ports that were refused before stay told. A
+/// refused socket comes back as it was; a port that this call took for it is given up.
+pub fn listen<R: Wait>(
+    rt: &R,
+    tables: &Tables,
+    worker: &mut Worker,
+    socket: Sock,
+    ports: Ports,
+) -> Result<(Sock, u16), (Sock, OpEnd)>
+    requires ready { IsReady tables.now worker.old }
+    requires enters { MayEnter (length ports + 2) worker.old }
+    requires draws { MayDraw 2 worker.old }
+    requires may { MayTell worker.old (mine_of socket).owner.name }
+    requires stands { StandsAs tables.now socket (turned worker.old) (chained tables.now worker.old) }
+    ensures ready { IsReady tables.now worker.new }
+    ensures caller { words.caller worker.new.turns ≡ words.caller worker.old.turns }
+    ensures entered { words.draws worker.new.turns ≤ words.draws worker.old.turns + (length ports + 2) }
+    ensures drawn { Draws 2 worker.old worker.new }
+    ensures carried { CarriedOut first_mine plans.refused (buckets_of tables.now) (mine_of socket).owner.name
+        (plans.listen tables.now.chains.layout.shape tables.now.chains.layout.seed (mine_of socket) ports)
+        (turned worker.old) (turned worker.new)
+        (chained tables.now worker.old) (chained tables.now worker.new) (without_socket result) }
+    ensures alone { IsAlone (turned worker.old) → IsNow (chained tables.now worker.old).view
+        → CarriedOutAlone first_mine plans.refused (buckets_of tables.now)
+        (plans.listen tables.now.chains.layout.shape tables.now.chains.layout.seed (mine_of socket) ports)
+        (words.given worker.old.turns) (words.given worker.new.turns)
+        (chained tables.now worker.old) (chained tables.now worker.new) (without_socket result) }
+    ensures port { IfOk result (λ listens. listens.1 ≡ (mine_of listens.0).owner.port) }
+    ensures back { IfErr result (λ refusal. refusal.0 ≡ socket) }
+    ensures stands { IfOk result (λ listens. StandsAs tables.now listens.0 (turned worker.new) (chained tables.now worker.new)) }
+    ensures kept { OnErr result (StandsAs tables.now socket (turned worker.new) (chained tables.now worker.new)) }
+    ensures stay { PlacesStay (chained tables.now worker.old).view (chained tables.now worker.new).view }
+{
+    listen_shared(rt, tables, worker, socket, ports)
+}

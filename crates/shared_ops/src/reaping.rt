@@ -1,0 +1,110 @@
+//! `reap`, by which sockets in TIME_WAIT end, one after the other.
+
+ghost use Rattle.std.specs.Prelude.{◌≡◌, ◌+◌, ◌%◌, ◌≤◌, [], IfOk, OnErr};
+ghost use Rattle.turn_table.specs.Passes as words;
+ghost use Rattle.bind_buckets.specs.Turned.{View, Gave, IsOut, Within, made};
+ghost use Rattle.chain_deeds.specs.Sides.{HasRoom, IsResting};
+ghost use Rattle.nulls_chain.specs.Changes.{PlacesStay};
+ghost use Rattle.table_model.specs.Own as own;
+ghost use Rattle.shared_ops.specs.Reaping.{ReapsOne};
+ghost use Rattle.shared_ops.specs.Spends.{Draws};
+ghost use Rattle.shared_ops.specs.Stands.{IsReady, MayDraw, MayEnter, buckets_of, chained, turned};
+
+use crate::leaving::Waiting;
+use crate::room::make_room;
+use crate::tables::{Tables, Worker};
+use bind_buckets::{Bucket, turning};
+use flat_list::owned;
+use sock_card::{Kind, tw_expired};
+use std::alloc::AllocError;
+use std::sync::Wait;
+use turn_table::Turn;
+
+impl Waiting {
+    /// It has lasted its minute at that moment, in seconds.
+    pub fn is_over(&self, moment: u32) -> bool
+        ensures { result ≡ own.is_over moment self.now }
+    {
+        tw_expired(self.stamp, moment)
+    }
+}
+
+/// Takes a TIME_WAIT out of its chain, and then tells the bucket that is out, if it was there.
+fn reap_in<R: Wait>(
+    rt: &R,
+    tables: &Tables,
+    worker: &mut Worker,
+    turn: Turn<Box<Bucket>>,
+    waiting: &Waiting,
+) -> bool
+    requires out { IsOut tables.now.buckets worker.old.turns turn }
+    requires place { turn.place ≡ waiting.now.owner.port % buckets_of tables.now }
+    requires made { made worker.old.turns turn ≡ [] }
+    requires enters { MayEnter 1 worker.old }
+    requires entry { 1 ≤ turn.value.value.entries }
+    requires rests { IsResting tables.now.chains worker.old.chain }
+    requires room { HasRoom 1 worker.old.chain }
+    requires draws { MayDraw 2 worker.old }
+    ensures ready { IsReady tables.now worker.new }
+    ensures caller { words.caller worker.new.turns ≡ words.caller worker.old.turns }
+    ensures entered { words.draws worker.new.turns ≤ words.draws worker.old.turns + 1 }
+    ensures drawn { Draws 2 worker.old worker.new }
+    ensures reaps { (v : View) → Within v (turned worker.old) → ReapsOne (buckets_of tables.now) waiting.now result
+        v (turned worker.new) (chained tables.now worker.old) (chained tables.now worker.new) }
+    ensures stay { PlacesStay (chained tables.now worker.old).view (chained tables.now worker.new).view }
+{
+    let card = owned::card_as(Kind::TimeWait, &waiting.owner, waiting.stamp);
+    let mut turn = turn;
+    match chain_deeds::remove_tw(&tables.chains, rt, &mut worker.chain, &card) {
+        Some(_) => {
+            let name = waiting.owner.name;
+            let _known = turning::remove_waiting(
+                &tables.buckets,
+                &mut worker.turns,
+                &mut turn,
+                name,
+            );
+            turning::give(&tables.buckets, &mut worker.turns, turn);
+            true
+        }
+        None => {
+            turning::give(&tables.buckets, &mut worker.turns, turn);
+            false
+        }
+    }
+}
+
+/// Lets a socket in TIME_WAIT go; whether it was still there. Who has the turn of its port's bucket and its chain's lock
+/// takes it out, so another may have been before.
+///
+/// # Errors
+///
+/// A bucket or the worker's list of changes wanted memory. Nothing has changed.
+pub fn reap_one<R: Wait>(
+    rt: &R,
+    tables: &Tables,
+    worker: &mut Worker,
+    waiting: &Waiting,
+) -> Result<bool, AllocError>
+    requires ready { IsReady tables.now worker.old }
+    requires enters { MayEnter 1 worker.old }
+    requires draws { MayDraw 2 worker.old }
+    ensures ready { IsReady tables.now worker.new }
+    ensures caller { words.caller worker.new.turns ≡ words.caller worker.old.turns }
+    ensures entered { words.draws worker.new.turns ≤ words.draws worker.old.turns + 1 }
+    ensures drawn { Draws 2 worker.old worker.new }
+    ensures reaps { IfOk result (λ found. ReapsOne (buckets_of tables.now) waiting.now found
+        (turned worker.old) (turned worker.new) (chained tables.now worker.old) (chained tables.now worker.new)) }
+    ensures none { OnErr result (Gave (turned worker.old) (turned worker.new) []) }
+    ensures side { OnErr result (chained tables.now worker.new ≡ chained tables.now worker.old) }
+    ensures stay { PlacesStay (chained tables.now worker.old).view (chained tables.now worker.new).view }
+{
+    let mut turn = turning::take(rt, &tables.buckets, &mut worker.turns, waiting.owner.port);
+    match make_room(tables, worker, &mut turn, 1) {
+        Ok(()) => Ok(reap_in(rt, tables, worker, turn, waiting)),
+        Err(end) => {
+            turning::give(&tables.buckets, &mut worker.turns, turn);
+            Err(end)
+        }
+    }
+}

@@ -1,0 +1,222 @@
+//! A listener and connected sockets come and go.
+
+ghost use Rattle.std.specs.Prelude.{◌≡◌, ◌+◌, ◌<◌, ◌≤◌, ◌^◌, ℕ, length, IfOk};
+ghost use Rattle.turn_table.specs.Passes as words;
+ghost use Rattle.shared_ops.specs.Stands.{IsAway, IsReady, MayDraw, MayEnter, StandsAs, chained, turned};
+
+use crate::connecting::connect;
+use crate::leaving::{Closed, Waiting, close, drop_sock};
+use crate::listening::listen;
+use crate::reaping::reap_one;
+use crate::sock::{Sock, Unbound};
+use crate::tables::{Tables, Worker};
+use bind_buckets::{Sharing, turning};
+use chain_book::{Replace, Shape};
+use chain_deeds::ChainTable;
+use flat_list::{End, First, Options, Range};
+use port_search::Ports;
+use std::alloc::{AllocError, Global};
+use std::sync::Wait;
+use std::test::Fail;
+
+const PLAIN: Options = Options {
+    uid: None,
+    dev: None,
+    reuseaddr: false,
+    reuseport: false,
+};
+
+const WEB: End = End {
+    addr: 0x0A00_0002,
+    port: 80,
+};
+
+/// Empty tables with so many slots, and a worker that is alone at them.
+fn empty(alloc: Global, slots: u32) -> Result<(Tables, Worker), AllocError>
+    requires { slots < 16 }
+    ensures ready { IfOk result (λ t. IsReady t.0 t.1) }
+    ensures first { IfOk result (λ t. words.caller t.1.turns ≡ 0) }
+    ensures away { IfOk result (λ t. (name : ℕ) → IsAway name (turned t.1)) }
+    ensures enters { IfOk result (λ t. MayEnter 100 t.1) }
+    ensures draws { IfOk result (λ t. MayDraw 100 t.1) }
+{
+    let shape = Shape {
+        slots,
+        bind: 2,
+        hash: 2,
+        listen: 1,
+    };
+    let (buckets, turns) = turning::with_buckets(alloc, shape.bind, Sharing::Alone)?;
+    let (chains, chain) = ChainTable::new(alloc, shape, 7)?;
+    Ok((Tables { buckets, chains }, Worker { turns, chain }))
+}
+
+/// The ports from 40000 to 40003.
+fn ports() -> Ports
+    ensures { length result ≡ 4 }
+{
+    let range = Range {
+        low: 40000,
+        high: 40003,
+    };
+    Ports::new(range, 0, First::Even)
+}
+
+/// What became of a socket.
+#[derive(Clone, Copy, Debug, PartialEq, Eq)]
+enum Went {
+    /// It listened at that port, and is gone.
+    From(u16),
+    /// It waits.
+    Waits,
+    /// It waited for its minute, and was reaped, once.
+    Reaped,
+    /// It is gone without a wait: so many slots were owned, and so many only held.
+    NoSlot(u32, u32),
+    /// It never came, or never went.
+    Never,
+}
+
+fn listen_and_close<R: Wait>(rt: &R, tables: &Tables, worker: &mut Worker, socket: Sock) -> Went
+    requires ready { IsReady tables.now worker.old }
+    requires first { words.caller worker.old.turns ≡ 0 }
+    requires enters { MayEnter 100 worker.old }
+    requires draws { MayDraw 100 worker.old }
+    requires stands { StandsAs tables.now socket (turned worker.old) (chained tables.now worker.old) }
+{
+    match listen(rt, tables, worker, socket, ports()) {
+        Ok((listener, port)) => match close(rt, tables, worker, listener, 5) {
+            Ok(Closed::Plain) => Went::From(port),
+            _ => Went::Never,
+        },
+        Err(_) => Went::Never,
+    }
+}
+
+fn listen_and_drop<R: Wait>(rt: &R, tables: &Tables, worker: &mut Worker, socket: Sock) -> Went
+    requires ready { IsReady tables.now worker.old }
+    requires first { words.caller worker.old.turns ≡ 0 }
+    requires enters { MayEnter 100 worker.old }
+    requires draws { MayDraw 100 worker.old }
+    requires stands { StandsAs tables.now socket (turned worker.old) (chained tables.now worker.old) }
+{
+    match listen(rt, tables, worker, socket, ports()) {
+        Ok((listener, port)) => match drop_sock(rt, tables, worker, listener) {
+            Ok(()) => Went::From(port),
+            Err(_) => Went::Never,
+        },
+        Err(_) => Went::Never,
+    }
+}
+
+fn connect_and_close<R: Wait>(rt: &R, tables: &Tables, worker: &mut Worker, socket: Sock) -> Went
+    requires ready { IsReady tables.now worker.old }
+    requires first { words.caller worker.old.turns ≡ 0 }
+    requires enters { MayEnter 100 worker.old }
+    requires draws { MayDraw 100 worker.old }
+    requires stands { StandsAs tables.now socket (turned worker.old) (chained tables.now worker.old) }
+{
+    match connect(
+        rt,
+        tables,
+        worker,
+        socket,
+        Some(0x0A00_0001),
+        WEB,
+        3,
+        Replace::Never,
+        ports(),
+    ) {
+        Ok((full, _)) => match close(rt, tables, worker, full, 5) {
+            Ok(Closed::TimeWait(_)) => Went::Waits,
+            Ok(Closed::NoSlot { owned, held }) => Went::NoSlot(owned, held),
+            _ => Went::Never,
+        },
+        Err(_) => Went::Never,
+    }
+}
+
+fn reap_twice<R: Wait>(rt: &R, tables: &Tables, worker: &mut Worker, waiting: &Waiting) -> Went
+    requires ready { IsReady tables.now worker.old }
+    requires enters { MayEnter 2 worker.old }
+    requires draws { MayDraw 4 worker.old }
+{
+    let was_over = waiting.is_over(64);
+    let first = reap_one(rt, tables, worker, waiting);
+    let second = reap_one(rt, tables, worker, waiting);
+    match (was_over, waiting.is_over(65), first, second) {
+        (false, true, Ok(true), Ok(false)) => Went::Reaped,
+        _ => Went::Never,
+    }
+}
+
+fn connect_and_reap<R: Wait>(rt: &R, tables: &Tables, worker: &mut Worker, socket: Sock) -> Went
+    requires ready { IsReady tables.now worker.old }
+    requires first { words.caller worker.old.turns ≡ 0 }
+    requires enters { MayEnter 100 worker.old }
+    requires draws { MayDraw 100 worker.old }
+    requires stands { StandsAs tables.now socket (turned worker.old) (chained tables.now worker.old) }
+{
+    match connect(
+        rt,
+        tables,
+        worker,
+        socket,
+        Some(0x0A00_0001),
+        WEB,
+        3,
+        Replace::Never,
+        ports(),
+    ) {
+        Ok((full, _)) => match close(rt, tables, worker, full, 5) {
+            Ok(Closed::TimeWait(waiting)) => reap_twice(rt, tables, worker, &waiting),
+            _ => Went::Never,
+        },
+        Err(_) => Went::Never,
+    }
+}
+
+#[test]
+fn a_listener_comes_and_goes(rt: HostRuntime) -> Result<(), Fail> {
+    let (tables, mut worker) = empty(rt.alloc(), 4)?;
+    let socket = Sock::Unbound(Unbound::new(1, PLAIN));
+    let went = listen_and_close(&rt, &tables, &mut worker, socket);
+    assert_eq!(rt; went, Went::From(40000));
+    Ok(())
+}
+
+#[test]
+fn a_listener_is_dropped(rt: HostRuntime) -> Result<(), Fail> {
+    let (tables, mut worker) = empty(rt.alloc(), 4)?;
+    let socket = Sock::Unbound(Unbound::new(1, PLAIN));
+    let went = listen_and_drop(&rt, &tables, &mut worker, socket);
+    assert_eq!(rt; went, Went::From(40000));
+    Ok(())
+}
+
+#[test]
+fn a_connection_waits_in_the_end(rt: HostRuntime) -> Result<(), Fail> {
+    let (tables, mut worker) = empty(rt.alloc(), 4)?;
+    let socket = Sock::Unbound(Unbound::new(1, PLAIN));
+    let went = connect_and_close(&rt, &tables, &mut worker, socket);
+    assert_eq!(rt; went, Went::Waits);
+    Ok(())
+}
+
+#[test]
+fn a_connection_goes_where_no_slot_is_free(rt: HostRuntime) -> Result<(), Fail> {
+    let (tables, mut worker) = empty(rt.alloc(), 1)?;
+    let socket = Sock::Unbound(Unbound::new(1, PLAIN));
+    let went = connect_and_close(&rt, &tables, &mut worker, socket);
+    assert_eq!(rt; went, Went::NoSlot(1, 0));
+    Ok(())
+}
+
+#[test]
+fn a_wait_is_reaped_once(rt: HostRuntime) -> Result<(), Fail> {
+    let (tables, mut worker) = empty(rt.alloc(), 4)?;
+    let socket = Sock::Unbound(Unbound::new(1, PLAIN));
+    let went = connect_and_reap(&rt, &tables, &mut worker, socket);
+    assert_eq!(rt; went, Went::Reaped);
+    Ok(())
+}
