@@ -1,0 +1,43 @@
+-- The TIME_WAIT that a closed socket leaves.
+use Rattle.std.proofs.Common.{◌≡◌, ℕ, ◌≤◌, List, [], ◌∷◌, ◌++◌, arith, ◌+◌, length, length-append}
+use Rattle.list_words.proofs.EachLemmas.{each_push}
+use Rattle.sock_card.specs.declared.owner.State.TheVariants as states
+use Rattle.bind_buckets.specs.Turned.{View}
+use Rattle.chain_book.specs.declared.shape.Shape.{Shape}
+use Rattle.chain_deeds.specs.Sides.{Side}
+use Rattle.table_model.specs.Asking.{ends}
+use Rattle.table_model.specs.Own.{Mine}
+use Rattle.table_model.specs.Operations as plans
+use Rattle.table_model.specs.Operations.{gone, waiting, no_slot}
+use Rattle.shared_ops.specs.Goes.{Went}
+use Rattle.section_machine.specs.Carried.{waits_by}
+use Rattle.section_machine.specs.Waits.{AreBefore, AreInOrder}
+use Rattle.section_machine.proofs.Asked.{asked_so, of_close, IsEnd, HasName, WaitsSince}
+
+-- its stamp is the moment of the end
+pub since : (count : ℕ) (shape : Shape) (seed : ℕ) (m : Mine) (moment : ℕ) (v u : View) (c d : Side) (closed : plans.Closed) → Went count (plans.close shape seed m moment) v u c d (ends closed) → WaitsSince moment closed
+since count shape seed m moment v u c d closed went =
+    (asked_so (IsEnd (m.owner.state ≡ states.Full) m.owner.name) (HasName m.owner.name) (WaitsSince moment) count (plans.close shape seed m moment) (ends closed) went.deeds went.leads (of_close shape seed m moment)).left
+
+before_last : (moment : ℕ) (ws : List Mine) (w : Mine) → w.extra ≡ moment → AreBefore moment ws → AreBefore moment (ws ++ w ∷ [])
+before_last moment ws w is before = each_push (λ (x : Mine). x.extra ≤ moment) ws w before (omega (arith, is))
+
+order_last : (moment : ℕ) (ws : List Mine) (w : Mine) → w.extra ≡ moment → AreBefore moment ws → AreInOrder ws → AreInOrder (ws ++ w ∷ [])
+order_last moment [] w is before order = (tt, tt)
+order_last moment (x ∷ xs) w is before order =
+    (each_push (λ (y : Mine). x.extra ≤ y.extra) xs w order.0 (let low = before.0 in omega (arith, is)), order_last moment xs w is before.1 order.1)
+
+pub stays_before : (moment : ℕ) (ws : List Mine) (closed : plans.Closed) → WaitsSince moment closed → AreBefore moment ws → AreBefore moment (waits_by ws closed)
+stays_before moment ws gone is before = before
+stays_before moment ws (waiting w) is before = before_last moment ws w is before
+stays_before moment ws (no_slot owned held) is before = before
+
+pub stays_in_order : (moment : ℕ) (ws : List Mine) (closed : plans.Closed) → WaitsSince moment closed → AreBefore moment ws → AreInOrder ws → AreInOrder (waits_by ws closed)
+stays_in_order moment ws gone is before order = order
+stays_in_order moment ws (waiting w) is before order = order_last moment ws w is before order
+stays_in_order moment ws (no_slot owned held) is before order = order
+
+pub one_more : (ws : List Mine) (closed : plans.Closed) → length (waits_by ws closed) ≤ length ws + 1
+one_more ws gone = omega arith
+one_more ws (waiting w) = omega (arith, length-append ws (w ∷ []))
+one_more ws (no_slot owned held) = omega arith

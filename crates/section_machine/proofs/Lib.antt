@@ -1,0 +1,21 @@
+mod Index
+mod Places
+mod Told
+pub mod Names
+pub mod Asked
+pub mod Stays
+pub mod Rolls
+pub mod Newcomers
+mod Searches
+pub mod Closes
+mod Owns
+mod Settled
+mod Ended
+mod Spent
+mod Moments
+mod Reaps
+mod Reaped
+mod Made
+mod Steps
+mod Children
+mod Begins

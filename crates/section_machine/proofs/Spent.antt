@@ -1,0 +1,22 @@
+-- What commands take of the worker's numbers.
+use Rattle.std.proofs.Common.{◌≡◌, ℕ, ◌+◌, ◌*◌, ◌≤◌, List, length, ap, arith}
+use Rattle.turn_table.specs.Passes as words
+use Rattle.table_model.specs.Own.{Mine}
+use Rattle.shared_ops.specs.declared.tables.Worker.{Worker}
+use Rattle.shared_ops.specs.Spends.{Draws}
+use Rattle.section_machine.specs.Carried.{Spends}
+use Rattle.section_machine.specs.Sections.{Kept}
+
+-- an operation's, which leaves so many TIME_WAITs more
+pub spends_of : (old new : Kept) (w u : Worker) (ws : List Mine) (n e more : ℕ) → length old.own.waits ≡ length ws → length new.own.waits ≤ length ws + more → words.draws u.turns ≤ words.draws w.turns + e → e + more ≤ 65540 → n + 2 * more ≤ 6 → Draws n w u → Spends old new w u
+spends_of old new w u ws n e more before after entered few most drawn =
+    record {
+      entered = omega arith;
+      drawn = λ rest may. let far = drawn (rest + 2 * length new.own.waits) (omega arith) in omega arith;
+    }
+
+-- who does nothing takes nothing
+pub spends_none : (old new : Kept) (w : Worker) → new.own.waits ≡ old.own.waits → Spends old new w w
+spends_none old new w same =
+    let long : length new.own.waits ≡ length old.own.waits = ap length same in
+    record { entered = omega arith; drawn = λ rest may. omega arith }

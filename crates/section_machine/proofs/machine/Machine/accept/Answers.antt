@@ -1,0 +1,109 @@
+use Rattle.std.proofs.Common.{ℕ, length, Some, sym, ap, ◌∙◌, subst, arith}
+use Rattle.flat_list.specs.Sections.{name_at}
+use Rattle.table_model.specs.Own.{Own}
+use Rattle.table_model.specs.Operations.{done, refused}
+use Rattle.table_model.specs.Commands.{connect_error}
+use Rattle.shared_ops.specs.Accepting.{accepted}
+use Rattle.shared_ops.specs.Socks.{mine_of}
+use Rattle.shared_ops.specs.Stands.{MayTell, buckets_of, turned, chained}
+use Rattle.shared_ops.specs.There.{IsNew}
+use Rattle.section_machine.specs.Places.{Labelled, own_of, with_place}
+use Rattle.section_machine.specs.Sections.{Kept, kept}
+use Rattle.section_machine.proofs.Children.{child_named, its_plan, new_tells, is_new, parent_tells, parent_stands, accepts_none, accepts_refused, accepts}
+use Rattle.section_machine.proofs.Owns.{label_given, found_named}
+use Rattle.section_machine.proofs.Settled.{refused_went, on_err}
+use Rattle.section_machine.proofs.Spent.{spends_of}
+use Rattle.section_machine.proofs.machine.Machine.accept.Goals as goal
+
+pub returns-in_default-clause-carried : goal.returns-in_default-clause-carried
+returns-in_default-clause-carried g c =
+    let l = c.self.inside.labels in
+    accepts_none c.args.tables.now c.args.self.now c.self.inside.header l c.give.new.self c.self.inside.moment c.self.inside.offsets c.self.inside.waits c.args.label c.args.worker.now
+    (record { view = c.self.view_is; names = c.len-place.ensures.names }) c.requires.section c.requires.room c.in_ok-give.ensures.given c.args.listener.now c.args.from c.args.at
+    (sym (found_named l c.give.new.self c.args.label c.place_of-listener.result c.args.listener.now c.in_ok-give.ensures.given c.place_of-listener.ensures.place) ∙ sym c.in_default.ensures.socket)
+
+pub accept-requires-clause-parent : goal.accept-requires-clause-parent
+accept-requires-clause-parent g c =
+    let l = c.self.inside.labels in
+    parent_tells c.args.tables.now c.args.self.now c.self.inside.header l c.give.new.self c.self.inside.moment c.self.inside.offsets c.self.inside.waits c.args.label c.args.worker.now
+    (record { view = c.self.view_is; names = c.len-place.ensures.names }) c.requires.section c.requires.room c.in_ok-give.ensures.given c.args.listener.now c.args.from c.args.at c.in-Some.socket.now
+    (sym (found_named l c.give.new.self c.args.label c.place_of-listener.result c.args.listener.now c.in_ok-give.ensures.given c.place_of-listener.ensures.place) ∙ sym c.in-Some.ensures.socket)
+    c.in-Some.ensures.state
+
+pub accept-requires-clause-may : goal.accept-requires-clause-may
+accept-requires-clause-may g c =
+    subst (MayTell c.args.worker.now) (sym c.next_name-name.ensures)
+    (new_tells c.args.tables.now c.args.self.now c.self.inside.header c.self.inside.labels c.give.new.self c.self.inside.moment c.self.inside.offsets c.self.inside.waits c.args.label c.args.worker.now
+    (record { view = c.self.view_is; names = c.len-place.ensures.names }) c.requires.section c.requires.room)
+
+pub accept-requires-clause-new : goal.accept-requires-clause-new
+accept-requires-clause-new g c =
+    subst (λ (n : ℕ). IsNew n (turned c.args.worker.now)) (sym c.next_name-name.ensures)
+    (is_new c.args.tables.now c.args.self.now c.self.inside.header c.self.inside.labels c.give.new.self c.self.inside.moment c.self.inside.offsets c.self.inside.waits c.args.label c.args.worker.now
+    (record { view = c.self.view_is; names = c.len-place.ensures.names }) c.requires.section c.requires.room)
+
+pub accept-requires-clause-stands : goal.accept-requires-clause-stands
+accept-requires-clause-stands g c =
+    let l = c.self.inside.labels in
+    parent_stands c.args.tables.now c.args.self.now c.self.inside.header l c.give.new.self c.self.inside.moment c.self.inside.offsets c.self.inside.waits c.args.label c.args.worker.now
+    (record { view = c.self.view_is; names = c.len-place.ensures.names }) c.requires.section c.requires.room c.in_ok-give.ensures.given c.args.listener.now c.args.from c.args.at c.in-Some.socket.now
+    (sym (found_named l c.give.new.self c.args.label c.place_of-listener.result c.args.listener.now c.in_ok-give.ensures.given c.place_of-listener.ensures.place) ∙ sym c.in-Some.ensures.socket)
+    c.in-Some.ensures.state
+
+pub put-requires-clause-name : goal.put-requires-clause-name
+put-requires-clause-name g c =
+    let layout = c.args.tables.now.chains.layout in
+    child_named layout.shape layout.seed (mine_of c.in-Some.socket.now) (mine_of c.in-Ok.child) c.next_name-name.result c.args.from c.args.at _ _ _ _ _ c.in-Ok.ensures.carried
+    ∙ (c.next_name-name.ensures
+    ∙ (ap (name_at c.self.inside.labels.number) (sym c.len-place.ensures.labels) ∙ ap (λ (l : Labelled). name_at l.number c.len-place.result) (sym c.in_ok-give.ensures.given)))
+
+pub returns-in-Ok-clause-carried : goal.returns-in-Ok-clause-carried
+returns-in-Ok-clause-carried g c =
+    let t = c.args.tables.now in
+    let h = c.self.inside.header in
+    let l = c.self.inside.labels in
+    let w = c.args.worker.now in
+    let u = c.accept.new.worker in
+    let m = mine_of c.in-Some.socket.now in
+    let child = mine_of c.in-Ok.child in
+    accepts t c.args.self.now h l c.give.new.self c.self.inside.moment c.self.inside.offsets c.self.inside.waits c.args.label w
+    (record { view = c.self.view_is; names = c.len-place.ensures.names }) c.requires.section c.requires.room c.in_ok-give.ensures.given c.args.listener.now c.args.from c.args.at c.in-Some.socket.now
+    (sym (found_named l c.give.new.self c.args.label c.place_of-listener.result c.args.listener.now c.in_ok-give.ensures.given c.place_of-listener.ensures.place) ∙ sym c.in-Some.ensures.socket)
+    c.in-Some.ensures.state u c.accept.ensures.ready c.accept.ensures.caller c.in-Ok.child c.put.new.self
+    (its_plan t c.args.self.now h (own_of l c.self.inside.moment c.self.inside.offsets c.self.inside.waits) w c.self.view_is c.requires.section u m c.next_name-name.result c.args.from c.args.at (done child) c.next_name-name.ensures c.in-Ok.ensures.carried)
+    c.put.ensures.state c.in-Ok.ensures.stands c.len-place.ensures.places
+    (c.put.ensures.put ∙ ap (λ (i : ℕ). with_place c.give.new.self i (Some child)) c.len-place.ensures.labels)
+
+pub returns-in_ok-refusal-in-Err-clause-carried : goal.returns-in_ok-refusal-in-Err-clause-carried
+returns-in_ok-refusal-in-Err-clause-carried g c =
+    let t = c.args.tables.now in
+    let h = c.self.inside.header in
+    let l = c.self.inside.labels in
+    let w = c.args.worker.now in
+    let u = c.accept.new.worker in
+    let m = mine_of c.in-Some.socket.now in
+    accepts_refused t c.args.self.now h l c.give.new.self c.self.inside.moment c.self.inside.offsets c.self.inside.waits c.args.label w
+    (record { view = c.self.view_is; names = c.len-place.ensures.names }) c.requires.section c.requires.room c.in_ok-give.ensures.given c.args.listener.now c.args.from c.args.at c.in-Some.socket.now
+    (sym (found_named l c.give.new.self c.args.label c.place_of-listener.result c.args.listener.now c.in_ok-give.ensures.given c.place_of-listener.ensures.place) ∙ sym c.in-Some.ensures.socket)
+    c.in-Some.ensures.state u c.accept.ensures.ready c.accept.ensures.caller c.in-Err.end c.connect_error.result
+    (its_plan t c.args.self.now h (own_of l c.self.inside.moment c.self.inside.offsets c.self.inside.waits) w c.self.view_is c.requires.section u m c.next_name-name.result c.args.from c.args.at (refused c.in-Err.end) c.next_name-name.ensures
+    (refused_went accepted (buckets_of t) c.next_name-name.result _ (turned w) (turned u) (chained t w) (chained t u) c.in-Err.end c.in_ok-refusal-in-Err.ensures.told c.in-Err.ensures.carried))
+    (c.connect_error.ensures ∙ ap connect_error c.in_ok-refusal-in-Err.ensures.same)
+
+pub returns-in_err-refusal-in-Err-clause-err : goal.returns-in_err-refusal-in-Err-clause-err
+returns-in_err-refusal-in-Err-clause-err g c =
+    on_err c.from_residual-in_err-refusal-in-Err.result
+    (sym (ap (λ (x : Own). x.sockets) (label_given c.self.inside.labels c.give.new.self c.args.label c.self.inside.moment c.self.inside.offsets c.self.inside.waits c.in_ok-give.ensures.given))
+    ∙ ap (λ (k : Kept). k.own.sockets) c.self.view_is)
+
+pub returns-in-Ok-clause-spends : goal.returns-in-Ok-clause-spends
+returns-in-Ok-clause-spends g c =
+    spends_of c.args.self.now (kept c.self.inside.header (own_of c.put.new.self c.self.inside.moment c.self.inside.offsets c.self.inside.waits)) c.args.worker.now c.accept.new.worker c.self.inside.waits 4 2 0 (ap (λ (k : Kept). length k.own.waits) (sym c.self.view_is)) (omega arith) c.accept.ensures.entered (omega arith) (omega arith) c.accept.ensures.drawn
+
+pub returns-in_err-refusal-in-Err-clause-spends : goal.returns-in_err-refusal-in-Err-clause-spends
+returns-in_err-refusal-in-Err-clause-spends g c =
+    spends_of c.args.self.now (kept c.self.inside.header (own_of c.give.new.self c.self.inside.moment c.self.inside.offsets c.self.inside.waits)) c.args.worker.now c.accept.new.worker c.self.inside.waits 4 2 0 (ap (λ (k : Kept). length k.own.waits) (sym c.self.view_is)) (omega arith) c.accept.ensures.entered (omega arith) (omega arith) c.accept.ensures.drawn
+
+pub returns-in_ok-refusal-in-Err-clause-spends : goal.returns-in_ok-refusal-in-Err-clause-spends
+returns-in_ok-refusal-in-Err-clause-spends g c =
+    spends_of c.args.self.now (kept c.self.inside.header (own_of c.give.new.self c.self.inside.moment c.self.inside.offsets c.self.inside.waits)) c.args.worker.now c.accept.new.worker c.self.inside.waits 4 2 0 (ap (λ (k : Kept). length k.own.waits) (sym c.self.view_is)) (omega arith) c.accept.ensures.entered (omega arith) (omega arith) c.accept.ensures.drawn

@@ -1,0 +1,45 @@
+use Rattle.table_model.specs.Commands.{plan}
+use Rattle.section_machine.proofs.Spent.{spends_none}
+use Rattle.section_machine.proofs.machine.Machine.carry.Goals as goal
+
+pub returns-in-Bind-clause-carried : goal.returns-in-Bind-clause-carried
+unfolding plan
+returns-in-Bind-clause-carried g c = rw c.in-Bind.is c.bind.ensures.carried
+
+pub returns-in-Listen-clause-carried : goal.returns-in-Listen-clause-carried
+unfolding plan
+returns-in-Listen-clause-carried g c = rw c.in-Listen.is c.listen.ensures.carried
+
+pub returns-in-Connect-clause-carried : goal.returns-in-Connect-clause-carried
+unfolding plan
+returns-in-Connect-clause-carried g c = rw c.in-Connect.is c.connect.ensures.carried
+
+pub returns-in-Close-clause-carried : goal.returns-in-Close-clause-carried
+unfolding plan
+returns-in-Close-clause-carried g c = rw c.in-Close.is c.close.ensures.carried
+
+pub returns-in-Reap-clause-carried : goal.returns-in-Reap-clause-carried
+unfolding plan
+returns-in-Reap-clause-carried g c = rw c.in-Reap.is c.reap.ensures.carried
+
+pub returns-in-Drop-clause-carried : goal.returns-in-Drop-clause-carried
+unfolding plan
+returns-in-Drop-clause-carried g c = rw c.in-Drop.is c.drop_labelled.ensures.carried
+
+pub returns-in-At-clause-carried : goal.returns-in-At-clause-carried
+unfolding plan
+returns-in-At-clause-carried g c = rw c.in-At.is c.at.ensures.carried
+
+pub returns-in-Socket-clause-carried : goal.returns-in-Socket-clause-carried
+unfolding plan
+returns-in-Socket-clause-carried g c = rw c.in-Socket.is c.socket.ensures.carried
+
+pub returns-in-Accept-clause-carried : goal.returns-in-Accept-clause-carried
+unfolding plan
+returns-in-Accept-clause-carried g c = rw c.in-Accept.is c.accept.ensures.carried
+
+pub returns-in-At-clause-spends : goal.returns-in-At-clause-spends
+returns-in-At-clause-spends g c = spends_none c.args.self.now c.at.new.self c.args.worker.now c.at.ensures.waits
+
+pub returns-in-Socket-clause-spends : goal.returns-in-Socket-clause-spends
+returns-in-Socket-clause-spends g c = spends_none c.args.self.now c.socket.new.self c.args.worker.now c.socket.ensures.waits

@@ -1,0 +1,42 @@
+use Rattle.std.proofs.Common.{length, arith, Some, refl, sym, ap, ◌∙◌}
+use Rattle.table_model.specs.Commands.{close_command}
+use Rattle.shared_ops.specs.Socks.{mine_of}
+use Rattle.section_machine.specs.Places.{own_of, with_place}
+use Rattle.section_machine.specs.Sections.{Kept, kept}
+use Rattle.section_machine.proofs.Ended.{closed_so}
+use Rattle.section_machine.proofs.Settled.{nobody, stands_before, tells_before, sockets_back}
+use Rattle.section_machine.proofs.Spent.{spends_of}
+use Rattle.section_machine.proofs.machine.Machine.close.Goals as goal
+
+pub returns-in_default-clause-carried : goal.returns-in_default-clause-carried
+returns-in_default-clause-carried g c =
+    nobody c.args.tables.now c.args.self.now c.self.inside.header c.self.inside.labels c.take.new.self c.self.inside.moment c.self.inside.offsets c.self.inside.waits c.args.label.now c.args.worker.now
+    (record { view = c.self.view_is; names = c.take.ensures.names }) c.in_default.ensures.cases c.requires.section (λ h x o. close_command h x o) (λ h x. refl)
+
+pub close-requires-clause-may : goal.close-requires-clause-may
+close-requires-clause-may g c =
+    tells_before c.args.tables.now c.args.self.now c.self.inside.header c.self.inside.labels c.take.new.self c.self.inside.moment c.self.inside.offsets c.self.inside.waits c.args.label.now c.in-Some.place c.in-Some.socket c.args.worker.now
+    (record { view = c.self.view_is; names = c.take.ensures.names }) c.in-Some.ensures.cases c.requires.section
+
+pub close-requires-clause-stands : goal.close-requires-clause-stands
+close-requires-clause-stands g c =
+    stands_before c.args.tables.now c.args.self.now c.self.inside.header c.self.inside.labels c.take.new.self c.self.inside.moment c.self.inside.offsets c.self.inside.waits c.args.label.now c.in-Some.place c.in-Some.socket c.args.worker.now
+    (record { view = c.self.view_is; names = c.take.ensures.names }) c.in-Some.ensures.cases c.requires.section
+
+pub returns-in-Err-clause-err : goal.returns-in-Err-clause-err
+returns-in-Err-clause-err g c =
+    sockets_back c.args.self.now c.self.inside.header c.self.inside.labels c.take.new.self c.put.new.self c.self.inside.moment c.self.inside.offsets c.self.inside.waits c.in-Some.place (mine_of c.in-Some.socket) c.self.view_is c.in-Some.ensures.cases.there c.in-Some.ensures.cases.after
+    (c.put.ensures.put ∙ ap (λ x. with_place c.take.new.self c.in-Some.place (Some (mine_of x))) c.in-Err.ensures.back)
+
+pub returns-in-Ok-clause-carried : goal.returns-in-Ok-clause-carried
+returns-in-Ok-clause-carried g c =
+    closed_so c.args.tables.now c.args.self.now c.self.inside.header c.self.inside.labels c.take.new.self c.self.inside.moment c.self.inside.offsets c.self.inside.waits c.args.label.now c.in-Some.place c.in-Some.socket c.args.worker.now
+    (record { view = c.self.view_is; names = c.take.ensures.names }) c.in-Some.ensures.cases c.requires.section c.close.new.worker c.close.ensures.ready c.close.ensures.caller c.close.new.self c.in-Ok.reply c.in-Ok.ensures.ends
+
+pub returns-in-Ok-clause-spends : goal.returns-in-Ok-clause-spends
+returns-in-Ok-clause-spends g c =
+    spends_of c.args.self.now (kept c.self.inside.header (own_of c.take.new.self c.self.inside.moment c.self.inside.offsets c.close.new.self)) c.args.worker.now c.close.new.worker c.self.inside.waits 4 (1) 1 (ap (λ (k : Kept). length k.own.waits) (sym c.self.view_is)) c.close.ensures.more c.close.ensures.entered (omega arith) (omega arith) c.close.ensures.drawn
+
+pub returns-in-Err-clause-spends : goal.returns-in-Err-clause-spends
+returns-in-Err-clause-spends g c =
+    spends_of c.args.self.now (kept c.self.inside.header (own_of c.put.new.self c.self.inside.moment c.self.inside.offsets c.close.new.self)) c.args.worker.now c.close.new.worker c.self.inside.waits 4 (1) 1 (ap (λ (k : Kept). length k.own.waits) (sym c.self.view_is)) c.close.ensures.more c.close.ensures.entered (omega arith) (omega arith) c.close.ensures.drawn

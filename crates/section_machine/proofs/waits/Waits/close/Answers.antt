@@ -1,0 +1,22 @@
+use Rattle.std.proofs.Common.{List, sym, ap, subst, ◌∙◌}
+use Rattle.table_model.specs.Own.{Mine}
+use Rattle.shared_ops.specs.Closes.{became}
+use Rattle.shared_ops.specs.Socks.{mine_of}
+use Rattle.section_machine.specs.Carried.{waits_by}
+use Rattle.section_machine.specs.Waits.{AreBefore, AreInOrder}
+use Rattle.section_machine.proofs.Closes.{since, stays_before, stays_in_order}
+use Rattle.section_machine.proofs.waits.Waits.close.Goals as goal
+
+pub invariant_of-self-in-Ok-close : goal.invariant_of-self-in-Ok-close
+invariant_of-self-in-Ok-close g c =
+    let closed = became c.in-Ok-close.closed in
+    subst AreInOrder (sym (c.keep.ensures.left ∙ ap (λ (ws : List Mine). waits_by ws closed) c.reserve.ensures.items))
+    (stays_in_order c.args.moment c.self.inside.items.items closed (since _ _ _ (mine_of c.args.socket) c.args.moment _ _ _ _ closed c.in-Ok-close.ensures.carried)
+    (subst (AreBefore c.args.moment) (sym c.self.view_is) c.requires.before) c.self.invariant)
+
+pub returns-in-Ok-close-clause-before : goal.returns-in-Ok-close-clause-before
+returns-in-Ok-close-clause-before g c =
+    let closed = became c.in-Ok-close.closed in
+    subst (AreBefore c.args.moment) (sym (c.keep.ensures.left ∙ ap (λ (ws : List Mine). waits_by ws closed) c.reserve.ensures.items))
+    (stays_before c.args.moment c.self.inside.items.items closed (since _ _ _ (mine_of c.args.socket) c.args.moment _ _ _ _ closed c.in-Ok-close.ensures.carried)
+    (subst (AreBefore c.args.moment) (sym c.self.view_is) c.requires.before))

@@ -1,0 +1,16 @@
+-- A section before its first command: our own.
+use Rattle.std.specs.Prelude.{◌≡◌, ℕ, ◌≤◌, []}
+use Rattle.turn_table.specs.Passes as words
+use Rattle.flat_list.specs.declared.header.Header.{Header}
+use Rattle.table_model.specs.Own.{new_own}
+use Rattle.shared_ops.specs.declared.tables.Tables.{Tables}
+use Rattle.shared_ops.specs.declared.tables.Worker.{Worker}
+use Rattle.shared_ops.specs.Stands.{IsReady, turned}
+use Rattle.section_machine.specs.Sections.{kept}
+use Rattle.section_machine.specs.Standing.{AreOf, IsSection, Tells}
+
+-- a new section is a worker's that is ready at the header's tables and asked no bucket yet
+abbrev pub SectionBegins : Type 0
+SectionBegins =
+    (t : Tables) (header : Header) (number : ℕ) (w : Worker) → AreOf header t → IsReady t w → number ≤ 64
+    → Tells (words.caller w.turns) number → (turned w).mine ≡ [] → IsSection t (kept header (new_own header number)) w

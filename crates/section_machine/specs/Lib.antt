@@ -1,0 +1,9 @@
+pub mod Sections
+pub mod Places
+pub mod Kept
+pub mod Steps
+pub mod Waits
+pub mod Standing
+pub mod Carried
+pub mod Searches
+pub mod Begins

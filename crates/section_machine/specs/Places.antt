@@ -1,0 +1,77 @@
+-- The labels of a section, each with the open socket that it names, and how both are found without a search: our own.
+use Rattle.std.specs.Prelude.{◌≡◌, ℕ, ◌<◌, List, [], ◌∷◌, ◌++◌, length, Option, None, Some, option_and_then, position, bytes_eq, slice_set, map, IfSome}
+use Rattle.std.specs.List.{filter_map, slice_index_or}
+use Rattle.std.specs.Option.{option_map}
+use Rattle.std.specs.BTreeMap.{BTreeMap, get_by}
+use Rattle.flat_list.specs.declared.command.LabelKey.{LabelKey}
+use Rattle.flat_list.specs.Labels.{IsLabel, key_of, key_cmp}
+use Rattle.flat_list.specs.Sections.{name_at}
+use Rattle.table_model.specs.Own.{Own, Mine, Offsets}
+use Rattle.shared_ops.specs.declared.sock.Sock.{Sock}
+use Rattle.shared_ops.specs.Socks.{mine_of, FitsState}
+
+-- where a label was given first, if it was
+abbrev pub place_in : List (List ℕ) → List ℕ → Option ℕ
+place_in labels label = position (λ l. bytes_eq l label) labels
+
+-- the index tells that of each label, by its key
+abbrev pub IsIndexOf : BTreeMap LabelKey ℕ → List (List ℕ) → Type 0
+IsIndexOf index labels =
+    (label : List ℕ) → IsLabel label → get_by (key_cmp (key_of label)) index ≡ place_in labels label
+
+-- the sockets of such places
+abbrev pub mines : List (Option Sock) → List (Option Mine)
+mines sockets = map (option_map mine_of) sockets
+
+-- the socket at a place, if one is there
+abbrev pub at_place : List (Option Mine) → ℕ → Option Mine
+at_place places i = slice_index_or places i None
+
+-- those that are there, in order
+abbrev pub those : List (Option Mine) → List Mine
+those places = filter_map (λ (o : Option Mine). o) places
+
+-- the socket at each place has that place's name
+abbrev pub HaveNames : (ℕ → ℕ) → List (Option Mine) → Type 0
+HaveNames name places = (i : ℕ) → IfSome (at_place places i) (λ (m : Mine). m.owner.name ≡ name i)
+
+-- a section's number, its labels in the order in which they were given, and at each one's place its socket, while it is open
+pub record Labelled : Type 0 where
+  pub number : ℕ
+  pub labels : List (List ℕ)
+  pub places : List (Option Mine)
+
+-- of a section that has given none
+abbrev pub no_labels : ℕ → Labelled
+no_labels n = record { number = n; labels = []; places = [] }
+
+-- the open socket that a label names
+abbrev pub named_by : Labelled → List ℕ → Option Mine
+named_by l label = option_and_then (at_place l.places) (place_in l.labels label)
+
+-- at that place is this now
+abbrev pub with_place : Labelled → ℕ → Option Mine → Labelled
+with_place l i o = record l { places = slice_set l.places i o }
+
+-- one label more, without a socket so far
+abbrev pub with_given : Labelled → List ℕ → Labelled
+with_given l label = record l { labels = l.labels ++ label ∷ []; places = l.places ++ None ∷ [] }
+
+-- the label names no open socket
+pub record IsUnnamed (old : Labelled) (label : List ℕ) (new : Labelled) : Type 0 where
+  pub none : named_by old label ≡ None
+  pub kept : new ≡ old
+
+-- the socket that a label names was taken out of its place
+pub record Takes (old : Labelled) (label : List ℕ) (new : Labelled) (place : ℕ) (socket : Sock) : Type 0 where
+  pub named : named_by old label ≡ Some (mine_of socket)
+  pub there : at_place old.places place ≡ Some (mine_of socket)
+  pub within : place < length old.labels
+  pub name : (mine_of socket).owner.name ≡ name_at old.number place
+  pub state : FitsState socket
+  pub after : new ≡ with_place old place None
+
+-- a section's own, with those labels and sockets
+abbrev pub own_of : Labelled → ℕ → Offsets → List Mine → Own
+own_of l moment offsets waits =
+    record { number = l.number; labels = l.labels; moment = moment; offsets = offsets; sockets = those l.places; waits = waits }

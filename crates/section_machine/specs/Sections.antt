@@ -1,0 +1,34 @@
+-- What a command of a section did at the tables, whoever else was there: our own.
+use Rattle.std.specs.Prelude.{◌≡◌, ◌+◌, ◌≤◌, List, length}
+use Rattle.bind_buckets.specs.Turned.{View, Gave}
+use Rattle.flat_list.specs.declared.command.Command.{Command}
+use Rattle.flat_list.specs.declared.command.Reply.{Reply}
+use Rattle.flat_list.specs.declared.header.Header.{Header}
+use Rattle.chain_deeds.specs.Made.{Does}
+use Rattle.chain_deeds.specs.Sides.{Side}
+use Rattle.race_record.specs.Deeds.{Deed, entries_in}
+use Rattle.race_record.specs.Goes.{Goes}
+use Rattle.table_model.specs.Commands.{plan, answers}
+use Rattle.table_model.specs.Own.{Own}
+
+-- a section's header, and what it knows of itself
+pub record Kept : Type 0 where
+  pub header : Header
+  pub own : Own
+
+abbrev pub kept : Header → Own → Kept
+kept header own = record { header = header; own = own }
+
+-- the header and the section's number stay, and one label more is given at most
+pub record KeepsHeader (old new : Kept) : Type 0 where
+  pub header : new.header ≡ old.header
+  pub number : new.own.number ≡ old.own.number
+  pub labels : length new.own.labels ≤ length old.own.labels + 1
+
+-- The command's plan went by these deeds to that reply, and left of the section's own what is next; the pass of the
+-- buckets gave their entries, the pass of the chains made their changes, and neither did anything else.
+pub record Did (header : Header) (own : Own) (command : Command) (v w : View) (c d : Side) (next : Own) (reply : Reply) : Type 0 where
+  pub deeds : List Deed
+  pub goes : Goes (plan header own command) deeds (answers next reply)
+  pub gave : Gave v w (entries_in header.shape.bind deeds)
+  pub does : Does deeds c d

@@ -1,0 +1,18 @@
+-- The sockets in TIME_WAIT that a section left, and what `close` leaves of a socket: inet_twsk_hashdance_schedule of
+-- net/ipv4/inet_timewait_sock.c. That they are kept in the order of closing is our own.
+use Rattle.std.specs.Prelude.{ℕ, ◌≤◌, List, [], ◌∷◌, Option, Some, None, if◌then◌else◌}
+use Rattle.list_words.specs.Lists.{Each, Pairs}
+use Rattle.table_model.specs.Own.{Mine, is_over}
+
+-- stamps never fall
+abbrev pub AreInOrder : List Mine → Type 0
+AreInOrder waits = Pairs (λ (a b : Mine). a.extra ≤ b.extra) waits
+
+-- none was closed after that moment
+abbrev pub AreBefore : ℕ → List Mine → Type 0
+AreBefore moment waits = Each (λ (w : Mine). w.extra ≤ moment) waits
+
+-- the first, if it has lasted its minute at that moment
+abbrev pub first_over : ℕ → List Mine → Option Mine
+first_over moment [] = None
+first_over moment (w ∷ rest) = if is_over moment w then Some w else None

@@ -1,0 +1,151 @@
+//! The labels of a section, and the open socket that each names.
+
+ghost use Rattle.std.specs.Prelude.{◌≡◌, ◌+◌, ◌<◌, ◌≤◌, ◌^◌, length, slice_set, None, Some, MatchOption, option_and_then, IfSome, OnOk, OnErr};
+ghost use Rattle.std.specs.Option.{option_map};
+ghost use Rattle.std.specs.Borrow.{Bor};
+ghost use Rattle.flat_list.specs.Sections as sections;
+ghost use Rattle.section_machine.specs.Places as spec;
+ghost use Rattle.section_machine.specs.Places.{HaveNames, IsUnnamed, Takes, at_place};
+ghost use Rattle.shared_ops.specs.Socks.{FitsState, mine_of};
+ghost use Rattle.section_machine.specs.Steps.{NotesPlace};
+
+use flat_list::{Label, LabelKey};
+use shared_ops::Sock;
+use std::alloc::{AllocError, Global};
+use std::collections::BTreeMap;
+use std::marker::Model;
+use std::mem;
+
+/// The labels that a section has given, and at each one's place its socket, while it is open.
+#[derive(Drop)]
+pub struct Labels {
+    number: u32,
+    given: Vec<Label>,
+    /// Where each label was given first, so that finding it takes no scan.
+    index: BTreeMap<LabelKey, usize>,
+    sockets: Vec<Option<Sock>>,
+}
+
+impl Model for Labels {
+    ghost use Rattle.section_machine.specs.Places.{Labelled, mines};
+    ghost use Rattle.section_machine.specs.Kept.{AreLabels};
+
+    ghost Value = { Labelled };
+
+    ghost view = { λ l. record { number = l.number; labels = l.given.items; places = mines l.sockets.items } };
+
+    ghost invariant = { λ l. AreLabels l.number l.given.items l.index l.sockets.items };
+}
+
+/// Notes the place of a label, unless it was given before.
+fn note_place(
+    index: &mut BTreeMap<LabelKey, usize>,
+    label: &Label,
+    place: usize,
+) -> Result<(), AllocError>
+    ensures noted { OnOk result (NotesPlace index.old label.now place index.new) }
+    ensures err { OnErr result (index.new.entries ≡ index.old.entries) }
+{
+    let key = label.key();
+    if let None = index.get(&key) {
+        index.insert(key, place)?;
+    }
+    Ok(())
+}
+
+/// Takes the socket out of its place.
+fn take_at(sockets: &mut [Option<Sock>], place: usize) -> Option<Sock>
+    requires { place < length sockets.old }
+    ensures socket { option_map mine_of result ≡ at_place (spec.mines sockets.old) place }
+    ensures after { spec.mines sockets.new ≡ slice_set (spec.mines sockets.old) place None }
+{
+    mem::replace(&mut sockets[place], None)
+}
+
+impl Labels {
+    /// Of a section that has given none. It takes no memory.
+    pub fn new(alloc: Global, number: u32) -> Self
+        requires { number ≤ 64 }
+        ensures { result ≡ spec.no_labels number }
+    {
+        Labels {
+            number,
+            given: Vec::new(alloc),
+            index: BTreeMap::new(alloc),
+            sockets: Vec::new(alloc),
+        }
+    }
+
+    /// How many labels it has given.
+    pub fn len(&self) -> usize
+        ensures labels { result ≡ length self.now.labels }
+        ensures places { length self.now.places ≡ length self.now.labels }
+        ensures names { HaveNames (sections.name_at self.now.number) self.now.places }
+    {
+        self.given.len()
+    }
+
+    /// The name that the next label will stand for.
+    pub fn next_name(&self) -> u32
+        ensures { result ≡ sections.name_at self.now.number (length self.now.labels) }
+    {
+        self.number * 0x100_0000 + self.given.len() as u32 + 1
+    }
+
+    /// Gives a label, which names no open socket so far. An `Err` changes nothing.
+    pub fn give(&mut self, label: Label) -> Result<(), AllocError>
+        requires { length self.old.labels + 1 < 2 ^ 24 }
+        ensures given { OnOk result (self.new ≡ spec.with_given self.old label) }
+        ensures err { OnErr result (self.new ≡ self.old) }
+    {
+        self.given.reserve(1)?;
+        self.sockets.reserve(1)?;
+        note_place(&mut self.index, &label, self.given.len())?;
+        self.given.push(label)?;
+        self.sockets.push(None)?;
+        Ok(())
+    }
+
+    /// Where a label was given first.
+    pub(crate) fn place_of(&self, label: &Label) -> Option<usize>
+        ensures place { result ≡ spec.place_in self.now.labels label.now }
+        ensures within { IfSome result (λ place. place < length self.now.labels) }
+        ensures names { HaveNames (sections.name_at self.now.number) self.now.places }
+    {
+        self.index.get(&label.key()).copied()
+    }
+
+    /// The open socket at the place of a label.
+    pub(crate) fn at(&self, place: Option<usize>) -> Option<&Sock>
+        requires within { IfSome place (λ i. i < length self.now.labels) }
+        ensures socket { option_map (λ (s : Bor Sock). mine_of s.now) result
+            ≡ option_and_then (at_place self.now.places) place }
+        ensures state { IfSome result (λ s. FitsState s.now) }
+    {
+        let socket = self.sockets[place?].as_ref()?;
+        let _owner = socket.owner();
+        Some(socket)
+    }
+
+    /// Takes the open socket that a label names out of its place.
+    pub fn take(&mut self, label: &Label) -> Option<(usize, Sock)>
+        ensures cases { MatchOption result (IsUnnamed self.old label.now self.new)
+            (λ taken. Takes self.old label.now self.new taken.0 taken.1) }
+        ensures names { HaveNames (sections.name_at self.old.number) self.old.places }
+    {
+        let place = self.place_of(label)?;
+        let socket = take_at(&mut self.sockets, place)?;
+        Some((place, socket))
+    }
+
+    /// Puts a socket to the place of its name.
+    pub fn put(&mut self, place: usize, socket: Sock)
+        requires within { place < length self.old.labels }
+        requires name { (mine_of socket).owner.name ≡ sections.name_at self.old.number place }
+        ensures put { self.new ≡ spec.with_place self.old place (Some (mine_of socket)) }
+        ensures state { FitsState socket }
+    {
+        let _owner = socket.owner();
+        self.sockets[place] = Some(socket);
+    }
+}

@@ -1,0 +1,298 @@
+//! One section's own: its labels with their sockets, its moment, where its searches begin, and the TIME_WAITs that it
+//! left; its commands over tables that threads share.
+
+ghost use Rattle.std.specs.Prelude.{◌≡◌, false, ◌≤◌, ◌<◌, ◌+◌, ◌^◌, ◌%◌, ◌==◌, ◌&&◌, length, IfOk, OnOk, OnErr};
+ghost use Rattle.turn_table.specs.Passes as words;
+ghost use Rattle.flat_list.specs.Ports.{size};
+ghost use Rattle.table_model.specs.Own as own;
+ghost use Rattle.table_model.specs.Own.{open_socket};
+ghost use Rattle.table_model.specs.Commands as commands;
+ghost use Rattle.table_model.specs.Means.{is_lookup};
+ghost use Rattle.shared_ops.specs.Socks.{mine_of};
+ghost use Rattle.shared_ops.specs.Stands.{IsReady, turned, chained};
+ghost use Rattle.section_machine.specs.Carried.{Carries, HasEnough, Keeps, Spends};
+ghost use Rattle.section_machine.specs.Sections.{Did, KeepsHeader, kept};
+ghost use Rattle.section_machine.specs.Standing.{IsSection};
+
+use crate::labels::Labels;
+use crate::offsets::Offsets;
+use crate::waits::Waits;
+use flat_list::{Command, End, First, Header, Label, Options, Reply};
+use shared_ops::{OpEnd, Sock, Tables, Unbound, Worker, bind, listen};
+use sock_card::State;
+use std::alloc::{AllocError, Global};
+use std::marker::Model;
+use std::sync::Wait;
+
+/// What a section knows of itself, and the header under which it runs.
+#[derive(Drop)]
+pub struct Machine {
+    pub(crate) header: Header,
+    pub(crate) labels: Labels,
+    pub(crate) moment: u32,
+    pub(crate) offsets: Offsets,
+    pub(crate) waits: Waits,
+}
+
+impl Model for Machine {
+    ghost use Rattle.section_machine.specs.Places.{own_of};
+    ghost use Rattle.section_machine.specs.Sections.{Kept};
+    ghost use Rattle.section_machine.specs.Waits.{AreBefore};
+
+    ghost Value = { Kept };
+
+    ghost view = { λ m. record { header = m.header; own = own_of m.labels m.moment m.offsets m.waits } };
+
+    ghost invariant = { λ m. AreBefore m.moment m.waits };
+}
+
+/// A refusal, unless it is want of memory.
+pub(crate) fn refusal(end: OpEnd) -> Result<OpEnd, AllocError>
+    ensures { IfOk result (λ kept. Keeps end kept) }
+{
+    match end {
+        OpEnd::Memory => Err(AllocError),
+        _ => Ok(end),
+    }
+}
+
+/// How the refusal of `bind` or `listen` is called.
+fn bind_error(end: OpEnd) -> Reply
+    ensures { result ≡ commands.bind_error end }
+{
+    match end {
+        OpEnd::InUse(_) | OpEnd::NoPort => Reply::Eaddrinuse,
+        OpEnd::GroupFull | OpEnd::GroupsFull => Reply::Emfile,
+        OpEnd::Full { owned, held } => Reply::Enfile { owned, held },
+        _ => Reply::Einval,
+    }
+}
+
+/// A socket has no port.
+pub(crate) fn is_unbound(socket: &Sock) -> bool
+    ensures { result ≡ commands.is_unbound (mine_of socket.now).owner.state }
+{
+    matches!(socket.owner().state, State::Unbound)
+}
+
+/// A search begins by `bind` of the socket to that end.
+fn searches_bind(socket: &Sock, end: End) -> bool
+    ensures { result ≡ (commands.is_unbound (mine_of socket.now).owner.state && (end.port == 0)) }
+{
+    is_unbound(socket) && end.port == 0
+}
+
+impl Machine {
+    /// The section of that number, before its first command.
+    pub fn new(alloc: Global, header: &Header, number: u32) -> Self
+        requires number { number ≤ 64 }
+        requires range { header.now.range.low ≤ header.now.range.high }
+        requires even { size header.now.range % 2 ≡ 0 }
+        ensures { result ≡ kept header.now (own.new_own header.now number) }
+    {
+        Machine {
+            header: *header,
+            labels: Labels::new(alloc, number),
+            moment: 0,
+            offsets: Offsets::new(header, number),
+            waits: Waits::new(alloc),
+        }
+    }
+
+    /// Comes to a moment, in seconds, unless it lies behind.
+    fn at(&mut self, tables: &Tables, worker: &Worker, moment: u32) -> Reply
+        requires section { IsSection tables.now self.old worker.now }
+        ensures carried { Carries tables.now self.old (commands.at_command self.old.own moment) self.new
+            worker.now worker.now result }
+        ensures kept { KeepsHeader self.old self.new }
+        ensures waits { self.new.own.waits ≡ self.old.own.waits }
+    {
+        if moment < self.moment {
+            return Reply::Einval;
+        }
+        self.moment = moment;
+        Reply::Ok
+    }
+
+    /// Makes a socket, under a label of its own.
+    fn socket(
+        &mut self,
+        tables: &Tables,
+        worker: &Worker,
+        label: Label,
+        options: Options,
+    ) -> Result<Reply, AllocError>
+        requires section { IsSection tables.now self.old worker.now }
+        requires room { length self.old.own.labels + 1 < 2 ^ 24 }
+        ensures carried { IfOk result (Carries tables.now self.old (commands.socket_command self.old.own label options)
+            self.new worker.now worker.now) }
+        ensures err { OnErr result (self.new.own.sockets ≡ self.old.own.sockets) }
+        ensures kept { KeepsHeader self.old self.new }
+        ensures waits { self.new.own.waits ≡ self.old.own.waits }
+    {
+        let place = self.labels.len();
+        let name = self.labels.next_name();
+        self.labels.give(label)?;
+        self.labels
+            .put(place, Sock::Unbound(Unbound::new(name, options)));
+        Ok(Reply::Ok)
+    }
+
+    /// Binds the socket that a label names.
+    fn bind<R: Wait>(
+        &mut self,
+        rt: &R,
+        tables: &Tables,
+        worker: &mut Worker,
+        label: &Label,
+        end: End,
+    ) -> Result<Reply, AllocError>
+        requires section { IsSection tables.now self.old worker.old }
+        requires enough { HasEnough self.old worker.old }
+        ensures carried { IfOk result (Carries tables.now self.old
+            (commands.bind_command self.old.own (open_socket self.old.own label.now) end)
+            self.new worker.old worker.new) }
+        ensures ready { IsReady tables.now worker.new }
+        ensures caller { words.caller worker.new.turns ≡ words.caller worker.old.turns }
+        ensures spends { Spends self.old self.new worker.old worker.new }
+        ensures err { OnErr result (self.new.own.sockets ≡ self.old.own.sockets) }
+        ensures kept { KeepsHeader self.old self.new }
+    {
+        let Some((place, socket)) = self.labels.take(label) else {
+            return Ok(Reply::Ebadf);
+        };
+        let begins = searches_bind(&socket, end);
+        let ports = self.offsets.ports(begins, First::Odd);
+        match bind(rt, tables, worker, socket, end, ports) {
+            Ok((socket, port)) => {
+                self.labels.put(place, socket);
+                Ok(Reply::Port(port))
+            }
+            Err((socket, end)) => {
+                self.labels.put(place, socket);
+                Ok(bind_error(refusal(end)?))
+            }
+        }
+    }
+
+    /// Makes the socket that a label names a listener.
+    fn listen<R: Wait>(
+        &mut self,
+        rt: &R,
+        tables: &Tables,
+        worker: &mut Worker,
+        label: &Label,
+    ) -> Result<Reply, AllocError>
+        requires section { IsSection tables.now self.old worker.old }
+        requires enough { HasEnough self.old worker.old }
+        ensures carried { IfOk result (Carries tables.now self.old
+            (commands.listen_command self.old.header self.old.own (open_socket self.old.own label.now))
+            self.new worker.old worker.new) }
+        ensures ready { IsReady tables.now worker.new }
+        ensures caller { words.caller worker.new.turns ≡ words.caller worker.old.turns }
+        ensures spends { Spends self.old self.new worker.old worker.new }
+        ensures err { OnErr result (self.new.own.sockets ≡ self.old.own.sockets) }
+        ensures kept { KeepsHeader self.old self.new }
+    {
+        let Some((place, socket)) = self.labels.take(label) else {
+            return Ok(Reply::Ebadf);
+        };
+        let begins = is_unbound(&socket);
+        let ports = self.offsets.ports(begins, First::Odd);
+        match listen(rt, tables, worker, socket, ports) {
+            Ok((socket, port)) => {
+                self.labels.put(place, socket);
+                Ok(Reply::Port(port))
+            }
+            Err((socket, end)) => {
+                self.labels.put(place, socket);
+                Ok(bind_error(refusal(end)?))
+            }
+        }
+    }
+
+    /// Carries a command out.
+    fn carry<R: Wait>(
+        &mut self,
+        rt: &R,
+        tables: &Tables,
+        worker: &mut Worker,
+        command: &Command,
+    ) -> Result<Reply, AllocError>
+        requires section { IsSection tables.now self.old worker.old }
+        requires look { is_lookup command.now ≡ false }
+        requires room { length self.old.own.labels + 1 < 2 ^ 24 }
+        requires enough { HasEnough self.old worker.old }
+        ensures carried { IfOk result (Carries tables.now self.old
+            (commands.plan self.old.header self.old.own command.now) self.new worker.old worker.new) }
+        ensures ready { IsReady tables.now worker.new }
+        ensures caller { words.caller worker.new.turns ≡ words.caller worker.old.turns }
+        ensures spends { Spends self.old self.new worker.old worker.new }
+        ensures err { OnErr result (self.new.own.sockets ≡ self.old.own.sockets) }
+        ensures kept { KeepsHeader self.old self.new }
+    {
+        match command {
+            Command::Socket {
+                label,
+                uid,
+                dev,
+                reuseaddr,
+                reuseport,
+            } => {
+                let options = Options {
+                    uid: *uid,
+                    dev: *dev,
+                    reuseaddr: *reuseaddr,
+                    reuseport: *reuseport,
+                };
+                self.socket(tables, worker, *label, options)
+            }
+            Command::Bind { label, end } => self.bind(rt, tables, worker, label, *end),
+            Command::Listen { label } => self.listen(rt, tables, worker, label),
+            Command::Connect { label, from, to } => {
+                self.connect(rt, tables, worker, label, *from, *to)
+            }
+            Command::Accept {
+                listener,
+                label,
+                from,
+                at,
+            } => self.accept(rt, tables, worker, listener, *label, *from, *at),
+            Command::Close { label } => self.close(rt, tables, worker, label),
+            Command::Drop { label } => self.drop_labelled(rt, tables, worker, label),
+            Command::At { moment } => Ok(self.at(tables, worker, *moment)),
+            Command::Reap => self.reap(rt, tables, worker),
+            Command::Look { .. } | Command::Packets { .. } => Ok(Reply::Einval),
+        }
+    }
+
+    /// Carries a command out, any but `look` and `packets`, whoever else is at the tables.
+    ///
+    /// The command's plan goes by the entries and changes that this call made, and by no others, to the reply and to
+    /// what the section keeps then; and the section is the worker's still. An `Err`, for want of memory, leaves the
+    /// section's header, number and open sockets, and at most one label more; the worker is ready, but what stands of
+    /// the section is not told: the program ends there. It waits for the turn of one bucket and the lock of one chain at
+    /// a time.
+    pub fn step<R: Wait>(
+        &mut self,
+        rt: &R,
+        tables: &Tables,
+        worker: &mut Worker,
+        command: &Command,
+    ) -> Result<Reply, AllocError>
+        requires section { IsSection tables.now self.old worker.old }
+        requires look { is_lookup command.now ≡ false }
+        requires room { length self.old.own.labels + 1 < 2 ^ 24 }
+        requires enough { HasEnough self.old worker.old }
+        ensures section { OnOk result (IsSection tables.now self.new worker.new) }
+        ensures did { IfOk result (Did self.old.header self.old.own command.now (turned worker.old) (turned worker.new)
+            (chained tables.now worker.old) (chained tables.now worker.new) self.new.own) }
+        ensures ready { IsReady tables.now worker.new }
+        ensures caller { words.caller worker.new.turns ≡ words.caller worker.old.turns }
+        ensures spends { Spends self.old self.new worker.old worker.new }
+        ensures err { OnErr result (self.new.own.sockets ≡ self.old.own.sockets) }
+        ensures kept { KeepsHeader self.old self.new }
+    {
+        self.carry(rt, tables, worker, command)
+    }
+}

@@ -1,0 +1,103 @@
+//! The TIME_WAITs of a section that have lasted, one after the other.
+
+ghost use Rattle.std.specs.Prelude.{◌≡◌, ℕ, ◌+◌, ◌*◌, ◌^◌, ◌<◌, ◌≤◌, length, IfOk, OnOk};
+ghost use Rattle.std.specs.Option.{option_copied};
+ghost use Rattle.turn_table.specs.Passes as words;
+ghost use Rattle.table_model.specs.Asking.{ends};
+ghost use Rattle.table_model.specs.Operations as plans;
+ghost use Rattle.shared_ops.specs.Goes.{Went};
+ghost use Rattle.shared_ops.specs.Reaping as spec;
+ghost use Rattle.shared_ops.specs.Stands.{IsReady, MayDraw, MayEnter, buckets_of, chained, turned};
+ghost use Rattle.section_machine.specs.Waits as waits_spec;
+ghost use Rattle.section_machine.specs.Waits.{AreBefore, AreInOrder};
+
+use crate::waits::Waits;
+use shared_ops::{Tables, Waiting, Worker, reap_one};
+use std::alloc::AllocError;
+use std::collections::VecDeque;
+use std::sync::Wait;
+
+/// The first TIME_WAIT, if it has lasted its minute at that moment.
+fn first_over(items: &VecDeque<Waiting>, moment: u32) -> Option<&Waiting>
+    ensures { option_copied result ≡ waits_spec.first_over moment items.now.items }
+{
+    let waiting = items.front()?;
+    if waiting.is_over(moment) {
+        Some(waiting)
+    } else {
+        None
+    }
+}
+
+/// How many were there, with this one.
+fn counted(count: u64, found: bool) -> u64
+    requires { count + 1 < 2 ^ 64 }
+    ensures { result ≡ spec.counted count found }
+{
+    if found { count + 1 } else { count }
+}
+
+/// Reaps the first TIME_WAITs, as many as are over at that moment.
+fn reap_first<R: Wait>(
+    rt: &R,
+    tables: &Tables,
+    worker: &mut Worker,
+    items: &mut VecDeque<Waiting>,
+    moment: u32,
+) -> Result<u64, AllocError>
+    requires order { AreInOrder items.old.items }
+    requires before { AreBefore moment items.old.items }
+    requires ready { IsReady tables.now worker.old }
+    requires enters { MayEnter (length items.old.items) worker.old }
+    requires draws { MayDraw (2 * length items.old.items) worker.old }
+    ensures order { AreInOrder items.new.items }
+    ensures before { AreBefore moment items.new.items }
+    ensures ready { IsReady tables.now worker.new }
+    ensures caller { words.caller worker.new.turns ≡ words.caller worker.old.turns }
+    ensures entered { words.draws worker.new.turns + length items.new.items
+        ≤ words.draws worker.old.turns + length items.old.items }
+    ensures drawn { (more : ℕ) → MayDraw (more + 2 * length items.old.items) worker.old
+        → MayDraw (more + 2 * length items.new.items) worker.new }
+    ensures reaps { IfOk result (λ count. Went (buckets_of tables.now) (plans.reap items.old.items moment)
+        (turned worker.old) (turned worker.new)
+        (chained tables.now worker.old) (chained tables.now worker.new) (ends count)) }
+    ensures kept { OnOk result (items.new.items ≡ plans.kept_waits items.old.items moment) }
+{
+    let mut count = 0;
+    while let Some(waiting) = first_over(items, moment) {
+        let found = reap_one(rt, tables, worker, waiting)?;
+        count = counted(count, found);
+        let _reaped = items.pop_front();
+    }
+    Ok(count)
+}
+
+impl Waits {
+    /// Lets those go that are over at that moment, and counts those that were still there.
+    ///
+    /// For want of memory a first part of them is gone, and the others are left for the next call.
+    pub(crate) fn reap<R: Wait>(
+        &mut self,
+        rt: &R,
+        tables: &Tables,
+        worker: &mut Worker,
+        moment: u32,
+    ) -> Result<u64, AllocError>
+        requires before { AreBefore moment self.old }
+        requires ready { IsReady tables.now worker.old }
+        requires enters { MayEnter (length self.old) worker.old }
+        requires draws { MayDraw (2 * length self.old) worker.old }
+        ensures before { AreBefore moment self.new }
+        ensures ready { IsReady tables.now worker.new }
+        ensures caller { words.caller worker.new.turns ≡ words.caller worker.old.turns }
+        ensures entered { words.draws worker.new.turns + length self.new ≤ words.draws worker.old.turns + length self.old }
+        ensures drawn { (more : ℕ) → MayDraw (more + 2 * length self.old) worker.old
+            → MayDraw (more + 2 * length self.new) worker.new }
+        ensures reaps { IfOk result (λ count. Went (buckets_of tables.now) (plans.reap self.old moment)
+            (turned worker.old) (turned worker.new)
+            (chained tables.now worker.old) (chained tables.now worker.new) (ends count)) }
+        ensures kept { OnOk result (self.new ≡ plans.kept_waits self.old moment) }
+    {
+        reap_first(rt, tables, worker, &mut self.items, moment)
+    }
+}

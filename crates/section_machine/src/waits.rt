@@ -1,0 +1,106 @@
+//! The sockets in TIME_WAIT that a section left.
+
+ghost use Rattle.std.specs.Prelude.{◌≡◌, ◌+◌, ◌≤◌, [], length, IfOk, IfErr, OnErr};
+ghost use Rattle.std.specs.VecDeque.{deque_len, deque_capacity};
+ghost use Rattle.turn_table.specs.Passes as words;
+ghost use Rattle.table_model.specs.Operations as plans;
+ghost use Rattle.shared_ops.specs.Socks.{mine_of};
+ghost use Rattle.shared_ops.specs.Spends.{Draws};
+ghost use Rattle.shared_ops.specs.Stands.{IsReady, MayDraw, MayEnter, MayTell, StandsAs, buckets_of, chained, turned};
+ghost use Rattle.shared_ops.specs.Closes.{became};
+ghost use Rattle.section_machine.specs.Carried.{Ends, close_answer, waits_by};
+ghost use Rattle.section_machine.specs.Waits.{AreBefore};
+
+use flat_list::Reply;
+use shared_ops::{Closed, Sock, Tables, Waiting, Worker, close};
+use std::alloc::Global;
+use std::collections::VecDeque;
+use std::marker::Model;
+use std::sync::Wait;
+
+/// The sockets in TIME_WAIT that a section left, in the order in which they were closed.
+///
+/// Stamps never fall along them.
+#[derive(Drop)]
+pub struct Waits {
+    pub(crate) items: VecDeque<Waiting>,
+}
+
+impl Model for Waits {
+    ghost use Rattle.std.specs.Prelude.{List};
+    ghost use Rattle.table_model.specs.Own.{Mine};
+
+    ghost Value = { List Mine };
+
+    ghost use Rattle.section_machine.specs.Waits.{AreInOrder};
+
+    ghost view = { λ w. w.items.items };
+
+    ghost invariant = { λ w. AreInOrder w.items.items };
+}
+
+/// Keeps the TIME_WAIT of a socket that ended, if it left one, where there is room for it; and how that end is called.
+fn keep(items: &mut VecDeque<Waiting>, closed: Closed) -> Reply
+    requires { deque_len items.old + 1 ≤ deque_capacity items.old }
+    ensures left { items.new.items ≡ waits_by items.old.items (became closed) }
+    ensures called { result ≡ close_answer (became closed) }
+{
+    match closed {
+        Closed::Plain => Reply::Ok,
+        Closed::TimeWait(waiting) => {
+            items.push_back_reserved(waiting);
+            Reply::TimeWait
+        }
+        Closed::NoSlot { owned, held } => Reply::NoSlot { owned, held },
+    }
+}
+
+impl Waits {
+    /// None yet. It takes no memory.
+    pub fn new(alloc: Global) -> Self
+        ensures { result ≡ [] }
+    {
+        Waits {
+            items: VecDeque::new(alloc),
+        }
+    }
+
+    /// Closes a socket at that moment, and keeps the TIME_WAIT that it leaves. Where memory is wanting the socket comes
+    /// back as it was.
+    pub(crate) fn close<R: Wait>(
+        &mut self,
+        rt: &R,
+        tables: &Tables,
+        worker: &mut Worker,
+        socket: Sock,
+        moment: u32,
+    ) -> Result<Reply, Sock>
+        requires before { AreBefore moment self.old }
+        requires ready { IsReady tables.now worker.old }
+        requires enters { MayEnter 1 worker.old }
+        requires draws { MayDraw 4 worker.old }
+        requires may { MayTell worker.old (mine_of socket).owner.name }
+        requires stands { StandsAs tables.now socket (turned worker.old) (chained tables.now worker.old) }
+        ensures before { AreBefore moment self.new }
+        ensures ready { IsReady tables.now worker.new }
+        ensures caller { words.caller worker.new.turns ≡ words.caller worker.old.turns }
+        ensures entered { words.draws worker.new.turns ≤ words.draws worker.old.turns + 1 }
+        ensures drawn { Draws 4 worker.old worker.new }
+        ensures more { length self.new ≤ length self.old + 1 }
+        ensures ends { IfOk result (Ends (buckets_of tables.now)
+            (plans.close tables.now.chains.layout.shape tables.now.chains.layout.seed (mine_of socket) moment)
+            (turned worker.old) (turned worker.new)
+            (chained tables.now worker.old) (chained tables.now worker.new) self.old self.new) }
+        ensures same { OnErr result (self.new ≡ self.old) }
+        ensures back { IfErr result (λ kept. kept ≡ socket) }
+    {
+        match self.items.reserve(1) {
+            Ok(()) => {}
+            Err(_) => return Err(socket),
+        }
+        match close(rt, tables, worker, socket, moment) {
+            Ok(closed) => Ok(keep(&mut self.items, closed)),
+            Err((socket, _)) => Err(socket),
+        }
+    }
+}
