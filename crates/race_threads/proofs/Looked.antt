@@ -1,0 +1,193 @@
+-- A looker takes one item more.
+use Rattle.std.proofs.Common.{◌≡◌, ℕ, ◌<◌, ◌≤◌, List, [], ◌∷◌, ◌++◌, refl, sym, ap, ◌∙◌, subst, arith, inl, inr, ⊎_elim}
+use Rattle.list_words.proofs.EachLemmas.{each_weaken, each_both, each_push}
+use Rattle.list_words.proofs.PairsLemmas.{pairs_push}
+use Rattle.bind_buckets.specs.Turned.{View as BindView}
+use Rattle.sock_card.specs.declared.card.Packet.{Packet}
+use Rattle.chain_book.specs.declared.book.Receipt.{Receipt}
+use Rattle.chain_book.specs.declared.book.PacketAnswer.{PacketAnswer}
+use Rattle.chain_book.specs.declared.book.PacketAnswer.TheVariants as answers
+use Rattle.capture_reader.specs.declared.packet.Item.{Item}
+use Rattle.capture_reader.specs.declared.packet.Item.TheVariants as items
+use Rattle.flat_list.specs.declared.header.Header.{Header}
+use Rattle.null_reader.specs.declared.answers.LookEnd.{LookEnd}
+use Rattle.null_reader.specs.declared.answers.LookEnd.TheVariants as ends
+use Rattle.reuseport_group.specs.declared.pass.GroupPasses.{GroupPasses}
+use Rattle.shared_demux.specs.Concludes.{Concluded, AfterListener, AfterFull, ByListener, ByOrder}
+use Rattle.shared_finds.specs.Finds.{InOrder}
+use Rattle.table_rule.specs.Plays.{Sat}
+use Rattle.table_rule.specs.declared.view.Layout.{Layout}
+use Rattle.table_rule.specs.declared.view.Whole.{Whole}
+use Rattle.table_rule.specs.declared.view.BookView.{BookView}
+use Rattle.race_book.specs.Among.{Among}
+use Rattle.race_book.specs.Explained.{NamesItsBucket}
+use Rattle.race_record.specs.Lawful.{Follows}
+use Rattle.race_record.specs.declared.record.Looked.{Looked}
+use Rattle.race_record.specs.declared.record.Looked.TheVariants as looks
+use Rattle.race_threads.specs.Joins.{Part}
+use Rattle.race_threads.specs.Lookers.{IsLookup, IsLooked, item_at, Look, Before, HasLooked, LookedUp, looking, AllBefore, IsPassedOver, whole_for}
+use Rattle.race_threads.specs.Races.{HasOnlyLooked}
+use Rattle.race_threads.proofs.Sightings.{among_left, among_right}
+
+pub looks_none : (header : Header) (all : List Item) (p : Part) → HasOnlyLooked p → HasLooked header all p []
+looks_none header all p h = record { each = tt; turns = tt; only = h }
+
+-- more receipts, and a later number
+module _ (header : Header) (xs ys : List Whole) (a b : ℕ) (more : (c : Whole) → Among xs c → Among ys c) (le : a ≤ b) where
+  lookup_later : (packet : Packet) (r : Receipt) → IsLookup header xs a packet r → IsLookup header ys b packet r
+  lookup_later packet r h = record {
+    packet_is = h.packet_is;
+    seed_is = h.seed_is;
+    order = h.order;
+    most = omega (arith, h.most, le);
+    there = more (whole_for r) h.there;
+    told = h.told;
+    bucket = h.bucket;
+  }
+
+  looked_later : (item : Item) (k : Looked) → IsLooked header xs a item k → IsLooked header ys b item k
+  looked_later (items.Packet packet) (looks.Answered r) h = lookup_later packet r h
+  looked_later items.Skip looks.Skip h = tt
+  looked_later items.Short looks.Short h = tt
+  looked_later (items.Packet packet) looks.Skip h = absurd h
+  looked_later (items.Packet packet) looks.Short h = absurd h
+  looked_later items.Skip (looks.Answered r) h = absurd h
+  looked_later items.Skip looks.Short h = absurd h
+  looked_later items.Short (looks.Answered r) h = absurd h
+  looked_later items.Short looks.Skip h = absurd h
+
+-- what came of an item ended before what is seen
+ended_by : (header : Header) (wholes : List Whole) (seen : ℕ) (item : Item) (k : Looked) (r : Receipt) → seen ≤ r.t0 → IsLooked header wholes seen item k → Follows k (looks.Answered r)
+ended_by header wholes seen (items.Packet packet) (looks.Answered q) r le h = let m = h.most in omega (arith, m, le)
+ended_by header wholes seen items.Skip looks.Skip r le h = tt
+ended_by header wholes seen items.Short looks.Short r le h = tt
+ended_by header wholes seen (items.Packet packet) looks.Skip r le h = absurd h
+ended_by header wholes seen (items.Packet packet) looks.Short r le h = absurd h
+ended_by header wholes seen items.Skip (looks.Answered q) r le h = absurd h
+ended_by header wholes seen items.Skip looks.Short r le h = absurd h
+ended_by header wholes seen items.Short (looks.Answered q) r le h = absurd h
+ended_by header wholes seen items.Short looks.Skip r le h = absurd h
+
+-- of a lookup nothing else is left than its receipt
+pub record Leaves (m n : Sat) (c : Whole) : Type 0 where
+  pub wholes : n.0.read.wholes ≡ m.0.read.wholes ++ c ∷ []
+  pub book : n.0.book ≡ m.0.book
+  pub seen : n.0.seen ≡ c.to
+
+leaves : (m n : Sat) (c : Whole) → Concluded m c n → Leaves m n c
+leaves m n c h =
+    let k : Sat = h.0 in
+    let s = h.1 in
+    record {
+      wholes = ap (λ (z : Sat). z.0.read.wholes) h.2 ∙ ap (λ (z : Sat). z.0.read.wholes ++ c ∷ []) s.is;
+      book = ap (λ (z : Sat). z.0.book) h.2 ∙ ap (λ (z : Sat). z.0.book) s.is;
+      seen = ap (λ (z : Sat). z.0.seen) h.2;
+    }
+
+module _ (header : Header) (all : List Item) (v : BindView) (took : List Look) (i : ℕ) (packet : Packet) (m n : Sat) (r : Receipt)
+    (h : HasLooked header all (looking v m.0) took) (at : item_at all i ≡ items.Packet packet) (before : AllBefore i took) (l : LookedUp header packet m n r) where
+  abbrev look : Look
+  look = record { item = i; looked = looks.Answered r }
+
+  left : Leaves m n (whole_for r)
+  left = leaves m n (whole_for r) l.concluded
+
+  more : (c : Whole) → Among m.0.read.wholes c → Among n.0.read.wholes c
+  more c a = subst (λ x. Among x c) (sym left.wholes) (among_left c m.0.read.wholes (whole_for r ∷ []) a)
+
+  it : IsLookup header n.0.read.wholes n.0.seen packet r
+  it = record {
+    packet_is = l.packet_is;
+    seed_is = l.seed_is;
+    order = l.order;
+    most = omega (arith, left.seen);
+    there = subst (λ x. Among x (whole_for r)) (sym left.wholes) (among_right (whole_for r) m.0.read.wholes (whole_for r ∷ []) (inl refl));
+    told = l.told;
+    bucket = l.bucket;
+  }
+
+  abbrev Was : Look → Type 0
+  Was k = IsLooked header m.0.read.wholes m.0.seen (item_at all k.item) k.looked
+
+  abbrev Now : Look → Type 0
+  Now k = IsLooked header n.0.read.wholes n.0.seen (item_at all k.item) k.looked
+
+  pub looks_more : HasLooked header all (looking v n.0) (took ++ look ∷ [])
+  looks_more = record {
+    each = each_push Now took look
+        (each_weaken Was Now took (λ k z. looked_later header m.0.read.wholes n.0.read.wholes m.0.seen n.0.seen more (omega (arith, left.seen, l.fresh, l.order)) (item_at all k.item) k.looked z) h.each)
+        (subst (λ x. IsLooked header n.0.read.wholes n.0.seen x (looks.Answered r)) (sym at) it);
+    turns = pairs_push Before took look h.turns
+        (each_weaken (λ (k : Look). Was k × (k.item < i)) (λ k. Before k look) took (λ k z. (z.1, ended_by header m.0.read.wholes m.0.seen (item_at all k.item) k.looked r l.fresh z.0)) (each_both Was (λ (k : Look). k.item < i) took h.each before));
+    only = record {
+      mine = h.only.mine;
+      closed = ap (λ (b : BookView). b.closed) left.book ∙ h.only.closed;
+      lost = ap (λ (b : BookView). b.lost) left.book ∙ h.only.lost;
+    };
+  }
+
+-- An item that is passed over
+
+past_is : (header : Header) (wholes : List Whole) (seen : ℕ) (item : Item) (k : Looked) → IsPassedOver item k → IsLooked header wholes seen item k
+past_is header wholes seen items.Skip looks.Skip h = tt
+past_is header wholes seen items.Short looks.Short h = tt
+past_is header wholes seen items.Skip looks.Short h = absurd h
+past_is header wholes seen items.Skip (looks.Answered r) h = absurd h
+past_is header wholes seen items.Short looks.Skip h = absurd h
+past_is header wholes seen items.Short (looks.Answered r) h = absurd h
+past_is header wholes seen (items.Packet packet) k h = absurd h
+
+past_follows : (item : Item) (k : Looked) → IsPassedOver item k → (earlier : Looked) → Follows earlier k
+past_follows items.Skip looks.Skip h (looks.Answered r) = tt
+past_follows items.Skip looks.Skip h looks.Skip = tt
+past_follows items.Skip looks.Skip h looks.Short = tt
+past_follows items.Short looks.Short h (looks.Answered r) = tt
+past_follows items.Short looks.Short h looks.Skip = tt
+past_follows items.Short looks.Short h looks.Short = tt
+past_follows items.Skip looks.Short h earlier = absurd h
+past_follows items.Skip (looks.Answered r) h earlier = absurd h
+past_follows items.Short looks.Skip h earlier = absurd h
+past_follows items.Short (looks.Answered r) h earlier = absurd h
+past_follows (items.Packet packet) k h earlier = absurd h
+
+pub looks_past : (header : Header) (all : List Item) (p : Part) (took : List Look) (i : ℕ) (looked : Looked) → HasLooked header all p took → IsPassedOver (item_at all i) looked → AllBefore i took
+    → HasLooked header all p (took ++ record { item = i; looked = looked } ∷ [])
+looks_past header all p took i looked h over before =
+    let look : Look = record { item = i; looked = looked } in
+    record {
+      each = each_push (λ (k : Look). IsLooked header p.chain.read.wholes p.chain.seen (item_at all k.item) k.looked) took look h.each (past_is header p.chain.read.wholes p.chain.seen (item_at all i) looked over);
+      turns = pairs_push Before took look h.turns (each_weaken (λ (k : Look). k.item < i) (λ k. Before k look) took (λ k l. (l, past_follows (item_at all i) looked over k.looked)) before);
+      only = h.only;
+    }
+
+-- The bucket of a lookup that was given up
+
+named : (layout : Layout) (packet : Packet) (a b : PacketAnswer) → a ≡ b → NamesItsBucket layout.shape layout.seed packet b → NamesItsBucket layout.shape layout.seed packet a
+named layout packet a b e = subst (NamesItsBucket layout.shape layout.seed packet) (sym e)
+
+after_listener : (slots groups : ℕ) (layout : Layout) (packet : Packet) (passes : ℕ) (m : Sat) (p p' : GroupPasses) (look : LookEnd) (end : PacketAnswer) (from to : ℕ) (k : Sat) (c : Whole) (n : Sat)
+    → InOrder layout packet passes m look from to k → AfterListener slots groups layout.seed packet k p look end p' c n → NamesItsBucket layout.shape layout.seed packet end
+after_listener slots groups layout packet passes m p p' (ends.Found held best) end from to k c n o a = named layout packet end (answers.Found a.0) a.3 tt
+after_listener slots groups layout packet passes m p p' ends.None end from to k c n o a = named layout packet end answers.None a.0 tt
+after_listener slots groups layout packet passes m p p' (ends.Again bucket stop) end from to k c n o a =
+    named layout packet end (answers.Again bucket (Rattle.shared_demux.specs.Concludes.book_end stop)) a.0
+    (⊎_elim (λ z. inr (inl z.1.0)) (λ z. inr (inr (inl z.5.0))) o)
+
+after_full : (slots groups : ℕ) (layout : Layout) (packet : Packet) (passes : ℕ) (m : Sat) (p p' : GroupPasses) (look : LookEnd) (end : PacketAnswer) (c : Whole) (k n : Sat)
+    → ((bucket : ℕ) (stop : Rattle.null_reader.specs.declared.answers.PassEnd.PassEnd) → look ≡ ends.Again bucket stop → bucket ≡ Rattle.shared_finds.specs.Homes.full_home layout packet)
+    → AfterFull slots groups layout packet passes k p look end p' c n → NamesItsBucket layout.shape layout.seed packet end
+after_full slots groups layout packet passes m p p' (ends.Found held card) end c k n b a = named layout packet end (answers.Found card) a.1 tt
+after_full slots groups layout packet passes m p p' ends.None end c k n b a = after_listener slots groups layout packet passes k p p' a.0 end a.1 a.2 a.3 c n a.4 a.5
+after_full slots groups layout packet passes m p p' (ends.Again bucket stop) end c k n b a =
+    named layout packet end (answers.Again bucket (Rattle.shared_demux.specs.Concludes.book_end stop)) a.0 (inl (b bucket stop refl))
+
+again_there : (layout : Layout) (packet : Packet) (passes : ℕ) (m : Sat) (end : LookEnd) (from to : ℕ) (k : Sat)
+    → Rattle.null_reader.specs.Looked.LookedAs (Rattle.shared_finds.specs.Homes.full_home layout packet) packet 5 passes m (Rattle.null_reader.specs.Looked.words_end end) from to k
+    → (bucket : ℕ) (stop : Rattle.null_reader.specs.declared.answers.PassEnd.PassEnd) → end ≡ ends.Again bucket stop → bucket ≡ Rattle.shared_finds.specs.Homes.full_home layout packet
+again_there layout packet passes m end from to k h bucket stop e =
+    let f = subst (λ z. Rattle.null_reader.specs.Looked.LookedAs (Rattle.shared_finds.specs.Homes.full_home layout packet) packet 5 passes m (Rattle.null_reader.specs.Looked.words_end z) from to k) e h in f.0
+
+pub names_bucket : (slots groups : ℕ) (layout : Layout) (packet : Packet) (passes : ℕ) (m : Sat) (p p' : GroupPasses) (end : PacketAnswer) (from : ℕ) (c : Whole) (n : Sat)
+    → ByOrder slots groups layout packet passes m p end p' from c n → NamesItsBucket layout.shape layout.seed packet end
+names_bucket slots groups layout packet passes m p p' end from c n h =
+    after_full slots groups layout packet passes m p p' h.0 end c h.2 n (again_there layout packet passes m h.0 from h.1 h.2 h.3) h.4

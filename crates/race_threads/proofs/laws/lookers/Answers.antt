@@ -1,0 +1,18 @@
+use Rattle.race_threads.proofs.Chunks.{runs_are_told}
+use Rattle.race_threads.proofs.Looked.{looks_none, looks_more, looks_past, names_bucket}
+use Rattle.race_threads.proofs.laws.lookers.Goals as goal
+
+pub returns-clause-none : goal.returns-clause-none
+returns-clause-none c = looks_none
+
+pub returns-clause-more : goal.returns-clause-more
+returns-clause-more c = looks_more
+
+pub returns-clause-past : goal.returns-clause-past
+returns-clause-past c = looks_past
+
+pub returns-clause-buckets : goal.returns-clause-buckets
+returns-clause-buckets c = names_bucket
+
+pub returns-clause-runs : goal.returns-clause-runs
+returns-clause-runs c = runs_are_told

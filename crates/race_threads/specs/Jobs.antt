@@ -1,0 +1,60 @@
+-- What the jobs of a race are before they run and after: our own.
+use Rattle.std.specs.Prelude.{◌≡◌, ℕ, ◌+◌, ◌-◌, ◌<◌, List, [], ◌∷◌, length, slice_index_or, Result, Ok, Err, IfOk, alloc_error}
+use Rattle.std.specs.List.{flat_map, range_with_len}
+use Rattle.std.specs.declared.alloc.AllocError.{AllocError}
+use Rattle.list_words.specs.Lists.{SameItems}
+use Rattle.turn_table.specs.Passes as words
+use Rattle.flat_list.specs.declared.header.Header.{Header}
+use Rattle.shared_ops.specs.declared.tables.Tables.{Tables}
+use Rattle.shared_ops.specs.declared.tables.Worker.{Worker}
+use Rattle.race_threads.specs.declared.jobs.Job.{Job}
+use Rattle.race_threads.specs.declared.jobs.Outcome.{Outcome}
+use Rattle.race_threads.specs.Joins.{Part, Joined}
+use Rattle.race_threads.specs.Workers.{IsAtRest, IsFresh, part_of}
+
+-- the job of that number, which has done nothing
+pub record IsReady (header : Header) (t : Tables) (n : ℕ) (j : Job) : Type 0 where
+  pub fresh : IsFresh header t (n + 1) j.worker
+  pub number : j.number ≡ n
+  pub replies : j.replies.items ≡ []
+  pub told : j.told.items ≡ []
+
+-- each job is that of its place
+abbrev pub AllReady : Header → Tables → List Job → Type 0
+AllReady header t jobs = (i : ℕ) (x : Job) → i < length jobs → x ≡ slice_index_or jobs i x → IsReady header t i x
+
+-- a job that has ended: its worker may be taken in
+pub record IsOver (t : Tables) (j : Job) : Type 0 where
+  pub rest : IsAtRest t j.worker
+  pub turn_part : words.parts j.worker.turns ≡ 1
+  pub chain_part : (part_of j.worker).chain.slot.parts ≡ 1
+
+abbrev pub AllOver : Tables → List (Result Job AllocError) → Type 0
+AllOver t done = (i : ℕ) (d : Result Job AllocError) → i < length done → IfOk (slice_index_or done i d) (IsOver t)
+
+-- it has all parts of both
+pub record HasAllParts (w : Worker) : Type 0 where
+  pub turn_parts : words.parts w.turns ≡ 16384
+  pub chain_parts : (part_of w).chain.slot.parts ≡ 16384
+
+-- what the worker of a job did, or else that
+abbrev pub part_or : Part → Result Job AllocError → Part
+part_or other (Ok j) = part_of j.worker
+part_or other (Err e) = other
+
+-- of the worker of that number, where the first is 1
+abbrev pub part_in : Part → List (Result Job AllocError) → ℕ → Part
+part_in other done m = part_or other (slice_index_or done (m - 1) (Err alloc_error))
+
+-- of so many workers those behind the first n were joined
+pub record IsGathered (part : ℕ → Part) (n count : ℕ) (p : Part) : Type 0 where
+  pub order : List ℕ
+  pub once : SameItems order (range_with_len (n + 1) (count - n))
+  pub joined : Joined part order p.turns p.chain
+
+abbrev pub outcome_of : Result Job AllocError → List Outcome
+outcome_of (Ok j) = record { replies = j.replies; told = j.told } ∷ []
+outcome_of (Err e) = []
+
+abbrev pub outcomes_in : List (Result Job AllocError) → List Outcome
+outcomes_in done = flat_map outcome_of done

@@ -1,0 +1,127 @@
+-- Laws of what workers did: our own.
+use Rattle.std.specs.Prelude.{◌≡◌, ℕ, ◌+◌, List, [], ◌∷◌, ◌++◌, length}
+use Rattle.std.specs.Global.{Box}
+use Rattle.list_words.specs.Lists.{Each}
+use Rattle.turn_table.specs.Views.{joined}
+use Rattle.bind_buckets.specs.Bucket.{Bucket}
+use Rattle.bind_buckets.specs.Turned.{View as BindView}
+use Rattle.sock_card.specs.declared.card.Packet.{Packet}
+use Rattle.chain_book.specs.declared.book.PacketAnswer.{PacketAnswer}
+use Rattle.chain_book.specs.declared.book.Receipt.{Receipt}
+use Rattle.capture_reader.specs.declared.packet.Item.{Item}
+use Rattle.capture_reader.specs.declared.packet.Item.TheVariants as items
+use Rattle.capture_reader.specs.Captures.{Capture}
+use Rattle.flat_list.specs.Script.{Script}
+use Rattle.flat_list.specs.declared.header.Header.{Header}
+use Rattle.flat_list.specs.declared.command.Command.{Command}
+use Rattle.flat_list.specs.declared.command.Reply.{Reply}
+use Rattle.table_model.specs.Own.{Own, new_own}
+use Rattle.table_rule.specs.Plays.{Sat, both, seeing}
+use Rattle.table_rule.specs.declared.view.Layout.{Layout}
+use Rattle.table_rule.specs.declared.view.Whole.{Whole}
+use Rattle.table_rule.specs.declared.view.View.{View}
+use Rattle.reuseport_group.specs.declared.pass.GroupPasses.{GroupPasses}
+use Rattle.shared_demux.specs.Concludes.{ByOrder}
+use Rattle.race_book.specs.Among.{Among}
+use Rattle.race_book.specs.Explained.{NamesItsBucket}
+use Rattle.race_record.specs.Deeds.{Deed}
+use Rattle.race_record.specs.Record.{replies_of}
+use Rattle.race_record.specs.Lawful.{Lawful}
+use Rattle.race_record.specs.declared.record.Looked.{Looked}
+use Rattle.race_record.specs.declared.record.Looked.TheVariants as looks
+use Rattle.chain_deeds.specs.Sides.{Side}
+use Rattle.chain_deeds.specs.Made.{AllLeave}
+use Rattle.section_machine.specs.Sections.{Did}
+use Rattle.race_threads.specs.Joins.{Part, Joined, IsBlank}
+use Rattle.race_threads.specs.Lookers.{item_at, Look, HasLooked, LookedUp, looking, AllBefore, IsPassedOver, AllLooked, AreTold, looks_by, tooks_from, all_told}
+use Rattle.race_threads.specs.Made.{MadeAll, Loads, loaded}
+use Rattle.race_threads.specs.Races.{HasEnded, HasOnlyLooked, Looks, AreFew, AllReaped, IsLawfulBut, race_by, steps_by}
+use Rattle.race_threads.specs.Sections.{HasDone, HasNothing}
+
+-- deeds one after the other leave what all of them make
+abbrev pub AllMade : Type 0
+AllMade = (deeds : List Deed) (c d : Side) → AllLeave deeds c d → MadeAll deeds c d
+
+-- a section begins
+abbrev pub Begins : Type 0
+Begins = (header : Header) (n : ℕ) (v : BindView) (c : Side) → HasNothing header n v c → HasDone header n [] (new_own header n) v c []
+
+-- one command more, and a load of the clock
+abbrev pub OneMore : Type 0
+OneMore =
+    (header : Header) (n : ℕ) (commands : List Command) (own next : Own) (v w : BindView) (c d : Side) (number : ℕ)
+    (replies : List Reply) (command : Command) (reply : Reply)
+    → HasDone header n commands own v c replies → Did header own command v w c d next reply → Loads d number
+    → HasDone header n (commands ++ command ∷ []) next w (loaded d number) (replies ++ reply ∷ [])
+
+-- the first worker, before any other is joined to it
+abbrev pub JoinsNone : Type 0
+JoinsNone = (part : ℕ → Part) (v : BindView) (x : View) → IsBlank v x → Joined part [] v x
+
+-- and one worker more
+abbrev pub JoinsMore : Type 0
+JoinsMore =
+    (part : ℕ → Part) (order : List ℕ) (v : BindView) (x : View) (m : ℕ) → Joined part order v x
+    → Joined part (order ++ m ∷ []) (joined v (part m).turns) (both x (part m).chain)
+
+-- each section reaped to the end: each TIME_WAIT that it left, and that was over at its moment, was on its way out before
+-- the step ended
+abbrev pub ReapsToTheEnd : Type 0
+ReapsToTheEnd =
+    (header : Header) (scripts : List (List Command)) (part : ℕ → Part) (lookers : ℕ) (v : BindView) (x : View)
+    (values : List (Box Bucket)) (replies : List (List Reply)) (clock : ℕ) (looks : Looks)
+    → (e : HasEnded header scripts part lookers v x values replies clock) → Each AreFew scripts
+    → let race = race_by header looks (steps_by header part 1 scripts replies e.done) values (seeing x clock) clock in
+    AllReaped header (Among race.book) 1 scripts race.sections
+
+-- the record of a race that has ended is lawful, but for what is said of lookups
+abbrev pub Closes : Type 0
+Closes =
+    (header : Header) (scripts : List (List Command)) (part : ℕ → Part) (lookers : ℕ) (v : BindView) (x : View)
+    (values : List (Box Bucket)) (replies : List (List Reply)) (clock : ℕ) (looks : Looks)
+    → (e : HasEnded header scripts part lookers v x values replies clock) → Each AreFew scripts
+    → let race = race_by header looks (steps_by header part 1 scripts replies e.done) values (seeing x clock) clock in
+    IsLawfulBut header scripts race × (replies_of race ≡ replies)
+
+-- a pass's receipts are what came of the items, and with what the sections did that is a whole record
+abbrev pub LooksToo : Type 0
+LooksToo =
+    (script : Script) (capture : Capture) (part : ℕ → Part) (tooks : List (List Look)) (looked : List Looked) (passes : ℕ)
+    (v : BindView) (x : View) (values : List (Box Bucket)) (replies : List (List Reply)) (clock : ℕ)
+    → (e : HasEnded script.header script.sections part (length tooks) v x values replies clock)
+    → AllLooked script.header capture.items part (length script.sections + 1) tooks → AreTold capture.items tooks looked
+    → Each AreFew script.sections
+    → let race = race_by script.header (looks_by passes tooks looked capture) (steps_by script.header part 1 script.sections replies e.done) values (seeing x clock) clock in
+    Lawful script capture race × (replies_of race ≡ replies)
+
+-- a looker begins
+abbrev pub LooksNone : Type 0
+LooksNone = (header : Header) (all : List Item) (p : Part) → HasOnlyLooked p → HasLooked header all p []
+
+-- it looks one packet up
+abbrev pub LooksMore : Type 0
+LooksMore =
+    (header : Header) (all : List Item) (v : BindView) (took : List Look) (i : ℕ) (packet : Packet) (m n : Sat) (r : Receipt)
+    → HasLooked header all (looking v m.0) took → item_at all i ≡ items.Packet packet → AllBefore i took
+    → LookedUp header packet m n r
+    → HasLooked header all (looking v n.0) (took ++ record { item = i; looked = looks.Answered r } ∷ [])
+
+-- it passes over an item
+abbrev pub LooksPast : Type 0
+LooksPast =
+    (header : Header) (all : List Item) (p : Part) (took : List Look) (i : ℕ) (looked : Looked)
+    → HasLooked header all p took → IsPassedOver (item_at all i) looked → AllBefore i took
+    → HasLooked header all p (took ++ record { item = i; looked = looked } ∷ [])
+
+-- a lookup that was given up names one of the buckets through which it went
+abbrev pub NamesBuckets : Type 0
+NamesBuckets =
+    (slots groups : ℕ) (layout : Layout) (packet : Packet) (passes : ℕ) (m : Sat) (p p' : GroupPasses) (end : PacketAnswer)
+    (from : ℕ) (c : Whole) (n : Sat)
+    → ByOrder slots groups layout packet passes m p end p' from c n → NamesItsBucket layout.shape layout.seed packet end
+
+-- lookers that take the items in runs, one behind the other, tell of each once
+abbrev pub RunsAreTold : Type 0
+RunsAreTold =
+    (all : List Item) (told : List (List Looked)) → length (all_told told) ≡ length all
+    → AreTold all (tooks_from 0 told) (all_told told)

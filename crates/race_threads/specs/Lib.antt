@@ -1,0 +1,10 @@
+-- What the contracts of this crate cite.
+pub mod Made
+pub mod Sections
+pub mod Joins
+pub mod Races
+pub mod Lookers
+pub mod Looking
+pub mod Workers
+pub mod Jobs
+pub mod Laws

@@ -1,0 +1,39 @@
+-- What a looker's calls ask and leave: our own.
+use Rattle.std.specs.Prelude.{◌≡◌, ℕ, ◌<◌, List, [], ◌∷◌, ◌++◌}
+use Rattle.bind_buckets.specs.Turned.{View as BindView}
+use Rattle.capture_reader.specs.declared.packet.Item.{Item}
+use Rattle.chain_book.specs.declared.book.Receipt.{Receipt}
+use Rattle.chain_deeds.specs.Sides.{IsResting, HoldsNothing}
+use Rattle.chain_deeds.specs.declared.table.ChainPass.{ChainPass}
+use Rattle.chain_deeds.specs.declared.table.ChainTable.{ChainTable}
+use Rattle.flat_list.specs.declared.header.Header.{Header}
+use Rattle.race_record.specs.declared.record.Looked.{Looked}
+use Rattle.sock_card.specs.declared.card.Packet.{Packet}
+use Rattle.table_rule.specs.Passes.{known}
+use Rattle.table_rule.specs.Plays.{Sat}
+use Rattle.race_threads.specs.Lookers.{item_at, Look, AllBefore, HasLooked, LookedUp, looking, took_from}
+use Rattle.race_threads.specs.Races.{HasOnlyLooked}
+use Rattle.race_threads.specs.Sections.{layout_in}
+
+-- a pass of that table between two lookups
+pub record MayLook (t : ChainTable) (p : ChainPass) : Type 0 where
+  pub rests : IsResting t p
+  pub nothing : HoldsNothing (known p.pass)
+  pub part : 0 < (known p.pass).slot.parts
+
+-- a packet was looked up, whatever script the table is of
+abbrev pub LooksUp : ChainTable → Packet → Sat → Sat → Receipt → Type 0
+LooksUp t packet m n r = (header : Header) → t.layout ≡ layout_in header → LookedUp header packet m n r
+
+-- one item more was taken, of whatever capture, behind whatever was taken before
+abbrev pub TakesItem : ChainTable → Item → Sat → Sat → Looked → Type 0
+TakesItem t item m n looked =
+    (header : Header) (all : List Item) (v : BindView) (took : List Look) (i : ℕ)
+    → t.layout ≡ layout_in header → item_at all i ≡ item → AllBefore i took → HasLooked header all (looking v m.0) took
+    → HasLooked header all (looking v n.0) (took ++ record { item = i; looked = looked } ∷ [])
+
+-- a run of items was taken by a pass that had done nothing else
+abbrev pub TakesRun : ChainTable → List Item → ℕ → Sat → Sat → List Looked → Type 0
+TakesRun t all first m n told =
+    (header : Header) (v : BindView) → t.layout ≡ layout_in header → HasOnlyLooked (looking v m.0)
+    → HasLooked header all (looking v n.0) (took_from first told)

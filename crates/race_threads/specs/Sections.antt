@@ -1,0 +1,69 @@
+-- What a section's worker did from its first command on: our own.
+use Rattle.std.specs.Prelude.{◌≡◌, ℕ, ◌<◌, List, [], ◌∷◌, map, ◌≤◌}
+use Rattle.list_words.specs.Lists.{Each, SameItems, Pairs}
+use Rattle.bind_buckets.specs.Turned.{View as BindView}
+use Rattle.flat_list.specs.declared.header.Header.{Header}
+use Rattle.flat_list.specs.declared.command.Command.{Command}
+use Rattle.flat_list.specs.declared.command.Reply.{Reply}
+use Rattle.table_rule.specs.Book.{open-end}
+use Rattle.table_rule.specs.declared.view.Layout.{Layout}
+use Rattle.table_rule.specs.declared.view.Sight.{Sight}
+use Rattle.table_model.specs.Own.{Own, new_own}
+use Rattle.table_model.specs.Commands.{answers, plan}
+use Rattle.race_record.specs.Deeds.{entries_in, changes_in, taken_in, vain_in}
+use Rattle.race_record.specs.Goes.{Goes}
+use Rattle.race_record.specs.Record.{Step, deeds_of, reply_of}
+use Rattle.race_record.specs.Lawful.{AreInOrder, IsCalledBy}
+use Rattle.chain_deeds.specs.Sides.{Side, changes_by}
+use Rattle.chain_deeds.specs.Made.{IsHomeIfHash, AllHaveWords, number_of}
+use Rattle.race_threads.specs.Made.{SawKeeper, SawNone, IsBy, SawNoWait, missed_in}
+
+-- what a script's chains are laid out for
+abbrev pub layout_in : Header → Layout
+layout_in header = record { shape = header.shape; seed = header.seed }
+
+-- the steps of these commands, from one own to another
+abbrev pub Makes : Header → Own → List Command → List Step → Own → Type 0
+Makes header own [] [] last = own ≡ last
+Makes header own (c ∷ cs) (s ∷ ss) last =
+    (next : Own) × (s.command ≡ c) × Goes (plan header own c) s.deeds (answers next s.reply) × Makes header next cs ss last
+Makes header own _ _ last = ⊥
+
+-- what refused a step was seen between its numbers, and so was that what it sought was gone
+pub record IsShown (layout : Layout) (sights : List Sight) (s : Step) : Type 0 where
+  pub keepers : Each (SawKeeper sights s.from (IsBy s.to)) (taken_in s.deeds)
+  pub nones : Each (SawNone sights s.from (IsBy s.to) layout.shape.slots) (vain_in s.deeds)
+  pub waits : Each (SawNoWait sights s.from (IsBy s.to) layout) (missed_in s.deeds)
+
+-- a later step began with what the one before had ended with, or more
+abbrev pub EndsBefore : Step → Step → Type 0
+EndsBefore s later = s.to ≤ later.from
+
+-- a worker did these commands of section n from its beginning, and nothing else
+pub record HasDone (header : Header) (n : ℕ) (commands : List Command) (own : Own) (v : BindView) (c : Side) (replies : List Reply) : Type 0 where
+  pub layout : c.layout ≡ layout_in header
+  pub few : c.view.seen < open-end
+  pub steps : List Step
+  pub makes : Makes header (new_own header n) commands steps own
+  pub replied : map reply_of steps ≡ replies
+  pub order : AreInOrder c.view.seen steps
+  pub turns : Pairs EndsBefore steps
+  pub entries : v.mine ≡ entries_in header.shape.bind (deeds_of steps)
+  pub caller : v.caller ≡ n
+  pub callers : Each (IsCalledBy n) v.mine
+  pub changes : changes_by c ≡ changes_in (deeds_of steps)
+  pub homes : Each (IsHomeIfHash (layout_in header)) (changes_in (deeds_of steps))
+  pub words : AllHaveWords c
+  pub lost : SameItems c.view.book.lost (map number_of (vain_in (deeds_of steps)))
+  pub shown : Each (IsShown (layout_in header) c.view.sights) steps
+  pub wholes : c.view.read.wholes ≡ []
+
+-- a worker that has done nothing yet
+pub record HasNothing (header : Header) (n : ℕ) (v : BindView) (c : Side) : Type 0 where
+  pub layout : c.layout ≡ layout_in header
+  pub few : c.view.seen < open-end
+  pub mine : v.mine ≡ []
+  pub caller : v.caller ≡ n
+  pub closed : c.view.book.closed ≡ []
+  pub lost : c.view.book.lost ≡ []
+  pub wholes : c.view.read.wholes ≡ []

@@ -1,0 +1,103 @@
+//! The jobs of a race: a worker for each section and each looker.
+
+ghost use Rattle.std.specs.Prelude.{◌≡◌, ◌+◌, ◌^◌, ◌<◌, length, reverse, IfOk, OnOk};
+ghost use Rattle.flat_list.specs.declared.header.Header.{Header};
+ghost use Rattle.race_threads.specs.Jobs.{AllOver, AllReady, HasAllParts, IsGathered, outcomes_in, part_in};
+ghost use Rattle.race_threads.specs.Joins.{Part};
+ghost use Rattle.race_threads.specs.Workers.{AreTables, IsAtRest, IsFirst, part_of};
+ghost use Rattle.turn_table.specs.Passes as words;
+
+use crate::worker::{join, split};
+use flat_list::Reply;
+use race_record::Looked;
+use shared_ops::{Tables, Worker};
+use std::alloc::{AllocError, Global};
+
+/// A worker's part of a race: the section or the looker of its number, the sections first, and what came of it.
+#[derive(Drop)]
+pub struct Job {
+    pub worker: Worker,
+    pub number: usize,
+    pub replies: Vec<Reply>,
+    pub told: Vec<Looked>,
+}
+
+/// A job for each section and each looker, with a worker that is split off the first one.
+///
+/// # Errors
+///
+/// Memory ran out.
+pub fn deal(
+    alloc: Global,
+    tables: &Tables,
+    first: &mut Worker,
+    count: usize,
+) -> Result<Vec<Job>, AllocError>
+    requires count { count < 2 ^ 13 }
+    requires tables { (header : Header) × AreTables header tables.now }
+    requires first { IsFirst tables.now 0 first.old }
+    ensures count { IfOk result (λ jobs. length jobs.items ≡ count) }
+    ensures jobs { IfOk result
+        (λ jobs. (header : Header) → AreTables header tables.now → AllReady header tables.now jobs.items) }
+    ensures first { OnOk result (IsFirst tables.now count first.new) }
+{
+    let mut jobs = Vec::with_capacity(alloc, count)?;
+    for number in 0..count {
+        jobs.push_reserved(Job {
+            worker: split(alloc, tables, first),
+            number,
+            replies: Vec::new(alloc),
+            told: Vec::new(alloc),
+        });
+    }
+    Ok(jobs)
+}
+
+/// What came of a job: of a section its replies, and of a looker what it tells.
+#[derive(Drop)]
+pub struct Outcome {
+    pub replies: Vec<Reply>,
+    pub told: Vec<Looked>,
+}
+
+/// Takes the workers of all jobs in, and hands on what came of each.
+///
+/// # Errors
+///
+/// Memory ran out, or had run out for a job.
+pub fn gather(
+    alloc: Global,
+    tables: &Tables,
+    first: &mut Worker,
+    done: Vec<Result<Job, AllocError>>,
+) -> Result<Vec<Outcome>, AllocError>
+    requires few { length done.items < 2 ^ 13 }
+    requires done { AllOver tables.now done.items }
+    requires first { IsFirst tables.now (length done.items) first.old }
+    ensures rest { IfOk result (λ given. IsAtRest tables.now first.new) }
+    ensures parts { IfOk result (λ given. HasAllParts first.new) }
+    ensures joined { IfOk result
+        (λ given. (other : Part) → IsGathered (part_in other done.items) 0 (length done.items) (part_of first.new)) }
+    ensures outcomes { IfOk result (λ given. given.items ≡ outcomes_in done.items) }
+{
+    let mut given = Vec::with_capacity(alloc, done.len())?;
+    let mut left = done;
+    while let Some(result) = left.pop() {
+        let Job {
+            worker,
+            replies,
+            told,
+            ..
+        } = result?;
+        join(tables, first, worker)?;
+        given.push(Outcome { replies, told })?;
+    }
+    Ok(backwards(given))
+}
+
+fn backwards(mut outcomes: Vec<Outcome>) -> Vec<Outcome>
+    ensures { result.items ≡ reverse outcomes.items }
+{
+    outcomes.as_mut_slice().reverse();
+    outcomes
+}

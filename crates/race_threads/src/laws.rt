@@ -1,0 +1,41 @@
+//! What follows from what workers did.
+
+ghost use Rattle.race_threads.specs.Laws as law;
+
+/// What deeds leave, one after the other, and a section's commands.
+pub fn sections()
+    ensures made { law.AllMade }
+    ensures begins { law.Begins }
+    ensures more { law.OneMore }
+{}
+
+/// The first worker, as others are joined to it.
+pub fn joins()
+    ensures none { law.JoinsNone }
+    ensures more { law.JoinsMore }
+{}
+
+/// Once all workers are joined, each section has reaped to the end.
+pub fn reaps()
+    ensures { law.ReapsToTheEnd }
+{}
+
+/// All workers joined, the clock loaded and the bind buckets taken: the record is lawful, but for what is said of
+/// lookups.
+pub fn closes()
+    ensures { law.Closes }
+{}
+
+/// With what the lookers told of a capture it is lawful.
+pub fn looks()
+    ensures { law.LooksToo }
+{}
+
+/// A looker, one item after the other.
+pub fn lookers()
+    ensures none { law.LooksNone }
+    ensures more { law.LooksMore }
+    ensures past { law.LooksPast }
+    ensures buckets { law.NamesBuckets }
+    ensures runs { law.RunsAreTold }
+{}
