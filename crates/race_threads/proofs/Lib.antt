@@ -19,3 +19,6 @@ pub mod Chunks
 pub mod Runs
 pub mod Dealing
 pub mod Taking
+pub mod Running
+pub mod Sharing
+pub mod Working

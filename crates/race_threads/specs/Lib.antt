@@ -8,3 +8,5 @@ pub mod Looking
 pub mod Workers
 pub mod Jobs
 pub mod Laws
+pub mod Shares
+pub mod Scripts

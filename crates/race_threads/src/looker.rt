@@ -5,10 +5,12 @@ ghost use Rattle.race_threads.specs.Lookers.{IsTold};
 ghost use Rattle.race_threads.specs.Looking.{MayLook, LooksUp, TakesItem, TakesRun};
 ghost use Rattle.reuseport_group.specs.Passes.{IsPassOf};
 ghost use Rattle.table_rule.specs.Calls.{me};
+ghost use Rattle.table_rule.specs.Passes.{known};
 
 use capture_reader::Item;
 use chain_book::{PacketAnswer, PacketLook, Receipt};
 use chain_deeds::{ChainPass, ChainTable};
+use inet_io::{Gate, Who};
 use null_reader::Pace;
 use race_record::Looked;
 use reuseport_group::{GroupPasses, Groups};
@@ -40,6 +42,7 @@ fn look_one<P: Pace>(
     requires passes { 0 < passes }
     ensures looks { MayLook table.now pass.new }
     ensures groups { IsPassOf groups.now group_passes.new }
+    ensures part { (known pass.new.pass).slot.parts ≡ (known pass.old.pass).slot.parts }
     ensures up { LooksUp table.now packet.now (me pass.old.pass.steps) (me pass.new.pass.steps) result }
 {
     let tables = Lookups {
@@ -80,6 +83,7 @@ fn look_item<P: Pace>(
     requires passes { 0 < passes }
     ensures looks { MayLook table.now pass.new }
     ensures groups { IsPassOf groups.now group_passes.new }
+    ensures part { (known pass.new.pass).slot.parts ≡ (known pass.old.pass).slot.parts }
     ensures takes { TakesItem table.now item.now (me pass.old.pass.steps) (me pass.new.pass.steps) result }
 {
     match item {
@@ -97,12 +101,12 @@ fn look_item<P: Pace>(
     }
 }
 
-/// Looks the items of a run up, one after the other.
+/// Looks the items of a run up, one after the other, each behind the gate of the looker of that number.
 ///
 /// # Errors
 ///
 /// Memory ran out.
-pub fn look_run<P: Pace>(
+pub fn look_run<P: Pace, G: Gate>(
     alloc: Global,
     table: &ChainTable,
     groups: &Groups,
@@ -113,6 +117,8 @@ pub fn look_run<P: Pace>(
     last: usize,
     passes: u32,
     pace: &mut P,
+    looker: u32,
+    gate: &G,
 ) -> Result<Vec<Looked>, AllocError>
     requires looks { MayLook table.now pass.old }
     requires groups { IsPassOf groups.now group_passes.old }
@@ -121,12 +127,14 @@ pub fn look_run<P: Pace>(
     requires inside { last ≤ length items.now }
     ensures looks { IfOk result (λ told. MayLook table.now pass.new) }
     ensures groups { IfOk result (λ told. IsPassOf groups.now group_passes.new) }
+    ensures part { IfOk result (λ told. (known pass.new.pass).slot.parts ≡ (known pass.old.pass).slot.parts) }
     ensures count { IfOk result (λ told. first + length told.items ≡ last) }
     ensures takes { IfOk result
         (λ told. TakesRun table.now items.now first (me pass.old.pass.steps) (me pass.new.pass.steps) told.items) }
 {
     let mut told = Vec::with_capacity(alloc, last - first)?;
     for at in first..last {
+        gate.pass(Who::Looker(looker), at as u64 + 1);
         let looked = look_item(table, groups, pass, group_passes, &items[at], passes, pace);
         told.push(looked)?;
     }

@@ -1,4 +1,4 @@
-use Rattle.std.proofs.Common.{◌<◌, length, arith}
+use Rattle.std.proofs.Common.{◌<◌, ◌∙◌, length, arith}
 use Rattle.capture_reader.specs.declared.packet.Item.TheVariants as items
 use Rattle.table_rule.specs.Calls.{me}
 use Rattle.race_threads.proofs.Runs.{run_more, at_any}
@@ -11,6 +11,7 @@ loop-at-preserved g c =
     record {
       looks = c.look_item-looked.ensures.looks;
       groups = c.look_item-looked.ensures.groups;
+      part = c.look_item-looked.ensures.part ∙ i.part;
       count = omega (arith, c.in_ok-push.ensures.len);
       takes = run_more c.args.table.now c.args.items.now c.args.first c.loop-at.at (me c.args.pass.now.pass.steps) (me c.loop-at.pass.pass.steps) (me c.look_item-looked.new.pass.pass.steps) c.loop-at.told.items c.push.new.self.items c.look_item-looked.result _
           i.takes c.look_item-looked.ensures.takes (at_any c.args.items.now c.loop-at.at items.Skip _ inside) i.count c.in_ok-push.ensures.items;

@@ -1,0 +1,46 @@
+-- A job, by the script.
+use Rattle.std.proofs.Common.{◌≡◌, ℕ, zero, suc, ◌+◌, ◌-◌, ◌<◌, ◌≤◌, List, [], ◌∷◌, length, map, get_or, refl, sym, ap, ◌∙◌, subst, arith}
+use Rattle.capture_reader.specs.declared.packet.Item.{Item}
+use Rattle.flat_list.specs.Script.{Script}
+use Rattle.flat_list.specs.declared.command.Command.{Command}
+use Rattle.flat_list.specs.declared.header.Header.{Header}
+use Rattle.shared_ops.specs.declared.tables.Tables.{Tables}
+use Rattle.race_threads.specs.declared.jobs.Job.{Job}
+use Rattle.race_threads.specs.Jobs.{IsOver}
+use Rattle.race_threads.specs.Races.{SectionDone}
+use Rattle.race_threads.specs.Workers.{part_of}
+use Rattle.race_threads.specs.Scripts.{CanRun, HasRun, HasShared, IsForRace, IsWorked}
+use Rattle.race_threads.proofs.Running.{each_get}
+
+get_map : {A B : Type 0} (f : A → B) (xs : List A) (i : ℕ) (x : A) (e : B) → i < length xs → x ≡ get_or xs i x → get_or (map f xs) i e ≡ f x
+get_map f [] i x e l is = absurd (omega (arith, l))
+get_map f (y ∷ ys) zero x e l is = ap f (sym is)
+get_map f (y ∷ ys) (suc i) x e l is = get_map f ys i x e (omega (arith, l)) is
+
+len_map : {A B : Type 0} (f : A → B) (xs : List A) → length (map f xs) ≡ length xs
+len_map f [] = refl
+len_map f (x ∷ xs) = omega (arith, len_map f xs)
+
+-- the commands at a place
+pub commands_at : {A : Type 0} (f : A → List Command) (script : Script) (xs : List A) (i : ℕ) (x : A) → map f xs ≡ script.sections → i < length xs → x ≡ get_or xs i x → f x ≡ get_or script.sections i []
+commands_at f script xs i x all l is = sym (ap (λ (l : List (List Command)). get_or l i []) (sym all) ∙ get_map f xs i x [] l is)
+
+pub count_is : {A : Type 0} (f : A → List Command) (script : Script) (xs : List A) → map f xs ≡ script.sections → length xs ≡ length script.sections
+count_is f script xs all = sym (len_map f xs) ∙ ap (λ (l : List (List Command)). length l) all
+
+pub can_run : (script : Script) (i : ℕ) (commands : List Command) → IsForRace script → i < length script.sections → commands ≡ get_or script.sections i [] → CanRun commands
+can_run script i commands fits l is = subst CanRun (sym is) (each_get CanRun script.sections i [] fits.sections l)
+
+module _ (script : Script) (all : List Item) (lookers : ℕ) (t : Tables) (n : ℕ) (j : Job) (over : IsOver t j) where
+  pub worked_section : n < length script.sections → HasRun script.header (n + 1) (get_or script.sections n []) j → IsWorked script all lookers t n j
+  worked_section l run = record { over = over; section = λ l. run; looker = λ le. absurd (omega (arith, l, le)) }
+
+  pub worked_looker : length script.sections ≤ n → HasShared script.header all lookers (n - length script.sections) j → IsWorked script all lookers t n j
+  worked_looker le share = record { over = over; section = λ l. absurd (omega (arith, l, le)); looker = λ le. share }
+
+pub shared : (header : Header) (lookers at at' : ℕ) → at ≡ at' → (items all : List Item) → items ≡ all → (j : Job) → HasShared header items lookers at j → HasShared header all lookers at' j
+shared header lookers at at' same items all is j h = subst (λ (k : ℕ). HasShared header all lookers k j) same (subst (λ (l : List Item). HasShared header l lookers at j) is h)
+
+pub ran : (given header : Header) (n : ℕ) (commands all : List Command) (j : Job) → given ≡ header → commands ≡ all → SectionDone given n commands (part_of j.worker) j.replies.items → j.told.items ≡ [] → HasRun header n all j
+ran given header n commands all j is same done told =
+    record { done = subst (λ (h : Header). SectionDone h n all (part_of j.worker) j.replies.items) is (subst (λ (l : List Command). SectionDone given n l (part_of j.worker) j.replies.items) same done); told = told }

@@ -1,0 +1,31 @@
+use Rattle.std.proofs.Common.{ap, arith}
+use Rattle.bind_buckets.specs.Turned.{View as BindView}
+use Rattle.table_rule.specs.declared.view.View.{View}
+use Rattle.race_threads.proofs.start.start.Goals as goal
+
+pub returns : goal.returns
+returns c =
+    let b = c.in_ok-buckets.ensures in
+    let t = c.in_ok-chains.ensures in
+    let v = b.pass.2 in
+    let x = t.first in
+    record {
+      tables = record { layout = t.layout; buckets = b.places; some = omega (arith, b.places, c.requires.some); shared = b.home };
+      first = record {
+        rest = record { turns = b.pass.0; free = b.pass.1; rests = t.rests; nothing = record { holds = ap (λ (y : View). y.slot.holds) x; kept = ap (λ (y : View). y.read.kept) x; reader = ap (λ (y : View). y.read.reader) x } };
+        turn_parts = let e = ap (λ (y : BindView). y.parts) v in omega (arith, e);
+        chain_parts = let e = ap (λ (y : View). y.slot.parts) x in omega (arith, e);
+        caller = ap (λ (y : BindView). y.caller) v;
+        splits = ap (λ (y : BindView). y.splits) v;
+        seen = ap (λ (y : View). y.seen) x;
+        opened = ap (λ (y : View). y.book.opened) x;
+        blank = record {
+          mine = ap (λ (y : BindView). y.mine) v;
+          closed = ap (λ (y : View). y.book.closed) x;
+          lost = ap (λ (y : View). y.book.lost) x;
+          sights = ap (λ (y : View). y.sights) x;
+          wholes = ap (λ (y : View). y.read.wholes) x;
+          taken = ap (λ (y : View). y.slot.taken) x;
+        };
+      };
+    }

@@ -1,0 +1,93 @@
+use Rattle.std.proofs.Common.{◌≡◌, ◌+◌, ◌-◌, ◌%◌, ℕ, [], length, get_or, arith, rules, subst, sym, ap, ◌∙◌, Vec, false}
+use Rattle.std.specs.Global.{Global}
+use Rattle.list_words.specs.Lists.{Each}
+use Rattle.flat_list.specs.Ports.{size}
+use Rattle.flat_list.specs.declared.header.Header.{Header}
+use Rattle.flat_list.specs.declared.command.Command.{Command}
+use Rattle.table_model.specs.Means.{is_lookup}
+use Rattle.table_rule.specs.declared.view.Layout.{Layout}
+use Rattle.race_threads.specs.declared.jobs.Job.{Job}
+use Rattle.race_threads.specs.Scripts.{CanRun, FitsRace}
+use Rattle.race_threads.specs.Workers.{AreTables, IsFresh}
+use Rattle.race_threads.proofs.Working.{commands_at, count_is, can_run, worked_section, worked_looker, shared, ran}
+use Rattle.race_threads.proofs.work.work.Goals as goal
+
+pub run_section-requires-clause-tables : goal.run_section-requires-clause-tables
+run_section-requires-clause-tables g c =
+    let it : AreTables c.header.result.now c.args.tables.now = subst (λ (h : Header). AreTables h c.args.tables.now) (sym c.header.ensures) c.requires.tables in
+    search rules
+
+pub run_section-requires-clause-worker : goal.run_section-requires-clause-worker
+run_section-requires-clause-worker g c =
+    let it : IsFresh c.header.result.now c.args.tables.now (c.args.job.number + 1) c.args.job.worker =
+    subst (λ (h : Header). IsFresh h c.args.tables.now (c.args.job.number + 1) c.args.job.worker) (sym c.header.ensures) c.requires.ready.fresh in
+    search rules
+
+pub run_section-requires-clause-number : goal.run_section-requires-clause-number
+run_section-requires-clause-number g c =
+    let count = count_is (λ (v : Vec Command Global). v.items) c.args.script.now c.sections-sections.result.now c.sections-sections.ensures in
+    let few = c.requires.script.few in
+    omega (arith, count, few, c.if-number-sections.true)
+
+pub run_section-requires-clause-range : goal.run_section-requires-clause-range
+run_section-requires-clause-range g c =
+    let it : FitsRace c.header.result.now = subst FitsRace (sym c.header.ensures) c.requires.script.header in
+    let range = it.range in
+    omega (arith, range)
+
+pub run_section-requires-clause-even : goal.run_section-requires-clause-even
+run_section-requires-clause-even g c =
+    let it : FitsRace c.header.result.now = subst FitsRace (sym c.header.ensures) c.requires.script.header in
+    let even : size c.header.result.now.range % 2 ≡ 0 = it.even in
+    search rules
+
+pub run_section-requires-clause-few : goal.run_section-requires-clause-few
+run_section-requires-clause-few g c =
+    let count = count_is (λ (v : Vec Command Global). v.items) c.args.script.now c.sections-sections.result.now c.sections-sections.ensures in
+    let is = c.as_slice.ensures.value ∙ commands_at (λ (v : Vec Command Global). v.items) c.args.script.now c.sections-sections.result.now c.args.job.number c.index-sections-number.result c.sections-sections.ensures c.if-number-sections.true c.index-sections-number.is in
+    let can : CanRun c.as_slice.result.now = can_run c.args.script.now c.args.job.number c.as_slice.result.now c.requires.script (omega (arith, count, c.if-number-sections.true)) is in
+    let few = can.few in
+    omega (arith, few)
+
+pub run_section-requires-clause-looks : goal.run_section-requires-clause-looks
+run_section-requires-clause-looks g c =
+    let count = count_is (λ (v : Vec Command Global). v.items) c.args.script.now c.sections-sections.result.now c.sections-sections.ensures in
+    let is = c.as_slice.ensures.value ∙ commands_at (λ (v : Vec Command Global). v.items) c.args.script.now c.sections-sections.result.now c.args.job.number c.index-sections-number.result c.sections-sections.ensures c.if-number-sections.true c.index-sections-number.is in
+    let can : CanRun c.as_slice.result.now = can_run c.args.script.now c.args.job.number c.as_slice.result.now c.requires.script (omega (arith, count, c.if-number-sections.true)) is in
+    let looks : Each (λ (x : Command). is_lookup x ≡ false) c.as_slice.result.now = can.looks in
+    search rules
+
+pub look_share-requires-clause-tables : goal.look_share-requires-clause-tables
+look_share-requires-clause-tables g c =
+    let it : (x : Header) × AreTables x c.args.tables.now × (m : ℕ) × IsFresh x c.args.tables.now m c.args.job.worker =
+    (c.args.script.now.header, c.requires.tables, c.args.job.number + 1, c.requires.ready.fresh) in
+    search rules
+
+pub look_share-requires-clause-inside : goal.look_share-requires-clause-inside
+look_share-requires-clause-inside g c =
+    let count = count_is (λ (v : Vec Command Global). v.items) c.args.script.now c.sections-sections.result.now c.sections-sections.ensures in
+    omega (arith, count, c.requires.number, c.if-number-sections.false)
+
+pub look_share-requires-clause-groups : goal.look_share-requires-clause-groups
+look_share-requires-clause-groups g c =
+    let layout = ap (λ (l : Layout). l.shape.bind) c.requires.tables.layout in
+    let most = c.requires.script.header.most in
+    omega (arith, layout, most)
+
+pub returns : goal.returns
+returns g c =
+    let e = c.in_ok-told.ensures in
+    let count = count_is (λ (v : Vec Command Global). v.items) c.args.script.now c.sections-sections.result.now c.sections-sections.ensures in
+    let j : Job = record { worker = c.look_share.new.worker; number = c.args.job.number; replies = c.args.job.replies; told = c.in_ok-told.told } in
+    worked_looker c.args.script.now c.args.capture.now.items c.args.lookers c.args.tables.now c.args.job.number j (record { rest = e.rest; turn_part = e.turn_part; chain_part = e.chain_part }) (omega (arith, count, c.if-number-sections.false))
+    (shared c.args.script.now.header c.args.lookers (c.args.job.number - length c.sections-sections.result.now) (c.args.job.number - length c.args.script.now.sections) (ap (λ (k : ℕ). c.args.job.number - k) count) c.items.result.now c.args.capture.now.items c.items.ensures j
+    (record { looked = e.looked c.args.script.now.header c.requires.tables; count = e.count; replies = c.requires.ready.replies }))
+
+pub returns-then-number-sections : goal.returns-then-number-sections
+returns-then-number-sections g c =
+    let e = c.in_ok-replies.ensures in
+    let count = count_is (λ (v : Vec Command Global). v.items) c.args.script.now c.sections-sections.result.now c.sections-sections.ensures in
+    let is = c.as_slice.ensures.value ∙ commands_at (λ (v : Vec Command Global). v.items) c.args.script.now c.sections-sections.result.now c.args.job.number c.index-sections-number.result c.sections-sections.ensures c.if-number-sections.true c.index-sections-number.is in
+    let j : Job = record { worker = c.run_section.new.worker; number = c.args.job.number; replies = c.in_ok-replies.replies; told = c.args.job.told } in
+    worked_section c.args.script.now c.args.capture.now.items c.args.lookers c.args.tables.now c.args.job.number j (record { rest = e.rest; turn_part = e.turn_part; chain_part = e.chain_part }) (omega (arith, count, c.if-number-sections.true))
+    (ran c.header.result.now c.args.script.now.header (c.args.job.number + 1) c.as_slice.result.now (get_or c.args.script.now.sections c.args.job.number []) j c.header.ensures is e.done c.requires.ready.told)

@@ -1,0 +1,84 @@
+//! One job of a race: a section, or a looker's share of the capture.
+
+ghost use Rattle.std.specs.Prelude.{◌≡◌, ◌+◌, ◌^◌, ◌<◌, length, IfOk};
+ghost use Rattle.race_threads.specs.Jobs.{IsReady};
+ghost use Rattle.race_threads.specs.Scripts.{IsForRace, IsWorked};
+ghost use Rattle.race_threads.specs.Workers.{AreTables};
+
+use crate::jobs::Job;
+use crate::section::run_section;
+use crate::share::look_share;
+use capture_reader::Capture;
+use flat_list::Script;
+use inet_io::Gate;
+use shared_ops::Tables;
+use std::alloc::{AllocError, Global};
+use std::sync::Wait;
+
+/// Does a job, beside the others: that of a section by its commands, and that of a looker by its share of the capture.
+///
+/// # Errors
+///
+/// Memory ran out.
+pub fn work<R: Wait, G: Gate>(
+    rt: &R,
+    alloc: Global,
+    tables: &Tables,
+    script: &Script,
+    capture: &Capture,
+    lookers: usize,
+    passes: u32,
+    gate: &G,
+    job: Job,
+) -> Result<Job, AllocError>
+    requires tables { AreTables script.now.header tables.now }
+    requires script { IsForRace script.now }
+    requires ready { IsReady script.now.header tables.now job.number job }
+    requires number { job.number < length script.now.sections + lookers }
+    requires few { lookers < 2 ^ 13 }
+    requires passes { 0 < passes }
+    ensures { IfOk result (IsWorked script.now capture.now.items lookers tables.now job.number) }
+{
+    let Job {
+        mut worker,
+        number,
+        replies,
+        told,
+    } = job;
+    let sections = script.sections();
+    if number < sections.len() {
+        let commands = &sections[number];
+        let replies = run_section(
+            rt,
+            alloc,
+            tables,
+            script.header(),
+            &mut worker,
+            number as u32 + 1,
+            commands.as_slice(),
+            gate,
+        )?;
+        return Ok(Job {
+            worker,
+            number,
+            replies,
+            told,
+        });
+    }
+    let told = look_share(
+        alloc,
+        tables,
+        &mut worker,
+        capture.items(),
+        lookers,
+        number - sections.len(),
+        passes,
+        gate,
+    )?;
+    Ok(Job {
+        worker,
+        number,
+        replies,
+        told,
+    })
+}
