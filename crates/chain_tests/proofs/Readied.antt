@@ -10,3 +10,7 @@ unlocked_ready v w n is idle opened share = subst (λ (x : View). IsIdle x.slot 
 -- two of the numbers are for the next change
 pub shares_split : (v : View) (n : ℕ) → HasShares ((n + 1) + (n + 1)) v → HasShares ((n + n) + 2) v
 shares_split v n h = omega (arith, h)
+
+-- four of the numbers are for the next two changes
+pub shares_split_two : (v : View) (n : ℕ) → HasShares ((n + 2) + (n + 2)) v → HasShares ((n + n) + 4) v
+shares_split_two v n h = omega (arith, h)

@@ -4,6 +4,7 @@ use Rattle.table_rule.specs.declared.table.Chains.{Chains}
 use Rattle.table_rule.specs.declared.pass.Pass.{Pass}
 use Rattle.table_rule.specs.Calls.{IsIdle, HasShares, layout_of}
 use Rattle.table_rule.specs.Passes.{IsPassOf, known}
+use Rattle.table_rule.specs.Rule.{drawn}
 use Rattle.table_rule.specs.Words.{bucket_count}
 use Rattle.table_rule.specs.declared.view.View.{View}
 use Rattle.null_reader.specs.Looked.{HasTwo}
@@ -21,3 +22,7 @@ CanUnhash t pass place = IsPlaced place (known pass).book × (place.bucket < buc
 -- it can look
 abbrev pub CanLook : View → Type 0
 CanLook v = (v.read.reader ≡ []) × HasTwo v
+
+-- it never drew a number, holds nothing, and can be split so many times
+abbrev pub CanDeal : Chains → Pass → ℕ → Type 0
+CanDeal t pass times = IsPassOf t pass × (times < (known pass).slot.parts) × ((known pass).slot.holds ≡ []) × (drawn (known pass) ≡ 0)

@@ -2,19 +2,20 @@
 
 ghost use Rattle.std.specs.Prelude.{◌≡◌, ◌+◌, ◌^◌, ◌<◌, [], IfOk, false};
 ghost use Rattle.sock_card.specs.Words.{packed};
-ghost use Rattle.table_rule.specs.Calls.{IsOf, view, layout_of};
+ghost use Rattle.table_rule.specs.Calls.{IsOf, Becomes, view, layout_of};
 ghost use Rattle.table_rule.specs.CardsOk.{has_tuple};
 ghost use Rattle.table_rule.specs.Owners.{time_waits};
 ghost use Rattle.table_rule.specs.Words.{bucket_count, words_of};
+ghost use Rattle.bucket_locks.specs.Locks.{IsAt};
 ghost use Rattle.chain_tests.specs.Ready.{IsReady, CanUnhash, CanLook};
 
-use bucket_locks::{lock, unlock};
+use bucket_locks::{Locked, lock, unlock};
 use chain_book::{Shape, home};
 use null_reader::answers::Look;
 use null_reader::{LookEnd, Pace, PassEnd, look};
-use nulls_chain::{Halt, Place, hash_with, unhash_tw, unhash_with, walk_to_end};
-use shared_slots::{Full, put};
-use sock_card::{Card, Packet};
+use nulls_chain::{Halt, Place, hash_with, unhash_tw, unhash_with, walk, walk_to_end};
+use shared_slots::{Full, claim, put, write_card};
+use sock_card::{Card, Packet, pack};
 use std::sync::Wait;
 use table_rule::{Chains, Pass, Steps};
 
@@ -41,6 +42,7 @@ pub fn hash_in<R: Wait, H: Halt>(
     requires ready { IsReady chains.now pass.old (rest + 1) }
     ensures ready { IsReady chains.now pass.new rest }
     ensures place { IfOk result (λ place. time_waits (words_of (packed card.now)) ≡ 0 → CanUnhash chains.now pass.new place) }
+    ensures others { (place : Place) → CanUnhash chains.now pass.old place → CanUnhash chains.now pass.new place }
 {
     let bucket = home(&plan.shape, plan.seed, card);
     let mut locked = lock(chains, rt, &mut pass.steps, bucket);
@@ -85,6 +87,59 @@ pub fn unhash_wait_in<R: Wait>(
     let slot = unhash_tw(chains, pass, &mut locked, name);
     unlock(chains, &mut pass.steps, locked);
     slot
+}
+
+/// Claims a slot under a bucket's lock and writes a card into it, and goes no further: the bucket stays locked.
+pub fn fill_in<R: Wait>(
+    chains: &Chains,
+    rt: &R,
+    pass: &mut Pass,
+    bucket: u32,
+    card: &Card,
+    rest: u32,
+) -> Option<u32>
+    requires bucket { bucket < bucket_count (layout_of chains.now) }
+    requires ready { IsReady chains.now pass.old (rest + 1) }
+{
+    let _locked = lock(chains, rt, &mut pass.steps, bucket);
+    chains.step_begin_hash(&mut pass.steps);
+    let slot = claim(chains, &mut pass.steps, 0).ok()?;
+    write_card(chains, &mut pass.steps, slot, &pack(card));
+    Some(slot)
+}
+
+/// The names of the first two cards of a chain, and whether it has no more.
+pub type Names = (Option<u64>, Option<u64>, bool);
+
+fn walked_names(chains: &Chains, steps: &mut Steps, locked: &mut Locked) -> Names
+    requires table { IsOf chains.now steps.old }
+    requires at { IsAt (layout_of chains.now) locked.old (view steps.old) }
+    requires fresh { locked.old.started ≡ false }
+    ensures table { IsOf chains.now steps.new }
+    ensures at { IsAt (layout_of chains.now) locked.new (view steps.new) }
+    ensures locked { locked.new.bucket ≡ locked.old.bucket }
+    ensures kept { Becomes steps.old steps.new (record (view steps.old) { chain = (view steps.new).chain }) }
+{
+    let Some((_, first)) = walk(chains, steps, locked) else {
+        return (None, None, true);
+    };
+    let Some((_, second)) = walk(chains, steps, locked) else {
+        return (Some(first.name), None, true);
+    };
+    let ends = walk(chains, steps, locked).is_none();
+    (Some(first.name), Some(second.name), ends)
+}
+
+/// The names of a bucket's cards, walked under its lock.
+pub fn names_in<R: Wait>(chains: &Chains, rt: &R, pass: &mut Pass, bucket: u32, rest: u32) -> Names
+    requires bucket { bucket < bucket_count (layout_of chains.now) }
+    requires ready { IsReady chains.now pass.old rest }
+    ensures ready { IsReady chains.now pass.new rest }
+{
+    let mut locked = lock(chains, rt, &mut pass.steps, bucket);
+    let names = walked_names(chains, &mut pass.steps, &mut locked);
+    unlock(chains, &mut pass.steps, locked);
+    names
 }
 
 /// What a lookup answers, a card by its name.

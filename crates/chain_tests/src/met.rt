@@ -1,11 +1,12 @@
 //! A lookup that meets changes of others in its middle.
 
-ghost use Rattle.std.specs.Prelude.{◌≡◌, ◌≢◌, ◌+◌, ◌%◌, ◌<◌};
+ghost use Rattle.std.specs.Prelude.{◌≡◌, ◌+◌, ◌<◌, false};
 ghost use Rattle.sock_card.specs.Words.{packed};
 ghost use Rattle.table_rule.specs.Calls.{IsOf, view, layout_of};
+ghost use Rattle.table_rule.specs.CardsOk.{has_tuple};
 ghost use Rattle.chain_tests.specs.Ready.{IsReady, CanLook};
 
-use crate::calls::{Answer, Plan, hash_in, look_in, unhash_wait_in};
+use crate::calls::{Answer, Plan, fill_in, hash_in, look_in, unhash_wait_in};
 use chain_book::Shape;
 use null_reader::{Pace, Point};
 use nulls_chain::Unhalted;
@@ -57,7 +58,7 @@ const OTHER: u32 = 2;
 const FURTHER: u32 = 3;
 
 fn waiting(rport: u16, name: u32) -> Card
-    ensures { (packed result).ports % 16 ≢ 1 }
+    ensures { has_tuple (packed result).ports ≡ false }
 {
     Card {
         local: 0x0a00_0001,
@@ -73,7 +74,7 @@ fn waiting(rport: u16, name: u32) -> Card
 }
 
 fn card_of(socket: Socket) -> Card
-    ensures { (packed result).ports % 16 ≢ 1 }
+    ensures { has_tuple (packed result).ports ≡ false }
 {
     match socket {
         Socket::Sought => waiting(1000, SOUGHT),
@@ -108,6 +109,9 @@ enum Row {
     Changed,
     /// Before the last slot's link is loaded, its card goes and comes back; then the first one's does.
     Round,
+    /// Before the first slot's key is loaded, its card goes, and the sought one is written into the slot, but not
+    /// linked.
+    Filled,
 }
 
 /// Changes the chains at steps of a lookup, with a pass of its own.
@@ -120,7 +124,7 @@ struct Meddler<'a, R: Wait> {
     stage: u32,
     left: u32,
     ghost layout: { layout_of chains.now ≡ record { shape = record { slots = 2; bind = 1; hash = 1; listen = 1 }; seed = 7 } },
-    ghost ready: { IsReady chains.now pass left },
+    ghost ready: { 0 < left → IsReady chains.now pass left },
 }
 
 impl<'a, R: Wait> Meddler<'a, R> {
@@ -149,6 +153,22 @@ impl<'a, R: Wait> Meddler<'a, R> {
             self.left = rest;
         }
     }
+
+    /// Writes a card into a slot, and changes nothing from then on.
+    fn fill(&mut self, socket: Socket) {
+        if self.left > 0 {
+            let rest = self.left - 1;
+            self.left = 0;
+            fill_in(
+                self.chains,
+                self.rt,
+                &mut self.pass,
+                BUCKET,
+                &card_of(socket),
+                rest,
+            );
+        }
+    }
 }
 
 impl<'a, R: Wait> Pace for Meddler<'a, R> {
@@ -175,6 +195,10 @@ impl<'a, R: Wait> Pace for Meddler<'a, R> {
             (Row::Round, 1, Point::Link(1)) => {
                 self.drop_wait(OTHER);
                 self.add(Socket::Other);
+            }
+            (Row::Filled, 0, Point::Key(0)) => {
+                self.drop_wait(FURTHER);
+                self.fill(Socket::Sought);
             }
             _ => {}
         }
@@ -216,6 +240,7 @@ fn a_lookup_meets_changes(rt: HostRuntime) -> Result<(), Fail> {
     let behind = [Socket::Sought, Socket::Other];
     let alone = [Socket::Sought];
     let neither = [Socket::Further, Socket::Other];
+    let further = [Socket::Further];
     for (row, sockets, passes, expected) in [
         (Row::Elsewhere, &behind as &[Socket], 1, Answer::Foreign(1)),
         (Row::Elsewhere, &behind, 2, Answer::Found(SOUGHT)),
@@ -226,6 +251,7 @@ fn a_lookup_meets_changes(rt: HostRuntime) -> Result<(), Fail> {
         (Row::Changed, &alone, 1, Answer::Changed(0)),
         (Row::Changed, &alone, 2, Answer::None),
         (Row::Round, &neither, 1, Answer::Long(3)),
+        (Row::Filled, &further, 1, Answer::Dead(0)),
     ] {
         let (chains, mut pass) = Chains::new(rt.alloc(), PLAN.shape, PLAN.seed)?;
         let mut changing = chains.split(rt.alloc(), &mut pass);
