@@ -1,6 +1,7 @@
 pub mod Goes
 pub mod There
 pub mod Groups
+mod OneChanges
 pub mod Knows
 pub mod BindGoes
 mod ListenGoes
@@ -12,3 +13,5 @@ pub mod SearchGoes
 pub mod SockGoes
 pub mod AcceptGoes
 mod ReapGoes
+mod Lists
+mod ListTurns

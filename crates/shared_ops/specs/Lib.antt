@@ -4,6 +4,7 @@ pub mod Spends
 pub mod There
 pub mod Listens
 pub mod Closes
+pub mod Groups
 pub mod Leads
 pub mod Goes
 pub mod Binding

@@ -1,5 +1,5 @@
 -- What an operation asks of the socket that it takes: our own.
-use Rattle.std.specs.Prelude.{◌≡◌, ℕ, ◌+◌, ◌%◌, ◌≤◌, ◌^◌, Bool, true, filter, find, Option, None, Some, []}
+use Rattle.std.specs.Prelude.{◌≡◌, ℕ, ◌+◌, ◌*◌, ◌%◌, ◌≤◌, ◌^◌, Bool, true, filter, find, Option, None, Some, []}
 use Rattle.sock_card.specs.declared.owner.Owner.{Owner}
 use Rattle.sock_card.specs.declared.card.Kind.{Kind}
 use Rattle.sock_card.specs.declared.card.Kind.TheVariants as kinds
@@ -11,6 +11,8 @@ use Rattle.bind_buckets.specs.Followed.{told_from}
 use Rattle.bind_buckets.specs.OwnerStep.{has_name}
 use Rattle.bind_buckets.specs.OwnTold.{AllKeepOpen, StandsOwn, is_told, own_given}
 use Rattle.bind_buckets.specs.Turned.{View, Out, IsIdle}
+use Rattle.reuseport_group.specs.declared.pass.GroupPasses.{GroupPasses}
+use Rattle.reuseport_group.specs.Passes as lists
 use Rattle.chain_book.specs.Homes.{home}
 use Rattle.table_rule.specs.Calls.{HasShares}
 use Rattle.table_rule.specs.Passes as chain_words
@@ -34,10 +36,16 @@ turned w = known w.turns
 abbrev pub chained : Tables → Worker → Side
 chained t w = side_of t.chains w.chain
 
+-- the tables have eight groups for each bind bucket, and these are passes of theirs
+pub record HasGroups (t : Tables) (p : GroupPasses) : Type 0 where
+  pub many : lists.groups t.groups ≡ 8 * buckets_of t
+  pub passes : lists.IsPassOf t.groups p
+
 -- between two operations a worker has no bucket out, and no change under way
 pub record IsReady (t : Tables) (w : Worker) : Type 0 where
   pub idle : IsIdle t.buckets w.turns
   pub rests : IsResting t.chains w.chain
+  pub groups : HasGroups t w.groups
 
 -- what the worker has done and still may do: so many entries, and so many numbers of the clock
 abbrev pub MayEnter : ℕ → Worker → Type 0

@@ -10,6 +10,7 @@ ghost use Rattle.table_rule.specs.Passes as chain_words;
 ghost use Rattle.table_rule.specs.Sole.{IsNow};
 ghost use Rattle.shared_ops.specs.Accepting.{accepted};
 ghost use Rattle.shared_ops.specs.Connecting.{StandsFull};
+ghost use Rattle.shared_ops.specs.Groups.{GaveSparing, KeepsLists};
 ghost use Rattle.shared_ops.specs.Goes.{CarriedOut, CarriedOutAlone};
 ghost use Rattle.shared_ops.specs.Socks.{mine_of};
 ghost use Rattle.shared_ops.specs.Spends.{Draws};
@@ -54,6 +55,8 @@ fn accept_as<R: Wait>(
     ensures entered { words.draws worker.new.turns ≤ words.draws worker.old.turns + 2 }
     ensures drawn { Draws 4 worker.old worker.new }
     ensures stay { PlacesStay (chain_words.known worker.old.chain.pass) (chain_words.known worker.new.chain.pass) }
+    ensures groups { worker.new.groups ≡ worker.old.groups }
+    ensures spares { GaveSparing (turned worker.old) (turned worker.new) }
     ensures carried { CarriedOut plans.done plans.refused (buckets_of tables.now) child.name
         (plans.accept_as tables.now.chains.layout.shape tables.now.chains.layout.seed listener.now child)
         (turned worker.old) (turned worker.new) (chained tables.now worker.old) (chained tables.now worker.new) result }
@@ -115,6 +118,8 @@ fn accept_shared<R: Wait>(
     ensures entered { words.draws worker.new.turns ≤ words.draws worker.old.turns + 2 }
     ensures drawn { Draws 4 worker.old worker.new }
     ensures stay { PlacesStay (chain_words.known worker.old.chain.pass) (chain_words.known worker.new.chain.pass) }
+    ensures groups { worker.new.groups ≡ worker.old.groups }
+    ensures spares { GaveSparing (turned worker.old) (turned worker.new) }
     ensures carried { CarriedOut accepted plans.refused (buckets_of tables.now) name
         (plans.accept tables.now.chains.layout.shape tables.now.chains.layout.seed (mine_of listener.now) name from at)
         (turned worker.old) (turned worker.new) (chained tables.now worker.old) (chained tables.now worker.new) result }
@@ -165,6 +170,8 @@ pub fn accept<R: Wait>(
     ensures entered { words.draws worker.new.turns ≤ words.draws worker.old.turns + 2 }
     ensures drawn { Draws 4 worker.old worker.new }
     ensures stay { PlacesStay (chain_words.known worker.old.chain.pass) (chain_words.known worker.new.chain.pass) }
+    ensures groups { worker.new.groups ≡ worker.old.groups }
+    ensures listed { KeepsLists tables.now worker.old worker.new }
     ensures carried { CarriedOut accepted plans.refused (buckets_of tables.now) name
         (plans.accept tables.now.chains.layout.shape tables.now.chains.layout.seed (mine_of listener.now) name from at)
         (turned worker.old) (turned worker.new) (chained tables.now worker.old) (chained tables.now worker.new) result }

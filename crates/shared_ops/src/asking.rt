@@ -1,10 +1,10 @@
 //! Questions to the bucket of an owner that stands: its turn, and then calls that can't miss it.
 
-ghost use Rattle.std.specs.Prelude.{◌≡◌, ◌+◌, ◌%◌, ◌^◌, ◌<◌, ◌≤◌, ◌==◌, ◌||◌, [], true, OnOk, IfOk, IfSome};
+ghost use Rattle.std.specs.Prelude.{◌≡◌, ◌+◌, ◌%◌, ◌^◌, ◌<◌, ◌≤◌, ◌==◌, ◌||◌, [], true, IfOk, IfSome};
 ghost use Rattle.turn_table.specs.Passes as words;
 ghost use Rattle.turn_table.specs.Passes.{known};
 ghost use Rattle.bind_buckets.specs.Answers.{answer_of_listen};
-ghost use Rattle.bind_buckets.specs.Bucket.{CanListen};
+ghost use Rattle.bind_buckets.specs.Bucket.{IsSound, answer_to};
 ghost use Rattle.bind_buckets.specs.Callers.{MayName};
 ghost use Rattle.bind_buckets.specs.OwnTold.{StandsOwn};
 ghost use Rattle.bind_buckets.specs.Turned.{Asks, IsIdle, IsOut, Within, made};
@@ -31,6 +31,7 @@ pub(crate) fn take<R: Wait>(
     ensures place { result.place ≡ owner.now.port % words.places buckets.now }
     ensures none { made pass.new result ≡ [] }
     ensures there { IsThere result owner.now }
+    ensures sound { IsSound result.value.value }
     ensures draws { words.draws pass.new ≡ words.draws pass.old }
     ensures caller { words.caller pass.new ≡ words.caller pass.old }
     ensures within { Within (known pass.old) (known pass.new) }
@@ -54,11 +55,12 @@ pub(crate) fn may_listen(
     requires entry { 1 ≤ turn.old.value.value.entries }
     ensures asks { Asks buckets.now pass.old turn.old pass.new turn.new
         (requests.MayListen owner.now.name) (answer_of_listen result) }
-    ensures free { OnOk result (CanListen turn.new.value.value owner.now.name) }
+    ensures says { IfOk result (λ group. answer_to turn.new.value.value (requests.MayListen owner.now.name) ≡ answers.Group group) }
     // A bucket's number is below 256, and it has eight groups.
     ensures few { IfOk result (λ group. IfSome group (λ number. number < 2048)) }
     ensures known { IsKnown result }
     ensures there { IsThere turn.new owner.now }
+    ensures held { turn.new.value.value.held ≡ turn.old.value.value.held }
     ensures entries { turn.new.value.value.entries + 1 ≡ turn.old.value.value.entries }
 {
     turn.value.recall();

@@ -19,6 +19,7 @@ ghost use Rattle.table_rule.specs.Sole.{IsNow};
 ghost use Rattle.shared_ops.specs.Binding as spec;
 ghost use Rattle.shared_ops.specs.Binding.{bound_to};
 ghost use Rattle.shared_ops.specs.Goes.{CarriedOut, CarriedOutAlone};
+ghost use Rattle.shared_ops.specs.Groups.{GaveSparing, KeepsLists};
 ghost use Rattle.shared_ops.specs.Socks.{mine_of, first_mine, without_socket};
 ghost use Rattle.shared_ops.specs.Stands.{IsReady, MayEnter, MayTell, IsAway, StandsAs, buckets_of, chained, turned};
 
@@ -74,6 +75,7 @@ fn bind_given<R: Wait>(
     ensures stands { IsAway owner.name (known pass.old) → IfOk result (λ _.
         StandsOwn (bound_at owner end.addr end.port) (end.port % words.places buckets.now) (known pass.new)) }
     ensures kept { IsAway owner.name (known pass.old) → OnErr result (IsAway owner.name (known pass.new)) }
+    ensures spares { GaveSparing (known pass.old) (known pass.new) }
 {
     let mut turn = turning::take(rt, buckets, pass, end.port);
     match turning::reserve(buckets, pass, &mut turn) {
@@ -111,6 +113,7 @@ fn bind_searched<R: Wait>(
     ensures stands { IsAway owner.name (known pass.old) → IfOk result (λ port.
         StandsOwn (bound_at owner addr port) (port % words.places buckets.now) (known pass.new)) }
     ensures kept { IsAway owner.name (known pass.old) → OnErr result (IsAway owner.name (known pass.new)) }
+    ensures spares { GaveSparing (known pass.old) (known pass.new) }
 {
     let bound = owned::bound_at(owner, addr, 0);
     let found = find_bind(rt, buckets, pass, ports, bound);
@@ -137,6 +140,7 @@ fn bind_unbound<R: Wait>(
     ensures stands { IsAway owner.name (known pass.old) → IfOk result (λ port.
         StandsOwn (bound_at owner end.addr port) (port % words.places buckets.now) (known pass.new)) }
     ensures kept { IsAway owner.name (known pass.old) → OnErr result (IsAway owner.name (known pass.new)) }
+    ensures spares { GaveSparing (known pass.old) (known pass.new) }
 {
     if end.port == 0 {
         return bind_searched(rt, buckets, pass, owner, end.addr, ports);
@@ -181,6 +185,8 @@ fn bind_shared<R: Wait>(
     ensures caller { words.caller worker.new.turns ≡ words.caller worker.old.turns }
     ensures entered { words.draws worker.new.turns ≤ words.draws worker.old.turns + (length ports + 1) }
     ensures chain { worker.new.chain ≡ worker.old.chain }
+    ensures groups { worker.new.groups ≡ worker.old.groups }
+    ensures spares { GaveSparing (turned worker.old) (turned worker.new) }
     ensures carried { CarriedOut first_mine refused (buckets_of tables.now) (mine_of socket).owner.name
         (plans.bind (mine_of socket) end ports) (turned worker.old) (turned worker.new)
         (chained tables.now worker.old) (chained tables.now worker.new) (without_socket result) }
@@ -229,6 +235,8 @@ pub fn bind<R: Wait>(
     ensures caller { words.caller worker.new.turns ≡ words.caller worker.old.turns }
     ensures entered { words.draws worker.new.turns ≤ words.draws worker.old.turns + (length ports + 1) }
     ensures chain { worker.new.chain ≡ worker.old.chain }
+    ensures groups { worker.new.groups ≡ worker.old.groups }
+    ensures listed { KeepsLists tables.now worker.old worker.new }
     ensures carried { CarriedOut first_mine refused (buckets_of tables.now) (mine_of socket).owner.name
         (plans.bind (mine_of socket) end ports) (turned worker.old) (turned worker.new)
         (chained tables.now worker.old) (chained tables.now worker.new) (without_socket result) }

@@ -14,6 +14,7 @@ ghost use Rattle.table_rule.specs.Sole.{IsNow};
 ghost use Rattle.shared_ops.specs.Connecting as spec;
 ghost use Rattle.shared_ops.specs.Connecting.{StandsFull};
 ghost use Rattle.shared_ops.specs.Goes.{AskedAll, CarriedOut, CarriedOutAlone, gone_of};
+ghost use Rattle.shared_ops.specs.Groups.{GaveSparing, KeepsLists};
 ghost use Rattle.shared_ops.specs.Socks as socks_spec;
 ghost use Rattle.shared_ops.specs.Socks.{mine_of, first_mine, without_socket, end_of};
 ghost use Rattle.shared_ops.specs.Spends.{Draws};
@@ -85,6 +86,8 @@ fn connect_bound<R: Wait>(
     ensures entered { words.draws worker.new.turns ≤ words.draws worker.old.turns + 2 }
     ensures drawn { Draws 4 worker.old worker.new }
     ensures stay { PlacesStay (chain_words.known worker.old.chain.pass) (chain_words.known worker.new.chain.pass) }
+    ensures groups { worker.new.groups ≡ worker.old.groups }
+    ensures spares { GaveSparing (turned worker.old) (turned worker.new) }
     ensures carried { CarriedOut plans.done plans.refused (buckets_of tables.now) full.name
         (plans.connect_bound tables.now.chains.layout.shape tables.now.chains.layout.seed full moment rule)
         (turned worker.old) (turned worker.new) (chained tables.now worker.old) (chained tables.now worker.new) result }
@@ -159,6 +162,8 @@ fn connect_shared<R: Wait>(
     ensures entered { words.draws worker.new.turns ≤ words.draws worker.old.turns + (length ports + 2) }
     ensures drawn { Draws 4 worker.old worker.new }
     ensures stay { PlacesStay (chain_words.known worker.old.chain.pass) (chain_words.known worker.new.chain.pass) }
+    ensures groups { worker.new.groups ≡ worker.old.groups }
+    ensures spares { GaveSparing (turned worker.old) (turned worker.new) }
     ensures carried { CarriedOut first_mine plans.refused (buckets_of tables.now) (mine_of socket).owner.name
         (plans.connect tables.now.chains.layout.shape tables.now.chains.layout.seed (mine_of socket)
         from to moment rule ports)
@@ -227,6 +232,8 @@ pub fn connect<R: Wait>(
     ensures entered { words.draws worker.new.turns ≤ words.draws worker.old.turns + (length ports + 2) }
     ensures drawn { Draws 4 worker.old worker.new }
     ensures stay { PlacesStay (chain_words.known worker.old.chain.pass) (chain_words.known worker.new.chain.pass) }
+    ensures groups { worker.new.groups ≡ worker.old.groups }
+    ensures listed { KeepsLists tables.now worker.old worker.new }
     ensures carried { CarriedOut first_mine plans.refused (buckets_of tables.now) (mine_of socket).owner.name
         (plans.connect tables.now.chains.layout.shape tables.now.chains.layout.seed (mine_of socket)
         from to moment rule ports)

@@ -1,6 +1,6 @@
 //! `close`, and `drop_sock` beside it, by which a socket is gone at once.
 
-ghost use Rattle.std.specs.Prelude.{◌≡◌, ◌+◌, ◌%◌, ◌^◌, ◌<◌, ◌≤◌, ◌∷◌, [], IfErr, OnErr};
+ghost use Rattle.std.specs.Prelude.{◌≡◌, ◌+◌, ◌%◌, ◌^◌, ◌<◌, ◌≤◌, ◌∷◌, [], IfErr, OnErr, OnOk};
 ghost use Rattle.sock_card.specs.declared.card.Kind.TheVariants as kinds;
 ghost use Rattle.turn_table.specs.Passes as words;
 ghost use Rattle.turn_table.specs.Passes.{known};
@@ -19,18 +19,21 @@ ghost use Rattle.table_model.specs.Operations as plans;
 ghost use Rattle.shared_ops.specs.Closes as spec;
 ghost use Rattle.shared_ops.specs.Closes.{ClosedBy, ClosedByAlone, Leaves, OthersKept, WaitsAs, is_gone, leave_entry, spot_of};
 ghost use Rattle.shared_ops.specs.Goes.{AskedAll, Went};
+ghost use Rattle.shared_ops.specs.Groups.{KeepsListed, KeepsLists, LeavesAs, LeavesOrStays, ListsOfLeave};
+ghost use Rattle.reuseport_group.specs.Passes as words_of_groups;
 ghost use Rattle.shared_ops.specs.Socks.{mine_of, without_socket};
 ghost use Rattle.shared_ops.specs.Spends.{Draws};
-ghost use Rattle.shared_ops.specs.Stands.{IsHashed, IsOwner, IsReady, IsThere, MayDraw, MayEnter, MayTell, StandsAs, buckets_of, chained, place_in, turned};
+ghost use Rattle.shared_ops.specs.Stands.{HasGroups, IsHashed, IsOwner, IsReady, IsThere, MayDraw, MayEnter, MayTell, StandsAs, buckets_of, chained, place_in, turned};
 
-use crate::asking;
 use crate::room::make_room;
 use crate::sock::{Connected, Listening, Sock};
 use crate::tables::{Tables, Worker};
+use crate::{asking, group_lists};
 use bind_buckets::{Bucket, turning};
 use chain_book::Place;
 use chain_deeds::{ChainPass, ChainTable};
 use flat_list::owned;
+use reuseport_group::GroupPasses;
 use shared_slots::Full;
 use sock_card::{Card, Kind, Owner, as_waiting};
 use std::alloc::AllocError;
@@ -137,6 +140,7 @@ fn wait_in<R: Wait>(
     requires room { HasRoom 2 worker.old.chain }
     requires draws { MayDraw 4 worker.old }
     requires hashed { IsHashed kinds.Full full.now (chained tables.now worker.old) }
+    requires groups { HasGroups tables.now worker.old.groups }
     ensures ready { IsReady tables.now worker.new }
     ensures caller { words.caller worker.new.turns ≡ words.caller worker.old.turns }
     ensures entered { words.draws worker.new.turns ≤ words.draws worker.old.turns + 1 }
@@ -144,6 +148,10 @@ fn wait_in<R: Wait>(
     ensures went { (v : View) → Within v (turned worker.old) → Went (buckets_of tables.now)
         (plans.close_full tables.now.chains.layout.shape tables.now.chains.layout.seed full.now (plans.wait_of full.now moment))
         v (turned worker.new) (chained tables.now worker.old) (chained tables.now worker.new) (ends (spec.became result)) }
+    ensures lists { (v : View) → Within v (turned worker.old) → LeavesOrStays (full.now.owner.port % buckets_of tables.now)
+        full.now.owner (turned worker.new) worker.old.groups worker.new.groups }
+    ensures listed { (v : View) → Within v (turned worker.old) → KeepsListed (words_of_groups.groups tables.now.groups)
+        v (turned worker.new) worker.old.groups worker.new.groups }
     ensures stay { OthersStay full.now.place.slot (chained tables.now worker.old).view (chained tables.now worker.new).view }
 {
     let waiting = as_waiting(full.owner);
@@ -166,7 +174,13 @@ fn wait_in<R: Wait>(
             })
         }
         Err(slots) => {
-            asking::remove(&tables.buckets, &mut worker.turns, &mut turn, &full.owner);
+            group_lists::leave(
+                tables,
+                &mut worker.turns,
+                &mut worker.groups,
+                &mut turn,
+                &full.owner,
+            );
             turning::give(&tables.buckets, &mut worker.turns, turn);
             Closed::NoSlot {
                 owned: slots.owned,
@@ -200,6 +214,10 @@ fn close_full<R: Wait>(
         (chained tables.now worker.old) (chained tables.now worker.new) result }
     ensures kept { OnErr result (IsOwner tables.now full.now.owner (turned worker.new)
         × IsHashed kinds.Full full.now (chained tables.now worker.new)) }
+    ensures lists { LeavesOrStays (full.now.owner.port % buckets_of tables.now)
+        full.now.owner (turned worker.new) worker.old.groups worker.new.groups }
+    ensures none { OnErr result (worker.new.groups ≡ worker.old.groups) }
+    ensures listed { KeepsLists tables.now worker.old worker.new }
     ensures stay { OthersStay full.now.place.slot (chained tables.now worker.old).view (chained tables.now worker.new).view }
 {
     let mut turn = asking::take(rt, &tables.buckets, &mut worker.turns, &full.owner);
@@ -215,25 +233,31 @@ fn close_full<R: Wait>(
 /// Lets a bound owner leave its port. It takes no memory.
 fn leave_port<R: Wait>(
     rt: &R,
-    buckets: &Turns<Box<Bucket>>,
+    tables: &Tables,
     pass: &mut TurnPass<Box<Bucket>>,
+    passes: &mut GroupPasses,
     owner: &Owner,
 )
-    requires idle { IsIdle buckets.now pass.old }
+    requires idle { IsIdle tables.now.buckets pass.old }
+    requires groups { HasGroups tables.now passes.old }
     requires few { words.draws pass.old < 2 ^ 48 }
     requires may { MayName (words.caller pass.old) owner.now.name }
-    requires stands { StandsOwn owner.now (owner.now.port % words.places buckets.now) (known pass.old) }
-    ensures idle { IsIdle buckets.now pass.new }
+    requires stands { StandsOwn owner.now (owner.now.port % buckets_of tables.now) (known pass.old) }
+    ensures idle { IsIdle tables.now.buckets pass.new }
+    ensures groups { HasGroups tables.now passes.new }
     ensures caller { words.caller pass.new ≡ words.caller pass.old }
     ensures draws { words.draws pass.new ≤ words.draws pass.old + 1 }
-    ensures gave { AskedAll (owner.now.port % words.places buckets.now) (leave_entry owner.now ∷ []) (known pass.old) (known pass.new) }
+    ensures gave { AskedAll (owner.now.port % buckets_of tables.now) (leave_entry owner.now ∷ []) (known pass.old) (known pass.new) }
+    ensures lists { LeavesAs (owner.now.port % buckets_of tables.now) owner.now (known pass.new) passes.old passes.new }
+    ensures listed { KeepsListed (words_of_groups.groups tables.now.groups) (known pass.old) (known pass.new) passes.old passes.new }
 {
-    let mut turn = asking::take(rt, buckets, pass, owner);
-    asking::remove(buckets, pass, &mut turn, owner);
-    turning::give(buckets, pass, turn);
+    let mut turn = asking::take(rt, &tables.buckets, pass, owner);
+    group_lists::leave(tables, pass, passes, &mut turn, owner);
+    turning::give(&tables.buckets, pass, turn);
 }
 
-/// Takes a socket out of its chain, and then its owner out of its port's bucket, in one turn.
+/// Takes an owner out of its port's bucket, where its group's list is published without it, and then its socket out of its
+/// chain, in one turn.
 fn leave_chain<R: Wait>(
     rt: &R,
     tables: &Tables,
@@ -258,13 +282,23 @@ fn leave_chain<R: Wait>(
         (chained tables.now worker.old) (chained tables.now worker.new) result }
     ensures kept { OnErr result (IsOwner tables.now owner.now (turned worker.new)) }
     ensures side { OnErr result (chained tables.now worker.new ≡ chained tables.now worker.old) }
+    ensures lists { OnOk result (LeavesAs (owner.now.port % buckets_of tables.now) owner.now (turned worker.new)
+        worker.old.groups worker.new.groups) }
+    ensures none { OnErr result (worker.new.groups ≡ worker.old.groups) }
+    ensures listed { KeepsLists tables.now worker.old worker.new }
     ensures stay { OthersStay place.slot (chained tables.now worker.old).view (chained tables.now worker.new).view }
 {
     let mut turn = asking::take(rt, &tables.buckets, &mut worker.turns, owner);
     match make_room(tables, worker, &mut turn, 1) {
         Ok(()) => {
+            group_lists::leave(
+                tables,
+                &mut worker.turns,
+                &mut worker.groups,
+                &mut turn,
+                owner,
+            );
             chain_deeds::remove(&tables.chains, rt, &mut worker.chain, place);
-            asking::remove(&tables.buckets, &mut worker.turns, &mut turn, owner);
             turning::give(&tables.buckets, &mut worker.turns, turn);
             Ok(())
         }
@@ -296,13 +330,16 @@ fn leave<R: Wait>(
         (turned worker.old) (turned worker.new)
         (chained tables.now worker.old) (chained tables.now worker.new) result }
     ensures kept { OnErr result (StandsAs tables.now socket.now (turned worker.new) (chained tables.now worker.new)) }
+    ensures lists { ListsOfLeave (buckets_of tables.now) socket.now (turned worker.new)
+        worker.old.groups worker.new.groups result }
+    ensures listed { KeepsLists tables.now worker.old worker.new }
     ensures stay { OthersKept socket.now (chained tables.now worker.old).view (chained tables.now worker.new).view }
 {
     let owner = socket.owner();
     match socket {
         Sock::Unbound(_) => Ok(()),
         Sock::Bound(_) => {
-            leave_port(rt, &tables.buckets, &mut worker.turns, owner);
+            leave_port(rt, tables, &mut worker.turns, &mut worker.groups, owner);
             Ok(())
         }
         Sock::Listening(listener) => {
@@ -352,6 +389,9 @@ fn close_as<R: Wait>(
         (turned worker.old) (turned worker.new)
         (chained tables.now worker.old) (chained tables.now worker.new) result }
     ensures kept { OnErr result (StandsAs tables.now socket.now (turned worker.new) (chained tables.now worker.new)) }
+    ensures lists { ListsOfLeave (buckets_of tables.now) socket.now (turned worker.new)
+        worker.old.groups worker.new.groups result }
+    ensures listed { KeepsLists tables.now worker.old worker.new }
     ensures stay { OthersKept socket.now (chained tables.now worker.old).view (chained tables.now worker.new).view }
 {
     let _owner = socket.owner();
@@ -402,6 +442,9 @@ pub fn close<R: Wait>(
         (chained tables.now worker.old) (chained tables.now worker.new) (without_socket result) }
     ensures back { IfErr result (λ refusal. refusal.0 ≡ socket) }
     ensures kept { OnErr result (StandsAs tables.now socket (turned worker.new) (chained tables.now worker.new)) }
+    ensures lists { ListsOfLeave (buckets_of tables.now) socket (turned worker.new)
+        worker.old.groups worker.new.groups result }
+    ensures listed { KeepsLists tables.now worker.old worker.new }
     ensures stay { OthersKept socket (chained tables.now worker.old).view (chained tables.now worker.new).view }
 {
     let closed = close_as(rt, tables, worker, &socket, moment);
@@ -438,6 +481,9 @@ pub fn drop_sock<R: Wait>(
         (chained tables.now worker.old) (chained tables.now worker.new) (without_socket result) }
     ensures back { IfErr result (λ refusal. refusal.0 ≡ socket) }
     ensures kept { OnErr result (StandsAs tables.now socket (turned worker.new) (chained tables.now worker.new)) }
+    ensures lists { ListsOfLeave (buckets_of tables.now) socket (turned worker.new)
+        worker.old.groups worker.new.groups result }
+    ensures listed { KeepsLists tables.now worker.old worker.new }
     ensures stay { OthersKept socket (chained tables.now worker.old).view (chained tables.now worker.new).view }
 {
     let left = leave(rt, tables, worker, &socket);

@@ -18,6 +18,7 @@ pub mod accepting;
 mod asking;
 pub mod binding;
 pub mod connecting;
+mod group_lists;
 mod hashing;
 pub mod leaving;
 pub mod listening;

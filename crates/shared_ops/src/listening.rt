@@ -10,30 +10,33 @@ ghost use Rattle.table_rule.specs.Calls.{HasShares};
 ghost use Rattle.table_rule.specs.Sole.{IsNow};
 ghost use Rattle.nulls_chain.specs.Changes.{PlacesStay, TwoDrawn};
 ghost use Rattle.bind_buckets.specs.declared.request.Answer.TheVariants as answers;
+ghost use Rattle.bind_buckets.specs.declared.request.Request.TheVariants as requests;
 ghost use Rattle.bind_buckets.specs.Answers.{answer_of_end};
-ghost use Rattle.bind_buckets.specs.Bucket.{entries_of, CanListen};
+ghost use Rattle.bind_buckets.specs.Bucket.{entries_of, answer_to};
 ghost use Rattle.bind_buckets.specs.Callers.{MayName};
 ghost use Rattle.bind_buckets.specs.Turned.{View, IsIdle, IsOut, IsAlone, Within, made};
 ghost use Rattle.chain_deeds.specs.Sides.{HasRoom, IsResting, side_of};
 ghost use Rattle.table_model.specs.Asking.{ends};
 ghost use Rattle.table_model.specs.Operations as plans;
 ghost use Rattle.shared_ops.specs.Goes.{AskedAll, CarriedOut, CarriedOutAlone, gone_if};
+ghost use Rattle.shared_ops.specs.Groups.{GaveBack, KeepsLists, ListsOfListen, StartsLists, StartsUnbound};
 ghost use Rattle.shared_ops.specs.Listens as spec;
 ghost use Rattle.shared_ops.specs.Listens.{AddsAs, IsKnownEnd, SaysListen, TellsAs, asked_listen};
 ghost use Rattle.shared_ops.specs.Socks.{mine_of, first_mine, without_socket};
-ghost use Rattle.shared_ops.specs.Stands.{IsAway, IsHashed, IsOwner, IsReady, IsThere, MayDraw, MayEnter, MayTell, StandsAs, buckets_of, chained, turned};
+ghost use Rattle.shared_ops.specs.Stands.{HasGroups, IsAway, IsHashed, IsOwner, IsReady, IsThere, MayDraw, MayEnter, MayTell, StandsAs, buckets_of, chained, turned};
 ghost use Rattle.shared_ops.specs.Spends.{Draws};
 
-use crate::asking;
 use crate::room::make_room;
 use crate::sock::{Listening, Sock};
 use crate::tables::{Tables, Worker};
+use crate::{asking, group_lists};
 use bind_buckets::{Bucket, ListenEnd, turning};
 use chain_book::Place;
 use chain_deeds::{ChainPass, ChainTable};
 use flat_list::owned;
 use port_search::turning::find_bind;
 use port_search::{Ports, SearchEnd};
+use reuseport_group::GroupPasses;
 use sock_card::{Card, Kind, Owner, as_listener};
 use std::sync::Wait;
 use table_model::OpEnd;
@@ -92,28 +95,33 @@ fn hash<R: Wait>(
 
 /// Gives a bucket back; an owner whose port this call took leaves it before.
 fn give_back(
-    buckets: &Turns<Box<Bucket>>,
+    tables: &Tables,
     pass: &mut TurnPass<Box<Bucket>>,
+    passes: &mut GroupPasses,
     turn: Turn<Box<Bucket>>,
     owner: &Owner,
     took: bool,
 )
-    requires out { IsOut buckets.now pass.old turn }
+    requires out { IsOut tables.now.buckets pass.old turn }
     requires few { words.draws pass.old < 2 ^ 48 }
     requires may { MayName (words.caller pass.old) owner.now.name }
     requires there { IsThere turn owner.now }
-    ensures idle { IsIdle buckets.now pass.new }
+    requires groups { HasGroups tables.now passes.old }
+    ensures idle { IsIdle tables.now.buckets pass.new }
+    ensures groups { HasGroups tables.now passes.new }
     ensures caller { words.caller pass.new ≡ words.caller pass.old }
     ensures draws { words.draws pass.new ≤ words.draws pass.old + 1 }
     ensures gave { (v : View) → Within v (known pass.old)
         → AskedAll turn.place (entries_of (made pass.old turn) ++ gone_if took owner.now) v (known pass.new) }
+    ensures lists { (v : View) → Within v (known pass.old)
+        → GaveBack took turn.place owner.now (known pass.new) passes.old passes.new }
 {
     let mut turn = turn;
     if took {
-        asking::remove(buckets, pass, &mut turn, owner);
-        turning::give(buckets, pass, turn);
+        group_lists::leave(tables, pass, passes, &mut turn, owner);
+        turning::give(&tables.buckets, pass, turn);
     } else {
-        turning::give(buckets, pass, turn);
+        turning::give(&tables.buckets, pass, turn);
     }
 }
 
@@ -132,12 +140,13 @@ fn start_in<R: Wait>(
     requires enters { MayEnter 1 worker.old }
     requires may { MayTell worker.old owner.now.name }
     requires there { IsThere turn owner.now }
-    requires free { CanListen turn.value.value owner.now.name }
+    requires says { answer_to turn.value.value (requests.MayListen owner.now.name) ≡ answers.Group group }
     requires entry { 1 ≤ turn.value.value.entries }
     requires group { IfSome group (λ number. number < 2048) }
     requires rests { IsResting tables.now.chains worker.old.chain }
     requires room { HasRoom 1 worker.old.chain }
     requires draws { MayDraw 2 worker.old }
+    requires groups { HasGroups tables.now worker.old.groups }
     ensures ready { IsReady tables.now worker.new }
     ensures caller { words.caller worker.new.turns ≡ words.caller worker.old.turns }
     ensures entered { words.draws worker.new.turns ≤ words.draws worker.old.turns + 1 }
@@ -150,6 +159,10 @@ fn start_in<R: Wait>(
     ensures tells { (v : View) → Within v (turned worker.old)
         → entries_of (made worker.old.turns turn) ≡ asked_listen owner.now (answers.Group group) ∷ []
         → TellsAs (owner.now.port % buckets_of tables.now) owner.now took v (turned worker.new) result }
+    ensures lists { (v : View) → Within v (turned worker.old)
+        → entries_of (made worker.old.turns turn) ≡ asked_listen owner.now (answers.Group group) ∷ []
+        → StartsLists took (owner.now.port % buckets_of tables.now) owner.now (turned worker.new)
+        worker.old.groups worker.new.groups result }
     ensures hashed { IfOk result (λ l. IsHashed kinds.Listen l (chained tables.now worker.new)) }
     ensures stay { PlacesStay (chained tables.now worker.old).view (chained tables.now worker.new).view }
 {
@@ -159,18 +172,27 @@ fn start_in<R: Wait>(
     match hash(rt, &tables.chains, &mut worker.chain, &card) {
         Ok(place) => {
             let mut turn = turn;
-            turning::listen(
-                &tables.buckets,
+            group_lists::join(
+                tables,
                 &mut worker.turns,
+                &mut worker.groups,
                 &mut turn,
-                owner.name,
+                owner,
                 place.slot,
+                group,
             );
             turning::give(&tables.buckets, &mut worker.turns, turn);
             Ok(Listening::at_place(listener, extra, place))
         }
         Err(end) => {
-            give_back(&tables.buckets, &mut worker.turns, turn, owner, took);
+            give_back(
+                tables,
+                &mut worker.turns,
+                &mut worker.groups,
+                turn,
+                owner,
+                took,
+            );
             Err(end)
         }
     }
@@ -200,6 +222,9 @@ fn start<R: Wait>(
         (chained tables.now worker.old) (chained tables.now worker.new) result }
     ensures tells { TellsAs (owner.now.port % buckets_of tables.now) owner.now took
         (turned worker.old) (turned worker.new) result }
+    ensures lists { StartsLists took (owner.now.port % buckets_of tables.now) owner.now (turned worker.new)
+        worker.old.groups worker.new.groups result }
+    ensures listed { KeepsLists tables.now worker.old worker.new }
     ensures hashed { IfOk result (λ l. IsHashed kinds.Listen l (chained tables.now worker.new)) }
     ensures stay { PlacesStay (chained tables.now worker.old).view (chained tables.now worker.new).view }
 {
@@ -208,12 +233,26 @@ fn start<R: Wait>(
         Ok(()) => match asking::may_listen(&tables.buckets, &mut worker.turns, &mut turn, owner) {
             Ok(group) => start_in(rt, tables, worker, turn, owner, took, group),
             Err(end) => {
-                give_back(&tables.buckets, &mut worker.turns, turn, owner, took);
+                give_back(
+                    tables,
+                    &mut worker.turns,
+                    &mut worker.groups,
+                    turn,
+                    owner,
+                    took,
+                );
                 Err(end_of(end))
             }
         },
         Err(_) => {
-            give_back(&tables.buckets, &mut worker.turns, turn, owner, took);
+            give_back(
+                tables,
+                &mut worker.turns,
+                &mut worker.groups,
+                turn,
+                owner,
+                took,
+            );
             Err(OpEnd::Memory)
         }
     }
@@ -243,6 +282,9 @@ fn start_unbound<R: Wait>(
         (turned worker.old) (turned worker.new)
         (chained tables.now worker.old) (chained tables.now worker.new) result }
     ensures stands { IfOk result (λ l. IsOwner tables.now l.owner (turned worker.new)) }
+    ensures lists { StartsUnbound (buckets_of tables.now) owner.name (turned worker.new)
+        worker.old.groups worker.new.groups result }
+    ensures listed { KeepsLists tables.now worker.old worker.new }
     ensures hashed { IfOk result (λ l. IsHashed kinds.Listen l (chained tables.now worker.new)) }
     ensures kept { OnErr result (IsAway owner.name (turned worker.new)) }
     ensures stay { PlacesStay (chained tables.now worker.old).view (chained tables.now worker.new).view }
@@ -299,6 +341,9 @@ fn listen_shared<R: Wait>(
     ensures back { IfErr result (λ refusal. refusal.0 ≡ socket) }
     ensures stands { IfOk result (λ listens. StandsAs tables.now listens.0 (turned worker.new) (chained tables.now worker.new)) }
     ensures kept { OnErr result (StandsAs tables.now socket (turned worker.new) (chained tables.now worker.new)) }
+    ensures lists { ListsOfListen (buckets_of tables.now) socket (turned worker.new)
+        worker.old.groups worker.new.groups (without_socket result) }
+    ensures listed { KeepsLists tables.now worker.old worker.new }
     ensures stay { PlacesStay (chained tables.now worker.old).view (chained tables.now worker.new).view }
 {
     let owner = *socket.owner();
@@ -358,6 +403,9 @@ pub fn listen<R: Wait>(
     ensures back { IfErr result (λ refusal. refusal.0 ≡ socket) }
     ensures stands { IfOk result (λ listens. StandsAs tables.now listens.0 (turned worker.new) (chained tables.now worker.new)) }
     ensures kept { OnErr result (StandsAs tables.now socket (turned worker.new) (chained tables.now worker.new)) }
+    ensures lists { ListsOfListen (buckets_of tables.now) socket (turned worker.new)
+        worker.old.groups worker.new.groups (without_socket result) }
+    ensures listed { KeepsLists tables.now worker.old worker.new }
     ensures stay { PlacesStay (chained tables.now worker.old).view (chained tables.now worker.new).view }
 {
     listen_shared(rt, tables, worker, socket, ports)

@@ -6,9 +6,10 @@ ghost use Rattle.bind_buckets.specs.Turned.{View, Gave, IsOut, Within, made};
 ghost use Rattle.chain_deeds.specs.Sides.{HasRoom, IsResting};
 ghost use Rattle.nulls_chain.specs.Changes.{PlacesStay};
 ghost use Rattle.table_model.specs.Own as own;
+ghost use Rattle.shared_ops.specs.Groups.{GaveSparing, KeepsLists};
 ghost use Rattle.shared_ops.specs.Reaping.{ReapsOne};
 ghost use Rattle.shared_ops.specs.Spends.{Draws};
-ghost use Rattle.shared_ops.specs.Stands.{IsReady, MayDraw, MayEnter, buckets_of, chained, turned};
+ghost use Rattle.shared_ops.specs.Stands.{HasGroups, IsReady, MayDraw, MayEnter, buckets_of, chained, turned};
 
 use crate::leaving::Waiting;
 use crate::room::make_room;
@@ -45,6 +46,7 @@ fn reap_in<R: Wait>(
     requires rests { IsResting tables.now.chains worker.old.chain }
     requires room { HasRoom 1 worker.old.chain }
     requires draws { MayDraw 2 worker.old }
+    requires groups { HasGroups tables.now worker.old.groups }
     ensures ready { IsReady tables.now worker.new }
     ensures caller { words.caller worker.new.turns ≡ words.caller worker.old.turns }
     ensures entered { words.draws worker.new.turns ≤ words.draws worker.old.turns + 1 }
@@ -52,6 +54,8 @@ fn reap_in<R: Wait>(
     ensures reaps { (v : View) → Within v (turned worker.old) → ReapsOne (buckets_of tables.now) waiting.now result
         v (turned worker.new) (chained tables.now worker.old) (chained tables.now worker.new) }
     ensures stay { PlacesStay (chained tables.now worker.old).view (chained tables.now worker.new).view }
+    ensures groups { worker.new.groups ≡ worker.old.groups }
+    ensures spares { (v : View) → Within v (turned worker.old) → GaveSparing v (turned worker.new) }
 {
     let card = owned::card_as(Kind::TimeWait, &waiting.owner, waiting.stamp);
     let mut turn = turn;
@@ -98,6 +102,8 @@ pub fn reap_one<R: Wait>(
     ensures none { OnErr result (Gave (turned worker.old) (turned worker.new) []) }
     ensures side { OnErr result (chained tables.now worker.new ≡ chained tables.now worker.old) }
     ensures stay { PlacesStay (chained tables.now worker.old).view (chained tables.now worker.new).view }
+    ensures groups { worker.new.groups ≡ worker.old.groups }
+    ensures listed { KeepsLists tables.now worker.old worker.new }
 {
     let mut turn = turning::take(rt, &tables.buckets, &mut worker.turns, waiting.owner.port);
     match make_room(tables, worker, &mut turn, 1) {

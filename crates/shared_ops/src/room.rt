@@ -30,6 +30,7 @@ pub(crate) fn make_room(
     ensures bucket { OnOk result (turn.new.value.value ≡ record turn.old.value.value { entries = 3; newcomers = 2 }) }
     ensures rests { IsResting tables.now.chains worker.new.chain }
     ensures side { side_of tables.now.chains worker.new.chain ≡ side_of tables.now.chains worker.old.chain }
+    ensures groups { worker.new.groups ≡ worker.old.groups }
     ensures changes { OnOk result (HasRoom changes worker.new.chain) }
 {
     let room = turning::reserve(&tables.buckets, &worker.turns, turn);

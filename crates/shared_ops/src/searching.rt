@@ -10,10 +10,11 @@ ghost use Rattle.table_model.specs.Operations as plans;
 ghost use Rattle.table_rule.specs.Passes as chain_words;
 ghost use Rattle.shared_ops.specs.Connecting.{StandsFull};
 ghost use Rattle.shared_ops.specs.Goes.{CarriedOut};
+ghost use Rattle.shared_ops.specs.Groups.{GaveSparing};
 ghost use Rattle.shared_ops.specs.Searching as spec;
 ghost use Rattle.shared_ops.specs.Searching.{KeepsDraws, PassesBy, TriesAt, TryLeaves, free_entry};
 ghost use Rattle.shared_ops.specs.Spends.{Draws};
-ghost use Rattle.shared_ops.specs.Stands.{IsAway, IsReady, MayDraw, MayEnter, MayTell, buckets_of, chained, turned};
+ghost use Rattle.shared_ops.specs.Stands.{HasGroups, IsAway, IsReady, MayDraw, MayEnter, MayTell, buckets_of, chained, turned};
 
 use crate::connecting::end_turn;
 use crate::hashing::insert;
@@ -61,6 +62,7 @@ fn connect_in<R: Wait>(
     requires rests { IsResting tables.now.chains worker.old.chain }
     requires room { HasRoom 2 worker.old.chain }
     requires draws { MayDraw 4 worker.old }
+    requires groups { HasGroups tables.now worker.old.groups }
     ensures ready { IsReady tables.now worker.new }
     ensures caller { words.caller worker.new.turns ≡ words.caller worker.old.turns }
     ensures entered { words.draws worker.new.turns ≤ words.draws worker.old.turns + 2 }
@@ -68,6 +70,9 @@ fn connect_in<R: Wait>(
     ensures drawn { Draws 4 worker.old worker.new }
     ensures keeps { KeepsDraws worker.old worker.new result }
     ensures stay { PlacesStay (chain_words.known worker.old.chain.pass) (chain_words.known worker.new.chain.pass) }
+    ensures groups { worker.new.groups ≡ worker.old.groups }
+    ensures spares { (v : View) → Within v (turned worker.old)
+        → entries_of (made worker.old.turns turn) ≡ free_entry full.port ∷ [] → GaveSparing v (turned worker.new) }
     ensures tries { (v : View) → Within v (turned worker.old)
         → entries_of (made worker.old.turns turn) ≡ free_entry full.port ∷ []
         → TriesAt (buckets_of tables.now) tables.now.chains.layout full moment rule v (turned worker.new)
@@ -114,6 +119,8 @@ fn connect_at<R: Wait>(
     ensures drawn { Draws 4 worker.old worker.new }
     ensures keeps { KeepsDraws worker.old worker.new result }
     ensures stay { PlacesStay (chain_words.known worker.old.chain.pass) (chain_words.known worker.new.chain.pass) }
+    ensures groups { worker.new.groups ≡ worker.old.groups }
+    ensures spares { GaveSparing (turned worker.old) (turned worker.new) }
     ensures tries { TriesAt (buckets_of tables.now) tables.now.chains.layout full moment rule (turned worker.old)
         (turned worker.new) (chained tables.now worker.old) (chained tables.now worker.new) result }
     ensures leaves { TryLeaves tables.now full.name (turned worker.new) (chained tables.now worker.new) result }
@@ -157,6 +164,8 @@ pub(crate) fn search_connect<R: Wait>(
     ensures entered { words.draws worker.new.turns ≤ words.draws worker.old.turns + (length ports + 2) }
     ensures drawn { Draws 4 worker.old worker.new }
     ensures stay { PlacesStay (chain_words.known worker.old.chain.pass) (chain_words.known worker.new.chain.pass) }
+    ensures groups { worker.new.groups ≡ worker.old.groups }
+    ensures spares { GaveSparing (turned worker.old) (turned worker.new) }
     ensures carried { CarriedOut plans.done plans.refused (buckets_of tables.now) owner.name
         (plans.search_connect tables.now.chains.layout.shape tables.now.chains.layout.seed owner source to
         moment rule ports)

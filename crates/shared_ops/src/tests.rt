@@ -2,7 +2,7 @@
 
 ghost use Rattle.std.specs.Prelude.{◌≡◌, ◌+◌, ◌<◌, ◌≤◌, ◌^◌, ℕ, length, IfOk};
 ghost use Rattle.turn_table.specs.Passes as words;
-ghost use Rattle.shared_ops.specs.Stands.{IsAway, IsReady, MayDraw, MayEnter, StandsAs, chained, turned};
+ghost use Rattle.shared_ops.specs.Stands.{HasGroups, IsAway, IsReady, MayDraw, MayEnter, StandsAs, buckets_of, chained, turned};
 
 use crate::connecting::connect;
 use crate::leaving::{Closed, Waiting, close, drop_sock};
@@ -15,6 +15,7 @@ use chain_book::{Replace, Shape};
 use chain_deeds::ChainTable;
 use flat_list::{End, First, Options, Range};
 use port_search::Ports;
+use reuseport_group::{GroupPasses, Groups, name_of};
 use std::alloc::{AllocError, Global};
 use std::sync::Wait;
 use std::test::Fail;
@@ -48,7 +49,18 @@ fn empty(alloc: Global, slots: u32) -> Result<(Tables, Worker), AllocError>
     };
     let (buckets, turns) = turning::with_buckets(alloc, shape.bind, Sharing::Alone)?;
     let (chains, chain) = ChainTable::new(alloc, shape, 7)?;
-    Ok((Tables { buckets, chains }, Worker { turns, chain }))
+    let (groups, passes) = Groups::new(alloc, 8 * shape.bind)?;
+    let tables = Tables {
+        buckets,
+        chains,
+        groups,
+    };
+    let worker = Worker {
+        turns,
+        chain,
+        groups: passes,
+    };
+    Ok((tables, worker))
 }
 
 /// The ports from 40000 to 40003.
@@ -106,6 +118,41 @@ fn listen_and_drop<R: Wait>(rt: &R, tables: &Tables, worker: &mut Worker, socket
             Err(_) => Went::Never,
         },
         Err(_) => Went::Never,
+    }
+}
+
+/// The name that the first group's hash chooses.
+fn chosen(tables: &Tables, passes: &mut GroupPasses) -> Option<u32>
+    requires groups { HasGroups tables.now passes.old }
+    requires some { 1 ≤ buckets_of tables.now }
+    ensures { HasGroups tables.now passes.new }
+{
+    let choice = tables.groups.choose(passes, 0, 77)?;
+    Some(name_of(choice.member))
+}
+
+/// Who is chosen while the socket listens, and who after it is gone.
+fn choose_around<R: Wait>(
+    rt: &R,
+    tables: &Tables,
+    worker: &mut Worker,
+    socket: Sock,
+) -> (Option<u32>, Option<u32>)
+    requires ready { IsReady tables.now worker.old }
+    requires first { words.caller worker.old.turns ≡ 0 }
+    requires enters { MayEnter 100 worker.old }
+    requires draws { MayDraw 100 worker.old }
+    requires stands { StandsAs tables.now socket (turned worker.old) (chained tables.now worker.old) }
+{
+    match listen(rt, tables, worker, socket, ports()) {
+        Ok((listener, _)) => {
+            let before = chosen(tables, &mut worker.groups);
+            match drop_sock(rt, tables, worker, listener) {
+                Ok(()) => (before, chosen(tables, &mut worker.groups)),
+                Err(_) => (None, None),
+            }
+        }
+        Err(_) => (None, None),
     }
 }
 
@@ -191,6 +238,20 @@ fn a_listener_is_dropped(rt: HostRuntime) -> Result<(), Fail> {
     let socket = Sock::Unbound(Unbound::new(1, PLAIN));
     let went = listen_and_drop(&rt, &tables, &mut worker, socket);
     assert_eq!(rt; went, Went::From(40000));
+    Ok(())
+}
+
+#[test]
+fn a_member_is_chosen_until_it_goes(rt: HostRuntime) -> Result<(), Fail> {
+    let (tables, mut worker) = empty(rt.alloc(), 4)?;
+    let options = Options {
+        reuseport: true,
+        ..PLAIN
+    };
+    let socket = Sock::Unbound(Unbound::new(1, options));
+    let (before, after) = choose_around(&rt, &tables, &mut worker, socket);
+    assert_eq!(rt; before, Some(1));
+    assert_eq!(rt; after, None);
     Ok(())
 }
 

@@ -4,6 +4,8 @@ use Rattle.shared_ops.specs.Accepting.{accepted}
 use Rattle.shared_ops.specs.Socks.{mine_of}
 use Rattle.shared_ops.specs.Stands.{buckets_of, chained, turned}
 use Rattle.shared_ops.proofs.Goes.{carried_alone}
+use Rattle.reuseport_group.specs.Passes as lists
+use Rattle.shared_ops.proofs.Lists.{sparing_same}
 use Rattle.shared_ops.proofs.accepting.accept.Goals as goal
 
 pub returns-clause-alone : goal.returns-clause-alone
@@ -15,3 +17,9 @@ returns-clause-alone g c =
     let e = c.accept_shared.ensures in
     λ alone now. carried_alone accepted refused (buckets_of t) c.args.name (plans.accept t.chains.layout.shape t.chains.layout.seed m c.args.name c.args.from c.args.at) (turned old) (turned new) (chained t old) (chained t new) c.accept_shared.result
     c.requires.ready.idle.some e.ready.idle.knows alone now e.carried
+
+pub returns-clause-listed : goal.returns-clause-listed
+returns-clause-listed g c =
+    let old = c.args.worker.now in
+    let new = c.accept_shared.new.worker in
+    sparing_same (lists.groups c.args.tables.now.groups) (turned old) (turned new) old.groups new.groups c.accept_shared.ensures.groups c.accept_shared.ensures.spares

@@ -13,6 +13,7 @@ use Rattle.shared_ops.specs.Binding.{bound_to}
 use Rattle.shared_ops.specs.Goes.{CarriedOut}
 use Rattle.shared_ops.specs.Stands.{IsAway}
 use Rattle.shared_ops.proofs.BindGoes.{searched_goes, searched_stands, searched_kept}
+use Rattle.shared_ops.proofs.Lists.{search_spares}
 use Rattle.shared_ops.proofs.binding.bind_searched.Goals as goal
 
 pub returns-clause-carried : goal.returns-clause-carried
@@ -59,3 +60,8 @@ returns-clause-kept g c = λ away.
     (searched_kept n a v w addr ports r
     (subst (λ (b : Owner). r ≡ Err searches.NoPort → BindsNowhere n b ports v w) is e.no_port)
     (subst (λ (b : Owner). r ≡ Err searches.Memory → BindsNotYet n b ports v w) is e.memory) e.end away)
+
+pub returns-clause-spares : goal.returns-clause-spares
+returns-clause-spares g c =
+    let e = c.find_bind-found.ensures in
+    search_spares (words.places c.args.buckets.now) c.bound_at-bound.result c.args.ports (known c.args.pass.now) (known c.find_bind-found.new.pass) c.find_bind-found.result e.bound e.no_port e.memory e.end

@@ -18,6 +18,7 @@ use Rattle.shared_ops.specs.Stands.{buckets_of, turned}
 use Rattle.shared_ops.proofs.Goes.{asked_all}
 use Rattle.shared_ops.proofs.Inserted.{drawn_four}
 use Rattle.shared_ops.proofs.ConnectGoes.{bound_entry, all_none, connect_done, connect_refused, connect_left, connect_stands, hashed_at, stands_still}
+use Rattle.shared_ops.proofs.Lists.{made_none, made_more, given_spares, ended_spares}
 use Rattle.shared_ops.proofs.connecting.connect_bound.Goals as goal
 
 abbrev entry : ℕ → Owner → Entry
@@ -116,3 +117,28 @@ returns-in-Err-clause-kept g c =
     let made_is = ap (λ (ms : List Note). entries_of ms) (c.make_room.ensures.made ∙ c.take-turn.ensures.none) in
     let gave = all_none turn.place v w (asked_all turn.place turn.place [] v w (made c.make_room.new.worker.turns turn) refl made_is (c.give-in-Err.ensures.gave v (c.make_room.ensures.within v c.take-turn.ensures.within))) in
     stands_still b (b.port % buckets_of c.args.tables.now) v w gave c.requires.stands
+
+pub returns-in-Ok-insert-clause-spares : goal.returns-in-Ok-insert-clause-spares
+returns-in-Ok-insert-clause-spares g c =
+    let v = turned c.args.worker.now in
+    let within = c.make_room.ensures.within v c.take-turn.ensures.within in
+    let none = made_none (made c.make_room.new.worker.turns c.make_room.new.turn) (c.make_room.ensures.made ∙ c.take-turn.ensures.none) in
+    let asks = c.connect_bound.ensures.asks in
+    let p = c.make_room.new.worker.turns in
+    let q = c.connect_bound.new.pass in
+    ended_spares c.connect_bound.new.turn.place (entries_of (made q c.connect_bound.new.turn)) c.in-Ok-insert.came.replaced v (known c.end_turn.new.pass) (c.end_turn.ensures.gave v (asks.within v within))
+    (made_more c.args.tables.now.buckets p c.make_room.new.turn q c.connect_bound.new.turn _ _ asks none tt)
+
+pub returns-in-Err-insert-clause-spares : goal.returns-in-Err-insert-clause-spares
+returns-in-Err-insert-clause-spares g c =
+    let v = turned c.args.worker.now in
+    let within = c.make_room.ensures.within v c.take-turn.ensures.within in
+    let none = made_none (made c.make_room.new.worker.turns c.make_room.new.turn) (c.make_room.ensures.made ∙ c.take-turn.ensures.none) in
+    given_spares c.make_room.new.turn.place v (known c.give.new.pass) (made c.make_room.new.worker.turns c.make_room.new.turn) (c.give.ensures.gave v within) none
+
+pub returns-in-Err-clause-spares : goal.returns-in-Err-clause-spares
+returns-in-Err-clause-spares g c =
+    let v = turned c.args.worker.now in
+    let within = c.make_room.ensures.within v c.take-turn.ensures.within in
+    let none = made_none (made c.make_room.new.worker.turns c.make_room.new.turn) (c.make_room.ensures.made ∙ c.take-turn.ensures.none) in
+    given_spares c.make_room.new.turn.place v (known c.give-in-Err.new.pass) (made c.make_room.new.worker.turns c.make_room.new.turn) (c.give-in-Err.ensures.gave v within) none

@@ -23,6 +23,8 @@ returns-in-Ok g c =
       drawn = λ more may. e.drawn more (fewer more (known old.chain.pass) may);
       carried = subst (λ (p : Asking plans.Closed). Went (buckets_of t) p (turned old) (turned new) (chained t old) (chained t new) (ends plans.gone)) (sym plan) e.carried;
       kept = tt;
+      lists = e.lists;
+      listed = e.listed;
       stay = e.stay;
     }
 
@@ -41,5 +43,7 @@ returns-in-Err g c =
       drawn = λ more may. e.drawn more (fewer more (known old.chain.pass) may);
       carried = subst (λ (p : Asking plans.Closed). LeftOff (buckets_of t) (mine_of c.args.socket.now).owner.name p (turned old) (turned new) (chained t old) (chained t new)) (sym plan) e.carried;
       kept = e.kept;
+      lists = e.lists;
+      listed = e.listed;
       stay = e.stay;
     }

@@ -15,6 +15,9 @@ use Rattle.shared_ops.specs.Stands.{IsHashed, buckets_of, turned}
 use Rattle.shared_ops.proofs.Goes.{asked_all}
 use Rattle.shared_ops.proofs.CloseGoes.{all_none, left_first}
 use Rattle.shared_ops.proofs.Knows.{grows, stands_on}
+use Rattle.reuseport_group.specs.Passes as lists
+use Rattle.shared_ops.specs.Groups.{KeepsListed, LeavesOrStays}
+use Rattle.shared_ops.proofs.Lists.{made_none, given_spares, sparing_same}
 use Rattle.shared_ops.proofs.leaving.close_full.Goals as goal
 
 pub returns-in-Ok-clause-drawn : goal.returns-in-Ok-clause-drawn
@@ -53,3 +56,26 @@ returns-in-Err-clause-kept g c =
       stands_on m.owner (m.owner.port % buckets_of t) v w [] c.requires.stands (grows v w [] (all_none place v w all)) tt,
       subst (IsHashed kinds.Full m) (sym c.make_room.ensures.side) c.requires.hashed,
     )
+
+pub returns-in-Ok-clause-lists : goal.returns-in-Ok-clause-lists
+returns-in-Ok-clause-lists g c =
+    let m : Mine = c.args.full.now in
+    let v = turned c.args.worker.now in
+    let u = c.wait_in.new.worker in
+    subst (λ p. LeavesOrStays (m.owner.port % buckets_of c.args.tables.now) m.owner (turned u) p u.groups) c.make_room.ensures.groups
+    (c.wait_in.ensures.lists v (c.make_room.ensures.within v c.take-turn.ensures.within))
+
+pub returns-in-Ok-clause-listed : goal.returns-in-Ok-clause-listed
+returns-in-Ok-clause-listed g c =
+    let v = turned c.args.worker.now in
+    let u = c.wait_in.new.worker in
+    subst (λ p. KeepsListed (lists.groups c.args.tables.now.groups) v (turned u) p u.groups) c.make_room.ensures.groups
+    (c.wait_in.ensures.listed v (c.make_room.ensures.within v c.take-turn.ensures.within))
+
+pub returns-in-Err-clause-listed : goal.returns-in-Err-clause-listed
+returns-in-Err-clause-listed g c =
+    let v = turned c.args.worker.now in
+    let within = c.make_room.ensures.within v c.take-turn.ensures.within in
+    let none = made_none (made c.make_room.new.worker.turns c.make_room.new.turn) (c.make_room.ensures.made ∙ c.take-turn.ensures.none) in
+    sparing_same (lists.groups c.args.tables.now.groups) v (known c.give.new.pass) c.args.worker.now.groups c.make_room.new.worker.groups c.make_room.ensures.groups
+    (given_spares c.make_room.new.turn.place v (known c.give.new.pass) (made c.make_room.new.worker.turns c.make_room.new.turn) (c.give.ensures.gave v within) none)

@@ -1,4 +1,4 @@
-use Rattle.std.proofs.Common.{◌++◌, ◌∷◌, [], List, ap, ◌∙◌, ◌%◌}
+use Rattle.std.proofs.Common.{subst, ◌++◌, ◌∷◌, [], List, ap, ◌∙◌, ◌%◌}
 use Rattle.turn_table.specs.Passes as words
 use Rattle.turn_table.specs.Passes.{known}
 use Rattle.bind_buckets.specs.Notes.{Note}
@@ -6,12 +6,45 @@ use Rattle.bind_buckets.specs.Bucket.{entries_of}
 use Rattle.bind_buckets.specs.Turned.{made}
 use Rattle.shared_ops.specs.Closes.{leave_entry}
 use Rattle.shared_ops.proofs.Goes.{asked_all}
+use Rattle.reuseport_group.specs.Passes as lists
+use Rattle.shared_ops.specs.Groups.{LeavesAs}
+use Rattle.shared_ops.proofs.ListTurns.{leaves_as, left_keeps}
 use Rattle.shared_ops.proofs.leaving.leave_port.Goals as goal
 
 pub returns-clause-gave : goal.returns-clause-gave
 returns-clause-gave g c =
     let a = c.args.owner.now in
     let v = known c.args.pass.now in
-    let asks = c.remove.ensures.asks in
+    let asks = c.leave.ensures.asks in
     let once = asks.made_is ∙ ap (λ (ms : List Note). entries_of ms ++ leave_entry a ∷ []) c.take-turn.ensures.none in
-    asked_all c.remove.new.turn.place (a.port % words.places c.args.buckets.now) (leave_entry a ∷ []) v (known c.give.new.pass) (made c.remove.new.pass c.remove.new.turn) (asks.place ∙ c.take-turn.ensures.place) once (c.give.ensures.gave v (asks.within v c.take-turn.ensures.within))
+    asked_all c.leave.new.turn.place (a.port % words.places c.args.tables.now.buckets) (leave_entry a ∷ []) v (known c.give.new.pass) (made c.leave.new.pass c.leave.new.turn) (asks.place ∙ c.take-turn.ensures.place) once (c.give.ensures.gave v (asks.within v c.take-turn.ensures.within))
+
+pub returns-clause-lists : goal.returns-clause-lists
+returns-clause-lists g c =
+    let a = c.args.owner.now in
+    let v = known c.args.pass.now in
+    let w = known c.give.new.pass in
+    let p = c.args.passes.now in
+    let q = c.leave.new.passes in
+    let e = c.leave.ensures in
+    let within = e.asks.within v c.take-turn.ensures.within in
+    subst (λ i. LeavesAs i a w p q) c.take-turn.ensures.place
+    (leaves_as c.args.tables.now.buckets c.take-turn.new.pass c.take-turn.result c.leave.new.pass c.leave.new.turn a v w e.lists.0 p q e.sound.0 e.sound.1 c.take-turn.ensures.out e.asks
+    within (c.give.ensures.gave v within) e.lists.1)
+
+pub returns-clause-listed : goal.returns-clause-listed
+returns-clause-listed g c =
+    let a = c.args.owner.now in
+    let v = known c.args.pass.now in
+    let w = known c.give.new.pass in
+    let p = c.args.passes.now in
+    let q = c.leave.new.passes in
+    let e = c.leave.ensures in
+    let place = a.port % words.places c.args.tables.now.buckets in
+    let once = e.asks.made_is ∙ ap (λ (ms : List Note). entries_of ms ++ leave_entry a ∷ []) c.take-turn.ensures.none in
+    let within = e.asks.within v c.take-turn.ensures.within in
+    left_keeps (lists.groups c.args.tables.now.groups) place a v w p q
+    (asked_all c.leave.new.turn.place place (leave_entry a ∷ []) v w (made c.leave.new.pass c.leave.new.turn) (e.asks.place ∙ c.take-turn.ensures.place) once (c.give.ensures.gave v within))
+    (subst (λ i. LeavesAs i a w p q) c.take-turn.ensures.place
+    (leaves_as c.args.tables.now.buckets c.take-turn.new.pass c.take-turn.result c.leave.new.pass c.leave.new.turn a v w e.lists.0 p q e.sound.0 e.sound.1 c.take-turn.ensures.out e.asks
+    within (c.give.ensures.gave v within) e.lists.1))

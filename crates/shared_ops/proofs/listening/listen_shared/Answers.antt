@@ -14,6 +14,8 @@ use Rattle.shared_ops.specs.Stands.{StandsAs, buckets_of, chained, turned}
 use Rattle.shared_ops.proofs.Goes.{went_nowhere}
 use Rattle.shared_ops.proofs.ListenGoes.{listen_answers}
 use Rattle.shared_ops.proofs.ListenStands.{bound_stands, bound_kept}
+use Rattle.shared_ops.specs.Groups.{StartsLists, ListsOfListen}
+use Rattle.shared_ops.proofs.ListTurns.{bound_lists}
 use Rattle.shared_ops.proofs.listening.listen_shared.Goals as goal
 
 pub returns-in-Bound-clause-carried : goal.returns-in-Bound-clause-carried
@@ -90,3 +92,18 @@ returns-in-Full-clause-carried g c =
     let state = subst FitsState c.in-Full.is c.owner.ensures.state in
     subst (λ (s : Sock). Went n (listen l.shape l.seed (mine_of s) c.args.ports) v v k k (ends (refused errors.Inval))) (sym c.in-Full.is)
     (subst (λ (st : State). Went n (listen_as l.shape l.seed st m c.args.ports) v v k k (ends (refused errors.Inval))) (sym state) (went_nowhere n (ends (refused errors.Inval)) v k))
+
+pub returns-in-Bound-clause-lists : goal.returns-in-Bound-clause-lists
+returns-in-Bound-clause-lists g c =
+    let n = buckets_of c.args.tables.now in
+    let v = turned c.args.worker.now in
+    let u = c.start-started.new.worker in
+    let w = turned u in
+    let p = c.args.worker.now.groups in
+    let m : Mine = c.in-Bound.bound in
+    let r = c.start-started.result in
+    let owner : c.owner.result.now ≡ m.owner = c.owner.ensures.owner ∙ ap (λ (s : Sock). (mine_of s).owner) c.in-Bound.is in
+    let tells = subst (λ (o : Owner). TellsAs (o.port % n) o false v w r) owner c.start-started.ensures.tells in
+    let starts = subst (λ (o : Owner). StartsLists false (o.port % n) o w p u.groups r) owner c.start-started.ensures.lists in
+    subst (λ x. ListsOfListen n c.args.socket w p u.groups (without_socket x)) (sym c.listen_answer-in-Bound.ensures)
+    (subst (λ (s : Sock). ListsOfListen n s w p u.groups (without_socket (listen_answer (socks.Bound m) r))) (sym c.in-Bound.is) (bound_lists n m.owner v w p u.groups m r tells starts))

@@ -1,4 +1,4 @@
-use Rattle.std.proofs.Common.{◌+◌, ◌++◌, ◌∷◌, [], List, ap, sym, subst, ◌∙◌, ◌%◌}
+use Rattle.std.proofs.Common.{Result, Err, ◌+◌, ◌++◌, ◌∷◌, [], List, ap, sym, subst, ◌∙◌, ◌%◌}
 use Rattle.turn_table.specs.Passes.{known}
 use Rattle.bind_buckets.specs.declared.request.Answer.TheVariants as answers
 use Rattle.bind_buckets.specs.Notes.{Note}
@@ -14,6 +14,11 @@ use Rattle.shared_ops.proofs.There.{there_now}
 use Rattle.shared_ops.specs.Listens.{asked_listen}
 use Rattle.shared_ops.proofs.ListenStands.{first_told, none_told}
 use Rattle.shared_ops.proofs.ListenGoes.{listen_refused, listen_left}
+use Rattle.reuseport_group.specs.Passes as lists
+use Rattle.table_model.specs.declared.operation.OpEnd.{OpEnd}
+use Rattle.table_model.specs.declared.operation.OpEnd.TheVariants as errors
+use Rattle.shared_ops.specs.Groups.{GaveBack, StartsLists}
+use Rattle.shared_ops.proofs.ListTurns.{start_keeps}
 use Rattle.shared_ops.proofs.listening.start.Goals as goal
 
 pub give_back-requires-in-Err-clause-there : goal.give_back-requires-in-Err-clause-there
@@ -106,3 +111,66 @@ returns-in-Err-clause-tells g c =
     none_told (a.port % buckets_of c.args.tables.now) a v w took
     (subst (λ at. AskedAll at (gone_if took a) v w) place
     (subst (λ (ms : List Note). AskedAll c.make_room.new.turn.place (entries_of ms ++ gone_if took a) v w) (c.make_room.ensures.made ∙ c.take-turn.ensures.none) (c.give_back-in-Err.ensures.gave v (c.make_room.ensures.within v c.take-turn.ensures.within))))
+
+pub returns-in-Ok-may_listen-clause-lists : goal.returns-in-Ok-may_listen-clause-lists
+returns-in-Ok-may_listen-clause-lists g c =
+    let a = c.args.owner.now in
+    let v = turned c.args.worker.now in
+    let u = c.start_in.new.worker in
+    let asks = c.in-Ok-may_listen.ensures.asks in
+    let e = asked_listen a (answers.Group c.in-Ok-may_listen.group) in
+    let made = asks.made_is ∙ ap (λ (ms : List Note). entries_of ms ++ e ∷ []) (c.make_room.ensures.made ∙ c.take-turn.ensures.none) in
+    subst (λ p. StartsLists c.args.took (a.port % buckets_of c.args.tables.now) a (turned u) p u.groups c.start_in.result) c.make_room.ensures.groups
+    (c.start_in.ensures.lists v (asks.within v (c.make_room.ensures.within v c.take-turn.ensures.within)) made)
+
+pub returns-in-Ok-may_listen-clause-listed : goal.returns-in-Ok-may_listen-clause-listed
+returns-in-Ok-may_listen-clause-listed g c =
+    let a = c.args.owner.now in
+    let v = turned c.args.worker.now in
+    let u = c.start_in.new.worker in
+    let t = c.args.tables.now in
+    let p = c.args.worker.now.groups in
+    let place = a.port % buckets_of t in
+    let asks = c.in-Ok-may_listen.ensures.asks in
+    let e = asked_listen a (answers.Group c.in-Ok-may_listen.group) in
+    let made = asks.made_is ∙ ap (λ (ms : List Note). entries_of ms ++ e ∷ []) (c.make_room.ensures.made ∙ c.take-turn.ensures.none) in
+    let within = asks.within v (c.make_room.ensures.within v c.take-turn.ensures.within) in
+    start_keeps (lists.groups t.groups) place a v (turned u) p u.groups c.args.took c.start_in.result (c.start_in.ensures.tells v within made)
+    (subst (λ g0. StartsLists c.args.took place a (turned u) g0 u.groups c.start_in.result) c.make_room.ensures.groups (c.start_in.ensures.lists v within made))
+
+pub returns-in-Err-may_listen-clause-lists : goal.returns-in-Err-may_listen-clause-lists
+returns-in-Err-may_listen-clause-lists g c =
+    let a = c.args.owner.now in
+    let v = turned c.args.worker.now in
+    let w = known c.give_back.new.pass in
+    let asks = c.in-Err-may_listen.ensures.asks in
+    let at = asks.place ∙ (c.make_room.ensures.place ∙ c.take-turn.ensures.place) in
+    subst (λ p. GaveBack c.args.took (a.port % buckets_of c.args.tables.now) a w p c.give_back.new.passes) c.make_room.ensures.groups
+    (subst (λ i. GaveBack c.args.took i a w c.make_room.new.worker.groups c.give_back.new.passes) at
+    (c.give_back.ensures.lists v (asks.within v (c.make_room.ensures.within v c.take-turn.ensures.within))))
+
+pub returns-in-Err-may_listen-clause-listed : goal.returns-in-Err-may_listen-clause-listed
+returns-in-Err-may_listen-clause-listed g c =
+    let a = c.args.owner.now in
+    let end : Result Mine OpEnd = Err c.end_of.result in
+    let t = c.args.tables.now in
+    start_keeps (lists.groups t.groups) (a.port % buckets_of t) a (turned c.args.worker.now) (known c.give_back.new.pass) c.args.worker.now.groups c.give_back.new.passes c.args.took end
+    (returns-in-Err-may_listen-clause-tells g c) (returns-in-Err-may_listen-clause-lists g c)
+
+pub returns-in-Err-clause-lists : goal.returns-in-Err-clause-lists
+returns-in-Err-clause-lists g c =
+    let a = c.args.owner.now in
+    let v = turned c.args.worker.now in
+    let w = known c.give_back-in-Err.new.pass in
+    let at = c.make_room.ensures.place ∙ c.take-turn.ensures.place in
+    subst (λ p. GaveBack c.args.took (a.port % buckets_of c.args.tables.now) a w p c.give_back-in-Err.new.passes) c.make_room.ensures.groups
+    (subst (λ i. GaveBack c.args.took i a w c.make_room.new.worker.groups c.give_back-in-Err.new.passes) at
+    (c.give_back-in-Err.ensures.lists v (c.make_room.ensures.within v c.take-turn.ensures.within)))
+
+pub returns-in-Err-clause-listed : goal.returns-in-Err-clause-listed
+returns-in-Err-clause-listed g c =
+    let a = c.args.owner.now in
+    let end : Result Mine OpEnd = Err errors.Memory in
+    let t = c.args.tables.now in
+    start_keeps (lists.groups t.groups) (a.port % buckets_of t) a (turned c.args.worker.now) (known c.give_back-in-Err.new.pass) c.args.worker.now.groups c.give_back-in-Err.new.passes c.args.took end
+    (returns-in-Err-clause-tells g c) (returns-in-Err-clause-lists g c)

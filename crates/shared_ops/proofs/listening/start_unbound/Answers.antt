@@ -14,6 +14,9 @@ use Rattle.shared_ops.specs.Stands.{buckets_of, chained, turned}
 use Rattle.shared_ops.proofs.BindGoes.{search_finds, search_fails, search_stops, search_away, stop_away}
 use Rattle.shared_ops.proofs.Goes.{carried_both}
 use Rattle.shared_ops.proofs.ListenStands.{search_stands, taken_stands, taken_kept}
+use Rattle.reuseport_group.specs.Passes as lists
+use Rattle.shared_ops.proofs.Lists.{kept_past, sparing_keeps, bound_spares, nowhere_spares, not_yet_spares}
+use Rattle.shared_ops.proofs.ListTurns.{taken_lists}
 use Rattle.shared_ops.proofs.listening.start_unbound.Goals as goal
 
 pub start-requires-clause-stands : goal.start-requires-clause-stands
@@ -108,3 +111,39 @@ returns-in-Err-Memory-clause-kept g c =
     let u = known c.find_bind.new.pass in
     let at = subst (λ (b : Owner). BindsNotYet n b c.args.ports v u) c.bound_at-wanted.ensures (c.find_bind.ensures.memory (c.in-Err-Memory.is ∙ ap Err c.in-Err-Memory.field-0-is)) in
     stop_away n (bound_at a 0 0) v u c.args.ports refl c.requires.away at
+
+pub returns-in-Ok-clause-lists : goal.returns-in-Ok-clause-lists
+returns-in-Ok-clause-lists g c =
+    let n = buckets_of c.args.tables.now in
+    let b = c.bound_at-bound.result in
+    let u = known c.find_bind.new.pass in
+    let w = c.start.new.worker in
+    taken_lists n b u (turned w) c.args.worker.now.groups w.groups c.args.owner.name c.start.result (ap (λ (o : Owner). o.name) c.bound_at-bound.ensures) c.start.ensures.tells c.start.ensures.lists
+
+pub returns-in-Ok-clause-listed : goal.returns-in-Ok-clause-listed
+returns-in-Ok-clause-listed g c =
+    let a = c.args.owner in
+    let t = c.args.tables.now in
+    let n = buckets_of t in
+    let v = turned c.args.worker.now in
+    let u = known c.find_bind.new.pass in
+    let w = c.start.new.worker in
+    kept_past (lists.groups t.groups) v u (turned w) c.args.worker.now.groups w.groups (bound_spares n c.bound_at-wanted.result c.args.ports v u c.in-Ok.port c.in-Ok.ensures.bound) c.start.ensures.listed
+
+pub returns-in-Err-NoPort-clause-listed : goal.returns-in-Err-NoPort-clause-listed
+returns-in-Err-NoPort-clause-listed g c =
+    let a = c.args.owner in
+    let t = c.args.tables.now in
+    let n = buckets_of t in
+    let v = turned c.args.worker.now in
+    let u = known c.find_bind.new.pass in
+    sparing_keeps (lists.groups t.groups) v u c.args.worker.now.groups (nowhere_spares n c.bound_at-wanted.result c.args.ports v u (c.find_bind.ensures.no_port (c.in-Err-NoPort.is ∙ ap Err c.in-Err-NoPort.field-0-is)))
+
+pub returns-in-Err-Memory-clause-listed : goal.returns-in-Err-Memory-clause-listed
+returns-in-Err-Memory-clause-listed g c =
+    let a = c.args.owner in
+    let t = c.args.tables.now in
+    let n = buckets_of t in
+    let v = turned c.args.worker.now in
+    let u = known c.find_bind.new.pass in
+    sparing_keeps (lists.groups t.groups) v u c.args.worker.now.groups (not_yet_spares n c.bound_at-wanted.result c.args.ports v u (c.find_bind.ensures.memory (c.in-Err-Memory.is ∙ ap Err c.in-Err-Memory.field-0-is)))

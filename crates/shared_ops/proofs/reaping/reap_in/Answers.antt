@@ -10,6 +10,7 @@ use Rattle.table_model.specs.Own.{Mine, card_of}
 use Rattle.shared_ops.specs.Stands.{buckets_of}
 use Rattle.shared_ops.proofs.Goes.{asked_all}
 use Rattle.shared_ops.proofs.ReapGoes.{reap_entry, reap_found, reap_none}
+use Rattle.shared_ops.proofs.Lists.{made_none, made_more, given_spares}
 use Rattle.shared_ops.proofs.reaping.reap_in.Goals as goal
 
 pub returns-in-Some-clause-reaps : goal.returns-in-Some-clause-reaps
@@ -35,3 +36,17 @@ returns-in-None-clause-reaps g c = λ v within rest n.
     let same : c.card_as-card.result ≡ card_of kinds.TimeWait m = c.card_as-card.ensures ∙ ap (λ (x : Mine). card_of kinds.TimeWait x) c.waiting.view_is in
     let all = asked_all place place [] v u (made c.args.worker.now.turns c.args.turn) refl (ap (λ (ms : List Note). entries_of ms) c.requires.made) (c.give-in-None.ensures.gave v within) in
     reap_none (buckets_of t) m rest n v u (side_of t.chains c.args.worker.now.chain) (side_of t.chains c.remove_tw.new.pass) place c.card_as-card.result same c.in-None.ensures.reaps all
+
+pub returns-in-Some-clause-spares : goal.returns-in-Some-clause-spares
+returns-in-Some-clause-spares g c = λ v within.
+    let p = c.args.worker.now.turns in
+    let asks = c.remove_waiting-known.ensures.asks in
+    let q = c.remove_waiting-known.new.pass in
+    let turn = c.remove_waiting-known.new.turn in
+    given_spares turn.place v (known c.give.new.pass) (made q turn) (c.give.ensures.gave v (asks.within v within))
+    (made_more c.args.tables.now.buckets p c.args.turn q turn _ _ asks (made_none (made p c.args.turn) c.requires.made) tt)
+
+pub returns-in-None-clause-spares : goal.returns-in-None-clause-spares
+returns-in-None-clause-spares g c = λ v within.
+    let ms = made c.args.worker.now.turns c.args.turn in
+    given_spares c.args.turn.place v (known c.give-in-None.new.pass) ms (c.give-in-None.ensures.gave v within) (made_none ms c.requires.made)

@@ -11,6 +11,7 @@ use Rattle.shared_ops.specs.Searching.{free_entry, TriesAt}
 use Rattle.shared_ops.specs.Stands.{buckets_of, turned}
 use Rattle.shared_ops.proofs.Goes.{asked_all}
 use Rattle.shared_ops.proofs.SearchGoes.{held_entry, tries_held, tries_left, keeps_from, try_away, still_away}
+use Rattle.shared_ops.proofs.Lists.{made_none, made_more, given_spares}
 use Rattle.shared_ops.proofs.searching.connect_at.Goals as goal
 
 pub returns-in-Ok-free-clause-drawn : goal.returns-in-Ok-free-clause-drawn
@@ -19,7 +20,7 @@ returns-in-Ok-free-clause-drawn g c = λ more has.
 
 pub returns-in-Ok-free-clause-keeps : goal.returns-in-Ok-free-clause-keeps
 returns-in-Ok-free-clause-keeps g c =
-    let x : Worker = record { turns = c.free.new.pass; chain = c.make_room.new.worker.chain } in
+    let x : Worker = record { turns = c.free.new.pass; chain = c.make_room.new.worker.chain; groups = c.make_room.new.worker.groups } in
     keeps_from c.args.worker.now x c.connect_in.new.worker c.connect_in.result (λ n has. subst (λ (s : Side). HasShares n s.view) (sym c.make_room.ensures.side) has) c.connect_in.ensures.keeps
 
 pub returns-in-Ok-free-clause-tries : goal.returns-in-Ok-free-clause-tries
@@ -91,3 +92,27 @@ returns-in-Err-clause-leaves g c =
     let all = asked_all c.make_room.new.turn.place (a.port % n) [] v w (made c.make_room.new.worker.turns c.make_room.new.turn) place (ap (λ (ms : List Note). entries_of ms) (c.make_room.ensures.made ∙ c.take-turn.ensures.none))
     (c.give-in-Err.ensures.gave v (c.make_room.ensures.within v c.take-turn.ensures.within)) in
     still_away a.name (a.port % n) v w c.requires.away all
+
+pub returns-in-Ok-free-clause-spares : goal.returns-in-Ok-free-clause-spares
+returns-in-Ok-free-clause-spares g c =
+    let v = turned c.args.worker.now in
+    let asks = c.in-Ok-free.ensures.asks in
+    let once = asks.made_is ∙ ap (λ (ms : List Note). entries_of ms ++ free_entry c.args.full.port ∷ []) (c.make_room.ensures.made ∙ c.take-turn.ensures.none) in
+    c.connect_in.ensures.spares v (asks.within v (c.make_room.ensures.within v c.take-turn.ensures.within)) once
+
+pub returns-in-Err-free-clause-spares : goal.returns-in-Err-free-clause-spares
+returns-in-Err-free-clause-spares g c =
+    let v = turned c.args.worker.now in
+    let within = c.make_room.ensures.within v c.take-turn.ensures.within in
+    let none = made_none (made c.make_room.new.worker.turns c.make_room.new.turn) (c.make_room.ensures.made ∙ c.take-turn.ensures.none) in
+    let asks = c.in-Err-free.ensures.asks in
+    let p = c.make_room.new.worker.turns in
+    given_spares c.free.new.turn.place v (known c.give.new.pass) (made c.free.new.pass c.free.new.turn) (c.give.ensures.gave v (asks.within v within))
+    (made_more c.args.tables.now.buckets p c.make_room.new.turn c.free.new.pass c.free.new.turn _ _ asks none tt)
+
+pub returns-in-Err-clause-spares : goal.returns-in-Err-clause-spares
+returns-in-Err-clause-spares g c =
+    let v = turned c.args.worker.now in
+    let within = c.make_room.ensures.within v c.take-turn.ensures.within in
+    let none = made_none (made c.make_room.new.worker.turns c.make_room.new.turn) (c.make_room.ensures.made ∙ c.take-turn.ensures.none) in
+    given_spares c.make_room.new.turn.place v (known c.give-in-Err.new.pass) (made c.make_room.new.worker.turns c.make_room.new.turn) (c.give-in-Err.ensures.gave v within) none

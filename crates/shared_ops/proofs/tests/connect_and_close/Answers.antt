@@ -1,4 +1,4 @@
-use Rattle.std.proofs.Common.{◌+◌, ◌≤◌, arith}
+use Rattle.std.proofs.Common.{◌+◌, arith}
 use Rattle.shared_ops.specs.Stands.{MayDraw}
 use Rattle.shared_ops.proofs.tests.connect_and_close.Goals as goal
 
