@@ -22,3 +22,7 @@ pub mod Taking
 pub mod Running
 pub mod Sharing
 pub mod Working
+pub mod Finishing
+pub mod Telling
+pub mod ForRace
+pub mod Crossing

@@ -1,5 +1,5 @@
 -- A section, command by command.
-use Rattle.std.proofs.Common.{◌≡◌, ℕ, zero, suc, ◌+◌, ◌*◌, ◌<◌, ◌≤◌, List, [], ◌∷◌, ◌++◌, length, get_or, refl, sym, ap, ◌∙◌, subst, arith}
+use Rattle.std.proofs.Common.{◌≡◌, ℕ, zero, suc, ◌*◌, ◌<◌, ◌≤◌, List, [], ◌∷◌, ◌++◌, length, get_or, refl, sym, ap, ◌∙◌, subst, arith}
 use Rattle.list_words.specs.Lists.{Each}
 use Rattle.list_words.proofs.EachLemmas.{each_weaken}
 use Rattle.sock_card.specs.declared.owner.State.{State}
@@ -22,7 +22,7 @@ use Rattle.table_rule.specs.declared.view.ReadView.{ReadView}
 use Rattle.chain_deeds.specs.Sides.{Side, IsResting, HoldsNothing}
 use Rattle.shared_ops.specs.declared.tables.Tables.{Tables}
 use Rattle.shared_ops.specs.declared.tables.Worker.{Worker}
-use Rattle.shared_ops.specs.Stands.{IsHashed, MayDraw, chained, turned}
+use Rattle.shared_ops.specs.Stands.{HasGroups, IsHashed, MayDraw, chained, turned}
 use Rattle.section_machine.specs.Begins.{SectionBegins}
 use Rattle.section_machine.specs.Sections.{Did, Kept, kept}
 use Rattle.section_machine.specs.Standing.{AreOf, IsOpen, IsSection, Roll, StandsIn, roll_of}
@@ -58,13 +58,13 @@ open_loads : (t : Tables) (r : Roll) (v : BindView) (c : Side) (number : ℕ) (m
 open_loads t r v c number m o = record { given = o.given; family = o.family; stands = stands_loads m.owner.state t m v c number o.stands }
 
 -- the section of a worker that loaded the clock
-section_loads : (t : Tables) (k : Kept) (w u : Worker) (number : ℕ) → IsSection t k w → u.turns ≡ w.turns → chained t u ≡ loaded (chained t w) number → IsResting t.chains u.chain → IsSection t k u
-section_loads t k w u number s same sees rests =
+section_loads : (t : Tables) (k : Kept) (w u : Worker) (number : ℕ) → IsSection t k w → u.turns ≡ w.turns → u.groups ≡ w.groups → chained t u ≡ loaded (chained t w) number → IsResting t.chains u.chain → IsSection t k u
+section_loads t k w u number s same same_groups sees rests =
     let stand : Each (IsOpen t (roll_of k.own) (turned w) (loaded (chained t w) number)) (roll_of k.own).sockets =
     each_weaken (IsOpen t (roll_of k.own) (turned w) (chained t w)) (IsOpen t (roll_of k.own) (turned w) (loaded (chained t w) number)) (roll_of k.own).sockets (open_loads t (roll_of k.own) (turned w) (chained t w) number) s.stand in
     record {
       tables = s.tables;
-      ready = record { idle = rw same s.ready.idle; rests = rests };
+      ready = record { idle = rw same s.ready.idle; rests = rests; groups = subst (HasGroups t) (sym same_groups) s.ready.groups };
       number = s.number;
       tells = rw same s.tells;
       stand = subst (λ (v : BindView). Each (IsOpen t (roll_of k.own) v (chained t u)) (roll_of k.own).sockets) (ap words.known (sym same))
@@ -94,7 +94,7 @@ module _ (header : Header) (t : Tables) (number : ℕ) where
   module _ (commands more : List Command) (k l : Kept) (w u y : Worker) (replies replies' : List Reply) (command : Command) (reply : Reply) (clock : ℕ)
       (runs : Runs header t number commands k w replies) (section : IsSection t l u) (same_header : l.header ≡ k.header)
       (did_it : Did k.header k.own command (turned w) (turned u) (chained t w) (chained t u) l.own reply)
-      (same : y.turns ≡ u.turns) (sees : (part_of y).chain ≡ seeing (part_of u).chain clock) (next : y.chain.next ≡ u.chain.next) (rests : IsResting t.chains y.chain)
+      (same : y.turns ≡ u.turns) (same_groups : y.groups ≡ u.groups) (sees : (part_of y).chain ≡ seeing (part_of u).chain clock) (next : y.chain.next ≡ u.chain.next) (rests : IsResting t.chains y.chain)
       (later : (part_of u).chain.seen ≤ clock) (few : clock < open-end) (settled : AllSettled (part_of y).chain clock)
       (commands_are : more ≡ commands ++ command ∷ []) (replies_are : replies' ≡ replies ++ reply ∷ [])
     where
@@ -116,7 +116,7 @@ module _ (header : Header) (t : Tables) (number : ℕ) where
       -- one command more
       pub runs_more : Runs header t number more l y replies'
       runs_more = record {
-        section = section_loads t l u y clock section same side rests;
+        section = section_loads t l u y clock section same same_groups side rests;
         header_is = same_header ∙ runs.header_is;
         turn_part = ap words.parts same ∙ did.gave.parts ∙ runs.turn_part;
         chain_part = ap (λ (v : View). v.slot.parts) sees ∙ made.parts ∙ runs.chain_part;
@@ -134,7 +134,7 @@ module _ (header : Header) (t : Tables) (number : ℕ) where
   -- it is at rest then
   pub runs_rest : (commands : List Command) (k : Kept) (w : Worker) (replies : List Reply) → Runs header t number commands k w replies → IsAtRest t w
   runs_rest commands k w replies r =
-      record { turns = r.section.ready.idle.table; free = r.section.ready.idle.free; rests = r.section.ready.rests; nothing = r.nothing }
+      record { turns = r.section.ready.idle.table; free = r.section.ready.idle.free; rests = r.section.ready.rests; nothing = r.nothing; groups = r.section.ready.groups }
 
   pub runs_done : (commands all : List Command) (k : Kept) (w : Worker) (replies : List Reply) → AreTables header t → commands ≡ all → Runs header t number commands k w replies → SectionDone header number all (part_of w) replies
   runs_done commands all k w replies are is r =

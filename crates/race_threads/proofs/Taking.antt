@@ -68,3 +68,11 @@ module _ (done left new : List (Result Job AllocError)) (x : Result Job AllocErr
       where
         range_from : (i m : ℕ) → i < m → range_with_len (i + 1) (m - i) ≡ (i + 1) ∷ range_with_len (i + 1 + 1) (m - (i + 1))
         range_from i m l = ap (range_with_len (i + 1)) (let e : m - i ≡ suc (m - (i + 1)) = omega (arith, l) in e)
+
+-- one outcome more
+pub one_more : (given all : List Outcome) (x : Outcome) → all ≡ given ++ x ∷ [] → length all ≡ length given + 1
+one_more given all x is = ap length is ∙ longer given x
+  where
+    longer : (l : List Outcome) (x : Outcome) → length (l ++ x ∷ []) ≡ length l + 1
+    longer [] x = refl
+    longer (y ∷ l) x = omega (arith, longer l x)

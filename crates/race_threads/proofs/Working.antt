@@ -1,5 +1,5 @@
 -- A job, by the script.
-use Rattle.std.proofs.Common.{◌≡◌, ℕ, zero, suc, ◌+◌, ◌-◌, ◌<◌, ◌≤◌, List, [], ◌∷◌, length, map, get_or, refl, sym, ap, ◌∙◌, subst, arith}
+use Rattle.std.proofs.Common.{◌≡◌, ℕ, zero, suc, ◌+◌, ◌-◌, ◌<◌, ◌≤◌, ◌^◌, List, [], ◌∷◌, length, map, get_or, refl, sym, ap, ◌∙◌, subst, arith}
 use Rattle.capture_reader.specs.declared.packet.Item.{Item}
 use Rattle.flat_list.specs.Script.{Script}
 use Rattle.flat_list.specs.declared.command.Command.{Command}
@@ -9,10 +9,11 @@ use Rattle.race_threads.specs.declared.jobs.Job.{Job}
 use Rattle.race_threads.specs.Jobs.{IsOver}
 use Rattle.race_threads.specs.Races.{SectionDone}
 use Rattle.race_threads.specs.Workers.{part_of}
-use Rattle.race_threads.specs.Scripts.{CanRun, HasRun, HasShared, IsForRace, IsWorked}
+use Rattle.race_threads.specs.Scripts.{IsForRace, LooksNothingUp}
+use Rattle.race_threads.specs.Works.{HasRun, HasShared, IsWorked}
 use Rattle.race_threads.proofs.Running.{each_get}
 
-get_map : {A B : Type 0} (f : A → B) (xs : List A) (i : ℕ) (x : A) (e : B) → i < length xs → x ≡ get_or xs i x → get_or (map f xs) i e ≡ f x
+pub get_map : {A B : Type 0} (f : A → B) (xs : List A) (i : ℕ) (x : A) (e : B) → i < length xs → x ≡ get_or xs i x → get_or (map f xs) i e ≡ f x
 get_map f [] i x e l is = absurd (omega (arith, l))
 get_map f (y ∷ ys) zero x e l is = ap f (sym is)
 get_map f (y ∷ ys) (suc i) x e l is = get_map f ys i x e (omega (arith, l)) is
@@ -28,8 +29,11 @@ commands_at f script xs i x all l is = sym (ap (λ (l : List (List Command)). ge
 pub count_is : {A : Type 0} (f : A → List Command) (script : Script) (xs : List A) → map f xs ≡ script.sections → length xs ≡ length script.sections
 count_is f script xs all = sym (len_map f xs) ∙ ap (λ (l : List (List Command)). length l) all
 
-pub can_run : (script : Script) (i : ℕ) (commands : List Command) → IsForRace script → i < length script.sections → commands ≡ get_or script.sections i [] → CanRun commands
-can_run script i commands fits l is = subst CanRun (sym is) (each_get CanRun script.sections i [] fits.sections l)
+pub few_in : (script : Script) (i : ℕ) (commands : List Command) → IsForRace script → i < length script.sections → commands ≡ get_or script.sections i [] → length commands < 2 ^ 24
+few_in script i commands fits l is = subst (λ (cs : List Command). length cs < 2 ^ 24) (sym is) (each_get (λ (cs : List Command). length cs < 2 ^ 24) script.sections i [] fits.small.commands l)
+
+pub looks_in : (script : Script) (i : ℕ) (commands : List Command) → IsForRace script → i < length script.sections → commands ≡ get_or script.sections i [] → LooksNothingUp commands
+looks_in script i commands fits l is = subst LooksNothingUp (sym is) (each_get LooksNothingUp script.sections i [] fits.looks l)
 
 module _ (script : Script) (all : List Item) (lookers : ℕ) (t : Tables) (n : ℕ) (j : Job) (over : IsOver t j) where
   pub worked_section : n < length script.sections → HasRun script.header (n + 1) (get_or script.sections n []) j → IsWorked script all lookers t n j

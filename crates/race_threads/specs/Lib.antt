@@ -10,3 +10,6 @@ pub mod Jobs
 pub mod Laws
 pub mod Shares
 pub mod Scripts
+pub mod Works
+pub mod Finished
+pub mod Told

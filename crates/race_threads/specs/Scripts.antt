@@ -1,59 +1,35 @@
--- The scripts of which there can be a race, and what came of one of its jobs: our own.
-use Rattle.std.specs.Prelude.{◌≡◌, ℕ, ◌+◌, ◌-◌, ◌%◌, ◌^◌, ◌<◌, ◌≤◌, false, List, [], length, slice_index_or, Result, IfOk}
-use Rattle.std.specs.declared.alloc.AllocError.{AllocError}
+-- The scripts of which there can be a race: our own limits, and a range of ports as ip(7) wants it of ip_local_port_range,
+-- whose two halves a search tries one after the other.
+use Rattle.std.specs.Prelude.{◌≡◌, ℕ, ◌+◌, ◌%◌, ◌^◌, ◌<◌, ◌≤◌, false, List}
 use Rattle.list_words.specs.Lists.{Each}
-use Rattle.capture_reader.specs.declared.packet.Item.{Item}
-use Rattle.chain_deeds.specs.Sizes.{IsSized}
 use Rattle.flat_list.specs.Ports.{size}
-use Rattle.flat_list.specs.Script.{Script}
+use Rattle.flat_list.specs.Script.{Script, IsSmall}
 use Rattle.flat_list.specs.declared.command.Command.{Command}
 use Rattle.flat_list.specs.declared.header.Header.{Header}
-use Rattle.shared_ops.specs.declared.tables.Tables.{Tables}
+use Rattle.sock_script.specs.declared.parse.Mode.TheVariants as modes
+use Rattle.sock_script.specs.Grammar.{IsScript}
 use Rattle.table_model.specs.Means.{is_lookup}
-use Rattle.race_threads.specs.declared.jobs.Job.{Job}
-use Rattle.race_threads.specs.Jobs.{IsOver}
-use Rattle.race_threads.specs.Lookers.{HasLooked, took_from}
-use Rattle.race_threads.specs.Races.{SectionDone}
-use Rattle.race_threads.specs.Shares.{run_end}
-use Rattle.race_threads.specs.Workers.{part_of}
 
 -- tables can be made of what the header says, and ports be drawn from its range
 pub record FitsRace (header : Header) : Type 0 where
-  pub some : 1 ≤ header.shape.bind
+  pub bind : 1 ≤ header.shape.bind
   pub most : header.shape.bind ≤ 256
-  pub sized : IsSized header.shape
+  pub hash : 1 ≤ header.shape.hash
+  pub listen : 1 ≤ header.shape.listen
+  pub chains : header.shape.hash + header.shape.listen < 2 ^ 32
   pub slots : header.shape.slots + 1 < 2 ^ 32
   pub range : header.range.low ≤ header.range.high
   pub even : size header.range % 2 ≡ 0
 
--- a section that looks nothing up, with fewer commands than a section can name labels
-pub record CanRun (commands : List Command) : Type 0 where
-  pub few : length commands + 1 < 2 ^ 24
-  pub looks : Each (λ (c : Command). is_lookup c ≡ false) commands
+-- none of the commands looks anything up
+abbrev pub LooksNothingUp : List Command → Type 0
+LooksNothingUp commands = Each (λ (c : Command). is_lookup c ≡ false) commands
 
 pub record IsForRace (script : Script) : Type 0 where
   pub header : FitsRace script.header
-  pub few : length script.sections ≤ 64
-  pub sections : Each CanRun script.sections
+  pub small : IsSmall script
+  pub looks : Each LooksNothingUp script.sections
 
--- the section was done, and told of no item
-pub record HasRun (header : Header) (n : ℕ) (commands : List Command) (j : Job) : Type 0 where
-  pub done : SectionDone header n commands (part_of j.worker) j.replies.items
-  pub told : j.told.items ≡ []
-
--- the share behind those of so many lookers was looked up, and nothing else was done
-pub record HasShared (header : Header) (all : List Item) (lookers at : ℕ) (j : Job) : Type 0 where
-  pub looked : HasLooked header all (part_of j.worker) (took_from (run_end (length all) lookers at) j.told.items)
-  pub count : run_end (length all) lookers at + length j.told.items ≡ run_end (length all) lookers (at + 1)
-  pub replies : j.replies.items ≡ []
-
--- the job of that number was done: the sections come first
-pub record IsWorked (script : Script) (all : List Item) (lookers : ℕ) (t : Tables) (n : ℕ) (j : Job) : Type 0 where
-  pub over : IsOver t j
-  pub section : n < length script.sections → HasRun script.header (n + 1) (slice_index_or script.sections n []) j
-  pub looker : length script.sections ≤ n → HasShared script.header all lookers (n - length script.sections) j
-
--- so was each of so many jobs for which memory did not run out
-abbrev pub AllWorked : Script → List Item → ℕ → Tables → ℕ → List (Result Job AllocError) → Type 0
-AllWorked script all lookers t count done =
-    (i : ℕ) (d : Result Job AllocError) → i < count → IfOk (slice_index_or done i d) (IsWorked script all lookers t i)
+-- so is each small script that a text is by the grammar of a race
+abbrev pub ScriptsAreForRace : Type 0
+ScriptsAreForRace = (text : List ℕ) (script : Script) → IsScript modes.Race text script → IsSmall script → IsForRace script

@@ -3,12 +3,13 @@ use Rattle.std.specs.Prelude.{◌≡◌, ℕ, ◌+◌, ◌≤◌, []}
 use Rattle.bind_buckets.specs.declared.request.Sharing.TheVariants as sharings
 use Rattle.chain_deeds.specs.Sides.{IsResting, HoldsNothing}
 use Rattle.flat_list.specs.declared.header.Header.{Header}
+use Rattle.reuseport_group.specs.Passes as lists
 use Rattle.table_rule.specs.Passes as chain_words
 use Rattle.turn_table.specs.Passes as words
 use Rattle.turn_table.specs.Passes.{IsPassOf, IsFree, known}
 use Rattle.shared_ops.specs.declared.tables.Tables.{Tables}
 use Rattle.shared_ops.specs.declared.tables.Worker.{Worker}
-use Rattle.shared_ops.specs.Stands.{IsReady, buckets_of, turned, chained}
+use Rattle.shared_ops.specs.Stands.{HasGroups, IsReady, buckets_of, turned, chained}
 use Rattle.race_threads.specs.Joins.{Part, IsBlank}
 use Rattle.race_threads.specs.Sections.{HasNothing, layout_in}
 
@@ -29,12 +30,14 @@ pub record IsAtRest (t : Tables) (w : Worker) : Type 0 where
   pub free : IsFree w.turns
   pub rests : IsResting t.chains w.chain
   pub nothing : HoldsNothing (part_of w).chain
+  pub groups : HasGroups t w.groups
 
 -- the first worker, which has done nothing, after it split off so many
 pub record IsFirst (t : Tables) (before : ℕ) (w : Worker) : Type 0 where
   pub rest : IsAtRest t w
   pub turn_parts : words.parts w.turns + before ≡ 16384
   pub chain_parts : (part_of w).chain.slot.parts + before ≡ 16384
+  pub group_parts : lists.parts w.groups + before ≡ 16384
   pub caller : words.caller w.turns ≡ 0
   pub splits : words.splits w.turns ≡ before
   pub seen : (part_of w).chain.seen ≡ 0

@@ -79,6 +79,7 @@ pub fn gather(
     ensures joined { IfOk result
         (λ given. (other : Part) → IsGathered (part_in other done.items) 0 (length done.items) (part_of first.new)) }
     ensures outcomes { IfOk result (λ given. given.items ≡ outcomes_in done.items) }
+    ensures count { IfOk result (λ given. length given.items ≡ length done.items) }
 {
     let mut given = Vec::with_capacity(alloc, done.len())?;
     let mut left = done;

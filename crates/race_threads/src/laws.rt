@@ -1,6 +1,7 @@
 //! What follows from what workers did.
 
 ghost use Rattle.race_threads.specs.Laws as law;
+ghost use Rattle.race_threads.specs.Scripts.{ScriptsAreForRace};
 
 /// What deeds leave, one after the other, and a section's commands.
 pub fn sections()
@@ -38,4 +39,9 @@ pub fn lookers()
     ensures past { law.LooksPast }
     ensures buckets { law.NamesBuckets }
     ensures runs { law.RunsAreTold }
+{}
+
+/// There can be a race of each small script that a text is by the grammar of a race.
+pub fn for_race()
+    ensures { ScriptsAreForRace }
 {}

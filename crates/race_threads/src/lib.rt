@@ -1,19 +1,33 @@
 //! The race of a script: what its workers did beside each other is one record.
 //!
-//! Our own. Each section runs on a worker of its own, beside lookers; [`worker`] splits workers off the first one, and
-//! takes them in again, and [`jobs`] deals them out. [`laws`] says what follows from what they did: a section's deeds,
-//! command by command, with a load of the clock behind each (`specs/Made`, `specs/Sections`); the first worker, as
-//! others are joined to it in whatever order (`specs/Joins`); and, once all are joined, the clock is loaded and the
-//! bind buckets are taken, that the record is lawful (`specs/Races`, `specs/Lookers`). [`section`] carries a section
-//! out, [`share`] a looker's share of the capture by [`looker`], and [`work`] whichever of both a job is; [`start`]
-//! makes the tables.
+//! Our own. [`race`] is all of it. [`start`] makes the tables, [`worker`] splits workers off the first one and takes them
+//! in again, and [`jobs`] deals them out, one for each section and each looker. [`section`] carries a section out,
+//! [`share`] a looker's share of the capture by [`looker`], and [`work`] whichever of both a job is; [`threads`] does all
+//! jobs beside each other. [`finish`] ends the race, and [`tell`] makes of what it left what is written.
+//!
+//! [`laws`] says what follows from what workers did: a section's deeds, command by command, with a load of the clock
+//! behind each (`specs/Made`, `specs/Sections`); the first worker, as others are joined to it in whatever order
+//! (`specs/Joins`); and, once all are joined, the clock is loaded and the bind buckets are taken, that the record is lawful
+//! (`specs/Races`, `specs/Lookers`).
+//!
+//! ```text
+//! let record = race(&rt, alloc, &script, &capture, lookers, passes, &Open)?;
+//! ```
 #![tactic(auto)]
 
+pub mod finish;
 pub mod jobs;
 pub mod laws;
 pub mod looker;
+pub mod racing;
 pub mod section;
 pub mod share;
 pub mod start;
+pub mod tell;
+#[cfg(test)]
+mod tests;
+pub mod threads;
 pub mod work;
 pub mod worker;
+
+pub use racing::race;

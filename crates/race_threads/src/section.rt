@@ -35,7 +35,7 @@ pub fn run_section<R: Wait, G: Gate>(
     requires number { number ≤ 64 }
     requires range { header.now.range.low ≤ header.now.range.high }
     requires even { size header.now.range % 2 ≡ 0 }
-    requires few { length commands.now + 1 < 2 ^ 24 }
+    requires few { length commands.now < 2 ^ 24 }
     requires looks { Each (λ c. is_lookup c ≡ false) commands.now }
     ensures rest { IfOk result (λ replies. IsAtRest tables.now worker.new) }
     ensures turn_part { IfOk result (λ replies. words.parts worker.new.turns ≡ 1) }

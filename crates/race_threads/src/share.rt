@@ -12,7 +12,6 @@ use capture_reader::Item;
 use inet_io::Gate;
 use null_reader::Still;
 use race_record::Looked;
-use reuseport_group::Groups;
 use shared_ops::{Tables, Worker};
 use std::alloc::{AllocError, Global};
 
@@ -27,8 +26,7 @@ fn end_of(items: usize, lookers: usize, count: usize) -> usize
     (items / lookers).saturating_mul(count).min(items)
 }
 
-/// Looks up the items of the looker's share, where `at` lookers come before it. No section makes a list of a group, so
-/// it has lists of its own, which are empty.
+/// Looks up the items of the looker's share, where `at` lookers come before it.
 ///
 /// # Errors
 ///
@@ -48,7 +46,6 @@ pub fn look_share<G: Gate>(
     requires inside { at < lookers }
     requires few { lookers < 2 ^ 13 }
     requires passes { 0 < passes }
-    requires groups { tables.now.chains.layout.shape.bind ≤ 256 }
     ensures rest { IfOk result (λ told. IsAtRest tables.now worker.new) }
     ensures turn_part { IfOk result (λ told. words.parts worker.new.turns ≡ 1) }
     ensures chain_part { IfOk result (λ told. (part_of worker.new).chain.slot.parts ≡ 1) }
@@ -59,15 +56,14 @@ pub fn look_share<G: Gate>(
         → HasLooked header items.now (part_of worker.new)
         (took_from (run_end (length items.now) lookers at) told.items)) }
 {
-    let (groups, mut group_passes) = Groups::new(alloc, 8 * tables.chains.layout.shape.bind)?;
     let first = end_of(items.len(), lookers, at);
     let last = end_of(items.len(), lookers, at + 1);
     let told = look_run(
         alloc,
         &tables.chains,
-        &groups,
+        &tables.groups,
         &mut worker.chain,
-        &mut group_passes,
+        &mut worker.groups,
         items,
         first,
         last,

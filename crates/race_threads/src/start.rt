@@ -7,6 +7,7 @@ ghost use Rattle.race_threads.specs.Workers.{AreTables, IsFirst};
 use bind_buckets::{Sharing, turning};
 use chain_deeds::ChainTable;
 use flat_list::Header;
+use reuseport_group::Groups;
 use shared_ops::{Tables, Worker};
 use std::alloc::{AllocError, Global};
 
@@ -22,5 +23,16 @@ pub fn start(alloc: Global, header: &Header) -> Result<(Tables, Worker), AllocEr
 {
     let (buckets, turns) = turning::with_buckets(alloc, header.shape.bind, Sharing::Shared)?;
     let (chains, chain) = ChainTable::new(alloc, header.shape, header.seed)?;
-    Ok((Tables { buckets, chains }, Worker { turns, chain }))
+    let (groups, passes) = Groups::new(alloc, 8 * header.shape.bind)?;
+    let tables = Tables {
+        buckets,
+        chains,
+        groups,
+    };
+    let worker = Worker {
+        turns,
+        chain,
+        groups: passes,
+    };
+    Ok((tables, worker))
 }

@@ -2,8 +2,9 @@
 
 ghost use Rattle.std.specs.Prelude.{◌≡◌, ◌+◌, ◌^◌, ◌<◌, length, IfOk};
 ghost use Rattle.race_threads.specs.Jobs.{IsReady};
-ghost use Rattle.race_threads.specs.Scripts.{IsForRace, IsWorked};
+ghost use Rattle.race_threads.specs.Scripts.{IsForRace};
 ghost use Rattle.race_threads.specs.Workers.{AreTables};
+ghost use Rattle.race_threads.specs.Works.{IsWorked};
 
 use crate::jobs::Job;
 use crate::section::run_section;

@@ -23,6 +23,7 @@ pub fn split(alloc: Global, tables: &Tables, first: &mut Worker) -> Worker
     Worker {
         turns: turning::split(&tables.buckets, &mut first.turns),
         chain: tables.chains.split(alloc, &mut first.chain),
+        groups: first.groups.split(&tables.groups),
     }
 }
 
@@ -39,11 +40,16 @@ pub fn join(tables: &Tables, first: &mut Worker, other: Worker) -> Result<(), Al
     ensures turns { OnOk result ((part_of first.new).turns ≡ joined (part_of first.old).turns (part_of other).turns) }
     ensures chain { OnOk result ((part_of first.new).chain ≡ both (part_of first.old).chain (part_of other).chain) }
 {
-    let Worker { turns, chain } = other;
+    let Worker {
+        turns,
+        chain,
+        groups,
+    } = other;
     first
         .chain
         .reserve(&tables.chains, chain.pass.changes.len())?;
     tables.chains.join(&mut first.chain, chain);
     first.turns.join(&tables.buckets, turns);
+    first.groups.join(&tables.groups, groups);
     Ok(())
 }

@@ -13,6 +13,7 @@ invariant-loop-result l = record {
   few : vec_len l.left ≤ length l.fn.done.items;
   before : l.left.items ≡ take (vec_len l.left) l.fn.done.items;
   joined : (other : Part) → IsGathered (part_in other l.fn.done.items) (vec_len l.left) (length l.fn.done.items) (part_of l.first);
+  counted : length l.given.items + vec_len l.left ≡ length l.fn.done.items;
   outcomes : reverse l.given.items ≡ outcomes_in (drop (vec_len l.left) l.fn.done.items);
 }
 

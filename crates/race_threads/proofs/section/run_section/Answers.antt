@@ -27,10 +27,10 @@ loop-at-preserved g c =
     let at : ℕ = c.loop-at.at in
     let test : at < length c.args.commands.now = omega arith in
     let command = c.index-commands-at.result in
-    let after : Worker = record { turns = c.step.new.worker.turns; chain = c.now-clock.new.pass } in
+    let after : Worker = record { turns = c.step.new.worker.turns; chain = c.now-clock.new.pass; groups = c.step.new.worker.groups } in
     record {
       runs = runs_more c.args.header.now c.args.tables.now c.args.number (take at c.args.commands.now) (take (at + 1) c.args.commands.now) c.loop-at.machine c.step.new.self c.loop-at.worker c.step.new.worker after c.loop-at.replies.items c.push.new.self.items command c.in_ok-reply.reply c.now-clock.result
-          i.runs e.section e.kept.header e.did refl n.sees n.next n.rests n.later (omega arith) n.settled
+          i.runs e.section e.kept.header e.did refl refl n.sees n.next n.rests n.later (omega arith) n.settled
           (take_more c.args.commands.now at command test ∙ ap (λ z. take at c.args.commands.now ++ z ∷ []) (sym c.index-commands-at.is)) c.in_ok-push.ensures.items;
       labels = omega (arith, e.kept.labels, i.labels);
       entered = omega (arith, e.spends.entered, i.entered);

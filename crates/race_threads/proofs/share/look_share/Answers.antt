@@ -22,7 +22,7 @@ returns g c =
     let fresh = c.requires.tables.3 in
     let e = c.in_ok-told.ensures in
     record {
-      rest = record { turns = fresh.rest.turns; free = fresh.rest.free; rests = e.looks.rests; nothing = e.looks.nothing };
+      rest = record { turns = fresh.rest.turns; free = fresh.rest.free; rests = e.looks.rests; nothing = e.looks.nothing; groups = record { many = fresh.rest.groups.many; passes = e.groups } };
       turn_part = fresh.turn_part;
       chain_part = e.part ∙ fresh.chain_part;
       count = omega (arith, e.count, c.end_of-first.ensures, c.end_of-last.ensures);

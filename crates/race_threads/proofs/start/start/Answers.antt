@@ -1,5 +1,6 @@
 use Rattle.std.proofs.Common.{ap, arith}
 use Rattle.bind_buckets.specs.Turned.{View as BindView}
+use Rattle.reuseport_group.specs.declared.view.GroupView.{GroupView}
 use Rattle.table_rule.specs.declared.view.View.{View}
 use Rattle.race_threads.proofs.start.start.Goals as goal
 
@@ -9,12 +10,20 @@ returns c =
     let t = c.in_ok-chains.ensures in
     let v = b.pass.2 in
     let x = t.first in
+    let l = c.in_ok-groups.ensures in
     record {
-      tables = record { layout = t.layout; buckets = b.places; some = omega (arith, b.places, c.requires.some); shared = b.home };
+      tables = record { layout = t.layout; buckets = b.places; some = omega (arith, b.places, c.requires.bind); shared = b.home };
       first = record {
-        rest = record { turns = b.pass.0; free = b.pass.1; rests = t.rests; nothing = record { holds = ap (λ (y : View). y.slot.holds) x; kept = ap (λ (y : View). y.read.kept) x; reader = ap (λ (y : View). y.read.reader) x } };
+        rest = record {
+          turns = b.pass.0;
+          free = b.pass.1;
+          rests = t.rests;
+          nothing = record { holds = ap (λ (y : View). y.slot.holds) x; kept = ap (λ (y : View). y.read.kept) x; reader = ap (λ (y : View). y.read.reader) x };
+          groups = record { many = omega (arith, l.groups, b.places); passes = l.passes.0 };
+        };
         turn_parts = let e = ap (λ (y : BindView). y.parts) v in omega (arith, e);
         chain_parts = let e = ap (λ (y : View). y.slot.parts) x in omega (arith, e);
+        group_parts = let e = ap (λ (y : GroupView). y.parts) l.passes.1 in omega (arith, e);
         caller = ap (λ (y : BindView). y.caller) v;
         splits = ap (λ (y : BindView). y.splits) v;
         seen = ap (λ (y : View). y.seen) x;

@@ -1,15 +1,13 @@
-use Rattle.std.proofs.Common.{◌≡◌, ◌+◌, ◌-◌, ◌%◌, ℕ, [], length, get_or, arith, rules, subst, sym, ap, ◌∙◌, Vec, false}
+use Rattle.std.proofs.Common.{◌≡◌, ◌+◌, ◌-◌, ◌%◌, ℕ, [], length, get_or, arith, rules, subst, sym, ap, ◌∙◌, Vec}
 use Rattle.std.specs.Global.{Global}
-use Rattle.list_words.specs.Lists.{Each}
 use Rattle.flat_list.specs.Ports.{size}
 use Rattle.flat_list.specs.declared.header.Header.{Header}
 use Rattle.flat_list.specs.declared.command.Command.{Command}
-use Rattle.table_model.specs.Means.{is_lookup}
 use Rattle.table_rule.specs.declared.view.Layout.{Layout}
 use Rattle.race_threads.specs.declared.jobs.Job.{Job}
-use Rattle.race_threads.specs.Scripts.{CanRun, FitsRace}
+use Rattle.race_threads.specs.Scripts.{FitsRace, LooksNothingUp}
 use Rattle.race_threads.specs.Workers.{AreTables, IsFresh}
-use Rattle.race_threads.proofs.Working.{commands_at, count_is, can_run, worked_section, worked_looker, shared, ran}
+use Rattle.race_threads.proofs.Working.{commands_at, count_is, few_in, looks_in, worked_section, worked_looker, shared, ran}
 use Rattle.race_threads.proofs.work.work.Goals as goal
 
 pub run_section-requires-clause-tables : goal.run_section-requires-clause-tables
@@ -26,7 +24,7 @@ run_section-requires-clause-worker g c =
 pub run_section-requires-clause-number : goal.run_section-requires-clause-number
 run_section-requires-clause-number g c =
     let count = count_is (λ (v : Vec Command Global). v.items) c.args.script.now c.sections-sections.result.now c.sections-sections.ensures in
-    let few = c.requires.script.few in
+    let few = c.requires.script.small.sections in
     omega (arith, count, few, c.if-number-sections.true)
 
 pub run_section-requires-clause-range : goal.run_section-requires-clause-range
@@ -45,16 +43,14 @@ pub run_section-requires-clause-few : goal.run_section-requires-clause-few
 run_section-requires-clause-few g c =
     let count = count_is (λ (v : Vec Command Global). v.items) c.args.script.now c.sections-sections.result.now c.sections-sections.ensures in
     let is = c.as_slice.ensures.value ∙ commands_at (λ (v : Vec Command Global). v.items) c.args.script.now c.sections-sections.result.now c.args.job.number c.index-sections-number.result c.sections-sections.ensures c.if-number-sections.true c.index-sections-number.is in
-    let can : CanRun c.as_slice.result.now = can_run c.args.script.now c.args.job.number c.as_slice.result.now c.requires.script (omega (arith, count, c.if-number-sections.true)) is in
-    let few = can.few in
+    let few = few_in c.args.script.now c.args.job.number c.as_slice.result.now c.requires.script (omega (arith, count, c.if-number-sections.true)) is in
     omega (arith, few)
 
 pub run_section-requires-clause-looks : goal.run_section-requires-clause-looks
 run_section-requires-clause-looks g c =
     let count = count_is (λ (v : Vec Command Global). v.items) c.args.script.now c.sections-sections.result.now c.sections-sections.ensures in
     let is = c.as_slice.ensures.value ∙ commands_at (λ (v : Vec Command Global). v.items) c.args.script.now c.sections-sections.result.now c.args.job.number c.index-sections-number.result c.sections-sections.ensures c.if-number-sections.true c.index-sections-number.is in
-    let can : CanRun c.as_slice.result.now = can_run c.args.script.now c.args.job.number c.as_slice.result.now c.requires.script (omega (arith, count, c.if-number-sections.true)) is in
-    let looks : Each (λ (x : Command). is_lookup x ≡ false) c.as_slice.result.now = can.looks in
+    let looks : LooksNothingUp c.as_slice.result.now = looks_in c.args.script.now c.args.job.number c.as_slice.result.now c.requires.script (omega (arith, count, c.if-number-sections.true)) is in
     search rules
 
 pub look_share-requires-clause-tables : goal.look_share-requires-clause-tables
@@ -67,12 +63,6 @@ pub look_share-requires-clause-inside : goal.look_share-requires-clause-inside
 look_share-requires-clause-inside g c =
     let count = count_is (λ (v : Vec Command Global). v.items) c.args.script.now c.sections-sections.result.now c.sections-sections.ensures in
     omega (arith, count, c.requires.number, c.if-number-sections.false)
-
-pub look_share-requires-clause-groups : goal.look_share-requires-clause-groups
-look_share-requires-clause-groups g c =
-    let layout = ap (λ (l : Layout). l.shape.bind) c.requires.tables.layout in
-    let most = c.requires.script.header.most in
-    omega (arith, layout, most)
 
 pub returns : goal.returns
 returns g c =

@@ -1,0 +1,59 @@
+-- What crosses threads in a race, layer by layer.
+use Rattle.std.proofs.Common.{ℕ}
+use denote.RattleType.{RattleType}
+use denote.Param.{param}
+use denote.Param.Send.{IsSend, IsSync, param_sync, shr_sync, sendable}
+use denote.Ref.{ShrRef}
+use mir.Syntax.{Lifetime}
+use base.Fml.{Lft}
+use Rattle.std.proofs.Crossing.{crosses}
+use Rattle.atomic_table.proofs.shared.Seat.TheSendSync as seat
+use Rattle.atomic_table.proofs.shared.Shared.TheSendSync as shared
+use Rattle.atomic_table.proofs.send_lease.SendLease.TheSendSync as lease
+use Rattle.bind_buckets.specs.contracts.bucket.Bucket as Bucket
+use Rattle.bind_buckets.specs.contracts.journal.Journal as Journal
+use Rattle.bind_buckets.proofs.journal.Log.TheLaws.TheKnot as knot
+use Rattle.bind_buckets.proofs.held.Held.TheSendSync as held
+use Rattle.shared_ops.specs.contracts.tables.Worker as Worker
+use Rattle.shared_ops.specs.contracts.tables.Tables as Tables
+use Rattle.flat_list.proofs.command.Reply.TheSendSync as replies
+use Rattle.flat_list.specs.contracts.script.Script as Script
+use Rattle.flat_list.proofs.script.Script.TheSendSync as scripts
+use Rattle.capture_reader.specs.contracts.capture.Capture as Capture
+use Rattle.capture_reader.proofs.capture.Capture.TheSendSync as captures
+use Rattle.race_record.proofs.record.Looked.TheSendSync as looks
+use Rattle.race_threads.specs.contracts.jobs.Job as Job
+
+journal_send : IsSend Journal.the_row
+journal_send = search (sendable, crosses) depth 30
+
+bucket_send : IsSend Bucket.the_row
+bucket_send = search (sendable, crosses, journal_send, held.the_send) depth 30
+
+worker_send : IsSend Worker.the_row
+worker_send = search (seat.the_send, bucket_send, crosses, knot.crosses, sendable) depth 60 fits 200000
+
+pub job_send : IsSend Job.the_row
+job_send = search (seat.the_send, bucket_send, replies.the_send, looks.the_send, crosses, knot.crosses, sendable) depth 60 fits 400000
+
+pub tables_sync : IsSync Tables.the_row
+tables_sync = search (shared.the_sync, lease.the_sync, bucket_send, crosses, knot.crosses, sendable) depth 60 fits 400000
+
+pub script_sync : IsSync Script.the_row
+script_sync = search (scripts.the_sync, crosses, sendable) depth 60 fits 400000
+
+pub capture_sync : IsSync Capture.the_row
+capture_sync = search (captures.the_sync, crosses, sendable) depth 60 fits 400000
+
+-- each behind a `&`
+pub tables_lent : (l : Lifetime) (k : Lft) → IsSync (ShrRef l k Tables.the_row)
+tables_lent l k = shr_sync l k Tables.the_row tables_sync
+
+pub script_lent : (l : Lifetime) (k : Lft) → IsSync (ShrRef l k Script.the_row)
+script_lent l k = shr_sync l k Script.the_row script_sync
+
+pub capture_lent : (l : Lifetime) (k : Lft) → IsSync (ShrRef l k Capture.the_row)
+capture_lent l k = shr_sync l k Capture.the_row capture_sync
+
+pub lent : (i : ℕ) (T : RattleType) → IsSync T → (l : Lifetime) (k : Lft) → IsSync (ShrRef l k (param i T))
+lent i T s l k = shr_sync l k (param i T) (param_sync i T s)

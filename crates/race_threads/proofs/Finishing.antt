@@ -1,0 +1,296 @@
+-- A race at its end: what its jobs did, section by section and looker by looker.
+use Rattle.std.proofs.Common.{◌≡◌, ℕ, zero, suc, ◌+◌, ◌-◌, ◌*◌, ◌/◌, ◌<◌, ◌≤◌, min, Bool, if◌then◌else◌, List, [], ◌∷◌, ◌++◌, length, map, take, drop, get_or, Result, Ok, Err, IfOk, alloc_error, refl, sym, ap, ◌∙◌, subst, arith}
+use Rattle.std.specs.List.{flat_map, range_with_len}
+use Rattle.std.specs.declared.alloc.AllocError.{AllocError}
+use Rattle.std.proofs.lemmas.Bool.{eq-eqb, ne_eqb}
+use Rattle.std.proofs.lemmas.List.{length-append}
+use mathlib.Core.Logic.{dite}
+use native.Mathlib.Decide.{dec_le}
+use native.Mathlib.Nat.{zero-min}
+use Rattle.capture_reader.specs.declared.packet.Item.{Item}
+use Rattle.flat_list.specs.Script.{Script}
+use Rattle.flat_list.specs.declared.command.Command.{Command}
+use Rattle.flat_list.specs.declared.command.Reply.{Reply}
+use Rattle.flat_list.specs.declared.header.Header.{Header}
+use Rattle.race_record.specs.declared.record.Looked.{Looked}
+use Rattle.shared_ops.specs.Stands.{buckets_of}
+use Rattle.shared_ops.specs.declared.tables.Tables.{Tables}
+use Rattle.shared_ops.specs.declared.tables.Worker.{Worker}
+use Rattle.bind_buckets.specs.Closed.{AreLeft, notes_in}
+use Rattle.turn_table.specs.Ends.{HoldsWhatWasGiven, IsInTheOrderOfEach}
+use Rattle.table_rule.specs.Passes as chain_words
+use Rattle.table_rule.specs.Plays.{seeing}
+use Rattle.table_rule.specs.Sole.{WholeBook}
+use Rattle.table_rule.specs.declared.view.View.{View}
+use Rattle.race_threads.specs.declared.finish.Ended.{Ended}
+use Rattle.race_threads.specs.declared.jobs.Job.{Job}
+use Rattle.race_threads.specs.declared.jobs.Outcome.{Outcome}
+use Rattle.race_threads.specs.Finished.{HasFinished, replies_in, told_in}
+use Rattle.race_threads.specs.Jobs.{AllOver, HasAllParts, IsGathered, IsOver, outcomes_in, part_or, part_in}
+use Rattle.race_threads.specs.Joins.{Part}
+use Rattle.race_threads.specs.Lookers.{HasLooked, AllLooked, took_from, tooks_from, all_told}
+use Rattle.race_threads.specs.Races.{AllDone, HasOnlyLooked, SectionDone}
+use Rattle.race_threads.specs.Shares.{run_end}
+use Rattle.race_threads.specs.Workers.{AreTables, IsAtRest, IsFirst, part_of}
+use Rattle.race_threads.specs.Works.{HasRun, HasShared, IsWorked, AllWorked}
+use Rattle.race_threads.proofs.Working.{get_map}
+
+-- Lists
+
+-- what stands at a place
+pub stands_at : {A : Type 0} (xs : List A) (i : ℕ) → i < length xs → (x : A) × ((d : A) → get_or xs i d ≡ x)
+stands_at [] i l = absurd (omega (arith, l))
+stands_at (x ∷ xs) zero l = (x, λ d. refl)
+stands_at (x ∷ xs) (suc i) l = stands_at xs i (omega (arith, l))
+
+past_end : {A : Type 0} (xs : List A) (i : ℕ) (d : A) → length xs ≤ i → get_or xs i d ≡ d
+past_end [] i d l = refl
+past_end (x ∷ xs) zero d l = absurd (omega (arith, l))
+past_end (x ∷ xs) (suc i) d l = past_end xs i d (omega (arith, l))
+
+len_map : {A B : Type 0} (f : A → B) (xs : List A) → length (map f xs) ≡ length xs
+len_map f [] = refl
+len_map f (x ∷ xs) = omega (arith, len_map f xs)
+
+len_drop : {A : Type 0} (n : ℕ) (xs : List A) → n ≤ length xs → length (drop n xs) + n ≡ length xs
+len_drop zero xs l = omega arith
+len_drop (suc n) [] l = absurd (omega (arith, l))
+len_drop (suc n) (x ∷ xs) l = let e = len_drop n xs (omega (arith, l)) in omega (arith, e)
+
+at_drop : {A : Type 0} (n : ℕ) (xs : List A) (i : ℕ) (d : A) → get_or (drop n xs) i d ≡ get_or xs (n + i) d
+at_drop zero xs i d = ap (λ k. get_or xs k d) (let e : i ≡ 0 + i = omega arith in e)
+at_drop (suc n) [] i d = refl
+at_drop (suc n) (x ∷ xs) i d = at_drop n xs i d ∙ ap (λ k. get_or (x ∷ xs) k d) (let e : suc (n + i) ≡ suc n + i = omega arith in e)
+
+flat_of_map : {A B C : Type 0} (g : B → List C) (h : A → B) (xs : List A) → flat_map g (map h xs) ≡ flat_map (λ x. g (h x)) xs
+flat_of_map g h [] = refl
+flat_of_map g h (x ∷ xs) = ap (λ l. g (h x) ++ l) (flat_of_map g h xs)
+
+-- nothing comes of those behind the first n
+flat_front : {A C : Type 0} (f : A → List C) (n : ℕ) (xs : List A) → ((i : ℕ) (x : A) → n ≤ i → i < length xs → get_or xs i x ≡ x → f x ≡ []) → flat_map f xs ≡ flat_map f (take n xs)
+flat_front f zero [] h = refl
+flat_front f zero (x ∷ xs) h = ap (λ l. l ++ flat_map f xs) (h 0 x (omega arith) (omega arith) refl) ∙ flat_front f zero xs (λ i y a l is. h (suc i) y (omega arith) (omega (arith, l)) is)
+flat_front f (suc n) [] h = refl
+flat_front f (suc n) (x ∷ xs) h = ap (λ l. f x ++ l) (flat_front f n xs (λ i y a l is. h (suc i) y (omega (arith, a)) (omega (arith, l)) is))
+
+-- nothing comes of the first n
+flat_back : {A C : Type 0} (f : A → List C) (n : ℕ) (xs : List A) → ((i : ℕ) (x : A) → i < n → i < length xs → get_or xs i x ≡ x → f x ≡ []) → flat_map f xs ≡ flat_map f (drop n xs)
+flat_back f zero [] h = refl
+flat_back f zero (x ∷ xs) h = refl
+flat_back f (suc n) [] h = refl
+flat_back f (suc n) (x ∷ xs) h = ap (λ l. l ++ flat_map f xs) (h 0 x (omega arith) (omega arith) refl) ∙ flat_back f n xs (λ i y a l is. h (suc i) y (omega (arith, a)) (omega (arith, l)) is)
+
+-- Jobs
+
+abbrev pub outcome : Job → Outcome
+outcome j = record { replies = j.replies; told = j.told }
+
+abbrev pub replied : Job → List Reply
+replied j = j.replies.items
+
+abbrev pub tells : Job → List Looked
+tells j = j.told.items
+
+most_outcomes : (done : List (Result Job AllocError)) → length (outcomes_in done) ≤ length done
+most_outcomes [] = omega arith
+most_outcomes (Ok j ∷ done) = let l = most_outcomes done in omega (arith, l)
+most_outcomes (Err e ∷ done) = let l = most_outcomes done in omega (arith, l)
+
+-- where as many outcomes are there as jobs, no job was ended by want of memory
+pub all_ok : (done : List (Result Job AllocError)) → length (outcomes_in done) ≡ length done → (js : List Job) × (done ≡ map Ok js)
+all_ok [] e = ([], refl)
+all_ok (Ok j ∷ done) e = let r = all_ok done (omega (arith, e)) in (j ∷ r.0, ap (λ l. Ok j ∷ l) r.1)
+all_ok (Err x ∷ done) e = let l = most_outcomes done in absurd (omega (arith, e, l))
+
+outcomes_are : (js : List Job) → outcomes_in (map Ok js) ≡ map outcome js
+outcomes_are [] = refl
+outcomes_are (j ∷ js) = ap (λ l. outcome j ∷ l) (outcomes_are js)
+
+pub all_over : (script : Script) (all : List Item) (lookers : ℕ) (t : Tables) (done : List (Result Job AllocError)) → AllWorked script all lookers t (length done) done → AllOver t done
+all_over script all lookers t done w i d l = over (get_or done i d) (w i d l)
+  where
+    over : (r : Result Job AllocError) → IfOk r (IsWorked script all lookers t i) → IfOk r (IsOver t)
+    over (Ok j) h = h.over
+    over (Err e) h = tt
+
+-- Sections
+
+module _ (header : Header) (part : ℕ → Part) where
+  sections_done : (n : ℕ) (scripts : List (List Command)) (js : List Job) → length scripts ≤ length js
+      → ((i : ℕ) (j : Job) → i < length scripts → get_or js i j ≡ j → HasRun header (n + i) (get_or scripts i []) j × (part (n + i) ≡ part_of j.worker))
+      → AllDone header part n scripts (map replied (take (length scripts) js))
+  sections_done n [] [] l h = tt
+  sections_done n [] (j ∷ js) l h = tt
+  sections_done n (cs ∷ scripts) [] l h = absurd (omega (arith, l))
+  sections_done n (cs ∷ scripts) (j ∷ js) l h =
+      let here = h 0 j (omega arith) refl in
+      let at : n + 0 ≡ n = omega arith in (
+        subst (λ (p : Part). SectionDone header n cs p j.replies.items) (sym (ap part (sym at) ∙ here.1))
+            (subst (λ (k : ℕ). SectionDone header k cs (part_of j.worker) j.replies.items) at here.0.done),
+        sections_done (n + 1) scripts js (omega (arith, l)) (λ i x k is.
+            let next : n + suc i ≡ n + 1 + i = omega arith in
+            subst (λ (m : ℕ). HasRun header m (get_or scripts i []) x × (part m ≡ part_of x.worker)) next (h (suc i) x (omega (arith, k)) is)),
+      )
+
+  -- Lookers
+
+  looked_all : (all : List Item) (lookers n m : ℕ) (js : List Job)
+      → ((i : ℕ) (j : Job) → i < length js → get_or js i j ≡ j → HasShared header all lookers (m + i) j × (part (n + i) ≡ part_of j.worker))
+      → AllLooked header all part n (tooks_from (run_end (length all) lookers m) (map tells js)) × (run_end (length all) lookers m + length (all_told (map tells js)) ≡ run_end (length all) lookers (m + length js))
+  looked_all all lookers n m [] h = (tt, let e : m ≡ m + 0 = omega arith in omega (arith, ap (run_end (length all) lookers) e))
+  looked_all all lookers n m (j ∷ js) h =
+      let here = h 0 j (omega arith) refl in
+      let share : HasShared header all lookers m j = subst (λ (k : ℕ). HasShared header all lookers k j) (let e : m + 0 ≡ m = omega arith in e) here.0 in
+      let rest = looked_all all lookers (n + 1) (m + 1) js (λ i x k is.
+      let a : n + suc i ≡ n + 1 + i = omega arith in
+      let b : m + suc i ≡ m + 1 + i = omega arith in
+      subst (λ (p : ℕ). HasShared header all lookers (m + 1 + i) x × (part p ≡ part_of x.worker)) a (subst (λ (p : ℕ). HasShared header all lookers p x × (part (n + suc i) ≡ part_of x.worker)) b (h (suc i) x (omega (arith, k)) is))) in (
+        (
+          subst (λ (p : Part). HasLooked header all p (took_from (run_end (length all) lookers m) j.told.items)) (sym (ap part (let e : n ≡ n + 0 = omega arith in e) ∙ here.1)) share.looked,
+          subst (λ (k : ℕ). AllLooked header all part (n + 1) (tooks_from k (map tells js))) (sym share.count) rest.0,
+        ),
+        let count = share.count in
+            let len = length-append j.told.items (all_told (map tells js)) in
+            let more = rest.1 in
+            let end : m + 1 + length js ≡ m + length (j ∷ js) = omega arith in
+            omega (arith, count, len, more, ap (run_end (length all) lookers) end),
+      )
+
+-- the runs begin with the first item, and end with the last
+begins_with : (items lookers : ℕ) → 0 < lookers → run_end items lookers 0 ≡ 0
+begins_with items lookers l = ap (λ (b : Bool). if b then items else min (items / lookers * 0) items) (ne_eqb 0 lookers (λ e. absurd (omega (arith, l, e)))) ∙ ap (λ k. min k items) (let e : items / lookers * 0 ≡ 0 = omega arith in e) ∙ zero-min items
+
+ends_with : (items lookers : ℕ) → run_end items lookers lookers ≡ items
+ends_with items lookers = ap (λ (b : Bool). if b then items else min (items / lookers * lookers) items) (eq-eqb lookers lookers refl)
+
+pub len_tooks : (n : ℕ) (told : List (List Looked)) → length (tooks_from n told) ≡ length told
+len_tooks n [] = refl
+len_tooks n (answers ∷ told) = ap suc (len_tooks (n + length answers) told)
+
+-- The whole
+
+-- what came of the jobs, the sections first
+module _ (script : Script) (all : List Item) (lookers : ℕ) (t : Tables) (other : Part) (only : HasOnlyLooked other) (some : 0 < lookers) (js : List Job) (count : length js ≡ length script.sections + lookers)
+    (work : AllWorked script all lookers t (length js) (map Ok js)) where
+  abbrev sections : ℕ
+  sections = length script.sections
+
+  abbrev part : ℕ → Part
+  part = part_in other (map Ok js)
+
+  abbrev last : List Job
+  last = drop sections js
+
+  ok_at : (i : ℕ) (j : Job) (d : Result Job AllocError) → i < length js → get_or js i j ≡ j → get_or (map Ok js) i d ≡ Ok j
+  ok_at i j d l is = get_map Ok js i j d l (sym is)
+
+  worked_at : (i : ℕ) (j : Job) → i < length js → get_or js i j ≡ j → IsWorked script all lookers t i j
+  worked_at i j l is = let P : Result Job AllocError → Type 0 = λ r. IfOk r (IsWorked script all lookers t i) in
+      let o : P (Ok j) = subst P (ok_at i j (Ok j) l is) (work i (Ok j) l) in o
+
+  part_at : (m i : ℕ) (j : Job) → m ≡ i + 1 → i < length js → get_or js i j ≡ j → part m ≡ part_of j.worker
+  part_at m i j e l is =
+      ap (λ k. part_or other (get_or (map Ok js) k (Err alloc_error))) (let q : m - 1 ≡ i = omega (arith, e) in q)
+      ∙ ap (part_or other) (ok_at i j (Err alloc_error) l is)
+
+  pub done_all : AllDone script.header part 1 script.sections (map replied (take sections js))
+  done_all = sections_done script.header part 1 script.sections js (omega (arith, count)) (λ i j l is.
+      let w = (worked_at i j (omega (arith, l, count)) is).section l in
+      let e : i + 1 ≡ 1 + i = omega arith in
+      (subst (λ k. HasRun script.header k (get_or script.sections i []) j) e w, part_at (1 + i) i j (omega arith) (omega (arith, l, count)) is))
+
+  len_last : length last ≡ lookers
+  len_last = let e = len_drop sections js (omega (arith, count)) in omega (arith, e, count)
+
+  share_at : (i : ℕ) (j : Job) → i < length last → get_or last i j ≡ j → HasShared script.header all lookers i j × (part (sections + 1 + i) ≡ part_of j.worker)
+  share_at i j l is =
+      let at : get_or js (sections + i) j ≡ j = sym (at_drop sections js i j) ∙ is in
+      let few : sections + i < length js = omega (arith, l, len_last, count) in
+      let w = (worked_at (sections + i) j few at).looker (omega arith) in
+      (subst (λ k. HasShared script.header all lookers k j) (let e : sections + i - sections ≡ i = omega arith in e) w, part_at (sections + 1 + i) (sections + i) j (omega arith) few at)
+
+  looked : AllLooked script.header all part (sections + 1) (tooks_from (run_end (length all) lookers 0) (map tells last)) × (run_end (length all) lookers 0 + length (all_told (map tells last)) ≡ run_end (length all) lookers (0 + length last))
+  looked = looked_all script.header part all lookers (sections + 1) 0 last (λ i j l is.
+      let s = share_at i j l is in
+      (subst (λ k. HasShared script.header all lookers k j) (let e : i ≡ 0 + i = omega arith in e) s.0, s.1))
+
+  pub looked_last : AllLooked script.header all part (sections + 1) (tooks_from 0 (map tells last))
+  looked_last = subst (λ k. AllLooked script.header all part (sections + 1) (tooks_from k (map tells last))) (begins_with (length all) lookers some) looked.0
+
+  pub told_last : length (map tells last) ≡ lookers
+  told_last = len_map tells last ∙ len_last
+
+  pub counted : length (all_told (map tells last)) ≡ length all
+  counted =
+      let e = looked.1 in
+      let z = begins_with (length all) lookers some in
+      let n : 0 + length last ≡ lookers = omega (arith, len_last) in
+      let end = ap (run_end (length all) lookers) n ∙ ends_with (length all) lookers in
+      omega (arith, e, z, end)
+
+  pub others : (m : ℕ) → sections < m → HasOnlyLooked (part m)
+  others m l = dite (dec_le m (length js))
+      (λ le. let s = stands_at js (m - 1) (omega (arith, l, le)) in
+      let w = (worked_at (m - 1) s.0 (omega (arith, l, le)) (s.1 s.0)).looker (omega (arith, l)) in
+      subst HasOnlyLooked (sym (part_at m (m - 1) s.0 (omega (arith, l)) (omega (arith, l, le)) (s.1 s.0))) w.looked.only)
+      (λ gt. subst HasOnlyLooked (sym (ap (part_or other) (past_end (map Ok js) (m - 1) (Err alloc_error) (let e = len_map {B = Result Job AllocError} Ok js in omega (arith, e, gt))))) only)
+
+  pub all_replied : flat_map replies_in (map outcome js) ≡ flat_map (λ (r : List Reply). r) (map replied (take sections js))
+  all_replied =
+      flat_of_map replies_in outcome js
+      ∙ flat_front replied sections js (λ i j a l is. ((worked_at i j l is).looker a).replies)
+      ∙ sym (flat_of_map (λ (r : List Reply). r) replied (take sections js))
+
+  pub all_tells : flat_map told_in (map outcome js) ≡ all_told (map tells last)
+  all_tells =
+      flat_of_map told_in outcome js
+      ∙ flat_back tells sections js (λ i j a l is. ((worked_at i j l is).section a).told)
+      ∙ sym (flat_of_map (λ (k : List Looked). k) tells last)
+
+-- what such a race leaves
+pub finished : (script : Script) (all : List Item) (lookers : ℕ) (t : Tables) (first w : Worker) (done : List (Result Job AllocError)) (given : List Outcome) (e : Ended)
+    → 0 < lookers → length done ≡ length script.sections + lookers → AreTables script.header t → IsFirst t (length done) first → AllWorked script all lookers t (length done) done
+    → IsAtRest t w → HasAllParts w → ((other : Part) → IsGathered (part_in other done) 0 (length done) (part_of w)) → given ≡ outcomes_in done → length given ≡ length done → e.outcomes.items ≡ given
+    → (part_of w).chain.seen ≤ e.clock → chain_words.known e.chain.pass ≡ seeing (part_of w).chain e.clock → WholeBook (chain_words.known e.chain.pass) e.clock
+    → length e.buckets.items ≡ buckets_of t → AreLeft 0 (buckets_of t) e.buckets.items → HoldsWhatWasGiven notes_in (part_of w).turns e.buckets.items → IsInTheOrderOfEach notes_in (part_of w).turns e.buckets.items
+    → HasFinished script all lookers e
+finished script all lookers t first w done given e some count tables fresh work rest whole gathered are many outcomes later sees book long left given_all in_order =
+    let oks = all_ok done (sym (ap length are) ∙ many) in
+    let js : List Job = oks.0 in
+    let len : length js ≡ length script.sections + lookers = sym (len_map {B = Result Job AllocError} Ok js) ∙ sym (ap length oks.1) ∙ count in
+    let worked : AllWorked script all lookers t (length js) (map Ok js) = subst (λ n. AllWorked script all lookers t n (map Ok js)) (len_map {B = Result Job AllocError} Ok js) (subst (λ (l : List (Result Job AllocError)). AllWorked script all lookers t (length l) l) oks.1 work) in
+    let other : Part = part_of first in
+    let only : HasOnlyLooked other = record { mine = fresh.blank.mine; closed = fresh.blank.closed; lost = fresh.blank.lost } in
+    let part : ℕ → Part = part_in other (map Ok js) in
+    let g : IsGathered part 0 (length js) (part_of w) = subst (λ n. IsGathered part 0 n (part_of w)) (len_map {B = Result Job AllocError} Ok js) (subst (λ (l : List (Result Job AllocError)). IsGathered (part_in other l) 0 (length l) (part_of w)) oks.1 (gathered other)) in
+    let told : List (List Looked) = map tells (drop (length script.sections) js) in
+    let x : View = (part_of w).chain in
+    let runs : length (tooks_from 0 told) ≡ lookers = len_tooks 0 told ∙ told_last script all lookers t other only some js len worked in
+    let outs : e.outcomes.items ≡ map outcome js = outcomes ∙ are ∙ ap outcomes_in oks.1 ∙ outcomes_are js in
+    record {
+      part = part;
+      turns = (part_of w).turns;
+      chain = x;
+      replies = map replied (take (length script.sections) js);
+      told = told;
+      sees = sees;
+      ended = record {
+        order = g.order;
+        each_once = λ f. g.once f ∙ ap (λ k. Rattle.list_words.specs.Lists.total f (range_with_len 1 k)) (let q : length js - 0 ≡ length script.sections + length (tooks_from 0 told) = omega (arith, len, runs) in q);
+        joined = g.joined;
+        done = done_all script all lookers t other only some js len worked;
+        others = others script all lookers t other only some js len worked;
+        layout = rest.rests.table.1 ∙ sym t.chains.laid ∙ tables.layout;
+        later = later;
+        whole = record { parts = whole.chain_parts; opened = rest.rests.opened; book = subst (λ (y : View). WholeBook y e.clock) sees book };
+        count = long ∙ tables.buckets;
+        left = subst (λ n. AreLeft 0 n e.buckets.items) tables.buckets left;
+        given = given_all;
+        in_order = in_order;
+      };
+      looked = looked_last script all lookers t other only some js len worked;
+      lookers_are = told_last script all lookers t other only some js len worked;
+      count = counted script all lookers t other only some js len worked;
+      replied = ap (flat_map replies_in) outs ∙ all_replied script all lookers t other only some js len worked;
+      tells = ap (flat_map told_in) outs ∙ all_tells script all lookers t other only some js len worked;
+    }

@@ -1,0 +1,69 @@
+//! The end of a race: all workers are joined, the clock is loaded, and the bind buckets are taken.
+
+ghost use Rattle.std.specs.Prelude.{◌≡◌, ◌+◌, ◌^◌, ◌<◌, length, IfOk};
+ghost use Rattle.race_threads.specs.Finished.{HasFinished};
+ghost use Rattle.race_threads.specs.Scripts.{IsForRace};
+ghost use Rattle.race_threads.specs.Workers.{AreTables, IsFirst};
+ghost use Rattle.race_threads.specs.Works.{AllWorked};
+
+use crate::jobs::{Job, Outcome, gather};
+use bind_buckets::{Bucket, turning};
+use capture_reader::Capture;
+use chain_deeds::ChainPass;
+use flat_list::Script;
+use shared_ops::{Tables, Worker};
+use std::alloc::{AllocError, Global};
+
+/// What a race leaves: the chain pass into which all others were joined, the bind buckets, the clock, and what came of
+/// each job, the sections first.
+#[derive(Drop)]
+pub struct Ended {
+    pub chain: ChainPass,
+    pub buckets: Vec<Box<Bucket>>,
+    pub clock: u64,
+    pub outcomes: Vec<Outcome>,
+}
+
+/// Ends a race of which all jobs are done.
+///
+/// # Errors
+///
+/// Memory ran out, or had run out for a job.
+pub fn finish(
+    alloc: Global,
+    tables: Tables,
+    mut first: Worker,
+    script: &Script,
+    capture: &Capture,
+    lookers: usize,
+    done: Vec<Result<Job, AllocError>>,
+) -> Result<Ended, AllocError>
+    requires script { IsForRace script.now }
+    requires tables { AreTables script.now.header tables }
+    requires some { 0 < lookers }
+    requires few { lookers < 2 ^ 12 }
+    requires count { length done.items ≡ length script.now.sections + lookers }
+    requires first { IsFirst tables (length done.items) first }
+    requires worked { AllWorked script.now capture.now.items lookers tables (length done.items) done.items }
+    ensures { IfOk result (HasFinished script.now capture.now.items lookers) }
+{
+    let outcomes = gather(alloc, &tables, &mut first, done)?;
+    let Tables {
+        buckets,
+        chains,
+        ..
+    } = tables;
+    let Worker {
+        turns,
+        mut chain,
+        ..
+    } = first;
+    let clock = chains.now(&mut chain);
+    let buckets = turning::into_buckets(buckets, alloc, turns)?;
+    Ok(Ended {
+        chain,
+        buckets,
+        clock,
+        outcomes,
+    })
+}
