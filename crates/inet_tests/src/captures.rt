@@ -3,7 +3,9 @@
 use crate::tests::{PLAIN, call};
 use inet_tool::Status;
 use std::alloc::{AllocError, Global};
+use std::sync::Wait;
 use std::test::Fail;
+use std::thread::Threads;
 
 /// A listener, and a capture behind it.
 const LISTENER: &str = "script 1\nsocket a\nbind a 0.0.0.0:80\nlisten a\ncapture\n";
@@ -12,13 +14,13 @@ const LISTENER: &str = "script 1\nsocket a\nbind a 0.0.0.0:80\nlisten a\ncapture
 const LISTENING: &str = "1 socket a ok\n1 bind a ok 80\n1 listen a ok 80\n";
 
 /// A header of an Ethernet capture from a machine with the lowest byte first.
-const HEADER: &str = "d4c3b2a1 0200 0400 00000000 00000000 ffff0000 01000000";
+pub const HEADER: &str = "d4c3b2a1 0200 0400 00000000 00000000 ffff0000 01000000";
 
 /// From 10.0.0.2:1000 to 10.0.0.1:80, as IP has it.
 const PACKET: &str = "45000028 00000000 40060000 0a000002 0a000001 03e80050";
 
 /// Four records: a packet, a frame of ARP, a packet beneath a tag, and a fragment; then half a record.
-const RECORDS: &str = "
+pub const RECORDS: &str = "
     00000000 00000000 26000000 36000000
     000000000000 000000000000 0800 45000028 00000000 40060000 0a000002 0a000001 03e80050
     00000000 00000000 0e000000 0e000000
@@ -61,7 +63,7 @@ fn add_hex(bytes: &mut Vec<u8>, text: &str) -> Result<(), AllocError> {
 }
 
 /// A text, and the bytes of some parts in hexadecimal behind it.
-fn input_of(alloc: Global, text: &str, parts: &[&str]) -> Result<Vec<u8>, AllocError> {
+pub fn input_of(alloc: Global, text: &str, parts: &[&str]) -> Result<Vec<u8>, AllocError> {
     let mut bytes = text.as_bytes().to_vec(alloc)?;
     for part in parts {
         add_hex(&mut bytes, part)?;
@@ -71,7 +73,7 @@ fn input_of(alloc: Global, text: &str, parts: &[&str]) -> Result<Vec<u8>, AllocE
 
 /// Whether `inet run` ends well on a text and the parts of a capture, and writes those two texts.
 fn writes(
-    rt: &HostRuntime,
+    rt: &(impl Threads + Wait + Sync + AllocGlobal),
     text: &str,
     parts: &[&str],
     wanted: [&str; 2],

@@ -1,4 +1,4 @@
-//! Tests of the top call: worked scripts, those of docs/LINUX.md and of rules beside each other, captures, generated scripts, other words, ends that
+//! Tests of the top call: worked scripts, those of docs/LINUX.md and of rules beside each other, captures, generated scripts, races of one section, other words, ends that
 //! move a few bytes a call and fail in mid-stream, an input as long as the limit, and the ends over std.
 #![tactic(auto)]
 
@@ -8,6 +8,10 @@ mod captures;
 mod engines;
 #[cfg(test)]
 mod linux;
+#[cfg(test)]
+mod meeting;
+#[cfg(test)]
+mod races;
 #[cfg(test)]
 mod rules;
 #[cfg(test)]

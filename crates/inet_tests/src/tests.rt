@@ -3,7 +3,9 @@ ghost use Rattle.std.specs.Prelude.{◌<◌};
 use inet_io::{MemSink, MemSource, Open, StdSink, StdSource};
 use inet_tool::{LIMIT, Status, inet};
 use std::alloc::{AllocError, Global};
+use std::sync::Wait;
 use std::test::Fail;
+use std::thread::Threads;
 
 /// Two sockets that want one port, of which the second is refused.
 const SCRIPT: &str = "script 1\nsocket a\nsocket b\nbind a 0.0.0.0:80\nbind b 10.0.0.1:80\n";
@@ -178,7 +180,7 @@ const ROWS: [(&str, &str); 12] = [
     ),
 ];
 
-fn words_of(alloc: Global, words: &[&str]) -> Result<Vec<String>, AllocError> {
+pub fn words_of(alloc: Global, words: &[&str]) -> Result<Vec<String>, AllocError> {
     let mut texts: Vec<String> = Vec::new(alloc);
     for word in words {
         texts.push(String::from_str(alloc, *word)?)?;
@@ -188,7 +190,7 @@ fn words_of(alloc: Global, words: &[&str]) -> Result<Vec<String>, AllocError> {
 
 /// The status of a call over ends in memory, and what was written.
 pub fn call(
-    rt: &HostRuntime,
+    rt: &(impl Threads + Wait + Sync + AllocGlobal),
     words: &[&str],
     input: Vec<u8>,
     ends: Ends<'_>,
@@ -204,7 +206,11 @@ pub fn call(
 }
 
 /// The same for `inet run`.
-fn run(rt: &HostRuntime, input: &str, ends: Ends<'_>) -> Result<(Status, Vec<u8>), AllocError> {
+fn run(
+    rt: &(impl Threads + Wait + Sync + AllocGlobal),
+    input: &str,
+    ends: Ends<'_>,
+) -> Result<(Status, Vec<u8>), AllocError> {
     call(
         rt,
         &["inet", "run"],
@@ -331,7 +337,7 @@ fn sixty_four_sections_run(rt: HostRuntime) -> Result<(), Fail> {
 
 #[test]
 fn refuses_other_words(rt: HostRuntime) -> Result<(), Fail> {
-    let rows: [&[&str]; 18] = [
+    let rows: [&[&str]; 22] = [
         &[],
         &["run"],
         &["inet"],
@@ -349,7 +355,11 @@ fn refuses_other_words(rt: HostRuntime) -> Result<(), Fail> {
         &["inet", "make", "-1", "1"],
         &["inet", "make", "one", "1"],
         &["inet", "make", "--help", "1"],
+        &["inet", "race"],
+        &["inet", "race", "--lookers", "1"],
         &["inet", "race", "--lookers", "0", "--passes", "1"],
+        &["inet", "race", "--lookers", "17", "--passes", "1"],
+        &["inet", "race", "--lookers", "1", "--passes", "65"],
     ];
     for words in rows {
         let answer = call(&rt, words, SCRIPT.as_bytes().to_vec(rt.alloc())?, PLAIN)?;

@@ -1,4 +1,4 @@
--- What clap finds in words that it takes: `run`, or `make` with two numbers in range.
+-- What clap finds in words that it takes: `run`, or `make` or `race` with two numbers in range.
 use Rattle.std.proofs.Common.{◌≡◌, ◌⊎◌, Bool, true, false, cond, List, [], ◌∷◌, Option, Some, None, refl, inl, inr, codes, drop}
 use Rattle.std.specs.Prelude.{find, is_some}
 use Rattle.clap.specs.Kinds.{Kinds, or_else}
@@ -7,39 +7,48 @@ use Rattle.clap.specs.Simple.{App, Shape, built, built_leaf, entered, inherited,
 use Rattle.clap.specs.Faults.{check_fault, defaults_fault, entered_fault, fault_of, settle_fault}
 use Rattle.inet_tool.specs.Words.{inet_app, run_app}
 use Rattle.inet_tool.proofs.MakeWords.{Found, first_none, found_by, make, second_none, some_kind}
+use Rattle.inet_tool.proofs.RaceWords.{Found as RaceFound, found_by as race_found_by, race}
 
 -- `run` as it is built
 abbrev pub run : Shape
 run = built_leaf (inherited inet_app.top run_app.top)
 
--- a search of two finds none or one of the two
-find_two : {X : Type 0} (test : X → Bool) (x y : X) → (find test (x ∷ y ∷ []) ≡ None)
-    ⊎ ((find test (x ∷ y ∷ []) ≡ Some x) ⊎ (find test (x ∷ y ∷ []) ≡ Some y))
-find_two {X} test x y = go (test x) (test y)
+-- a search of three finds none or one of the three
+find_three : {X : Type 0} (test : X → Bool) (x y z : X) → (find test (x ∷ y ∷ z ∷ []) ≡ None)
+    ⊎ ((find test (x ∷ y ∷ z ∷ []) ≡ Some x) ⊎ ((find test (x ∷ y ∷ z ∷ []) ≡ Some y) ⊎ (find test (x ∷ y ∷ z ∷ []) ≡ Some z)))
+find_three {X} test x y z = go (test x) (test y) (test z)
   where
-    go : (a b : Bool) → (cond a (Some x) (cond b (Some y) None) ≡ None)
-        ⊎ ((cond a (Some x) (cond b (Some y) None) ≡ Some x) ⊎ (cond a (Some x) (cond b (Some y) None) ≡ Some y))
-    go true b = inr (inl refl)
-    go false true = inr (inr refl)
-    go false false = inl refl
+    go : (a b c : Bool) → (cond a (Some x) (cond b (Some y) (cond c (Some z) None)) ≡ None)
+        ⊎ ((cond a (Some x) (cond b (Some y) (cond c (Some z) None)) ≡ Some x)
+        ⊎ ((cond a (Some x) (cond b (Some y) (cond c (Some z) None)) ≡ Some y)
+        ⊎ (cond a (Some x) (cond b (Some y) (cond c (Some z) None)) ≡ Some z)))
+    go true b c = inr (inl refl)
+    go false true c = inr (inr (inl refl))
+    go false false true = inr (inr (inr refl))
+    go false false false = inl refl
 
--- the subcommand that is found: `run`, or `make` with its numbers
-abbrev pub Met : Option (Text × List Row) → Type 0
-Met met = ((rows : List Row) × (met ≡ Some (codes "run", rows))) ⊎ ((rows : List Row) × (met ≡ Some (codes "make", rows)) × Found rows)
+-- the subcommand that is found: `run`, or `make` or `race` with its numbers
+pub data Met (met : Option (Text × List Row)) : Type 0 where
+  runs : (rows : List Row) → met ≡ Some (codes "run", rows) → Met met
+  makes : (rows : List Row) → met ≡ Some (codes "make", rows) → Found rows → Met met
+  races : (rows : List Row) → met ≡ Some (codes "race", rows) → RaceFound rows → Met met
 
--- where the walk stopped at a subcommand that takes the words after it, and at one of the two where one is wanted
+-- where the walk stopped at a subcommand that takes the words after it, and at one of the three where one is wanted
 met_at : (rows : List Row) (stop : Option (Text × List Text)) → entered_fault (built inet_app) stop ≡ []
     → check_fault (built inet_app).top rows (is_some (entered (built inet_app) stop)) ≡ [] → Met (entered (built inet_app) stop)
 met_at rows None below check = some_kind _ _ check
-met_at rows (Some p) below check = elim (find_two (λ s. answers_to p.0 (label_of s)) run make) [
+met_at rows (Some p) below check = elim (find_three (λ s. answers_to p.0 (label_of s)) run make race) [
   | inl none ↦ some_kind _ _ (rw none at check)
   | inr one ↦ elim one [
-    | inl is ↦ inl (rows_after run.rules [] p.1, rw is refl)
-    | inr is ↦ inr (rows_after make.rules [] p.1, rw is refl, found_by p.1 (rw is at below))
+    | inl is ↦ runs (rows_after run.rules [] p.1) (rw is refl)
+    | inr other ↦ elim other [
+      | inl is ↦ makes (rows_after make.rules [] p.1) (rw is refl) (found_by p.1 (rw is at below))
+      | inr is ↦ races (rows_after race.rules [] p.1) (rw is refl) (race_found_by p.1 (rw is at below))
+    ]
   ]
 ]
 
--- words that clap takes name one of the two
+-- words that clap takes name one of the three
 pub met_by : (words : List Text) → fault_of inet_app words ≡ [] → Met (subcommand_of inet_app words)
 met_by words none =
     let app : App = built inet_app in

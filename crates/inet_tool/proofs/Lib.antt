@@ -1,7 +1,11 @@
 mod Asked
 mod MakeForm
 mod MakeWords
+mod Names
 mod Numbers
+mod RaceForm
+mod Raced
+mod RaceWords
 mod Read
 mod Told
 mod Faults

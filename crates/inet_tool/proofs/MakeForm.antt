@@ -11,7 +11,7 @@ use Rattle.inet_tool.specs.Words.{inet_app}
 use Rattle.inet_tool.proofs.MakeWords.{Passes, both, held, make, most_count, most_seed, one, place, row, start}
 
 -- nothing after a list of kinds
-or_else-nil : (kinds : Kinds) → or_else kinds [] ≡ kinds
+pub or_else-nil : (kinds : Kinds) → or_else kinds [] ≡ kinds
 or_else-nil [] = refl
 or_else-nil (k ∷ ks) = refl
 
@@ -45,7 +45,7 @@ module _ (a b : Text) (a_plain : IsPlainText a) (b_plain : IsPlainText b) where
   both_found = rw (to_one, to_both) refl
 
   -- and nothing is refused
-  pub both_pass : Passes most_seed a → Passes most_count b → level_fault make [] nothing_held (a ∷ b ∷ []) false [] ≡ []
+  pub both_pass : Passes 0 most_seed a → Passes 0 most_count b → level_fault make [] nothing_held (a ∷ b ∷ []) false [] ≡ []
   unfolding walk_fault defaults_fault
   both_pass a_passes b_passes =
       rw (turns_on 1 [] None a a_plain, to_one, turns_on 2 [] (Some (codes "SEED", a ∷ [])) b b_plain, to_both, a_passes, b_passes) refl

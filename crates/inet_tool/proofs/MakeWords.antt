@@ -92,9 +92,9 @@ module _ (position : ℕ) (rows : List Row) (pending : Option (Text × List Text
 abbrev pub row : Text → Text → Row
 row id text = record { id = id; values = text ∷ []; count = None; source = Some CommandLine; reading = reading.WithoutMinus }
 
--- the text is a number from 0 to the most
-abbrev pub Passes : ℕ → Text → Type 0
-Passes most text = value_kinds false (Signed (pos 0) (pos most)) text ≡ []
+-- the text is a number from the least to the most
+abbrev pub Passes : ℕ → ℕ → Text → Type 0
+Passes least most text = value_kinds false (Signed (pos least) (pos most)) text ≡ []
 
 abbrev pub most_seed : ℕ
 most_seed = 4294967295
@@ -115,7 +115,7 @@ both a b trailing = place 3 trailing (row (codes "SEED") a ∷ []) (Some (codes 
 -- the walk is at one of the three
 abbrev At : Walk → Type 0
 At w = (trailing : Bool) × ((w ≡ start trailing) ⊎ (((a : Text) × (w ≡ one a trailing))
-    ⊎ ((a : Text) × (b : Text) × (w ≡ both a b trailing) × Passes most_seed a)))
+    ⊎ ((a : Text) × (b : Text) × (w ≡ both a b trailing) × Passes 0 most_seed a)))
 
 from_start : (trailing : Bool) (word : Text) → turn_fault make [] (start trailing) word ≡ [] → At (walked make.rules [] (start trailing) word)
 from_start trailing word none = elim (goes 1 [] None trailing word none) [
@@ -129,7 +129,7 @@ from_one a trailing word none = elim (goes 2 [] (Some (codes "SEED", a ∷ [])) 
   | inr h ↦ (trailing || false, inr (inr (a, word, h.0, first_none _ _ h.1)))
 ]
 
-from_both : (a b : Text) (trailing : Bool) (word : Text) → Passes most_seed a → turn_fault make [] (both a b trailing) word ≡ []
+from_both : (a b : Text) (trailing : Bool) (word : Text) → Passes 0 most_seed a → turn_fault make [] (both a b trailing) word ≡ []
     → At (walked make.rules [] (both a b trailing) word)
 from_both a b trailing word passes none = elim (goes 3 (row (codes "SEED") a ∷ []) (Some (codes "COUNT", b ∷ [])) trailing word none) [
   | inl same ↦ (true, inr (inr (a, b, same, passes)))
@@ -158,7 +158,7 @@ ends (word ∷ words) w at none =
 
 -- what `make` finds: its two numbers
 abbrev pub Found : List Row → Type 0
-Found rows = (a : Text) × (b : Text) × (rows ≡ row (codes "SEED") a ∷ row (codes "COUNT") b ∷ []) × Passes most_seed a × Passes most_count b
+Found rows = (a : Text) × (b : Text) × (rows ≡ row (codes "SEED") a ∷ row (codes "COUNT") b ∷ []) × Passes 0 most_seed a × Passes 0 most_count b
 
 -- the kinds that come after the walk
 abbrev after : Walk → Kinds

@@ -47,23 +47,26 @@ passed true k none = refl
 passed false k none = cc
 
 -- a text that passes has digits, and their number is in the range
-pub reads : (most : ℕ) (text : Text) → Passes most text → IsNumeral 10 (digits text) × (digits_value 10 (digits text) ≤ most)
-reads most text passes = go (starts_with_minus text) refl
+pub reads : (least most : ℕ) (text : Text) → Passes least most text
+    → IsNumeral 10 (digits text) × (least ≤ digits_value 10 (digits text)) × (digits_value 10 (digits text) ≤ most)
+reads least most text passes = go (starts_with_minus text) refl
   where
-    accepted : IsSignedIn (pos 0) (pos most) text
-    accepted = accepts-Accepts false (Signed (pos 0) (pos most)) text (passed _ _ passes)
+    accepted : IsSignedIn (pos least) (pos most) text
+    accepted = accepts-Accepts false (Signed (pos least) (pos most)) text (passed _ _ passes)
 
-    go : (b : Bool) → starts_with_minus text ≡ b → IsNumeral 10 (digits text) × (digits_value 10 (digits text) ≤ most)
+    go : (b : Bool) → starts_with_minus text ≡ b
+        → IsNumeral 10 (digits text) × (least ≤ digits_value 10 (digits text)) × (digits_value 10 (digits text) ≤ most)
     go true minus =
         let low_ok = rw minus at accepted.2 in
         let numeral : IsNumeral 10 (drop 1 text) = rw minus at accepted.0 in
         let is : digits text ≡ drop 1 text = rw (without_minus-cond text, minus) (no_plus (drop 1 text) numeral) in
-        rw is (numeral, omega (arith, ints))
+        rw is (numeral, omega (arith, ints), omega (arith, ints))
     go false minus =
         let numeral : IsNumeral 10 (without_leading_plus text) = rw minus at accepted.0 in
+        let low_ok = rw minus at accepted.2 in
         let high_ok = rw minus at accepted.3 in
         let is : digits text ≡ without_leading_plus text = rw (without_minus-cond text, minus) refl in
-        rw is (numeral, omega (arith, ints))
+        rw is (numeral, omega (arith, ints), omega (arith, ints))
 
 -- what `u32` reads of digits
 pub u32_reads : (E : Type 0) (G : List ℕ → Result ℕ E → Type 0) (text : Text) (r : Option ℕ) → ReadsOne G text r
@@ -94,11 +97,11 @@ pub digits_value-decimal : (n : ℕ) → n < 2 ^ 64 → digits_value 10 (digits 
 digits_value-decimal n small = rw (decimal-digits n small) (decimal_is_IsNumeral n small).1
 
 -- it passes where it is in range
-pub decimal_passes : (most n : ℕ) → n ≤ most → n < 2 ^ 63 → Passes most (decimal n)
-decimal_passes most n low small =
+pub decimal_passes : (least most n : ℕ) → least ≤ n → n ≤ most → n < 2 ^ 63 → Passes least most (decimal n)
+decimal_passes least most n low high small =
     let numeral = decimal_is_IsNumeral n (omega arith) in
     let plus = no_plus (decimal n) numeral.0 in
     let minus = no_minus (decimal n) numeral.0 in
-    let accepted : IsSignedIn (pos 0) (pos most) (decimal n) =
+    let accepted : IsSignedIn (pos least) (pos most) (decimal n) =
     rw (minus, plus, numeral.1) (numeral.0, record { sfits = small }, omega (arith, ints), omega (arith, ints)) in
-    rw (Accepts-accepts false (Signed (pos 0) (pos most)) (decimal n) accepted) refl
+    rw (Accepts-accepts false (Signed (pos least) (pos most)) (decimal n) accepted) refl

@@ -1,6 +1,6 @@
 -- What the matches of words that clap takes give to be read.
-use Rattle.std.proofs.Common.{◌≡◌, ◌≤◌, ◌<◌, ◌^◌, ◌∙◌, ℕ, List, [], Option, Some, None, refl, inl, inr, ap, sym, subst, arith, codes, slice_index, option_map}
-use Rattle.std.specs.Prelude.{Result, true, unwrap_or}
+use Rattle.std.proofs.Common.{◌≡◌, ◌≤◌, ◌<◌, ◌^◌, ◌∙◌, ℕ, List, [], Option, Some, None, refl, ap, sym, subst, arith, codes, option_map}
+use Rattle.std.specs.Prelude.{Result, false, true, unwrap_or}
 use Rattle.std.specs.Str.Parse.{IsNumeral, ParsesUnsigned, digits_value, without_leading_plus}
 use Rattle.clap.specs.Lexer.{without_minus}
 use Rattle.clap.specs.declared.parser.matches.ArgMatches.TheViews.{out-ArgMatches}
@@ -12,38 +12,50 @@ use Rattle.clap.specs.declared.parser.matches.ArgMatches.{ArgMatches}
 use Rattle.clap.proofs.WalkLemmas.{one_text-rows}
 use Rattle.inet_tool.specs.Words.{Asks, IsTaken, inet_app, name_of, number_of}
 use Rattle.inet_tool.specs.declared.words.Ask.{Ask}
-use Rattle.inet_tool.specs.declared.words.Ask.TheVariants.{Run, Make}
-use Rattle.inet_tool.proofs.Asked.{met_by}
-use Rattle.inet_tool.proofs.MakeWords.{Found, most_count, most_seed}
+use Rattle.inet_tool.specs.declared.words.Ask.TheVariants.{Run, Make, Race}
+use Rattle.inet_tool.proofs.Asked.{Met, makes, met_by, races, runs}
+use Rattle.inet_tool.proofs.MakeWords.{Found, Passes, most_count, most_seed}
+use Rattle.inet_tool.proofs.RaceWords.{Found as RaceFound}
+use Rattle.inet_tool.proofs.Names.{make_isnt_race, make_isnt_run, race_isnt_make, race_isnt_run, run_isnt_make, run_isnt_race}
 use Rattle.inet_tool.proofs.Numbers.{reads, u32_reads}
 
 -- two names are not one
-pub not_both : {P : Type 0} (o : Option Text) → o ≡ Some (codes "run") → o ≡ Some (codes "make") → P
-not_both o is_run is_make =
-    let first : Option Text → ℕ = λ v. slice_index (unwrap_or v []) 0 in
-    let same : ◌≡◌ {A = ℕ} 114 109 = ap first (sym is_run ∙ is_make) in
-    absurd (omega arith)
+pub not_both : {P : Type 0} (o : Option Text) (a b : Text) → o ≡ Some a → o ≡ Some b → (a ≡ b → ⊥) → P
+not_both o a b is_a is_b differ = absurd (differ (ap (λ (v : Option Text). unwrap_or v a) (sym is_a ∙ is_b)))
 
--- a text of the matches that is a number up to the most
-pub record IsGiven (id : Text) (most : ℕ) (m : ArgMatches) (text : Text) : Type 0 where
+pub not_true : false ≡ true → ⊥
+not_true same = cc
+
+-- a text of the matches that is a number from the least to the most
+pub record IsGiven (id : Text) (least most : ℕ) (m : ArgMatches) (text : Text) : Type 0 where
   pub text_is : one_text (found_of m) id ≡ Some text
   pub row_is : one_of id (rows_of (found_of m)) ≡ Some text
   pub numeral : IsNumeral 10 (without_leading_plus text)
+  pub high : least ≤ digits_value 10 (without_leading_plus text)
   pub low : digits_value 10 (without_leading_plus text) ≤ most
 
+-- what the rows have of a name that passes is given
+given : (id : Text) (least most : ℕ) (m : ArgMatches) (text : Text) → one_of id (rows_of (found_of m)) ≡ Some (without_minus text) → Passes least most text
+    → IsGiven id least most m (without_minus text)
+given id least most m text is passes =
+    let read = reads least most text passes in
+    record { text_is = one_text-rows (found_of m) id ∙ is; row_is = is; numeral = read.0; high = read.1; low = read.2 }
+
 -- the seed
-pub seed_given : (m : ArgMatches) → Found (rows_of (found_of m)) → (text : Text) × IsGiven (codes "SEED") most_seed m text
-seed_given m found =
-    let read = reads most_seed found.0 found.3 in
-    let is : one_of (codes "SEED") (rows_of (found_of m)) ≡ Some (without_minus found.0) = rw found.2 refl in
-    (_, record { text_is = one_text-rows (found_of m) (codes "SEED") ∙ is; row_is = is; numeral = read.0; low = read.1 })
+pub seed_given : (m : ArgMatches) → Found (rows_of (found_of m)) → (text : Text) × IsGiven (codes "SEED") 0 most_seed m text
+seed_given m found = (_, given (codes "SEED") 0 most_seed m found.0 (rw found.2 refl) found.3)
 
 -- the count
-pub count_given : (m : ArgMatches) → Found (rows_of (found_of m)) → (text : Text) × IsGiven (codes "COUNT") most_count m text
-count_given m found =
-    let read = reads most_count found.1 found.4 in
-    let is : one_of (codes "COUNT") (rows_of (found_of m)) ≡ Some (without_minus found.1) = rw found.2 refl in
-    (_, record { text_is = one_text-rows (found_of m) (codes "COUNT") ∙ is; row_is = is; numeral = read.0; low = read.1 })
+pub count_given : (m : ArgMatches) → Found (rows_of (found_of m)) → (text : Text) × IsGiven (codes "COUNT") 0 most_count m text
+count_given m found = (_, given (codes "COUNT") 0 most_count m found.1 (rw found.2 refl) found.4)
+
+-- how many lookers
+pub lookers_given : (m : ArgMatches) → RaceFound (rows_of (found_of m)) → (text : Text) × IsGiven (codes "lookers") 1 16 m text
+lookers_given m found = (_, given (codes "lookers") 1 16 m found.lookers_text found.lookers_there.is found.lookers_there.passes_it)
+
+-- how many passes
+pub passes_given : (m : ArgMatches) → RaceFound (rows_of (found_of m)) → (text : Text) × IsGiven (codes "passes") 1 64 m text
+passes_given m found = (_, given (codes "passes") 1 64 m found.passes_text found.passes_there.is found.passes_there.passes_it)
 
 -- two steps on what is there are one
 option_map-map : {X Y Z : Type 0} (f : X → Y) (g : Y → Z) (o : Option X) → option_map (λ x. g (f x)) o ≡ option_map g (option_map f o)
@@ -59,16 +71,51 @@ module _ (words : List Text) (m : ArgMatches) (taken : IsTaken words) (met : sub
   pub name_is : (name : Text) → subcommand_name_of m ≡ Some name → name_of words ≡ Some name
   name_is name is = ap (option_map (λ p. p.0)) (sym met) ∙ sym (named m) ∙ is
 
+  -- the rows of what is met
+  rows_are : (n : ArgMatches) (name : Text) (found : List Row) → subcommand_of inet_app words ≡ Some (name, found)
+      → option_map (λ p. p.1) (subcommand_rows_of m) ≡ Some (rows_of (found_of n)) → found ≡ rows_of (found_of n)
+  rows_are n name found is rows = ap (λ (o : Option (List Row)). unwrap_or o found) (ap (option_map (λ p. p.1)) (sym (met ∙ is)) ∙ rows)
+
   -- where `make` is met, its two numbers are there
   pub make_met : (n : ArgMatches) → subcommand_name_of m ≡ Some (codes "make")
       → option_map (λ p. p.1) (subcommand_rows_of m) ≡ Some (rows_of (found_of n))
       → (subcommand_of inet_app words ≡ Some (codes "make", rows_of (found_of n))) × Found (rows_of (found_of n))
-  make_met n name rows = elim (met_by words taken) [
-    | inl h ↦ not_both (name_of words) (ap (option_map (λ p. p.0)) h.1) (name_is _ name)
-    | inr h ↦
-        let is : h.0 ≡ rows_of (found_of n) = ap (λ (o : Option (List Row)). unwrap_or o h.0) (ap (option_map (λ p. p.1)) (sym (met ∙ h.1)) ∙ rows) in
-        (h.1 ∙ ap (λ (r : List Row). Some (codes "make", r)) is, subst Found is h.2)
-  ]
+  make_met n name rows = go (met_by words taken)
+    where
+      named_make : name_of words ≡ Some (codes "make")
+      named_make = name_is (codes "make") name
+
+      go : Met (subcommand_of inet_app words) → (subcommand_of inet_app words ≡ Some (codes "make", rows_of (found_of n))) × Found (rows_of (found_of n))
+      go (runs found is) = not_both (name_of words) (codes "run") (codes "make") (ap (option_map (λ p. p.0)) is) named_make run_isnt_make
+      go (races found is numbers) = not_both (name_of words) (codes "race") (codes "make") (ap (option_map (λ p. p.0)) is) named_make race_isnt_make
+      go (makes found is numbers) =
+          let same : found ≡ rows_of (found_of n) = rows_are n (codes "make") found is rows in
+          (is ∙ ap (λ (r : List Row). Some (codes "make", r)) same, subst Found same numbers)
+
+  -- and where `race` is met its own
+  pub race_met : (n : ArgMatches) → subcommand_name_of m ≡ Some (codes "race")
+      → option_map (λ p. p.1) (subcommand_rows_of m) ≡ Some (rows_of (found_of n))
+      → (subcommand_of inet_app words ≡ Some (codes "race", rows_of (found_of n))) × RaceFound (rows_of (found_of n))
+  race_met n name rows = go (met_by words taken)
+    where
+      named_race : name_of words ≡ Some (codes "race")
+      named_race = name_is (codes "race") name
+
+      go : Met (subcommand_of inet_app words) → (subcommand_of inet_app words ≡ Some (codes "race", rows_of (found_of n))) × RaceFound (rows_of (found_of n))
+      go (runs found is) = not_both (name_of words) (codes "run") (codes "race") (ap (option_map (λ p. p.0)) is) named_race run_isnt_race
+      go (makes found is numbers) = not_both (name_of words) (codes "make") (codes "race") (ap (option_map (λ p. p.0)) is) named_race make_isnt_race
+      go (races found is numbers) =
+          let same : found ≡ rows_of (found_of n) = rows_are n (codes "race") found is rows in
+          (is ∙ ap (λ (r : List Row). Some (codes "race", r)) same, subst RaceFound same numbers)
+
+  -- what is neither `make` nor `race` is `run`
+  pub run_met : ¬ (subcommand_name_of m ≡ Some (codes "make")) → ¬ (subcommand_name_of m ≡ Some (codes "race")) → name_of words ≡ Some (codes "run")
+  run_met no_make no_race = go (met_by words taken)
+    where
+      go : Met (subcommand_of inet_app words) → name_of words ≡ Some (codes "run")
+      go (runs found is) = ap (option_map (λ p. p.0)) is
+      go (makes found is numbers) = absurd (no_make (named m ∙ ap (option_map (λ p. p.0)) (met ∙ is)))
+      go (races found is numbers) = absurd (no_race (named m ∙ ap (option_map (λ p. p.0)) (met ∙ is)))
 
 -- What a parse of the program's command gives is of its words.
 pub parsed : (app : App) (words : List Text) (m : ArgMatches) → app ≡ inet_app → (is_simple_and_free app ≡ true → fault_of app words ≡ [])
@@ -77,20 +124,25 @@ parsed app words m is kinds matches =
     (subst (λ (a : App). is_simple_and_free a ≡ true → fault_of a words ≡ []) is kinds refl, (subst (λ (a : App). HasMatchesOf a words m) is matches refl).1)
 
 -- the number of a text that is given is what `u32` reads
-pub read_given : (E : Type 0) (G : List ℕ → Result ℕ E → Type 0) (id : Text) (most : ℕ) (m : ArgMatches) (text : Text) (r : Option ℕ)
-    → IsGiven id most m text → most < 2 ^ 32 → ((t : List ℕ) → one_text (found_of m) id ≡ Some t → ReadsOne G t r)
+pub read_given : (E : Type 0) (G : List ℕ → Result ℕ E → Type 0) (id : Text) (least most : ℕ) (m : ArgMatches) (text : Text) (r : Option ℕ)
+    → IsGiven id least most m text → most < 2 ^ 32 → ((t : List ℕ) → one_text (found_of m) id ≡ Some t → ReadsOne G t r)
     → ((u : List ℕ) (x : Result ℕ E) → G u x → ParsesUnsigned 32 10 u x) → r ≡ Some (digits_value 10 (without_leading_plus text))
-read_given E G id most m text r given small read only =
+read_given E G id least most m text r given small read only =
     u32_reads E G text r (read text given.text_is) only given.numeral (omega (arith, given.low))
 
 -- and the number of the words
-pub given_number : (id : Text) (most : ℕ) (words : List Text) (m : ArgMatches) (text : Text) → IsGiven id most m text
-    → subcommand_of inet_app words ≡ Some (codes "make", rows_of (found_of m)) → number_of id words ≡ Some (digits_value 10 (without_leading_plus text))
-given_number id most words m text given met = rw (met, given.row_is) refl
+pub given_number : (name id : Text) (least most : ℕ) (words : List Text) (m : ArgMatches) (text : Text) → IsGiven id least most m text
+    → subcommand_of inet_app words ≡ Some (name, rows_of (found_of m)) → number_of id words ≡ Some (digits_value 10 (without_leading_plus text))
+given_number name id least most words m text given met = rw (met, given.row_is) refl
 
 -- words ask for one thing at most
 pub one_ask : (words : List Text) (ask other : Ask) → Asks words ask → Asks words other → ask ≡ other
 one_ask words Run Run a b = refl
-one_ask words Run (Make s k) a b = not_both (name_of words) a.1 b.1
-one_ask words (Make s k) Run a b = not_both (name_of words) b.1 a.1
+one_ask words Run (Make s k) a b = not_both (name_of words) _ _ a.1 b.1 run_isnt_make
+one_ask words Run (Race s k) a b = not_both (name_of words) _ _ a.1 b.1 run_isnt_race
+one_ask words (Make s k) Run a b = not_both (name_of words) _ _ a.1 b.1 make_isnt_run
 one_ask words (Make s k) (Make t l) a b = cc
+one_ask words (Make s k) (Race t l) a b = not_both (name_of words) _ _ a.1 b.1 make_isnt_race
+one_ask words (Race s k) Run a b = not_both (name_of words) _ _ a.1 b.1 race_isnt_run
+one_ask words (Race s k) (Make t l) a b = not_both (name_of words) _ _ a.1 b.1 race_isnt_make
+one_ask words (Race s k) (Race t l) a b = cc

@@ -1,17 +1,24 @@
 -- What the program reads, and what it writes for that. Our own rules.
-use Rattle.std.specs.Prelude.{◌≡◌, ◌≤◌, ℕ, ◌^◌, List, [], ◌++◌, length, codes, decimal, Option, Some, None}
+use Rattle.std.specs.Prelude.{◌≡◌, ◌≢◌, ◌≤◌, ℕ, ◌^◌, List, [], ◌++◌, length, codes, decimal, Option, Some, None}
 use Rattle.std.specs.Io.KnownBytes.{Appends}
 use Rattle.inet_io.specs.Ends.{ReadsWhole, AppendsFront}
+use Rattle.sock_script.specs.declared.parse.Mode.{Mode}
 use Rattle.sock_script.specs.declared.parse.Mode.TheVariants as modes
 use Rattle.sock_script.specs.Words.{lines_of}
 use Rattle.list_words.specs.Lists.{Each}
 use Rattle.capture_reader.specs.Captures.{Capture}
+use Rattle.capture_reader.specs.Grammar.{IsCapture}
+use Rattle.capture_reader.specs.Header.{HasHeader}
 use Rattle.flat_list.specs.Script.{Script}
 use Rattle.flat_list.specs.Sound.{IsSound}
-use Rattle.sock_script.specs.Grammar.{IsScript, IsFirstOutside}
-use Rattle.sock_script.specs.Output.{FlatOut, HasCapture, HasBadCapture, flat_replies, lists_of}
+use Rattle.sock_script.specs.Grammar.{IsScript, IsFirstOutside, capture_bytes, capture_device}
+use Rattle.sock_script.specs.Output.{FlatOut, flat_replies, lists_of}
 use Rattle.sock_script.specs.Make.{made_text}
 use Rattle.sock_script.specs.Counts.{script_counts, counts_text}
+use Rattle.race_record.specs.Record.{Race}
+use Rattle.race_record.specs.Lawful.{Lawful}
+use Rattle.race_record.specs.Headline.{Headline}
+use Rattle.race_text.specs.Render.{HasRace, RaceOut}
 use Rattle.inet_tool.specs.declared.fault.Fault.{Fault}
 use Rattle.inet_tool.specs.declared.fault.Fault.TheVariants as faults
 
@@ -24,10 +31,16 @@ pub record ReadsInput (old new : Option (List ℕ)) (bytes : List ℕ) : Type 0 
   pub whole : ReadsWhole old new bytes
   pub within : length bytes ≤ limit
 
+-- the bytes are a script, but what it has for a capture is none: it isn't empty, and has no header of one
+abbrev pub HasBadCapture : Mode → List ℕ → Type 0
+HasBadCapture mode bytes =
+    (script : Script) × IsScript mode bytes script × (capture_bytes script.capture bytes ≢ [])
+    × ¬ (HasHeader (capture_bytes script.capture bytes))
+
 -- the bytes have that fault: the first line outside the grammar, or a script's capture that is none
-abbrev pub HasFault : List ℕ → Fault → Type 0
-HasFault bytes (faults.Line n) = IsFirstOutside modes.Run (lines_of bytes) n
-HasFault bytes faults.Capture = HasBadCapture bytes
+abbrev pub HasFault : Mode → List ℕ → Fault → Type 0
+HasFault mode bytes (faults.Line n) = IsFirstOutside mode (lines_of bytes) n
+HasFault mode bytes faults.Capture = HasBadCapture mode bytes
 
 -- the line that tells a fault
 abbrev pub fault_text : Fault → List ℕ
@@ -35,8 +48,10 @@ fault_text (faults.Line n) = codes "bad script line " ++ decimal n ++ codes "\n"
 fault_text faults.Capture = codes "bad capture\n"
 
 -- the bytes are a script with a capture, which may be empty
-abbrev pub IsGood : List ℕ → Type 0
-IsGood bytes = (script : Script) × (capture : Capture) × HasCapture bytes script capture
+abbrev pub IsGood : Mode → List ℕ → Type 0
+IsGood mode bytes =
+    (script : Script) × (capture : Capture) × IsScript mode bytes script
+    × IsCapture (capture_device script.capture) (capture_bytes script.capture bytes) capture
 
 -- Whatever script these bytes are, each list that it runs through is sound: no two bound sockets of different origin
 -- conflict, but for those whose ports `connect` chose, and no two sockets that are full or in TIME_WAIT have one
@@ -45,26 +60,54 @@ abbrev pub RunsSound : List ℕ → Type 0
 RunsSound bytes =
     (script : Script) → IsScript modes.Run bytes script → Each IsSound (lists_of script)
 
--- The text is what is to be written for an input: the flat list's output, or the line that tells its fault, where it
--- has one.
-abbrev pub IsReply : List ℕ → Option Fault → List ℕ → Type 0
-IsReply bytes None text = FlatOut bytes text × RunsSound bytes
-IsReply bytes (Some fault) text = HasFault bytes fault × (text ≡ fault_text fault)
+-- what a run writes for a script: the flat list's output
+abbrev pub IsRunOf : List ℕ → List ℕ → Type 0
+IsRunOf bytes out = FlatOut bytes out × RunsSound bytes
+
+-- Whatever lawful record of a race of these bytes: no two full sockets ever have one four-tuple, no two bound sockets of
+-- different origin ever conflict, and each packet's answer has its cause.
+abbrev pub RacesSay : List ℕ → Type 0
+RacesSay bytes =
+    (script : Script) (capture : Capture) (race : Race) → HasRace bytes script capture → Lawful script capture race
+    → Headline race
+
+-- what a race writes for a script: the text of a lawful record, with so many lookers and passes
+abbrev pub IsRaceOf : ℕ → ℕ → List ℕ → List ℕ → Type 0
+IsRaceOf lookers passes bytes out = RaceOut lookers passes bytes out × RacesSay bytes
+
+-- what is written for a script's bytes
+abbrev pub Output : Type 1
+Output = List ℕ → List ℕ → Type 0
+
+-- The text is what is to be written for an input, where `Out` is written for a script: that, or the line that tells the
+-- input's fault, where it has one.
+abbrev pub IsReply : Mode → Output → List ℕ → Option Fault → List ℕ → Type 0
+IsReply mode Out bytes None text = Out bytes text
+IsReply mode Out bytes (Some fault) text = HasFault mode bytes fault × (text ≡ fault_text fault)
+
+-- The input was read to its end, and written grew by what is written for it.
+abbrev pub WritesOut : Output → Option (List ℕ) → Option (List ℕ) → Option (List ℕ) → Option (List ℕ) → Type 0
+WritesOut Out left left' written written' =
+    (bytes out : List ℕ) × ReadsInput left left' bytes × Out bytes out × Appends written written' out
 
 -- The input was read to its end and is a script, and written grew by the flat list's output of it.
 abbrev pub WritesFlatOut : Option (List ℕ) → Option (List ℕ) → Option (List ℕ) → Option (List ℕ) → Type 0
-WritesFlatOut left left' written written' =
-    (bytes out : List ℕ) × ReadsInput left left' bytes × IsReply bytes None out × Appends written written' out
+WritesFlatOut = WritesOut IsRunOf
+
+-- The input was read to its end and is a script for a race, and written grew by the text of a lawful record of it.
+abbrev pub WritesRace : ℕ → ℕ → Option (List ℕ) → Option (List ℕ) → Option (List ℕ) → Option (List ℕ) → Type 0
+WritesRace lookers passes = WritesOut (IsRaceOf lookers passes)
 
 -- The input was read to its end and has that fault, and written grew by the line that tells it.
-abbrev pub WritesFault : Option (List ℕ) → Option (List ℕ) → Option (List ℕ) → Option (List ℕ) → Fault → Type 0
-WritesFault left left' written written' fault =
-    (bytes : List ℕ) × ReadsInput left left' bytes × HasFault bytes fault × Appends written written' (fault_text fault)
+abbrev pub WritesFault : Mode → Option (List ℕ) → Option (List ℕ) → Option (List ℕ) → Option (List ℕ) → Fault → Type 0
+WritesFault mode left left' written written' fault =
+    (bytes : List ℕ) × ReadsInput left left' bytes × HasFault mode bytes fault
+    × Appends written written' (fault_text fault)
 
 -- The input was read to its end, and written grew by a front of what was to be written for it, without the last byte.
-abbrev pub WritesFront : Option (List ℕ) → Option (List ℕ) → Option (List ℕ) → Option (List ℕ) → Type 0
-WritesFront left left' written written' =
-    (bytes text : List ℕ) × (fault : Option Fault) × ReadsInput left left' bytes × IsReply bytes fault text
+abbrev pub WritesFront : Mode → Output → Option (List ℕ) → Option (List ℕ) → Option (List ℕ) → Option (List ℕ) → Type 0
+WritesFront mode Out left left' written written' =
+    (bytes text : List ℕ) × (fault : Option Fault) × ReadsInput left left' bytes × IsReply mode Out bytes fault text
     × AppendsFront written written' text
 
 -- The text is the counts of a generated text's commands, by the flat list's replies to them.

@@ -1,5 +1,6 @@
 -- Which status an input gets. Our own rule.
 use Rattle.std.specs.Prelude.{ℕ, ◌≤◌, ◌<◌, List, length}
+use Rattle.sock_script.specs.declared.parse.Mode.{Mode}
 use Rattle.inet_tool.specs.declared.fault.Fault.{Fault}
 use Rattle.inet_tool.specs.declared.fault.Fault.TheVariants as faults
 use Rattle.inet_tool.specs.declared.status.Status.{Status}
@@ -11,14 +12,14 @@ abbrev pub fault_status : Fault → Status
 fault_status (faults.Line n) = BadScript n
 fault_status faults.Capture = BadCapture
 
--- These bytes can get the status. A failed read and want of memory may come whatever they are; a failed write comes
+-- These bytes, read so, can get the status. A failed read and want of memory may come whatever they are; a failed write comes
 -- once they were read, so within the limit.
-abbrev pub Answers : List ℕ → Status → Type 0
-Answers bytes Done = (length bytes ≤ limit) × IsGood bytes
-Answers bytes Usage = ⊥
-Answers bytes (BadScript n) = (length bytes ≤ limit) × HasFault bytes (faults.Line n)
-Answers bytes BadCapture = (length bytes ≤ limit) × HasFault bytes faults.Capture
-Answers bytes TooLong = limit < length bytes
-Answers bytes ReadFault = Unit {0}
-Answers bytes WriteFault = length bytes ≤ limit
-Answers bytes Memory = Unit {0}
+abbrev pub Answers : Mode → List ℕ → Status → Type 0
+Answers mode bytes Done = (length bytes ≤ limit) × IsGood mode bytes
+Answers mode bytes Usage = ⊥
+Answers mode bytes (BadScript n) = (length bytes ≤ limit) × HasFault mode bytes (faults.Line n)
+Answers mode bytes BadCapture = (length bytes ≤ limit) × HasFault mode bytes faults.Capture
+Answers mode bytes TooLong = limit < length bytes
+Answers mode bytes ReadFault = Unit {0}
+Answers mode bytes WriteFault = length bytes ≤ limit
+Answers mode bytes Memory = Unit {0}

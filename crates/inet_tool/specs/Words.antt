@@ -1,6 +1,6 @@
 -- The words of a command line, the program's name first. What clap makes of them is its own relation: which words it
 -- refuses is `fault_of`, and the subcommand that it meets, with its values, is `subcommand_of`. The forms are our own rule.
-use Rattle.std.specs.Prelude.{◌≡◌, ◌<◌, ◌≤◌, ◌^◌, ℕ, List, [], ◌∷◌, Option, Some, true, pos, drop, codes, decimal, option_map, option_and_then}
+use Rattle.std.specs.Prelude.{◌≡◌, ◌<◌, ◌≤◌, ◌^◌, ℕ, List, [], ◌∷◌, Option, Some, true, pos, codes, decimal, option_map, option_and_then}
 use Rattle.std.specs.Str.Parse.{digits_value, without_leading_plus}
 use Rattle.clap.specs.Words.{App, Rule, Text, fault_of, new_app, new_rule, one_of, subcommand_of, with_rule, with_subcommand}
 use Rattle.clap.specs.Simple.{on_top}
@@ -8,7 +8,9 @@ use Rattle.clap.specs.declared.builder.action.ArgAction.TheVariants.{Set}
 use Rattle.clap.specs.declared.builder.value_parser.ValueParser.{ValueParser}
 use Rattle.clap.specs.declared.builder.value_parser.ValueParser.TheVariants.{Signed}
 use Rattle.inet_tool.specs.declared.words.Ask.{Ask}
-use Rattle.inet_tool.specs.declared.words.Ask.TheVariants.{Run, Make}
+use Rattle.inet_tool.specs.declared.words.Ask.TheVariants.{Run, Make, Race}
+use Rattle.sock_script.specs.declared.parse.Mode.{Mode}
+use Rattle.sock_script.specs.declared.parse.Mode.TheVariants as modes
 
 -- a required positional that takes one value
 abbrev pub number_rule : Text → ValueParser → Rule
@@ -24,15 +26,26 @@ make_app = with_rule
     (with_rule (new_app (codes "make")) (number_rule (codes "SEED") (Signed (pos 0) (pos 4294967295))))
     (number_rule (codes "COUNT") (Signed (pos 0) (pos 100000)))
 
--- The program: one of the two is required, and nothing else is declared, `help` neither.
+-- a required option that takes one value, by the long name that its id is
+abbrev pub option_rule : Text → ValueParser → Rule
+option_rule id parser = record (number_rule id parser) { long = Some id }
+
+-- `race --lookers N --passes P`
+abbrev pub race_app : App
+race_app = with_rule
+    (with_rule (new_app (codes "race")) (option_rule (codes "lookers") (Signed (pos 1) (pos 16))))
+    (option_rule (codes "passes") (Signed (pos 1) (pos 64)))
+
+-- The program: one of the three is required, and nothing else is declared, `help` neither.
+abbrev pub top_app : App
+top_app = on_top (λ s. record s {
+  subcommand_required = true;
+  disable_help_flag = true;
+  disable_help_subcommand = true;
+}) (new_app (codes "inet"))
+
 abbrev pub inet_app : App
-inet_app =
-    let top = on_top (λ s. record s {
-      subcommand_required = true;
-      disable_help_flag = true;
-      disable_help_subcommand = true;
-    }) (new_app (codes "inet")) in
-    with_subcommand (with_subcommand top run_app.top) make_app.top
+inet_app = with_subcommand (with_subcommand (with_subcommand top_app run_app.top) make_app.top) race_app.top
 
 -- clap takes the words
 abbrev pub IsTaken : List Text → Type 0
@@ -46,7 +59,7 @@ IsRefused words = ¬ (IsTaken words)
 abbrev pub name_of : List Text → Option Text
 name_of words = option_map (λ met. met.0) (subcommand_of inet_app words)
 
--- The number that clap reads for one of the subcommand's positionals. It takes `+7` and `007` too, which are 7.
+-- The number that clap reads for one of the subcommand's arguments. It takes `+7` and `007` too, which are 7.
 abbrev pub number_of : Text → List Text → Option ℕ
 number_of id words = option_map (λ text. digits_value 10 (without_leading_plus text))
     (option_and_then (λ met. one_of id met.1) (subcommand_of inet_app words))
@@ -60,10 +73,21 @@ abbrev pub IsMake : List Text → ℕ → ℕ → Type 0
 IsMake words seed count = IsTaken words × (name_of words ≡ Some (codes "make"))
     × (number_of (codes "SEED") words ≡ Some seed) × (number_of (codes "COUNT") words ≡ Some count)
 
+-- the words ask to race a script, with so many lookers and so many passes a lookup
+abbrev pub IsRace : List Text → ℕ → ℕ → Type 0
+IsRace words lookers passes = IsTaken words × (name_of words ≡ Some (codes "race"))
+    × (number_of (codes "lookers") words ≡ Some lookers) × (number_of (codes "passes") words ≡ Some passes)
+
+-- the words ask to read a script, which is read for that
+abbrev pub Reads : Mode → List Text → Type 0
+Reads modes.Run words = IsRun words
+Reads modes.Race words = (lookers passes : ℕ) × IsRace words lookers passes
+
 -- the words ask for it
 abbrev pub Asks : List Text → Ask → Type 0
 Asks words Run = IsRun words
 Asks words (Make seed count) = IsMake words seed count
+Asks words (Race lookers passes) = IsRace words lookers passes
 
 -- `run` is taken, and asks to run a script
 abbrev pub RunAsks : Type 0
@@ -74,7 +98,19 @@ abbrev pub MakeAsks : Type 0
 MakeAsks = (name : Text) (seed count : ℕ) → seed < 2 ^ 32 → count ≤ 100000
     → IsMake (name ∷ codes "make" ∷ decimal seed ∷ decimal count ∷ []) seed count
 
+-- `race` with both options in range, in either order, is taken, and asks to race with these
+abbrev pub RaceAsks : Type 0
+RaceAsks = (name : Text) (lookers passes : ℕ) → 1 ≤ lookers → lookers ≤ 16 → 1 ≤ passes → passes ≤ 64
+    → IsRace (name ∷ codes "race" ∷ codes "--lookers" ∷ decimal lookers ∷ codes "--passes" ∷ decimal passes ∷ []) lookers passes
+    × IsRace (name ∷ codes "race" ∷ codes "--passes" ∷ decimal passes ∷ codes "--lookers" ∷ decimal lookers ∷ []) lookers passes
+
 -- the numbers that words ask for are in range
 abbrev pub MakesInRange : Type 0
 MakesInRange =
     (words : List Text) (seed count : ℕ) → IsMake words seed count → (seed < 2 ^ 32) × (count ≤ 100000)
+
+-- so are those of a race
+abbrev pub RacesInRange : Type 0
+RacesInRange =
+    (words : List Text) (lookers passes : ℕ) → IsRace words lookers passes
+    → (1 ≤ lookers) × (lookers ≤ 16) × (1 ≤ passes) × (passes ≤ 64)

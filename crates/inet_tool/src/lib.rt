@@ -1,14 +1,16 @@
 //! The top call: all that the program does, over ends that are handed in.
 //!
 //! `inet run` reads a script, with a capture at its end or without, runs its sections one after the other over the
-//! socket tables, and writes the reply of each command and what each packet finds. `inet make` reads nothing, runs
+//! socket tables, and writes the reply of each command and what each packet finds. `inet race` reads one too, runs its
+//! sections and looks its packets up beside each other, and writes the record of that. `inet make` reads nothing, runs
 //! a generated script, and writes how many of its commands were done. The contract of [`inet`] has each status of
 //! the table below, when it comes and what was written then; `main` makes the real ends, calls it and ends with the
-//! status. It stands on `sock_script`, `race_run` and `inet_io`, and on `clap` for the words.
+//! status. It stands on `sock_script`, `race_run`, `race_threads`, `race_text` and `inet_io`, and on `clap` for the
+//! words.
 //!
 //! | Status | Exit | When | Written |
 //! |---|---|---|---|
-//! | `Done` | 0 | the input is a script; of `make`, whatever its numbers | a line for each command and packet; of `make`, counts |
+//! | `Done` | 0 | the input is a script; of `make`, whatever its numbers | a line for each command and packet; of `race`, a record; of `make`, counts |
 //! | `Usage` | 2 | clap refuses the words | nothing, and nothing was read |
 //! | `BadScript(n)` | 3 | line n is the first outside the grammar | `bad script line n` |
 //! | `BadCapture` | 4 | the script's capture isn't empty, and begins with a header of neither format | `bad capture` |
@@ -27,13 +29,16 @@ ghost use Rattle.std.specs.Prelude.{◌≡◌, ◌⊎◌, ◌+◌, ◌≤◌, �
 ghost use Rattle.inet_io.specs.Ends.{Rose, ReadsMoreThan};
 ghost use Rattle.inet_tool.specs.declared.fault.Fault.{Fault as AnyFault};
 ghost use Rattle.inet_tool.specs.declared.fault.Fault.TheVariants as faults;
-ghost use Rattle.inet_tool.specs.Words.{IsRun, IsMake, IsRefused};
-ghost use Rattle.inet_tool.specs.Table.{limit, HasFault, IsGood, WritesFlatOut, WritesFault, WritesFront, WritesCounts, WritesFrontOfCounts};
+ghost use Rattle.sock_script.specs.declared.parse.Mode.{Mode};
+ghost use Rattle.sock_script.specs.declared.parse.Mode.TheVariants as modes;
+ghost use Rattle.inet_tool.specs.Words.{IsRun, IsMake, IsRace, IsRefused, Reads};
+ghost use Rattle.inet_tool.specs.Table.{limit, HasFault, IsGood, IsRaceOf, IsRunOf, WritesFlatOut, WritesRace, WritesFault, WritesFront, WritesCounts, WritesFrontOfCounts};
 ghost use Rattle.inet_tool.specs.Verdict.{Answers, fault_status};
 
 mod fault;
 pub mod law;
 mod made;
+mod race;
 mod reply;
 mod serve;
 mod status;
@@ -44,71 +49,83 @@ mod words;
 use inet_io::{Gate, Sink, Source};
 pub use status::Status;
 use std::alloc::Global;
+use std::sync::Wait;
+use std::thread::Threads;
 use words::{Ask, AskEnd};
 
 /// The most bytes that an input may have.
 pub const LIMIT: usize = 16_777_216;
 
-/// Does what the words ask for: reads the source to its end and writes the reply to what it read, or makes a script
-/// and writes its counts.
+/// Does what the words ask for: reads the source to its end and writes the reply to what it read, or the record of a
+/// race of it, or makes a script and writes its counts.
 ///
 /// `words` has the program's name first. What is written is built whole before the first write, so that
-/// only a write that fails leaves a part of it. `rt` and the gate are for commands that run threads:
-/// neither is used so far.
+/// only a write that fails leaves a part of it. `rt` is for a race, which runs threads and waits for them, and so is
+/// the gate, at which its workers call before each command and packet.
 ///
 /// Reading takes at most 16,777,217 reads. Where several causes stand, the earlier of usage, a failed
 /// read, too long an input, a bad line, a bad capture and a failed write is answered; want of memory may come in
 /// place of what a later test would give.
-pub fn inet<R, S: Source, K: Sink, G: Gate>(
-    _rt: &R,
+pub fn inet<R: Threads + Wait + Sync, S: Source, K: Sink, G: Gate>(
+    rt: &R,
     alloc: Global,
     words: &[String],
     source: &mut S,
     sink: &mut K,
-    _gate: &G,
+    gate: &G,
 ) -> Status
     // Words are refused where clap refuses them, and nowhere else.
     ensures usage { result ≡ Status.Usage → IsRefused (map string_bytes words.now) }
     ensures refused { IsRefused (map string_bytes words.now)
         → (result ≡ Status.Usage) ⊎ (result ≡ Status.Memory) }
     ensures untouched { IsRefused (map string_bytes words.now) → (source.new ≡ source.old) × (sink.new ≡ sink.old) }
-    // Other words ask to run a script or to make one, so what follows speaks of all of them.
+    // Other words ask to run a script, to race one or to make one, so what follows speaks of all of them.
     ensures asked { (result ≡ Status.Usage) ⊎ ((result ≡ Status.Memory) ⊎ (IsRun (map string_bytes words.now)
-        ⊎ ((seed : ℕ) × (count : ℕ) × IsMake (map string_bytes words.now) seed count))) }
+        ⊎ (((lookers : ℕ) × (passes : ℕ) × IsRace (map string_bytes words.now) lookers passes)
+        ⊎ ((seed : ℕ) × (count : ℕ) × IsMake (map string_bytes words.now) seed count)))) }
 
-    // What stands after each status of `run`.
+    // What stands after each status of `run` and of `race`, which have each their grammar.
     ensures done { IsRun (map string_bytes words.now) → result ≡ Status.Done → WritesFlatOut
         (S.left source.old) (S.left source.new) (K.written sink.old) (K.written sink.new) }
-    ensures bad_script { (n : ℕ) → result ≡ Status.BadScript n → WritesFault
+    ensures raced { (lookers passes : ℕ) → IsRace (map string_bytes words.now) lookers passes → result ≡ Status.Done
+        → WritesRace lookers passes
+        (S.left source.old) (S.left source.new) (K.written sink.old) (K.written sink.new) }
+    ensures bad_script { (mode : Mode) → Reads mode (map string_bytes words.now)
+        → (n : ℕ) → result ≡ Status.BadScript n → WritesFault mode
         (S.left source.old) (S.left source.new) (K.written sink.old) (K.written sink.new) (faults.Line n) }
-    ensures bad_capture { result ≡ Status.BadCapture → WritesFault
+    ensures bad_capture { (mode : Mode) → Reads mode (map string_bytes words.now)
+        → result ≡ Status.BadCapture → WritesFault mode
         (S.left source.old) (S.left source.new) (K.written sink.old) (K.written sink.new) faults.Capture }
     ensures too_long { result ≡ Status.TooLong
         → ReadsMoreThan limit (S.left source.old) (S.left source.new) × (sink.new ≡ sink.old) }
     ensures read_fault { result ≡ Status.ReadFault
         → Rose (S.faults source.old) (S.faults source.new) × (sink.new ≡ sink.old) }
     ensures write_fault { result ≡ Status.WriteFault → Rose (K.faults sink.old) (K.faults sink.new) }
-    ensures front { IsRun (map string_bytes words.now) → result ≡ Status.WriteFault → WritesFront
+    ensures front { IsRun (map string_bytes words.now) → result ≡ Status.WriteFault → WritesFront modes.Run IsRunOf
+        (S.left source.old) (S.left source.new) (K.written sink.old) (K.written sink.new) }
+    ensures raced_front { (lookers passes : ℕ) → IsRace (map string_bytes words.now) lookers passes
+        → result ≡ Status.WriteFault → WritesFront modes.Race (IsRaceOf lookers passes)
         (S.left source.old) (S.left source.new) (K.written sink.old) (K.written sink.new) }
     ensures memory { result ≡ Status.Memory → sink.new ≡ sink.old }
 
     // The input is read by so many reads at most.
     ensures reads { S.calls source.new ≤ S.calls source.old + limit + 1 }
 
-    // Which status the input of `run` gets, where the source tells it.
-    ensures verdict { IsRun (map string_bytes words.now)
-        → IfSome (S.left source.old) (λ bytes. Answers bytes result) }
-    ensures over_limit { IsRun (map string_bytes words.now) → IfSome (S.left source.old) (λ bytes.
-        limit < length bytes
+    // Which status the input of `run` or `race` gets, where the source tells it.
+    ensures verdict { (mode : Mode) → Reads mode (map string_bytes words.now)
+        → IfSome (S.left source.old) (λ bytes. Answers mode bytes result) }
+    ensures over_limit { (mode : Mode) → Reads mode (map string_bytes words.now)
+        → IfSome (S.left source.old) (λ bytes. limit < length bytes
         → (result ≡ Status.TooLong) ⊎ ((result ≡ Status.ReadFault) ⊎ (result ≡ Status.Memory))) }
-    ensures broken { IsRun (map string_bytes words.now) → IfSome (S.left source.old) (λ bytes. (fault : AnyFault)
-        → length bytes ≤ limit → HasFault bytes fault
+    ensures broken { (mode : Mode) → Reads mode (map string_bytes words.now)
+        → IfSome (S.left source.old) (λ bytes. (fault : AnyFault)
+        → length bytes ≤ limit → HasFault mode bytes fault
         → (result ≡ fault_status fault) ⊎ ((result ≡ Status.ReadFault)
         ⊎ ((result ≡ Status.WriteFault) ⊎ (result ≡ Status.Memory)))) }
 
     // A script within the limit is served, where neither end failed and memory was there.
-    ensures complete { IsRun (map string_bytes words.now) → IfSome (S.left source.old) (λ bytes.
-        length bytes ≤ limit → IsGood bytes
+    ensures complete { (mode : Mode) → Reads mode (map string_bytes words.now)
+        → IfSome (S.left source.old) (λ bytes. length bytes ≤ limit → IsGood mode bytes
         → ¬ (Rose (S.faults source.old) (S.faults source.new))
         → ¬ (Rose (K.faults sink.old) (K.faults sink.new))
         → (result ≡ Status.Done) ⊎ (result ≡ Status.Memory)) }
@@ -125,6 +142,9 @@ pub fn inet<R, S: Source, K: Sink, G: Gate>(
     match words::ask_of(alloc, words) {
         Ok(Ask::Run) => serve::run(alloc, source, sink),
         Ok(Ask::Make { seed, count }) => serve::make(alloc, seed, count, sink),
+        Ok(Ask::Race { lookers, passes }) => {
+            race::serve(rt, alloc, lookers, passes, source, sink, gate)
+        }
         Err(AskEnd::Usage) => Status::Usage,
         Err(AskEnd::Memory) => Status::Memory,
     }

@@ -1,6 +1,7 @@
 //! What is written for an input.
 ghost use Rattle.std.specs.Prelude.{◌≡◌, ◌≤◌, length, IfOk};
-ghost use Rattle.inet_tool.specs.Table.{limit, IsReply, fault_text};
+ghost use Rattle.sock_script.specs.declared.parse.Mode.TheVariants as modes;
+ghost use Rattle.inet_tool.specs.Table.{limit, IsReply, IsRunOf, fault_text};
 
 use crate::fault::Fault;
 use capture_reader::CaptureEnd;
@@ -19,7 +20,7 @@ pub struct Reply {
 /// The reply to an input within the limit.
 pub fn reply_to(alloc: Global, bytes: &[u8]) -> Result<Reply, AllocError>
     requires { length bytes.now ≤ limit }
-    ensures { IfOk result (λ reply. IsReply bytes.now reply.fault reply.text.items) }
+    ensures { IfOk result (λ reply. IsReply modes.Run IsRunOf bytes.now reply.fault reply.text.items) }
 {
     let script = match parse(alloc, bytes, Mode::Run) {
         Ok(script) => script,
@@ -37,7 +38,7 @@ pub fn reply_to(alloc: Global, bytes: &[u8]) -> Result<Reply, AllocError>
 }
 
 /// The reply that tells what is wrong.
-fn refusal(alloc: Global, fault: Fault) -> Result<Reply, AllocError>
+pub fn refusal(alloc: Global, fault: Fault) -> Result<Reply, AllocError>
     ensures text { IfOk result (λ reply. reply.text.items ≡ fault_text fault) }
     ensures fault { IfOk result (λ reply. reply.fault ≡ Some fault) }
 {

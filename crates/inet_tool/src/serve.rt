@@ -3,7 +3,8 @@ ghost use Rattle.std.specs.Prelude.{◌≡◌, ◌⊎◌, ◌+◌, ◌≤◌, �
 ghost use Rattle.inet_io.specs.Ends.{Rose, ReadsMoreThan};
 ghost use Rattle.inet_tool.specs.declared.fault.Fault.{Fault as AnyFault};
 ghost use Rattle.inet_tool.specs.declared.fault.Fault.TheVariants as faults;
-ghost use Rattle.inet_tool.specs.Table.{limit, HasFault, IsGood, WritesFlatOut, WritesFault, WritesFront, WritesCounts, WritesFrontOfCounts};
+ghost use Rattle.sock_script.specs.declared.parse.Mode.TheVariants as modes;
+ghost use Rattle.inet_tool.specs.Table.{limit, HasFault, IsGood, IsRunOf, WritesFlatOut, WritesFault, WritesFront, WritesCounts, WritesFrontOfCounts};
 ghost use Rattle.inet_tool.specs.Verdict as verdicts;
 
 use crate::fault::Fault;
@@ -16,26 +17,26 @@ pub fn run<S: Source, K: Sink>(alloc: Global, source: &mut S, sink: &mut K) -> S
     ensures done { result ≡ Status.Done → WritesFlatOut
         (S.left source.old) (S.left source.new) (K.written sink.old) (K.written sink.new) }
     ensures no_usage { result ≡ Status.Usage → ⊥ }
-    ensures bad_script { (n : ℕ) → result ≡ Status.BadScript n → WritesFault
+    ensures bad_script { (n : ℕ) → result ≡ Status.BadScript n → WritesFault modes.Run
         (S.left source.old) (S.left source.new) (K.written sink.old) (K.written sink.new) (faults.Line n) }
-    ensures bad_capture { result ≡ Status.BadCapture → WritesFault
+    ensures bad_capture { result ≡ Status.BadCapture → WritesFault modes.Run
         (S.left source.old) (S.left source.new) (K.written sink.old) (K.written sink.new) faults.Capture }
     ensures too_long { result ≡ Status.TooLong
         → ReadsMoreThan limit (S.left source.old) (S.left source.new) × (sink.new ≡ sink.old) }
     ensures read_fault { result ≡ Status.ReadFault
         → Rose (S.faults source.old) (S.faults source.new) × (sink.new ≡ sink.old) }
     ensures write_fault { result ≡ Status.WriteFault → Rose (K.faults sink.old) (K.faults sink.new)
-        × WritesFront (S.left source.old) (S.left source.new) (K.written sink.old) (K.written sink.new) }
+        × WritesFront modes.Run IsRunOf (S.left source.old) (S.left source.new) (K.written sink.old) (K.written sink.new) }
     ensures memory { result ≡ Status.Memory → sink.new ≡ sink.old }
     ensures reads { S.calls source.new ≤ S.calls source.old + limit + 1 }
-    ensures verdict { IfSome (S.left source.old) (λ bytes. verdicts.Answers bytes result) }
+    ensures verdict { IfSome (S.left source.old) (λ bytes. verdicts.Answers modes.Run bytes result) }
     ensures over_limit { IfSome (S.left source.old) (λ bytes. limit < length bytes
         → (result ≡ Status.TooLong) ⊎ ((result ≡ Status.ReadFault) ⊎ (result ≡ Status.Memory))) }
     ensures broken { IfSome (S.left source.old) (λ bytes. (fault : AnyFault)
-        → length bytes ≤ limit → HasFault bytes fault
+        → length bytes ≤ limit → HasFault modes.Run bytes fault
         → (result ≡ verdicts.fault_status fault) ⊎ ((result ≡ Status.ReadFault)
         ⊎ ((result ≡ Status.WriteFault) ⊎ (result ≡ Status.Memory)))) }
-    ensures complete { IfSome (S.left source.old) (λ bytes. length bytes ≤ limit → IsGood bytes
+    ensures complete { IfSome (S.left source.old) (λ bytes. length bytes ≤ limit → IsGood modes.Run bytes
         → ¬ (Rose (S.faults source.old) (S.faults source.new))
         → ¬ (Rose (K.faults sink.old) (K.faults sink.new))
         → (result ≡ Status.Done) ⊎ (result ≡ Status.Memory)) }

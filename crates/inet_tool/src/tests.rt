@@ -5,7 +5,7 @@ use std::alloc::{AllocError, Global};
 use std::test::Fail;
 
 /// Command lines, the words parted by a space, and what each asks for.
-const ROWS: [(&str, Result<Ask, AskEnd>); 17] = [
+const ROWS: [(&str, Result<Ask, AskEnd>); 34] = [
     ("inet run", Ok(Ask::Run)),
     ("inet make 1 0", Ok(Ask::Make { seed: 1, count: 0 })),
     (
@@ -23,6 +23,44 @@ const ROWS: [(&str, Result<Ask, AskEnd>); 17] = [
     ("inet make 1", Err(AskEnd::Usage)),
     ("inet make 1 2 3", Err(AskEnd::Usage)),
     ("inet run x", Err(AskEnd::Usage)),
+    (
+        "inet race --lookers 1 --passes 1",
+        Ok(Ask::Race {
+            lookers: 1,
+            passes: 1,
+        }),
+    ),
+    (
+        "inet race --passes 64 --lookers 16",
+        Ok(Ask::Race {
+            lookers: 16,
+            passes: 64,
+        }),
+    ),
+    (
+        "inet race --lookers=+4 --passes=008",
+        Ok(Ask::Race {
+            lookers: 4,
+            passes: 8,
+        }),
+    ),
+    ("inet race", Err(AskEnd::Usage)),
+    ("inet race --lookers 4", Err(AskEnd::Usage)),
+    ("inet race --passes 8", Err(AskEnd::Usage)),
+    ("inet race --lookers 0 --passes 1", Err(AskEnd::Usage)),
+    ("inet race --lookers 17 --passes 1", Err(AskEnd::Usage)),
+    ("inet race --lookers 1 --passes 0", Err(AskEnd::Usage)),
+    ("inet race --lookers 1 --passes 65", Err(AskEnd::Usage)),
+    ("inet race --lookers 1 --passes -1", Err(AskEnd::Usage)),
+    ("inet race --lookers --passes 1", Err(AskEnd::Usage)),
+    (
+        "inet race --lookers 1 --lookers 2 --passes 1",
+        Err(AskEnd::Usage),
+    ),
+    ("inet race --lookers 1 --passes 1 x", Err(AskEnd::Usage)),
+    ("inet race 1 1", Err(AskEnd::Usage)),
+    ("inet race -h", Err(AskEnd::Usage)),
+    ("inet run --lookers 1", Err(AskEnd::Usage)),
     ("inet help", Err(AskEnd::Usage)),
     ("inet --help", Err(AskEnd::Usage)),
     ("inet run -h", Err(AskEnd::Usage)),

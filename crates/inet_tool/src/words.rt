@@ -5,7 +5,7 @@
 ghost use Rattle.std.specs.Prelude.{◌≡◌, ◌≤◌, ◌⊎◌, ℕ, map, string_bytes, IfOk, false};
 ghost use Rattle.clap.specs.Words.{app_of, rule_of};
 ghost use Rattle.clap.specs.declared.builder.command.Command.TheViews.{out-Command as fields_of};
-ghost use Rattle.inet_tool.specs.Words.{Asks, IsRefused, inet_app, make_app, number_rule};
+ghost use Rattle.inet_tool.specs.Words.{Asks, IsRefused, inet_app, make_app, number_rule, option_rule, race_app, top_app};
 
 use clap::builder::ValueParser;
 use clap::error::ErrorKind;
@@ -19,6 +19,8 @@ pub enum Ask {
     Run,
     /// To make so many commands from the seed, and to run them.
     Make { seed: u32, count: u32 },
+    /// To race the script that the source gives, with so many lookers, and so many passes a lookup at most.
+    Race { lookers: u32, passes: u32 },
 }
 
 /// Why the words ask for nothing.
@@ -33,6 +35,12 @@ pub enum AskEnd {
 /// The most commands that may be asked for.
 const MOST_COMMANDS: i64 = 100_000;
 
+/// The most lookers that may be asked for.
+const MOST_LOOKERS: i64 = 16;
+
+/// The most passes that a lookup may be allowed.
+const MOST_PASSES: i64 = 64;
+
 /// What the words ask for, the program's name first.
 ///
 /// An error of `clap`'s own is `Usage`, a call for help among them.
@@ -40,6 +48,8 @@ pub fn ask_of(alloc: Global, words: &[String]) -> Result<Ask, AskEnd>
     // What is answered is what the words ask for.
     ensures asks { IfOk result (Asks (map string_bytes words.now)) }
     ensures in_range { (seed count : ℕ) → result ≡ Ok (Ask.Make seed count) → count ≤ 100000 }
+    ensures race_in_range { (lookers passes : ℕ) → result ≡ Ok (Ask.Race lookers passes)
+        → (1 ≤ lookers) × (lookers ≤ 16) × (1 ≤ passes) × (passes ≤ 64) }
     ensures usage { result ≡ Err AskEnd.Usage → IsRefused (map string_bytes words.now) }
     // Words that ask for something get it, and others are refused, where there is memory.
     ensures found { (ask : Ask) → Asks (map string_bytes words.now) ask
@@ -54,6 +64,11 @@ pub fn ask_of(alloc: Global, words: &[String]) -> Result<Ask, AskEnd>
         Ok(matches) => matches,
         Err(error) => return Err(end_of(error.kind())),
     };
+    if let Some(numbers) = matches.subcommand_matches("race") {
+        let lookers = numbers.get_one::<u32>("lookers").unwrap();
+        let passes = numbers.get_one::<u32>("passes").unwrap();
+        return Ok(Ask::Race { lookers, passes });
+    }
     let Some(numbers) = matches.subcommand_matches("make") else {
         return Ok(Ask::Run);
     };
@@ -73,16 +88,26 @@ fn end_of(kind: ErrorKind) -> AskEnd
     }
 }
 
-/// The command: `run`, or `make SEED COUNT`, and no help.
+/// The command: `run`, `make SEED COUNT`, or `race` with its two options, and no help.
 fn command<'a>(alloc: Global) -> Result<Command<'a>, AllocError>
     ensures { IfOk result (λ command. app_of command ≡ inet_app) }
 {
-    let inet = Command::new(alloc, "inet")
+    let run = Command::new(alloc, "run");
+    let two = top(alloc)
+        .subcommand(run)?
+        .subcommand(make_command(alloc)?)?;
+    two.subcommand(race_command(alloc)?)
+}
+
+/// The command without its subcommands.
+fn top<'a>(alloc: Global) -> Command<'a>
+    ensures app { app_of result ≡ top_app }
+    ensures local { (fields_of result).has_globals ≡ false }
+{
+    Command::new(alloc, "inet")
         .subcommand_required(true)
         .disable_help_flag(true)
-        .disable_help_subcommand(true);
-    let run = Command::new(alloc, "run");
-    inet.subcommand(run)?.subcommand(make_command(alloc)?)
+        .disable_help_subcommand(true)
 }
 
 /// The subcommand `make`, with its two numbers.
@@ -93,6 +118,24 @@ fn make_command<'a>(alloc: Global) -> Result<Command<'a>, AllocError>
     let seed = number(alloc, "SEED", value_parser!(u32));
     let count = number(alloc, "COUNT", value_parser!(u32).range(..=MOST_COMMANDS));
     Command::new(alloc, "make").arg(seed)?.arg(count)
+}
+
+/// The subcommand `race`, with its two options.
+fn race_command<'a>(alloc: Global) -> Result<Command<'a>, AllocError>
+    ensures app { IfOk result (λ command. app_of command ≡ race_app) }
+    ensures local { IfOk result (λ command. (fields_of command).has_globals ≡ false) }
+{
+    let lookers = option(alloc, "lookers", value_parser!(u32).range(1..=MOST_LOOKERS));
+    let passes = option(alloc, "passes", value_parser!(u32).range(1..=MOST_PASSES));
+    Command::new(alloc, "race").arg(lookers)?.arg(passes)
+}
+
+/// A required option that is one number.
+fn option<'a>(alloc: Global, id: &'a str, parser: ValueParser<'a>) -> Arg<'a>
+    ensures rule { rule_of result ≡ option_rule id.entry.now parser.entry }
+    ensures local { result.global ≡ false }
+{
+    number(alloc, id, parser).long(id)
 }
 
 /// A required positional that is one number.

@@ -2,6 +2,7 @@ use Rattle.std.proofs.Common.{rules, ◌≡◌, ◌∙◌, ap}
 use Rattle.std.specs.Prelude.{Err}
 use Rattle.capture_reader.specs.declared.capture.CaptureEnd.TheVariants as ends
 use Rattle.inet_tool.specs.declared.fault.Fault.TheVariants as faults
+use Rattle.inet_tool.specs.Table.{IsRunOf}
 use Rattle.inet_tool.proofs.Faults.{bad_reply}
 use Rattle.sock_script.specs.declared.parse.Mode.TheVariants as modes
 use Rattle.sock_script.specs.Output.{script_text}
@@ -27,6 +28,6 @@ pub returns-in-Err-BadHead : goal.returns-in-Err-BadHead
 returns-in-Err-BadHead c =
     let is : c.read.result ≡ Err ends.BadHead = search rules in
     let none = c.read.ensures.bad_head.0 is in
-    bad_reply c.args.bytes.now faults.Capture c.refusal-in-Err-BadHead.result
+    bad_reply modes.Run IsRunOf c.args.bytes.now faults.Capture c.refusal-in-Err-BadHead.result
     (c.in-Ok.script, c.in-Ok.ensures.script, none.0, none.1)
     c.refusal-in-Err-BadHead.ensures.text c.refusal-in-Err-BadHead.ensures.fault

@@ -1,7 +1,8 @@
 use Rattle.std.proofs.Common.{rules, ◌≡◌, ◌≤◌, Some, ℕ, List, length, subst, inl, ap}
 use Rattle.sock_script.specs.Output.{FlatOut}
+use Rattle.sock_script.specs.declared.parse.Mode.TheVariants as modes
 use Rattle.inet_tool.specs.declared.fault.Fault.TheVariants as faults
-use Rattle.inet_tool.specs.Table.{limit, HasFault, IsGood, ReadsInput, WritesFault, fault_text}
+use Rattle.inet_tool.specs.Table.{limit, HasFault, IsGood, IsRunOf, ReadsInput, WritesFault, fault_text}
 use Rattle.std.specs.Io.KnownBytes.{Appends}
 use Rattle.inet_tool.specs.Verdict.{fault_status}
 use Rattle.inet_tool.proofs.Faults.{one_fault, no_fault, told_by}
@@ -12,30 +13,30 @@ use Rattle.inet_tool.proofs.serve.run.Goals as goal
 pub returns-in-Ok-Some-Line-clause-bad_script : goal.returns-in-Ok-Some-Line-clause-bad_script
 returns-in-Ok-Some-Line-clause-bad_script g c = λ n is.
     let same : c.in-Ok-Some-Line.n ≡ n = cc in
-    let stands : WritesFault (g.S.Source.left c.args.source.now) (g.S.Source.left c.read_all.new.source)
+    let stands : WritesFault modes.Run (g.S.Source.left c.args.source.now) (g.S.Source.left c.read_all.new.source)
     (g.K.Sink.written c.args.sink.now) (g.K.Sink.written c.write_all.new.sink) (faults.Line c.in-Ok-Some-Line.n) = search rules in
-    subst (λ m. WritesFault (g.S.Source.left c.args.source.now) (g.S.Source.left c.read_all.new.source)
+    subst (λ m. WritesFault modes.Run (g.S.Source.left c.args.source.now) (g.S.Source.left c.read_all.new.source)
     (g.K.Sink.written c.args.sink.now) (g.K.Sink.written c.write_all.new.sink) (faults.Line m)) same stands
 
 pub returns-in-Ok-Some-Line-clause-broken : goal.returns-in-Ok-Some-Line-clause-broken
 returns-in-Ok-Some-Line-clause-broken g c =
     let bytes : List ℕ = c.in-Ok.bytes.items in
-    let bad : HasFault bytes (faults.Line c.in-Ok-Some-Line.n) = search rules in
+    let bad : HasFault modes.Run bytes (faults.Line c.in-Ok-Some-Line.n) = search rules in
     told _ _ _ bytes c.in-Ok.ensures.whole
-    (λ fault within other. inl (ap fault_status (one_fault bytes (faults.Line c.in-Ok-Some-Line.n) fault bad other)))
+    (λ fault within other. inl (ap fault_status (one_fault modes.Run bytes (faults.Line c.in-Ok-Some-Line.n) fault bad other)))
 
 pub returns-in-Ok-Some-Line-clause-complete : goal.returns-in-Ok-Some-Line-clause-complete
 returns-in-Ok-Some-Line-clause-complete g c =
     let bytes : List ℕ = c.in-Ok.bytes.items in
-    let bad : HasFault bytes (faults.Line c.in-Ok-Some-Line.n) = search rules in
+    let bad : HasFault modes.Run bytes (faults.Line c.in-Ok-Some-Line.n) = search rules in
     told _ _ _ bytes c.in-Ok.ensures.whole
-    (λ within good read written. absurd (no_fault bytes (faults.Line c.in-Ok-Some-Line.n) good bad))
+    (λ within good read written. absurd (no_fault modes.Run bytes (faults.Line c.in-Ok-Some-Line.n) good bad))
 
 -- the capture is bad, and the reply tells it
-bad_capture : (g : Over) (c : goal.After-drop-bytes-in-Ok-Some-Capture g) → HasFault c.in-Ok.bytes.items faults.Capture × (c.in-Ok-reply_to.reply.text.items ≡ fault_text faults.Capture)
+bad_capture : (g : Over) (c : goal.After-drop-bytes-in-Ok-Some-Capture g) → HasFault modes.Run c.in-Ok.bytes.items faults.Capture × (c.in-Ok-reply_to.reply.text.items ≡ fault_text faults.Capture)
 bad_capture g c =
     let told : c.in-Ok-reply_to.reply.fault ≡ Some faults.Capture = search rules in
-    told_by c.in-Ok.bytes.items _ _ _ faults.Capture c.deref.ensures.value told c.in-Ok-reply_to.ensures
+    told_by modes.Run IsRunOf c.in-Ok.bytes.items _ _ _ faults.Capture c.deref.ensures.value told c.in-Ok-reply_to.ensures
 
 pub returns-in-Ok-Some-Capture-clause-bad_capture : goal.returns-in-Ok-Some-Capture-clause-bad_capture
 returns-in-Ok-Some-Capture-clause-bad_capture g c = λ is.
@@ -50,27 +51,34 @@ returns-in-Ok-Some-Capture-clause-bad_capture g c = λ is.
 pub returns-in-Ok-Some-Capture-clause-verdict : goal.returns-in-Ok-Some-Capture-clause-verdict
 returns-in-Ok-Some-Capture-clause-verdict g c =
     let bytes : List ℕ = c.in-Ok.bytes.items in
-    let bad : HasFault bytes faults.Capture = (bad_capture g c).0 in
+    let bad : HasFault modes.Run bytes faults.Capture = (bad_capture g c).0 in
     let within : length bytes ≤ limit = search rules in
     told _ _ _ bytes c.in-Ok.ensures.whole (within, bad)
 
 pub returns-in-Ok-Some-Capture-clause-broken : goal.returns-in-Ok-Some-Capture-clause-broken
 returns-in-Ok-Some-Capture-clause-broken g c =
     let bytes : List ℕ = c.in-Ok.bytes.items in
-    let bad : HasFault bytes faults.Capture = (bad_capture g c).0 in
+    let bad : HasFault modes.Run bytes faults.Capture = (bad_capture g c).0 in
     told _ _ _ bytes c.in-Ok.ensures.whole
-    (λ fault within other. inl (ap fault_status (one_fault bytes faults.Capture fault bad other)))
+    (λ fault within other. inl (ap fault_status (one_fault modes.Run bytes faults.Capture fault bad other)))
 
 pub returns-in-Ok-Some-Capture-clause-complete : goal.returns-in-Ok-Some-Capture-clause-complete
 returns-in-Ok-Some-Capture-clause-complete g c =
     let bytes : List ℕ = c.in-Ok.bytes.items in
-    let bad : HasFault bytes faults.Capture = (bad_capture g c).0 in
+    let bad : HasFault modes.Run bytes faults.Capture = (bad_capture g c).0 in
     told _ _ _ bytes c.in-Ok.ensures.whole
-    (λ within good read written. absurd (no_fault bytes faults.Capture good bad))
+    (λ within good read written. absurd (no_fault modes.Run bytes faults.Capture good bad))
 
 pub returns-clause-broken : goal.returns-clause-broken
 returns-clause-broken g c =
     let bytes : List ℕ = c.in-Ok.bytes.items in
     let out : FlatOut bytes c.in-Ok-reply_to.reply.text.items = search rules in
-    let good : IsGood bytes = (out.0, out.1, out.2) in
-    told _ _ _ bytes c.in-Ok.ensures.whole (λ fault within other. absurd (no_fault bytes fault good other))
+    let good : IsGood modes.Run bytes = (out.0, out.1, out.2.script_is, out.2.capture_is) in
+    told _ _ _ bytes c.in-Ok.ensures.whole (λ fault within other. absurd (no_fault modes.Run bytes fault good other))
+
+pub returns-clause-verdict : goal.returns-clause-verdict
+returns-clause-verdict g c =
+    let bytes : List ℕ = c.in-Ok.bytes.items in
+    let out : FlatOut bytes c.in-Ok-reply_to.reply.text.items = search rules in
+    let within : length bytes ≤ limit = search rules in
+    told _ _ _ bytes c.in-Ok.ensures.whole (within, (out.0, out.1, out.2.script_is, out.2.capture_is))
