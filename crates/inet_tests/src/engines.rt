@@ -5,6 +5,7 @@ ghost use Rattle.std.specs.Prelude.{◌≤◌, ◌^◌, length};
 use sock_script::parse::parse;
 use sock_script::{Mode, capture, run};
 use std::alloc::{AllocError, Global};
+use std::sync::Wait;
 use std::test::Fail;
 
 /// Scripts whose commands go through buckets, chains, groups, TIME_WAITs and searches.
@@ -21,7 +22,7 @@ const SCRIPTS: [&str; 3] = [
 ];
 
 /// Whether both reply alike to a script.
-fn reply_alike(alloc: Global, text: &[u8]) -> Result<bool, AllocError>
+fn reply_alike<R: Wait>(rt: &R, alloc: Global, text: &[u8]) -> Result<bool, AllocError>
     requires { length text.now ≤ 2 ^ 24 }
 {
     let Ok(script) = parse(alloc, text, Mode::Run) else {
@@ -31,14 +32,14 @@ fn reply_alike(alloc: Global, text: &[u8]) -> Result<bool, AllocError>
         return Ok(false);
     };
     let by_list = run::replies(alloc, &script, capture.items())?;
-    let by_tables = race_run::run(alloc, &script, &capture)?;
+    let by_tables = script_run::run(rt, alloc, &script, &capture)?;
     Ok(by_list.as_slice() == by_tables.as_slice())
 }
 
 #[test]
 fn tables_reply_as_the_flat_list_does(rt: HostRuntime) -> Result<(), Fail> {
     for script in SCRIPTS {
-        assert!(rt; reply_alike(rt.alloc(), script.as_bytes())?);
+        assert!(rt; reply_alike(&rt, rt.alloc(), script.as_bytes())?);
     }
     Ok(())
 }

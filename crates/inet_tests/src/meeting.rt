@@ -24,18 +24,23 @@ const TURNS: u64 = 1_000_000_000;
 struct Meeting {
     here: AtomicU64,
     late: AtomicU64,
-}
-
-/// A section is held before its second command, and a looker before its first packet of the capture's four.
-fn is_held(who: Who, at: u64) -> bool {
-    match who {
-        Who::Script(_) => at == 2,
-        Who::Looker(1) => at == 1,
-        Who::Looker(_) => at == 3,
-    }
+    // The bits of the lookers that have come to the gate.
+    seen: AtomicU64,
 }
 
 impl Meeting {
+    /// A section is held before its second command, and a looker before the first packet that it draws, whichever of
+    /// the capture's four that is.
+    fn is_held(&self, who: Who, at: u64) -> bool {
+        match who {
+            Who::Script(_) => at == 2,
+            Who::Looker(looker) => {
+                let bit = if looker == 1 { 1 } else { 2 };
+                self.seen.fetch_or(bit, Ordering::SeqCst) & bit == 0
+            }
+        }
+    }
+
     fn meet(&self) {
         let _before = self.here.fetch_add(1, Ordering::SeqCst);
         for _ in 0..TURNS {
@@ -50,7 +55,7 @@ impl Meeting {
 
 impl Gate for Meeting {
     fn pass(&self, who: Who, at: u64) {
-        if is_held(who, at) {
+        if self.is_held(who, at) {
             self.meet();
         }
     }
@@ -62,6 +67,7 @@ fn race(rt: &(impl Threads + Wait + Sync + AllocGlobal)) -> Result<(Status, u64)
     let gate = Meeting {
         here: AtomicU64::new(0),
         late: AtomicU64::new(0),
+        seen: AtomicU64::new(0),
     };
     let words = words_of(alloc, &WORDS)?;
     let input = input_of(alloc, SCRIPT, &[HEADER, RECORDS])?;

@@ -5,7 +5,7 @@
 //! sections and looks its packets up beside each other, and writes the record of that. `inet make` reads nothing, runs
 //! a generated script, and writes how many of its commands were done. The contract of [`inet`] has each status of
 //! the table below, when it comes and what was written then; `main` makes the real ends, calls it and ends with the
-//! status. It stands on `sock_script`, `race_run`, `race_threads`, `race_text` and `inet_io`, and on `clap` for the
+//! status. It stands on `sock_script`, `script_run`, `race_threads`, `race_text` and `inet_io`, and on `clap` for the
 //! words.
 //!
 //! | Status | Exit | When | Written |
@@ -60,8 +60,9 @@ pub const LIMIT: usize = 16_777_216;
 /// race of it, or makes a script and writes its counts.
 ///
 /// `words` has the program's name first. What is written is built whole before the first write, so that
-/// only a write that fails leaves a part of it. `rt` is for a race, which runs threads and waits for them, and so is
-/// the gate, at which its workers call before each command and packet.
+/// only a write that fails leaves a part of it. Each command waits by `rt` for the turns of bind buckets and the
+/// locks of chains, so no call is promised to return. A race runs threads by it, too, and waits for them; the gate, at
+/// which its workers call before each command and packet, is for a race alone.
 ///
 /// Reading takes at most 16,777,217 reads. Where several causes stand, the earlier of usage, a failed
 /// read, too long an input, a bad line, a bad capture and a failed write is answered; want of memory may come in
@@ -140,8 +141,8 @@ pub fn inet<R: Threads + Wait + Sync, S: Source, K: Sink, G: Gate>(
         → (result ≡ Status.Done) ⊎ ((result ≡ Status.WriteFault) ⊎ (result ≡ Status.Memory)) }
 {
     match words::ask_of(alloc, words) {
-        Ok(Ask::Run) => serve::run(alloc, source, sink),
-        Ok(Ask::Make { seed, count }) => serve::make(alloc, seed, count, sink),
+        Ok(Ask::Run) => serve::run(rt, alloc, source, sink),
+        Ok(Ask::Make { seed, count }) => serve::make(rt, alloc, seed, count, sink),
         Ok(Ask::Race { lookers, passes }) => {
             race::serve(rt, alloc, lookers, passes, source, sink, gate)
         }

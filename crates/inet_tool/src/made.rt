@@ -3,16 +3,22 @@ ghost use Rattle.std.specs.Prelude.{◌≤◌, IfOk};
 ghost use Rattle.inet_tool.specs.Table.{CountsMade};
 
 use capture_reader::Capture;
-use race_run::run;
+use script_run::run;
 use sock_script::{Counts, make};
 use std::alloc::{AllocError, Global};
+use std::sync::Wait;
 
 /// The counts of the script that a seed and so many steps make, when it is run.
-pub fn counts_text(alloc: Global, seed: u32, count: u32) -> Result<Vec<u8>, AllocError>
+pub fn counts_text<R: Wait>(
+    rt: &R,
+    alloc: Global,
+    seed: u32,
+    count: u32,
+) -> Result<Vec<u8>, AllocError>
     requires { count ≤ 100000 }
     ensures { IfOk result (λ text. CountsMade seed count text.items) }
 {
     let script = make::script(alloc, seed, count)?;
-    let replies = run(alloc, &script, &Capture::new(alloc))?;
+    let replies = run(rt, alloc, &script, &Capture::new(alloc))?;
     Counts::of(&script, &replies).text(alloc)
 }

@@ -5,10 +5,11 @@ ghost use Rattle.inet_tool.specs.Table.{limit, IsReply, IsRunOf, fault_text};
 
 use crate::fault::Fault;
 use capture_reader::CaptureEnd;
-use race_run::run;
+use script_run::run;
 use sock_script::parse::parse;
 use sock_script::{Mode, ScriptEnd, capture, output};
 use std::alloc::{AllocError, Global};
+use std::sync::Wait;
 
 /// What is to be written, and what is wrong with the input, if anything is.
 #[derive(Drop)]
@@ -18,7 +19,7 @@ pub struct Reply {
 }
 
 /// The reply to an input within the limit.
-pub fn reply_to(alloc: Global, bytes: &[u8]) -> Result<Reply, AllocError>
+pub fn reply_to<R: Wait>(rt: &R, alloc: Global, bytes: &[u8]) -> Result<Reply, AllocError>
     requires { length bytes.now ≤ limit }
     ensures { IfOk result (λ reply. IsReply modes.Run IsRunOf bytes.now reply.fault reply.text.items) }
 {
@@ -32,7 +33,7 @@ pub fn reply_to(alloc: Global, bytes: &[u8]) -> Result<Reply, AllocError>
         Err(CaptureEnd::BadHead) => return refusal(alloc, Fault::Capture),
         Err(CaptureEnd::Memory) => return Err(AllocError),
     };
-    let replies = run(alloc, &script, &capture)?;
+    let replies = run(rt, alloc, &script, &capture)?;
     let text = output::text(alloc, &script, &capture, &replies)?;
     Ok(Reply { text, fault: None })
 }

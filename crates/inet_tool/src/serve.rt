@@ -11,9 +11,15 @@ use crate::fault::Fault;
 use crate::{LIMIT, Status, made, reply};
 use inet_io::{Failed, ReadEnd, Sink, Source};
 use std::alloc::Global;
+use std::sync::Wait;
 
 /// Reads the source to its end, and writes the reply to what it read.
-pub fn run<S: Source, K: Sink>(alloc: Global, source: &mut S, sink: &mut K) -> Status
+pub fn run<R: Wait, S: Source, K: Sink>(
+    rt: &R,
+    alloc: Global,
+    source: &mut S,
+    sink: &mut K,
+) -> Status
     ensures done { result ≡ Status.Done → WritesFlatOut
         (S.left source.old) (S.left source.new) (K.written sink.old) (K.written sink.new) }
     ensures no_usage { result ≡ Status.Usage → ⊥ }
@@ -47,7 +53,7 @@ pub fn run<S: Source, K: Sink>(alloc: Global, source: &mut S, sink: &mut K) -> S
         Err(ReadEnd::TooLong) => return Status::TooLong,
         Err(ReadEnd::Memory) => return Status::Memory,
     };
-    let Ok(reply) = reply::reply_to(alloc, &bytes) else {
+    let Ok(reply) = reply::reply_to(rt, alloc, &bytes) else {
         return Status::Memory;
     };
     match (inet_io::write_all(sink, &reply.text), reply.fault) {
@@ -59,7 +65,7 @@ pub fn run<S: Source, K: Sink>(alloc: Global, source: &mut S, sink: &mut K) -> S
 }
 
 /// Runs the script that a seed and so many steps make, and writes its counts.
-pub fn make<K: Sink>(alloc: Global, seed: u32, count: u32, sink: &mut K) -> Status
+pub fn make<R: Wait, K: Sink>(rt: &R, alloc: Global, seed: u32, count: u32, sink: &mut K) -> Status
     requires { count ≤ 100000 }
     ensures done { result ≡ Status.Done → WritesCounts (K.written sink.old) (K.written sink.new) seed count }
     ensures write_fault { result ≡ Status.WriteFault → Rose (K.faults sink.old) (K.faults sink.new)
@@ -67,7 +73,7 @@ pub fn make<K: Sink>(alloc: Global, seed: u32, count: u32, sink: &mut K) -> Stat
     ensures memory { result ≡ Status.Memory → sink.new ≡ sink.old }
     ensures ends { (result ≡ Status.Done) ⊎ ((result ≡ Status.WriteFault) ⊎ (result ≡ Status.Memory)) }
 {
-    let Ok(text) = made::counts_text(alloc, seed, count) else {
+    let Ok(text) = made::counts_text(rt, alloc, seed, count) else {
         return Status::Memory;
     };
     match inet_io::write_all(sink, &text) {

@@ -22,6 +22,7 @@ use Rattle.flat_list.proofs.script.Script.TheSendSync as scripts
 use Rattle.capture_reader.specs.contracts.capture.Capture as Capture
 use Rattle.capture_reader.proofs.capture.Capture.TheSendSync as captures
 use Rattle.race_record.proofs.record.Looked.TheSendSync as looks
+use Rattle.tickets.specs.contracts.pass.Tickets as TicketTable
 use Rattle.race_threads.specs.contracts.jobs.Job as Job
 
 journal_send : IsSend Journal.the_row
@@ -39,6 +40,9 @@ job_send = search (seat.the_send, bucket_send, replies.the_send, looks.the_send,
 pub tables_sync : IsSync Tables.the_row
 tables_sync = search (shared.the_sync, lease.the_sync, bucket_send, crosses, knot.crosses, sendable) depth 60 fits 400000
 
+pub tickets_sync : IsSync TicketTable.the_row
+tickets_sync = search (shared.the_sync, lease.the_sync, crosses, sendable) depth 60 fits 400000
+
 pub script_sync : IsSync Script.the_row
 script_sync = search (scripts.the_sync, crosses, sendable) depth 60 fits 400000
 
@@ -48,6 +52,9 @@ capture_sync = search (captures.the_sync, crosses, sendable) depth 60 fits 40000
 -- each behind a `&`
 pub tables_lent : (l : Lifetime) (k : Lft) → IsSync (ShrRef l k Tables.the_row)
 tables_lent l k = shr_sync l k Tables.the_row tables_sync
+
+pub tickets_lent : (l : Lifetime) (k : Lft) → IsSync (ShrRef l k TicketTable.the_row)
+tickets_lent l k = shr_sync l k TicketTable.the_row tickets_sync
 
 pub script_lent : (l : Lifetime) (k : Lft) → IsSync (ShrRef l k Script.the_row)
 script_lent l k = shr_sync l k Script.the_row script_sync

@@ -5,26 +5,28 @@ use native.Mathlib.Decide.{ℕ_discrete}
 use Rattle.std.proofs.lemmas.List.{get_or_append_left, get_or_push}
 use Rattle.flat_list.specs.declared.header.Header.{Header}
 use Rattle.shared_ops.specs.declared.tables.Tables.{Tables}
+use Rattle.tickets.specs.declared.pass.Tickets.{Tickets}
 use Rattle.race_threads.specs.declared.jobs.Job.{Job}
 use Rattle.race_threads.specs.Jobs.{IsReady, AllReady}
+use Rattle.race_threads.specs.Shares.{HasDrawnNothing}
 use Rattle.race_threads.specs.Workers.{AreTables, IsFresh}
 
 longer : {A : Type 0} (l : List A) (x : A) → length (l ++ x ∷ []) ≡ length l + 1
 longer [] x = refl
 longer (y ∷ ys) x = omega (arith, longer ys x)
 
-ready_push : (header : Header) (t : Tables) (jobs all : List Job) (j : Job) (n : ℕ) → AllReady header t jobs → length jobs ≡ n → IsReady header t n j → all ≡ jobs ++ j ∷ [] → AllReady header t all
-ready_push header t jobs all j n ready len r is i x lt e =
+ready_push : (header : Header) (t : Tables) (q : Tickets) (jobs all : List Job) (j : Job) (n : ℕ) → AllReady header t q jobs → length jobs ≡ n → IsReady header t q n j → all ≡ jobs ++ j ∷ [] → AllReady header t q all
+ready_push header t q jobs all j n ready len r is i x lt e =
     let there : x ≡ get_or (jobs ++ j ∷ []) i x = e ∙ ap (λ l. get_or l i x) is in
     let few : length all ≡ length jobs + 1 = ap length is ∙ longer jobs j in
     dite (ℕ_discrete i (length jobs))
-    (λ q. let same : x ≡ j = there ∙ (ap (λ k. get_or (jobs ++ j ∷ []) k x) q ∙ get_or_push jobs j x (length jobs) refl) in
-    subst (IsReady header t i) (sym same) (subst (λ k. IsReady header t k j) (let z : n ≡ i = omega (arith, len, q) in z) r))
+    (λ at. let same : x ≡ j = there ∙ (ap (λ k. get_or (jobs ++ j ∷ []) k x) at ∙ get_or_push jobs j x (length jobs) refl) in
+    subst (IsReady header t q i) (sym same) (subst (λ k. IsReady header t q k j) (let z : n ≡ i = omega (arith, len, at) in z) r))
     (λ ne. let low : i < length jobs = omega (arith, lt, few, ne) in
     ready i x low (there ∙ get_or_append_left jobs (j ∷ []) x i low))
 
 -- of whatever header the tables are
-pub dealt : (t : Tables) (jobs all : List Job) (j : Job) (n m : ℕ) → ((header : Header) → AreTables header t → AllReady header t jobs) → length jobs ≡ n → ((header : Header) → AreTables header t → IsFresh header t m j.worker) → m ≡ n + 1
-    → j.number ≡ n → j.replies.items ≡ [] → j.told.items ≡ [] → all ≡ jobs ++ j ∷ [] → (header : Header) → AreTables header t → AllReady header t all
-dealt t jobs all j n m ready len fresh me number replies told is header tables =
-    ready_push header t jobs all j n (ready header tables) len (record { fresh = subst (λ k. IsFresh header t k j.worker) me (fresh header tables); number = number; replies = replies; told = told }) is
+pub dealt : (t : Tables) (q : Tickets) (jobs all : List Job) (j : Job) (n m : ℕ) → ((header : Header) → AreTables header t → AllReady header t q jobs) → length jobs ≡ n → ((header : Header) → AreTables header t → IsFresh header t m j.worker) → m ≡ n + 1
+    → HasDrawnNothing q j.draws → j.number ≡ n → j.replies.items ≡ [] → j.told.items ≡ [] → all ≡ jobs ++ j ∷ [] → (header : Header) → AreTables header t → AllReady header t q all
+dealt t q jobs all j n m ready len fresh me draws number replies told is header tables =
+    ready_push header t q jobs all j n (ready header tables) len (record { fresh = subst (λ k. IsFresh header t k j.worker) me (fresh header tables); draws = draws; number = number; replies = replies; told = told }) is

@@ -1,23 +1,25 @@
 -- A race at its end: what its jobs did, section by section and looker by looker.
-use Rattle.std.proofs.Common.{◌≡◌, ℕ, zero, suc, ◌+◌, ◌-◌, ◌*◌, ◌/◌, ◌<◌, ◌≤◌, min, Bool, if◌then◌else◌, List, [], ◌∷◌, ◌++◌, length, map, take, drop, get_or, Result, Ok, Err, IfOk, alloc_error, refl, sym, ap, ◌∙◌, subst, arith}
+use Rattle.std.proofs.Common.{◌≡◌, ℕ, zero, suc, ◌+◌, ◌-◌, ◌<◌, ◌≤◌, List, [], ◌∷◌, ◌++◌, length, map, take, drop, get_or, Result, Ok, Err, IfOk, alloc_error, refl, sym, ap, ◌∙◌, subst, arith}
 use Rattle.std.specs.List.{flat_map, range_with_len}
 use Rattle.std.specs.declared.alloc.AllocError.{AllocError}
-use Rattle.std.proofs.lemmas.Bool.{eq-eqb, ne_eqb}
-use Rattle.std.proofs.lemmas.List.{length-append}
 use mathlib.Core.Logic.{dite}
 use native.Mathlib.Decide.{dec_le}
-use native.Mathlib.Nat.{zero-min}
 use Rattle.capture_reader.specs.declared.packet.Item.{Item}
 use Rattle.flat_list.specs.Script.{Script}
 use Rattle.flat_list.specs.declared.command.Command.{Command}
 use Rattle.flat_list.specs.declared.command.Reply.{Reply}
 use Rattle.flat_list.specs.declared.header.Header.{Header}
-use Rattle.race_record.specs.declared.record.Looked.{Looked}
 use Rattle.shared_ops.specs.Stands.{buckets_of}
 use Rattle.shared_ops.specs.declared.tables.Tables.{Tables}
 use Rattle.shared_ops.specs.declared.tables.Worker.{Worker}
 use Rattle.bind_buckets.specs.Closed.{AreLeft, notes_in}
+use Rattle.tickets.specs.Passes.{HasMissed, drawn, parts, tickets}
+use Rattle.tickets.specs.Views.{all_parts}
+use Rattle.tickets.specs.declared.pass.TicketPass.{TicketPass}
+use Rattle.tickets.specs.declared.pass.Tickets.{Tickets}
+use Rattle.turn_table.specs.Journals.{numbers_below}
 use Rattle.turn_table.specs.Ends.{HoldsWhatWasGiven, IsInTheOrderOfEach}
+use Rattle.list_words.specs.Lists.{SameItems, total}
 use Rattle.table_rule.specs.Passes as chain_words
 use Rattle.table_rule.specs.Plays.{seeing}
 use Rattle.table_rule.specs.Sole.{WholeBook}
@@ -25,14 +27,16 @@ use Rattle.table_rule.specs.declared.view.View.{View}
 use Rattle.race_threads.specs.declared.finish.Ended.{Ended}
 use Rattle.race_threads.specs.declared.jobs.Job.{Job}
 use Rattle.race_threads.specs.declared.jobs.Outcome.{Outcome}
+use Rattle.race_threads.specs.declared.looker.Look.{Look}
 use Rattle.race_threads.specs.Finished.{HasFinished, replies_in, told_in}
 use Rattle.race_threads.specs.Jobs.{AllOver, HasAllParts, IsGathered, IsOver, outcomes_in, part_or, part_in}
 use Rattle.race_threads.specs.Joins.{Part}
-use Rattle.race_threads.specs.Lookers.{HasLooked, AllLooked, took_from, tooks_from, all_told}
+use Rattle.race_threads.specs.Lookers.{HasLooked, AllLooked, item_of}
 use Rattle.race_threads.specs.Races.{AllDone, HasOnlyLooked, SectionDone}
-use Rattle.race_threads.specs.Shares.{run_end}
+use Rattle.race_threads.specs.Shares.{HasDrawnAll, HasMissedAsThey, items_in}
 use Rattle.race_threads.specs.Workers.{AreTables, IsAtRest, IsFirst, part_of}
 use Rattle.race_threads.specs.Works.{HasRun, HasShared, IsWorked, AllWorked}
+use Rattle.race_threads.proofs.Weights.{map_flat}
 use Rattle.race_threads.proofs.Working.{get_map}
 
 -- Lists
@@ -88,7 +92,7 @@ outcome j = record { replies = j.replies; told = j.told }
 abbrev pub replied : Job → List Reply
 replied j = j.replies.items
 
-abbrev pub tells : Job → List Looked
+abbrev pub tells : Job → List Look
 tells j = j.told.items
 
 most_outcomes : (done : List (Result Job AllocError)) → length (outcomes_in done) ≤ length done
@@ -106,10 +110,10 @@ outcomes_are : (js : List Job) → outcomes_in (map Ok js) ≡ map outcome js
 outcomes_are [] = refl
 outcomes_are (j ∷ js) = ap (λ l. outcome j ∷ l) (outcomes_are js)
 
-pub all_over : (script : Script) (all : List Item) (lookers : ℕ) (t : Tables) (done : List (Result Job AllocError)) → AllWorked script all lookers t (length done) done → AllOver t done
-all_over script all lookers t done w i d l = over (get_or done i d) (w i d l)
+pub all_over : (script : Script) (all : List Item) (t : Tables) (q : Tickets) (done : List (Result Job AllocError)) → AllWorked script all t q (length done) done → AllOver t q done
+all_over script all t q done w i d l = over (get_or done i d) (w i d l)
   where
-    over : (r : Result Job AllocError) → IfOk r (IsWorked script all lookers t i) → IfOk r (IsOver t)
+    over : (r : Result Job AllocError) → IfOk r (IsWorked script all t q i) → IfOk r (IsOver t q)
     over (Ok j) h = h.over
     over (Err e) h = tt
 
@@ -134,44 +138,21 @@ module _ (header : Header) (part : ℕ → Part) where
 
   -- Lookers
 
-  looked_all : (all : List Item) (lookers n m : ℕ) (js : List Job)
-      → ((i : ℕ) (j : Job) → i < length js → get_or js i j ≡ j → HasShared header all lookers (m + i) j × (part (n + i) ≡ part_of j.worker))
-      → AllLooked header all part n (tooks_from (run_end (length all) lookers m) (map tells js)) × (run_end (length all) lookers m + length (all_told (map tells js)) ≡ run_end (length all) lookers (m + length js))
-  looked_all all lookers n m [] h = (tt, let e : m ≡ m + 0 = omega arith in omega (arith, ap (run_end (length all) lookers) e))
-  looked_all all lookers n m (j ∷ js) h =
-      let here = h 0 j (omega arith) refl in
-      let share : HasShared header all lookers m j = subst (λ (k : ℕ). HasShared header all lookers k j) (let e : m + 0 ≡ m = omega arith in e) here.0 in
-      let rest = looked_all all lookers (n + 1) (m + 1) js (λ i x k is.
-      let a : n + suc i ≡ n + 1 + i = omega arith in
-      let b : m + suc i ≡ m + 1 + i = omega arith in
-      subst (λ (p : ℕ). HasShared header all lookers (m + 1 + i) x × (part p ≡ part_of x.worker)) a (subst (λ (p : ℕ). HasShared header all lookers p x × (part (n + suc i) ≡ part_of x.worker)) b (h (suc i) x (omega (arith, k)) is))) in (
-        (
-          subst (λ (p : Part). HasLooked header all p (took_from (run_end (length all) lookers m) j.told.items)) (sym (ap part (let e : n ≡ n + 0 = omega arith in e) ∙ here.1)) share.looked,
-          subst (λ (k : ℕ). AllLooked header all part (n + 1) (tooks_from k (map tells js))) (sym share.count) rest.0,
-        ),
-        let count = share.count in
-            let len = length-append j.told.items (all_told (map tells js)) in
-            let more = rest.1 in
-            let end : m + 1 + length js ≡ m + length (j ∷ js) = omega arith in
-            omega (arith, count, len, more, ap (run_end (length all) lookers) end),
+  looked_all : (all : List Item) (n : ℕ) (js : List Job) → ((i : ℕ) (j : Job) → i < length js → get_or js i j ≡ j → HasShared header all j × (part (n + i) ≡ part_of j.worker)) → AllLooked header all part n (map tells js)
+  looked_all all n [] h = tt
+  looked_all all n (j ∷ js) h =
+      let here = h 0 j (omega arith) refl in (
+        subst (λ (p : Part). HasLooked header all p j.told.items) (sym (ap part (let e : n ≡ n + 0 = omega arith in e) ∙ here.1)) here.0.looked,
+        looked_all all (n + 1) js (λ i x k is.
+            let a : n + suc i ≡ n + 1 + i = omega arith in
+            subst (λ (p : ℕ). HasShared header all x × (part p ≡ part_of x.worker)) a (h (suc i) x (omega (arith, k)) is)),
       )
-
--- the runs begin with the first item, and end with the last
-begins_with : (items lookers : ℕ) → 0 < lookers → run_end items lookers 0 ≡ 0
-begins_with items lookers l = ap (λ (b : Bool). if b then items else min (items / lookers * 0) items) (ne_eqb 0 lookers (λ e. absurd (omega (arith, l, e)))) ∙ ap (λ k. min k items) (let e : items / lookers * 0 ≡ 0 = omega arith in e) ∙ zero-min items
-
-ends_with : (items lookers : ℕ) → run_end items lookers lookers ≡ items
-ends_with items lookers = ap (λ (b : Bool). if b then items else min (items / lookers * lookers) items) (eq-eqb lookers lookers refl)
-
-pub len_tooks : (n : ℕ) (told : List (List Looked)) → length (tooks_from n told) ≡ length told
-len_tooks n [] = refl
-len_tooks n (answers ∷ told) = ap suc (len_tooks (n + length answers) told)
 
 -- The whole
 
 -- what came of the jobs, the sections first
-module _ (script : Script) (all : List Item) (lookers : ℕ) (t : Tables) (other : Part) (only : HasOnlyLooked other) (some : 0 < lookers) (js : List Job) (count : length js ≡ length script.sections + lookers)
-    (work : AllWorked script all lookers t (length js) (map Ok js)) where
+module _ (script : Script) (all : List Item) (lookers : ℕ) (t : Tables) (q : Tickets) (other : Part) (only : HasOnlyLooked other) (some : 0 < lookers) (js : List Job) (count : length js ≡ length script.sections + lookers)
+    (work : AllWorked script all t q (length js) (map Ok js)) where
   abbrev sections : ℕ
   sections = length script.sections
 
@@ -184,8 +165,8 @@ module _ (script : Script) (all : List Item) (lookers : ℕ) (t : Tables) (other
   ok_at : (i : ℕ) (j : Job) (d : Result Job AllocError) → i < length js → get_or js i j ≡ j → get_or (map Ok js) i d ≡ Ok j
   ok_at i j d l is = get_map Ok js i j d l (sym is)
 
-  worked_at : (i : ℕ) (j : Job) → i < length js → get_or js i j ≡ j → IsWorked script all lookers t i j
-  worked_at i j l is = let P : Result Job AllocError → Type 0 = λ r. IfOk r (IsWorked script all lookers t i) in
+  worked_at : (i : ℕ) (j : Job) → i < length js → get_or js i j ≡ j → IsWorked script all t q i j
+  worked_at i j l is = let P : Result Job AllocError → Type 0 = λ r. IfOk r (IsWorked script all t q i) in
       let o : P (Ok j) = subst P (ok_at i j (Ok j) l is) (work i (Ok j) l) in o
 
   part_at : (m i : ℕ) (j : Job) → m ≡ i + 1 → i < length js → get_or js i j ≡ j → part m ≡ part_of j.worker
@@ -202,31 +183,26 @@ module _ (script : Script) (all : List Item) (lookers : ℕ) (t : Tables) (other
   len_last : length last ≡ lookers
   len_last = let e = len_drop sections js (omega (arith, count)) in omega (arith, e, count)
 
-  share_at : (i : ℕ) (j : Job) → i < length last → get_or last i j ≡ j → HasShared script.header all lookers i j × (part (sections + 1 + i) ≡ part_of j.worker)
+  share_at : (i : ℕ) (j : Job) → i < length last → get_or last i j ≡ j → HasShared script.header all j × (part (sections + 1 + i) ≡ part_of j.worker)
   share_at i j l is =
       let at : get_or js (sections + i) j ≡ j = sym (at_drop sections js i j) ∙ is in
       let few : sections + i < length js = omega (arith, l, len_last, count) in
-      let w = (worked_at (sections + i) j few at).looker (omega arith) in
-      (subst (λ k. HasShared script.header all lookers k j) (let e : sections + i - sections ≡ i = omega arith in e) w, part_at (sections + 1 + i) (sections + i) j (omega arith) few at)
+      ((worked_at (sections + i) j few at).looker (omega arith), part_at (sections + 1 + i) (sections + i) j (omega arith) few at)
 
-  looked : AllLooked script.header all part (sections + 1) (tooks_from (run_end (length all) lookers 0) (map tells last)) × (run_end (length all) lookers 0 + length (all_told (map tells last)) ≡ run_end (length all) lookers (0 + length last))
-  looked = looked_all script.header part all lookers (sections + 1) 0 last (λ i j l is.
-      let s = share_at i j l is in
-      (subst (λ k. HasShared script.header all lookers k j) (let e : i ≡ 0 + i = omega arith in e) s.0, s.1))
-
-  pub looked_last : AllLooked script.header all part (sections + 1) (tooks_from 0 (map tells last))
-  looked_last = subst (λ k. AllLooked script.header all part (sections + 1) (tooks_from k (map tells last))) (begins_with (length all) lookers some) looked.0
+  pub looked_last : AllLooked script.header all part (sections + 1) (map tells last)
+  looked_last = looked_all script.header part all (sections + 1) last share_at
 
   pub told_last : length (map tells last) ≡ lookers
   told_last = len_map tells last ∙ len_last
 
-  pub counted : length (all_told (map tells last)) ≡ length all
-  counted =
-      let e = looked.1 in
-      let z = begins_with (length all) lookers some in
-      let n : 0 + length last ≡ lookers = omega (arith, len_last) in
-      let end = ap (run_end (length all) lookers) n ∙ ends_with (length all) lookers in
-      omega (arith, e, z, end)
+  -- the last job is a looker's
+  pub missed : (p : TicketPass) → HasMissedAsThey (map Ok js) 0 p → HasMissed p
+  missed p h =
+      let i : ℕ = length js - 1 in
+      let few : i < length js = omega (arith, some, count) in
+      let s = stands_at js i few in
+      let w = (worked_at i s.0 few (s.1 s.0)).looker (omega (arith, some, count)) in
+      h i s.0 (omega arith) (ok_at i s.0 (Err alloc_error) few (s.1 s.0)) w.missed
 
   pub others : (m : ℕ) → sections < m → HasOnlyLooked (part m)
   others m l = dite (dec_le m (length js))
@@ -241,45 +217,54 @@ module _ (script : Script) (all : List Item) (lookers : ℕ) (t : Tables) (other
       ∙ flat_front replied sections js (λ i j a l is. ((worked_at i j l is).looker a).replies)
       ∙ sym (flat_of_map (λ (r : List Reply). r) replied (take sections js))
 
-  pub all_tells : flat_map told_in (map outcome js) ≡ all_told (map tells last)
+  pub all_tells : flat_map told_in (map outcome js) ≡ flat_map (λ (took : List Look). took) (map tells last)
   all_tells =
       flat_of_map told_in outcome js
       ∙ flat_back tells sections js (λ i j a l is. ((worked_at i j l is).section a).told)
-      ∙ sym (flat_of_map (λ (k : List Looked). k) tells last)
+      ∙ sym (flat_of_map (λ (took : List Look). took) tells last)
+
+  all_items : flat_map items_in (map outcome js) ≡ flat_map (λ took. map item_of took) (map tells last)
+  all_items = sym (map_flat item_of told_in (map outcome js)) ∙ ap (map item_of) all_tells ∙ map_flat item_of (λ (took : List Look). took) (map tells last)
+
+  pub each_once : (p : TicketPass) (numbers : List ℕ) → SameItems (drawn p) (flat_map items_in (map outcome js)) → SameItems (drawn p) numbers → SameItems (flat_map (λ took. map item_of took) (map tells last)) numbers
+  each_once p numbers a b f = ap (total f) (sym all_items) ∙ sym (a f) ∙ b f
 
 -- what such a race leaves
-pub finished : (script : Script) (all : List Item) (lookers : ℕ) (t : Tables) (first w : Worker) (done : List (Result Job AllocError)) (given : List Outcome) (e : Ended)
-    → 0 < lookers → length done ≡ length script.sections + lookers → AreTables script.header t → IsFirst t (length done) first → AllWorked script all lookers t (length done) done
-    → IsAtRest t w → HasAllParts w → ((other : Part) → IsGathered (part_in other done) 0 (length done) (part_of w)) → given ≡ outcomes_in done → length given ≡ length done → e.outcomes.items ≡ given
+pub finished : (script : Script) (all : List Item) (lookers : ℕ) (t : Tables) (q : Tickets) (first w : Worker) (p : TicketPass) (done : List (Result Job AllocError)) (given : List Outcome) (e : Ended)
+    → 0 < lookers → length done ≡ length script.sections + lookers → AreTables script.header t → IsFirst t (length done) first → AllWorked script all t q (length done) done → tickets q ≡ length all
+    → IsAtRest t w → HasAllParts w → HasDrawnAll q done given p → (parts p ≡ all_parts → HasMissed p → SameItems (drawn p) (numbers_below (tickets q))) → ((other : Part) → IsGathered (part_in other done) 0 (length done) (part_of w)) → given ≡ outcomes_in done → length given ≡ length done → e.outcomes.items ≡ given
     → (part_of w).chain.seen ≤ e.clock → chain_words.known e.chain.pass ≡ seeing (part_of w).chain e.clock → WholeBook (chain_words.known e.chain.pass) e.clock
     → length e.buckets.items ≡ buckets_of t → AreLeft 0 (buckets_of t) e.buckets.items → HoldsWhatWasGiven notes_in (part_of w).turns e.buckets.items → IsInTheOrderOfEach notes_in (part_of w).turns e.buckets.items
     → HasFinished script all lookers e
-finished script all lookers t first w done given e some count tables fresh work rest whole gathered are many outcomes later sees book long left given_all in_order =
+finished script all lookers t q first w p done given e some count tables fresh work many_items rest whole drew counted gathered are many outcomes later sees book long left given_all in_order =
     let oks = all_ok done (sym (ap length are) ∙ many) in
     let js : List Job = oks.0 in
     let len : length js ≡ length script.sections + lookers = sym (len_map {B = Result Job AllocError} Ok js) ∙ sym (ap length oks.1) ∙ count in
-    let worked : AllWorked script all lookers t (length js) (map Ok js) = subst (λ n. AllWorked script all lookers t n (map Ok js)) (len_map {B = Result Job AllocError} Ok js) (subst (λ (l : List (Result Job AllocError)). AllWorked script all lookers t (length l) l) oks.1 work) in
+    let worked : AllWorked script all t q (length js) (map Ok js) = subst (λ n. AllWorked script all t q n (map Ok js)) (len_map {B = Result Job AllocError} Ok js) (subst (λ (l : List (Result Job AllocError)). AllWorked script all t q (length l) l) oks.1 work) in
     let other : Part = part_of first in
     let only : HasOnlyLooked other = record { mine = fresh.blank.mine; closed = fresh.blank.closed; lost = fresh.blank.lost } in
     let part : ℕ → Part = part_in other (map Ok js) in
     let g : IsGathered part 0 (length js) (part_of w) = subst (λ n. IsGathered part 0 n (part_of w)) (len_map {B = Result Job AllocError} Ok js) (subst (λ (l : List (Result Job AllocError)). IsGathered (part_in other l) 0 (length l) (part_of w)) oks.1 (gathered other)) in
-    let told : List (List Looked) = map tells (drop (length script.sections) js) in
+    let tooks : List (List Look) = map tells (drop (length script.sections) js) in
     let x : View = (part_of w).chain in
-    let runs : length (tooks_from 0 told) ≡ lookers = len_tooks 0 told ∙ told_last script all lookers t other only some js len worked in
-    let outs : e.outcomes.items ≡ map outcome js = outcomes ∙ are ∙ ap outcomes_in oks.1 ∙ outcomes_are js in
+    let runs : length tooks ≡ lookers = told_last script all lookers t q other only some js len worked in
+    let given_is : given ≡ map outcome js = are ∙ ap outcomes_in oks.1 ∙ outcomes_are js in
+    let missed_all : HasMissed p = missed script all lookers t q other only some js len worked p (subst (λ (l : List (Result Job AllocError)). HasMissedAsThey l 0 p) oks.1 drew.missed) in
+    let once : SameItems (drawn p) (numbers_below (length all)) = subst (λ n. SameItems (drawn p) (numbers_below n)) many_items (counted drew.parts missed_all) in
+    let outs : e.outcomes.items ≡ map outcome js = outcomes ∙ given_is in
     record {
       part = part;
       turns = (part_of w).turns;
       chain = x;
       replies = map replied (take (length script.sections) js);
-      told = told;
+      tooks = tooks;
       sees = sees;
       ended = record {
         order = g.order;
-        each_once = λ f. g.once f ∙ ap (λ k. Rattle.list_words.specs.Lists.total f (range_with_len 1 k)) (let q : length js - 0 ≡ length script.sections + length (tooks_from 0 told) = omega (arith, len, runs) in q);
+        each_once = λ f. g.once f ∙ ap (λ k. total f (range_with_len 1 k)) (let q : length js - 0 ≡ length script.sections + length tooks = omega (arith, len, runs) in q);
         joined = g.joined;
-        done = done_all script all lookers t other only some js len worked;
-        others = others script all lookers t other only some js len worked;
+        done = done_all script all lookers t q other only some js len worked;
+        others = others script all lookers t q other only some js len worked;
         layout = rest.rests.table.1 ∙ sym t.chains.laid ∙ tables.layout;
         later = later;
         whole = record { parts = whole.chain_parts; opened = rest.rests.opened; book = subst (λ (y : View). WholeBook y e.clock) sees book };
@@ -288,9 +273,9 @@ finished script all lookers t first w done given e some count tables fresh work 
         given = given_all;
         in_order = in_order;
       };
-      looked = looked_last script all lookers t other only some js len worked;
-      lookers_are = told_last script all lookers t other only some js len worked;
-      count = counted script all lookers t other only some js len worked;
-      replied = ap (flat_map replies_in) outs ∙ all_replied script all lookers t other only some js len worked;
-      tells = ap (flat_map told_in) outs ∙ all_tells script all lookers t other only some js len worked;
+      looked = looked_last script all lookers t q other only some js len worked;
+      lookers_are = told_last script all lookers t q other only some js len worked;
+      once = each_once script all lookers t q other only some js len worked p (numbers_below (length all)) (subst (λ (l : List Outcome). SameItems (drawn p) (flat_map items_in l)) given_is drew.drawn) once;
+      replied = ap (flat_map replies_in) outs ∙ all_replied script all lookers t q other only some js len worked;
+      tells = ap (flat_map told_in) outs ∙ all_tells script all lookers t q other only some js len worked;
     }

@@ -15,8 +15,8 @@ pub mod Closing
 pub mod Reaped
 pub mod Looking
 pub mod Looked
-pub mod Chunks
-pub mod Runs
+pub mod Items
+pub mod Placing
 pub mod Dealing
 pub mod Taking
 pub mod Running

@@ -24,8 +24,9 @@ use Rattle.race_book.specs.Explained.{NamesItsBucket}
 use Rattle.race_record.specs.Lawful.{Follows}
 use Rattle.race_record.specs.declared.record.Looked.{Looked}
 use Rattle.race_record.specs.declared.record.Looked.TheVariants as looks
+use Rattle.race_threads.specs.declared.looker.Look.{Look}
 use Rattle.race_threads.specs.Joins.{Part}
-use Rattle.race_threads.specs.Lookers.{IsLookup, IsLooked, item_at, Look, Before, HasLooked, LookedUp, looking, AllBefore, IsPassedOver, whole_for}
+use Rattle.race_threads.specs.Lookers.{IsLookup, IsLooked, item_at, Before, HasLooked, LookedUp, looking, AllBefore, IsPassedOver, whole_for}
 use Rattle.race_threads.specs.Races.{HasOnlyLooked}
 use Rattle.race_threads.proofs.Sightings.{among_left, among_right}
 

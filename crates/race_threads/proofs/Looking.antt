@@ -32,8 +32,9 @@ use Rattle.race_record.specs.Record.{Race, replies_of}
 use Rattle.race_record.specs.Lawful.{Lawful, IsReceiptOf, Answers, AreAnswered, Follows, looked_at, AreTakenInTurn, AreSharesOf}
 use Rattle.race_record.specs.declared.record.Looked.{Looked}
 use Rattle.race_record.specs.declared.record.Looked.TheVariants as looks
+use Rattle.race_threads.specs.declared.looker.Look.{Look}
 use Rattle.race_threads.specs.Joins.{Part}
-use Rattle.race_threads.specs.Lookers.{IsLookup, IsLooked, item_at, Look, item_of, Before, AllLooked, AreTold, looks_by, whole_for}
+use Rattle.race_threads.specs.Lookers.{IsLookup, IsLooked, item_at, item_of, Before, AllLooked, AreTold, looks_by, whole_for}
 use Rattle.race_threads.specs.Races.{HasEnded, race_by, steps_by, AreFew}
 use Rattle.race_threads.specs.Sections.{layout_in}
 use Rattle.race_threads.proofs.Closing.{closes, good, each_there}

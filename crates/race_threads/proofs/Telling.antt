@@ -1,5 +1,5 @@
 -- What is told of a race that has ended is what a lawful record tells.
-use Rattle.std.proofs.Common.{◌≡◌, ℕ, Bool, List, [], ◌∷◌, length, map, refl, sym, ap, ◌∙◌}
+use Rattle.std.proofs.Common.{◌≡◌, ℕ, Bool, List, [], ◌∷◌, length, map, refl, sym, ap, ◌∙◌, subst}
 use Rattle.std.specs.List.{flat_map}
 use Rattle.std.specs.Global.{Box}
 use Rattle.bind_buckets.specs.Bucket.{Bucket}
@@ -10,7 +10,9 @@ use Rattle.chain_deeds.specs.Sides.{change_of}
 use Rattle.flat_list.specs.Script.{Script}
 use Rattle.flat_list.specs.declared.header.Header.{Header}
 use Rattle.flat_list.specs.declared.command.Reply.{Reply}
-use Rattle.race_record.specs.Lawful.{Lawful}
+use Rattle.list_words.specs.Lists.{Each, SameItems, total}
+use Rattle.turn_table.specs.Journals.{numbers_below}
+use Rattle.race_record.specs.Lawful.{Lawful, looked_at}
 use Rattle.race_record.specs.Record.{Race, replies_of}
 use Rattle.race_record.specs.declared.record.Looked.{Looked}
 use Rattle.table_rule.specs.Closes as closes
@@ -18,13 +20,14 @@ use Rattle.table_rule.specs.Plays.{seeing}
 use Rattle.table_rule.specs.declared.view.View.{View}
 use Rattle.race_threads.specs.declared.finish.Ended.{Ended}
 use Rattle.race_threads.specs.Finished.{HasFinished, as_known, replies_in, told_in}
-use Rattle.race_threads.specs.Lookers.{Look, all_told, looks_by, tooks_from}
+use Rattle.race_threads.specs.declared.looker.Look.{Look}
+use Rattle.race_threads.specs.Lookers.{AreTold, item_of, looks_by}
+use Rattle.race_threads.specs.Shares.{items_in}
 use Rattle.race_threads.specs.Races.{race_by, steps_by}
 use Rattle.race_threads.specs.Scripts.{IsForRace}
 use Rattle.race_threads.specs.Told.{IsToldOf}
-use Rattle.race_threads.proofs.Chunks.{runs_are_told}
-use Rattle.race_threads.proofs.Finishing.{len_tooks}
 use Rattle.race_threads.proofs.Looking.{looks_too}
+use Rattle.race_threads.proofs.Weights.{each_unflat, map_flat}
 
 counts_are : (bs : List (Box Bucket)) → map count_in bs ≡ map length (map notes_in bs)
 counts_are [] = refl
@@ -34,21 +37,27 @@ as_known_all : (cs : List Change) → map as_known cs ≡ map change_of (map clo
 as_known_all [] = refl
 as_known_all (c ∷ cs) = ap (λ l. as_known c ∷ l) (as_known_all cs)
 
-module _ (script : Script) (capture : Capture) (lookers passes : ℕ) (e : Ended) (fits : IsForRace script) (h : HasFinished script capture.items lookers e) where
-  abbrev tooks : List (List Look)
-  tooks = tooks_from 0 h.told
+-- the items of which the outcomes tell are those of the capture, each once
+pub items_once : (script : Script) (capture : Capture) (lookers : ℕ) (e : Ended) → HasFinished script capture.items lookers e → SameItems (flat_map items_in e.outcomes.items) (numbers_below (length capture.items))
+items_once script capture lookers e h f =
+    ap (total f) (sym (map_flat item_of told_in e.outcomes.items) ∙ ap (map item_of) h.tells ∙ map_flat item_of (λ (took : List Look). took) h.tooks) ∙ h.once f
 
+module _ (script : Script) (capture : Capture) (lookers passes : ℕ) (e : Ended) (looked : List Looked) (fits : IsForRace script) (h : HasFinished script capture.items lookers e)
+    (many : length looked ≡ length capture.items) (there : Each (λ k. looked_at looked k.item ≡ k.looked) (flat_map told_in e.outcomes.items)) where
   abbrev race : Race
-  race = race_by script.header (looks_by passes tooks (all_told h.told) capture) (steps_by script.header h.part 1 script.sections h.replies h.ended.done) e.buckets.items (seeing h.chain e.clock) e.clock
+  race = race_by script.header (looks_by passes h.tooks looked capture) (steps_by script.header h.part 1 script.sections h.replies h.ended.done) e.buckets.items (seeing h.chain e.clock) e.clock
+
+  abbrev IsThere : Look → Type 0
+  IsThere k = looked_at looked k.item ≡ k.looked
+
+  told : AreTold capture.items h.tooks looked
+  told = record { count = many; once = h.once; told = each_unflat IsThere (λ (took : List Look). took) h.tooks (subst (Each IsThere) h.tells there) }
 
   lawful : Lawful script capture race × (replies_of race ≡ h.replies)
-  lawful = looks_too script capture h.part tooks (all_told h.told) passes h.turns h.chain e.buckets.items h.replies e.clock h.ended (runs_are_told capture.items h.told h.count) h.looked fits.small.commands
+  lawful = looks_too script capture h.part h.tooks looked passes h.turns h.chain e.buckets.items h.replies e.clock h.ended told h.looked fits.small.commands
 
-  lookers_are : length tooks ≡ lookers
-  lookers_are = len_tooks 0 h.told ∙ h.lookers_are
-
-  pub tells_race : (header : Header) (cut : Bool) (replies : List Reply) (journals : List ℕ) (book : List Change) (looked : List Looked)
-      → header ≡ script.header → cut ≡ capture.cut → replies ≡ flat_map replies_in e.outcomes.items → journals ≡ map count_in e.buckets.items → book ≡ e.chain.pass.changes.items → map as_known book ≡ book → looked ≡ flat_map told_in e.outcomes.items
+  pub tells_race : (header : Header) (cut : Bool) (replies : List Reply) (journals : List ℕ) (book : List Change)
+      → header ≡ script.header → cut ≡ capture.cut → replies ≡ flat_map replies_in e.outcomes.items → journals ≡ map count_in e.buckets.items → book ≡ e.chain.pass.changes.items → map as_known book ≡ book
       → IsToldOf script capture lookers passes (record {
         lookers = lookers;
         passes = passes;
@@ -61,26 +70,25 @@ module _ (script : Script) (capture : Capture) (lookers passes : ℕ) (e : Ended
         cut = cut;
         clock = e.clock;
       })
-  tells_race header cut replies journals book looked of ends p q r known s =
+  tells_race header cut replies journals book of ends p q r known =
       let replies_are = p ∙ h.replied ∙ ap (flat_map (λ (l : List Reply). l)) (sym lawful.1) in
       let journals_are = q ∙ counts_are e.buckets.items in
       let closed = ap (λ l. map closes.change_of l) r ∙ e.chain.pass.kept ∙ ap (λ (y : View). y.book.closed) h.sees in
       let book_is = sym known ∙ as_known_all book ∙ ap (map change_of) closed in
-      let looked_is = s ∙ h.tells in
       record {
         race = race;
         lawful = lawful.0;
-        lookers_are = lookers_are;
+        lookers_are = h.lookers_are;
         passes_are = refl;
         told_is = λ i. record {
-          lookers = sym lookers_are i;
+          lookers = sym h.lookers_are i;
           passes = passes;
           shape = (of i).shape;
           seed = (of i).seed;
           replies = replies_are i;
           journals = journals_are i;
           book = book_is i;
-          looked = looked_is i;
+          looked = looked;
           cut = ends i;
           clock = e.clock;
         };

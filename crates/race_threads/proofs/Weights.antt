@@ -1,13 +1,16 @@
 -- Lists that are made of parts, and what their items weigh.
-use Rattle.std.proofs.Common.{◌≡◌, ℕ, zero, suc, ◌+◌, ◌<◌, ◌≤◌, ◌==◌, Bool, true, false, cond, List, [], ◌∷◌, ◌++◌, map, refl, sym, ap, ◌∙◌, subst, arith, inl, inr}
+use Rattle.std.proofs.Common.{◌≢◌, reverse, ◌≡◌, ℕ, zero, suc, ◌+◌, ◌<◌, ◌≤◌, ◌==◌, Bool, true, false, cond, List, [], ◌∷◌, ◌++◌, map, refl, sym, ap, ◌∙◌, subst, arith, inl, inr}
 use Rattle.std.specs.List.{flat_map, range_with_len}
-use Rattle.std.proofs.lemmas.Bool.{eqb-true, eq-eqb}
-use Rattle.std.proofs.lemmas.List.{append-nil, map-append}
+use Rattle.std.proofs.lemmas.Bool.{eqb-true, eq-eqb, ne_eqb}
+use Rattle.std.proofs.lemmas.List.{append-nil, map-append, reverse-append}
+use mathlib.Core.Logic.{dite}
+use native.Mathlib.Decide.{ℕ_discrete}
 use Rattle.std.proofs.lemmas.Grind.{flat_map-append}
-use Rattle.list_words.specs.Lists.{Each, total, SameItems}
-use Rattle.list_words.proofs.EachLemmas.{each_append}
+use Rattle.list_words.specs.Lists.{Each, Pairs, total, SameItems}
+use Rattle.list_words.proofs.EachLemmas.{each_append, each_push, each_weaken}
 use Rattle.list_words.proofs.TotalLemmas.{total-append}
 use Rattle.table_rule.specs.Lists as slots
+use Rattle.turn_table.specs.Journals.{numbers_below}
 use Rattle.race_book.specs.Among.{Among}
 use Rattle.race_book.proofs.Endings.{each_of, to_each}
 
@@ -80,3 +83,52 @@ same_each_of P (x ∷ xs) h = (h.0, same_each_of P xs h.1)
 pub weigh_map : {A B : Type 0} (f : B → ℕ) (g : A → B) (xs : List A) → total f (map g xs) ≡ total (λ x. f (g x)) xs
 weigh_map f g [] = refl
 weigh_map f g (x ∷ xs) = ap (λ n. f (g x) + n) (weigh_map f g xs)
+
+-- a list weighs what it weighs backwards
+pub flat_back_weighs : {X A : Type 0} (f : A → ℕ) (g : X → List A) (xs : List X) → total f (flat_map g (reverse xs)) ≡ total f (flat_map g xs)
+flat_back_weighs f g xs = total_flat f g (reverse xs) ∙ back_weighs (λ x. total f (g x)) xs ∙ sym (total_flat f g xs)
+  where
+    back_weighs : {X : Type 0} (h : X → ℕ) (xs : List X) → total h (reverse xs) ≡ total h xs
+    back_weighs h [] = refl
+    back_weighs h (x ∷ xs) = ap (total h) (reverse-append (x ∷ []) xs) ∙ omega (arith, total_push h (reverse xs) x, back_weighs h xs)
+
+-- a fact of each of the parts
+pub each_unflat : {X A : Type 0} (P : A → Type 0) (g : X → List A) (xs : List X) → Each P (flat_map g xs) → Each (λ x. Each P (g x)) xs
+each_unflat P g [] h = tt
+each_unflat P g (x ∷ xs) h = let b = parted P (g x) (flat_map g xs) h in (b.0, each_unflat P g xs b.1)
+  where
+    parted : {A : Type 0} (P : A → Type 0) (xs ys : List A) → Each P (xs ++ ys) → Each P xs × Each P ys
+    parted P [] ys h = (tt, h)
+    parted P (x ∷ xs) ys h = let b = parted P xs ys h.1 in ((h.0, b.0), b.1)
+
+-- numbers that are those below a bound, each once
+
+is_other : (n m : ℕ) → m ≢ n → is n m ≡ 0
+is_other n m ne = ap {B = ℕ} (λ (b : Bool). cond b 1 0) (ne_eqb m n ne)
+
+below_none : (n m : ℕ) → m ≤ n → total (is n) (numbers_below m) ≡ 0
+below_none n zero l = refl
+below_none n (suc m) l = omega (arith, total_push (is n) (numbers_below m) m, below_none n m (omega (arith, l)), is_other n m (λ e. absurd (omega (arith, l, e))))
+
+below_once : (n m : ℕ) → total (is n) (numbers_below m) ≤ 1
+below_once n zero = omega arith
+below_once n (suc m) = dite (ℕ_discrete m n)
+    (λ e. omega (arith, total_push (is n) (numbers_below m) m, below_none n m (omega (arith, e)), ap (is n) e, is_self n))
+    (λ ne. omega (arith, total_push (is n) (numbers_below m) m, below_once n m, is_other n m ne))
+
+once_apart : (xs : List ℕ) → ((n : ℕ) → total (is n) xs ≤ 1) → Pairs (λ (i j : ℕ). i ≢ j) xs
+once_apart [] h = tt
+once_apart (x ∷ xs) h = (
+  to_each (λ j. x ≢ j) xs (λ j a e. absurd (omega (arith, h x, is_self x, weighs x xs (subst (Among xs) (sym e) a)))),
+  once_apart xs (λ n. omega (arith, h n)),
+)
+
+pub below_apart : (xs : List ℕ) (n : ℕ) → SameItems xs (numbers_below n) → Pairs (λ (i j : ℕ). i ≢ j) xs
+below_apart xs n s = once_apart xs (λ k. omega (arith, s (is k), below_once k n))
+
+below_each : (n : ℕ) → Each (λ k. k < n) (numbers_below n)
+below_each zero = tt
+below_each (suc n) = each_push (λ k. k < suc n) (numbers_below n) n (each_weaken (λ k. k < n) (λ k. k < suc n) (numbers_below n) (λ k l. omega (arith, l)) (below_each n)) (omega arith)
+
+pub below_inside : (xs : List ℕ) (n : ℕ) → SameItems xs (numbers_below n) → Each (λ k. k < n) xs
+below_inside xs n s = same_each (λ k. k < n) xs (numbers_below n) s (below_each n)

@@ -1,12 +1,17 @@
 -- A job, by the script.
-use Rattle.std.proofs.Common.{◌≡◌, ℕ, zero, suc, ◌+◌, ◌-◌, ◌<◌, ◌≤◌, ◌^◌, List, [], ◌∷◌, length, map, get_or, refl, sym, ap, ◌∙◌, subst, arith}
+use Rattle.std.proofs.Common.{◌≡◌, ℕ, zero, suc, ◌+◌, ◌<◌, ◌≤◌, ◌^◌, List, [], ◌∷◌, length, map, get_or, refl, sym, ap, ◌∙◌, subst, arith}
 use Rattle.capture_reader.specs.declared.packet.Item.{Item}
 use Rattle.flat_list.specs.Script.{Script}
 use Rattle.flat_list.specs.declared.command.Command.{Command}
 use Rattle.flat_list.specs.declared.header.Header.{Header}
 use Rattle.shared_ops.specs.declared.tables.Tables.{Tables}
+use Rattle.tickets.specs.declared.pass.TicketPass.{TicketPass}
+use Rattle.tickets.specs.declared.pass.Tickets.{Tickets}
+use Rattle.race_threads.specs.declared.looker.Look.{Look}
 use Rattle.race_threads.specs.declared.jobs.Job.{Job}
 use Rattle.race_threads.specs.Jobs.{IsOver}
+use Rattle.race_threads.specs.Lookers.{item_of}
+use Rattle.race_threads.specs.Shares.{HasDrawnNothing, HasTold}
 use Rattle.race_threads.specs.Races.{SectionDone}
 use Rattle.race_threads.specs.Workers.{part_of}
 use Rattle.race_threads.specs.Scripts.{IsForRace, LooksNothingUp}
@@ -35,15 +40,16 @@ few_in script i commands fits l is = subst (λ (cs : List Command). length cs < 
 pub looks_in : (script : Script) (i : ℕ) (commands : List Command) → IsForRace script → i < length script.sections → commands ≡ get_or script.sections i [] → LooksNothingUp commands
 looks_in script i commands fits l is = subst LooksNothingUp (sym is) (each_get LooksNothingUp script.sections i [] fits.looks l)
 
-module _ (script : Script) (all : List Item) (lookers : ℕ) (t : Tables) (n : ℕ) (j : Job) (over : IsOver t j) where
-  pub worked_section : n < length script.sections → HasRun script.header (n + 1) (get_or script.sections n []) j → IsWorked script all lookers t n j
+module _ (script : Script) (all : List Item) (t : Tables) (q : Tickets) (n : ℕ) (j : Job) (over : IsOver t q j) where
+  pub worked_section : n < length script.sections → HasRun script.header (n + 1) (get_or script.sections n []) j → IsWorked script all t q n j
   worked_section l run = record { over = over; section = λ l. run; looker = λ le. absurd (omega (arith, l, le)) }
 
-  pub worked_looker : length script.sections ≤ n → HasShared script.header all lookers (n - length script.sections) j → IsWorked script all lookers t n j
+  pub worked_looker : length script.sections ≤ n → HasShared script.header all j → IsWorked script all t q n j
   worked_looker le share = record { over = over; section = λ l. absurd (omega (arith, l, le)); looker = λ le. share }
 
-pub shared : (header : Header) (lookers at at' : ℕ) → at ≡ at' → (items all : List Item) → items ≡ all → (j : Job) → HasShared header items lookers at j → HasShared header all lookers at' j
-shared header lookers at at' same items all is j h = subst (λ (k : ℕ). HasShared header all lookers k j) same (subst (λ (l : List Item). HasShared header l lookers at j) is h)
+-- who drew nothing has told of nothing
+pub told_none : (q : Tickets) (p : TicketPass) (told : List Look) → HasDrawnNothing q p → told ≡ [] → HasTold q p told
+told_none q p told h e = record { table = h.table; part = h.part; drawn = h.drawn ∙ ap (map item_of) (sym e) }
 
 pub ran : (given header : Header) (n : ℕ) (commands all : List Command) (j : Job) → given ≡ header → commands ≡ all → SectionDone given n commands (part_of j.worker) j.replies.items → j.told.items ≡ [] → HasRun header n all j
 ran given header n commands all j is same done told =

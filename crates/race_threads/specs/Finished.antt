@@ -1,27 +1,29 @@
 -- A race at its end: all workers joined, the clock loaded, the bind buckets taken. Our own.
-use Rattle.std.specs.Prelude.{◌≡◌, ℕ, ◌+◌, List, length}
+use Rattle.std.specs.Prelude.{◌≡◌, ℕ, ◌+◌, List, length, map}
 use Rattle.std.specs.List.{flat_map}
+use Rattle.list_words.specs.Lists.{SameItems}
+use Rattle.turn_table.specs.Journals.{numbers_below}
 use Rattle.bind_buckets.specs.Turned.{View as BindView}
 use Rattle.capture_reader.specs.declared.packet.Item.{Item}
 use Rattle.chain_book.specs.declared.book.Change.{Change}
 use Rattle.chain_deeds.specs.Sides.{change_of}
 use Rattle.flat_list.specs.Script.{Script}
 use Rattle.flat_list.specs.declared.command.Reply.{Reply}
-use Rattle.race_record.specs.declared.record.Looked.{Looked}
 use Rattle.table_rule.specs.Closes as closes
 use Rattle.table_rule.specs.Passes.{known}
 use Rattle.table_rule.specs.Plays.{seeing}
 use Rattle.table_rule.specs.declared.view.View.{View}
 use Rattle.race_threads.specs.declared.finish.Ended.{Ended}
 use Rattle.race_threads.specs.declared.jobs.Outcome.{Outcome}
+use Rattle.race_threads.specs.declared.looker.Look.{Look}
 use Rattle.race_threads.specs.Joins.{Part}
-use Rattle.race_threads.specs.Lookers.{AllLooked, all_told, tooks_from}
+use Rattle.race_threads.specs.Lookers.{AllLooked, item_of}
 use Rattle.race_threads.specs.Races.{HasEnded}
 
 abbrev pub replies_in : Outcome → List Reply
 replies_in o = o.replies.items
 
-abbrev pub told_in : Outcome → List Looked
+abbrev pub told_in : Outcome → List Look
 told_in o = o.told.items
 
 -- This is what the script's sections and so many lookers of these items left: the chain pass into which all others were
@@ -31,14 +33,14 @@ pub record HasFinished (script : Script) (all : List Item) (lookers : ℕ) (e : 
   pub turns : BindView
   pub chain : View
   pub replies : List (List Reply)
-  pub told : List (List Looked)
+  pub tooks : List (List Look)
   pub sees : known e.chain.pass ≡ seeing chain e.clock
-  pub ended : HasEnded script.header script.sections part (length (tooks_from 0 told)) turns chain e.buckets.items replies e.clock
-  pub looked : AllLooked script.header all part (length script.sections + 1) (tooks_from 0 told)
-  pub lookers_are : length told ≡ lookers
-  pub count : length (all_told told) ≡ length all
+  pub ended : HasEnded script.header script.sections part (length tooks) turns chain e.buckets.items replies e.clock
+  pub looked : AllLooked script.header all part (length script.sections + 1) tooks
+  pub lookers_are : length tooks ≡ lookers
+  pub once : SameItems (flat_map (λ took. map item_of took) tooks) (numbers_below (length all))
   pub replied : flat_map replies_in e.outcomes.items ≡ flat_map (λ (r : List Reply). r) replies
-  pub tells : flat_map told_in e.outcomes.items ≡ all_told told
+  pub tells : flat_map told_in e.outcomes.items ≡ flat_map (λ (took : List Look). took) tooks
 
 -- a change that lies in memory is the one that its pass knows
 abbrev pub as_known : Change → Change

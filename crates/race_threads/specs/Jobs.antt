@@ -7,30 +7,34 @@ use Rattle.turn_table.specs.Passes as words
 use Rattle.flat_list.specs.declared.header.Header.{Header}
 use Rattle.shared_ops.specs.declared.tables.Tables.{Tables}
 use Rattle.shared_ops.specs.declared.tables.Worker.{Worker}
+use Rattle.tickets.specs.declared.pass.Tickets.{Tickets}
 use Rattle.race_threads.specs.declared.jobs.Job.{Job}
 use Rattle.race_threads.specs.declared.jobs.Outcome.{Outcome}
 use Rattle.race_threads.specs.Joins.{Part, Joined}
+use Rattle.race_threads.specs.Shares.{HasDrawnNothing, HasTold}
 use Rattle.race_threads.specs.Workers.{IsAtRest, IsFresh, part_of}
 
 -- the job of that number, which has done nothing
-pub record IsReady (header : Header) (t : Tables) (n : ℕ) (j : Job) : Type 0 where
+pub record IsReady (header : Header) (t : Tables) (q : Tickets) (n : ℕ) (j : Job) : Type 0 where
   pub fresh : IsFresh header t (n + 1) j.worker
+  pub draws : HasDrawnNothing q j.draws
   pub number : j.number ≡ n
   pub replies : j.replies.items ≡ []
   pub told : j.told.items ≡ []
 
 -- each job is that of its place
-abbrev pub AllReady : Header → Tables → List Job → Type 0
-AllReady header t jobs = (i : ℕ) (x : Job) → i < length jobs → x ≡ slice_index_or jobs i x → IsReady header t i x
+abbrev pub AllReady : Header → Tables → Tickets → List Job → Type 0
+AllReady header t q jobs = (i : ℕ) (x : Job) → i < length jobs → x ≡ slice_index_or jobs i x → IsReady header t q i x
 
--- a job that has ended: its worker may be taken in
-pub record IsOver (t : Tables) (j : Job) : Type 0 where
+-- a job that has ended: its worker and its pass may be taken in
+pub record IsOver (t : Tables) (q : Tickets) (j : Job) : Type 0 where
   pub rest : IsAtRest t j.worker
   pub turn_part : words.parts j.worker.turns ≡ 1
   pub chain_part : (part_of j.worker).chain.slot.parts ≡ 1
+  pub draws : HasTold q j.draws j.told.items
 
-abbrev pub AllOver : Tables → List (Result Job AllocError) → Type 0
-AllOver t done = (i : ℕ) (d : Result Job AllocError) → i < length done → IfOk (slice_index_or done i d) (IsOver t)
+abbrev pub AllOver : Tables → Tickets → List (Result Job AllocError) → Type 0
+AllOver t q done = (i : ℕ) (d : Result Job AllocError) → i < length done → IfOk (slice_index_or done i d) (IsOver t q)
 
 -- it has all parts of both
 pub record HasAllParts (w : Worker) : Type 0 where

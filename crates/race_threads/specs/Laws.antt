@@ -32,8 +32,9 @@ use Rattle.race_record.specs.declared.record.Looked.TheVariants as looks
 use Rattle.chain_deeds.specs.Sides.{Side}
 use Rattle.chain_deeds.specs.Made.{AllLeave}
 use Rattle.section_machine.specs.Sections.{Did}
+use Rattle.race_threads.specs.declared.looker.Look.{Look}
 use Rattle.race_threads.specs.Joins.{Part, Joined, IsBlank}
-use Rattle.race_threads.specs.Lookers.{item_at, Look, HasLooked, LookedUp, looking, AllBefore, IsPassedOver, AllLooked, AreTold, looks_by, tooks_from, all_told}
+use Rattle.race_threads.specs.Lookers.{item_at, HasLooked, LookedUp, looking, AllBefore, IsPassedOver, AllLooked, AreTold, looks_by}
 use Rattle.race_threads.specs.Made.{MadeAll, Loads, loaded}
 use Rattle.race_threads.specs.Races.{HasEnded, HasOnlyLooked, Looks, AreFew, AllReaped, IsLawfulBut, race_by, steps_by}
 use Rattle.race_threads.specs.Sections.{HasDone, HasNothing}
@@ -119,9 +120,3 @@ NamesBuckets =
     (slots groups : ℕ) (layout : Layout) (packet : Packet) (passes : ℕ) (m : Sat) (p p' : GroupPasses) (end : PacketAnswer)
     (from : ℕ) (c : Whole) (n : Sat)
     → ByOrder slots groups layout packet passes m p end p' from c n → NamesItsBucket layout.shape layout.seed packet end
-
--- lookers that take the items in runs, one behind the other, tell of each once
-abbrev pub RunsAreTold : Type 0
-RunsAreTold =
-    (all : List Item) (told : List (List Looked)) → length (all_told told) ≡ length all
-    → AreTold all (tooks_from 0 told) (all_told told)

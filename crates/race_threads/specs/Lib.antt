@@ -6,9 +6,9 @@ pub mod Races
 pub mod Lookers
 pub mod Looking
 pub mod Workers
+pub mod Shares
 pub mod Jobs
 pub mod Laws
-pub mod Shares
 pub mod Scripts
 pub mod Works
 pub mod Finished

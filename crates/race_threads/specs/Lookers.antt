@@ -23,6 +23,7 @@ use Rattle.race_record.specs.declared.record.Looked.{Looked}
 use Rattle.race_record.specs.declared.record.Looked.TheVariants as looks
 use Rattle.race_record.specs.Lawful.{Follows, looked_at}
 use Rattle.shared_demux.specs.Concludes.{Concluded}
+use Rattle.race_threads.specs.declared.looker.Look.{Look}
 use Rattle.race_threads.specs.Joins.{Part}
 use Rattle.race_threads.specs.Races.{HasOnlyLooked, Looks}
 
@@ -54,11 +55,6 @@ IsLooked header wholes seen _ _ = ⊥
 
 abbrev pub item_at : List Item → ℕ → Item
 item_at all i = slice_index_or all i items.Skip
-
--- what a looker has of one item: its number, and what came of it
-pub record Look : Type 0 where
-  pub item : ℕ
-  pub looked : Looked
 
 abbrev pub item_of : Look → ℕ
 item_of k = k.item
@@ -118,17 +114,3 @@ abbrev pub IsPassedOver : Item → Looked → Type 0
 IsPassedOver items.Skip looks.Skip = Unit {0}
 IsPassedOver items.Short looks.Short = Unit {0}
 IsPassedOver _ _ = ⊥
-
--- a run of what came of items, of which the first is that item
-abbrev pub took_from : ℕ → List Looked → List Look
-took_from n [] = []
-took_from n (a ∷ answers) = record { item = n; looked = a } ∷ took_from (n + 1) answers
-
--- the runs of all lookers, one behind the other
-abbrev pub tooks_from : ℕ → List (List Looked) → List (List Look)
-tooks_from n [] = []
-tooks_from n (answers ∷ told) = took_from n answers ∷ tooks_from (n + length answers) told
-
--- what all of them tell
-abbrev pub all_told : List (List Looked) → List Looked
-all_told told = flat_map (λ answers. answers) told

@@ -11,7 +11,8 @@ use Rattle.race_record.specs.declared.record.Looked.{Looked}
 use Rattle.sock_card.specs.declared.card.Packet.{Packet}
 use Rattle.table_rule.specs.Passes.{known}
 use Rattle.table_rule.specs.Plays.{Sat}
-use Rattle.race_threads.specs.Lookers.{item_at, Look, AllBefore, HasLooked, LookedUp, looking, took_from}
+use Rattle.race_threads.specs.declared.looker.Look.{Look}
+use Rattle.race_threads.specs.Lookers.{item_at, AllBefore, HasLooked, LookedUp, looking}
 use Rattle.race_threads.specs.Races.{HasOnlyLooked}
 use Rattle.race_threads.specs.Sections.{layout_in}
 
@@ -32,8 +33,8 @@ TakesItem t item m n looked =
     → t.layout ≡ layout_in header → item_at all i ≡ item → AllBefore i took → HasLooked header all (looking v m.0) took
     → HasLooked header all (looking v n.0) (took ++ record { item = i; looked = looked } ∷ [])
 
--- a run of items was taken by a pass that had done nothing else
-abbrev pub TakesRun : ChainTable → List Item → ℕ → Sat → Sat → List Looked → Type 0
-TakesRun t all first m n told =
+-- all these were taken by a pass that had done nothing else
+abbrev pub TakesAll : ChainTable → List Item → Sat → Sat → List Look → Type 0
+TakesAll t all m n took =
     (header : Header) (v : BindView) → t.layout ≡ layout_in header → HasOnlyLooked (looking v m.0)
-    → HasLooked header all (looking v n.0) (took_from first told)
+    → HasLooked header all (looking v n.0) took

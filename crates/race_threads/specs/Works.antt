@@ -1,16 +1,17 @@
 -- What came of one of a race's jobs: our own.
-use Rattle.std.specs.Prelude.{◌≡◌, ℕ, ◌+◌, ◌-◌, ◌<◌, ◌≤◌, List, [], length, slice_index_or, Result, IfOk}
+use Rattle.std.specs.Prelude.{◌≡◌, ℕ, ◌+◌, ◌<◌, ◌≤◌, List, [], length, slice_index_or, Result, IfOk}
 use Rattle.std.specs.declared.alloc.AllocError.{AllocError}
 use Rattle.capture_reader.specs.declared.packet.Item.{Item}
 use Rattle.flat_list.specs.Script.{Script}
 use Rattle.flat_list.specs.declared.command.Command.{Command}
 use Rattle.flat_list.specs.declared.header.Header.{Header}
 use Rattle.shared_ops.specs.declared.tables.Tables.{Tables}
+use Rattle.tickets.specs.Passes.{HasMissed}
+use Rattle.tickets.specs.declared.pass.Tickets.{Tickets}
 use Rattle.race_threads.specs.declared.jobs.Job.{Job}
 use Rattle.race_threads.specs.Jobs.{IsOver}
-use Rattle.race_threads.specs.Lookers.{HasLooked, took_from}
+use Rattle.race_threads.specs.Lookers.{HasLooked}
 use Rattle.race_threads.specs.Races.{SectionDone}
-use Rattle.race_threads.specs.Shares.{run_end}
 use Rattle.race_threads.specs.Workers.{part_of}
 
 -- the section was done, and told of no item
@@ -18,19 +19,19 @@ pub record HasRun (header : Header) (n : ℕ) (commands : List Command) (j : Job
   pub done : SectionDone header n commands (part_of j.worker) j.replies.items
   pub told : j.told.items ≡ []
 
--- the share behind those of so many lookers was looked up, and nothing else was done
-pub record HasShared (header : Header) (all : List Item) (lookers at : ℕ) (j : Job) : Type 0 where
-  pub looked : HasLooked header all (part_of j.worker) (took_from (run_end (length all) lookers at) j.told.items)
-  pub count : run_end (length all) lookers at + length j.told.items ≡ run_end (length all) lookers (at + 1)
+-- items were looked up until none was left to be drawn, and nothing else was done
+pub record HasShared (header : Header) (all : List Item) (j : Job) : Type 0 where
+  pub looked : HasLooked header all (part_of j.worker) j.told.items
+  pub missed : HasMissed j.draws
   pub replies : j.replies.items ≡ []
 
 -- the job of that number was done: the sections come first
-pub record IsWorked (script : Script) (all : List Item) (lookers : ℕ) (t : Tables) (n : ℕ) (j : Job) : Type 0 where
-  pub over : IsOver t j
+pub record IsWorked (script : Script) (all : List Item) (t : Tables) (q : Tickets) (n : ℕ) (j : Job) : Type 0 where
+  pub over : IsOver t q j
   pub section : n < length script.sections → HasRun script.header (n + 1) (slice_index_or script.sections n []) j
-  pub looker : length script.sections ≤ n → HasShared script.header all lookers (n - length script.sections) j
+  pub looker : length script.sections ≤ n → HasShared script.header all j
 
 -- so was each of so many jobs for which memory did not run out
-abbrev pub AllWorked : Script → List Item → ℕ → Tables → ℕ → List (Result Job AllocError) → Type 0
-AllWorked script all lookers t count done =
-    (i : ℕ) (d : Result Job AllocError) → i < count → IfOk (slice_index_or done i d) (IsWorked script all lookers t i)
+abbrev pub AllWorked : Script → List Item → Tables → Tickets → ℕ → List (Result Job AllocError) → Type 0
+AllWorked script all t q count done =
+    (i : ℕ) (d : Result Job AllocError) → i < count → IfOk (slice_index_or done i d) (IsWorked script all t q i)

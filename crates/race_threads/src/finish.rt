@@ -1,10 +1,13 @@
-//! The end of a race: all workers are joined, the clock is loaded, and the bind buckets are taken.
+//! The end of a race: all workers and passes are joined, the clock and the count of tickets are loaded, and the bind
+//! buckets are taken.
 
 ghost use Rattle.std.specs.Prelude.{◌≡◌, ◌+◌, ◌^◌, ◌<◌, length, IfOk};
 ghost use Rattle.race_threads.specs.Finished.{HasFinished};
 ghost use Rattle.race_threads.specs.Scripts.{IsForRace};
+ghost use Rattle.race_threads.specs.Shares.{IsFirstPass};
 ghost use Rattle.race_threads.specs.Workers.{AreTables, IsFirst};
 ghost use Rattle.race_threads.specs.Works.{AllWorked};
+ghost use Rattle.tickets.specs.Passes.{tickets as tickets_of};
 
 use crate::jobs::{Job, Outcome, gather};
 use bind_buckets::{Bucket, turning};
@@ -13,6 +16,7 @@ use chain_deeds::ChainPass;
 use flat_list::Script;
 use shared_ops::{Tables, Worker};
 use std::alloc::{AllocError, Global};
+use tickets::{TicketPass, Tickets};
 
 /// What a race leaves: the chain pass into which all others were joined, the bind buckets, the clock, and what came of
 /// each job, the sections first.
@@ -32,7 +36,9 @@ pub struct Ended {
 pub fn finish(
     alloc: Global,
     tables: Tables,
+    tickets: &Tickets,
     mut first: Worker,
+    mut draws: TicketPass,
     script: &Script,
     capture: &Capture,
     lookers: usize,
@@ -40,14 +46,17 @@ pub fn finish(
 ) -> Result<Ended, AllocError>
     requires script { IsForRace script.now }
     requires tables { AreTables script.now.header tables }
+    requires tickets { tickets_of tickets.now ≡ length capture.now.items }
     requires some { 0 < lookers }
     requires few { lookers < 2 ^ 12 }
     requires count { length done.items ≡ length script.now.sections + lookers }
     requires first { IsFirst tables (length done.items) first }
-    requires worked { AllWorked script.now capture.now.items lookers tables (length done.items) done.items }
+    requires draws { IsFirstPass tickets.now (length done.items) draws }
+    requires worked { AllWorked script.now capture.now.items tables tickets.now (length done.items) done.items }
     ensures { IfOk result (HasFinished script.now capture.now.items lookers) }
 {
-    let outcomes = gather(alloc, &tables, &mut first, done)?;
+    let outcomes = gather(alloc, &tables, tickets, &mut first, &mut draws, done)?;
+    let _count = tickets.count(&mut draws);
     let Tables {
         buckets,
         chains,

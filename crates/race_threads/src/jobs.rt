@@ -4,25 +4,29 @@ ghost use Rattle.std.specs.Prelude.{◌≡◌, ◌+◌, ◌^◌, ◌<◌, length
 ghost use Rattle.flat_list.specs.declared.header.Header.{Header};
 ghost use Rattle.race_threads.specs.Jobs.{AllOver, AllReady, HasAllParts, IsGathered, outcomes_in, part_in};
 ghost use Rattle.race_threads.specs.Joins.{Part};
+ghost use Rattle.race_threads.specs.Shares.{HasDrawnAll, IsFirstPass};
 ghost use Rattle.race_threads.specs.Workers.{AreTables, IsAtRest, IsFirst, part_of};
 ghost use Rattle.turn_table.specs.Passes as words;
 
+use crate::looker::Look;
 use crate::worker::{join, split};
 use flat_list::Reply;
-use race_record::Looked;
 use shared_ops::{Tables, Worker};
 use std::alloc::{AllocError, Global};
+use tickets::{TicketPass, Tickets};
 
-/// A worker's part of a race: the section or the looker of its number, the sections first, and what came of it.
+/// A worker's part of a race: the section or the looker of its number, the sections first, and what came of it. Only a
+/// looker draws items.
 #[derive(Drop)]
 pub struct Job {
     pub worker: Worker,
+    pub draws: TicketPass,
     pub number: usize,
     pub replies: Vec<Reply>,
-    pub told: Vec<Looked>,
+    pub told: Vec<Look>,
 }
 
-/// A job for each section and each looker, with a worker that is split off the first one.
+/// A job for each section and each looker, with a worker and a pass of tickets that are split off the first ones.
 ///
 /// # Errors
 ///
@@ -30,21 +34,26 @@ pub struct Job {
 pub fn deal(
     alloc: Global,
     tables: &Tables,
+    tickets: &Tickets,
     first: &mut Worker,
+    draws: &mut TicketPass,
     count: usize,
 ) -> Result<Vec<Job>, AllocError>
     requires count { count < 2 ^ 13 }
     requires tables { (header : Header) × AreTables header tables.now }
     requires first { IsFirst tables.now 0 first.old }
+    requires draws { IsFirstPass tickets.now 0 draws.old }
     ensures count { IfOk result (λ jobs. length jobs.items ≡ count) }
     ensures jobs { IfOk result
-        (λ jobs. (header : Header) → AreTables header tables.now → AllReady header tables.now jobs.items) }
+        (λ jobs. (header : Header) → AreTables header tables.now → AllReady header tables.now tickets.now jobs.items) }
     ensures first { OnOk result (IsFirst tables.now count first.new) }
+    ensures draws { OnOk result (IsFirstPass tickets.now count draws.new) }
 {
     let mut jobs = Vec::with_capacity(alloc, count)?;
     for number in 0..count {
         jobs.push_reserved(Job {
             worker: split(alloc, tables, first),
+            draws: draws.split(tickets),
             number,
             replies: Vec::new(alloc),
             told: Vec::new(alloc),
@@ -57,10 +66,10 @@ pub fn deal(
 #[derive(Drop)]
 pub struct Outcome {
     pub replies: Vec<Reply>,
-    pub told: Vec<Looked>,
+    pub told: Vec<Look>,
 }
 
-/// Takes the workers of all jobs in, and hands on what came of each.
+/// Takes the workers and the passes of all jobs in, and hands on what came of each.
 ///
 /// # Errors
 ///
@@ -68,16 +77,20 @@ pub struct Outcome {
 pub fn gather(
     alloc: Global,
     tables: &Tables,
+    tickets: &Tickets,
     first: &mut Worker,
+    draws: &mut TicketPass,
     done: Vec<Result<Job, AllocError>>,
 ) -> Result<Vec<Outcome>, AllocError>
     requires few { length done.items < 2 ^ 13 }
-    requires done { AllOver tables.now done.items }
+    requires done { AllOver tables.now tickets.now done.items }
     requires first { IsFirst tables.now (length done.items) first.old }
+    requires draws { IsFirstPass tickets.now (length done.items) draws.old }
     ensures rest { IfOk result (λ given. IsAtRest tables.now first.new) }
     ensures parts { IfOk result (λ given. HasAllParts first.new) }
     ensures joined { IfOk result
         (λ given. (other : Part) → IsGathered (part_in other done.items) 0 (length done.items) (part_of first.new)) }
+    ensures draws { IfOk result (λ given. HasDrawnAll tickets.now done.items given.items draws.new) }
     ensures outcomes { IfOk result (λ given. given.items ≡ outcomes_in done.items) }
     ensures count { IfOk result (λ given. length given.items ≡ length done.items) }
 {
@@ -86,11 +99,13 @@ pub fn gather(
     while let Some(result) = left.pop() {
         let Job {
             worker,
+            draws: drawn,
             replies,
             told,
             ..
         } = result?;
         join(tables, first, worker)?;
+        draws.join(tickets, drawn);
         given.push(Outcome { replies, told })?;
     }
     Ok(backwards(given))

@@ -38,7 +38,6 @@ pub fn lookers()
     ensures more { law.LooksMore }
     ensures past { law.LooksPast }
     ensures buckets { law.NamesBuckets }
-    ensures runs { law.RunsAreTold }
 {}
 
 /// There can be a race of each small script that a text is by the grammar of a race.

@@ -1,11 +1,13 @@
-//! Lookers: each looks a run of a capture's items up, beside the sections. They lock nothing.
+//! Lookers: each looks the items of a capture up whose tickets it draws, beside the sections. They lock nothing.
 
-ghost use Rattle.std.specs.Prelude.{◌≡◌, ◌+◌, ◌<◌, ◌≤◌, length, IfOk};
+ghost use Rattle.std.specs.Prelude.{◌≡◌, ◌<◌, length, IfOk};
 ghost use Rattle.race_threads.specs.Lookers.{IsTold};
-ghost use Rattle.race_threads.specs.Looking.{MayLook, LooksUp, TakesItem, TakesRun};
+ghost use Rattle.race_threads.specs.Looking.{MayLook, LooksUp, TakesItem, TakesAll};
+ghost use Rattle.race_threads.specs.Shares.{HasDrawnNothing, HasTold};
 ghost use Rattle.reuseport_group.specs.Passes.{IsPassOf};
 ghost use Rattle.table_rule.specs.Calls.{me};
 ghost use Rattle.table_rule.specs.Passes.{known};
+ghost use Rattle.tickets.specs.Passes.{HasMissed, tickets as tickets_of};
 
 use capture_reader::Item;
 use chain_book::{PacketAnswer, PacketLook, Receipt};
@@ -17,6 +19,14 @@ use reuseport_group::{GroupPasses, Groups};
 use shared_demux::{Lookups, look_packet};
 use sock_card::{Packet, pack};
 use std::alloc::{AllocError, Global};
+use tickets::{TicketPass, Tickets};
+
+/// What a looker has of one item: its number in the capture, from 0, and what came of it.
+#[derive(Clone, Copy, Debug, PartialEq, Eq)]
+pub struct Look {
+    pub item: u32,
+    pub looked: Looked,
+}
 
 /// The card that was found is the one that its words say.
 fn know_card(answer: &PacketAnswer)
@@ -101,42 +111,45 @@ fn look_item<P: Pace>(
     }
 }
 
-/// Looks the items of a run up, one after the other, each behind the gate of the looker of that number.
+/// Looks the items up whose tickets it draws, one after the other, until none is left; each behind the gate of the
+/// looker of that number.
 ///
 /// # Errors
 ///
 /// Memory ran out.
-pub fn look_run<P: Pace, G: Gate>(
+pub fn look_drawn<P: Pace, G: Gate>(
     alloc: Global,
     table: &ChainTable,
     groups: &Groups,
     pass: &mut ChainPass,
     group_passes: &mut GroupPasses,
     items: &[Item],
-    first: usize,
-    last: usize,
+    tickets: &Tickets,
+    draws: &mut TicketPass,
     passes: u32,
     pace: &mut P,
     looker: u32,
     gate: &G,
-) -> Result<Vec<Looked>, AllocError>
+) -> Result<Vec<Look>, AllocError>
     requires looks { MayLook table.now pass.old }
     requires groups { IsPassOf groups.now group_passes.old }
+    requires tickets { tickets_of tickets.now ≡ length items.now }
+    requires draws { HasDrawnNothing tickets.now draws.old }
     requires passes { 0 < passes }
-    requires order { first ≤ last }
-    requires inside { last ≤ length items.now }
     ensures looks { IfOk result (λ told. MayLook table.now pass.new) }
     ensures groups { IfOk result (λ told. IsPassOf groups.now group_passes.new) }
     ensures part { IfOk result (λ told. (known pass.new.pass).slot.parts ≡ (known pass.old.pass).slot.parts) }
-    ensures count { IfOk result (λ told. first + length told.items ≡ last) }
+    ensures draws { IfOk result (λ told. HasTold tickets.now draws.new told.items) }
+    ensures missed { IfOk result (λ told. HasMissed draws.new) }
     ensures takes { IfOk result
-        (λ told. TakesRun table.now items.now first (me pass.old.pass.steps) (me pass.new.pass.steps) told.items) }
+        (λ told. TakesAll table.now items.now (me pass.old.pass.steps) (me pass.new.pass.steps) told.items) }
 {
-    let mut told = Vec::with_capacity(alloc, last - first)?;
-    for at in first..last {
-        gate.pass(Who::Looker(looker), at as u64 + 1);
-        let looked = look_item(table, groups, pass, group_passes, &items[at], passes, pace);
-        told.push(looked)?;
+    let mut told = Vec::new(alloc);
+    while let Some(item) = tickets.next(draws) {
+        gate.pass(Who::Looker(looker), u64::from(item) + 1);
+        let found = &items[item as usize];
+        let looked = look_item(table, groups, pass, group_passes, found, passes, pace);
+        told.push(Look { item, looked })?;
     }
     Ok(told)
 }

@@ -6,6 +6,7 @@ ghost use Rattle.race_threads.specs.Told.{IsToldOf};
 
 use crate::finish::finish;
 use crate::jobs::deal;
+use crate::share::issue;
 use crate::start::start;
 use crate::tell::tell;
 use crate::threads::run_all;
@@ -18,11 +19,11 @@ use std::sync::Wait;
 use std::thread::Threads;
 
 /// Runs each section of the script on a thread of its own, and looks the capture's packets up on so many more, with so
-/// many passes a lookup at most: one race, told whole.
+/// many passes a lookup at most: one race, told whole. Each looker takes the next packet that none has taken yet.
 ///
 /// # Errors
 ///
-/// Memory ran out.
+/// Memory ran out. That is said too of a capture of 2^32 packets or more, which takes more of it than 64 GiB.
 pub fn race<R: Threads + Wait + Sync, G: Gate>(
     rt: &R,
     alloc: Global,
@@ -39,23 +40,18 @@ pub fn race<R: Threads + Wait + Sync, G: Gate>(
     ensures { IfOk result (IsToldOf script.now capture.now lookers passes) }
 {
     let (tables, mut first) = start(alloc, script.header())?;
+    let (tickets, mut draws) = issue(alloc, capture.items())?;
     let count = script.sections().len() + lookers as usize;
-    let jobs = deal(alloc, &tables, &mut first, count)?;
+    let jobs = deal(alloc, &tables, &tickets, &mut first, &mut draws, count)?;
     let done = run_all(
-        rt,
-        alloc,
-        &tables,
-        script,
-        capture,
-        lookers as usize,
-        passes,
-        gate,
-        jobs,
+        rt, alloc, &tables, &tickets, script, capture, passes, gate, jobs,
     )?;
     let ended = finish(
         alloc,
         tables,
+        &tickets,
         first,
+        draws,
         script,
         capture,
         lookers as usize,

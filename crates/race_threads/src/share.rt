@@ -1,32 +1,37 @@
-//! A looker's share of a capture: one run of its items, behind those of the lookers before it.
+//! A looker's share of a capture: the items whose tickets it draws.
 
-ghost use Rattle.std.specs.Prelude.{◌≡◌, ℕ, ◌+◌, ◌^◌, ◌<◌, ◌≤◌, length, IfOk};
+ghost use Rattle.std.specs.Prelude.{◌≡◌, ℕ, ◌^◌, ◌<◌, length, IfOk};
 ghost use Rattle.flat_list.specs.declared.header.Header.{Header};
-ghost use Rattle.race_threads.specs.Lookers.{HasLooked, took_from};
-ghost use Rattle.race_threads.specs.Shares.{run_end};
+ghost use Rattle.race_threads.specs.Lookers.{HasLooked};
+ghost use Rattle.race_threads.specs.Shares.{HasDrawnNothing, HasTold, IsFirstPass};
 ghost use Rattle.race_threads.specs.Workers.{AreTables, IsAtRest, IsFresh, part_of};
+ghost use Rattle.tickets.specs.Passes.{HasMissed, tickets as tickets_of};
 ghost use Rattle.turn_table.specs.Passes as words;
 
-use crate::looker::look_run;
+use crate::looker::{Look, look_drawn};
 use capture_reader::Item;
 use inet_io::Gate;
 use null_reader::Still;
-use race_record::Looked;
 use shared_ops::{Tables, Worker};
 use std::alloc::{AllocError, Global};
+use tickets::{TicketPass, Tickets};
 
-/// Where the runs of so many lookers end, of so many: that of the last one with the last item.
-fn end_of(items: usize, lookers: usize, count: usize) -> usize
-    requires { 0 < lookers }
-    ensures { result ≡ run_end items lookers count }
+/// A ticket for each item, and the pass by which all of them can be drawn.
+///
+/// # Errors
+///
+/// Memory ran out. That is said of 2^32 items and more too, whose numbers no ticket has.
+pub fn issue(alloc: Global, items: &[Item]) -> Result<(Tickets, TicketPass), AllocError>
+    ensures tickets { IfOk result (λ t. tickets_of t.0 ≡ length items.now) }
+    ensures first { IfOk result (λ t. IsFirstPass t.0 0 t.1) }
 {
-    if count == lookers {
-        return items;
-    }
-    (items / lookers).saturating_mul(count).min(items)
+    let Ok(count) = u32::try_from(items.len()) else {
+        return Err(AllocError);
+    };
+    Tickets::new(alloc, count)
 }
 
-/// Looks up the items of the looker's share, where `at` lookers come before it.
+/// Looks up the items whose tickets the looker of that number draws, until none is left.
 ///
 /// # Errors
 ///
@@ -36,40 +41,37 @@ pub fn look_share<G: Gate>(
     tables: &Tables,
     worker: &mut Worker,
     items: &[Item],
-    lookers: usize,
-    at: usize,
+    tickets: &Tickets,
+    draws: &mut TicketPass,
     passes: u32,
+    looker: u32,
     gate: &G,
-) -> Result<Vec<Looked>, AllocError>
+) -> Result<Vec<Look>, AllocError>
     requires tables { (header : Header) × AreTables header tables.now
         × (m : ℕ) × IsFresh header tables.now m worker.old }
-    requires inside { at < lookers }
-    requires few { lookers < 2 ^ 13 }
+    requires tickets { tickets_of tickets.now ≡ length items.now }
+    requires draws { HasDrawnNothing tickets.now draws.old }
     requires passes { 0 < passes }
     ensures rest { IfOk result (λ told. IsAtRest tables.now worker.new) }
     ensures turn_part { IfOk result (λ told. words.parts worker.new.turns ≡ 1) }
     ensures chain_part { IfOk result (λ told. (part_of worker.new).chain.slot.parts ≡ 1) }
-    ensures count { IfOk result
-        (λ told. run_end (length items.now) lookers at + length told.items
-        ≡ run_end (length items.now) lookers (at + 1)) }
+    ensures draws { IfOk result (λ told. HasTold tickets.now draws.new told.items) }
+    ensures missed { IfOk result (λ told. HasMissed draws.new) }
     ensures looked { IfOk result (λ told. (header : Header) → AreTables header tables.now
-        → HasLooked header items.now (part_of worker.new)
-        (took_from (run_end (length items.now) lookers at) told.items)) }
+        → HasLooked header items.now (part_of worker.new) told.items) }
 {
-    let first = end_of(items.len(), lookers, at);
-    let last = end_of(items.len(), lookers, at + 1);
-    let told = look_run(
+    let told = look_drawn(
         alloc,
         &tables.chains,
         &tables.groups,
         &mut worker.chain,
         &mut worker.groups,
         items,
-        first,
-        last,
+        tickets,
+        draws,
         passes,
         &mut Still,
-        at as u32 + 1,
+        looker,
         gate,
     )?;
     Ok(told)

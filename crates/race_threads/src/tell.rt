@@ -1,14 +1,20 @@
 //! What is told of a race that has ended.
 
-ghost use Rattle.std.specs.Prelude.{◌≡◌, ◌++◌, length, map, IfOk, OnOk};
+ghost use Rattle.std.specs.Prelude.{◌≡◌, ◌<◌, ◌++◌, length, map, IfOk, OnOk};
 ghost use Rattle.std.specs.List.{flat_map};
 ghost use Rattle.bind_buckets.specs.Closed.{count_in};
+ghost use Rattle.list_words.specs.Lists.{Each, SameItems};
 ghost use Rattle.race_threads.specs.Finished.{HasFinished, as_known, replies_in, told_in};
+ghost use Rattle.race_threads.specs.Lookers.{item_of};
 ghost use Rattle.race_threads.specs.Scripts.{IsForRace};
+ghost use Rattle.race_threads.specs.Shares.{items_in, put_all};
 ghost use Rattle.race_threads.specs.Told.{IsToldOf};
+ghost use Rattle.race_record.specs.Lawful.{looked_at};
+ghost use Rattle.turn_table.specs.Journals.{numbers_below};
 
 use crate::finish::Ended;
 use crate::jobs::Outcome;
+use crate::looker::Look;
 use bind_buckets::Bucket;
 use capture_reader::Capture;
 use chain_book::Change;
@@ -41,25 +47,28 @@ fn all_replies(alloc: Global, outcomes: &[Outcome]) -> Result<Vec<Reply>, AllocE
     Ok(replies)
 }
 
-/// Appends what some items came to.
-fn put_told(told: &mut Vec<Looked>, more: &[Looked]) -> Result<(), AllocError>
-    ensures { OnOk result (told.new.items ≡ told.old.items ++ more.now) }
+/// Puts what came of some items at their places.
+fn put_told(looked: &mut [Looked], told: &[Look])
+    requires { Each (λ k. item_of k < length looked.old) told.now }
+    ensures { looked.new ≡ put_all told.now looked.old }
 {
-    for looked in more {
-        told.push(*looked)?;
+    for look in told {
+        looked[look.item as usize] = look.looked;
     }
-    Ok(())
 }
 
-/// What all lookers told, one looker after the other.
-fn all_told(alloc: Global, outcomes: &[Outcome]) -> Result<Vec<Looked>, AllocError>
-    ensures { IfOk result (λ told. told.items ≡ flat_map told_in outcomes.now) }
+/// What came of each of so many items, at the item's place.
+fn all_told(alloc: Global, count: usize, outcomes: &[Outcome]) -> Result<Vec<Looked>, AllocError>
+    requires once { SameItems (flat_map items_in outcomes.now) (numbers_below count) }
+    ensures count { IfOk result (λ looked. length looked.items ≡ count) }
+    ensures told { IfOk result
+        (λ looked. Each (λ k. looked_at looked.items k.item ≡ k.looked) (flat_map told_in outcomes.now)) }
 {
-    let mut told = Vec::new(alloc);
+    let mut looked = vec![in alloc; Looked::Skip; count]?;
     for outcome in outcomes {
-        put_told(&mut told, &outcome.told)?;
+        put_told(&mut looked, &outcome.told);
     }
-    Ok(told)
+    Ok(looked)
 }
 
 /// How many entries the journal of each bucket has.
@@ -109,7 +118,7 @@ pub fn tell(
     let ChainPass { pass, .. } = chain;
     let Pass { changes, .. } = pass;
     let replies = all_replies(alloc, &outcomes)?;
-    let looked = all_told(alloc, &outcomes)?;
+    let looked = all_told(alloc, capture.items().len(), &outcomes)?;
     let journals = counts_of(alloc, &buckets)?;
     know_changes(&changes);
     Ok(Record {

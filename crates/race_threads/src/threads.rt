@@ -1,10 +1,11 @@
 //! All jobs of a race, on threads beside each other.
 
-ghost use Rattle.std.specs.Prelude.{◌≡◌, ◌+◌, ◌^◌, ◌<◌, length, IfOk};
+ghost use Rattle.std.specs.Prelude.{◌≡◌, ◌^◌, ◌<◌, length, IfOk};
 ghost use Rattle.race_threads.specs.Jobs.{AllReady, IsReady};
 ghost use Rattle.race_threads.specs.Scripts.{IsForRace};
 ghost use Rattle.race_threads.specs.Workers.{AreTables};
 ghost use Rattle.race_threads.specs.Works.{AllWorked, IsWorked};
+ghost use Rattle.tickets.specs.Passes.{tickets as tickets_of};
 
 use crate::jobs::Job;
 use crate::work::work;
@@ -15,6 +16,7 @@ use shared_ops::Tables;
 use std::alloc::{AllocError, Global};
 use std::sync::Wait;
 use std::thread::{Threads, map_vec};
+use tickets::Tickets;
 
 /// Does all jobs beside each other, or one after the other where no thread can be had.
 ///
@@ -25,32 +27,33 @@ pub fn run_all<R: Threads + Wait + Sync, G: Gate>(
     rt: &R,
     alloc: Global,
     tables: &Tables,
+    tickets: &Tickets,
     script: &Script,
     capture: &Capture,
-    lookers: usize,
     passes: u32,
     gate: &G,
     jobs: Vec<Job>,
 ) -> Result<Vec<Result<Job, AllocError>>, AllocError>
     requires tables { AreTables script.now.header tables.now }
     requires script { IsForRace script.now }
-    requires ready { AllReady script.now.header tables.now jobs.items }
-    requires count { length jobs.items ≡ length script.now.sections + lookers }
-    requires few { lookers < 2 ^ 12 }
+    requires tickets { tickets_of tickets.now ≡ length capture.now.items }
+    requires ready { AllReady script.now.header tables.now tickets.now jobs.items }
+    requires few { length jobs.items < 2 ^ 13 }
     requires passes { 0 < passes }
     ensures count { IfOk result (λ done. length done.items ≡ length jobs.items) }
     ensures worked { IfOk result
-        (λ done. AllWorked script.now capture.now.items lookers tables.now (length jobs.items) done.items) }
+        (λ done. AllWorked script.now capture.now.items tables.now tickets.now (length jobs.items) done.items) }
 {
     let run = |job: Job| -> Result<Job, AllocError>
         requires { AreTables script.now.header tables.now × IsForRace script.now
-            × IsReady script.now.header tables.now job.number job
-            × (job.number < length script.now.sections + lookers) × (lookers < 2 ^ 13) × (0 < passes) }
+            × (tickets_of tickets.now ≡ length capture.now.items)
+            × IsReady script.now.header tables.now tickets.now job.number job
+            × (job.number < 2 ^ 13) × (0 < passes) }
         ensures { IfOk result
-            (IsWorked script.entry.now capture.entry.now.items lookers tables.entry.now job.number) }
+            (IsWorked script.entry.now capture.entry.now.items tables.entry.now tickets.entry.now job.number) }
     {
         work(
-            rt, alloc, tables, script, capture, lookers, passes, gate, job,
+            rt, alloc, tables, tickets, script, capture, passes, gate, job,
         )
     };
     let done = map_vec(rt, jobs, &run)?;

@@ -1,10 +1,11 @@
 //! One job of a race: a section, or a looker's share of the capture.
 
-ghost use Rattle.std.specs.Prelude.{◌≡◌, ◌+◌, ◌^◌, ◌<◌, length, IfOk};
+ghost use Rattle.std.specs.Prelude.{◌≡◌, ◌^◌, ◌<◌, length, IfOk};
 ghost use Rattle.race_threads.specs.Jobs.{IsReady};
 ghost use Rattle.race_threads.specs.Scripts.{IsForRace};
 ghost use Rattle.race_threads.specs.Workers.{AreTables};
 ghost use Rattle.race_threads.specs.Works.{IsWorked};
+ghost use Rattle.tickets.specs.Passes.{tickets as tickets_of};
 
 use crate::jobs::Job;
 use crate::section::run_section;
@@ -15,6 +16,7 @@ use inet_io::Gate;
 use shared_ops::Tables;
 use std::alloc::{AllocError, Global};
 use std::sync::Wait;
+use tickets::Tickets;
 
 /// Does a job, beside the others: that of a section by its commands, and that of a looker by its share of the capture.
 ///
@@ -25,23 +27,24 @@ pub fn work<R: Wait, G: Gate>(
     rt: &R,
     alloc: Global,
     tables: &Tables,
+    tickets: &Tickets,
     script: &Script,
     capture: &Capture,
-    lookers: usize,
     passes: u32,
     gate: &G,
     job: Job,
 ) -> Result<Job, AllocError>
     requires tables { AreTables script.now.header tables.now }
     requires script { IsForRace script.now }
-    requires ready { IsReady script.now.header tables.now job.number job }
-    requires number { job.number < length script.now.sections + lookers }
-    requires few { lookers < 2 ^ 13 }
+    requires tickets { tickets_of tickets.now ≡ length capture.now.items }
+    requires ready { IsReady script.now.header tables.now tickets.now job.number job }
+    requires few { job.number < 2 ^ 13 }
     requires passes { 0 < passes }
-    ensures { IfOk result (IsWorked script.now capture.now.items lookers tables.now job.number) }
+    ensures { IfOk result (IsWorked script.now capture.now.items tables.now tickets.now job.number) }
 {
     let Job {
         mut worker,
+        mut draws,
         number,
         replies,
         told,
@@ -61,6 +64,7 @@ pub fn work<R: Wait, G: Gate>(
         )?;
         return Ok(Job {
             worker,
+            draws,
             number,
             replies,
             told,
@@ -71,13 +75,15 @@ pub fn work<R: Wait, G: Gate>(
         tables,
         &mut worker,
         capture.items(),
-        lookers,
-        number - sections.len(),
+        tickets,
+        &mut draws,
         passes,
+        (number - sections.len()) as u32 + 1,
         gate,
     )?;
     Ok(Job {
         worker,
+        draws,
         number,
         replies,
         told,

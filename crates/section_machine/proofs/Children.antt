@@ -1,5 +1,5 @@
 -- A section that gives a label, and then the socket of that label: a listener's child.
-use Rattle.std.proofs.Common.{◌≡◌, ℕ, ◌+◌, ◌^◌, ◌<◌, List, [], ◌∷◌, ◌++◌, length, Option, Some, None, refl, sym, ap, ◌∙◌, subst}
+use Rattle.std.proofs.Common.{◌≡◌, ℕ, ◌+◌, ◌/◌, ◌^◌, ◌<◌, List, [], ◌∷◌, ◌++◌, length, Option, Some, None, refl, sym, ap, ◌∙◌, subst}
 use Rattle.std.specs.Prelude.{option_and_then}
 use Rattle.bind_buckets.specs.Turned.{View}
 use Rattle.chain_book.specs.declared.shape.Shape.{Shape}
@@ -31,7 +31,7 @@ use Rattle.section_machine.specs.Sections.{Kept, kept}
 use Rattle.section_machine.specs.Standing.{Roll, roll_of, AreOf, IsSection, IsOpen, IsUngiven, IsUnspoken, Tells}
 use Rattle.section_machine.proofs.Asked.{AskedSo, asked_so, IsBirth, ChildOf, of_accept}
 use Rattle.section_machine.proofs.Newcomers.{new_name, child_family}
-use Rattle.section_machine.proofs.Made.{next_ungiven, next_rises}
+use Rattle.section_machine.proofs.Made.{name_section, next_ungiven, next_rises}
 use Rattle.section_machine.proofs.Owns.{each_there, label_given, socket_given, only_one}
 use Rattle.section_machine.proofs.Places.{open_named}
 use Rattle.section_machine.proofs.Rolls.{Stand, with_next, labelled, socket_more}
@@ -81,13 +81,16 @@ module _ (t : Tables) (k : Kept) (header : Header) (l l1 : Labelled) (moment : �
   has_room = subst (λ (x : Kept). length x.own.labels + 1 < 2 ^ 24) (sym b.view) room
 
   ungiven : IsUngiven roll name
-  ungiven = next_ungiven own has_room
+  ungiven = next_ungiven own
+
+  its_section : name / 2 ^ 24 ≡ l.number
+  its_section = name_section l.number (length l.labels) has_room
 
   later : name < next_name more
   later = next_rises own label
 
   pub new_tells : MayTell w name
-  new_tells = let tells = was.tells in λ some. ungiven.section ∙ tells some
+  new_tells = let tells = was.tells in λ some. its_section ∙ tells some
 
   pub is_new : IsNew name (turned w)
   is_new = new_name name (turned w) (was.unspoken name ungiven)
@@ -174,10 +177,11 @@ module _ (t : Tables) (k : Kept) (header : Header) (l l1 : Labelled) (moment : �
             let child = mine_of x in
             let named : name ≡ child.owner.name = sym a.left.0 in
             let un : IsUngiven roll child.owner.name = subst (IsUngiven roll) named ungiven in
+            let section_is : child.owner.name / 2 ^ 24 ≡ l.number = subst (λ (n : ℕ). n / 2 ^ 24 ≡ l.number) named its_section in
             let more_than : child.owner.name < next_name more = subst (λ (n : ℕ). n < next_name more) named later in
             record {
-              given = record { section = un.section; before = more_than };
-              family = child_family roll (turned w) (turned u) entries (next_name more) m child parent.family went.gave un more_than
+              given = record { section = section_is; before = more_than };
+              family = child_family roll (turned w) (turned u) entries (next_name more) m child parent.family went.gave section_is un more_than
                   (subst (IsUnspoken (turned w)) named (was.unspoken name ungiven)) (subst (λ (n : ℕ). Asks (IsBirth m.owner.name n) entries) named a.entries)
                   a.left.1 (only_one l there.0 m b.names there.1);
               stands = typed_stands t x (turned u) (chained t u) its_state stands;

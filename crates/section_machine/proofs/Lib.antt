@@ -13,6 +13,7 @@ mod Settled
 mod Ended
 mod Spent
 mod Moments
+mod Published
 mod Reaps
 mod Reaped
 mod Made

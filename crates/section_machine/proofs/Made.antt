@@ -28,8 +28,8 @@ pub name_section : (n i : ℕ) → i + 1 < 2 ^ 24 → name_at n i / 2 ^ 24 ≡ n
 name_section n i few = omega arith
 
 -- the name of the next label was given to none
-pub next_ungiven : (own : Own) → length own.labels + 1 < 2 ^ 24 → IsUngiven (roll_of own) (next_name own)
-next_ungiven own few = record { section = name_section own.number (length own.labels) few; after = omega arith }
+pub next_ungiven : (own : Own) → IsUngiven (roll_of own) (next_name own)
+next_ungiven own = omega arith
 
 pub next_rises : (own : Own) (label : List ℕ) → next_name own < next_name (with_label own label)
 next_rises own label = omega (arith, length-append own.labels (label ∷ []))
@@ -44,10 +44,11 @@ made t k header l l1 l2 moment o waits label options w view count given is few s
     let m : Mine = plain (new_owner name options) in
     let was : IsSection t (kept header own) w = subst (λ (x : Kept). IsSection t x w) (sym view) section in
     let room : length l.labels + 1 < 2 ^ 24 = subst (λ (x : Kept). length x.own.labels + 1 < 2 ^ 24) (sym view) few in
-    let un = next_ungiven own room in
+    let un = next_ungiven own in
+    let its_section = name_section l.number (length l.labels) room in
     let more = next_rises own label in
     let next = next_name (with_label own label) in
-    let new = newborn t (roll_of own) (turned w) (chained t w) next m was.tells un more (was.unspoken name un) refl in
+    let new = newborn t (roll_of own) (turned w) (chained t w) next m was.tells its_section more (was.unspoken name un) refl in
     let now = socket_more t (roll_of own) (turned w) (turned w) (chained t w) (chained t w) [] [] (record { gave = gave_none (turned w); does = does_none (chained t w) }) was.tells
     (record { all = was.stand; unspoken = was.unspoken }) next name un more 0 tt tt m refl new in
     let same = socket_given l l1 l2 label m moment o waits count given is in

@@ -1,5 +1,5 @@
 -- The socket of a new name: a new one, and a listener's child.
-use Rattle.std.proofs.Common.{◌≡◌, ℕ, ◌==◌, ◌||◌, ◌<◌, ◌≤◌, Bool, true, false, List, [], ◌∷◌, ◌++◌, refl, sym, ap, subst, ◌∙◌, eq-eqb, ne_eqb, arith}
+use Rattle.std.proofs.Common.{◌≡◌, ℕ, ◌/◌, ◌^◌, ◌==◌, ◌||◌, ◌<◌, ◌≤◌, Bool, true, false, List, [], ◌∷◌, ◌++◌, refl, sym, ap, subst, ◌∙◌, eq-eqb, ne_eqb, arith}
 use Rattle.std.proofs.lemmas.Bool.{eqb-true, false≢true}
 use Rattle.list_words.specs.Lists.{Each}
 use Rattle.list_words.proofs.EachLemmas.{each_weaken, each_both, each_push, each_append, each_of_all}
@@ -35,12 +35,12 @@ pub new_name : (name : ℕ) (v : View) → IsUnspoken v name → IsNew name v
 new_name name v none = λ place. each_given (Misses name) v.caller place v.mine none
 
 -- a new socket stands
-pub newborn : (t : Tables) (r : Roll) (v : View) (c : Side) (next : ℕ) (m : Mine) → Tells v.caller r.number → IsUngiven r m.owner.name → m.owner.name < next → IsUnspoken v m.owner.name → m.owner.state ≡ states.Unbound
+pub newborn : (t : Tables) (r : Roll) (v : View) (c : Side) (next : ℕ) (m : Mine) → Tells v.caller r.number → m.owner.name / 2 ^ 24 ≡ r.number → m.owner.name < next → IsUnspoken v m.owner.name → m.owner.state ≡ states.Unbound
     → IsOpen t (with_next r next (r.sockets ++ m ∷ [])) v c m
-newborn t r v c next m tells un more none state =
+newborn t r v c next m tells section more none state =
     let name = m.owner.name in
     let one : ℕ → Bool = λ n. n == name in
-    let given : IsGiven (with_next r next (r.sockets ++ m ∷ [])) name = record { section = un.section; before = more } in
+    let given : IsGiven (with_next r next (r.sockets ++ m ∷ [])) name = record { section = section; before = more } in
     record {
       given = given;
       family = record {
@@ -50,7 +50,7 @@ newborn t r v c next m tells un more none state =
         apart = each_of_all (IsApart one name) (r.sockets ++ m ∷ []) (λ x sleeps else. ne_eqb x.owner.name name else);
         keeps = each_weaken (λ (x : Placed Entry). Misses name x.note.entry) (λ (x : Placed Entry). KeepsOpen one x.note.entry.request) v.mine (λ x miss. unspoken_keeps name x.note.entry.request miss) none;
       };
-      stands = subst (λ (s : State). StandsIn s t m v c) (sym state) (new_away name v (λ some. un.section ∙ tells some) (new_name name v none));
+      stands = subst (λ (s : State). StandsIn s t m v c) (sym state) (new_away name v (λ some. section ∙ tells some) (new_name name v none));
     }
 
 -- A listener's child
@@ -83,14 +83,14 @@ module _ (mine : ℕ → Bool) (name : ℕ) where
 
 -- stands, where the listener did
 pub child_family : (r : Roll) (v w : View) (new : List (Placed Entry)) (next : ℕ) (l m : Mine) (f : Family r l.owner.name v) → Gave v w new
-    → IsUngiven r m.owner.name → m.owner.name < next → IsUnspoken v m.owner.name → Asks (IsBirth l.owner.name m.owner.name) new
+    → m.owner.name / 2 ^ 24 ≡ r.number → IsUngiven r m.owner.name → m.owner.name < next → IsUnspoken v m.owner.name → Asks (IsBirth l.owner.name m.owner.name) new
     → l.owner.state ≡ states.Listening → Each (λ (x : Mine). x.owner.name ≡ l.owner.name → x ≡ l) r.sockets → Family (with_next r next (r.sockets ++ m ∷ [])) m.owner.name w
-child_family r v w new next l m f g un more none about listens only =
+child_family r v w new next l m f g section un more none about listens only =
     let name = m.owner.name in
     let s : Roll = with_next r next (r.sockets ++ m ∷ []) in
     let mine : ℕ → Bool = with_name f.mine name in
-    let itself : IsGiven s name = record { section = un.section; before = more } in
-    let rises : r.next ≤ next = let low = un.after in omega arith in
+    let itself : IsGiven s name = record { section = section; before = more } in
+    let rises : r.next ≤ next = let low : r.next ≤ name = un in omega arith in
     let apart_of : (x : Mine) → IsApart f.mine l.owner.name x × (x.owner.name ≡ l.owner.name → x ≡ l) → IsApart mine name x =
     λ x k. λ sleeps else. or_none (f.mine x.owner.name) (x.owner.name == name) (k.0 sleeps (λ same. sleeps (ap (λ (y : Mine). y.owner.state) (k.1 same) ∙ listens))) (ne_eqb x.owner.name name else) in
     let keep_of : (x : Placed Entry) → KeepsOpen f.mine x.note.entry.request × Misses name x.note.entry → KeepsOpen mine x.note.entry.request =

@@ -13,11 +13,13 @@ use Rattle.table_model.specs.Operations.{reap, reap_each, kept_waits}
 use Rattle.shared_ops.specs.declared.tables.Tables.{Tables}
 use Rattle.shared_ops.specs.declared.tables.Worker.{Worker}
 use Rattle.shared_ops.specs.Goes.{Went}
+use Rattle.shared_ops.specs.Groups.{KeepsLists}
 use Rattle.shared_ops.specs.Reaping.{ReapsOne, counted}
 use Rattle.shared_ops.specs.Spends.{Draws}
 use Rattle.shared_ops.specs.Stands.{IsReady, MayDraw, MayEnter, buckets_of, turned, chained}
 use Rattle.shared_ops.proofs.Goes.{does_none, went_both, went_nowhere}
 use Rattle.section_machine.specs.Waits.{AreBefore, AreInOrder, first_over}
+use Rattle.section_machine.proofs.Published.{rests_listed, goes_listed}
 
 -- those that are over
 abbrev pub overs : ℕ → List Mine → List Mine
@@ -34,6 +36,7 @@ pub record Reaping (t : Tables) (old now : Worker) (all left : List Mine) (momen
   pub few : count + length left ≤ length all
   pub order : AreInOrder left
   pub before : AreBefore moment left
+  pub listed : KeepsLists t old now
 
 pub begins : (t : Tables) (w : Worker) (waits : List Mine) (moment : ℕ) → IsReady t w → AreInOrder waits → AreBefore moment waits → Reaping t w w waits waits moment 0
 begins t w waits moment ready order before =
@@ -47,6 +50,7 @@ begins t w waits moment ready order before =
       few = omega arith;
       order = order;
       before = before;
+      listed = rests_listed t w;
     }
 
 is_first_by : (b : Bool) (x w : Mine) → cond b (Some x) None ≡ Some w → (b ≡ true) × (x ≡ w)
@@ -94,8 +98,8 @@ module _ (t : Tables) (old now new : Worker) (all left rest : List Mine) (moment
   more = omega (arith, ap length split)
 
   pub goes_on : IsReady t new → words.caller new.turns ≡ words.caller now.turns → words.draws new.turns ≤ words.draws now.turns + 1 → Draws 2 now new
-      → ReapsOne (buckets_of t) w found (turned now) (turned new) (chained t now) (chained t new) → Reaping t old new all rest moment (counted count found)
-  goes_on ready caller entered drawn reaps =
+      → ReapsOne (buckets_of t) w found (turned now) (turned new) (chained t now) (chained t new) → KeepsLists t now new → Reaping t old new all rest moment (counted count found)
+  goes_on ready caller entered drawn reaps listed =
       let long = more in
       let so_far = r.entered in
       let so_few = r.few in
@@ -114,6 +118,7 @@ module _ (t : Tables) (old now new : Worker) (all left rest : List Mine) (moment
         few = omega arith;
         order = (subst AreInOrder split r.order).1;
         before = (subst (AreBefore moment) split r.before).1;
+        listed = goes_listed t old now new r.listed listed;
       }
 
 -- what the next one takes is there
@@ -163,9 +168,9 @@ module _ (t : Tables) (old now : Worker) (all left : List Mine) (moment count : 
   keeps_rest = sym (r.kept ∙ (rest_stays moment left none r.order).1)
 
 -- memory was wanting for the next one
-pub stops : (t : Tables) (old now new : Worker) (all left : List Mine) (moment count : ℕ) → Reaping t old now all left moment count → IsReady t new → words.caller new.turns ≡ words.caller now.turns → Gave (turned now) (turned new) [] → chained t new ≡ chained t now
+pub stops : (t : Tables) (old now new : Worker) (all left : List Mine) (moment count : ℕ) → Reaping t old now all left moment count → IsReady t new → words.caller new.turns ≡ words.caller now.turns → Gave (turned now) (turned new) [] → chained t new ≡ chained t now → KeepsLists t now new
     → Reaping t old new all left moment count
-stops t old now new all left moment count r ready caller gave same =
+stops t old now new all left moment count r ready caller gave same listed =
     let so_far = r.entered in
     let none = gave.draws in
     record {
@@ -184,4 +189,5 @@ stops t old now new all left moment count r ready caller gave same =
       few = r.few;
       order = r.order;
       before = r.before;
+      listed = goes_listed t old now new r.listed listed;
     }

@@ -33,11 +33,8 @@ same_given r ms = λ n g. record { section = g.section; before = g.before }
 more_given : (r : Roll) (next : ℕ) (ms : List Mine) → r.next ≤ next → Grows r (with_next r next ms)
 more_given r next ms le = λ n g. let low = g.before in record { section = g.section; before = omega arith }
 
-was_ungiven : (r : Roll) (ms : List Mine) (n : ℕ) → IsUngiven (with_sockets r ms) n → IsUngiven r n
-was_ungiven r ms n u = record { section = u.section; after = u.after }
-
 less_ungiven : (r : Roll) (next : ℕ) (ms : List Mine) (n : ℕ) → r.next ≤ next → IsUngiven (with_next r next ms) n → IsUngiven r n
-less_ungiven r next ms n le u = let high = u.after in record { section = u.section; after = omega arith }
+less_ungiven r next ms n le u = let high : next ≤ n = u in omega arith
 
 -- a socket of the section
 abbrev pub IsThere : Roll → Mine → Type 1
@@ -86,8 +83,7 @@ module _ (t : Tables) (r : Roll) (v w : View) (c d : Side) (new : List (Placed E
         record {
           all = each_replaced (IsOpen t r v c) (IsOpen t changed_roll w d) m r.sockets h.all (changed_one stands) changed_other;
           unspoken = λ n u.
-              let before = was_ungiven r (map (replaced m) r.sockets) n u in
-              unspoken_on v w new n on.gave (h.unspoken n before) (miss_of no_name n new (about_pass no_name old.owner.name n new (given_differs r old.owner.name n was.given before) about));
+              unspoken_on v w new n on.gave (h.unspoken n u) (miss_of no_name n new (about_pass no_name old.owner.name n new (given_differs r old.owner.name n was.given u) about));
         }
 
   -- A socket that is gone
@@ -115,9 +111,8 @@ module _ (t : Tables) (r : Roll) (v w : View) (c d : Side) (new : List (Placed E
         record {
           all = each_without (IsOpen t r v c) (IsOpen t left_roll w d) old.owner.name r.sockets h.all gone_other;
           unspoken = λ n u.
-              let before = was_ungiven r left_sockets n u in
-              unspoken_on v w new n on.gave (h.unspoken n before)
-              (miss_of no_name n new (end_pass no_name (old.owner.state ≡ states.Full) old.owner.name n new (given_differs r old.owner.name n was.given before) (λ _. refl) about));
+              unspoken_on v w new n on.gave (h.unspoken n u)
+              (miss_of no_name n new (end_pass no_name (old.owner.state ≡ states.Full) old.owner.name n new (given_differs r old.owner.name n was.given u) (λ _. refl) about));
         }
 
   -- TIME_WAITs that are gone
@@ -138,7 +133,7 @@ module _ (t : Tables) (r : Roll) (v w : View) (c d : Side) (new : List (Placed E
 
   module _ (next : ℕ) (b : ℕ) (un : IsUngiven r b) (more : b < next) where
     rises : r.next ≤ next
-    rises = let low = un.after in omega arith
+    rises = let low : r.next ≤ b = un in omega arith
 
     not_theirs : (x : Mine) (o : IsOpen t r v c x) → o.family.mine b ≡ false
     not_theirs x o = no_by (o.family.mine b) (λ said. given_differs r b b (o.family.given b said) un refl)
@@ -155,7 +150,7 @@ module _ (t : Tables) (r : Roll) (v w : View) (c d : Side) (new : List (Placed E
 
       given_unspoken : (ms : List Mine) (n : ℕ) → IsUngiven (with_next r next ms) n → IsUnspoken w n
       given_unspoken ms n u =
-          let high = u.after in
+          let high : next ≤ n = u in
           let differ : b ≢ n = λ same. absurd (omega (arith, same)) in
           unspoken_on v w new n on.gave (h.unspoken n (less_ungiven r next ms n rises u)) (miss_of no_name n new (birth_pass no_name l b n new differ (λ said. absurd (false≢true said)) about))
 

@@ -1,5 +1,5 @@
 -- What a section has, as one of its sockets is operated on.
-use Rattle.std.proofs.Common.{◌≡◌, ◌≢◌, ℕ, ◌==◌, ◌&&◌, ◌%◌, not, Bool, true, false, cond, List, [], ◌∷◌, map, filter, Option, Some, None, refl, sym, ap, subst, ◌∙◌, ne_eqb, arith}
+use Rattle.std.proofs.Common.{◌≡◌, ◌≢◌, ℕ, ◌==◌, ◌&&◌, ◌%◌, ◌≤◌, not, Bool, true, false, cond, List, [], ◌∷◌, map, filter, Option, Some, None, refl, sym, ap, subst, ◌∙◌, ne_eqb, arith}
 use Rattle.std.proofs.lemmas.Bool.{eqb-false}
 use Rattle.list_words.specs.Lists.{Each}
 use Rattle.list_words.proofs.EachLemmas.{each_weaken, each_append}
@@ -253,7 +253,8 @@ no_name n = false
 
 -- a name that was given is none that wasn't
 pub given_differs : (r : Roll) (b n : ℕ) → IsGiven r b → IsUngiven r n → b ≢ n
-given_differs r b n given ungiven same = let low = given.before in let high = ungiven.after in absurd (omega arith)
+given_differs r b n given ungiven same =
+    let low = given.before in let high : r.next ≤ n = ungiven in absurd (omega arith)
 
 pub miss_of : (mine : ℕ → Bool) (name : ℕ) (xs : List (Placed Entry)) → AllPass mine name xs → AllMiss name xs
 miss_of mine name xs h = all_miss mine name xs h

@@ -32,10 +32,9 @@ pub record IsGiven (r : Roll) (name : ℕ) : Type 0 where
   pub section : name / 2 ^ 24 ≡ r.number
   pub before : name < r.next
 
--- none has stood for it so far
-pub record IsUngiven (r : Roll) (name : ℕ) : Type 0 where
-  pub section : name / 2 ^ 24 ≡ r.number
-  pub after : r.next ≤ name
+-- no label of this section, or of a later one, has stood for it so far
+abbrev pub IsUngiven : Roll → ℕ → Type 0
+IsUngiven r name = r.next ≤ name
 
 -- the worker runs this section alone, or all sections
 abbrev pub Tells : ℕ → ℕ → Type 0
@@ -83,7 +82,7 @@ pub record AreOf (header : Header) (t : Tables) : Type 0 where
   pub buckets : buckets_of t ≡ header.shape.bind
 
 -- The section of these tables, between two commands of its worker: its sockets stand, and no bucket was asked about a
--- name that no label has stood for.
+-- name that no label of it, or of a later section, has stood for.
 pub record IsSection (t : Tables) (k : Kept) (w : Worker) : Type 0 where
   pub tables : AreOf k.header t
   pub ready : IsReady t w

@@ -4,6 +4,7 @@ ghost use Rattle.std.specs.Prelude.{◌≡◌, IfOk, OnErr};
 ghost use Rattle.turn_table.specs.Passes as words;
 ghost use Rattle.table_model.specs.Own.{open_socket};
 ghost use Rattle.table_model.specs.Commands as commands;
+ghost use Rattle.shared_ops.specs.Groups.{KeepsLists};
 ghost use Rattle.shared_ops.specs.Stands.{IsReady};
 ghost use Rattle.section_machine.specs.Carried.{Carries, HasEnough, Spends};
 ghost use Rattle.section_machine.specs.Sections.{KeepsHeader};
@@ -32,6 +33,7 @@ impl Machine {
         ensures ready { IsReady tables.now worker.new }
         ensures caller { words.caller worker.new.turns ≡ words.caller worker.old.turns }
         ensures spends { Spends self.old self.new worker.old worker.new }
+        ensures listed { KeepsLists tables.now worker.old worker.new }
         ensures err { OnErr result (self.new.own.sockets ≡ self.old.own.sockets) }
         ensures kept { KeepsHeader self.old self.new }
     {
@@ -63,6 +65,7 @@ impl Machine {
         ensures ready { IsReady tables.now worker.new }
         ensures caller { words.caller worker.new.turns ≡ words.caller worker.old.turns }
         ensures spends { Spends self.old self.new worker.old worker.new }
+        ensures listed { KeepsLists tables.now worker.old worker.new }
         ensures err { OnErr result (self.new.own.sockets ≡ self.old.own.sockets) }
         ensures kept { KeepsHeader self.old self.new }
     {
@@ -93,6 +96,7 @@ impl Machine {
         ensures ready { IsReady tables.now worker.new }
         ensures caller { words.caller worker.new.turns ≡ words.caller worker.old.turns }
         ensures spends { Spends self.old self.new worker.old worker.new }
+        ensures listed { KeepsLists tables.now worker.old worker.new }
         ensures err { OnErr result (self.new.own.sockets ≡ self.old.own.sockets) }
         ensures kept { KeepsHeader self.old self.new }
     {

@@ -8,6 +8,7 @@ ghost use Rattle.table_model.specs.Own as own;
 ghost use Rattle.table_model.specs.Own.{open_socket};
 ghost use Rattle.table_model.specs.Commands as commands;
 ghost use Rattle.table_model.specs.Means.{is_lookup};
+ghost use Rattle.shared_ops.specs.Groups.{KeepsLists};
 ghost use Rattle.shared_ops.specs.Socks.{mine_of};
 ghost use Rattle.shared_ops.specs.Stands.{IsReady, turned, chained};
 ghost use Rattle.section_machine.specs.Carried.{Carries, HasEnough, Keeps, Spends};
@@ -155,6 +156,7 @@ impl Machine {
         ensures ready { IsReady tables.now worker.new }
         ensures caller { words.caller worker.new.turns ≡ words.caller worker.old.turns }
         ensures spends { Spends self.old self.new worker.old worker.new }
+        ensures listed { KeepsLists tables.now worker.old worker.new }
         ensures err { OnErr result (self.new.own.sockets ≡ self.old.own.sockets) }
         ensures kept { KeepsHeader self.old self.new }
     {
@@ -191,6 +193,7 @@ impl Machine {
         ensures ready { IsReady tables.now worker.new }
         ensures caller { words.caller worker.new.turns ≡ words.caller worker.old.turns }
         ensures spends { Spends self.old self.new worker.old worker.new }
+        ensures listed { KeepsLists tables.now worker.old worker.new }
         ensures err { OnErr result (self.new.own.sockets ≡ self.old.own.sockets) }
         ensures kept { KeepsHeader self.old self.new }
     {
@@ -228,6 +231,7 @@ impl Machine {
         ensures ready { IsReady tables.now worker.new }
         ensures caller { words.caller worker.new.turns ≡ words.caller worker.old.turns }
         ensures spends { Spends self.old self.new worker.old worker.new }
+        ensures listed { KeepsLists tables.now worker.old worker.new }
         ensures err { OnErr result (self.new.own.sockets ≡ self.old.own.sockets) }
         ensures kept { KeepsHeader self.old self.new }
     {
@@ -269,10 +273,11 @@ impl Machine {
     /// Carries a command out, any but `look` and `packets`, whoever else is at the tables.
     ///
     /// The command's plan goes by the entries and changes that this call made, and by no others, to the reply and to
-    /// what the section keeps then; and the section is the worker's still. An `Err`, for want of memory, leaves the
-    /// section's header, number and open sockets, and at most one label more; the worker is ready, but what stands of
-    /// the section is not told: the program ends there. It waits for the turn of one bucket and the lock of one chain at
-    /// a time.
+    /// what the section keeps then; and the section is the worker's still. A worker that was never split isn't split by
+    /// it, and leaves the lists of groups published as the bind buckets have them, if they were so before. An `Err`, for
+    /// want of memory, leaves the section's header, number and open sockets, and at most one label more; the worker is
+    /// ready, but what stands of the section is not told: the program ends there. It waits for the turn of one bucket and
+    /// the lock of one chain at a time.
     pub fn step<R: Wait>(
         &mut self,
         rt: &R,
@@ -290,6 +295,7 @@ impl Machine {
         ensures ready { IsReady tables.now worker.new }
         ensures caller { words.caller worker.new.turns ≡ words.caller worker.old.turns }
         ensures spends { Spends self.old self.new worker.old worker.new }
+        ensures listed { KeepsLists tables.now worker.old worker.new }
         ensures err { OnErr result (self.new.own.sockets ≡ self.old.own.sockets) }
         ensures kept { KeepsHeader self.old self.new }
     {

@@ -6,6 +6,7 @@ ghost use Rattle.table_model.specs.Own as own;
 ghost use Rattle.table_model.specs.Own.{open_socket};
 ghost use Rattle.table_model.specs.Commands as commands;
 ghost use Rattle.table_model.specs.Operations as plans;
+ghost use Rattle.shared_ops.specs.Groups.{KeepsLists};
 ghost use Rattle.shared_ops.specs.Socks.{mine_of};
 ghost use Rattle.shared_ops.specs.Stands.{IsReady};
 ghost use Rattle.section_machine.specs.Carried.{Carries, HasEnough, Spends};
@@ -69,6 +70,7 @@ impl Machine {
         ensures ready { IsReady tables.now worker.new }
         ensures caller { words.caller worker.new.turns ≡ words.caller worker.old.turns }
         ensures spends { Spends self.old self.new worker.old worker.new }
+        ensures listed { KeepsLists tables.now worker.old worker.new }
         ensures err { OnErr result (self.new.own.sockets ≡ self.old.own.sockets) }
         ensures kept { KeepsHeader self.old self.new }
     {
@@ -112,6 +114,7 @@ impl Machine {
         ensures ready { IsReady tables.now worker.new }
         ensures caller { words.caller worker.new.turns ≡ words.caller worker.old.turns }
         ensures spends { Spends self.old self.new worker.old worker.new }
+        ensures listed { KeepsLists tables.now worker.old worker.new }
         ensures err { OnErr result (self.new.own.sockets ≡ self.old.own.sockets) }
         ensures kept { KeepsHeader self.old self.new }
     {

@@ -6,6 +6,7 @@ ghost use Rattle.turn_table.specs.Passes as words;
 ghost use Rattle.table_model.specs.Asking.{ends};
 ghost use Rattle.table_model.specs.Operations as plans;
 ghost use Rattle.shared_ops.specs.Goes.{Went};
+ghost use Rattle.shared_ops.specs.Groups.{KeepsLists};
 ghost use Rattle.shared_ops.specs.Reaping as spec;
 ghost use Rattle.shared_ops.specs.Stands.{IsReady, MayDraw, MayEnter, buckets_of, chained, turned};
 ghost use Rattle.section_machine.specs.Waits as waits_spec;
@@ -58,6 +59,7 @@ fn reap_first<R: Wait>(
         ≤ words.draws worker.old.turns + length items.old.items }
     ensures drawn { (more : ℕ) → MayDraw (more + 2 * length items.old.items) worker.old
         → MayDraw (more + 2 * length items.new.items) worker.new }
+    ensures listed { KeepsLists tables.now worker.old worker.new }
     ensures reaps { IfOk result (λ count. Went (buckets_of tables.now) (plans.reap items.old.items moment)
         (turned worker.old) (turned worker.new)
         (chained tables.now worker.old) (chained tables.now worker.new) (ends count)) }
@@ -93,6 +95,7 @@ impl Waits {
         ensures entered { words.draws worker.new.turns + length self.new ≤ words.draws worker.old.turns + length self.old }
         ensures drawn { (more : ℕ) → MayDraw (more + 2 * length self.old) worker.old
             → MayDraw (more + 2 * length self.new) worker.new }
+        ensures listed { KeepsLists tables.now worker.old worker.new }
         ensures reaps { IfOk result (λ count. Went (buckets_of tables.now) (plans.reap self.old moment)
             (turned worker.old) (turned worker.new)
             (chained tables.now worker.old) (chained tables.now worker.new) (ends count)) }

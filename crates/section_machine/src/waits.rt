@@ -4,6 +4,7 @@ ghost use Rattle.std.specs.Prelude.{◌≡◌, ◌+◌, ◌≤◌, [], length, I
 ghost use Rattle.std.specs.VecDeque.{deque_len, deque_capacity};
 ghost use Rattle.turn_table.specs.Passes as words;
 ghost use Rattle.table_model.specs.Operations as plans;
+ghost use Rattle.shared_ops.specs.Groups.{KeepsLists};
 ghost use Rattle.shared_ops.specs.Socks.{mine_of};
 ghost use Rattle.shared_ops.specs.Spends.{Draws};
 ghost use Rattle.shared_ops.specs.Stands.{IsReady, MayDraw, MayEnter, MayTell, StandsAs, buckets_of, chained, turned};
@@ -87,6 +88,7 @@ impl Waits {
         ensures entered { words.draws worker.new.turns ≤ words.draws worker.old.turns + 1 }
         ensures drawn { Draws 4 worker.old worker.new }
         ensures more { length self.new ≤ length self.old + 1 }
+        ensures listed { KeepsLists tables.now worker.old worker.new }
         ensures ends { IfOk result (Ends (buckets_of tables.now)
             (plans.close tables.now.chains.layout.shape tables.now.chains.layout.seed (mine_of socket) moment)
             (turned worker.old) (turned worker.new)

@@ -7,6 +7,7 @@ use Rattle.chain_book.specs.declared.book.PacketAnswer.TheVariants as answers
 use Rattle.chain_book.specs.declared.shape.Shape.{Shape}
 use Rattle.null_reader.specs.Looked.{HasTwo}
 use Rattle.null_reader.specs.Looked as looked
+use Rattle.null_reader.specs.declared.answers.LookEnd.{LookEnd}
 use Rattle.null_reader.specs.declared.answers.LookEnd.TheVariants as looks
 use Rattle.null_reader.specs.declared.answers.PassEnd.{PassEnd}
 use Rattle.null_reader.specs.declared.answers.PassEnd.TheVariants.{Foreign, Dead, Changed, Long}
@@ -49,6 +50,21 @@ same_stop (Foreign b) = refl
 same_stop (Dead i) = refl
 same_stop (Changed i) = refl
 same_stop (Long n) = refl
+
+-- What a lookup's part knows of the clock
+
+adds_later : (m n : Sat) (ks : List Kept) (hs : List ℕ) → Adds m ks hs n → m.0.seen ≤ n.0.seen
+adds_later m n ks hs a = omega (arith, a.later, ap (λ (s : Sat). s.0.seen) a.is)
+
+pub full_later : (layout : Layout) (packet : Packet) (m n : Sat) (end : LookEnd) (from : ℕ) → FindsFull layout packet m end from n → m.0.seen ≤ n.0.seen
+full_later layout packet m n (looks.Found held card) from h = adds_later m n _ _ h.0.1
+full_later layout packet m n looks.None from h = adds_later m n _ _ h.0
+full_later layout packet m n (looks.Again bucket stop) from h = adds_later m n _ _ h.0
+
+pub listener_later : (layout : Layout) (packet : Packet) (m n : Sat) (end : LookEnd) (from : ℕ) → FindsListener layout packet m end from n → m.0.seen ≤ n.0.seen
+listener_later layout packet m n (looks.Found held card) from h = adds_later m n _ _ h.0.1
+listener_later layout packet m n looks.None from h = adds_later m n _ _ h.0
+listener_later layout packet m n (looks.Again bucket stop) from h = adds_later m n _ _ h.0
 
 -- What a group's choice leaves
 

@@ -1,6 +1,6 @@
 -- When a group's member is the answer: inet_lookup_reuseport of net/ipv4/inet_hashtables.c. That a listener's card
 -- names its group, and a member's number the slot of its card, is our own rule.
-use Rattle.std.specs.Prelude.{◌≡◌, ℕ, ◌+◌, ◌-◌, ◌<◌, ◌≤◌, ◌⊎◌, ◌==◌, ◌||◌, nat_lt, [], ◌∷◌, ◌++◌, Option, Some, None, if◌then◌else◌}
+use Rattle.std.specs.Prelude.{◌≡◌, ℕ, ◌+◌, ◌-◌, ◌^◌, ◌<◌, ◌≤◌, ◌⊎◌, ◌==◌, ◌||◌, nat_lt, [], ◌∷◌, ◌++◌, Option, Some, None, if◌then◌else◌}
 use Rattle.sock_card.specs.Words.{packed}
 use Rattle.sock_card.specs.declared.card.Card.{Card}
 use Rattle.sock_card.specs.declared.card.Packet.{Packet}
@@ -10,7 +10,7 @@ use Rattle.reuseport_group.specs.declared.choice.Choice.{Choice}
 use Rattle.reuseport_group.specs.declared.pass.GroupPasses.{GroupPasses}
 use Rattle.reuseport_group.specs.Choosing.{Chose}
 use Rattle.reuseport_group.specs.Member.{slot_of, name_of, AreMembers}
-use Rattle.reuseport_group.specs.Passes.{IsSole, published}
+use Rattle.reuseport_group.specs.Passes.{IsSole, known, published, stored}
 use Rattle.reuseport_group.specs.Pick.{pick}
 use Rattle.shared_finds.specs.Finds.{card_rank}
 use Rattle.table_rule.specs.Alone.{IsAlone, IsGone, SlotStands}
@@ -49,7 +49,7 @@ abbrev pub Chosen : (slots : ℕ) → Packet → Sat → (best : Card) → (memb
 Chosen slots packet m best member result n =
     ((slots ≤ slot_of member) × (result ≡ best) × (n ≡ m))
     ⊎ ((slot_of member < slots) × (result ≡ best) × (n ≡ (trying m.0, m.1)) × IsGone m.0 (slot_of member))
-    ⊎ ((slot_of member < slots) × ((card : Card) × (n ≡ (sighted_view m.0 card, m.1)) × StandsThere m.0 (slot_of member) card × IsBetween packet best member card result))
+    ⊎ ((slot_of member < slots) × ((card : Card) × (n ≡ (sighted_view m.0 card, m.1)) × StandsThere m.0 (slot_of member) card × IsBetween packet best member card result × (card.name < 2 ^ 32)))
 
 -- or where no member was chosen
 abbrev pub ChosenBy : (slots : ℕ) → Packet → Sat → (best : Card) → Option Choice → (result : Card) → Sat → Type 0
@@ -59,6 +59,10 @@ ChosenBy slots packet m best (Some choice) result n = Chosen slots packet m best
 -- of passes that were never split, the choice is that of the list that they published last
 abbrev pub Picked : GroupPasses → (group hash : ℕ) → Option Choice → Type 0
 Picked p group hash choice = IsSole p → AreMembers (published p group) → choice ≡ pick (published p group) hash
+
+-- a choice only loads: what the passes stored, and whether they were ever split, is as before
+abbrev pub LeavesLists : GroupPasses → GroupPasses → Type 0
+LeavesLists p q = (stored q ≡ stored p) × ((known q).sole ≡ (known p).sole)
 
 -- or where the best names no group
 abbrev pub ByGroup : (slots groups : ℕ) → Packet → (hash : ℕ) → Sat → (best : Card) → GroupPasses → (result : Card) → Sat → GroupPasses → Type 0

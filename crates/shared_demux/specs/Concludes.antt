@@ -1,5 +1,5 @@
 -- What the lookup of a packet answers and leaves: __inet_lookup of include/net/inet_hashtables.h.
-use Rattle.std.specs.Prelude.{◌≡◌, ℕ}
+use Rattle.std.specs.Prelude.{◌≡◌, ℕ, ◌≤◌}
 use Rattle.sock_card.specs.declared.card.Card.{Card}
 use Rattle.sock_card.specs.declared.card.Packet.{Packet}
 use Rattle.chain_book.specs.Homes.{packet_hash}
@@ -46,7 +46,8 @@ book_end (ends.Changed slot) = stops.Changed slot
 book_end (ends.Long links) = stops.Long links
 
 -- The order of the lookups: the first that isn't None decides, and where it is Again its bucket and end are handed on.
--- What is said of one of them is said of what the pass knew as it began, and each begins with what the one before left.
+-- What is said of one of them is said of what the pass knew as it began, and each begins with what the one before left,
+-- and knows as much of the clock or more.
 
 -- the count of the best is given back
 abbrev pub LetsGo : Sat → (slot : ℕ) → Sat → Type 0
@@ -68,7 +69,7 @@ AfterListener slots groups seed packet k p (looks.Again bucket stop) end p' c n 
 abbrev pub ByListener : (slots groups : ℕ) → Layout → Packet → (passes : ℕ) → Sat → GroupPasses → PacketAnswer → GroupPasses → Whole → Sat → Type 0
 ByListener slots groups layout packet passes m p end p' c n =
     (look : LookEnd) × (from : ℕ) × (to : ℕ) × (k : Sat) × InOrder layout packet passes m look from to k
-    × AfterListener slots groups layout.seed packet k p look end p' c n
+    × AfterListener slots groups layout.seed packet k p look end p' c n × (m.0.seen ≤ k.0.seen)
 
 -- after the lookup of a connected socket
 abbrev pub AfterFull : (slots groups : ℕ) → Layout → Packet → (passes : ℕ) → Sat → GroupPasses → LookEnd → PacketAnswer → GroupPasses → Whole → Sat → Type 0
@@ -82,4 +83,4 @@ AfterFull slots groups layout packet passes k p (looks.Again bucket stop) end p'
 abbrev pub ByOrder : (slots groups : ℕ) → Layout → Packet → (passes : ℕ) → Sat → GroupPasses → PacketAnswer → GroupPasses → (from : ℕ) → Whole → Sat → Type 0
 ByOrder slots groups layout packet passes m p end p' from c n =
     (look : LookEnd) × (to : ℕ) × (k : Sat) × LookedAs (full_home layout packet) packet 5 passes m (words_end look) from to k
-    × AfterFull slots groups layout packet passes k p look end p' c n
+    × AfterFull slots groups layout packet passes k p look end p' c n × (m.0.seen ≤ k.0.seen)

@@ -1,10 +1,10 @@
 //! The choice of a listener's group, while the best listener is held.
 
-ghost use Rattle.std.specs.Prelude.{◌≡◌, ◌<◌, [], ◌∷◌, List, IfSome, IfNone};
+ghost use Rattle.std.specs.Prelude.{◌≡◌, ◌^◌, ◌<◌, [], ◌∷◌, List, IfSome, IfNone};
 ghost use Rattle.chain_book.specs.Homes.{packet_hash};
 ghost use Rattle.reuseport_group.specs.Passes.{IsPassOf};
 ghost use Rattle.reuseport_group.specs.Passes as words;
-ghost use Rattle.shared_demux.specs.Chosen.{group_in, sighted_view, StandsThere, Chosen, ByGroup};
+ghost use Rattle.shared_demux.specs.Chosen.{group_in, sighted_view, StandsThere, Chosen, ByGroup, LeavesLists};
 ghost use Rattle.shared_finds.specs.Finds.{card_rank};
 ghost use Rattle.sock_card.specs.Words.{packed};
 ghost use Rattle.table_rule.specs.Alone.{IsGone};
@@ -54,6 +54,7 @@ fn card_of<P: Pace>(chains: &Chains, steps: &mut Steps, slot: u32, pace: &mut P)
     requires taken { IsTaken slot (view steps.old) }
     ensures table { IsOf chains.now steps.new }
     ensures card { (h : Kept) (hs : List Kept) → (view steps.old).read.kept ≡ h ∷ hs → Becomes steps.old steps.new (with_kept (view steps.old) (with_words h (words_of (packed result)) ∷ hs)) }
+    ensures named { result.name < 2 ^ 32 }
 {
     pace.step(Point::Check(slot));
     let ends = chains.step_read_held(steps, slot, 0);
@@ -81,6 +82,7 @@ fn sight<P: Pace>(chains: &Chains, steps: &mut Steps, slot: u32, pace: &mut P) -
     ensures gone { IfNone result (IsGone (view steps.old) slot) }
     ensures some { IfSome result (λ card. Becomes steps.old steps.new (sighted_view (view steps.old) card)) }
     ensures stands { IfSome result (λ card. StandsThere (view steps.old) slot card) }
+    ensures named { IfSome result (λ card. card.name < 2 ^ 32) }
 {
     pace.step(Point::Take(slot));
     if chains.step_take(steps, slot) < LIVE {
@@ -141,6 +143,7 @@ pub(crate) fn by_group<P: Pace>(
     ensures table { IsOf chains.now steps.new }
     ensures groups { IsPassOf groups.now group_passes.new }
     ensures chosen { ByGroup (layout_of chains.now).shape.slots (words.groups groups.now) packet.now (packet_hash packet.now seed) (me steps.old) best.now group_passes.old result (me steps.new) group_passes.new }
+    ensures lists { LeavesLists group_passes.old group_passes.new }
 {
     let Some(group) = group_of(best, groups.count()) else {
         return *best;

@@ -4,6 +4,7 @@ ghost use Rattle.std.specs.Prelude.{◌≡◌, ◌^◌, ◌<◌, ◌≤◌, []};
 ghost use Rattle.null_reader.specs.Looked.{HasTwo, IsWhole, IsStopInside};
 ghost use Rattle.reuseport_group.specs.Passes as group_words;
 ghost use Rattle.reuseport_group.specs.Passes.{IsPassOf};
+ghost use Rattle.shared_demux.specs.Chosen.{LeavesLists};
 ghost use Rattle.shared_demux.specs.Concludes as spec;
 ghost use Rattle.shared_demux.specs.Concludes.{Concluded, ByOrder, ByListener, whole_to, DrewAll};
 ghost use Rattle.shared_finds.specs.Homes.{IsLaidOut, full_home};
@@ -108,6 +109,7 @@ fn look_listener<P: Pace>(
     requires cleared { Clears (view steps.old).read packet.now from (full_home tables.now.layout packet.now) 5 0 }
     ensures table { IsOf tables.now.chains.now steps.new }
     ensures groups { IsPassOf tables.now.groups.now group_passes.new }
+    ensures lists { LeavesLists group_passes.old group_passes.new }
     ensures from { result.t0 ≡ from }
     ensures span { (view steps.old).seen ≤ result.t1 }
     ensures concluded { Concluded (me steps.old) (whole_to packet.now tables.now.layout.seed from result.t1 result.end) (me steps.new) }
@@ -174,6 +176,7 @@ pub fn look_packet<P: Pace>(
     requires groups { IsPassOf tables.now.groups.now group_passes.old }
     ensures table { IsOf tables.now.chains.now steps.new }
     ensures groups { IsPassOf tables.now.groups.now group_passes.new }
+    ensures lists { LeavesLists group_passes.old group_passes.new }
     ensures fresh { (view steps.old).seen ≤ result.t0 }
     ensures span { result.t0 ≤ result.t1 }
     ensures concluded { Concluded (me steps.old) (whole_to packet.now tables.now.layout.seed result.t0 result.t1 result.end) (me steps.new) }

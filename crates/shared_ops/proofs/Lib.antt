@@ -13,5 +13,6 @@ pub mod SearchGoes
 pub mod SockGoes
 pub mod AcceptGoes
 mod ReapGoes
+pub mod Listed
 mod Lists
 mod ListTurns

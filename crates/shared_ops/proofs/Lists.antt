@@ -23,7 +23,8 @@ use Rattle.bind_buckets.specs.Journal.{IsLegal, replayed, replayed_from}
 use Rattle.bind_buckets.specs.OwnerStep.{Held, After, owner_step, admitted, spoken, has_name, may_listen, empty}
 use Rattle.bind_buckets.specs.Turned.{View, Hash, Pass, Out, Gave, IsAlone, IsOut, Within, Asks, entries_at, made}
 use Rattle.reuseport_group.specs.declared.pass.GroupPasses.{GroupPasses}
-use Rattle.reuseport_group.specs.Passes.{published}
+use Rattle.reuseport_group.specs.declared.view.GroupView.{GroupView}
+use Rattle.reuseport_group.specs.Passes.{IsSole, published}
 use Rattle.reuseport_group.specs.Words.{list_at}
 use Rattle.bind_buckets.specs.declared.request.ListenEnd.{ListenEnd}
 use Rattle.bind_buckets.specs.Answers.{answer_of_listen}
@@ -33,8 +34,9 @@ use Rattle.port_search.specs.Turned.{AllRefuse, BindsAt, BindsNowhere, BindsNotY
 use Rattle.port_search.specs.Search.{IsNotFull}
 use Rattle.port_search.proofs.TurnSearch.{gave_none, gave_both}
 use Rattle.shared_ops.specs.Goes.{AreAsked, AskedAll, gone_of}
-use Rattle.shared_ops.specs.Groups.{members_in, Follows, IsLeft, ListsIn, SparesLists, GaveSparing, list_by, KeepsListed}
+use Rattle.shared_ops.specs.Groups.{members_in, Follows, IsLeft, ListsIn, SparesLists, GaveSparing, list_by, AreListed, KeepsListed}
 use Rattle.shared_ops.proofs.Goes.{asked_all}
+use Rattle.shared_ops.proofs.Listed.{keeps_both}
 use Rattle.shared_ops.proofs.There.{answers_so}
 
 -- What a bucket was asked, of some entries
@@ -130,9 +132,14 @@ list_spared group old new s =
     ∙ replay_spares place (replayed place es) fs s)
 
 pub sparing_keeps : (count : ℕ) (v w : View) (p : GroupPasses) → GaveSparing v w → KeepsListed count v w p p
-sparing_keeps count v w p g = λ alone listed group within.
-    listed group within
-    ∙ sym (ap (λ (ms : List (Placed Entry)). list_by ms group) g.gave.mine ∙ list_spared group v.mine g.new (spares_at (group / 8) g.new g.spares))
+sparing_keeps count v w p g =
+    record {
+      alone = λ alone. (g.gave.caller ∙ alone.0, g.gave.splits ∙ alone.1);
+      sole = λ sole. sole;
+      listed = λ alone listed group within.
+          listed group within
+          ∙ sym (ap (λ (ms : List (Placed Entry)). list_by ms group) g.gave.mine ∙ list_spared group v.mine g.new (spares_at (group / 8) g.new g.spares));
+    }
 
 asked_spares : (place : ℕ) (es : List Entry) (xs : List (Placed Entry)) → AreAsked place es xs → Each Spares es → Each (λ (x : Placed Entry). SparesLists x.note.entry.request) xs
 asked_spares place [] [] a s = tt
@@ -236,6 +243,11 @@ list_elsewhere : (n : ℕ) (group : Option ℕ) (h k : Held) (p q : GroupPasses)
 list_elsewhere n None h k p q g follows apart = ap (λ v. list_at g v.mine) follows.nothing
 list_elsewhere n (Some x) h k p q g follows apart = follows.kept g (λ same. apart (ap (λ y. y / 8) same ∙ follows.own))
 
+-- who publishes is not split
+follows_sole : (n : ℕ) (group : Option ℕ) (h k : Held) (p q : GroupPasses) → Follows n group h k p q → IsSole p → IsSole q
+follows_sole n None h k p q follows sole = ap (λ (x : GroupView). x.sole) follows.nothing ∙ sole
+follows_sole n (Some x) h k p q follows sole = ap (λ (y : GroupView). y.sole) follows.list ∙ sole
+
 cancel_last : (xs ys es fs : List Entry) → xs ++ es ≡ ys ++ fs → length es ≡ length fs → xs ≡ ys
 cancel_last xs ys es fs both same =
     let long : length xs ≡ length ys = omega (arith, length-append xs es, length-append ys fs, ap length both) in
@@ -253,8 +265,8 @@ module _ (count place : ℕ) (first es fs : List Entry) (group : Option ℕ) (v 
       ap (λ (xs : List Entry). entries_of l.before ++ xs) (sym l.asked) ∙ sym (map-append entry_of l.before l.added) ∙ ap entries_of (l.left.all is) in
       cancel_last (entries_of l.before) (entries_at place v.mine ++ first) fs es (there ∙ here) same
 
-  pub turn_keeps : KeepsListed count v w p q
-  turn_keeps = λ alone listed g within.
+  lists_then : IsAlone v → AreListed count v p → AreListed count w q
+  lists_then = λ alone listed g within.
       let is : IsAlone w = (all.gave.caller ∙ alone.0, all.gave.splits ∙ alone.1) in
       let h = replayed place (entries_of l.before) in
       let k = replayed place (entries_of (l.before ++ l.added)) in
@@ -273,6 +285,14 @@ module _ (count place : ℕ) (first es fs : List Entry) (group : Option ℕ) (v 
       list_elsewhere place group h k p q g l.lists apart ∙ listed g within
       ∙ sym (ap (λ (ms : List (Placed Entry)). list_by ms g) all.gave.mine
       ∙ list_spared g v.mine all.xs (subst (Each Spares) (sym (asked_else place (g / 8) (first ++ es) all.xs apart all.asked)) tt)))
+
+  pub turn_keeps : KeepsListed count v w p q
+  turn_keeps =
+      record {
+        alone = λ alone. (all.gave.caller ∙ alone.0, all.gave.splits ∙ alone.1);
+        sole = follows_sole place group (replayed place (entries_of l.before)) (replayed place (entries_of (l.before ++ l.added))) p q l.lists;
+        listed = lists_then;
+      }
 
 -- What the parts of a call spare
 
@@ -334,8 +354,7 @@ search_spares n a ports v w (Err (searches.Full owned held)) at none yet end = a
 
 -- lists are kept past entries that change none
 pub kept_past : (count : ℕ) (u v w : View) (p q : GroupPasses) → GaveSparing u v → KeepsListed count v w p q → KeepsListed count u w p q
-kept_past count u v w p q g keeps = λ alone listed.
-    keeps (g.gave.caller ∙ alone.0, g.gave.splits ∙ alone.1) (sparing_keeps count u v p g alone listed)
+kept_past count u v w p q g keeps = keeps_both count u v w p p q (sparing_keeps count u v p g) keeps
 
 -- What a bucket is asked that a listener may do
 

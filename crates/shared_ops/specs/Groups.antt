@@ -165,13 +165,16 @@ list_by given group = members_in (replayed (group / 8) (entries_at (group / 8) g
 abbrev pub AreListed : ℕ → View → GroupPasses → Type 0
 AreListed count v p = (group : ℕ) → group < count → published p group ≡ list_by v.mine group
 
--- a pass that is alone keeps it so
-abbrev pub KeepsListed : ℕ → View → View → GroupPasses → GroupPasses → Type 0
-KeepsListed count v w p q = IsAlone v → AreListed count v p → AreListed count w q
+-- What a pass and the passes of groups beside it keep: where they were never split, they are not split then; and where
+-- the pass is alone, and the lists of so many groups are published, these are.
+pub record KeepsListed (count : ℕ) (v w : View) (p q : GroupPasses) : Type 0 where
+  pub alone : IsAlone v → IsAlone w
+  pub sole : lists.IsSole p → lists.IsSole q
+  pub listed : IsAlone v → AreListed count v p → AreListed count w q
 
 abbrev pub ListsArePublished : Tables → Worker → Type 0
 ListsArePublished t w = AreListed (lists.groups t.groups) (turned w) w.groups
 
--- where its lists are published, a worker that was never split leaves them so
+-- where its lists are published, a worker that was never split leaves them so, and was not split by it
 abbrev pub KeepsLists : Tables → Worker → Worker → Type 0
 KeepsLists t w u = KeepsListed (lists.groups t.groups) (turned w) (turned u) w.groups u.groups

@@ -7,14 +7,14 @@ use Rattle.inet_tool.proofs.Faults.{bad_reply}
 use Rattle.sock_script.specs.declared.parse.Mode.TheVariants as modes
 use Rattle.sock_script.specs.Output.{script_text}
 use Rattle.sock_script.proofs.SoundLists.{texts_sound}
-use Rattle.race_run.proofs.HeadersFit.{scripts_fit}
+use Rattle.script_run.proofs.HeadersFit.{scripts_fit}
 use Rattle.inet_tool.proofs.reply.reply_to.Goals as goal
 
 pub run-requires-clause-header : goal.run-requires-clause-header
-run-requires-clause-header c = scripts_fit modes.Run c.args.bytes.now c.in-Ok.script c.in-Ok.ensures.script
+run-requires-clause-header g c = scripts_fit modes.Run c.args.bytes.now c.in-Ok.script c.in-Ok.ensures.script
 
 pub returns : goal.returns
-returns c = (
+returns g c = (
   (
     c.in-Ok.script,
     c.in-Ok-read.capture,
@@ -25,7 +25,7 @@ returns c = (
 )
 
 pub returns-in-Err-BadHead : goal.returns-in-Err-BadHead
-returns-in-Err-BadHead c =
+returns-in-Err-BadHead g c =
     let is : c.read.result ≡ Err ends.BadHead = search rules in
     let none = c.read.ensures.bad_head.0 is in
     bad_reply modes.Run IsRunOf c.args.bytes.now faults.Capture c.refusal-in-Err-BadHead.result

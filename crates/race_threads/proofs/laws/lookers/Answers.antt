@@ -1,4 +1,3 @@
-use Rattle.race_threads.proofs.Chunks.{runs_are_told}
 use Rattle.race_threads.proofs.Looked.{looks_none, looks_more, looks_past, names_bucket}
 use Rattle.race_threads.proofs.laws.lookers.Goals as goal
 
@@ -13,6 +12,3 @@ returns-clause-past c = looks_past
 
 pub returns-clause-buckets : goal.returns-clause-buckets
 returns-clause-buckets c = names_bucket
-
-pub returns-clause-runs : goal.returns-clause-runs
-returns-clause-runs c = runs_are_told

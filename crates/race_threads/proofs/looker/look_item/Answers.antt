@@ -1,5 +1,5 @@
 use Rattle.table_rule.specs.Calls.{me}
-use Rattle.race_threads.proofs.Runs.{takes_packet, takes_skip, takes_short}
+use Rattle.race_threads.proofs.Items.{takes_packet, takes_skip, takes_short}
 use Rattle.race_threads.proofs.looker.look_item.Goals as goal
 
 pub returns-in-Packet-clause-takes : goal.returns-in-Packet-clause-takes

@@ -1,6 +1,6 @@
 use denote.Param.Send.{IsSync, sendable}
 use Rattle.std.proofs.Crossing.{crosses}
-use Rattle.race_threads.proofs.Crossing.{job_send, tables_lent, script_lent, capture_lent, lent}
+use Rattle.race_threads.proofs.Crossing.{job_send, tables_lent, tickets_lent, script_lent, capture_lent, lent}
 use Rattle.race_threads.proofs.threads.run_all.Goals as goal
 
 pub map_vec-requires-send-J : goal.map_vec-requires-send-J
@@ -15,4 +15,4 @@ map_vec-requires-sync-F g c κs within =
     let h : IsSync g.row.G = record { shared = c.type_bounds.sync-G.shared } in
     let runtime_lent = lent 0 g.row.R r in
     let gate_lent = lent 1 g.row.G h in
-    search (runtime_lent, gate_lent, tables_lent, script_lent, capture_lent, crosses, sendable) depth 60 fits 400000
+    search (runtime_lent, gate_lent, tables_lent, tickets_lent, script_lent, capture_lent, crosses, sendable) depth 60 fits 400000

@@ -1,13 +1,14 @@
-use Rattle.std.proofs.Common.{◌≡◌, ◌+◌, ◌-◌, ◌%◌, ℕ, [], length, get_or, arith, rules, subst, sym, ap, ◌∙◌, Vec}
+use Rattle.std.proofs.Common.{◌≡◌, ◌+◌, ◌%◌, ℕ, List, [], length, get_or, arith, rules, subst, sym, ap, ◌∙◌, Vec}
 use Rattle.std.specs.Global.{Global}
+use Rattle.capture_reader.specs.declared.packet.Item.{Item}
 use Rattle.flat_list.specs.Ports.{size}
 use Rattle.flat_list.specs.declared.header.Header.{Header}
 use Rattle.flat_list.specs.declared.command.Command.{Command}
-use Rattle.table_rule.specs.declared.view.Layout.{Layout}
 use Rattle.race_threads.specs.declared.jobs.Job.{Job}
 use Rattle.race_threads.specs.Scripts.{FitsRace, LooksNothingUp}
-use Rattle.race_threads.specs.Workers.{AreTables, IsFresh}
-use Rattle.race_threads.proofs.Working.{commands_at, count_is, few_in, looks_in, worked_section, worked_looker, shared, ran}
+use Rattle.race_threads.specs.Lookers.{HasLooked}
+use Rattle.race_threads.specs.Workers.{AreTables, IsFresh, part_of}
+use Rattle.race_threads.proofs.Working.{commands_at, count_is, few_in, looks_in, worked_section, worked_looker, told_none, ran}
 use Rattle.race_threads.proofs.work.work.Goals as goal
 
 pub run_section-requires-clause-tables : goal.run_section-requires-clause-tables
@@ -59,25 +60,28 @@ look_share-requires-clause-tables g c =
     (c.args.script.now.header, c.requires.tables, c.args.job.number + 1, c.requires.ready.fresh) in
     search rules
 
-pub look_share-requires-clause-inside : goal.look_share-requires-clause-inside
-look_share-requires-clause-inside g c =
-    let count = count_is (λ (v : Vec Command Global). v.items) c.args.script.now c.sections-sections.result.now c.sections-sections.ensures in
-    omega (arith, count, c.requires.number, c.if-number-sections.false)
+pub look_share-requires-clause-tickets : goal.look_share-requires-clause-tickets
+look_share-requires-clause-tickets g c κs within = omega (arith, c.requires.tickets, ap (λ (l : List Item). length l) c.items.ensures)
 
 pub returns : goal.returns
 returns g c =
     let e = c.in_ok-told.ensures in
     let count = count_is (λ (v : Vec Command Global). v.items) c.args.script.now c.sections-sections.result.now c.sections-sections.ensures in
-    let j : Job = record { worker = c.look_share.new.worker; number = c.args.job.number; replies = c.args.job.replies; told = c.in_ok-told.told } in
-    worked_looker c.args.script.now c.args.capture.now.items c.args.lookers c.args.tables.now c.args.job.number j (record { rest = e.rest; turn_part = e.turn_part; chain_part = e.chain_part }) (omega (arith, count, c.if-number-sections.false))
-    (shared c.args.script.now.header c.args.lookers (c.args.job.number - length c.sections-sections.result.now) (c.args.job.number - length c.args.script.now.sections) (ap (λ (k : ℕ). c.args.job.number - k) count) c.items.result.now c.args.capture.now.items c.items.ensures j
-    (record { looked = e.looked c.args.script.now.header c.requires.tables; count = e.count; replies = c.requires.ready.replies }))
+    let j : Job = record { worker = c.look_share.new.worker; draws = c.look_share.new.draws; number = c.args.job.number; replies = c.args.job.replies; told = c.in_ok-told.told } in
+    let looked = subst (λ (l : List Item). HasLooked c.args.script.now.header l (part_of j.worker) j.told.items) c.items.ensures (e.looked c.args.script.now.header c.requires.tables) in
+    worked_looker c.args.script.now c.args.capture.now.items c.args.tables.now c.args.tickets.now c.args.job.number j
+    (record { rest = e.rest; turn_part = e.turn_part; chain_part = e.chain_part; draws = e.draws })
+    (omega (arith, count, c.if-number-sections.false))
+    (record { looked = looked; missed = e.missed; replies = c.requires.ready.replies })
 
 pub returns-then-number-sections : goal.returns-then-number-sections
 returns-then-number-sections g c =
     let e = c.in_ok-replies.ensures in
     let count = count_is (λ (v : Vec Command Global). v.items) c.args.script.now c.sections-sections.result.now c.sections-sections.ensures in
     let is = c.as_slice.ensures.value ∙ commands_at (λ (v : Vec Command Global). v.items) c.args.script.now c.sections-sections.result.now c.args.job.number c.index-sections-number.result c.sections-sections.ensures c.if-number-sections.true c.index-sections-number.is in
-    let j : Job = record { worker = c.run_section.new.worker; number = c.args.job.number; replies = c.in_ok-replies.replies; told = c.args.job.told } in
-    worked_section c.args.script.now c.args.capture.now.items c.args.lookers c.args.tables.now c.args.job.number j (record { rest = e.rest; turn_part = e.turn_part; chain_part = e.chain_part }) (omega (arith, count, c.if-number-sections.true))
+    let j : Job = record { worker = c.run_section.new.worker; draws = c.args.job.draws; number = c.args.job.number; replies = c.in_ok-replies.replies; told = c.args.job.told } in
+    let drawn = told_none c.args.tickets.now c.args.job.draws c.args.job.told.items c.requires.ready.draws c.requires.ready.told in
+    worked_section c.args.script.now c.args.capture.now.items c.args.tables.now c.args.tickets.now c.args.job.number j
+    (record { rest = e.rest; turn_part = e.turn_part; chain_part = e.chain_part; draws = drawn })
+    (omega (arith, count, c.if-number-sections.true))
     (ran c.header.result.now c.args.script.now.header (c.args.job.number + 1) c.as_slice.result.now (get_or c.args.script.now.sections c.args.job.number []) j c.header.ensures is e.done c.requires.ready.told)

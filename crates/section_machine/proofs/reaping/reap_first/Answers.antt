@@ -1,11 +1,16 @@
 use Rattle.std.proofs.Common.{ℕ, sym, subst}
+use Rattle.section_machine.proofs.Published.{goes_listed}
 use Rattle.section_machine.proofs.Reaps.{Reaping, begins, enters_one, draws_one, goes_on, stops, reaps_all, keeps_rest}
 use Rattle.section_machine.proofs.reaping.reap_first.Goals as goal
 
 pub returns-in_err-found-clause-drawn : goal.returns-in_err-found-clause-drawn
 returns-in_err-found-clause-drawn g c =
     (stops c.args.tables.now c.args.worker.now c.loop-waiting.worker c.reap_one.new.worker c.args.items.now.items c.loop-waiting.items.items c.args.moment c.loop-waiting.count
-    c.loop-waiting.invariant c.reap_one.ensures.ready c.reap_one.ensures.caller c.in_err-found.ensures.none c.in_err-found.ensures.side).drawn
+    c.loop-waiting.invariant c.reap_one.ensures.ready c.reap_one.ensures.caller c.in_err-found.ensures.none c.in_err-found.ensures.side c.reap_one.ensures.listed).drawn
+
+pub returns-in_err-found-clause-listed : goal.returns-in_err-found-clause-listed
+returns-in_err-found-clause-listed g c =
+    goes_listed c.args.tables.now c.args.worker.now c.loop-waiting.worker c.reap_one.new.worker c.loop-waiting.invariant.listed c.reap_one.ensures.listed
 
 pub loop-waiting-init : goal.loop-waiting-init
 loop-waiting-init g c =
@@ -25,7 +30,7 @@ pub loop-waiting-preserved : goal.loop-waiting-preserved
 loop-waiting-preserved g c =
     subst (λ (n : ℕ). Reaping c.args.tables.now c.args.worker.now c.reap_one.new.worker c.args.items.now.items c.pop_front-reaped.new.self.items c.args.moment n) (sym c.counted-count.ensures)
     (goes_on c.args.tables.now c.args.worker.now c.loop-waiting.worker c.reap_one.new.worker c.args.items.now.items c.loop-waiting.items.items c.pop_front-reaped.new.self.items c.args.moment c.loop-waiting.count c.in-Some.waiting.now c.in_ok-found.found
-    c.loop-waiting.invariant (sym c.in-Some.ensures) c.pop_front-reaped.ensures.rest c.reap_one.ensures.ready c.reap_one.ensures.caller c.reap_one.ensures.entered c.reap_one.ensures.drawn c.in_ok-found.ensures.reaps)
+    c.loop-waiting.invariant (sym c.in-Some.ensures) c.pop_front-reaped.ensures.rest c.reap_one.ensures.ready c.reap_one.ensures.caller c.reap_one.ensures.entered c.reap_one.ensures.drawn c.in_ok-found.ensures.reaps c.reap_one.ensures.listed)
 
 pub returns-clause-reaps : goal.returns-clause-reaps
 returns-clause-reaps g c =

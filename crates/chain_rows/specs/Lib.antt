@@ -1,4 +1,0 @@
-pub mod Ends
-pub mod Kept
-pub mod Fields
-pub mod Looks

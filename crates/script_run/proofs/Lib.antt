@@ -1,0 +1,16 @@
+pub mod HeadersFit
+mod Items
+mod CardsSame
+mod CardsOf
+mod CardsBest
+mod CardsStand
+mod Standing
+mod LooksGroup
+mod LooksSame
+mod SeesNow
+pub mod CommandRuns
+pub mod SectionTurns
+pub mod Alone
+pub mod Lookups
+pub mod Budgets
+pub mod Starting

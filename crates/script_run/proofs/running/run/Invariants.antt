@@ -1,0 +1,13 @@
+use Rattle.std.proofs.Common.{◌+◌}
+use Rattle.script_run.specs.Sole.{IsSole, tables_of}
+use Rattle.script_run.specs.Steps.{AreUnspoken, MayCarry, commands_after}
+use Rattle.script_run.proofs.SectionTurns.{Ran}
+use Rattle.script_run.proofs.running.run.Given as goal
+
+abbrev pub invariant-loop-i : goal.invariant-loop-i
+invariant-loop-i g l = record {
+  sole : IsSole l.tables l.worker;
+  unspoken : AreUnspoken (l.i + 1) l.worker;
+  may : MayCarry (commands_after l.i) l.worker;
+  ran : Ran l.header l.script.sections l.capture.items l.left l.replies.items l.i (tables_of l.tables l.worker);
+}

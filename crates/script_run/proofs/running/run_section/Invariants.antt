@@ -1,0 +1,14 @@
+use Rattle.std.proofs.Common.{◌≡◌, ◌+◌, ◌-◌, ◌≤◌, length}
+use Rattle.script_run.specs.Sole.{tables_of}
+use Rattle.script_run.specs.Steps.{IsRunning, MayGoOn, commands_after}
+use Rattle.script_run.proofs.SectionTurns.{Turns}
+use Rattle.script_run.proofs.running.run_section.Given as goal
+
+abbrev pub invariant-loop-command : goal.invariant-loop-command
+invariant-loop-command g l = record {
+  running : IsRunning l.tables l.machine l.worker;
+  labels : length l.machine.own.labels ≤ l.command-index;
+  number : l.machine.own.number ≡ l.n;
+  may : MayGoOn (length l.commands - l.command-index + commands_after l.n) l.machine l.worker;
+  turns : Turns l.header l.n (tables_of l.tables l.fn.worker) l.commands l.fn.items l.left l.fn.replies.items l.replies.items l.command-index l.machine (tables_of l.tables l.worker);
+}

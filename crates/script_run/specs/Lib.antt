@@ -1,0 +1,5 @@
+-- What the contracts of this crate and of those above it cite.
+pub mod Fits
+pub mod Sole
+pub mod Looks
+pub mod Steps

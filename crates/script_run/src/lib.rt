@@ -1,0 +1,21 @@
+//! The run of a script by one worker.
+//!
+//! [`run`] replies to a script's commands, and to the packets of its capture, what the flat list replies to
+//! them. It runs over the tables that threads can share, by one worker that is never split off another;
+//! [`headers_fit`] says that it can be asked of each script that a text is.
+//! It stands on `section_machine`, whose machines run the sections, and on `shared_demux`, which looks packets up.
+//!
+//! ```text
+//! let replies = run(&rt, alloc, &script, &capture)?;
+//! ```
+#![tactic(auto)]
+
+pub mod laws;
+mod look;
+pub mod running;
+mod start;
+#[cfg(test)]
+mod tests;
+
+pub use laws::headers_fit;
+pub use running::run;

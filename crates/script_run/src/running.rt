@@ -1,0 +1,189 @@
+//! The run of a script: its sections one after the other, by one worker.
+
+ghost use Rattle.std.specs.Prelude.{◌≡◌, ◌<◌, ◌+◌, ◌-◌, ◌≤◌, ◌^◌, false, length, IfOk, OnOk};
+ghost use Rattle.flat_list.specs.Script.{IsSmall};
+ghost use Rattle.script_run.specs.Fits.{FitsTables};
+ghost use Rattle.script_run.specs.Looks.{Answers, Looked};
+ghost use Rattle.script_run.specs.Sole.{IsSole, tables_of};
+ghost use Rattle.script_run.specs.Steps.{AnswersAll, AreUnspoken, IsRunning, MayCarry, RefinesEach, RunsAs, RunsEach, commands_after};
+ghost use Rattle.section_machine.specs.Carried.{HasEnough, Spends};
+ghost use Rattle.section_machine.specs.Sections.{KeepsHeader};
+ghost use Rattle.section_machine.specs.Standing.{AreOf};
+ghost use Rattle.sock_script.specs.Output.{flat_replies};
+ghost use Rattle.sock_script.specs.Steps.{takes_items};
+
+use crate::look::look;
+use crate::start::start;
+use capture_reader::{Capture, Item};
+use flat_list::owned::packet_of;
+use flat_list::{Command, Header, Reply, Script};
+use section_machine::{Machine, laws};
+use shared_ops::{Tables, Worker};
+use std::alloc::{AllocError, Global};
+use std::sync::Wait;
+
+/// What is replied to an item of a capture: what its packet finds, if it is one.
+fn reply_to(tables: &Tables, worker: &mut Worker, item: &Item) -> Reply
+    requires sole { IsSole tables.now worker.old }
+    ensures sole { IsSole tables.now worker.new }
+    ensures looked { Looked tables.now worker.old worker.new }
+    ensures answers { Answers (tables_of tables.now worker.old) item.now result }
+{
+    match item {
+        Item::Packet(packet) => Reply::Found(look(tables, worker, packet)),
+        Item::Skip => Reply::Skip,
+        Item::Short => Reply::Short,
+    }
+}
+
+/// Appends the replies to some items.
+fn look_up(
+    tables: &Tables,
+    worker: &mut Worker,
+    replies: &mut Vec<Reply>,
+    items: &[Item],
+) -> Result<(), AllocError>
+    requires sole { IsSole tables.now worker.old }
+    ensures sole { OnOk result (IsSole tables.now worker.new) }
+    ensures looked { OnOk result (Looked tables.now worker.old worker.new) }
+    ensures answers { OnOk result (AnswersAll (tables_of tables.now worker.old)
+        items.now replies.old.items replies.new.items) }
+{
+    for item in items {
+        replies.push(reply_to(tables, worker, item))?;
+    }
+    Ok(())
+}
+
+/// Carries out one command of a machine's section, any but `packets`; a lookup needs the tables alone.
+fn step<R: Wait>(
+    rt: &R,
+    tables: &Tables,
+    worker: &mut Worker,
+    machine: &mut Machine,
+    command: &Command,
+) -> Result<Reply, AllocError>
+    requires one { takes_items command.now ≡ false }
+    requires room { length machine.old.own.labels + 1 < 2 ^ 24 }
+    requires running { IsRunning tables.now machine.old worker.old }
+    requires enough { HasEnough machine.old worker.old }
+    ensures running { OnOk result (IsRunning tables.now machine.new worker.new) }
+    ensures kept { KeepsHeader machine.old machine.new }
+    ensures spends { Spends machine.old machine.new worker.old worker.new }
+    ensures refines { IfOk result (RefinesEach machine.old (tables_of tables.now worker.old) command.now
+        (tables_of tables.now worker.new) machine.new.own) }
+{
+    match command {
+        Command::Look { from, to, dev } => {
+            let packet = packet_of(*from, *to, *dev);
+            Ok(Reply::Found(look(tables, worker, &packet)))
+        }
+        _ => machine.step(rt, tables, worker, command),
+    }
+}
+
+/// Runs one command of a machine's section, appends what is replied, and tells the items that are left then.
+fn run_command<'a, R: Wait>(
+    rt: &R,
+    tables: &Tables,
+    worker: &mut Worker,
+    machine: &mut Machine,
+    replies: &mut Vec<Reply>,
+    command: &Command,
+    items: &'a [Item],
+) -> Result<&'a [Item], AllocError>
+    requires room { length machine.old.own.labels + 1 < 2 ^ 24 }
+    requires running { IsRunning tables.now machine.old worker.old }
+    requires enough { HasEnough machine.old worker.old }
+    ensures running { OnOk result (IsRunning tables.now machine.new worker.new) }
+    ensures kept { KeepsHeader machine.old machine.new }
+    ensures spends { OnOk result (Spends machine.old machine.new worker.old worker.new) }
+    ensures runs { IfOk result (λ left. RunsEach machine.old (tables_of tables.now worker.old) command.now
+        items.now left.now replies.old.items replies.new.items
+        machine.new.own (tables_of tables.now worker.new)) }
+{
+    if let Command::Packets { count } = command {
+        let (next, left) = items.split_at((*count as usize).min(items.len()));
+        look_up(tables, worker, replies, next)?;
+        return Ok(left);
+    }
+    let reply = step(rt, tables, worker, machine, command)?;
+    replies.push(reply)?;
+    Ok(items)
+}
+
+/// Runs the commands of section `n` on a machine of its own, appends what is replied, and tells the items that
+/// are left then.
+fn run_section<'a, R: Wait>(
+    rt: &R,
+    alloc: Global,
+    header: &Header,
+    tables: &Tables,
+    worker: &mut Worker,
+    replies: &mut Vec<Reply>,
+    n: u32,
+    commands: &[Command],
+    items: &'a [Item],
+) -> Result<&'a [Item], AllocError>
+    requires header { FitsTables header.now }
+    requires tables { AreOf header.now tables.now }
+    requires first { 1 ≤ n }
+    requires number { n ≤ 64 }
+    requires room { length commands.now < 2 ^ 24 }
+    requires sole { IsSole tables.now worker.old }
+    requires unspoken { AreUnspoken n worker.old }
+    requires may { MayCarry (commands_after (n - 1)) worker.old }
+    ensures sole { OnOk result (IsSole tables.now worker.new) }
+    ensures unspoken { OnOk result (AreUnspoken (n + 1) worker.new) }
+    ensures may { OnOk result (MayCarry (commands_after n) worker.new) }
+    ensures runs { IfOk result (λ left. RunsAs header.now n
+        (tables_of tables.now worker.old) (tables_of tables.now worker.new) commands.now
+        items.now left.now replies.old.items replies.new.items) }
+{
+    laws::section_comes_next();
+    let mut machine = Machine::new(alloc, header, n);
+    let mut left = items;
+    for command in commands {
+        left = run_command(rt, tables, worker, &mut machine, replies, command, left)?;
+    }
+    Ok(left)
+}
+
+/// Runs a script's sections one after the other over new tables, looks up the packets of its capture that no
+/// command took, and gives what is replied to each command and each item.
+///
+/// Takes memory for the tables, the sockets and the replies.
+///
+/// # Errors
+///
+/// Memory ran out.
+pub fn run<R: Wait>(
+    rt: &R,
+    alloc: Global,
+    script: &Script,
+    capture: &Capture,
+) -> Result<Vec<Reply>, AllocError>
+    requires small { IsSmall script.now }
+    requires header { FitsTables script.now.header }
+    ensures { IfOk result (λ replies. replies.items ≡ flat_replies script.now capture.now.items) }
+{
+    let header = script.header();
+    let (tables, mut worker) = start(alloc, header)?;
+    let mut replies = Vec::new(alloc);
+    let mut left = capture.items();
+    for (i, commands) in script.sections().iter().enumerate() {
+        left = run_section(
+            rt,
+            alloc,
+            header,
+            &tables,
+            &mut worker,
+            &mut replies,
+            i as u32 + 1,
+            commands,
+            left,
+        )?;
+    }
+    look_up(&tables, &mut worker, &mut replies, left)?;
+    Ok(replies)
+}
