@@ -49,11 +49,11 @@ impl Looked {
             .any(|hash| self.had_throughout(book, hash, least))
     }
 
-    /// The card was hashed where it was sought, and stood there at some time of the lookup.
+    /// The card was hashed, and stood there at some time of the lookup: in this bucket or in another, since a slot that is
+    /// hashed elsewhere meanwhile leads a lookup there.
     fn stood(&self, book: &[Change], hash: &Change, card: &Card) -> bool {
         hash.act == Act::Hash
             && hash.card == *card
-            && self.bucket.is_none_or(|bucket| bucket == hash.bucket)
             && hash.begin < self.look.t1
             && ending(book, hash).is_none_or(|unhash| self.look.t0 <= unhash.end)
     }
