@@ -1,22 +1,18 @@
 -- What a search of `connect` through shared buckets comes to where nobody shares them.
-use Rattle.std.proofs.Common.{◌≡◌, ℕ, ◌+◌, ◌%◌, ◌≤◌, ◌⊎◌, inl, inr, Bool, true, false, cond, List, [], ◌∷◌, ◌++◌, length, filter, Option, Some, None, refl, sym, ap, subst, ◌∙◌, arith, append_assoc, append-nil}
+use Rattle.std.proofs.Common.{◌≡◌, ℕ, ◌%◌, ◌≤◌, inl, inr, true, cond, List, [], ◌∷◌, ◌++◌, filter, Option, Some, None, sym, ap, subst, ◌∙◌, append_assoc, append-nil}
 use Rattle.std.specs.List.{FoldsTo}
 use Rattle.sock_card.specs.declared.owner.Owner.{Owner}
 use Rattle.turn_table.specs.declared.note.Placed.{Placed}
-use Rattle.bind_buckets.specs.declared.request.Request.{Request}
 use Rattle.bind_buckets.specs.declared.request.Request.TheVariants as requests
 use Rattle.bind_buckets.specs.declared.request.Answer.{Answer}
 use Rattle.bind_buckets.specs.declared.request.Answer.TheVariants as answers
 use Rattle.bind_buckets.specs.declared.request.Entry.{Entry}
-use Rattle.bind_buckets.specs.OwnerStep.{Held}
-use Rattle.bind_buckets.specs.Journal.{Standing}
-use Rattle.bind_buckets.specs.BindHash.{asked_at, answer_at}
-use Rattle.bind_buckets.specs.Turned.{View, Gave, IsAsked, IsAlone, AreLawful, KnowsAll, hash_of}
+use Rattle.bind_buckets.specs.BindHash.{asked_at}
+use Rattle.bind_buckets.specs.Turned.{View, IsAsked, IsAlone, AreLawful, KnowsAll, hash_of}
 use Rattle.bind_buckets.proofs.HashSteps.{answered_by, asked_by, lawful_front}
-use Rattle.port_search.specs.declared.search.Attempt.{Attempt}
-use Rattle.port_search.specs.declared.search.Attempt.TheVariants as attempts
-use Rattle.port_search.specs.Search.{is_done, helds, is_free, SaysTaken, AllRefused, EndsAt, freed, connected_at, ConnectsAt, ConnectsNowhere, chosen_at, without_replaced}
-use Rattle.port_search.specs.TurnedConnect.{IsFree, IsPassed, AllPassed, ComesTo, IsCome, MakesAt, MakesNone}
+use Rattle.port_search.specs.declared.ends.Attempt.{Attempt}
+use Rattle.port_search.specs.Search.{is_done, helds, is_free, SaysTaken, AllRefused, freed, connected_at, ConnectsAt, ConnectsNowhere, chosen_at}
+use Rattle.port_search.specs.TurnedConnect.{IsPassed, AllPassed, IsCome, MakesAt, MakesNone}
 use Rattle.port_search.proofs.Standings.{free_said, free_kept, freed_kept, freed_append}
 use Rattle.port_search.proofs.TurnSearch.{still_alone}
 

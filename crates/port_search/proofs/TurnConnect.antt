@@ -1,29 +1,23 @@
 -- How a search of `connect` through shared buckets goes on, and what it comes to where nobody shares them.
-use Rattle.std.proofs.Common.{◌≡◌, ℕ, ◌+◌, ◌%◌, ◌^◌, ◌<◌, ◌≤◌, ◌⊎◌, inl, inr, Bool, true, false, cond, List, [], ◌∷◌, ◌++◌, length, map, filter, Option, Some, None, Result, Ok, Err, refl, sym, ap, subst, ◌∙◌, arith, append_assoc, append-nil, length-append}
-use Rattle.std.specs.List.{FoldsTo}
+use Rattle.std.proofs.Common.{◌≡◌, ℕ, ◌+◌, ◌%◌, ◌^◌, ◌<◌, ◌≤◌, inl, List, [], ◌∷◌, ◌++◌, length, map, Option, Some, None, refl, sym, ap, subst, ◌∙◌, arith, append_assoc, append-nil}
 use denote.Ref.{MutBor}
 use Rattle.sock_card.specs.declared.owner.Owner.{Owner}
 use Rattle.turn_table.specs.declared.note.Placed.{Placed}
 use Rattle.turn_table.specs.Journals.{placed}
 use Rattle.turn_table.specs.Passes as words
 use Rattle.turn_table.specs.Passes.{known}
-use Rattle.bind_buckets.specs.declared.request.Request.{Request}
 use Rattle.bind_buckets.specs.declared.request.Request.TheVariants as requests
 use Rattle.bind_buckets.specs.declared.request.Answer.{Answer}
 use Rattle.bind_buckets.specs.declared.request.Answer.TheVariants as answers
 use Rattle.bind_buckets.specs.declared.request.Entry.{Entry}
 use Rattle.bind_buckets.specs.Notes.{Note}
-use Rattle.bind_buckets.specs.Journal.{Standing}
-use Rattle.bind_buckets.specs.BindHash.{asked_at, answer_at}
 use Rattle.bind_buckets.specs.Bucket.{entries_of}
-use Rattle.bind_buckets.specs.Turned.{View, Hash, Pass, Gave, IsAsked, IsAlone, AreLawful, KnowsAll, hash_of}
-use Rattle.bind_buckets.proofs.HashSteps.{answered_by, asked_by, lawful_front}
-use Rattle.port_search.specs.declared.search.Attempt.{Attempt}
-use Rattle.port_search.specs.declared.search.Attempt.TheVariants as attempts
-use Rattle.port_search.specs.Search.{is_done, helds, is_free, SaysTaken, AllRefused, EndsAt, freed, connected_at, ConnectsAt, ConnectsNowhere, chosen_at, without_replaced}
-use Rattle.port_search.specs.TurnedConnect.{Tries, MayTry, IsFree, IsHeld, IsTakenThere, IsPassed, AllPassed, ComesTo, IsCome, CameAt, MakesAt, MakesNone, MakesNotYet, IsLeftOff, FindsFull, ClosedAt}
-use Rattle.port_search.proofs.Standings.{free_said, free_kept, freed_kept, freed_append}
-use Rattle.port_search.proofs.TurnSearch.{gave_none, gave_both, still_alone}
+use Rattle.bind_buckets.specs.Turned.{View, Hash, Pass, Gave}
+use Rattle.port_search.specs.declared.ends.Attempt.{Attempt}
+use Rattle.port_search.specs.declared.ends.Attempt.TheVariants as attempts
+use Rattle.port_search.specs.Search.{chosen_at}
+use Rattle.port_search.specs.TurnedConnect.{Tries, MayTry, IsFree, IsPassed, AllPassed, ComesTo, CameAt, MakesAt, MakesNone, MakesNotYet, IsLeftOff, FindsFull, ClosedAt}
+use Rattle.port_search.proofs.TurnSearch.{gave_none, gave_both}
 
 -- the entries of a turn in which an owner came
 came_two : (at place : ℕ) (p q : Entry) (v w : View) (ms : List Note) → at ≡ place → entries_of ms ≡ p ∷ q ∷ [] → Gave v w (map (placed at) ms) → (x y : Placed Entry) × (x.place ≡ place) × (x.note.entry ≡ p) × (y.place ≡ place) × (y.note.entry ≡ q) × Gave v w (x ∷ y ∷ [])

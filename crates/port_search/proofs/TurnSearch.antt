@@ -1,8 +1,7 @@
 -- How a search through shared buckets goes on, and what it comes to where nobody shares them.
-use Rattle.std.proofs.Common.{◌≡◌, ℕ, ◌+◌, ◌%◌, ◌≤◌, Bool, true, false, cond, List, [], ◌∷◌, ◌++◌, length, map, Option, Some, None, Result, Ok, Err, refl, sym, ap, subst, ◌∙◌, arith, append_assoc, append-nil, length-append}
+use Rattle.std.proofs.Common.{◌≡◌, ℕ, ◌+◌, ◌%◌, ◌≤◌, Bool, true, false, cond, List, [], ◌∷◌, ◌++◌, length, map, Some, None, Result, Ok, Err, refl, sym, ap, subst, ◌∙◌, arith, append_assoc, append-nil, length-append}
 use Rattle.std.specs.Result.{is_ok}
 use Rattle.sock_card.specs.declared.owner.Owner.{Owner}
-use Rattle.list_words.specs.Lists.{Each}
 use Rattle.list_words.proofs.EachLemmas.{each_append, each_weaken}
 use Rattle.turn_table.specs.declared.note.Placed.{Placed}
 use Rattle.turn_table.specs.Journals.{placed, number_of}
@@ -17,10 +16,10 @@ use Rattle.bind_buckets.specs.Answers.{answer_of_bind}
 use Rattle.bind_buckets.specs.Journal.{Standing}
 use Rattle.bind_buckets.specs.BindHash.{asked_at, answer_at}
 use Rattle.bind_buckets.specs.Bucket.{entries_of}
-use Rattle.bind_buckets.specs.Turned.{View, Gave, IsAsked, OneAsked, IsAlone, AreLawful, KnowsAll, hash_of}
+use Rattle.bind_buckets.specs.Turned.{View, Gave, OneAsked, IsAlone, AreLawful, KnowsAll, hash_of}
 use Rattle.bind_buckets.proofs.HashSteps.{answered_by, asked_by, lawful_front}
 use Rattle.port_search.specs.Search.{Found, FindsNone, is_done, at_port, searched}
-use Rattle.port_search.specs.Turned.{IsTaken, IsRefusal, AllRefuse, TakenAt, RefusedAt, TriedAt, BindsAt, BindsNowhere, BindsNotYet}
+use Rattle.port_search.specs.Turned.{IsRefusal, AllRefuse, TakenAt, RefusedAt, TriedAt, BindsAt, BindsNowhere, BindsNotYet}
 
 -- a pass that gave nothing
 pub gave_none : (v : View) → Gave v v []

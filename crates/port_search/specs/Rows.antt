@@ -1,15 +1,12 @@
 -- Worked examples of searches in one bucket.
-use Rattle.std.specs.Prelude.{◌≡◌, ℕ, ◌==◌, true, false, List, [], ◌∷◌, map, Some, None, Ok, Err, if◌then◌else◌}
+use Rattle.std.specs.Prelude.{◌≡◌, ℕ, true, false, List, [], ◌∷◌, map, Some, None}
 use Rattle.sock_card.specs.declared.owner.Owner.{Owner}
 use Rattle.sock_card.specs.declared.owner.State.TheVariants as states
 use Rattle.bind_buckets.specs.declared.request.Entry.{Entry}
 use Rattle.bind_buckets.specs.declared.request.Answer.{Answer}
 use Rattle.bind_buckets.specs.declared.request.Answer.TheVariants as answers
 use Rattle.bind_buckets.specs.Journal.{Standing}
-use Rattle.port_search.specs.declared.search.Attempt.{Attempt}
-use Rattle.port_search.specs.declared.search.Attempt.TheVariants as attempts
-use Rattle.port_search.specs.declared.search.SearchEnd.TheVariants as ends
-use Rattle.port_search.specs.Search.{Found, Ended, searched, connects}
+use Rattle.port_search.specs.Search.{Found, searched}
 use Rattle.bind_buckets.specs.BindHash.{untouched}
 
 -- a socket that is to have any address
@@ -54,23 +51,3 @@ pub record BindsInTurn : Type 0 where
   pub answers :
       answers_in thrice.hash
       ≡ (answers.Done ∷ answers.InUse 1 ∷ answers.Done ∷ answers.InUse 1 ∷ answers.InUse 2 ∷ []) ∷ []
-
--- at 40000 the four-tuple is taken, at 40002 the connection replaces socket 1, which has gone already
-abbrev pub attempt : ℕ → Attempt ℕ
-attempt port = if port == 40000 then attempts.Taken 9 else attempts.Done port (Some 1)
-
-abbrev pub connection : Ended ℕ
-connection = connects attempt once.hash (owner 2) (40001 ∷ 40000 ∷ 40002 ∷ [])
-
--- 40001 isn't free for `connect`, since `bind` took it
-pub record ConnectsInTurn : Type 0 where
-  pub found : connection.result ≡ Ok (40002, 40002)
-  pub answers :
-      answers_in connection.hash
-      ≡ (answers.Done ∷ answers.NotFree 1 ∷ answers.Done ∷ answers.Done ∷ answers.Done ∷ answers.Strange 1 ∷ []) ∷ []
-
--- a table without slots ends the search at the first port that is free
-abbrev pub FullInTurn : Type 0
-FullInTurn =
-    let attempt : ℕ → Attempt ℕ = λ port. attempts.Full 7 0 in
-    (connects attempt once.hash (owner 2) (40001 ∷ 40000 ∷ 40002 ∷ [])).result ≡ Err (ends.Full 7 0)

@@ -1,31 +1,19 @@
 -- Which port a search finds, and how it leaves the buckets that it asked: inet_csk_find_open_port of
 -- net/ipv4/inet_connection_sock.c, __inet_hash_connect of net/ipv4/inet_hashtables.c. That `connect` shares a port only
 -- with owners for whom it chose that is our own rule.
-use Rattle.std.specs.Prelude.{◌≡◌, ℕ, ◌≤◌, ◌%◌, Bool, true, false, not, List, [], ◌∷◌, ◌++◌, length, map, filter, replicate, slice_set, Option, None, Some, Result, Ok, Err, if◌then◌else◌}
-use Rattle.std.specs.List.{FoldsTo, list_any, range_with_len, slice_index_or}
+use Rattle.std.specs.Prelude.{◌≡◌, ℕ, ◌%◌, Bool, true, false, not, List, [], ◌∷◌, ◌++◌, length, map, filter, Option, None, Some, if◌then◌else◌}
+use Rattle.std.specs.List.{FoldsTo, list_any, slice_index_or}
 use Rattle.sock_card.specs.declared.owner.Owner.{Owner}
-use Rattle.sock_card.specs.Conflict.{overlap}
 use Rattle.bind_buckets.specs.declared.request.Request.TheVariants as requests
 use Rattle.bind_buckets.specs.declared.request.Answer.{Answer}
 use Rattle.bind_buckets.specs.declared.request.Answer.TheVariants as answers
-use Rattle.bind_buckets.specs.OwnerStep.{Held, empty, with_last, holds}
+use Rattle.bind_buckets.specs.OwnerStep.{Held, empty, holds}
 use Rattle.bind_buckets.specs.Journal.{Standing}
 use Rattle.bind_buckets.specs.BindHash.{asked_at, answer_at}
-use Rattle.bind_buckets.specs.Bucket.{Bucket, CanConnect, standing_of}
-use Rattle.port_search.specs.declared.search.Attempt.{Attempt}
-use Rattle.port_search.specs.declared.search.Attempt.TheVariants as attempts
-use Rattle.port_search.specs.declared.search.SearchEnd.{SearchEnd}
-use Rattle.port_search.specs.declared.search.SearchEnd.TheVariants as ends
-
--- the buckets of a bind hash: each has its place's number, of as many as there are
-pub record IsBindHash (buckets : List Bucket) : Type 0 where
-  pub some : 1 ≤ length buckets
-  pub numbers : map (λ (b : Bucket). b.number) buckets ≡ range_with_len 0 (length buckets)
-  pub counts : map (λ (b : Bucket). b.buckets) buckets ≡ replicate (length buckets) (length buckets)
-
--- what each bucket holds, and what it was asked
-abbrev pub standings : List Bucket → List Standing
-standings buckets = map standing_of buckets
+use Rattle.port_search.specs.declared.ends.Attempt.{Attempt}
+use Rattle.port_search.specs.declared.ends.Attempt.TheVariants as attempts
+use Rattle.port_search.specs.declared.ends.SearchEnd.{SearchEnd}
+use Rattle.port_search.specs.declared.ends.SearchEnd.TheVariants as ends
 
 abbrev pub is_done : Answer → Bool
 is_done answers.Done = true
@@ -35,24 +23,12 @@ is_done _ = false
 abbrev pub helds : List Standing → List Held
 helds hash = map (λ (s : Standing). s.held) hash
 
-abbrev pub held_in : List Bucket → List Held
-held_in buckets = helds (standings buckets)
-
 -- what the bucket of a port holds
 abbrev pub held_at : List Held → ℕ → Held
 held_at hash port = slice_index_or hash (port % length hash) empty
 
 abbrev pub at_port : Owner → ℕ → Owner
 at_port a port = record a { port = port }
-
--- no owner in the port's bucket overlaps this one there
-abbrev pub suits_bind : List Held → Owner → ℕ → Bool
-suits_bind hash a port = not (list_any (overlap (at_port a port)) (held_at hash port).owners)
-
--- the owner comes last into that port's bucket
-abbrev pub with_owner_at : List Held → Owner → ℕ → List Held
-with_owner_at hash a port =
-    slice_set hash (port % length hash) (with_last (held_at hash port) (at_port a port))
 
 -- `connect` chose the port for each of its owners
 abbrev pub is_free : List Held → ℕ → Bool
@@ -79,24 +55,10 @@ searched hash a (port ∷ rest) =
 abbrev pub FindsNone : List Standing → Owner → List ℕ → List Standing → Type 0
 FindsNone old a ports new = searched old a ports ≡ record { hash = new; port = None }
 
--- it was given up after some of the ports, all refused
-pub record FindsNoneYet (old : List Standing) (a : Owner) (ports : List ℕ) (new : List Standing) : Type 0 where
-  pub before : List ℕ
-  pub after : List ℕ
-  pub split : ports ≡ before ++ after
-  pub none : FindsNone old a before new
-
 -- the buckets of these ports, one after the other, were asked whether `connect` may choose the port
 abbrev pub freed : List Standing → List ℕ → List Standing
 freed hash [] = hash
 freed hash (port ∷ rest) = freed (asked_at hash port (requests.Free port)) rest
-
--- and the search was given up after some of the ports
-pub record FreedInPart (old : List Standing) (ports : List ℕ) (new : List Standing) : Type 0 where
-  pub before : List ℕ
-  pub after : List ℕ
-  pub split : ports ≡ before ++ after
-  pub left : new ≡ freed old before
 
 -- the owner of the socket that a connection replaced leaves the port's bucket, if there is one
 abbrev pub without_replaced : List Standing → ℕ → Option ℕ → List Standing
@@ -107,20 +69,6 @@ without_replaced hash port (Some name) = asked_at hash port (requests.RemoveWait
 abbrev pub connected_at : List Standing → Owner → ℕ → Option ℕ → List Standing
 connected_at hash a port replaced =
     without_replaced (asked_at hash port (requests.ConnectAuto (chosen_at a port))) port replaced
-
--- as this bucket stands, `connect` may choose the port, and there is room for an owner that comes and one that leaves
-pub record IsReady (port : ℕ) (b : Bucket) : Type 0 where
-  pub free : CanConnect b port
-  pub entries : 2 ≤ b.entries
-  pub newcomer : 1 ≤ b.newcomers
-
--- the port's bucket is ready so
-abbrev pub MayChoose : List Bucket → ℕ → Type 0
-MayChoose hash port = (b : Bucket) → b ≡ slice_index_or hash (port % length hash) b → IsReady port b
-
--- it has room for one entry
-abbrev pub HasEntryAt : List Bucket → ℕ → Type 0
-HasEntryAt hash port = (b : Bucket) → b ≡ slice_index_or hash (port % length hash) b → 1 ≤ b.entries
 
 -- the caller's call, asked at a port, said Taken
 abbrev pub SaysTaken : {F T : Type 0} → (F → ℕ → Attempt T → F → Type 0) → F → ℕ → F → Type 0
@@ -156,42 +104,6 @@ pub record ConnectsNowhere {F T : Type 0} (step : F → ℕ → Attempt T → F 
   pub last : F
   pub refused : AllRefused step (helds old) ports first last
   pub left : new ≡ freed old ports
-
--- the caller's call said at that port that no slot is free
-pub record FullAt {F T : Type 0} (step : F → ℕ → Attempt T → F → Type 0) (old new : List Standing) (first : F)
-    (ports : List ℕ) (owned held : ℕ) : Type 0 where
-  pub port : ℕ
-  pub ends : EndsAt step (helds old) first ports port (attempts.Full owned held)
-  pub left : new ≡ freed old (ends.before ++ port ∷ [])
-
--- a search that no slot was left for ended where the caller's call said so
-abbrev pub SaidFull : {F T : Type 0} → (F → ℕ → Attempt T → F → Type 0) → List Standing → List Standing → F → List ℕ
-    → SearchEnd → Type 0
-SaidFull step old new first ports (ends.Full owned held) = FullAt step old new first ports owned held
-SaidFull step old new first ports _ = Unit {0}
-
--- how a search of `connect` ends, and how it leaves all buckets
-pub record Ended (T : Type 0) : Type 0 where
-  pub hash : List Standing
-  pub result : Result (ℕ × T) SearchEnd
-
--- what comes of an attempt at a port, or else of the ports after it
-abbrev pub ended_by : {T : Type 0} → List Standing → Owner → ℕ → Ended T → Attempt T → Ended T
-ended_by hash a port others (attempts.Done value replaced) =
-    record { hash = connected_at hash a port replaced; result = Ok (port, value) }
-ended_by hash a port others (attempts.Taken name) = others
-ended_by hash a port others (attempts.Full owned held) = record { hash = hash; result = Err (ends.Full owned held) }
-ended_by hash a port others attempts.Memory = record { hash = hash; result = Err ends.Memory }
-
--- a search where it is known what each attempt comes to: each port's bucket is asked whether `connect` may choose the
--- port, and where it may the connection is tried there, until it isn't Taken
-abbrev pub connects : {T : Type 0} → (ℕ → Attempt T) → List Standing → Owner → List ℕ → Ended T
-connects attempt hash a [] = record { hash = hash; result = Err ends.NoPort }
-connects attempt hash a (port ∷ rest) =
-    let request = requests.Free port in
-    let after = asked_at hash port request in
-    let others = connects attempt after a rest in
-    if is_done (answer_at hash port request) then ended_by after a port others (attempt port) else others
 
 -- `bind` takes no slot
 abbrev pub IsNotFull : SearchEnd → Type 0

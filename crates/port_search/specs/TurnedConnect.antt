@@ -12,10 +12,10 @@ use Rattle.bind_buckets.specs.declared.request.Answer.TheVariants as answers
 use Rattle.bind_buckets.specs.declared.request.Entry.{Entry}
 use Rattle.bind_buckets.specs.Bucket.{CanConnect, entries_of}
 use Rattle.bind_buckets.specs.Turned.{View, Hash, Pass, Out, IsIdle, IsOut, Within, Gave, IsAsked, made}
-use Rattle.port_search.specs.declared.search.Attempt.{Attempt}
-use Rattle.port_search.specs.declared.search.Attempt.TheVariants as attempts
-use Rattle.port_search.specs.declared.search.SearchEnd.{SearchEnd}
-use Rattle.port_search.specs.declared.search.SearchEnd.TheVariants as ends
+use Rattle.port_search.specs.declared.ends.Attempt.{Attempt}
+use Rattle.port_search.specs.declared.ends.Attempt.TheVariants as attempts
+use Rattle.port_search.specs.declared.ends.SearchEnd.{SearchEnd}
+use Rattle.port_search.specs.declared.ends.SearchEnd.TheVariants as ends
 use Rattle.port_search.specs.Search.{chosen_at, SaysTaken}
 
 -- `connect` may choose the port

@@ -2,9 +2,7 @@
 
 ghost use Rattle.port_search.specs.Rows as row;
 
-/// The definitions of both searches give the worked examples.
+/// The definition of a search of `bind` gives the worked example.
 pub fn rows()
-    ensures bind { row.BindsInTurn }
-    ensures connect { row.ConnectsInTurn }
-    ensures full { row.FullInTurn }
+    ensures { row.BindsInTurn }
 {}

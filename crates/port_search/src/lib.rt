@@ -4,31 +4,30 @@
 //! Linux tries the ports of a range from an offset on: `inet_csk_find_open_port` of
 //! `net/ipv4/inet_connection_sock.c` asks the bind bucket of each whether an owner stands in the way,
 //! and `__inet_hash_connect` of `net/ipv4/inet_hashtables.c` also whether the connection's four-tuple
-//! is still to be had there. [`Ports`] are the ports in their order. [`find_bind`] and
-//! [`find_connect`] go through them over a slice of buckets: a port's bucket is the one at the place
-//! that the port leaves when divided by their number. The searches of [`turning`] go through buckets that
-//! threads share, each port in a turn of its own. It stands on `bind_buckets`, and on `flat_list` for the order.
+//! is still to be had there. [`Ports`] are the ports in their order. [`turning::find_bind`] and
+//! [`turning::find_connect`] go through them over buckets that threads share, each port in a turn of
+//! its own: a port's bucket is the one at the place that the port leaves when divided by their number.
+//! It stands on `bind_buckets`, and on `flat_list` for the order.
 //!
-//! The contracts say that the port found is the first of the order that suits, that NoPort comes only
-//! where none of all of them does, and what each bucket holds afterwards and was asked: each port that
-//! was tried adds one note to its bucket, in the order of the search.
+//! The contracts say that the port found was taken in its turn and each before it refused in its own,
+//! that NoPort comes only where each of all the ports was refused so, and which entries the search
+//! left: one for each port that was tried, in the order of the search. Of a pass that was never split
+//! they say what the search is over buckets that nobody shares.
 //!
 //! ```text
 //! let ports = Ports::new(range, offset, First::Odd);
-//! let port = find_bind(buckets, ports, owner)?;
+//! let port = turning::find_bind(&rt, &turns, &mut pass, ports, owner)?;
 //! ```
 #![tactic(auto)]
 
 #[cfg(test)]
 mod bucket_tests;
+pub mod ends;
 pub mod laws;
 pub mod ports;
-pub mod search;
-#[cfg(test)]
-mod tests;
 #[cfg(test)]
 mod turn_tests;
 pub mod turning;
 
+pub use ends::{Attempt, SearchEnd};
 pub use ports::Ports;
-pub use search::{Attempt, SearchEnd, find_bind, find_connect};

@@ -4,8 +4,8 @@ ghost use Rattle.std.specs.Prelude.{◌≡◌, ◌+◌, ◌^◌, ◌<◌, ◌≤
 ghost use Rattle.turn_table.specs.Passes as words;
 ghost use Rattle.bind_buckets.specs.Turned.{IsIdle};
 
+use crate::ends::{Attempt, SearchEnd};
 use crate::ports::Ports;
-use crate::search::{Attempt, SearchEnd};
 use crate::turning::{find_bind, find_connect};
 use bind_buckets::{Bucket, Sharing, turning};
 use flat_list::{First, Range};

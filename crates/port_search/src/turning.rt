@@ -6,18 +6,26 @@ ghost use Rattle.turn_table.specs.Passes.{known};
 ghost use Rattle.bind_buckets.specs.Callers.{MayName};
 ghost use Rattle.bind_buckets.specs.Bucket.{CanConnect, entries_of};
 ghost use Rattle.bind_buckets.specs.Turned.{View, IsIdle, IsOut, IsAlone, Within, Gave, hash_of, made};
+ghost use Rattle.port_search.specs.Search as spec;
 ghost use Rattle.port_search.specs.Search.{IsNotFull, FindsNone, ConnectsAt, ConnectsNowhere, searched};
 ghost use Rattle.port_search.specs.Turned.{TriedAt, BindsAt, BindsNowhere, BindsNotYet};
 ghost use Rattle.port_search.specs.TurnedConnect.{Opened, CameAt, Tries, MayTry, MakesAt, MakesNone, MakesNotYet, SaysFull};
 ghost use Rattle.bind_buckets.specs.declared.request.Request.TheVariants as requests;
 ghost use Rattle.bind_buckets.specs.declared.request.Answer.TheVariants as answers;
 
+use crate::ends::{Attempt, SearchEnd};
 use crate::ports::Ports;
-use crate::search::{Attempt, SearchEnd, at_port, chosen_at};
 use bind_buckets::{Bucket, turning};
 use sock_card::Owner;
 use std::sync::Wait;
 use turn_table::{Turn, TurnPass, Turns};
+
+/// The owner, at that port.
+fn at_port(owner: Owner, port: u16) -> Owner
+    ensures { result ≡ spec.at_port owner port }
+{
+    Owner { port, ..owner }
+}
 
 /// Asks the port's bucket to take in the owner, where no other overlaps it; whether it did.
 fn bind_at<R: Wait>(
@@ -115,6 +123,17 @@ fn open_at<R: Wait>(
             turning::give(turns, pass, turn);
             Err(SearchEnd::Memory)
         }
+    }
+}
+
+/// The owner, for which `connect` chose that port.
+fn chosen_at(owner: Owner, port: u16) -> Owner
+    ensures { result ≡ spec.chosen_at owner port }
+{
+    Owner {
+        port,
+        by_connect: true,
+        ..owner
     }
 }
 

@@ -16,8 +16,8 @@ use Rattle.bind_buckets.specs.OwnTold.{StandsOwn}
 use Rattle.bind_buckets.specs.Turned.{View, Gave, OneAsked}
 use Rattle.flat_list.specs.declared.command.End.{End}
 use Rattle.flat_list.specs.Owned.{bound_at}
-use Rattle.port_search.specs.declared.search.SearchEnd.{SearchEnd}
-use Rattle.port_search.specs.declared.search.SearchEnd.TheVariants as searches
+use Rattle.port_search.specs.declared.ends.SearchEnd.{SearchEnd}
+use Rattle.port_search.specs.declared.ends.SearchEnd.TheVariants as searches
 use Rattle.port_search.specs.Search.{IsNotFull, at_port}
 use Rattle.port_search.specs.Turned.{AllRefuse, BindsAt, BindsNowhere, BindsNotYet}
 use Rattle.table_model.specs.declared.operation.OpEnd.{OpEnd}

@@ -28,8 +28,8 @@ use Rattle.reuseport_group.specs.Passes.{IsSole, published}
 use Rattle.reuseport_group.specs.Words.{list_at}
 use Rattle.bind_buckets.specs.declared.request.ListenEnd.{ListenEnd}
 use Rattle.bind_buckets.specs.Answers.{answer_of_listen}
-use Rattle.port_search.specs.declared.search.SearchEnd.{SearchEnd}
-use Rattle.port_search.specs.declared.search.SearchEnd.TheVariants as searches
+use Rattle.port_search.specs.declared.ends.SearchEnd.{SearchEnd}
+use Rattle.port_search.specs.declared.ends.SearchEnd.TheVariants as searches
 use Rattle.port_search.specs.Turned.{AllRefuse, BindsAt, BindsNowhere, BindsNotYet}
 use Rattle.port_search.specs.Search.{IsNotFull}
 use Rattle.port_search.proofs.TurnSearch.{gave_none, gave_both}

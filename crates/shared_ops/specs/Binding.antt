@@ -3,8 +3,8 @@ use Rattle.std.specs.Prelude.{ℕ, Result, Ok, Err}
 use Rattle.sock_card.specs.declared.owner.Owner.{Owner}
 use Rattle.bind_buckets.specs.declared.request.InUse.{InUse}
 use Rattle.flat_list.specs.Owned.{bound_at}
-use Rattle.port_search.specs.declared.search.SearchEnd.{SearchEnd}
-use Rattle.port_search.specs.declared.search.SearchEnd.TheVariants as searches
+use Rattle.port_search.specs.declared.ends.SearchEnd.{SearchEnd}
+use Rattle.port_search.specs.declared.ends.SearchEnd.TheVariants as searches
 use Rattle.table_model.specs.declared.operation.OpEnd.{OpEnd}
 use Rattle.table_model.specs.declared.operation.OpEnd.TheVariants as errors
 use Rattle.table_model.specs.Operations.{Did, done, plain}

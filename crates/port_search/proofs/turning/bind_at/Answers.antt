@@ -1,12 +1,11 @@
-use Rattle.std.proofs.Common.{◌≡◌, ◌%◌, ◌∷◌, ◌++◌, [], List, refl, ap, sym, subst, ◌∙◌}
+use Rattle.std.proofs.Common.{◌%◌, ◌∷◌, ◌++◌, [], List, ap, sym, subst, ◌∙◌}
 use Rattle.turn_table.specs.Passes as words
 use Rattle.turn_table.specs.Passes.{known}
-use Rattle.turn_table.specs.Journals.{placed}
 use Rattle.sock_card.specs.declared.owner.Owner.{Owner}
 use Rattle.bind_buckets.specs.declared.request.Request.TheVariants as requests
 use Rattle.bind_buckets.specs.Notes.{Note}
 use Rattle.bind_buckets.specs.Bucket.{entries_of}
-use Rattle.bind_buckets.specs.Turned.{Gave, OneAsked}
+use Rattle.bind_buckets.specs.Turned.{OneAsked}
 use Rattle.bind_buckets.specs.Answers.{answer_of_bind}
 use Rattle.port_search.specs.Turned.{TriedAt}
 use Rattle.port_search.proofs.TurnSearch.{one_asked, tried_by, nothing_made}

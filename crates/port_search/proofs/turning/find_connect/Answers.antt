@@ -1,4 +1,4 @@
-use Rattle.std.proofs.Common.{rules, refl, ◌≡◌, ◌+◌, ◌^◌, ◌%◌, [], ◌∷◌, inr, Ok, length, ap, sym, subst, ◌∙◌, of_calls, arith}
+use Rattle.std.proofs.Common.{rules, refl, ◌+◌, ◌^◌, ◌%◌, [], ◌∷◌, inr, Ok, length, subst, ◌∙◌}
 use Rattle.turn_table.specs.Passes as words
 use Rattle.turn_table.specs.Passes.{known}
 use Rattle.bind_buckets.specs.declared.request.Request.TheVariants as requests

@@ -4,7 +4,7 @@ use Rattle.turn_table.specs.Passes.{known}
 use Rattle.sock_card.specs.declared.owner.Owner.{Owner}
 use Rattle.bind_buckets.specs.OwnTold.{StandsOwn}
 use Rattle.flat_list.specs.Owned.{bound_at}
-use Rattle.port_search.specs.declared.search.SearchEnd.TheVariants as searches
+use Rattle.port_search.specs.declared.ends.SearchEnd.TheVariants as searches
 use Rattle.port_search.specs.Turned.{BindsAt, BindsNowhere, BindsNotYet}
 use Rattle.table_model.specs.declared.operation.OpEnd.TheVariants as errors
 use Rattle.table_model.specs.Asking.{ends}
