@@ -1,5 +1,6 @@
-//! Tests of the top call: worked scripts, those of docs/LINUX.md and of rules beside each other, captures, generated scripts, races of one section, other words, ends that
-//! move a few bytes a call and fail in mid-stream, an input as long as the limit, and the ends over std.
+//! Tests of the top call: worked scripts, those of docs/LINUX.md and of rules beside each other, captures, generated
+//! scripts, races of one section, other words, ends that move a few bytes a call and fail in mid-stream, an input as
+//! long as the limit, and the ends over std.
 #![tactic(auto)]
 
 #[cfg(test)]

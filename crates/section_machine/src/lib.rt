@@ -1,4 +1,17 @@
 //! A section of a script at tables that threads share: its labels with their sockets, and its commands one by one.
+//!
+//! A [`Machine`] is what a section has for itself: [`Labels`] with the sockets that they name, [`Waits`] for the
+//! sockets in TIME_WAIT that it left, [`Offsets`] for where its searches begin, and its moment. [`Machine::step`]
+//! carries out one command, any but a lookup, by the operations of shared_ops on the worker that it is handed, and gives
+//! the reply. It waits for the turn of one bucket and the lock of one chain at a time.
+//!
+//! Its contract says which entries and changes it made, whoever else is at the tables: those by which the command's
+//! plan goes to that reply and to what the section keeps then, and no others.
+//!
+//! ```text
+//! let mut machine = Machine::new(alloc, &header, number);
+//! let reply = machine.step(&rt, &tables, &mut worker, &command)?;
+//! ```
 #![tactic(auto)]
 
 mod ending;

@@ -1,9 +1,9 @@
 //! Sockets that come into shared chains and leave them, each under its bucket's lock.
 //!
-//! What `established` and `listeners` do to plain chains is done here to chains that threads share: [`insert`] and
-//! [`add`] hash a socket, [`remove`] takes one out, [`time_wait`] leaves a TIME_WAIT in its place, and [`remove_tw`]
-//! ends one. Each takes one lock, walks one chain, and makes two changes at most, which lookups that lock nothing may
-//! meet at any step. They wait for a bucket's lock alone, and none takes memory.
+//! [`insert`] hashes a connected socket where nobody in its chain keeps its four-tuple from it, [`add`] a listener,
+//! [`remove`] takes a socket out, [`time_wait`] leaves a TIME_WAIT in its place, and [`remove_tw`] ends one. Each takes
+//! one lock, walks one chain, and makes two changes at most, which lookups that lock nothing may meet at any step. They
+//! wait for a bucket's lock alone, and none takes memory.
 //!
 //! ```text
 //! let inserted = insert(&chains, &rt, &mut pass, bucket, from, &newcomer)?;

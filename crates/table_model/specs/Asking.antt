@@ -1,6 +1,6 @@
 -- Plans: what an operation asks of bind buckets and of chains, one question after the other, and what it comes to by
--- their answers. A plan has no table in it, so the same one says what is done by plain tables and, later, by shared
--- ones. Our own form.
+-- their answers. A plan has no table in it: the same one is carried out on tables that nobody shares, by a definition
+-- (`run`), and gone through by the operations on tables that threads share. Our own form.
 use Rattle.std.specs.Prelude.{ℕ, Bool}
 use Rattle.sock_card.specs.declared.card.Card.{Card}
 use Rattle.bind_buckets.specs.declared.request.Request.{Request}
