@@ -8,10 +8,10 @@ use std::test::Fail;
 use std::thread::Threads;
 
 /// A listener, and a capture behind it.
-const LISTENER: &str = "script 1\nsocket a\nbind a 0.0.0.0:80\nlisten a\ncapture\n";
+pub const LISTENER: &str = "script 1\nsocket a\nbind a 0.0.0.0:80\nlisten a\ncapture\n";
 
 /// What is written for the listener's commands.
-const LISTENING: &str = "1 socket a ok\n1 bind a ok 80\n1 listen a ok 80\n";
+pub const LISTENING: &str = "1 socket a ok\n1 bind a ok 80\n1 listen a ok 80\n";
 
 /// A header of an Ethernet capture from a machine with the lowest byte first.
 pub const HEADER: &str = "d4c3b2a1 0200 0400 00000000 00000000 ffff0000 01000000";
@@ -32,7 +32,7 @@ pub const RECORDS: &str = "
     00000000 00000000";
 
 /// A section of pcapng with an Ethernet interface and a packet, but for its last four bytes.
-const BLOCKS: &str = "
+pub const BLOCKS: &str = "
     0a0d0d0a 1c000000 4d3c2b1a 0100 0000 ffffffffffffffff 1c000000
     01000000 14000000 0100 0000 00000000 14000000
     06000000 48000000 00000000 00000000 00000000 26000000 26000000

@@ -1,10 +1,14 @@
 //! Tests of the top call: worked scripts, those of docs/LINUX.md and of rules beside each other, captures, generated
-//! scripts, races of one section, other words, ends that move a few bytes a call and fail in mid-stream, an input as
-//! long as the limit, and the ends over std.
+//! scripts, races of one section and of many, other words, ends that move a few bytes a call and fail at each, inputs
+//! that are cut at each byte or as long as the limit, and the ends over std.
 #![tactic(auto)]
 
 #[cfg(test)]
 mod captures;
+#[cfg(test)]
+mod crowds;
+#[cfg(test)]
+mod cuts;
 #[cfg(test)]
 mod engines;
 #[cfg(test)]

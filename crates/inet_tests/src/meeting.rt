@@ -1,4 +1,4 @@
-//! A race whose workers are there at once.
+//! Races whose workers are held until others have come as far.
 
 use crate::captures::{HEADER, RECORDS, input_of};
 use crate::tests::words_of;
@@ -11,13 +11,19 @@ use std::sync::atomic::{AtomicU64, Ordering};
 use std::test::Fail;
 use std::thread::Threads;
 
-const WORDS: [&str; 6] = ["inet", "race", "--lookers", "2", "--passes", "1"];
-
-/// Two sections, and a capture for two lookers.
-const SCRIPT: &str = "script 1\nsocket a\nsocket b\nscript 2\nsocket c\nsocket d\ncapture\n";
-
 /// How often a worker looks whether the others have come.
 const TURNS: u64 = 1_000_000_000;
+
+/// Whether so many came before the turns were used up.
+fn came(here: &AtomicU64, count: u64) -> bool {
+    for _ in 0..TURNS {
+        if here.load(Ordering::SeqCst) >= count {
+            return true;
+        }
+        hint::spin_loop();
+    }
+    false
+}
 
 /// Holds each of four workers until all four are there, or until its turns are used up.
 #[derive(Drop)]
@@ -40,46 +46,86 @@ impl Meeting {
             }
         }
     }
-
-    fn meet(&self) {
-        let _before = self.here.fetch_add(1, Ordering::SeqCst);
-        for _ in 0..TURNS {
-            if self.here.load(Ordering::SeqCst) >= 4 {
-                return;
-            }
-            hint::spin_loop();
-        }
-        let _before = self.late.fetch_add(1, Ordering::SeqCst);
-    }
 }
 
 impl Gate for Meeting {
     fn pass(&self, who: Who, at: u64) {
         if self.is_held(who, at) {
-            self.meet();
+            self.here.fetch_add(1, Ordering::SeqCst);
+            if !came(&self.here, 4) {
+                self.late.fetch_add(1, Ordering::SeqCst);
+            }
         }
     }
 }
 
-/// The status of the race, and how many of its workers waited in vain.
-fn race(rt: &(impl Threads + Wait + Sync + AllocGlobal)) -> Result<(Status, u64), AllocError> {
+/// Holds the looker before its first packet until the section has come to its third command, or until its turns are
+/// used up.
+#[derive(Drop)]
+struct Held {
+    here: AtomicU64,
+    late: AtomicU64,
+}
+
+impl Gate for Held {
+    fn pass(&self, who: Who, at: u64) {
+        match (who, at) {
+            (Who::Script(1), 3) => {
+                self.here.fetch_add(1, Ordering::SeqCst);
+            }
+            (Who::Looker(1), 1) if !came(&self.here, 1) => {
+                self.late.fetch_add(1, Ordering::SeqCst);
+            }
+            _ => {}
+        }
+    }
+}
+
+/// The status of a race of the script with a capture of four packets, and what it writes.
+fn race<G: Gate>(
+    rt: &(impl Threads + Wait + Sync + AllocGlobal),
+    lookers: &str,
+    script: &str,
+    gate: &G,
+) -> Result<(Status, Vec<u8>), AllocError> {
     let alloc = rt.alloc();
+    let words = ["inet", "race", "--lookers", lookers, "--passes", "1"];
+    let words = words_of(alloc, &words)?;
+    let input = input_of(alloc, script, &[HEADER, RECORDS])?;
+    let mut source = MemSource::new(input, 4096, Vec::new(alloc));
+    let mut sink = MemSink::new(alloc, 4096, Vec::new(alloc));
+    let status = inet(rt, alloc, &words, &mut source, &mut sink, gate);
+    Ok((status, sink.bytes().to_vec(alloc)?))
+}
+
+#[test]
+fn all_workers_are_there_at_once(rt: HostRuntime) -> Result<(), Fail> {
     let gate = Meeting {
         here: AtomicU64::new(0),
         late: AtomicU64::new(0),
         seen: AtomicU64::new(0),
     };
-    let words = words_of(alloc, &WORDS)?;
-    let input = input_of(alloc, SCRIPT, &[HEADER, RECORDS])?;
-    let mut source = MemSource::new(input, 4096, Vec::new(alloc));
-    let mut sink = MemSink::new(alloc, 4096, Vec::new(alloc));
-    let status = inet(rt, alloc, &words, &mut source, &mut sink, &gate);
-    Ok((status, gate.late.load(Ordering::SeqCst)))
+    let script = "script 1\nsocket a\nsocket b\nscript 2\nsocket c\nsocket d\ncapture\n";
+    let (status, _) = race(&rt, "2", script, &gate)?;
+    assert!(rt; status == Status::Done && gate.late.load(Ordering::SeqCst) == 0);
+    Ok(())
 }
 
 #[test]
-fn all_workers_are_there_at_once(rt: HostRuntime) -> Result<(), Fail> {
-    let (status, late) = race(&rt)?;
-    assert!(rt; status == Status::Done && late == 0);
+fn a_looker_waits_for_a_section(rt: HostRuntime) -> Result<(), Fail> {
+    let gate = Held {
+        here: AtomicU64::new(0),
+        late: AtomicU64::new(0),
+    };
+    let script =
+        "table slots 2 bind 1 hash 1 listen 1\nscript 1\nsocket a\nbind a 10.0.0.1:80\nlisten a\ncapture\n";
+    let (status, written) = race(&rt, "1", script, &gate)?;
+    assert!(rt; status == Status::Done && gate.late.load(Ordering::SeqCst) == 0);
+    // Whether the packets find the listener hangs on the schedule.
+    let begin =
+        b"race lookers 1 passes 1\nshape 2 1 1 1\n1 socket a ok\n1 bind a ok 80\n1 listen a ok 80\n\
+        journal 0 3\nlife 1 0 listen 1.a 10.0.0.1:80 0.0.0.0:0 dev 0 hash 0 1 unhash -\npacket 1 ";
+    assert!(rt; written.starts_with(begin));
+    assert!(rt; written.ends_with(b"\npacket 4 skip\ncut\nclock 2\n"));
     Ok(())
 }

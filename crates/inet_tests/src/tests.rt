@@ -8,18 +8,18 @@ use std::test::Fail;
 use std::thread::Threads;
 
 /// Two sockets that want one port, of which the second is refused.
-const SCRIPT: &str = "script 1\nsocket a\nsocket b\nbind a 0.0.0.0:80\nbind b 10.0.0.1:80\n";
+pub const SCRIPT: &str = "script 1\nsocket a\nsocket b\nbind a 0.0.0.0:80\nbind b 10.0.0.1:80\n";
 
 /// What is written for that script.
-const OUTPUT: &str = "1 socket a ok\n1 socket b ok\n1 bind a ok 80\n1 bind b EADDRINUSE\n";
+pub const OUTPUT: &str = "1 socket a ok\n1 socket b ok\n1 bind a ok 80\n1 bind b EADDRINUSE\n";
 
 /// How many bytes a call of each end moves at most, and which calls fail.
 #[derive(Clone, Copy)]
 pub struct Ends<'a> {
-    most_read: usize,
-    failing_reads: &'a [u64],
-    most_written: usize,
-    failing_writes: &'a [u64],
+    pub most_read: usize,
+    pub failing_reads: &'a [u64],
+    pub most_written: usize,
+    pub failing_writes: &'a [u64],
 }
 
 /// Ends that never fail.
@@ -206,7 +206,7 @@ pub fn call(
 }
 
 /// The same for `inet run`.
-fn run(
+pub fn run(
     rt: &(impl Threads + Wait + Sync + AllocGlobal),
     input: &str,
     ends: Ends<'_>,
@@ -405,57 +405,6 @@ fn counts_that_cant_be_written_are_told(rt: HostRuntime) -> Result<(), Fail> {
     let (status, written) = call(&rt, &["inet", "make", "1", "0"], Vec::new(rt.alloc()), ends)?;
     assert!(rt; status == Status::WriteFault);
     assert_eq!(rt; written.as_slice(), b"comm".as_slice());
-    Ok(())
-}
-
-#[test]
-fn a_read_that_fails_leaves_nothing_written(rt: HostRuntime) -> Result<(), Fail> {
-    let input = "script 1\nsocket a\n";
-    // The bytes one by one, and then the read that finds the end.
-    let reads = 19;
-    for k in 1..=reads {
-        let ends = Ends {
-            most_read: 1,
-            failing_reads: &[k],
-            ..PLAIN
-        };
-        let answer = run(&rt, input, ends)?;
-        assert!(rt; answer.0 == Status::ReadFault, "read {k}");
-        assert!(rt; answer.1.is_empty());
-    }
-    let ends = Ends {
-        most_read: 1,
-        failing_reads: &[reads + 1],
-        ..PLAIN
-    };
-    let answer = run(&rt, input, ends)?;
-    assert!(rt; answer.0 == Status::Done);
-    assert_eq!(rt; answer.1.as_slice(), b"1 socket a ok\n".as_slice());
-    Ok(())
-}
-
-#[test]
-fn a_write_that_fails_leaves_what_was_taken(rt: HostRuntime) -> Result<(), Fail> {
-    let rows: [(&str, &[u8]); 3] = [
-        (SCRIPT, OUTPUT.as_bytes()),
-        ("socket", b"bad script line 1\n"),
-        ("capture\nabc", b"bad capture\n"),
-    ];
-    for (input, whole) in rows {
-        for most in 1..=3usize {
-            for k in 1..=4u64 {
-                let ends = Ends {
-                    most_written: most,
-                    failing_writes: &[k],
-                    ..PLAIN
-                };
-                let answer = run(&rt, input, ends)?;
-                let taken = most.saturating_mul(k as usize - 1).min(whole.len());
-                assert!(rt; answer.0 == Status::WriteFault, "most {most}, write {k}");
-                assert_eq!(rt; answer.1.as_slice(), &whole[..taken]);
-            }
-        }
-    }
     Ok(())
 }
 
