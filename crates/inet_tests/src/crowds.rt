@@ -12,18 +12,19 @@ use std::thread::Threads;
 
 const WORDS: [&str; 6] = ["inet", "race", "--lookers", "2", "--passes", "2"];
 
-/// A table of one slot, and a section that wants it for a listener, its child, a connection and a TIME_WAIT.
+/// A table of one slot,
 const SLOT: &str = "table slots 1 bind 1 hash 1 listen 1\n";
 
+/// and a section that wants it for a listener, its child, a connection and a TIME_WAIT.
 const SLOT_SECTION: &str =
     "socket l\nbind l 10.0.0.1:80\nlisten l\naccept l c from 10.0.0.2:1000 at 10.0.0.1:80\n\
     drop l\naccept l d from 10.0.0.2:1000 at 10.0.0.1:80\nsocket k\nbind k 10.0.0.1:90\nconnect k to 10.0.0.2:80\n\
     close k\n";
 
-/// Sections that search one range of two ports, each with how its lines end where it gets the one port, the other, or
-/// none.
+/// A range of two ports,
 const PORTS: &str = "range 40000 40001\n";
 
+/// and sections that search it, each with how its lines end where it gets the one port, the other, or none.
 const PORT_SECTIONS: [(&str, [&str; 3]); 3] = [
     (
         "socket a\nbind a 0.0.0.0:0\n",
