@@ -1,0 +1,7 @@
+pub mod Prefixes
+pub mod Order
+pub mod Clear
+pub mod Faults
+pub mod Defaults
+pub mod Lives
+pub mod Serial

@@ -1,0 +1,51 @@
+-- Tests of the first so many lines.
+use Rattle.std.proofs.Common.{ℕ, ◌+◌, ◌<◌, List, [], ◌∷◌, ◌++◌, take, length, get_or, sym, subst}
+use Rattle.std.proofs.lemmas.List.{take_more}
+use Rattle.list_words.specs.Lists.{Each, Pairs}
+use Rattle.list_words.proofs.EachLemmas.{each_push}
+use Rattle.list_words.proofs.PairsLemmas.{pairs_push}
+
+module _ {A : Type 0} where
+  pub each_front : (P : A → Type 0) (xs ys : List A) → Each P (xs ++ ys) → Each P xs
+  each_front P [] ys e = tt
+  each_front P (x ∷ xs) ys e = (e.0, each_front P xs ys e.1)
+
+  pub each_back : (P : A → Type 0) (xs ys : List A) → Each P (xs ++ ys) → Each P ys
+  each_back P [] ys e = e
+  each_back P (x ∷ xs) ys e = each_back P xs ys e.1
+
+  pub pairs_front : (R : A → A → Type 0) (xs ys : List A) → Pairs R (xs ++ ys) → Pairs R xs
+  pairs_front R [] ys e = tt
+  pairs_front R (x ∷ xs) ys e = (each_front (R x) xs ys e.0, pairs_front R xs ys e.1)
+
+  pub pairs_across : (R : A → A → Type 0) (xs ys : List A) → Pairs R (xs ++ ys) → Each (λ x. Each (R x) ys) xs
+  pairs_across R [] ys e = tt
+  pairs_across R (x ∷ xs) ys e = (each_back (R x) xs ys e.0, pairs_across R xs ys e.1)
+
+  pub pairs_back : (R : A → A → Type 0) (xs ys : List A) → Pairs R (xs ++ ys) → Pairs R ys
+  pairs_back R [] ys e = e
+  pairs_back R (x ∷ xs) ys e = pairs_back R xs ys e.1
+
+  heads : (R : A → A → Type 0) (x : A) (xs : List A) → Each (λ y. Each (R y) (x ∷ [])) xs → Each (λ y. R y x) xs
+  heads R x [] e = tt
+  heads R x (y ∷ ys) e = (e.0.0, heads R x ys e.1)
+
+  -- one line more, and what that says of it
+  pub each_line : (P : A → Type 0) (xs : List A) (i : ℕ) (d : A) → i < length xs → Each P (take i xs) → P (get_or xs i d) → Each P (take (i + 1) xs)
+  each_line P xs i d l e p = subst (λ ys. Each P ys) (sym (take_more xs i d l)) (each_push P (take i xs) (get_or xs i d) e p)
+
+  pub each_last : (P : A → Type 0) (xs : List A) (i : ℕ) (d : A) → i < length xs → Each P (take (i + 1) xs) → P (get_or xs i d)
+  each_last P xs i d l e =
+      (each_back P (take i xs) (get_or xs i d ∷ []) (subst (λ ys. Each P ys) (take_more xs i d l) e)).0
+
+  pub pairs_line : (R : A → A → Type 0) (xs : List A) (i : ℕ) (d : A) → i < length xs → Pairs R (take i xs) → Each (λ y. R y (get_or xs i d)) (take i xs) → Pairs R (take (i + 1) xs)
+  pairs_line R xs i d l e p = subst (λ ys. Pairs R ys) (sym (take_more xs i d l)) (pairs_push R (take i xs) (get_or xs i d) e p)
+
+  pub pairs_last : (R : A → A → Type 0) (xs : List A) (i : ℕ) (d : A) → i < length xs → Pairs R (take (i + 1) xs) → Each (λ y. R y (get_or xs i d)) (take i xs)
+  pairs_last R xs i d l e = heads R (get_or xs i d) (take i xs)
+      (pairs_across R (take i xs) (get_or xs i d ∷ []) (subst (λ ys. Pairs R ys) (take_more xs i d l) e))
+
+  -- one line has no other beside it
+  pub pairs_one : (R : A → A → Type 0) (xs : List A) → Pairs R (take 1 xs)
+  pairs_one R [] = tt
+  pairs_one R (x ∷ xs) = (tt, tt)

@@ -1,0 +1,18 @@
+-- What follows from the tests of a printed race.
+use Rattle.std.specs.Prelude.{◌≡◌}
+use Rattle.race_book.specs.Among.{Among}
+use Rattle.race_book.specs.Serial.{IsSerial}
+use Rattle.book_audit.specs.declared.printed.Printed.{Printed}
+use Rattle.book_audit.specs.declared.printed.Finding.{Finding}
+use Rattle.book_audit.specs.declared.printed.Finding.TheVariants as findings
+use Rattle.book_audit.specs.Book.{book_of}
+use Rattle.book_audit.specs.Findings.{IsFinding}
+
+-- the changes of the lives of a sound race are serial
+abbrev pub SoundIsSerial : Type 0
+SoundIsSerial =
+    (p : Printed) → IsFinding p findings.Sound → IsSerial (Among (book_of p.lives.items)) p.shape p.seed
+
+-- of each race there is one finding
+abbrev pub OneFinding : Type 0
+OneFinding = (p : Printed) (f g : Finding) → IsFinding p f → IsFinding p g → f ≡ g

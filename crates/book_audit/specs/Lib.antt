@@ -1,0 +1,7 @@
+-- What the contracts of this crate and of those above it cite.
+pub mod Book
+pub mod Lines
+pub mod Looks
+pub mod Findings
+pub mod Stays
+pub mod Laws

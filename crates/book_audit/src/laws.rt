@@ -1,0 +1,8 @@
+//! What follows from the tests of a printed race.
+
+ghost use Rattle.book_audit.specs.Laws as law;
+
+/// The changes of a sound race's lives are serial.
+pub fn sound_is_serial()
+    ensures { law.SoundIsSerial }
+{}

@@ -1,0 +1,14 @@
+//! A judge of the race that a text tells.
+#![tactic(auto)]
+
+pub mod clashes;
+pub mod homes;
+pub mod laws;
+pub mod lines;
+pub mod printed;
+pub mod stamps;
+pub mod stays;
+
+pub use printed::{
+    Finding, Printed, PrintedAnswer, PrintedEnd, PrintedLife, PrintedLook, PrintedPacket, Span, Why,
+};
