@@ -1,5 +1,5 @@
 -- The first line that fails a test, once those before it passed.
-use Rattle.std.proofs.Common.{◌≡◌, ℕ, ◌+◌, ◌<◌, ◌||◌, Bool, true, false, List, [], ◌∷◌, take, length, get_or, refl, sym, ◌∙◌}
+use Rattle.std.proofs.Common.{◌≡◌, ℕ, ◌+◌, ◌<◌, ◌||◌, Bool, true, false, List, [], ◌∷◌, take, length, get_or, refl, subst, sym, ◌∙◌}
 use Rattle.std.specs.List.{list_any, list_all}
 use Rattle.std.proofs.lemmas.Bool.{true≢false}
 use Rattle.list_words.specs.Lists.{Each}
@@ -51,3 +51,12 @@ module _ (clock : ℕ) (lives : List PrintedLife) (at : ℕ) (d : PrintedLife) (
 pub each_all : {A : Type 0} (test : A → Bool) (xs : List A) → list_all test xs ≡ true → Each (λ x. test x ≡ true) xs
 each_all test [] e = tt
 each_all test (x ∷ xs) e = (and_left (test x) (list_all test xs) e, each_all test xs (and_right (test x) (list_all test xs) e))
+
+-- the same of a list that was read as another
+pub each_line_of : {A : Type 0} (P : A → Type 0) (xs ys : List A) (at : ℕ) (d : A) → ys ≡ xs → at < length ys → Each P (take at xs) → P (get_or ys at d) → Each P (take (at + 1) xs)
+each_line_of P xs ys at d same l e p =
+    each_line P xs at d (subst (λ zs. at < length zs) same l) e (subst (λ zs. P (get_or zs at d)) same p)
+
+pub each_fails_of : {A : Type 0} (P : A → Type 0) (xs ys : List A) (at : ℕ) (d : A) → ys ≡ xs → at < length ys → Each P (take at xs) → (P (get_or ys at d) → ⊥) → FailsAt (Each P) xs at
+each_fails_of P xs ys at d same l e n =
+    each_fails P xs at d (subst (λ zs. at < length zs) same l) e (λ p. n (subst (λ zs. P (get_or zs at d)) (sym same) p))

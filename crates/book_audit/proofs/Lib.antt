@@ -5,3 +5,6 @@ pub mod Faults
 pub mod Defaults
 pub mod Lives
 pub mod Serial
+pub mod Looked
+pub mod Changes
+pub mod Verdicts

@@ -2,6 +2,7 @@
 pub mod Book
 pub mod Lines
 pub mod Looks
+pub mod Tried
 pub mod Findings
 pub mod Stays
 pub mod Laws

@@ -6,3 +6,8 @@ ghost use Rattle.book_audit.specs.Laws as law;
 pub fn sound_is_serial()
     ensures { law.SoundIsSerial }
 {}
+
+/// Of each race there is one finding.
+pub fn one_finding()
+    ensures { law.OneFinding }
+{}

@@ -2,10 +2,14 @@
 #![tactic(auto)]
 
 pub mod clashes;
+pub mod counts;
 pub mod homes;
+pub mod judge;
 pub mod laws;
 pub mod lines;
+pub mod looks;
 pub mod printed;
+pub mod receipts;
 pub mod stamps;
 pub mod stays;
 

@@ -103,7 +103,8 @@ pub fn overlap(life: &PrintedLife, other: &PrintedLife) -> bool
     life.bucket == other.bucket && changes_meet(life, other)
 }
 
-fn is_out(life: &PrintedLife, number: u64) -> bool
+/// Whether a life is on its way out before that number.
+pub fn is_out(life: &PrintedLife, number: u64) -> bool
     ensures { result ≡ spec.is_out life.now number }
 {
     match &life.unhash {

@@ -1,0 +1,181 @@
+//! Whether the lives explain what came of a packet.
+
+ghost use Rattle.std.specs.Prelude.{◌≡◌, ◌<◌, ◌≤◌, ◌+◌, ◌^◌};
+ghost use Rattle.std.specs.List.{list_any};
+ghost use Rattle.book_audit.specs.Lines.{some_span};
+ghost use Rattle.book_audit.specs.Tried as spec;
+
+use crate::lines::is_out;
+use crate::printed::{
+    Printed, PrintedAnswer, PrintedEnd, PrintedLife, PrintedLook, PrintedPacket, Span,
+};
+use chain_book::{Shape, listen_home, packet_home};
+use sock_card::{Kind, Packet, rank};
+
+fn same_kind(one: Kind, other: Kind) -> bool
+    ensures { result ≡ spec.same_kind one other }
+{
+    match one {
+        Kind::Full => matches!(other, Kind::Full),
+        Kind::TimeWait => matches!(other, Kind::TimeWait),
+        Kind::Listen => matches!(other, Kind::Listen),
+    }
+}
+
+fn met(look: &PrintedLook, span: &Span) -> bool
+    ensures { result ≡ spec.met look.now span.now }
+{
+    span.begin < look.t1 && look.t0 <= span.end
+}
+
+fn some_change_met(look: &PrintedLook, life: &PrintedLife) -> bool
+    ensures { result ≡ some_span (spec.met look.now) life.now }
+{
+    met(look, &life.hash)
+        || match &life.unhash {
+            None => false,
+            Some(unhash) => met(look, unhash),
+        }
+}
+
+fn was_throughout(look: &PrintedLook, life: &PrintedLife) -> bool
+    ensures { result ≡ spec.was_throughout look.now life.now }
+{
+    life.hash.end < look.t0 && !is_out(life, look.t1)
+}
+
+fn has_stood(look: &PrintedLook, life: &PrintedLife) -> bool
+    ensures { result ≡ spec.has_stood look.now life.now }
+{
+    life.hash.begin < look.t1
+        && !match &life.unhash {
+            None => false,
+            Some(unhash) => unhash.end < look.t0,
+        }
+}
+
+fn beats(look: &PrintedLook, least: u8, life: &PrintedLife) -> bool
+    ensures { result ≡ spec.beats look.now least life.now }
+{
+    least <= rank(&life.card, &look.packet) && was_throughout(look, life)
+}
+
+fn is_beaten(lives: &[PrintedLife], look: &PrintedLook, least: u8) -> bool
+    ensures { result ≡ spec.is_beaten lives.now look.now least }
+{
+    lives.iter().any(|life| beats(look, least, life))
+}
+
+fn is_found(
+    lives: &[PrintedLife],
+    look: &PrintedLook,
+    kind: Kind,
+    name: u32,
+    life: &PrintedLife,
+) -> bool
+    ensures { result ≡ spec.is_found lives.now look.now kind name life.now }
+{
+    let own = rank(&life.card, &look.packet);
+    same_kind(life.card.kind, kind)
+        && life.card.name == name
+        && has_stood(look, life)
+        && 1 <= own
+        && !is_beaten(lives, look, own + 1)
+}
+
+fn any_found(lives: &[PrintedLife], look: &PrintedLook, kind: Kind, name: u32) -> bool
+    ensures { result ≡ list_any (spec.is_found lives.now look.now kind name) lives.now }
+{
+    lives
+        .iter()
+        .any(|life| is_found(lives, look, kind, name, life))
+}
+
+fn hashes_into(look: &PrintedLook, bucket: u64, life: &PrintedLife) -> bool
+    ensures { result ≡ spec.hashes_into look.now bucket life.now }
+{
+    life.bucket == bucket && met(look, &life.hash)
+}
+
+fn any_hashes_into(lives: &[PrintedLife], look: &PrintedLook, bucket: u64) -> bool
+    ensures { result ≡ list_any (spec.hashes_into look.now bucket) lives.now }
+{
+    lives.iter().any(|life| hashes_into(look, bucket, life))
+}
+
+fn any_hashes(lives: &[PrintedLife], look: &PrintedLook) -> bool
+    ensures { result ≡ list_any (spec.hashes look.now) lives.now }
+{
+    lives.iter().any(|life| met(look, &life.hash))
+}
+
+fn changes_in(look: &PrintedLook, slot: u64, life: &PrintedLife) -> bool
+    ensures { result ≡ spec.changes_in look.now slot life.now }
+{
+    life.slot == slot && some_change_met(look, life)
+}
+
+fn any_changes_in(lives: &[PrintedLife], look: &PrintedLook, slot: u64) -> bool
+    ensures { result ≡ list_any (spec.changes_in look.now slot) lives.now }
+{
+    lives.iter().any(|life| changes_in(look, slot, life))
+}
+
+fn may_end(
+    slots: u32,
+    lives: &[PrintedLife],
+    look: &PrintedLook,
+    bucket: u64,
+    end: &PrintedEnd,
+) -> bool
+    ensures { result ≡ spec.may_end slots lives.now look.now bucket end.now }
+{
+    match *end {
+        PrintedEnd::Foreign(other) => { other != bucket && any_hashes_into(lives, look, other) }
+        PrintedEnd::Dead(slot) => any_changes_in(lives, look, slot),
+        PrintedEnd::Changed(slot) => any_changes_in(lives, look, slot),
+        PrintedEnd::Long(count) => { count == u64::from(slots) + 1 && any_hashes(lives, look) }
+    }
+}
+
+fn is_bucket_of(shape: &Shape, seed: u32, packet: &Packet, bucket: u64) -> bool
+    requires hash { 0 < shape.now.hash }
+    requires listen { 0 < shape.now.listen }
+    requires fits { shape.now.hash + shape.now.listen < 2 ^ 32 }
+    ensures { result ≡ spec.is_bucket_of shape.now seed packet.now bucket }
+{
+    bucket == u64::from(packet_home(shape, seed, packet))
+        || bucket == u64::from(listen_home(shape, seed, packet.dst, packet.dport))
+        || bucket == u64::from(listen_home(shape, seed, 0, packet.dport))
+}
+
+fn explains(shape: &Shape, seed: u32, lives: &[PrintedLife], look: &PrintedLook) -> bool
+    requires hash { 0 < shape.now.hash }
+    requires listen { 0 < shape.now.listen }
+    requires fits { shape.now.hash + shape.now.listen < 2 ^ 32 }
+    ensures { result ≡ spec.explains shape.now seed lives.now look.now look.now.answer }
+{
+    match &look.answer {
+        PrintedAnswer::Found(kind, name) => { any_found(lives, look, *kind, *name) }
+        PrintedAnswer::None => !is_beaten(lives, look, 1),
+        PrintedAnswer::Again(bucket, end) => {
+            is_bucket_of(shape, seed, &look.packet, *bucket)
+                && may_end(shape.slots, lives, look, *bucket, end)
+        }
+    }
+}
+
+/// Whether the lives explain the line of a packet.
+///
+/// Compares each life with the packet, and where several lives may be the one that was found, with each of those.
+pub fn is_explained(printed: &Printed, packet: &PrintedPacket) -> bool
+    requires hash { 0 < printed.now.shape.hash }
+    requires listen { 0 < printed.now.shape.listen }
+    requires fits { printed.now.shape.hash + printed.now.shape.listen < 2 ^ 32 }
+    ensures { result ≡ spec.line_explained printed.now.shape printed.now.seed printed.now.lives.items packet.now }
+{
+    match packet {
+        PrintedPacket::Passed => true,
+        PrintedPacket::Looked(look) => explains(&printed.shape, printed.seed, &printed.lives, look),
+    }
+}
