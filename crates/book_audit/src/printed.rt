@@ -59,6 +59,7 @@ pub enum PrintedPacket {
 
 /// What the text of a race tells: the shape of its tables and the seed of their hashes, its lives and packets line by
 /// line, how many of the replies drew a number of the clock in vain, and the clock after all.
+#[derive(Drop)]
 pub struct Printed {
     pub shape: Shape,
     pub seed: u32,
