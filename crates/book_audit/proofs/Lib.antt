@@ -8,3 +8,5 @@ pub mod Serial
 pub mod Looked
 pub mod Changes
 pub mod Verdicts
+pub mod Marks
+pub mod Faces

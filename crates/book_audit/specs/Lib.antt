@@ -6,3 +6,4 @@ pub mod Tried
 pub mod Findings
 pub mod Stays
 pub mod Laws
+pub mod Index

@@ -40,7 +40,8 @@ pub fn clashes_with(clash: Clash, earlier: &[PrintedLife], life: &PrintedLife) -
     earlier.iter().any(|other| clashes(clash, other, life))
 }
 
-fn begin_of(unhash: &Option<Span>) -> Option<u64>
+/// The number at which an unhash begins.
+pub fn begin_of(unhash: &Option<Span>) -> Option<u64>
     ensures { result ≡ spec.begin_of unhash.now }
 {
     match unhash {

@@ -42,7 +42,7 @@ pub fn judge(alloc: Global, printed: &Printed) -> Result<Finding, AllocError>
     if let Some(at) = first_clash(alloc, Clash::Twin, lives)? {
         return Ok(Finding::Wrong { why: Why::Twin, at });
     }
-    if let Some(at) = first_unexplained(printed) {
+    if let Some(at) = first_unexplained(alloc, printed)? {
         return Ok(Finding::Wrong {
             why: Why::Receipt,
             at,

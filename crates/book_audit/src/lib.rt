@@ -4,6 +4,7 @@
 pub mod clashes;
 pub mod counts;
 pub mod homes;
+pub mod index;
 pub mod judge;
 pub mod laws;
 pub mod lines;

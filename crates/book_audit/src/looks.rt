@@ -1,16 +1,25 @@
 //! Whether the lives explain what came of a packet.
 
-ghost use Rattle.std.specs.Prelude.{◌≡◌, ◌<◌, ◌≤◌, ◌+◌, ◌^◌};
+ghost use Rattle.std.specs.Prelude.{◌≡◌, ◌<◌, ◌+◌, ◌^◌, IsTrue, true};
 ghost use Rattle.std.specs.List.{list_any};
 ghost use Rattle.book_audit.specs.Lines.{some_span};
+ghost use Rattle.book_audit.specs.Index.{IsIndex};
 ghost use Rattle.book_audit.specs.Tried as spec;
 
+use crate::index::{Index, is_unbeaten};
 use crate::lines::is_out;
 use crate::printed::{
     Printed, PrintedAnswer, PrintedEnd, PrintedLife, PrintedLook, PrintedPacket, Span,
 };
 use chain_book::{Shape, listen_home, packet_home};
 use sock_card::{Kind, Packet, rank};
+
+/// The kind and name by which a found card is told.
+#[derive(Clone, Copy, Debug, PartialEq, Eq)]
+pub struct Told {
+    pub kind: Kind,
+    pub name: u32,
+}
 
 fn same_kind(one: Kind, other: Kind) -> bool
     ensures { result ≡ spec.same_kind one other }
@@ -60,35 +69,75 @@ fn beats(look: &PrintedLook, least: u8, life: &PrintedLife) -> bool
     least <= rank(&life.card, &look.packet) && was_throughout(look, life)
 }
 
-fn is_beaten(lives: &[PrintedLife], look: &PrintedLook, least: u8) -> bool
+fn is_beaten_by_any(lives: &[PrintedLife], look: &PrintedLook, least: u8) -> bool
     ensures { result ≡ spec.is_beaten lives.now look.now least }
 {
     lives.iter().any(|life| beats(look, least, life))
 }
 
-fn is_found(
-    lives: &[PrintedLife],
-    look: &PrintedLook,
-    kind: Kind,
-    name: u32,
-    life: &PrintedLife,
-) -> bool
-    ensures { result ≡ spec.is_found lives.now look.now kind name life.now }
+fn is_beaten(lives: &[PrintedLife], index: &Index, look: &PrintedLook, least: u8) -> bool
+    requires index { IsIndex index.now lives.now }
+    requires least { 0 < least }
+    ensures { result ≡ spec.is_beaten lives.now look.now least }
 {
-    let own = rank(&life.card, &look.packet);
-    same_kind(life.card.kind, kind)
-        && life.card.name == name
-        && has_stood(look, life)
-        && 1 <= own
-        && !is_beaten(lives, look, own + 1)
+    if is_unbeaten(index, look, least) {
+        return false;
+    }
+    is_beaten_by_any(lives, look, least)
 }
 
-fn any_found(lives: &[PrintedLife], look: &PrintedLook, kind: Kind, name: u32) -> bool
-    ensures { result ≡ list_any (spec.is_found lives.now look.now kind name) lives.now }
+fn is_found(
+    lives: &[PrintedLife],
+    index: &Index,
+    look: &PrintedLook,
+    told: Told,
+    life: &PrintedLife,
+) -> bool
+    requires { IsIndex index.now lives.now }
+    ensures { result ≡ spec.is_found lives.now look.now told.kind told.name life.now }
+{
+    let own = rank(&life.card, &look.packet);
+    same_kind(life.card.kind, told.kind)
+        && life.card.name == told.name
+        && has_stood(look, life)
+        && 1 <= own
+        && !is_beaten(lives, index, look, own + 1)
+}
+
+/// Whether a life of that name may be the one that was found.
+fn is_found_by_name(lives: &[PrintedLife], index: &Index, look: &PrintedLook, told: Told) -> bool
+    requires { IsIndex index.now lives.now }
+    ensures { IsTrue result → list_any (spec.is_found lives.now look.now told.kind told.name) lives.now ≡ true }
+{
+    let first = index.names.partition_point(|named| named.name < told.name);
+    for named in &index.names[first..] {
+        if named.name != told.name {
+            return false;
+        }
+        if named.at < lives.len() && is_found(lives, index, look, told, &lives[named.at]) {
+            return true;
+        }
+    }
+    false
+}
+
+fn is_found_of_any(lives: &[PrintedLife], index: &Index, look: &PrintedLook, told: Told) -> bool
+    requires { IsIndex index.now lives.now }
+    ensures { result ≡ list_any (spec.is_found lives.now look.now told.kind told.name) lives.now }
 {
     lives
         .iter()
-        .any(|life| is_found(lives, look, kind, name, life))
+        .any(|life| is_found(lives, index, look, told, life))
+}
+
+fn any_found(lives: &[PrintedLife], index: &Index, look: &PrintedLook, told: Told) -> bool
+    requires { IsIndex index.now lives.now }
+    ensures { result ≡ list_any (spec.is_found lives.now look.now told.kind told.name) lives.now }
+{
+    if is_found_by_name(lives, index, look, told) {
+        return true;
+    }
+    is_found_of_any(lives, index, look, told)
 }
 
 fn hashes_into(look: &PrintedLook, bucket: u64, life: &PrintedLife) -> bool
@@ -149,33 +198,43 @@ fn is_bucket_of(shape: &Shape, seed: u32, packet: &Packet, bucket: u64) -> bool
         || bucket == u64::from(listen_home(shape, seed, 0, packet.dport))
 }
 
-fn explains(shape: &Shape, seed: u32, lives: &[PrintedLife], look: &PrintedLook) -> bool
-    requires hash { 0 < shape.now.hash }
-    requires listen { 0 < shape.now.listen }
-    requires fits { shape.now.hash + shape.now.listen < 2 ^ 32 }
-    ensures { result ≡ spec.explains shape.now seed lives.now look.now look.now.answer }
+fn explains(printed: &Printed, index: &Index, look: &PrintedLook) -> bool
+    requires hash { 0 < printed.now.shape.hash }
+    requires listen { 0 < printed.now.shape.listen }
+    requires fits { printed.now.shape.hash + printed.now.shape.listen < 2 ^ 32 }
+    requires index { IsIndex index.now printed.now.lives.items }
+    ensures { result ≡ spec.explains printed.now.shape printed.now.seed printed.now.lives.items look.now look.now.answer }
 {
+    let lives = printed.lives.as_slice();
     match &look.answer {
-        PrintedAnswer::Found(kind, name) => { any_found(lives, look, *kind, *name) }
-        PrintedAnswer::None => !is_beaten(lives, look, 1),
+        PrintedAnswer::Found(kind, name) => {
+            let told = Told {
+                kind: *kind,
+                name: *name,
+            };
+            any_found(lives, index, look, told)
+        }
+        PrintedAnswer::None => !is_beaten(lives, index, look, 1),
         PrintedAnswer::Again(bucket, end) => {
-            is_bucket_of(shape, seed, &look.packet, *bucket)
-                && may_end(shape.slots, lives, look, *bucket, end)
+            is_bucket_of(&printed.shape, printed.seed, &look.packet, *bucket)
+                && may_end(printed.shape.slots, lives, look, *bucket, end)
         }
     }
 }
 
 /// Whether the lives explain the line of a packet.
 ///
-/// Compares each life with the packet, and where several lives may be the one that was found, with each of those.
-pub fn is_explained(printed: &Printed, packet: &PrintedPacket) -> bool
+/// Takes time in proportion to the logarithm of their number, and to how many of them have the name that was found,
+/// where the answer is so explained; else, and where a lookup was given up, it goes over all lives.
+pub fn is_explained(printed: &Printed, index: &Index, packet: &PrintedPacket) -> bool
     requires hash { 0 < printed.now.shape.hash }
     requires listen { 0 < printed.now.shape.listen }
     requires fits { printed.now.shape.hash + printed.now.shape.listen < 2 ^ 32 }
+    requires index { IsIndex index.now printed.now.lives.items }
     ensures { result ≡ spec.line_explained printed.now.shape printed.now.seed printed.now.lives.items packet.now }
 {
     match packet {
         PrintedPacket::Passed => true,
-        PrintedPacket::Looked(look) => explains(&printed.shape, printed.seed, &printed.lives, look),
+        PrintedPacket::Looked(look) => explains(printed, index, look),
     }
 }

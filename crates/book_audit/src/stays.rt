@@ -15,7 +15,8 @@ pub struct Stay {
     pub until: Option<u64>,
 }
 
-fn is_below(until: Option<u64>, from: u64) -> bool
+/// Whether a stay that lasts until then, or for good, is over before that number.
+pub fn is_below(until: Option<u64>, from: u64) -> bool
     ensures { result ≡ spec.is_below until from }
 {
     match until {

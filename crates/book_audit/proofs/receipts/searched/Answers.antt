@@ -4,7 +4,7 @@ use Rattle.book_audit.specs.declared.printed.PrintedPacket.TheVariants as packet
 use Rattle.book_audit.specs.Looks.{IsLineExplained}
 use Rattle.book_audit.proofs.Faults.{each_line_of, each_fails_of}
 use Rattle.book_audit.proofs.Looked.{line_is, line_back}
-use Rattle.book_audit.proofs.receipts.first_unexplained.Goals as goal
+use Rattle.book_audit.proofs.receipts.searched.Goals as goal
 
 pub returns-then-not-is_explained : goal.returns-then-not-is_explained
 returns-then-not-is_explained c =

@@ -1,7 +1,7 @@
 use Rattle.std.proofs.Common.{take}
 use Rattle.list_words.specs.Lists.{Each}
 use Rattle.book_audit.specs.Looks.{IsLineExplained}
-use Rattle.book_audit.proofs.receipts.first_unexplained.Given as goal
+use Rattle.book_audit.proofs.receipts.searched.Given as goal
 
 abbrev pub invariant-loop-at : goal.invariant-loop-at
 invariant-loop-at l =
