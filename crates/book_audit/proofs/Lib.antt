@@ -10,3 +10,4 @@ pub mod Changes
 pub mod Verdicts
 pub mod Marks
 pub mod Faces
+pub mod Numbers

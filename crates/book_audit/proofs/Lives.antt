@@ -30,7 +30,7 @@ of_unhash l c None e a = absurd a
 of_unhash l c (Some s) e (inl p) = by_unhash s e p
 of_unhash l c (Some s) e (inr a) = absurd a
 
-of : (l : PrintedLife) (c : Change) → Among (changes_of l) c → IsOf l c
+pub of : (l : PrintedLife) (c : Change) → Among (changes_of l) c → IsOf l c
 of l c (inl p) = by_hash p
 of l c (inr a) = of_unhash l c l.unhash refl a
 

@@ -25,18 +25,18 @@ use Rattle.book_audit.specs.Lines.{NoTwo, AreStamped, AreHoused, ascends, passes
 use Rattle.book_audit.specs.Laws.{SoundIsSerial}
 use Rattle.book_audit.proofs.Lives.{IsOf, by_hash, by_unhash, Whose, whose, LifeOf, life_of, is_life, either, Ascending, hash_ascends, unhash_ascends, OutBy, SlotsClear, OwnEnd, ascending, in_slots, ends_there, ends_only}
 
-neither : (a b : Bool) → (a || b) ≡ false → (a ≡ false) × (b ≡ false)
+pub neither : (a b : Bool) → (a || b) ≡ false → (a ≡ false) × (b ≡ false)
 neither true b e = absurd (true≢false e)
 neither false b e = (refl, e)
 
-abbrev span_of : Change → Span
+abbrev pub span_of : Change → Span
 span_of c = record { begin = c.begin; end = c.end }
 
 passes_not : (test : Span → Bool) (o : Option Span) (s : Span) → o ≡ Some s → passes test o ≡ false → test s ≡ false
 passes_not test o s e f = subst (λ x. passes test x ≡ false) e f
 
 -- what no change of a life passes
-span_not : (test : Span → Bool) (l : PrintedLife) (c : Change) → IsOf l c → some_span test l ≡ false → test (span_of c) ≡ false
+pub span_not : (test : Span → Bool) (l : PrintedLife) (c : Change) → IsOf l c → some_span test l ≡ false → test (span_of c) ≡ false
 span_not test l c (by_hash p) e =
     subst (λ x. test (span_of x) ≡ false) (sym p) (neither (test l.hash) (passes test l.unhash) e).0
 span_not test l c (by_unhash s f p) e =

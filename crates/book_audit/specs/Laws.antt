@@ -1,6 +1,7 @@
 -- What follows from the tests of a printed race.
 use Rattle.std.specs.Prelude.{◌≡◌}
 use Rattle.race_book.specs.Among.{Among}
+use Rattle.race_book.specs.Listed.{StampsDiffer}
 use Rattle.race_book.specs.Serial.{IsSerial}
 use Rattle.book_audit.specs.declared.printed.Printed.{Printed}
 use Rattle.book_audit.specs.declared.printed.Finding.{Finding}
@@ -12,6 +13,10 @@ use Rattle.book_audit.specs.Findings.{IsFinding}
 abbrev pub SoundIsSerial : Type 0
 SoundIsSerial =
     (p : Printed) → IsFinding p findings.Sound → IsSerial (Among (book_of p.lives.items)) p.shape p.seed
+
+-- and no number of the clock stands twice among them
+abbrev pub SoundStampsDiffer : Type 0
+SoundStampsDiffer = (p : Printed) → IsFinding p findings.Sound → StampsDiffer (book_of p.lives.items)
 
 -- of each race there is one finding
 abbrev pub OneFinding : Type 0

@@ -2,9 +2,10 @@
 
 ghost use Rattle.book_audit.specs.Laws as law;
 
-/// The changes of a sound race's lives are serial.
+/// The changes of a sound race's lives are serial, and have each number of the clock once.
 pub fn sound_is_serial()
-    ensures { law.SoundIsSerial }
+    ensures serial { law.SoundIsSerial }
+    ensures once { law.SoundStampsDiffer }
 {}
 
 /// Of each race there is one finding.
