@@ -40,8 +40,8 @@ own_by clock l e (Some s) q =
       ((λ p. omega (arith, a, p)), ((λ p. omega (arith, a, b.after, p)), ((λ p. omega (arith, a, b.after, b.itself, p)), tt))),
       (
         ((λ p. omega (arith, b.after, p)), ((λ p. omega (arith, b.after, b.itself, p)), tt)),
-        (((λ p. omega (arith, b.itself, p)), tt), (tt, tt))
-      )
+        (((λ p. omega (arith, b.itself, p)), tt), (tt, tt)),
+      ),
     )
 
 -- the change that has a number

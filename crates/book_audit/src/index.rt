@@ -31,12 +31,22 @@ pub struct Named {
     pub at: usize,
 }
 
-/// Marks of all lives, whether they are in order, and the names of the lives.
+/// The bucket or slot of a life, the number at which its hash begins, and its place among the lives.
+#[derive(Clone, Copy, Debug, PartialEq, Eq)]
+pub struct Placed {
+    pub place: u64,
+    pub begin: u64,
+    pub at: usize,
+}
+
+/// Marks of all lives, whether they are in order, and the lives by names, buckets and slots.
 #[derive(Drop)]
 pub struct Index {
     pub stays: Vec<Stay>,
     pub ordered: bool,
     pub names: Vec<Named>,
+    pub buckets: Vec<Placed>,
+    pub slots: Vec<Placed>,
 }
 
 fn face(card: &Card) -> Card
@@ -286,17 +296,59 @@ fn names_of(alloc: Global, lives: &[PrintedLife]) -> Result<Vec<Named>, AllocErr
     Ok(names)
 }
 
-/// Takes memory for a mark and a name of each life.
+fn in_order(mut placed: Vec<Placed>) -> Result<Vec<Placed>, AllocError> {
+    placed.sort_by_key(|placed| (placed.place, placed.begin))?;
+    Ok(placed)
+}
+
+fn buckets_of(alloc: Global, lives: &[PrintedLife]) -> Result<Vec<Placed>, AllocError> {
+    let mut buckets = Vec::new(alloc);
+    for (at, life) in lives.iter().enumerate() {
+        buckets.push(Placed {
+            place: life.bucket,
+            begin: life.hash.begin,
+            at,
+        })?;
+    }
+    in_order(buckets)
+}
+
+fn slots_of(alloc: Global, lives: &[PrintedLife]) -> Result<Vec<Placed>, AllocError> {
+    let mut slots = Vec::new(alloc);
+    for (at, life) in lives.iter().enumerate() {
+        slots.push(Placed {
+            place: life.slot,
+            begin: life.hash.begin,
+            at,
+        })?;
+    }
+    in_order(slots)
+}
+
+/// How many of the last lives in a bucket or slot are tried first.
+const NEAR: usize = 4;
+
+/// Some of the last of those in a place whose hash begins before a number.
+pub fn last_before(placed: &[Placed], place: u64, begin: u64) -> &[Placed] {
+    let end = placed.partition_point(|p| p.place < place || p.place == place && p.begin < begin);
+    &placed[end.saturating_sub(NEAR)..end]
+}
+
+/// Takes memory for a mark, a name, a bucket and a slot of each life.
 pub fn index_of(alloc: Global, lives: &[PrintedLife]) -> Result<Index, AllocError>
     ensures { IfOk result (λ index. IsIndex index lives.now) }
 {
     let stays = marked(alloc, lives)?;
     let names = names_of(alloc, lives)?;
+    let buckets = buckets_of(alloc, lives)?;
+    let slots = slots_of(alloc, lives)?;
     let ordered = are_ordered(&stays);
     Ok(Index {
         stays,
         ordered,
         names,
+        buckets,
+        slots,
     })
 }
 

@@ -6,7 +6,7 @@ ghost use Rattle.book_audit.specs.Lines.{some_span};
 ghost use Rattle.book_audit.specs.Index.{IsIndex};
 ghost use Rattle.book_audit.specs.Tried as spec;
 
-use crate::index::{Index, is_unbeaten};
+use crate::index::{Index, Placed, is_unbeaten, last_before};
 use crate::lines::is_out;
 use crate::printed::{
     Printed, PrintedAnswer, PrintedEnd, PrintedLife, PrintedLook, PrintedPacket, Span,
@@ -146,10 +146,32 @@ fn hashes_into(look: &PrintedLook, bucket: u64, life: &PrintedLife) -> bool
     life.bucket == bucket && met(look, &life.hash)
 }
 
-fn any_hashes_into(lives: &[PrintedLife], look: &PrintedLook, bucket: u64) -> bool
+/// Whether one of those was hashed into that bucket meanwhile.
+fn is_hashed_near(lives: &[PrintedLife], near: &[Placed], look: &PrintedLook, bucket: u64) -> bool
+    ensures { IsTrue result → list_any (spec.hashes_into look.now bucket) lives.now ≡ true }
+{
+    for placed in near {
+        if placed.at < lives.len() && hashes_into(look, bucket, &lives[placed.at]) {
+            return true;
+        }
+    }
+    false
+}
+
+fn is_hashed_by_any(lives: &[PrintedLife], look: &PrintedLook, bucket: u64) -> bool
     ensures { result ≡ list_any (spec.hashes_into look.now bucket) lives.now }
 {
     lives.iter().any(|life| hashes_into(look, bucket, life))
+}
+
+fn any_hashes_into(lives: &[PrintedLife], index: &Index, look: &PrintedLook, bucket: u64) -> bool
+    ensures { result ≡ list_any (spec.hashes_into look.now bucket) lives.now }
+{
+    let near = last_before(&index.buckets, bucket, look.t1);
+    if is_hashed_near(lives, near, look, bucket) {
+        return true;
+    }
+    is_hashed_by_any(lives, look, bucket)
 }
 
 fn any_hashes(lives: &[PrintedLife], look: &PrintedLook) -> bool
@@ -164,15 +186,38 @@ fn changes_in(look: &PrintedLook, slot: u64, life: &PrintedLife) -> bool
     life.slot == slot && some_change_met(look, life)
 }
 
-fn any_changes_in(lives: &[PrintedLife], look: &PrintedLook, slot: u64) -> bool
+/// Whether one of those changed in that slot meanwhile.
+fn is_changed_near(lives: &[PrintedLife], near: &[Placed], look: &PrintedLook, slot: u64) -> bool
+    ensures { IsTrue result → list_any (spec.changes_in look.now slot) lives.now ≡ true }
+{
+    for placed in near {
+        if placed.at < lives.len() && changes_in(look, slot, &lives[placed.at]) {
+            return true;
+        }
+    }
+    false
+}
+
+fn is_changed_by_any(lives: &[PrintedLife], look: &PrintedLook, slot: u64) -> bool
     ensures { result ≡ list_any (spec.changes_in look.now slot) lives.now }
 {
     lives.iter().any(|life| changes_in(look, slot, life))
 }
 
+fn any_changes_in(lives: &[PrintedLife], index: &Index, look: &PrintedLook, slot: u64) -> bool
+    ensures { result ≡ list_any (spec.changes_in look.now slot) lives.now }
+{
+    let near = last_before(&index.slots, slot, look.t1);
+    if is_changed_near(lives, near, look, slot) {
+        return true;
+    }
+    is_changed_by_any(lives, look, slot)
+}
+
 fn may_end(
     slots: u32,
     lives: &[PrintedLife],
+    index: &Index,
     look: &PrintedLook,
     bucket: u64,
     end: &PrintedEnd,
@@ -180,9 +225,11 @@ fn may_end(
     ensures { result ≡ spec.may_end slots lives.now look.now bucket end.now }
 {
     match *end {
-        PrintedEnd::Foreign(other) => { other != bucket && any_hashes_into(lives, look, other) }
-        PrintedEnd::Dead(slot) => any_changes_in(lives, look, slot),
-        PrintedEnd::Changed(slot) => any_changes_in(lives, look, slot),
+        PrintedEnd::Foreign(other) => {
+            other != bucket && any_hashes_into(lives, index, look, other)
+        }
+        PrintedEnd::Dead(slot) => any_changes_in(lives, index, look, slot),
+        PrintedEnd::Changed(slot) => any_changes_in(lives, index, look, slot),
         PrintedEnd::Long(count) => { count == u64::from(slots) + 1 && any_hashes(lives, look) }
     }
 }
@@ -217,7 +264,7 @@ fn explains(printed: &Printed, index: &Index, look: &PrintedLook) -> bool
         PrintedAnswer::None => !is_beaten(lives, index, look, 1),
         PrintedAnswer::Again(bucket, end) => {
             is_bucket_of(&printed.shape, printed.seed, &look.packet, *bucket)
-                && may_end(printed.shape.slots, lives, look, *bucket, end)
+                && may_end(printed.shape.slots, lives, index, look, *bucket, end)
         }
     }
 }
@@ -225,7 +272,7 @@ fn explains(printed: &Printed, index: &Index, look: &PrintedLook) -> bool
 /// Whether the lives explain the line of a packet.
 ///
 /// Takes time in proportion to the logarithm of their number, and to how many of them have the name that was found,
-/// where the answer is so explained; else, and where a lookup was given up, it goes over all lives.
+/// where the index tells the answer; else it goes over all lives.
 pub fn is_explained(printed: &Printed, index: &Index, packet: &PrintedPacket) -> bool
     requires hash { 0 < printed.now.shape.hash }
     requires listen { 0 < printed.now.shape.listen }
