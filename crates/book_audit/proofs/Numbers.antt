@@ -1,5 +1,5 @@
 -- No number of the clock stands twice among the changes of lives that are stamped.
-use Rattle.std.proofs.Common.{◌≡◌, ◌≢◌, ℕ, ◌+◌, ◌<◌, ◌==◌, ◌||◌, Bool, true, false, List, [], ◌∷◌, ◌++◌, Option, None, Some, refl, sym, ap, ◌∙◌, subst, arith, append_assoc, ◌⊎◌, inl, inr}
+use Rattle.std.proofs.Common.{◌≡◌, ◌≢◌, ℕ, ◌==◌, ◌||◌, true, false, List, [], ◌∷◌, ◌++◌, Option, None, Some, refl, sym, ap, ◌∙◌, subst, arith, append_assoc, ◌⊎◌, inl, inr}
 use Rattle.std.specs.List.{flat_map}
 use Rattle.std.proofs.lemmas.Bool.{true≢false, eq-eqb}
 use Rattle.list_words.specs.Lists.{Each, Pairs}
@@ -14,7 +14,7 @@ use Rattle.book_audit.specs.declared.printed.Why.TheVariants as whys
 use Rattle.book_audit.specs.Book.{with_unhash, changes_of, book_of}
 use Rattle.book_audit.specs.Lines.{NoTwo, AreStamped, some_span, ascends, share, shares_number}
 use Rattle.book_audit.specs.Laws.{SoundStampsDiffer}
-use Rattle.book_audit.proofs.Lives.{IsOf, of, Whose, whose, Ascending, hash_ascends, unhash_ascends}
+use Rattle.book_audit.proofs.Lives.{of, Whose, whose, Ascending, hash_ascends, unhash_ascends}
 use Rattle.book_audit.proofs.Serial.{neither, span_of, span_not}
 
 abbrev Differ : ℕ → ℕ → Type 0
