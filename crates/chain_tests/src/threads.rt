@@ -266,8 +266,13 @@ impl<'a, R: Clock> Looker<'a, R> {
 
     fn turn(&mut self) -> Result<(), AllocError> {
         self.look(packet_home(&PLAN.shape, PLAN.seed, &PACKET), 5)?;
-        let Packet { dst, dport, .. } = PACKET;
-        self.look(listen_home(&PLAN.shape, PLAN.seed, dst, dport), 1)
+        let Packet {
+            dst,
+            dport,
+            net,
+            ..
+        } = PACKET;
+        self.look(listen_home(&PLAN.shape, PLAN.seed, dst, dport, net), 1)
     }
 }
 

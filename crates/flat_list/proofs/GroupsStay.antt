@@ -7,7 +7,8 @@ use Rattle.list_words.specs.Lists.{Each, Pairs}
 use Rattle.list_words.proofs.EachLemmas.{each_weaken, each_both, each_map, each_push, each_filter, each_of_all, each_unless_any, each_found, found_passes}
 use Rattle.list_words.proofs.PairsLemmas.{pairs_map, pairs_weaken, pairs_both, pairs_of_each, pairs_push, pairs_filter, pairs_found}
 use Rattle.sock_card.specs.declared.owner.Owner.{Owner}
-use Rattle.sock_card.specs.Conflict.{is_listening}
+use Rattle.sock_card.specs.Limits.{group_room}
+use Rattle.sock_card.specs.Conflict.{is_listening, owner_key, same_port}
 use Rattle.sock_card.proofs.Agreement.{same_either_way}
 use Rattle.flat_list.specs.declared.socket.Socket.{Socket}
 use Rattle.flat_list.specs.Groups.{Group, has_member, has_members, bucket_of, is_used, is_full_group, join_group, leave_group, left_by, leave, with_group}
@@ -18,7 +19,7 @@ use Rattle.flat_list.proofs.Memberships.{each_among, joined_other, joined_itself
 use Rattle.flat_list.proofs.Puts.{each_put, pairs_put}
 
 abbrev InBucket : ℕ → Group → Socket → Type 0
-InBucket buckets g s = has_member s.owner.name g ≡ true → bucket_of s.owner.port buckets ≡ g.number / 8
+InBucket buckets g s = has_member s.owner.name g ≡ true → bucket_of (owner_key s.owner) buckets ≡ g.number / 8
 
 abbrev IsOut : ℕ → Group → Type 0
 IsOut name g = has_member name g ≡ false
@@ -62,7 +63,7 @@ quiet_out groups sockets one =
 
 -- mates: two listeners that share one end
 abbrev alike : Owner → Owner → Bool
-alike a b = (a.port == b.port) && (a.dev == b.dev) && (a.uid == b.uid) && (a.addr == b.addr)
+alike a b = same_port a b && (a.dev == b.dev) && (a.uid == b.uid) && (a.addr == b.addr)
 
 record Shares (s : Socket) : Type 0 where
   listens : is_listening s.owner.state ≡ true
@@ -75,16 +76,21 @@ mate_if_alike : (a : Owner) (s : Socket) → a.reuseport ≡ true → Shares s �
 mate_if_alike a s reuses is = rw (is.listens, reuses, is.reuses) refl
 
 alike_swap : (a b : Owner) → alike a b ≡ alike b a
-alike_swap a b = rw (same_either_way a.port b.port, same_either_way a.dev b.dev, same_either_way a.uid b.uid, same_either_way a.addr b.addr) refl
+alike_swap a b = rw (same_either_way a.net b.net, same_either_way a.port b.port, same_either_way a.dev b.dev, same_either_way a.uid b.uid, same_either_way a.addr b.addr) refl
 
 record Alike (a b : Owner) : Type 0 where
+  net : a.net ≡ b.net
   port : a.port ≡ b.port
   dev : a.dev ≡ b.dev
   uid : a.uid ≡ b.uid
   addr : a.addr ≡ b.addr
 
+one_key : {a b : Owner} → Alike a b → owner_key a ≡ owner_key b
+one_key same = rw (same.port, same.net) refl
+
 are_alike : (a b : Owner) → alike a b ≡ true → Alike a b
 are_alike a b h = record {
+  net = grind (arith, nat_tests, h);
   port = grind (arith, nat_tests, h);
   dev = grind (arith, nat_tests, h);
   uid = grind (arith, nat_tests, h);
@@ -92,7 +98,7 @@ are_alike a b h = record {
 }
 
 alike_through : (a x y : Owner) → Alike a x → alike x y ≡ alike a y
-alike_through a x y same = rw (same.port, same.dev, same.uid, same.addr) refl
+alike_through a x y same = rw (same.net, same.port, same.dev, same.uid, same.addr) refl
 
 and_swap : (a b : Bool) → (a && b) ≡ (b && a)
 and_swap true true = refl
@@ -357,8 +363,8 @@ number_joined : (mate name : ℕ) (g : Group) → (join_group mate name g).numbe
 unfolding joined
 number_joined mate name g = cond_both (has_member mate g) (joined name g) g (λ h. h.number ≡ g.number) (λ _. refl) (λ _. refl)
 
-has_room : (members : List ℕ) (in_it : Bool) → in_it ≡ true → (in_it && (length members == 16)) ≡ false → length members ≤ 16 → length members + 1 ≤ 16
-has_room members true e h most = let no = eqb-false (length members) 16 h in omega (arith, no, most)
+has_room : (members : List ℕ) (in_it : Bool) → in_it ≡ true → (in_it && (length members == group_room)) ≡ false → length members ≤ group_room → length members + 1 ≤ group_room
+has_room members true e h most = let no = eqb-false (length members) group_room h in omega (arith, no, most)
 has_room members false e h most = absurd (both_ways false refl e)
 
 or_left : (a b : Bool) → b ≡ false → (a || b) ≡ true → a ≡ true
@@ -370,14 +376,14 @@ unfolding joined
 joined_was name q g differ h =
     or_left (has_member q g) (name == q) (ne_eqb name q differ) (sym (any_push (λ m. m == q) g.members name) ∙ h)
 
--- what is known of one group as the socket joins: it isn't in it, the group isn't full, and its port is the mate's
+-- what is known of one group as the socket joins: it isn't in it, the group isn't full, and its port and namespace are the mate's
 record MayJoin (buckets : ℕ) (new mate : Socket) (sockets : List Socket) (g : Group) : Type 0 where
   out : IsOut new.owner.name g
   room : is_full_group mate.owner.name g ≡ false
   is : IsGroupOf buckets sockets g
-  mates : has_member mate.owner.name g ≡ true → bucket_of mate.owner.port buckets ≡ g.number / 8
+  mates : has_member mate.owner.name g ≡ true → bucket_of (owner_key mate.owner) buckets ≡ g.number / 8
 
-join_if : (buckets : ℕ) (new mate : Socket) (sockets : List Socket) (g : Group) (b : Bool) → has_member mate.owner.name g ≡ b → new.owner.port ≡ mate.owner.port → IsKnown sockets new.owner.name → MayJoin buckets new mate sockets g → IsGroupOf buckets (put new sockets) (cond b (joined new.owner.name g) g)
+join_if : (buckets : ℕ) (new mate : Socket) (sockets : List Socket) (g : Group) (b : Bool) → has_member mate.owner.name g ≡ b → owner_key new.owner ≡ owner_key mate.owner → IsKnown sockets new.owner.name → MayJoin buckets new mate sockets g → IsGroupOf buckets (put new sockets) (cond b (joined new.owner.name g) g)
 unfolding joined
 join_if buckets new mate sockets g true e port known may = record {
   some = let n = length-append g.members (new.owner.name ∷ []) in omega (arith, n);
@@ -389,7 +395,7 @@ join_if buckets new mate sockets g true e port known may = record {
 }
 join_if buckets new mate sockets g false e port known may = group_put buckets new sockets g may.out may.is
 
-join_one : (buckets : ℕ) (new mate : Socket) (sockets : List Socket) (g : Group) → new.owner.port ≡ mate.owner.port → IsKnown sockets new.owner.name → MayJoin buckets new mate sockets g → IsGroupOf buckets (put new sockets) (join_group mate.owner.name new.owner.name g)
+join_one : (buckets : ℕ) (new mate : Socket) (sockets : List Socket) (g : Group) → owner_key new.owner ≡ owner_key mate.owner → IsKnown sockets new.owner.name → MayJoin buckets new mate sockets g → IsGroupOf buckets (put new sockets) (join_group mate.owner.name new.owner.name g)
 unfolding joined
 join_one buckets new mate sockets g port known may = join_if buckets new mate sockets g (has_member mate.owner.name g) refl port known may
 
@@ -425,7 +431,7 @@ both_true a b e f = rw (e, f) refl
 
 mate_parts : (new mate : Socket) → is_mate new.owner mate ≡ true → IsMate new mate
 mate_parts new mate h =
-    let parts = mate_bools (is_listening mate.owner.state) new.owner.reuseport mate.owner.reuseport (new.owner.port == mate.owner.port) (new.owner.dev == mate.owner.dev) (new.owner.uid == mate.owner.uid) (new.owner.addr == mate.owner.addr) h in
+    let parts = mate_bools (is_listening mate.owner.state) new.owner.reuseport mate.owner.reuseport (same_port new.owner mate.owner) (new.owner.dev == mate.owner.dev) (new.owner.uid == mate.owner.uid) (new.owner.addr == mate.owner.addr) h in
     record {
       shares = both_true (is_listening mate.owner.state) mate.owner.reuseport parts.0 parts.2;
       reuses = parts.1;
@@ -450,7 +456,7 @@ join_enters buckets new mate sockets old at known out room is =
       numbers = pairs_map NumbersDiffer (join_group its name) old
           (pairs_weaken NumbersDiffer (λ a b. NumbersDiffer (join_group its name a) (join_group its name b)) old (λ a b differ same. differ (sym (number_joined its name a) ∙ same ∙ number_joined its name b)) is.numbers);
       each = each_map (IsGroupOf buckets (put new sockets)) (join_group its name) old
-          (each_weaken (MayJoin buckets new mate sockets) (λ g. IsGroupOf buckets (put new sockets) (join_group its name g)) old (λ g h. join_one buckets new mate sockets g parts.same.port known h) may);
+          (each_weaken (MayJoin buckets new mate sockets) (λ g. IsGroupOf buckets (put new sockets) (join_group its name g)) old (λ g h. join_one buckets new mate sockets g (one_key parts.same) known h) may);
       mine = count_map (has_member name) (has_member its) (join_group its name) old
           (each_weaken (IsOut name) (λ g. has_member name (join_group its name g) ≡ has_member its g) old (λ g o. joined_itself its name g o) outs) ∙ once;
       others = λ q differ. count_map (has_member q) (has_member q) (join_group its name) old (each_of_all (λ g. has_member q (join_group its name g) ≡ has_member q g) old (λ g. joined_other q its name g differ));
@@ -485,7 +491,7 @@ is_alone : (number name : ℕ) → has_member name (alone number name) ≡ true
 unfolding alone
 is_alone number name = rw (eq-eqb name name refl) refl
 
-alone_group : (buckets number : ℕ) (new : Socket) (sockets : List Socket) → IsKnown sockets new.owner.name → bucket_of new.owner.port buckets ≡ number / 8 → IsGroupOf buckets (put new sockets) (alone number new.owner.name)
+alone_group : (buckets number : ℕ) (new : Socket) (sockets : List Socket) → IsKnown sockets new.owner.name → bucket_of (owner_key new.owner) buckets ≡ number / 8 → IsGroupOf buckets (put new sockets) (alone number new.owner.name)
 unfolding alone
 alone_group buckets number new sockets known port = record {
   some = omega arith;
@@ -506,7 +512,7 @@ and_no true b e = e
 and_no false b e = refl
 
 pub begin_enters : (buckets number : ℕ) (new : Socket) (sockets : List Socket) (old : List Group) → find (is_mate new.owner) sockets ≡ None → IsKnown sockets new.owner.name → count_by (has_member new.owner.name) old ≡ 0
-    → is_used old number ≡ false → bucket_of new.owner.port buckets ≡ number / 8 → AreGroupsOf buckets sockets old → Enters buckets new sockets old (with_group new.owner.name number old)
+    → is_used old number ≡ false → bucket_of (owner_key new.owner) buckets ≡ number / 8 → AreGroupsOf buckets sockets old → Enters buckets new sockets old (with_group new.owner.name number old)
 unfolding alone
 begin_enters buckets number new sockets old none known out unused port is =
     let name : ℕ = new.owner.name in

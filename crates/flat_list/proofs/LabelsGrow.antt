@@ -257,7 +257,7 @@ gives_of n flat o keeps = keeps_at n flat o.flat keeps
 
 pub gives_at_one : (flat : Flat) (n : ℕ) (c : Command) → GivesAt n flat.sections (step flat n c).flat.sections
 unfolding step
-gives_at_one flat n (commands.Socket label uid dev reuseaddr reuseport) = given_gives flat.header n label flat.sections
+gives_at_one flat n (commands.Socket label options) = given_gives flat.header n label flat.sections
 gives_at_one flat n (commands.Bind label end) = gives_of n flat (bind flat n (open_socket flat n label) end) (bind_keeps_all flat n (open_socket flat n label) end)
 gives_at_one flat n (commands.Listen label) = gives_of n flat (listen flat n (open_socket flat n label)) (listen_keeps_all flat n (open_socket flat n label))
 gives_at_one flat n (commands.Connect label from to) =
@@ -270,7 +270,7 @@ gives_at_one flat n (commands.Close label) =
     gives_of n flat (close flat n (open_socket flat n label)) (close_keeps_all flat n (open_socket flat n label))
 gives_at_one flat n (commands.At moment) = gives_of n flat (at flat n moment) (at_keeps_all flat n moment)
 gives_at_one flat n commands.Reap = gives_of n flat (reap flat n) (λ m. refl)
-gives_at_one flat n (commands.Look from to dev) = keeps_at n flat flat (λ m. refl)
+gives_at_one flat n (commands.Look query) = keeps_at n flat flat (λ m. refl)
 gives_at_one flat n (commands.Packets count) = keeps_at n flat flat (λ m. refl)
 
 -- what a command does to labels: one more at most in each section, and none in others than its own

@@ -71,7 +71,8 @@ overlap_by_cards x y a b mine other both =
     let port : x.owner.port ≡ y.owner.port = ap (λ (c : Card). c.lport) mine.made ∙ both.port ∙ sym (ap (λ (c : Card). c.lport) other.made) in
     let dev : meet x.owner.dev y.owner.dev ≡ true = rw (ap (λ (c : Card). c.dev) mine.made, ap (λ (c : Card). c.dev) other.made) both.dev in
     let addr : meet x.owner.addr y.owner.addr ≡ true = rw (ap (λ (c : Card). c.local) mine.made, ap (λ (c : Card). c.local) other.made) both.addr in
-    rw (eq-eqb x.owner.port y.owner.port port, dev, addr) refl
+    let net : x.owner.net ≡ y.owner.net = ap (λ (c : Card). c.net) mine.made ∙ both.net ∙ sym (ap (λ (c : Card). c.net) other.made) in
+    rw (eq-eqb x.owner.net y.owner.net net, eq-eqb x.owner.port y.owner.port port, dev, addr) refl
 
 -- listeners of one rank stand at one address and device
 one_device : (a b : Card) (packet : Packet) → 0 < listen_rank a packet → listen_rank a packet ≡ listen_rank b packet → a.dev ≡ b.dev
@@ -97,20 +98,23 @@ listen_as_mates groups x y a b packet apart mine other both matches same =
     (overlap_by_cards x y a b mine other both) (ap is_listening first) (ap is_listening second) (ap is_time_wait first) (ap is_time_wait second) other_origin own_x.1
     (apart.bound (ap is_owner first) (ap is_owner second)) in
     let port : x.owner.port ≡ y.owner.port = ap (λ (c : Card). c.lport) mine.made ∙ both.port ∙ sym (ap (λ (c : Card). c.lport) other.made) in
+    let net : x.owner.net ≡ y.owner.net = ap (λ (c : Card). c.net) mine.made ∙ both.net ∙ sym (ap (λ (c : Card). c.net) other.made) in
     let dev : x.owner.dev ≡ y.owner.dev = ap (λ (c : Card). c.dev) mine.made ∙ one_device a b packet matches same ∙ sym (ap (λ (c : Card). c.dev) other.made) in
     let addr : x.owner.addr ≡ y.owner.addr = ap (λ (c : Card). c.local) mine.made ∙ one_address a b packet matches same ∙ sym (ap (λ (c : Card). c.local) other.made) in
     let listens_x : is_listening x.owner.state ≡ true = ap is_listening first in
     let listens_y : is_listening y.owner.state ≡ true = ap is_listening second in
     apart.mates (rw (listens_x, share.0) refl) (rw (listens_y, share.1) refl)
-    ∙ rw (listens_y, share.0, share.1, share.2, eq-eqb x.owner.port y.owner.port port, eq-eqb x.owner.dev y.owner.dev dev, eq-eqb x.owner.addr y.owner.addr addr) refl
+    ∙ rw (listens_y, share.0, share.1, share.2, eq-eqb x.owner.net y.owner.net net, eq-eqb x.owner.port y.owner.port port, eq-eqb x.owner.dev y.owner.dev dev, eq-eqb x.owner.addr y.owner.addr addr) refl
 
-same_ends : (a b : Card) (packet : Packet) → has_tuple a packet ≡ true → has_tuple b packet ≡ true → ((a.local == b.local) && (a.lport == b.lport) && (a.remote == b.remote) && (a.rport == b.rport)) ≡ true
+same_ends : (a b : Card) (packet : Packet) → has_tuple a packet ≡ true → has_tuple b packet ≡ true → ((a.net == b.net) && (a.local == b.local) && (a.lport == b.lport) && (a.remote == b.remote) && (a.rport == b.rport)) ≡ true
 same_ends a b packet h g = grind (arith, nat_tests)
 
 never_have_one_tuple : (groups : List Group) (x y : Socket) (a b : Card) (packet : Packet) → Apart groups x y → HasCard x a → HasCard y b → HaveTuple a b packet → ⊥
 never_have_one_tuple groups x y a b packet apart mine other both =
     both_ways (same_tuple x.owner y.owner) (apart.tuples (mine.holds both.first) (other.holds both.second))
     (rw (
+      ap (λ (c : Card). c.net) mine.made,
+      ap (λ (c : Card). c.net) other.made,
       ap (λ (c : Card). c.local) mine.made,
       ap (λ (c : Card). c.local) other.made,
       ap (λ (c : Card). c.lport) mine.made,

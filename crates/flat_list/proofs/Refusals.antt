@@ -142,7 +142,7 @@ at_keeps_all flat n moment =
 
 pub refusal_keeps : RefusalKeeps
 unfolding step
-refusal_keeps flat n (commands.Socket label uid dev reuseaddr reuseport) h = absurd (both_ways false refl h)
+refusal_keeps flat n (commands.Socket label options) h = absurd (both_ways false refl h)
 refusal_keeps flat n (commands.Bind label end) h = bind_keeps_all flat n (open_socket flat n label) end h
 refusal_keeps flat n (commands.Listen label) h = listen_keeps_all flat n (open_socket flat n label) h
 refusal_keeps flat n (commands.Connect label from to) h = connect_keeps_all flat n (open_socket flat n label) from to h
@@ -152,5 +152,5 @@ refusal_keeps flat n (commands.Close label) h = close_keeps_all flat n (open_soc
 refusal_keeps flat n (commands.Drop label) h = drop_keeps_all flat (open_socket flat n label) h
 refusal_keeps flat n (commands.At moment) h = at_keeps_all flat n moment h
 refusal_keeps flat n commands.Reap h = absurd (both_ways false refl h)
-refusal_keeps flat n (commands.Look from to dev) h = itself flat
+refusal_keeps flat n (commands.Look query) h = itself flat
 refusal_keeps flat n (commands.Packets count) h = itself flat

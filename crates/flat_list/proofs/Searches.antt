@@ -60,7 +60,7 @@ same_moment flat n offset drawn d =
 -- which ports suit a connection depends on the switch, the moment and the sockets
 suits_at : Socket → ℕ → End → Bool → ℕ → List Socket → ℕ → Bool
 suits_at s source to switch moment sockets port =
-    not (is_claimed port sockets) && not (is_taken switch moment (connected_by_search s source to port).owner sockets)
+    not (is_claimed port s.owner.net sockets) && not (is_taken switch moment (connected_by_search s source to port).owner sockets)
 
 all_same : (f : Bool → ℕ → List Socket → ℕ → Bool) (a b : Bool) (k m : ℕ) (xs ys : List Socket) → a ≡ b → k ≡ m → xs ≡ ys → f a k xs ≡ f b m ys
 all_same f a b k m xs ys p q r = cc

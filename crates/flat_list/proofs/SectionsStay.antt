@@ -163,7 +163,7 @@ module _ (n : ℕ) (flat : Flat) where
 
 pub step_stays : (flat : Flat) (n : ℕ) (c : Command) → Stays n flat (step flat n c).flat
 unfolding step
-step_stays flat n (commands.Socket label uid dev reuseaddr reuseport) = labelled_stays n flat label
+step_stays flat n (commands.Socket label options) = labelled_stays n flat label
 step_stays flat n (commands.Bind label end) = bind_all n flat (open_socket flat n label) end
 step_stays flat n (commands.Listen label) = listen_all n flat (open_socket flat n label)
 step_stays flat n (commands.Connect label from to) = connect_all n flat (open_socket flat n label) from to
@@ -173,5 +173,5 @@ step_stays flat n (commands.Drop label) = drop_all n flat (open_socket flat n la
 step_stays flat n (commands.Close label) = close_all n flat (open_socket flat n label)
 step_stays flat n (commands.At moment) = at_all n flat moment
 step_stays flat n commands.Reap = same n flat
-step_stays flat n (commands.Look from to dev) = same n flat
+step_stays flat n (commands.Look query) = same n flat
 step_stays flat n (commands.Packets count) = same n flat

@@ -279,8 +279,8 @@ socket_fits flat n label options is =
 
 pub slots_stay : StaysWithinSlots
 unfolding step
-slots_stay flat n (commands.Socket label uid dev reuseaddr reuseport) sound fits =
-    socket_fits flat n label (record { uid = uid; dev = dev; reuseaddr = reuseaddr; reuseport = reuseport }) (record { names = sound.names; fits = fits })
+slots_stay flat n (commands.Socket label options) sound fits =
+    socket_fits flat n label options (record { names = sound.names; fits = fits })
 slots_stay flat n (commands.Bind label end) sound fits = bind_fits_all flat n (open_socket flat n label) end (record { names = sound.names; fits = fits })
 slots_stay flat n (commands.Listen label) sound fits = listen_fits_all flat n (open_socket flat n label) (record { names = sound.names; fits = fits })
 slots_stay flat n (commands.Connect label from to) sound fits = connect_fits_all flat n (open_socket flat n label) from to (record { names = sound.names; fits = fits })
@@ -290,5 +290,5 @@ slots_stay flat n (commands.Close label) sound fits = close_fits_all flat n (ope
 slots_stay flat n (commands.Drop label) sound fits = drop_fits_all flat (open_socket flat n label) (record { names = sound.names; fits = fits })
 slots_stay flat n (commands.At moment) sound fits = at_fits flat n moment (record { names = sound.names; fits = fits })
 slots_stay flat n commands.Reap sound fits = reap_fits flat n (record { names = sound.names; fits = fits })
-slots_stay flat n (commands.Look from to dev) sound fits = fits
+slots_stay flat n (commands.Look query) sound fits = fits
 slots_stay flat n (commands.Packets count) sound fits = fits

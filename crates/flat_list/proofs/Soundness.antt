@@ -12,7 +12,7 @@ use Rattle.sock_card.specs.declared.owner.Owner.{Owner}
 use Rattle.sock_card.specs.declared.owner.State.{State}
 use Rattle.sock_card.specs.declared.owner.State.TheVariants as states
 use Rattle.sock_card.specs.Agreement.{Narrows}
-use Rattle.sock_card.specs.Conflict.{is_listening, is_time_wait, refuses, overlap}
+use Rattle.sock_card.specs.Conflict.{owner_key, same_port, holds, is_listening, is_time_wait, refuses, overlap}
 use Rattle.sock_card.proofs.Agreement.{same_either_way, overlaps_who_refuses, agrees_both_ways, agrees_unless_refused, agrees_by_origin, agrees_by_choice, agrees_apart, agrees_where_narrowed}
 use Rattle.flat_list.specs.declared.header.First.{First}
 use Rattle.flat_list.specs.declared.header.First.TheVariants as firsts
@@ -59,7 +59,7 @@ owners_swap : (a b : Socket) → AgreeAsOwners a b → AgreeAsOwners b a
 owners_swap a b h p q = agrees_both_ways b.owner a.owner ∙ h q p
 
 tuples_either_way : (a b : Owner) → same_tuple a b ≡ same_tuple b a
-tuples_either_way a b = rw (same_either_way a.addr b.addr, same_either_way a.port b.port, same_either_way a.remote b.remote, same_either_way a.rport b.rport) refl
+tuples_either_way a b = rw (same_either_way a.net b.net, same_either_way a.addr b.addr, same_either_way a.port b.port, same_either_way a.remote b.remote, same_either_way a.rport b.rport) refl
 
 tuples_swap : (a b : Socket) → TuplesDiffer a b → TuplesDiffer b a
 tuples_swap a b h p q = tuples_either_way b.owner a.owner ∙ h q p
@@ -384,11 +384,11 @@ mates_group flat s groups mate false full at known out sound is =
     subst (Enters flat.header.shape.bind (listening s) flat.sockets flat.groups) (some_same _ _ is)
     (join_enters flat.header.shape.bind (listening s) mate flat.sockets flat.groups at known out full sound.grouped)
 
-own_group : (flat : Flat) (s : Socket) (groups : List Group) (number : Option ℕ) → free_number (bucket_of s.owner.port flat.header.shape.bind) flat.groups ≡ number → find (is_mate s.owner) flat.sockets ≡ None → list_any (has_name s.owner.name) flat.sockets ≡ true → count_by (has_member s.owner.name) flat.groups ≡ 0 → IsSound flat
+own_group : (flat : Flat) (s : Socket) (groups : List Group) (number : Option ℕ) → free_number (bucket_of (owner_key s.owner) flat.header.shape.bind) flat.groups ≡ number → find (is_mate s.owner) flat.sockets ≡ None → list_any (has_name s.owner.name) flat.sockets ≡ true → count_by (has_member s.owner.name) flat.groups ≡ 0 → IsSound flat
     → option_map (λ n. with_group s.owner.name n flat.groups) number ≡ Some groups → Enters flat.header.shape.bind (listening s) flat.sockets flat.groups groups
 own_group flat s groups None free at known out sound is = absurd (cc)
 own_group flat s groups (Some number) free at known out sound is =
-    let bucket : ℕ = bucket_of s.owner.port flat.header.shape.bind in
+    let bucket : ℕ = bucket_of (owner_key s.owner) flat.header.shape.bind in
     subst (Enters flat.header.shape.bind (listening s) flat.sockets flat.groups) (some_same _ _ is)
     (begin_enters flat.header.shape.bind number (listening s) flat.sockets flat.groups at known out
     (not_true (is_used flat.groups number) (found_passes (λ n. not (is_used flat.groups n)) (range_with_len (8 * bucket) 8) number free))
@@ -396,14 +396,14 @@ own_group flat s groups (Some number) free at known out sound is =
     sound.grouped)
 
 entered_by : (flat : Flat) (s : Socket) (groups : List Group) (mate : Option Socket) → find (is_mate s.owner) flat.sockets ≡ mate → list_any (has_name s.owner.name) flat.sockets ≡ true → count_by (has_member s.owner.name) flat.groups ≡ 0 → IsSound flat
-    → join (bucket_of s.owner.port flat.header.shape.bind) s.owner.name (option_map (λ (m : Socket). m.owner.name) mate) flat.groups ≡ Some groups → Enters flat.header.shape.bind (listening s) flat.sockets flat.groups groups
+    → join (bucket_of (owner_key s.owner) flat.header.shape.bind) s.owner.name (option_map (λ (m : Socket). m.owner.name) mate) flat.groups ≡ Some groups → Enters flat.header.shape.bind (listening s) flat.sockets flat.groups groups
 entered_by flat s groups None at known out sound is =
-    own_group flat s groups (free_number (bucket_of s.owner.port flat.header.shape.bind) flat.groups) refl at known out sound is
+    own_group flat s groups (free_number (bucket_of (owner_key s.owner) flat.header.shape.bind) flat.groups) refl at known out sound is
 entered_by flat s groups (Some mate) at known out sound is =
     mates_group flat s groups mate (list_any (is_full_group mate.owner.name) flat.groups) refl at known out sound is
 
 grouped_if : (flat : Flat) (s : Socket) (groups : List Group) (shares : Bool) → s.owner.reuseport ≡ shares → list_any (has_name s.owner.name) flat.sockets ≡ true → count_by (has_member s.owner.name) flat.groups ≡ 0 → IsSound flat
-    → (if shares then join (bucket_of s.owner.port flat.header.shape.bind) s.owner.name (mate_of s.owner flat.sockets) flat.groups else Some flat.groups) ≡ Some groups → AreGroupsOf flat.header.shape.bind (put (listening s) flat.sockets) groups
+    → (if shares then join (bucket_of (owner_key s.owner) flat.header.shape.bind) s.owner.name (mate_of s.owner flat.sockets) flat.groups else Some flat.groups) ≡ Some groups → AreGroupsOf flat.header.shape.bind (put (listening s) flat.sockets) groups
 grouped_if flat s groups true shares known out sound is =
     enter_grouped flat.header.shape.bind (listening s) flat.sockets flat.groups groups sound.names shares out
     (entered_by flat s groups (find (is_mate s.owner) flat.sockets) refl known out sound is) sound.grouped
@@ -502,6 +502,7 @@ connect_fits flat s source to bound narrows sound at new_tuple =
     let narrow : Narrows new.owner s.owner = record {
       port = refl;
       dev = refl;
+      net = refl;
       addr = narrows;
       uid = refl;
       reuseaddr = refl;
@@ -572,28 +573,31 @@ connect_from_sound flat n s to (Some source) bound narrows sound at =
     (λ _. sound)
     (λ free. full_sound flat new sound (bound_connects flat s source to bound (narrows source refl) sound at (not_taken flat n new free)))
 
+ports_either_way : (a b : Owner) → same_port a b ≡ same_port b a
+ports_either_way a b = rw (same_either_way a.net b.net, same_either_way a.port b.port) refl
+
 -- of an owner of that port `connect` chose it
-not_claimed : (o same chosen : Bool) → (o && same && not chosen) ≡ false → o ≡ true → same ≡ true → chosen ≡ true
+not_claimed : (o same chosen : Bool) → (o && (same && not chosen)) ≡ false → o ≡ true → same ≡ true → chosen ≡ true
 not_claimed o same true h p q = refl
 not_claimed o same false h p q = absurd (true≢false (rw (p, q) at h))
 
 -- owners whose ports `connect` chose agree, and so do those of different ports
-agrees_as_chosen : (new x : Socket) → new.owner.by_connect ≡ true → (is_owner x.owner.state && (x.owner.port == new.owner.port) && not x.owner.by_connect) ≡ false → (b : Bool) → (x.owner.port == new.owner.port) ≡ b → AgreeAsOwners new x
+agrees_as_chosen : (new x : Socket) → new.owner.by_connect ≡ true → (is_owner x.owner.state && holds new.owner.port new.owner.net x.owner) ≡ false → (b : Bool) → same_port x.owner new.owner ≡ b → AgreeAsOwners new x
 agrees_as_chosen new x chosen free true same p q =
-    agrees_by_choice new.owner x.owner chosen (not_claimed (is_owner x.owner.state) (x.owner.port == new.owner.port) x.owner.by_connect free q same)
-agrees_as_chosen new x chosen free false same p q = agrees_apart new.owner x.owner (same_either_way new.owner.port x.owner.port ∙ same)
+    agrees_by_choice new.owner x.owner chosen (not_claimed (is_owner x.owner.state) (same_port x.owner new.owner) x.owner.by_connect free q same)
+agrees_as_chosen new x chosen free false same p q = agrees_apart new.owner x.owner (ports_either_way new.owner x.owner ∙ same)
 
--- owners of that port had it chosen by `connect`
-abbrev claims : ℕ → Socket → Bool
-claims port x = is_owner x.owner.state && (x.owner.port == port) && not x.owner.by_connect
+-- the owner has that port of that namespace, and `connect` didn't choose it
+abbrev claims : ℕ → ℕ → Socket → Bool
+claims port net x = is_owner x.owner.state && holds port net x.owner
 
-search_fits : (flat : Flat) (s : Socket) (source : ℕ) (to : End) (port : ℕ) → s.owner.state ≡ states.Unbound → IsSound flat → IsOpen flat s → Each (λ x. claims port x ≡ false) flat.sockets → Each (λ x. TuplesDiffer (connected_by_search s source to port) x) flat.sockets → Fits flat (connected_by_search s source to port)
+search_fits : (flat : Flat) (s : Socket) (source : ℕ) (to : End) (port : ℕ) → s.owner.state ≡ states.Unbound → IsSound flat → IsOpen flat s → Each (λ x. claims port s.owner.net x ≡ false) flat.sockets → Each (λ x. TuplesDiffer (connected_by_search s source to port) x) flat.sockets → Fits flat (connected_by_search s source to port)
 search_fits flat s source to port unbound sound at unclaimed new_tuple =
     let new : Socket = connected_by_search s source to port in
     let given : IsGiven flat.sections s = of_open (IsGiven flat.sections) flat s at sound.given in
     record {
       given = record { first = given.first; last = given.last };
-      bound = each_weaken (λ x. claims port x ≡ false) (λ x. NamesDiffer new x → AgreeAsOwners new x) flat.sockets (λ x h differ. agrees_as_chosen new x refl h (x.owner.port == port) refl) unclaimed;
+      bound = each_weaken (λ x. claims port s.owner.net x ≡ false) (λ x. NamesDiffer new x → AgreeAsOwners new x) flat.sockets (λ x h differ. agrees_as_chosen new x refl h (same_port x.owner new.owner) refl) unclaimed;
       tuples = each_weaken (λ x. TuplesDiffer new x) (λ x. NamesDiffer new x → TuplesDiffer new x) flat.sockets (λ x h differ. h) new_tuple;
       origin = λ unconnected. absurd (true≢false unconnected);
       awake = of_open IsAwakeIfNamed flat s at sound.awake ∙ ap (λ t. not (is_time_wait t)) unbound;
@@ -601,7 +605,7 @@ search_fits flat s source to port unbound sound at unclaimed new_tuple =
 
 -- the port that was found suits the list after the search
 record Suits (flat : Flat) (s : Socket) (source : ℕ) (to : End) (port : ℕ) : Type 0 where
-  unclaimed : is_claimed port flat.sockets ≡ false
+  unclaimed : is_claimed port s.owner.net flat.sockets ≡ false
   free : has_twin (connected_by_search s source to port).owner flat.sockets ≡ false
 
 both_false : (a b : Bool) → (not a && not b) ≡ true → (a ≡ false) × (b ≡ false)
@@ -612,8 +616,8 @@ both_false false true h = absurd (true≢false (sym h))
 connect_suits : (flat after : Flat) (n : ℕ) (s : Socket) (source : ℕ) (to : End) (ports : List ℕ) (port : ℕ) → IsAfter flat after → find (suits_connect flat n s source to) ports ≡ Some port → Suits after s source to port
 connect_suits flat after n s source to ports port is found =
     let new : Socket = connected_by_search s source to port in
-    let parts = both_false (is_claimed port flat.sockets) (is_taken_in flat n new) (found_passes (suits_connect flat n s source to) ports port found) in
-    record { unclaimed = ap (is_claimed port) is.sockets ∙ parts.0; free = ap (has_twin new.owner) is.sockets ∙ not_taken flat n new parts.1 }
+    let parts = both_false (is_claimed port s.owner.net flat.sockets) (is_taken_in flat n new) (found_passes (suits_connect flat n s source to) ports port found) in
+    record { unclaimed = ap (is_claimed port s.owner.net) is.sockets ∙ parts.0; free = ap (has_twin new.owner) is.sockets ∙ not_taken flat n new parts.1 }
 
 search_connects : (flat : Flat) (s : Socket) (source : ℕ) (to : End) (port : ℕ) → s.owner.state ≡ states.Unbound → IsSound flat → IsOpen flat s → Suits flat s source to port → Connects flat (connected_by_search s source to port)
 search_connects flat s source to port unbound sound at suits =
@@ -623,7 +627,7 @@ search_connects flat s source to port unbound sound at suits =
     let still : IsOpen cleared s = replaced_open flat new.owner s (ap is_time_wait unbound) at in
     record {
       fits = search_fits cleared s source to port unbound kept still
-          (each_filter (λ x. claims port x ≡ false) (λ x. not (waits_at new.owner x)) flat.sockets (each_unless_any (claims port) flat.sockets suits.unclaimed))
+          (each_filter (λ x. claims port s.owner.net x ≡ false) (λ x. not (waits_at new.owner x)) flat.sockets (each_unless_any (claims port s.owner.net) flat.sockets suits.unclaimed))
           (tuple_is_new new flat suits.free);
       quiet = quiet_by cleared s new kept still (ap is_listening unbound) refl refl;
     }
@@ -697,6 +701,7 @@ child_joins flat n label l from at room fit sound is free =
     let narrow : Narrows child.owner l.owner = record {
       port = refl;
       dev = refl;
+      net = refl;
       addr = fit.addr;
       uid = refl;
       reuseaddr = refl;
@@ -771,6 +776,7 @@ waiting_fits flat s moment full sound at =
     let narrow : Narrows new.owner s.owner = record {
       port = refl;
       dev = refl;
+      net = refl;
       addr = any_or_itself s.owner.addr;
       uid = refl;
       reuseaddr = refl;
@@ -827,8 +833,8 @@ reap_sound flat n sound =
 
 pub stays : StaysSound
 unfolding step
-stays flat n (commands.Socket label uid dev reuseaddr reuseport) room sound =
-    socket_sound flat n label (record { uid = uid; dev = dev; reuseaddr = reuseaddr; reuseport = reuseport }) room sound
+stays flat n (commands.Socket label options) room sound =
+    socket_sound flat n label options room sound
 stays flat n (commands.Bind label end) room sound = bind_sound flat n (open_socket flat n label) end sound (is_open flat n label)
 stays flat n (commands.Listen label) room sound = listen_sound flat n (open_socket flat n label) sound (is_open flat n label)
 stays flat n (commands.Connect label from to) room sound = connect_sound flat n (open_socket flat n label) from to sound (is_open flat n label)
@@ -838,7 +844,7 @@ stays flat n (commands.Drop label) room sound = drop_sound flat (open_socket fla
 stays flat n (commands.Close label) room sound = close_sound flat n (open_socket flat n label) sound (is_open flat n label)
 stays flat n (commands.At moment) room sound = at_sound flat n moment sound
 stays flat n commands.Reap room sound = reap_sound flat n sound
-stays flat n (commands.Look from to dev) room sound = sound
+stays flat n (commands.Look query) room sound = sound
 stays flat n (commands.Packets count) room sound = sound
 
 -- how many labels each section can still give

@@ -56,10 +56,10 @@ connect_bound flat n s from to =
 abbrev pub connected_by_search : Socket → ℕ → End → ℕ → Socket
 connected_by_search s source to port = record s { owner = connected_at s.owner source port to }
 
--- a port whose owners all had it chosen by `connect`, and with which the socket can have its four-tuple
+-- a port whose owners in the socket's namespace all had it chosen by `connect`, and with which the socket can have its four-tuple
 abbrev pub suits_connect : Flat → ℕ → Socket → ℕ → End → ℕ → Bool
 suits_connect flat n s source to port =
-    not (is_claimed port flat.sockets) && not (is_taken_in flat n (connected_by_search s source to port))
+    not (is_claimed port s.owner.net flat.sockets) && not (is_taken_in flat n (connected_by_search s source to port))
 
 -- from the port that was found, if there is one
 abbrev pub connect_found : Found → Socket → ℕ → End → Option ℕ → Outcome

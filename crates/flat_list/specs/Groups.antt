@@ -1,8 +1,10 @@
 -- Groups of listeners that share an end by SO_REUSEPORT: reuseport_alloc, reuseport_add_sock and reuseport_detach_sock
--- of net/core/sock_reuseport.c. Our own: a bind bucket has eight places for groups, and a group sixteen members.
+-- of net/core/sock_reuseport.c. Our own: a bind bucket has eight places for groups, and a group room for so many
+-- members.
 use Rattle.std.specs.Prelude.{ℕ, ◌-◌, ◌*◌, ◌%◌, Bool, ◌==◌, ◌&&◌, not, nat_lt, List, [], ◌∷◌, ◌++◌, length, Option, None, Some, if◌then◌else◌, map, filter, find, take, slice_index}
 use Rattle.std.specs.List.{list_any, range_with_len}
 use Rattle.std.specs.Option.{option_map}
+use Rattle.sock_card.specs.Limits.{group_room}
 
 -- a group's number, which is 8 times its bind bucket's and its place there, and the names of its members
 pub record Group : Type 0 where
@@ -36,13 +38,13 @@ leave name groups = filter has_members (map (leave_group name) groups)
 abbrev pub join_group : ℕ → ℕ → Group → Group
 join_group mate name g = if has_member mate g then record g { members = g.members ++ name ∷ [] } else g
 
--- the mate's group has sixteen members
+-- the mate's group has no room
 abbrev pub is_full_group : ℕ → Group → Bool
-is_full_group mate g = has_member mate g && (length g.members == 16)
+is_full_group mate g = has_member mate g && (length g.members == group_room)
 
--- the bind bucket of a port, where there are so many
+-- the bind bucket of a key, where there are so many
 abbrev pub bucket_of : ℕ → ℕ → ℕ
-bucket_of port buckets = port % buckets
+bucket_of key buckets = key % buckets
 
 -- some group has that number
 abbrev pub is_used : List Group → ℕ → Bool

@@ -8,10 +8,12 @@ use Rattle.flat_list.specs.declared.command.Command.TheVariants as commands
 use Rattle.flat_list.specs.declared.command.End.{End}
 use Rattle.flat_list.specs.declared.command.Reply.{Reply}
 use Rattle.flat_list.specs.declared.command.Reply.TheVariants as replies
+use Rattle.sock_card.specs.Conflict.{bind_key}
+use Rattle.flat_list.specs.Groups.{bucket_of}
 use Rattle.flat_list.specs.Flat.{Flat}
 use Rattle.flat_list.specs.Run.{Issued, after, replies_to}
 use Rattle.flat_list.specs.Sections.{name_at}
-use Rattle.flat_list.specs.Rows.{Line, says, command_of, reply_of, with_range, any, one, two, nowhere, socket, on_device, reusable, sharing, sharing_as, found, found_in_group}
+use Rattle.flat_list.specs.Rows.{Line, says, command_of, reply_of, with_range, any, one, two, nowhere, plain, in_net, look_for, socket, on_device, reusable, sharing, sharing_as, found, found_in_group}
 
 -- a line of a section is issued by it
 abbrev pub issued_in : ℕ → Line → Issued
@@ -33,11 +35,7 @@ abbrev pub host : ℕ → ℕ → End
 host k port = record { addr = 0x0A000000 + k; port = port }
 
 abbrev pub sharing_all : List ℕ → Command
-sharing_all label = commands.Socket label None None true true
-
--- a packet from an end to another, that comes in by a device, or by none
-abbrev pub look_for : End → End → Option ℕ → Command
-look_for from to dev = commands.Look from to dev
+sharing_all label = commands.Socket label (record plain { reuseaddr = true; reuseport = true })
 
 -- what a look answers that finds the socket of that name, kind and ends on a device; a TIME_WAIT has a stamp
 abbrev pub found_on : Kind → ℕ → End → End → ℕ → ℕ → Reply
@@ -306,3 +304,63 @@ devices =
     ∷ says (reusable (codes "k")) replies.Ok
     ∷ says (commands.Bind (codes "k") (one 84)) (replies.Port 84)
     ∷ []
+
+-- a packet that comes in in a namespace
+abbrev pub look_in : ℕ → End → End → Command
+look_in net from to = commands.Look (record { from = from; to = to; dev = None; net = Some net })
+
+-- what a look answers that finds the socket of that name, kind and ends in a namespace
+abbrev pub found_in : ℕ → Kind → ℕ → End → End → Reply
+found_in net kind name end remote =
+    replies.Found (Some (record {
+      local = end.addr;
+      lport = end.port;
+      remote = remote.addr;
+      rport = remote.port;
+      dev = 0;
+      net = net;
+      kind = kind;
+      name = name;
+      extra = 0;
+    }))
+
+-- sockets meet, and packets find them, in one namespace alone; an accepted socket and a TIME_WAIT are in that of the
+-- listener
+abbrev pub namespaces : List Line
+namespaces =
+    says (socket (codes "a")) replies.Ok
+    ∷ says (in_net (codes "b") 1) replies.Ok
+    ∷ says (commands.Bind (codes "a") (one 80)) (replies.Port 80)
+    ∷ says (commands.Bind (codes "b") (one 80)) (replies.Port 80)
+    ∷ says (commands.Listen (codes "a")) (replies.Port 80)
+    ∷ says (commands.Listen (codes "b")) (replies.Port 80)
+    ∷ says (look_for (two 5) (one 80) None) (found kinds.Listen (name_at 1 0) (one 80) nowhere)
+    ∷ says (look_in 1 (two 5) (one 80)) (found_in 1 kinds.Listen (name_at 1 1) (one 80) nowhere)
+    ∷ says (look_in 2 (two 5) (one 80)) (replies.Found None)
+    ∷ says (socket (codes "c")) replies.Ok
+    ∷ says (in_net (codes "d") 1) replies.Ok
+    ∷ says (commands.Bind (codes "c") (one 90)) (replies.Port 90)
+    ∷ says (commands.Bind (codes "d") (one 90)) (replies.Port 90)
+    ∷ says (commands.Connect (codes "c") None (two 80)) (replies.End (one 90))
+    ∷ says (commands.Connect (codes "d") None (two 80)) (replies.End (one 90))
+    ∷ says (commands.Accept (codes "b") (codes "e") (two 7) (one 80)) replies.Ok
+    ∷ says (look_in 1 (two 7) (one 80)) (found_in 1 kinds.Full (name_at 1 4) (one 80) (two 7))
+    ∷ says (look_for (two 7) (one 80) None) (found kinds.Listen (name_at 1 0) (one 80) nowhere)
+    ∷ says (commands.Close (codes "e")) replies.TimeWait
+    ∷ says (look_in 1 (two 7) (one 80)) (found_in 1 kinds.TimeWait (name_at 1 4) (one 80) (two 7))
+    ∷ []
+
+-- `connect` passes over the port of a bound socket in its own namespace alone
+abbrev pub searches_apart : List Line
+searches_apart =
+    says (socket (codes "a")) replies.Ok
+    ∷ says (commands.Bind (codes "a") (one 40000)) (replies.Port 40000)
+    ∷ says (socket (codes "b")) replies.Ok
+    ∷ says (commands.Connect (codes "b") (Some 0x0A000001) (two 80)) (replies.End (one 40001))
+    ∷ says (in_net (codes "c") 1) replies.Ok
+    ∷ says (commands.Connect (codes "c") (Some 0x0A000001) (two 80)) (replies.End (one 40000))
+    ∷ []
+
+-- of sixteen bind buckets, those of port 80 in two namespaces
+abbrev pub IsApart : Type 0
+IsApart = (bucket_of (bind_key 80 0) 16 ≡ 0) × (bucket_of (bind_key 80 1) 16 ≡ 1)

@@ -12,6 +12,7 @@ use Rattle.sock_card.specs.declared.card.Packet.{Packet}
 use Rattle.sock_card.specs.Conflict.{is_listening}
 use Rattle.sock_card.specs.Became.{connected, child}
 use Rattle.flat_list.specs.declared.command.End.{End}
+use Rattle.flat_list.specs.declared.command.Query.{Query}
 use Rattle.flat_list.specs.declared.owned.Options.{Options}
 
 -- as `socket` makes it: without an end, its origin its own name
@@ -25,6 +26,7 @@ new_owner name options =
       remote = 0;
       rport = 0;
       dev = unwrap_or options.dev 0;
+      net = unwrap_or options.net 0;
       uid = unwrap_or options.uid 0;
       reuseaddr = options.reuseaddr;
       reuseport = options.reuseport;
@@ -75,13 +77,20 @@ card_as kind a extra =
       remote = a.remote;
       rport = a.rport;
       dev = a.dev;
-      net = 0;
+      net = a.net;
       kind = kind;
       name = a.name;
       extra = extra;
     }
 
--- the packet that the words of `look` tell of, from one end to another
-abbrev pub packet_of : End → End → Option ℕ → Packet
-packet_of from to dev =
-    record { src = from.addr; sport = from.port; dst = to.addr; dport = to.port; dev = unwrap_or dev 0; net = 0 }
+-- the packet that the words of `look` tell of
+abbrev pub packet_of : Query → Packet
+packet_of q =
+    record {
+      src = q.from.addr;
+      sport = q.from.port;
+      dst = q.to.addr;
+      dport = q.to.port;
+      dev = unwrap_or q.dev 0;
+      net = unwrap_or q.net 0;
+    }

@@ -3,10 +3,12 @@ use Rattle.std.specs.Prelude.{◌≡◌, ℕ, ◌+◌, List, [], ◌∷◌, ◌+
 use Rattle.std.specs.List.{flat_map, range_with_len}
 use Rattle.sock_card.specs.declared.card.Kind.{Kind}
 use Rattle.sock_card.specs.declared.card.Kind.TheVariants as kinds
+use Rattle.sock_card.specs.Limits.{group_room}
 use Rattle.flat_list.specs.declared.header.Header.{Header}
 use Rattle.flat_list.specs.declared.command.Command.{Command}
 use Rattle.flat_list.specs.declared.command.Command.TheVariants as commands
 use Rattle.flat_list.specs.declared.command.End.{End}
+use Rattle.flat_list.specs.declared.owned.Options.{Options}
 use Rattle.flat_list.specs.declared.command.Reply.{Reply}
 use Rattle.flat_list.specs.declared.command.Reply.TheVariants as replies
 use Rattle.flat_list.specs.Flat.{new_flat}
@@ -87,23 +89,29 @@ one port = record { addr = 0x0A000001; port = port }
 abbrev pub two : ℕ → End
 two port = record { addr = 0x0A000002; port = port }
 
+abbrev pub plain : Options
+plain = record { net = None; uid = None; dev = None; reuseaddr = false; reuseport = false }
+
 abbrev pub socket : List ℕ → Command
-socket label = commands.Socket label None None false false
+socket label = commands.Socket label plain
+
+abbrev pub in_net : List ℕ → ℕ → Command
+in_net label net = commands.Socket label (record plain { net = Some net })
 
 abbrev pub on_device : List ℕ → ℕ → Command
-on_device label dev = commands.Socket label None (Some dev) false false
+on_device label dev = commands.Socket label (record plain { dev = Some dev })
 
 abbrev pub reusable : List ℕ → Command
-reusable label = commands.Socket label None None true false
+reusable label = commands.Socket label (record plain { reuseaddr = true })
 
 abbrev pub sharing : List ℕ → Command
-sharing label = commands.Socket label None None false true
+sharing label = commands.Socket label (record plain { reuseport = true })
 
 abbrev pub sharing_as : List ℕ → ℕ → Command
-sharing_as label uid = commands.Socket label (Some uid) None false true
+sharing_as label uid = commands.Socket label (record plain { uid = Some uid; reuseport = true })
 
 abbrev pub sharing_on : List ℕ → ℕ → Command
-sharing_on label dev = commands.Socket label None (Some dev) false true
+sharing_on label dev = commands.Socket label (record plain { dev = Some dev; reuseport = true })
 
 abbrev pub connect : List ℕ → ℕ → Command
 connect label port = commands.Connect label None (two port)
@@ -149,16 +157,20 @@ found_in_group name end dev number =
       extra = number + 1;
     }))
 
+-- a packet from an end to another, that comes in by a device, or by none
+abbrev pub look_for : End → End → Option ℕ → Command
+look_for from to dev = commands.Look (record { from = from; to = to; dev = dev; net = None })
+
 -- a packet from 10.0.0.2 at that port to 10.0.0.1:80
 abbrev pub look_from : ℕ → Command
-look_from port = commands.Look (two port) (one 80) None
+look_from port = look_for (two port) (one 80) None
 
 abbrev pub look_on : ℕ → Command
-look_on dev = commands.Look (two 1001) (one 80) (Some dev)
+look_on dev = look_for (two 1001) (one 80) (Some dev)
 
 -- a packet to another address than 10.0.0.1
 abbrev pub look_aside : ℕ → Command
-look_aside port = commands.Look (two 1001) (record { addr = 0x0A000009; port = port }) None
+look_aside port = look_for (two 1001) (record { addr = 0x0A000009; port = port }) None
 
 -- sockets with `reuseaddr` share an end until one of them listens
 abbrev pub until_one_listens : List Line
@@ -194,7 +206,7 @@ one_slot =
     ∷ says (commands.Bind b (one 81)) (replies.Port 81)
     ∷ says (commands.Listen a) (replies.Port 80)
     ∷ says (commands.Listen b) (replies.Enfile 1 0)
-    ∷ says (commands.Look (two 5) (one 80) None) (found kinds.Listen (name_at 1 0) (one 80) nowhere)
+    ∷ says (look_for (two 5) (one 80) None) (found kinds.Listen (name_at 1 0) (one 80) nowhere)
     ∷ []
 
 -- a packet finds the accepted socket before its listener; a second one of its four-tuple is refused
@@ -205,10 +217,10 @@ accepted_goes_first =
     ∷ says (commands.Listen a) (replies.Port 80)
     ∷ says (accept a c) replies.Ok
     ∷ says (accept a d) replies.Eaddrnotavail
-    ∷ says (commands.Look (two 1000) (one 80) None) (found kinds.Full (name_at 1 1) (one 80) (two 1000))
+    ∷ says (look_for (two 1000) (one 80) None) (found kinds.Full (name_at 1 1) (one 80) (two 1000))
     ∷ says (commands.Drop d) replies.Ebadf
     ∷ says (commands.Drop c) replies.Ok
-    ∷ says (commands.Look (two 1000) (one 80) None) (found kinds.Listen (name_at 1 0) (one 80) nowhere)
+    ∷ says (look_for (two 1000) (one 80) None) (found kinds.Listen (name_at 1 0) (one 80) nowhere)
     ∷ []
 
 -- of two sockets at one end one gets the four-tuple
@@ -243,7 +255,7 @@ closed_without_slot =
     ∷ says (commands.Bind b (one 90)) (replies.Port 90)
     ∷ says (connect b 80) (replies.End (one 90))
     ∷ says (commands.Close b) (replies.NoSlot 1 0)
-    ∷ says (commands.Look (two 80) (one 90) None) (replies.Found None)
+    ∷ says (look_for (two 80) (one 90) None) (replies.Found None)
     ∷ []
 
 -- a closed listener's child keeps the listener's port from others, unless both have `reuseaddr`
@@ -299,7 +311,7 @@ abbrev pub reused : List Line
 reused =
     closed_and_wanted
     ++ says (connect b 80) (replies.End (one 5000))
-    ∷ says (commands.Look (two 80) (one 5000) None) (found kinds.Full (name_at 1 1) (one 5000) (two 80))
+    ∷ says (look_for (two 80) (one 5000) None) (found kinds.Full (name_at 1 1) (one 5000) (two 80))
     ∷ says (commands.At 59) replies.Ok
     ∷ says commands.Reap (replies.Count 0)
     ∷ says (commands.At 60) replies.Ok
@@ -311,7 +323,7 @@ abbrev pub waited_for : List Line
 waited_for =
     closed_and_wanted
     ++ says (connect b 80) replies.Eaddrnotavail
-    ∷ says (commands.Look (two 80) (one 5000) None) (found kinds.TimeWait (name_at 1 0) (one 5000) (two 80))
+    ∷ says (look_for (two 80) (one 5000) None) (found kinds.TimeWait (name_at 1 0) (one 5000) (two 80))
     ∷ says (commands.At 59) replies.Ok
     ∷ says commands.Reap (replies.Count 0)
     ∷ says (commands.At 60) replies.Ok
@@ -362,7 +374,7 @@ chosen_by_hash =
     ∷ says (look_from 1000) (found_in_group (name_at 1 1) (one 80) 0 0)
     ∷ []
 
--- a group has sixteen members
+-- a group has room for sixty-four members
 abbrev pub listener : ℕ → Reply → List Line
 listener number reply =
     let label : List ℕ = number ∷ [] in
@@ -371,9 +383,10 @@ listener number reply =
     ∷ says (commands.Listen label) reply
     ∷ []
 
-abbrev pub seventeen_listeners : List Line
-seventeen_listeners =
-    flat_map (λ number. listener number (replies.Port 80)) (range_with_len 1 16) ++ listener 17 replies.Emfile
+abbrev pub one_listener_too_many : List Line
+one_listener_too_many =
+    flat_map (λ number. listener number (replies.Port 80)) (range_with_len 1 group_room)
+    ++ listener (group_room + 1) replies.Emfile
 
 -- each state of a socket refuses what doesn't fit it, and a moment never goes back
 abbrev pub states_refuse : List Line
@@ -456,7 +469,7 @@ abbrev pub listens_anywhere : List Line
 listens_anywhere =
     says (socket a) replies.Ok
     ∷ says (commands.Listen a) (replies.Port 40001)
-    ∷ says (commands.Look (two 5) (record { addr = 0x0A000007; port = 40001 }) None) (found kinds.Listen (name_at 1 0) (any 40001) nowhere)
+    ∷ says (look_for (two 5) (record { addr = 0x0A000007; port = 40001 }) None) (found kinds.Listen (name_at 1 0) (any 40001) nowhere)
     ∷ []
 
 -- with one slot, a listener and a connection that find a port find no slot, and have no port afterwards

@@ -13,7 +13,10 @@ use Rattle.sock_card.specs.declared.card.Kind.TheVariants as kinds
 use Rattle.sock_card.specs.declared.owner.Owner.{Owner}
 use Rattle.sock_card.specs.declared.owner.State.{State}
 use Rattle.sock_card.specs.declared.owner.State.TheVariants as states
-use Rattle.sock_card.specs.Conflict.{refuses, overlap, is_listening, is_time_wait, both_reuse_port}
+use Rattle.sock_card.specs.declared.card.Tuple.{Tuple}
+use Rattle.sock_card.specs.Tuples as tuples
+use Rattle.sock_card.specs.Conflict as conflict
+use Rattle.sock_card.specs.Conflict.{refuses, overlap, holds, is_time_wait}
 use Rattle.sock_card.specs.TimeWait.{expired}
 use Rattle.flat_list.specs.declared.socket.Socket.{Socket}
 
@@ -55,18 +58,21 @@ is_refused a sockets = list_any (λ s. is_other_owner a.name s && refuses a s.ow
 abbrev pub is_overlapped : Owner → List Socket → Bool
 is_overlapped a sockets = list_any (λ s. is_other_owner a.name s && overlap a s.owner) sockets
 
--- some owner has the port, and `connect` didn't choose it for that owner
-abbrev pub is_claimed : ℕ → List Socket → Bool
-is_claimed port sockets =
-    list_any (λ s. is_owner s.owner.state && (s.owner.port == port) && not s.owner.by_connect) sockets
+-- some owner has the port of that namespace, and `connect` didn't choose it for that owner
+abbrev pub is_claimed : ℕ → ℕ → List Socket → Bool
+is_claimed port net sockets = list_any (λ s. is_owner s.owner.state && holds port net s.owner) sockets
 
 abbrev pub is_full : State → Bool
 is_full states.Full = true
 is_full _ = false
 
--- the two ends of one are those of the other
+-- an owner's four-tuple
+abbrev pub tuple_of : Owner → Tuple
+tuple_of a = record { net = a.net; local = a.addr; lport = a.port; remote = a.remote; rport = a.rport }
+
+-- the four-tuple of one is that of the other
 abbrev pub same_tuple : Owner → Owner → Bool
-same_tuple a b = (a.addr == b.addr) && (a.port == b.port) && (a.remote == b.remote) && (a.rport == b.rport)
+same_tuple a b = tuples.same_tuple (tuple_of a) (tuple_of b)
 
 -- some full socket has the owner's four-tuple
 abbrev pub has_twin : Owner → List Socket → Bool
@@ -90,11 +96,9 @@ is_taken switch moment a sockets =
 abbrev pub without_waiting : Owner → List Socket → List Socket
 without_waiting a sockets = filter (λ s. not (waits_at a s)) sockets
 
--- a listener in whose group the owner would be: one of its end, device and user, and both share their end
+-- a listener in whose group the owner would be
 abbrev pub is_mate : Owner → Socket → Bool
-is_mate a s =
-    is_listening s.owner.state && both_reuse_port a s.owner
-    && (a.port == s.owner.port) && (a.dev == s.owner.dev) && (a.uid == s.owner.uid) && (a.addr == s.owner.addr)
+is_mate a s = conflict.is_mate a s.owner
 
 -- the first such listener's name
 abbrev pub mate_of : Owner → List Socket → Option ℕ

@@ -5,7 +5,8 @@ use Rattle.list_words.specs.Lists.{Each, Pairs}
 use Rattle.sock_card.specs.declared.owner.State.{State}
 use Rattle.sock_card.specs.declared.owner.State.TheVariants as states
 use Rattle.sock_card.specs.declared.card.Packet.{Packet}
-use Rattle.sock_card.specs.Conflict.{agree, is_listening, is_time_wait}
+use Rattle.sock_card.specs.Limits.{group_room}
+use Rattle.sock_card.specs.Conflict.{owner_key, agree, is_listening, is_time_wait}
 use Rattle.flat_list.specs.declared.command.Command.{Command}
 use Rattle.flat_list.specs.declared.command.Reply.{Reply}
 use Rattle.flat_list.specs.declared.command.Reply.TheVariants as replies
@@ -68,13 +69,13 @@ abbrev pub GroupsAreOfMates : List Group → Socket → Socket → Type 0
 GroupsAreOfMates groups a b =
     is_sharing a ≡ true → is_sharing b ≡ true → are_together groups a.owner.name b.owner.name ≡ is_mate a.owner b
 
--- a group's members differ, at most sixteen, and each is the name of a socket, whose port belongs to the group's bucket
+-- a group's members differ, no more than there is room for, and each is the name of a socket that belongs to the group's bucket
 pub record IsGroupOf (buckets : ℕ) (sockets : List Socket) (g : Group) : Type 0 where
   pub some : 1 ≤ length g.members
-  pub most : length g.members ≤ 16
+  pub most : length g.members ≤ group_room
   pub differ : Pairs (λ a b. a ≢ b) g.members
   pub known : Each (λ name. list_any (has_name name) sockets ≡ true) g.members
-  pub bucket : Each (λ (s : Socket). has_member s.owner.name g ≡ true → bucket_of s.owner.port buckets ≡ g.number / 8) sockets
+  pub bucket : Each (λ (s : Socket). has_member s.owner.name g ≡ true → bucket_of (owner_key s.owner) buckets ≡ g.number / 8) sockets
 
 -- two groups have different numbers
 abbrev pub NumbersDiffer : Group → Group → Type 0

@@ -7,6 +7,7 @@
 use Rattle.std.specs.Prelude.{ℕ, Bool, ◌==◌, not, nat_lt, List, Option, None, Some, if◌then◌else◌, true, false, filter, count_by}
 use Rattle.sock_card.specs.declared.owner.State.{State}
 use Rattle.sock_card.specs.declared.owner.State.TheVariants as states
+use Rattle.sock_card.specs.Conflict.{owner_key}
 use Rattle.sock_card.specs.Became.{as_listener, as_waiting}
 use Rattle.flat_list.specs.declared.header.First.TheVariants as firsts
 use Rattle.flat_list.specs.declared.command.Command.{Command}
@@ -86,7 +87,8 @@ listening s = record s { owner = as_listener s.owner }
 -- its end and no group has a place for it
 abbrev pub entered : ℕ → Socket → List Socket → List Group → Option (List Group)
 entered buckets s sockets groups =
-    if s.owner.reuseport then join (bucket_of s.owner.port buckets) s.owner.name (mate_of s.owner sockets) groups else Some groups
+    if s.owner.reuseport then join (bucket_of (owner_key s.owner) buckets) s.owner.name (mate_of s.owner sockets) groups
+    else Some groups
 
 abbrev pub groups_with : Flat → Socket → Option (List Group)
 groups_with flat s = entered flat.header.shape.bind s flat.sockets flat.groups
@@ -165,8 +167,7 @@ drop flat (Some s) = removed flat s replies.Ok
 
 -- the list after a command of the section of that number, and its reply
 unfoldable pub step : Flat → ℕ → Command → Outcome
-step flat n (commands.Socket label uid dev reuseaddr reuseport) =
-    socket flat n label (record { uid = uid; dev = dev; reuseaddr = reuseaddr; reuseport = reuseport })
+step flat n (commands.Socket label options) = socket flat n label options
 step flat n (commands.Bind label end) = bind flat n (open_socket flat n label) end
 step flat n (commands.Listen label) = listen flat n (open_socket flat n label)
 step flat n (commands.Connect label from to) = connect flat n (open_socket flat n label) from to
@@ -176,13 +177,13 @@ step flat n (commands.Close label) = close flat n (open_socket flat n label)
 step flat n (commands.Drop label) = drop flat (open_socket flat n label)
 step flat n (commands.At moment) = at flat n moment
 step flat n commands.Reap = reap flat n
-step flat n (commands.Look from to dev) =
-    unchanged flat (replies.Found (look (packet_of from to dev) flat.header.seed flat.sockets flat.groups))
+step flat n (commands.Look query) =
+    unchanged flat (replies.Found (look (packet_of query) flat.header.seed flat.sockets flat.groups))
 step flat n (commands.Packets count) = unchanged flat replies.Ok
 
 -- a command that gives a label
 abbrev pub gives_label : Command → Bool
-gives_label (commands.Socket label uid dev reuseaddr reuseport) = true
+gives_label (commands.Socket label options) = true
 gives_label (commands.Accept listener label from at) = true
 gives_label _ = false
 

@@ -2,6 +2,7 @@ ghost use Rattle.std.specs.Prelude.{◌≡◌, ◌<◌, ◌≤◌, ◌+◌, leng
 ghost use Rattle.std.specs.Int.{w64, to_be_bytes, from_be_bytes};
 ghost use Rattle.flat_list.specs.Labels.{key_of, text_of};
 
+use crate::owned::Options;
 use sock_card::Card;
 use std::marker::Model;
 
@@ -110,16 +111,22 @@ pub struct End {
     pub port: u16,
 }
 
+/// What `look` asks for: a packet from one end to another, that came in at a device and in a namespace.
+#[derive(Clone, Copy, Debug, PartialEq, Eq)]
+pub struct Query {
+    pub from: End,
+    pub to: End,
+    pub dev: Option<u16>,
+    pub net: Option<u8>,
+}
+
 /// A command of a script, with its words. An optional word that isn't there is `None`.
 #[derive(Debug, Drop)]
 pub enum Command {
     /// Makes a socket, and gives it a label.
     Socket {
         label: Label,
-        uid: Option<u32>,
-        dev: Option<u16>,
-        reuseaddr: bool,
-        reuseport: bool,
+        options: Options,
     },
     /// Binds a socket to an end; at port 0, to a port that is searched for.
     Bind {
@@ -161,9 +168,7 @@ pub enum Command {
     Reap,
     /// Asks which socket a packet finds that goes from one end to another.
     Look {
-        from: End,
-        to: End,
-        dev: Option<u16>,
+        query: Query,
     },
     /// Looks up the next packets of the capture, so many or those that are left.
     Packets {
@@ -202,7 +207,7 @@ pub enum Reply {
     Eaddrinuse,
     /// Another full socket has the four-tuple, or no port that was searched can be had.
     Eaddrnotavail,
-    /// The socket's group has all its members, or the bucket of its port all its groups.
+    /// The socket's group has all its members, or the bucket of its port and namespace all its groups.
     Emfile,
     /// No slot is free: so many are owned, and so many only held by a lookup.
     Enfile { owned: u32, held: u32 },

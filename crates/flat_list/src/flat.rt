@@ -340,12 +340,14 @@ impl Flat {
         self.connect_as(new)
     }
 
-    /// Whether the port's owners all had it chosen by `connect`, and the socket can have its four-tuple.
+    /// Whether the port's owners in the socket's namespace all had it chosen by `connect`, and the socket can have its
+    /// four-tuple.
     fn suits_connect(&self, section: u32, socket: Socket, source: u32, to: End, port: u16) -> bool
         ensures { result ≡ connect_spec.suits_connect self.now section socket source to port }
     {
         let new = connected_by_search(socket, source, to, port);
-        !search::is_claimed(port, &self.sockets) && !self.is_taken_in(section, &new)
+        !search::is_claimed(port, socket.owner.net, &self.sockets)
+            && !self.is_taken_in(section, &new)
     }
 
     /// The first port of a search from which the socket can be connected.
@@ -558,21 +560,7 @@ impl Flat {
         ensures others { sections_spec.KeepsOthers section self.old.sections self.new.sections }
     {
         match command {
-            Command::Socket {
-                label,
-                uid,
-                dev,
-                reuseaddr,
-                reuseport,
-            } => {
-                let options = Options {
-                    uid: *uid,
-                    dev: *dev,
-                    reuseaddr: *reuseaddr,
-                    reuseport: *reuseport,
-                };
-                self.socket(section, label, options)
-            }
+            Command::Socket { label, options } => self.socket(section, label, *options),
             Command::Bind { label, end } => Ok(self.bind(section, label, *end)),
             Command::Listen { label } => self.listen(section, label),
             Command::Connect { label, from, to } => Ok(self.connect(section, label, *from, *to)),
@@ -586,9 +574,7 @@ impl Flat {
             Command::Drop { label } => Ok(self.drop_socket(section, label)),
             Command::At { moment } => self.at(section, *moment),
             Command::Reap => Ok(self.reap(section)),
-            Command::Look { from, to, dev } => {
-                Ok(Reply::Found(self.look(&packet_of(*from, *to, *dev))))
-            }
+            Command::Look { query } => Ok(Reply::Found(self.look(&packet_of(*query)))),
             Command::Packets { .. } => Ok(Reply::Ok),
         }
     }
@@ -617,10 +603,19 @@ impl Flat {
 #[cfg(test)]
 mod tests {
     use super::*;
+    use crate::command::Query;
     use crate::header::Range;
     use chain_book::Shape;
     use sock_card::Kind;
     use std::test::Fail;
+
+    const PLAIN: Options = Options {
+        net: None,
+        uid: None,
+        dev: None,
+        reuseaddr: false,
+        reuseport: false,
+    };
 
     const SHAPE: Shape = Shape {
         slots: 3,
@@ -663,10 +658,7 @@ mod tests {
     {
         let socket = Command::Socket {
             label: label(b"a"),
-            uid: None,
-            dev: None,
-            reuseaddr: false,
-            reuseport: false,
+            options: PLAIN,
         };
         flat.apply(1, &socket)?;
         let bind = Command::Bind {
@@ -702,7 +694,12 @@ mod tests {
             at: HERE,
         };
         assert_eq!(rt; flat.apply(1, &accept)?, Reply::Ok);
-        let packet = packet_of(THERE, HERE, None);
+        let packet = packet_of(Query {
+            from: THERE,
+            to: HERE,
+            dev: None,
+            net: None,
+        });
         let card = flat.look(&packet).ok_or("none found")?;
         assert_eq!(rt; card.kind, Kind::Full);
         assert_eq!(rt; flat.label_of(card.name), b"c".as_slice());

@@ -3,6 +3,7 @@
 ghost use Rattle.std.specs.Prelude.{ℕ, ◌≡◌, ◌∷◌, ◌+◌, ◌≤◌, ◌<◌, ◌^◌, [], true, false, length, map, filter, find, is_some, Some, IfSome, vec_len, vec_capacity};
 ghost use Rattle.std.specs.List.{list_any};
 ghost use Rattle.std.specs.Option.{option_copied};
+ghost use Rattle.sock_card.specs.Conflict.{owner_key};
 ghost use Rattle.flat_list.specs.Groups as spec;
 ghost use Rattle.flat_list.specs.Look as look_spec;
 ghost use Rattle.flat_list.specs.Step as step_spec;
@@ -11,25 +12,27 @@ use crate::search::mate_of;
 use crate::socket::Socket;
 use arrayvec::ArrayVec;
 use jhash_words::scale;
+use sock_card::{GROUP_ROOM, Owner, bind_key};
 use std::marker::Model;
 
 /// A group of listeners: its number, which is 8 times its bind bucket's and its place there, and the
-/// names of its members, at most sixteen.
+/// names of its members, at most [`GROUP_ROOM`].
 #[derive(Drop)]
 pub struct Group {
     number: u32,
-    members: ArrayVec<u32, 16>,
+    members: ArrayVec<u32, GROUP_ROOM>,
 }
 
 impl Model for Group {
     ghost use Rattle.std.specs.Prelude.{ℕ, ◌≤◌, ◌<◌, ◌^◌, length};
+    ghost use Rattle.sock_card.specs.Limits.{group_room};
     ghost use Rattle.flat_list.specs.Groups.{Group as Kept};
 
     ghost Value = { Kept };
 
     ghost view = { λ g. record { number = g.number; members = g.members.items } };
 
-    ghost invariant = { λ g. (g.number < 2 ^ 19) × (length g.members.items ≤ 16) };
+    ghost invariant = { λ g. (g.number < 2 ^ 20) × (length g.members.items ≤ group_room) };
 }
 
 fn renamed(old: u32, new: u32, member: u32) -> u32
@@ -50,7 +53,7 @@ fn replace(old: u32, new: u32, members: &mut [u32])
 impl Group {
     /// The group of that number, with one member.
     fn new(number: u32, name: u32) -> Self
-        requires { number < 2 ^ 19 }
+        requires { number < 2 ^ 20 }
         ensures { result ≡ record { number = number; members = name ∷ [] } }
     {
         let mut members = ArrayVec::new();
@@ -61,7 +64,7 @@ impl Group {
     /// Its number.
     pub fn number(&self) -> u32
         ensures number { result ≡ self.now.number }
-        ensures bound { result < 2 ^ 19 }
+        ensures bound { result < 2 ^ 20 }
     {
         self.number
     }
@@ -83,7 +86,7 @@ impl Group {
     fn is_full_group(&self, mate: u32) -> bool
         ensures { result ≡ spec.is_full_group mate self.now }
     {
-        self.has_member(mate) && self.members.len() == 16
+        self.has_member(mate) && self.members.len() == GROUP_ROOM
     }
 
     /// The socket joins, where its mate is a member.
@@ -126,16 +129,13 @@ pub fn group_of(name: u32, groups: &[Group]) -> Option<&Group>
     groups.iter().find(|group| group.has_member(name))
 }
 
-/// The bind bucket of a port, where there are so many.
-pub fn bucket_of(port: u16, buckets: u32) -> u32
-    ensures bucket { result ≡ spec.bucket_of port buckets }
-    ensures bound { result < 2 ^ 16 }
+/// The bind bucket of an owner, where there are so many.
+fn bucket_of(owner: &Owner, buckets: u32) -> u32
+    ensures bucket { result ≡ spec.bucket_of (owner_key owner.now) buckets }
+    ensures bound { result < 2 ^ 17 }
 {
-    if buckets == 0 {
-        u32::from(port)
-    } else {
-        u32::from(port) % buckets
-    }
+    let key = bind_key(owner.port, owner.net);
+    if buckets == 0 { key } else { key % buckets }
 }
 
 fn is_used(number: u32, groups: &[Group]) -> bool
@@ -146,9 +146,9 @@ fn is_used(number: u32, groups: &[Group]) -> bool
 
 /// The lowest number of that bind bucket that no group has.
 fn free_number(bucket: u32, groups: &[Group]) -> Option<u32>
-    requires { bucket < 2 ^ 16 }
+    requires { bucket < 2 ^ 17 }
     ensures number { result ≡ spec.free_number bucket groups.now }
-    ensures bound { IfSome result (λ number. number < 2 ^ 19) }
+    ensures bound { IfSome result (λ number. number < 2 ^ 20) }
 {
     (8 * bucket..8 * bucket + 8).find(|number| !is_used(*number, groups))
 }
@@ -162,7 +162,7 @@ fn has_full(mate: u32, groups: &[Group]) -> bool
 /// Whether a listener finds a place: in its mate's group, or where it has no mate in a new one of that
 /// bind bucket.
 pub fn has_place(bucket: u32, mate: Option<u32>, groups: &[Group]) -> bool
-    requires { bucket < 2 ^ 16 }
+    requires { bucket < 2 ^ 17 }
     ensures { (name : ℕ) → result ≡ is_some (spec.join bucket name mate groups.now) }
 {
     match mate {
@@ -182,7 +182,7 @@ fn join_mate(mate: u32, name: u32, groups: &mut [Group])
 
 /// The listener joins its mate's group, or begins one. There is room for one more group.
 pub fn join(bucket: u32, name: u32, mate: Option<u32>, groups: &mut Vec<Group>)
-    requires bucket { bucket < 2 ^ 16 }
+    requires bucket { bucket < 2 ^ 17 }
     requires place { is_some (spec.join bucket name mate groups.old.items) ≡ true }
     requires room { vec_len groups.old < vec_capacity groups.old }
     ensures { spec.join bucket name mate groups.old.items ≡ Some groups.new.items }
@@ -224,12 +224,7 @@ pub fn can_enter(buckets: u32, socket: &Socket, sockets: &[Socket], groups: &[Gr
     ensures { result ≡ is_some (step_spec.entered buckets socket.now sockets.now groups.now) }
 {
     let owner = &socket.owner;
-    !owner.reuseport
-        || has_place(
-            bucket_of(owner.port, buckets),
-            mate_of(owner, sockets),
-            groups,
-        )
+    !owner.reuseport || has_place(bucket_of(owner, buckets), mate_of(owner, sockets), groups)
 }
 
 /// The socket, which listens from then on, enters a group where it shares its end. There is room for one
@@ -241,7 +236,7 @@ pub fn enter(buckets: u32, socket: &Socket, sockets: &[Socket], groups: &mut Vec
 {
     let owner = &socket.owner;
     if owner.reuseport {
-        let bucket = bucket_of(owner.port, buckets);
+        let bucket = bucket_of(owner, buckets);
         join(bucket, owner.name, mate_of(owner, sockets), groups);
     }
 }

@@ -1,7 +1,7 @@
 //! What the definitions of the flat list imply of every list that commands reach.
 
 ghost use Rattle.std.specs.Prelude.{None, Some, true, false, [], ◌∷◌};
-ghost use Rattle.flat_list.specs.Rows.{Answer, with_slots, with_range, with_seed, until_one_listens, beside_by_device, one_slot, accepted_goes_first, one_four_tuple, slot_is_freed, states_refuse, four_ports, binds_from_two, connects_from_two, shared_by_connect, listens_anywhere, port_without_slot, words_are_drawn, closed_without_slot, child_stays, child_lets_in, shared_by_user, with_reuse, reused, waited_for, by_rank, with_known_hashes, chosen_by_hash, seventeen_listeners};
+ghost use Rattle.flat_list.specs.Rows.{Answer, with_slots, with_range, with_seed, until_one_listens, beside_by_device, one_slot, accepted_goes_first, one_four_tuple, slot_is_freed, states_refuse, four_ports, binds_from_two, connects_from_two, shared_by_connect, listens_anywhere, port_without_slot, words_are_drawn, closed_without_slot, child_stays, child_lets_in, shared_by_user, with_reuse, reused, waited_for, by_rank, with_known_hashes, chosen_by_hash, one_listener_too_many};
 ghost use Rattle.flat_list.specs.Flat.{new_flat};
 ghost use Rattle.flat_list.specs.MoreRows as more;
 ghost use Rattle.flat_list.specs.Ports as ports;
@@ -58,7 +58,7 @@ pub fn rows()
     ensures waited_for { Answer (with_reuse false) waited_for }
     ensures rank { Answer (with_slots 1024) by_rank }
     ensures hash { Answer with_known_hashes chosen_by_hash }
-    ensures full_group { Answer (with_slots 1024) seventeen_listeners }
+    ensures full_group { Answer (with_slots 1024) one_listener_too_many }
 {}
 
 /// They give those of several causes of a refusal, and of several sections.
@@ -72,4 +72,7 @@ pub fn more_rows()
     ensures searches { Answer (with_range 40000 40001 (Some 65535)) more.searches }
     ensures kept_mark { Answer (with_range 40000 40001 None) more.kept_mark }
     ensures devices { Answer (with_slots 1024) more.devices }
+    ensures namespaces { Answer (with_slots 1024) more.namespaces }
+    ensures searches_apart { Answer (with_range 40000 40001 (Some 0)) more.searches_apart }
+    ensures buckets { more.IsApart }
 {}

@@ -1,9 +1,9 @@
 //! The plain engine of the socket tables: one list of sockets, searched by filters.
 //!
-//! The kernel keeps a TCP socket in a bucket of its port's owners, and, once it listens or is
-//! connected, in a chain of a hash table. Here all sockets stand in one list, and each question of
-//! `bind`, `listen` and a packet's lookup is asked of every one of them. That is slow, and easy to
-//! believe: faster tables are proved to answer as this list does.
+//! The kernel keeps a TCP socket in a bucket of the owners of its port in its network namespace, and,
+//! once it listens or is connected, in a chain of a hash table. Here all sockets stand in one list, and
+//! each question of `bind`, `listen` and a packet's lookup is asked of every one of them. That is slow,
+//! and easy to believe: faster tables are proved to answer as this list does.
 //!
 //! Where a script leaves the choice of a port to the system, the ports of the header's range are tried
 //! in an order that begins at the header's offset, or at the next word of the section's generator.
@@ -34,7 +34,7 @@ pub mod section;
 pub mod socket;
 
 pub use chain_book::Shape;
-pub use command::{Command, End, Label, LabelKey, Reply};
+pub use command::{Command, End, Label, LabelKey, Query, Reply};
 pub use flat::Flat;
 pub use group::Group;
 pub use header::{First, Header, Range};

@@ -3,12 +3,14 @@
 ghost use Rattle.std.specs.Prelude.{◌≡◌};
 ghost use Rattle.flat_list.specs.Owned as spec;
 
-use crate::command::End;
+use crate::command::{End, Query};
 use sock_card::{Card, Kind, Owner, Packet, State, child, connected};
 
-/// What `socket` says of a new socket: SO_REUSEADDR, SO_REUSEPORT, SO_BINDTODEVICE, and its user.
+/// What `socket` says of a new socket: its network namespace, its user, SO_BINDTODEVICE, SO_REUSEADDR and
+/// SO_REUSEPORT.
 #[derive(Clone, Copy, Debug, PartialEq, Eq)]
 pub struct Options {
+    pub net: Option<u8>,
     pub uid: Option<u32>,
     pub dev: Option<u16>,
     pub reuseaddr: bool,
@@ -27,6 +29,7 @@ pub fn new_owner(name: u32, options: Options) -> Owner
         remote: 0,
         rport: 0,
         dev: options.dev.unwrap_or(0),
+        net: options.net.unwrap_or(0),
         uid: options.uid.unwrap_or(0),
         reuseaddr: options.reuseaddr,
         reuseport: options.reuseport,
@@ -67,7 +70,7 @@ pub fn connected_at(owner: Owner, source: u32, port: u16, to: End) -> Owner
 
 /// The owner of that name which a listener accepts from one end at another.
 ///
-/// It keeps the listener's port, origin, device, user and options.
+/// It keeps the listener's port, origin, device, namespace, user and options.
 pub fn child_owner(listener: Owner, name: u32, from: End, at: End) -> Owner
     ensures { result ≡ spec.child_owner listener name from at }
 {
@@ -117,23 +120,23 @@ pub fn card_as(kind: Kind, owner: &Owner, extra: u32) -> Card
         remote: owner.remote,
         rport: owner.rport,
         dev: owner.dev,
-        net: 0,
+        net: owner.net,
         kind,
         name: owner.name,
         extra,
     }
 }
 
-/// The packet from one end to another that came in at a device, 0 where none is told.
-pub fn packet_of(from: End, to: End, dev: Option<u16>) -> Packet
-    ensures { result ≡ spec.packet_of from to dev }
+/// The packet that a `look` asks for; a device or a namespace that isn't told is 0.
+pub fn packet_of(query: Query) -> Packet
+    ensures { result ≡ spec.packet_of query }
 {
     Packet {
-        src: from.addr,
-        sport: from.port,
-        dst: to.addr,
-        dport: to.port,
-        dev: dev.unwrap_or(0),
-        net: 0,
+        src: query.from.addr,
+        sport: query.from.port,
+        dst: query.to.addr,
+        dport: query.to.port,
+        dev: query.dev.unwrap_or(0),
+        net: query.net.unwrap_or(0),
     }
 }

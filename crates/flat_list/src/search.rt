@@ -10,7 +10,8 @@ use crate::owned::card_as;
 use crate::socket::Socket;
 use chain_book::packet_hash;
 use sock_card::{
-    Card, Kind, Owner, Packet, State, bind_conflict, rank, strict_conflict, tw_expired,
+    Card, Kind, Owner, Packet, State, Tuple, bind_conflict, holds, is_mate, rank, strict_conflict,
+    tw_expired,
 };
 
 /// Whether lookups find a socket of that state, and it takes a slot.
@@ -55,17 +56,31 @@ pub fn is_overlapped(owner: &Owner, sockets: &[Socket]) -> bool
         && strict_conflict(owner, &s.owner))
 }
 
-/// Whether some owner has the port for whom `connect` didn't choose it.
-pub fn is_claimed(port: u16, sockets: &[Socket]) -> bool
-    ensures { result ≡ spec.is_claimed port sockets.now }
+/// Whether some owner has the port of that namespace for whom `connect` didn't choose it.
+pub fn is_claimed(port: u16, net: u8, sockets: &[Socket]) -> bool
+    ensures { result ≡ spec.is_claimed port net sockets.now }
 {
-    sockets.iter().any(|s| is_owner(s.owner.state) && s.owner.port == port && !s.owner.by_connect)
+    sockets
+        .iter()
+        .any(|s| is_owner(s.owner.state) && holds(port, net, &s.owner))
+}
+
+fn tuple_of(owner: &Owner) -> Tuple
+    ensures { result ≡ spec.tuple_of owner.now }
+{
+    Tuple {
+        net: owner.net,
+        local: owner.addr,
+        lport: owner.port,
+        remote: owner.remote,
+        rport: owner.rport,
+    }
 }
 
 fn same_tuple(a: &Owner, b: &Owner) -> bool
     ensures { result ≡ spec.same_tuple a.now b.now }
 {
-    a.addr == b.addr && a.port == b.port && a.remote == b.remote && a.rport == b.rport
+    sock_card::same_tuple(&tuple_of(a), &tuple_of(b))
 }
 
 /// Whether a full socket has the owner's four-tuple.
@@ -115,26 +130,13 @@ pub fn remove_waiting(owner: &Owner, sockets: &mut Vec<Socket>)
     sockets.retain(|s| !waits_at(owner, s));
 }
 
-fn is_mate(owner: &Owner, socket: &Socket) -> bool
-    ensures { result ≡ spec.is_mate owner.now socket.now }
-{
-    let other = &socket.owner;
-    matches!(other.state, State::Listening)
-        && owner.reuseport
-        && other.reuseport
-        && owner.port == other.port
-        && owner.dev == other.dev
-        && owner.uid == other.uid
-        && owner.addr == other.addr
-}
-
 /// The name of the first listener in whose group the owner would be.
 pub fn mate_of(owner: &Owner, sockets: &[Socket]) -> Option<u32>
     ensures { result ≡ spec.mate_of owner.now sockets.now }
 {
     sockets
         .iter()
-        .find(|s| is_mate(owner, s))
+        .find(|s| is_mate(owner, &s.owner))
         .map(|s| s.owner.name)
 }
 

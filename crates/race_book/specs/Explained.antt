@@ -74,8 +74,8 @@ IsAtHome shape seed h = h.bucket ≡ home shape seed h.card
 -- those at 0.0.0.0
 abbrev pub buckets_of : Shape → ℕ → Packet → List ℕ
 buckets_of shape seed packet =
-    packet_home shape seed packet ∷ listen_home shape seed packet.dst packet.dport
-    ∷ listen_home shape seed 0 packet.dport ∷ []
+    packet_home shape seed packet ∷ listen_home shape seed packet.dst packet.dport packet.net
+    ∷ listen_home shape seed 0 packet.dport packet.net ∷ []
 
 -- a lookup that was given up names the one of them in which it was
 abbrev pub NamesItsBucket : Shape → ℕ → Packet → PacketAnswer → Type 0

@@ -19,8 +19,8 @@ full_home layout packet = packet_home layout.shape layout.seed packet
 
 -- that of the listeners at the packet's address
 abbrev pub exact_home : Layout → Packet → ℕ
-exact_home layout packet = listen_home layout.shape layout.seed packet.dst packet.dport
+exact_home layout packet = listen_home layout.shape layout.seed packet.dst packet.dport packet.net
 
 -- that of the listeners at any address
 abbrev pub any_home : Layout → Packet → ℕ
-any_home layout packet = listen_home layout.shape layout.seed 0 packet.dport
+any_home layout packet = listen_home layout.shape layout.seed 0 packet.dport packet.net

@@ -42,11 +42,17 @@ pub fn find<P: Pace>(
     ensures sole { IsWhole (view steps.old) → SoleListener layout.now packet.now (view steps.old) result.end }
     ensures known { KnownListener layout.now packet.now (view steps.old) result.end result.t0 }
 {
-    let exact = listen_home(&layout.shape, layout.seed, packet.dst, packet.dport);
+    let exact = listen_home(
+        &layout.shape,
+        layout.seed,
+        packet.dst,
+        packet.dport,
+        packet.net,
+    );
     let Look { end, t0, t1 } = look(chains, steps, exact, packet, 3, passes, pace);
     match end {
         LookEnd::None => {
-            let any = listen_home(&layout.shape, layout.seed, 0, packet.dport);
+            let any = listen_home(&layout.shape, layout.seed, 0, packet.dport, packet.net);
             let Look { end, t0: _, t1 } = look(chains, steps, any, packet, 1, passes, pace);
             Look { end, t0, t1 }
         }

@@ -1,6 +1,7 @@
 -- What the contracts of this crate and of those above it cite.
 pub mod Tuples
 pub mod Rank
+pub mod Limits
 pub mod Conflict
 pub mod Agreement
 pub mod TimeWait

@@ -72,9 +72,9 @@ module _ (layout : Layout) (lives : ℕ → List Life) (clock : ℕ) (v : ReadVi
       dite (dec_le 5 (rank_of key x.card))
       (λ five. ⊎_elim (λ z. omega (arith, z, small, better)) (λ z. cleared key from (packet_home homes.shape homes.seed key) 5 best z i n x e (home ∙ five_home homes.shape homes.seed card key (omega (arith, five, is))) five better before still) c.five)
       (λ not-five. dite (dec_le 3 (rank_of key x.card))
-      (λ three. ⊎_elim (λ z. not-five (omega (arith, z, better))) (λ z. cleared key from (listen_home homes.shape homes.seed key.dst key.dport) 3 best z i n x e (home ∙ high_home homes.shape homes.seed card key (omega (arith, three, is)) (omega (arith, not-five, is))) three better before still) c.three)
+      (λ three. ⊎_elim (λ z. not-five (omega (arith, z, better))) (λ z. cleared key from (listen_home homes.shape homes.seed key.dst key.dport key.net) 3 best z i n x e (home ∙ high_home homes.shape homes.seed card key (omega (arith, three, is)) (omega (arith, not-five, is))) three better before still) c.three)
       (λ not-three. let low : rank_of key x.card ≤ 2 = omega (arith, not-three) in let some-rank : 1 ≤ rank_of key x.card = omega (arith, better) in
-      ⊎_elim (λ z. omega (arith, z, low, better)) (λ z. cleared key from (listen_home homes.shape homes.seed 0 key.dport) 1 best z i n x e (home ∙ low_home homes.shape homes.seed card key (omega (arith, some-rank, is)) (omega (arith, low, is))) some-rank better before still) c.one))
+      ⊎_elim (λ z. omega (arith, z, low, better)) (λ z. cleared key from (listen_home homes.shape homes.seed 0 key.dport key.net) 1 best z i n x e (home ∙ low_home homes.shape homes.seed card key (omega (arith, some-rank, is)) (omega (arith, low, is))) some-rank better before still) c.one))
 
   found_stood : (from : ℕ) (card : List ℕ) → FoundIn v from card → CardStood lives from clock card × (0 < length card)
   found_stood from card f = let ok = receipt_at f.nth f.receipt f.there in let t = ok.found f.found in

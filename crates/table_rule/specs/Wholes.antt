@@ -33,8 +33,8 @@ pub record Clears (v : ReadView) (key : Packet) (from bucket least best : ℕ) :
 -- none of the buckets where a card that matches the packet belongs had one above the best
 pub record IsClear (v : ReadView) (layout : Layout) (key : Packet) (from best : ℕ) : Type 0 where
   pub five : (5 ≤ best) ⊎ Clears v key from (packet_home layout.shape layout.seed key) 5 best
-  pub three : (4 ≤ best) ⊎ Clears v key from (listen_home layout.shape layout.seed key.dst key.dport) 3 best
-  pub one : (2 ≤ best) ⊎ Clears v key from (listen_home layout.shape layout.seed 0 key.dport) 1 best
+  pub three : (4 ≤ best) ⊎ Clears v key from (listen_home layout.shape layout.seed key.dst key.dport key.net) 3 best
+  pub one : (2 ≤ best) ⊎ Clears v key from (listen_home layout.shape layout.seed 0 key.dport key.net) 1 best
 
 -- a receipt that began at this number or later found the card
 pub record FoundIn (v : ReadView) (from : ℕ) (card : List ℕ) : Type 0 where

@@ -6,12 +6,12 @@ use Rattle.flat_list.proofs.flat.Flat.apply.Goals as goal
 pub returns-in-Socket-clause-labels : goal.returns-in-Socket-clause-labels
 unfolding step
 returns-in-Socket-clause-labels c =
-    (from_step _ _ c.args.section (commands.Socket c.in-Socket.label c.in-Socket.uid c.in-Socket.dev c.in-Socket.reuseaddr c.in-Socket.reuseport) _ c.socket.ensures.step c.socket.ensures.err).labels
+    (from_step _ _ c.args.section (commands.Socket c.in-Socket.label c.in-Socket.options) _ c.socket.ensures.step c.socket.ensures.err).labels
 
 pub returns-in-Socket-clause-others : goal.returns-in-Socket-clause-others
 unfolding step
 returns-in-Socket-clause-others c =
-    (from_step _ _ c.args.section (commands.Socket c.in-Socket.label c.in-Socket.uid c.in-Socket.dev c.in-Socket.reuseaddr c.in-Socket.reuseport) _ c.socket.ensures.step c.socket.ensures.err).others
+    (from_step _ _ c.args.section (commands.Socket c.in-Socket.label c.in-Socket.options) _ c.socket.ensures.step c.socket.ensures.err).others
 
 pub returns-in-Accept-clause-labels : goal.returns-in-Accept-clause-labels
 unfolding step
