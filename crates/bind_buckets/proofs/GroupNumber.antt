@@ -2,13 +2,15 @@
 use Rattle.std.proofs.Common.{◌≡◌, ℕ, ◌/◌, ◌<◌, Bool, true, false, cond, ltb, length, find, position, Some, None, Option, Result, Ok, Err, IfSome, arith, refl, subst}
 use Rattle.std.specs.Option.{option_or, option_and_then}
 use Rattle.std.specs.Result.{IfOk}
+use Rattle.sock_card.specs.Limits.{group_room}
 use Rattle.sock_card.specs.declared.owner.Owner.{Owner}
 use Rattle.sock_card.specs.Conflict.{refuses}
 use Rattle.bind_buckets.specs.declared.request.Answer.{Answer}
 use Rattle.bind_buckets.specs.declared.request.Answer.TheVariants as answers
 use Rattle.bind_buckets.specs.declared.request.ListenEnd.{ListenEnd}
 use Rattle.bind_buckets.specs.Members.{has_member}
-use Rattle.bind_buckets.specs.OwnerStep.{Held, spoken, may_listen, listener_answer, group_answer, group_number, place_for, mates_place, is_mate, is_free, members_at, others}
+use Rattle.sock_card.specs.Conflict.{is_mate}
+use Rattle.bind_buckets.specs.OwnerStep.{Held, spoken, may_listen, listener_answer, group_answer, group_number, place_for, mates_place, is_free, members_at, others}
 use Rattle.bind_buckets.specs.Answers.{answer_of_listen}
 use Rattle.bind_buckets.proofs.FirstPlace.{place_is}
 
@@ -38,7 +40,7 @@ ours_by false n place h = tt
 group_ours : (n : ℕ) (h : Held) (a : Owner) (place : Option ℕ) → length h.groups ≡ 8 → place_for h a ≡ place → IsOurs n (group_answer n h place)
 group_ours n h a None eight q = tt
 group_ours n h a (Some place) eight q =
-    ours_by (ltb (length (members_at h place)) 16) n place (subst (λ k. place < k) eight (place_within h a place q))
+    ours_by (ltb (length (members_at h place)) group_room) n place (subst (λ k. place < k) eight (place_within h a place q))
 
 shared_ours : (b : Bool) (n : ℕ) (x : Answer) → IsOurs n x → IsOurs n (cond b x (answers.Group None))
 shared_ours true n x h = h

@@ -24,7 +24,7 @@ sound_new number buckets lt few = record {
   legal = tt;
   replay = refl;
   agree = tt;
-  ports = tt;
+  keys = tt;
   places = refl;
   members = (omega arith, (omega arith, (omega arith, (omega arith, (omega arith, (omega arith, (omega arith, (omega arith, tt))))))));
 }

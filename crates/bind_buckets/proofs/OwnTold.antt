@@ -77,7 +77,7 @@ module _ (mine : ℕ → Bool) where
   done_open (requests.BindAuto a) owners about keeps n = each_push Open owners a n (keeps about)
   done_open (requests.MayListen name) owners about keeps n = n
   done_open (requests.Listen name slot) owners about keeps n = change_open (has_name name) as_listener owners (λ a. refl) n
-  done_open (requests.Free port) owners about keeps n = n
+  done_open (requests.Free port net) owners about keeps n = n
   done_open (requests.ConnectAuto a) owners about keeps n = each_push Open owners a n (keeps about)
   done_open (requests.ConnectBound name local remote rport) owners about keeps n =
       change_open (has_name name) (connected local remote rport) owners (λ a. refl) n
@@ -132,7 +132,7 @@ module _ (mine : ℕ → Bool) where
     asker who (requests.BindAuto a) some more may said = same_section who a.name some more may.0 said
     asker who (requests.MayListen name) some more may said = same_section who name some more may.0 said
     asker who (requests.Listen name slot) some more may said = same_section who name some more may.0 said
-    asker who (requests.Free port) some more may said = absurd (false≢true said)
+    asker who (requests.Free port net) some more may said = absurd (false≢true said)
     asker who (requests.ConnectAuto a) some more may said = same_section who a.name some more may.0 said
     asker who (requests.ConnectBound name local remote rport) some more may said = same_section who name some more may.0 said
     asker who (requests.Inherit parent name local remote rport) some more may said = same_section who name some more may.1.0 said
@@ -382,7 +382,7 @@ module _ (mine : ℕ → Bool) (name : ℕ) where
   same_speaks (requests.BindAuto a) none = or_none (mine a.name) _ none
   same_speaks (requests.MayListen n) none = or_none (mine n) _ none
   same_speaks (requests.Listen n slot) none = or_none (mine n) _ none
-  same_speaks (requests.Free port) none = refl
+  same_speaks (requests.Free port net) none = refl
   same_speaks (requests.ConnectAuto a) none = or_none (mine a.name) _ none
   same_speaks (requests.ConnectBound n local remote rport) none = or_none (mine n) _ none
   same_speaks (requests.Inherit parent n local remote rport) none = or_none (mine n) _ none

@@ -3,9 +3,8 @@ use Rattle.std.proofs.Common.{◌≡◌, ℕ, Bool, true, false, eqb, ◌&&◌, 
 use Rattle.std.specs.Prelude.{◌==◌}
 use Rattle.std.proofs.lemmas.Bool.{eqb-true, eq-eqb, both_ways, false_from_ne_true, true≢false, false≢true, and_parts, and_cases, and_left, and_right, or_cases, or_left, or_right, not-false, not-true}
 use Rattle.sock_card.specs.declared.owner.Owner.{Owner}
-use Rattle.sock_card.specs.Conflict.{overlap, refuses, is_listening, is_time_wait}
+use Rattle.sock_card.specs.Conflict.{has_port, same_port, holds, is_mate, overlap, refuses, is_listening, is_time_wait}
 use Rattle.bind_buckets.specs.declared.tally.Tally.{Tally}
-use Rattle.bind_buckets.specs.OwnerStep.{holds, is_mate}
 use Rattle.bind_buckets.specs.OwnerCounts.{port_place, end_place, place_by_port, place_by_end, both_rule_out}
 use Rattle.bind_buckets.specs.Tally.{Counts, has_place, is_exclusive, is_held, is_grouped, is_unshared, rules_out}
 use Rattle.bind_buckets.proofs.Counted.{none_counted, none_where, none_of_both}
@@ -23,9 +22,12 @@ apart : (stride : ℕ) (a b : Owner) → beside stride a.port b ≡ false → (a
 apart stride a b out =
     false_from_ne_true (a.port == b.port) (λ e. both_ways (beside stride a.port b) out (eq-eqb _ _ (ap (port_place stride) (sym (eqb-true a.port b.port e)))))
 
+no_port : (stride : ℕ) (a b : Owner) → beside stride a.port b ≡ false → same_port a b ≡ false
+no_port stride a b out = and_right (a.net == b.net) (a.port == b.port) (apart stride a b out)
+
 no_overlap : (stride : ℕ) (a b : Owner) → beside stride a.port b ≡ false → overlap a b ≡ false
 unfolding overlap
-no_overlap stride a b out = rw (apart stride a b out) refl
+no_overlap stride a b out = rw (no_port stride a b out) refl
 
 pub none_overlaps_it : (stride : ℕ) (a : Owner) (t : Tally) (owners : List Owner) → eqb t.owners 0 ≡ true → Counts (beside stride a.port) t owners → find (overlap a) owners ≡ None
 none_overlaps_it stride a t owners none k =
@@ -78,11 +80,11 @@ ruled_out at a t owners told k =
     none_counted (λ b. at b && is_unshared t.uid b) here owners (λ b. within (at b) (is_unshared t.uid b) (refuses a b) (shares_port t.uid a b user.0 (eqb-true a.uid t.uid user.1))) (sym k.unshared ∙ eqb-true t.unshared 0 parts.1))
     (or_cases ((t.owners == 0) || a.reuseaddr && (t.exclusive == 0)) (a.reuseport && (a.uid == t.uid) && (t.unshared == 0)) told)
 
-same_port : (a b : Owner) → refuses a b ≡ true → b.port ≡ a.port
-same_port a b r = eqb-true b.port a.port (port_wanted a b (overlaps_if_refused a b r))
+its_port : (a b : Owner) → refuses a b ≡ true → b.port ≡ a.port
+its_port a b r = eqb-true b.port a.port (port_wanted a b (overlaps_if_refused a b r))
 
 beside_it : (stride : ℕ) (a b : Owner) → refuses a b ≡ true → beside stride a.port b ≡ true
-beside_it stride a b r = eq-eqb _ _ (ap (port_place stride) (same_port a b r))
+beside_it stride a b r = eq-eqb _ _ (ap (port_place stride) (its_port a b r))
 
 pub none_refuses_there : (stride : ℕ) (a : Owner) (t : Tally) (owners : List Owner) → rules_out t a ≡ true → Counts (beside stride a.port) t owners → find (refuses a) owners ≡ None
 none_refuses_there stride a t owners told k =
@@ -119,15 +121,15 @@ none_refuses_at stride a there any owners told k none_any =
     none_of_both (about stride a.port a.addr) (about stride a.port 0) (refuses a) owners (λ b. at_either stride a b (λ zero. both_ways (a.addr == 0) (not-true (a.addr == 0) first.0) zero))
     (ruled_out (about stride a.port a.addr) a there owners first.1 k) (none_any last.1)
 
-unheld : (stride port : ℕ) (b : Owner) → (beside stride port b && is_held b) ≡ false → holds port b ≡ false
-unheld stride port b out =
-    ⊎_elim (λ apart_from. and_left (b.port == port) (is_held b) (other_port stride port b apart_from))
-    (λ chosen. and_right (b.port == port) (is_held b) chosen)
+unheld : (stride port net : ℕ) (b : Owner) → (beside stride port b && is_held b) ≡ false → holds port net b ≡ false
+unheld stride port net b out =
+    ⊎_elim (λ apart_from. and_left (has_port port net b) (is_held b) (and_right (b.net == net) (b.port == port) (other_port stride port b apart_from)))
+    (λ chosen. and_right (has_port port net b) (is_held b) chosen)
     (and_cases (beside stride port b) (is_held b) out)
 
-pub none_holds_it : (stride port : ℕ) (t : Tally) (owners : List Owner) → eqb t.held 0 ≡ true → Counts (beside stride port) t owners → find (holds port) owners ≡ None
-none_holds_it stride port t owners none k =
-    none_counted (λ b. beside stride port b && is_held b) (holds port) owners (unheld stride port) (sym k.held ∙ eqb-true t.held 0 none)
+pub none_holds_it : (stride port net : ℕ) (t : Tally) (owners : List Owner) → eqb t.held 0 ≡ true → Counts (beside stride port) t owners → find (holds port net) owners ≡ None
+none_holds_it stride port net t owners none k =
+    none_counted (λ b. beside stride port b && is_held b) (holds port net) owners (unheld stride port net) (sym k.held ∙ eqb-true t.held 0 none)
 
 by_group : (l x y p d u i : Bool) → (p ≡ false) ⊎ ((l && y) ≡ false) → (l && (x && y) && p && d && u && i) ≡ false
 by_group l x y p d u i (inl e) = rw (e, and_right (l && (x && y)) false refl) refl
@@ -137,8 +139,8 @@ by_group true true y p d u i (inr e) = rw e refl
 
 no_mate_of : (stride : ℕ) (a b : Owner) → (beside stride a.port b && is_grouped b) ≡ false → is_mate a b ≡ false
 no_mate_of stride a b out =
-    by_group (is_listening b.state) a.reuseport b.reuseport (a.port == b.port) (a.dev == b.dev) (a.uid == b.uid) (a.addr == b.addr)
-    (⊎_elim (λ apart_from. inl (apart stride a b apart_from)) (λ ungrouped. inr ungrouped) (and_cases (beside stride a.port b) (is_grouped b) out))
+    by_group (is_listening b.state) a.reuseport b.reuseport (same_port a b) (a.dev == b.dev) (a.uid == b.uid) (a.addr == b.addr)
+    (⊎_elim (λ apart_from. inl (no_port stride a b apart_from)) (λ ungrouped. inr ungrouped) (and_cases (beside stride a.port b) (is_grouped b) out))
 
 pub no_mate_there : (stride : ℕ) (a : Owner) (t : Tally) (owners : List Owner) → eqb t.grouped 0 ≡ true → Counts (beside stride a.port) t owners → find (is_mate a) owners ≡ None
 no_mate_there stride a t owners none k =

@@ -13,9 +13,10 @@ use Rattle.bind_buckets.specs.declared.request.Request.{Request}
 use Rattle.bind_buckets.specs.declared.request.Request.TheVariants as requests
 use Rattle.bind_buckets.specs.First.{change_first, drop_first}
 use Rattle.sock_card.specs.Became.{as_listener, connected, child, as_waiting}
-use Rattle.bind_buckets.specs.OwnerStep.{Held, After, owner_step, has_name, holds, admitted, spoken, may_listen, listening, changed, with_owner, removed, without_waiting, waits_as}
+use Rattle.sock_card.specs.Conflict.{holds, owner_key}
+use Rattle.bind_buckets.specs.OwnerStep.{Held, After, owner_step, has_name, admitted, spoken, may_listen, listening, changed, with_owner, removed, without_waiting, waits_as}
 use Rattle.bind_buckets.specs.Journal.{OwnersAgree}
-use Rattle.bind_buckets.specs.Bucket.{Bucket, IsAllowed, IsGroup, StandsAt, is_port_of, step_of}
+use Rattle.bind_buckets.specs.Bucket.{Bucket, IsAllowed, IsGroup, StandsAt, is_key_of, step_of}
 use Rattle.bind_buckets.proofs.FirstPairs.{each_unless_found, each_drop, each_change, pairs_drop, pairs_first, pairs_change}
 use Rattle.bind_buckets.proofs.FreePort.{agrees_if_unheld, none_if_done}
 use Rattle.bind_buckets.proofs.CanListen.{unrefused}
@@ -39,10 +40,10 @@ admitted_agrees h a keeps_out None same none p =
 admitted_agrees h a keeps_out (Some other) same some p = p
 
 -- a newcomer for which `connect` chose a port that none holds
-chosen_agrees : (owners : List Owner) (a : Owner) → a.by_connect ≡ true → find (holds a.port) owners ≡ None → OwnersAgree owners → OwnersAgree (owners ++ a ∷ [])
+chosen_agrees : (owners : List Owner) (a : Owner) → a.by_connect ≡ true → find (holds a.port a.net) owners ≡ None → OwnersAgree owners → OwnersAgree (owners ++ a ∷ [])
 chosen_agrees owners a chosen none p =
     pairs_push Agree owners a p
-    (each_weaken (λ b. holds a.port b ≡ false) (λ b. Agree b a) owners (λ b h. agrees_if_unheld a b chosen h) (each_unless_found (holds a.port) owners none))
+    (each_weaken (λ b. holds a.port a.net b ≡ false) (λ b. Agree b a) owners (λ b h. agrees_if_unheld a b chosen h) (each_unless_found (holds a.port a.net) owners none))
 
 refuses_as_listener : (a b : Owner) → refuses (as_listener a) b ≡ refuses a b
 unfolding refuses overlap
@@ -51,6 +52,7 @@ refuses_as_listener a b = refl
 narrows_connected : (local remote rport : ℕ) (a : Owner) → StandsAt states.Bound local a → Narrows (connected local remote rport a) a
 narrows_connected local remote rport a s = record {
   port = refl;
+  net = refl;
   dev = refl;
   addr = s.addr;
   uid = refl;
@@ -65,6 +67,7 @@ narrows_connected local remote rport a s = record {
 narrows_child : (name local remote rport : ℕ) (a : Owner) → StandsAt states.Listening local a → Narrows (child name local remote rport a) a
 narrows_child name local remote rport a s = record {
   port = refl;
+  net = refl;
   dev = refl;
   addr = s.addr;
   uid = refl;
@@ -129,9 +132,9 @@ step_agrees b (requests.Listen name slot) allowed p =
     spoken_keeps OwnersAgree h name (listening h name slot) (find (has_name name) h.owners) p
     (λ a e. listening_agrees h.owners name a
     (unrefused b.number h a _ (subst (λ o. IsGroup (spoken h name o (may_listen b.number h name)).answer) e allowed)) p e)
-step_agrees b (requests.Free port) allowed p = p
+step_agrees b (requests.Free port net) allowed p = p
 step_agrees b (requests.ConnectAuto a) allowed p =
-    chosen_agrees b.held.owners a allowed.chosen (none_if_done (find (holds a.port) b.held.owners) allowed.free) p
+    chosen_agrees b.held.owners a allowed.chosen (none_if_done (find (holds a.port a.net) b.held.owners) allowed.free) p
 step_agrees b (requests.ConnectBound name local remote rport) allowed p =
     let h = b.held in
     let f = connected local remote rport in
@@ -155,46 +158,46 @@ step_agrees b (requests.Remove name) allowed p =
     spoken_keeps OwnersAgree h name (λ _. removed h name) (find (has_name name) h.owners) p
     (λ a e. pairs_drop (has_name name) Agree h.owners p)
 
-abbrev PortsOf : Bucket → List Owner → Type 0
-PortsOf b owners = Each (λ (a : Owner). is_port_of b a.port ≡ true) owners
+abbrev KeysOf : Bucket → List Owner → Type 0
+KeysOf b owners = Each (λ (a : Owner). is_key_of b (owner_key a) ≡ true) owners
 
-abbrev HasPort : Bucket → Owner → Type 0
-HasPort b a = is_port_of b a.port ≡ true
+abbrev HasKey : Bucket → Owner → Type 0
+HasKey b a = is_key_of b (owner_key a) ≡ true
 
-admitted_ports : (b : Bucket) (a : Owner) (o : Option Owner) → HasPort b a → PortsOf b b.held.owners → PortsOf b (admitted b.held a o).held.owners
-admitted_ports b a None h p = each_push (HasPort b) b.held.owners a p h
-admitted_ports b a (Some other) h p = p
+admitted_keys : (b : Bucket) (a : Owner) (o : Option Owner) → HasKey b a → KeysOf b b.held.owners → KeysOf b (admitted b.held a o).held.owners
+admitted_keys b a None h p = each_push (HasKey b) b.held.owners a p h
+admitted_keys b a (Some other) h p = p
 
-pub step_ports : (b : Bucket) (request : Request) → IsAllowed b request → PortsOf b b.held.owners → PortsOf b (step_of b request).held.owners
+pub step_keys : (b : Bucket) (request : Request) → IsAllowed b request → KeysOf b b.held.owners → KeysOf b (step_of b request).held.owners
 unfolding owner_step
-step_ports b (requests.Bind a) allowed p = admitted_ports b a (find (refuses a) b.held.owners) allowed p
-step_ports b (requests.BindAuto a) allowed p = admitted_ports b a (find (overlap a) b.held.owners) allowed p
-step_ports b (requests.MayListen name) allowed p =
-    spoken_keeps (PortsOf b) b.held name (may_listen b.number b.held name) (find (has_name name) b.held.owners) p (λ a e. p)
-step_ports b (requests.Listen name slot) allowed p =
+step_keys b (requests.Bind a) allowed p = admitted_keys b a (find (refuses a) b.held.owners) allowed p
+step_keys b (requests.BindAuto a) allowed p = admitted_keys b a (find (overlap a) b.held.owners) allowed p
+step_keys b (requests.MayListen name) allowed p =
+    spoken_keeps (KeysOf b) b.held name (may_listen b.number b.held name) (find (has_name name) b.held.owners) p (λ a e. p)
+step_keys b (requests.Listen name slot) allowed p =
     let h = b.held in
-    spoken_keeps (PortsOf b) h name (listening h name slot) (find (has_name name) h.owners) p
-    (λ a e. each_change (has_name name) (HasPort b) as_listener h.owners (λ x q. q) p)
-step_ports b (requests.Free port) allowed p = p
-step_ports b (requests.ConnectAuto a) allowed p = each_push (HasPort b) b.held.owners a p allowed.port
-step_ports b (requests.ConnectBound name local remote rport) allowed p =
+    spoken_keeps (KeysOf b) h name (listening h name slot) (find (has_name name) h.owners) p
+    (λ a e. each_change (has_name name) (HasKey b) as_listener h.owners (λ x q. q) p)
+step_keys b (requests.Free port net) allowed p = p
+step_keys b (requests.ConnectAuto a) allowed p = each_push (HasKey b) b.held.owners a p allowed.key
+step_keys b (requests.ConnectBound name local remote rport) allowed p =
     let h = b.held in
     let f = connected local remote rport in
-    spoken_keeps (PortsOf b) h name (λ _. changed h name f h.groups) (find (has_name name) h.owners) p
-    (λ a e. each_change (has_name name) (HasPort b) f h.owners (λ x q. q) p)
-step_ports b (requests.Inherit parent name local remote rport) allowed p =
+    spoken_keeps (KeysOf b) h name (λ _. changed h name f h.groups) (find (has_name name) h.owners) p
+    (λ a e. each_change (has_name name) (HasKey b) f h.owners (λ x q. q) p)
+step_keys b (requests.Inherit parent name local remote rport) allowed p =
     let h = b.held in
-    spoken_keeps (PortsOf b) h parent (λ listener. with_owner h (child name local remote rport listener)) (find (has_name parent) h.owners) p
-    (λ a e. each_push (HasPort b) h.owners (child name local remote rport a) p (each_found (HasPort b) (has_name parent) h.owners a p e))
-step_ports b (requests.ToTimeWait name) allowed p =
+    spoken_keeps (KeysOf b) h parent (λ listener. with_owner h (child name local remote rport listener)) (find (has_name parent) h.owners) p
+    (λ a e. each_push (HasKey b) h.owners (child name local remote rport a) p (each_found (HasKey b) (has_name parent) h.owners a p e))
+step_keys b (requests.ToTimeWait name) allowed p =
     let h = b.held in
-    spoken_keeps (PortsOf b) h name (λ _. changed h name as_waiting h.groups) (find (has_name name) h.owners) p
-    (λ a e. each_change (has_name name) (HasPort b) as_waiting h.owners (λ x q. q) p)
-step_ports b (requests.RemoveWaiting name) allowed p =
+    spoken_keeps (KeysOf b) h name (λ _. changed h name as_waiting h.groups) (find (has_name name) h.owners) p
+    (λ a e. each_change (has_name name) (HasKey b) as_waiting h.owners (λ x q. q) p)
+step_keys b (requests.RemoveWaiting name) allowed p =
     let h = b.held in
-    spoken_keeps (PortsOf b) h name (λ _. without_waiting h name) (find (waits_as name) h.owners) p
-    (λ a e. each_drop (waits_as name) (HasPort b) h.owners p)
-step_ports b (requests.Remove name) allowed p =
+    spoken_keeps (KeysOf b) h name (λ _. without_waiting h name) (find (waits_as name) h.owners) p
+    (λ a e. each_drop (waits_as name) (HasKey b) h.owners p)
+step_keys b (requests.Remove name) allowed p =
     let h = b.held in
-    spoken_keeps (PortsOf b) h name (λ _. removed h name) (find (has_name name) h.owners) p
-    (λ a e. each_drop (has_name name) (HasPort b) h.owners p)
+    spoken_keeps (KeysOf b) h name (λ _. removed h name) (find (has_name name) h.owners) p
+    (λ a e. each_drop (has_name name) (HasKey b) h.owners p)

@@ -1,9 +1,10 @@
--- Each allowed request leaves eight places, and at most sixteen members at each.
+-- Each allowed request leaves eight places, and no more members at each than there is room for.
 use Rattle.std.proofs.Common.{◌≡◌, ℕ, ◌≤◌, ◌<◌, Bool, true, false, cond, ltb, List, [], ◌∷◌, length, get_or, find, Some, None, Option, arith, refl, ◌∙◌, ap, subst, zero, suc}
 use Rattle.std.proofs.Math.ListN.{set}
 use Rattle.std.proofs.lemmas.Bool.Decides.{nat_tests}
 use Rattle.std.proofs.lemmas.List.{length-append, length-take, length-set}
 use Rattle.list_words.specs.Lists.{Each}
+use Rattle.sock_card.specs.Limits.{group_room}
 use Rattle.sock_card.specs.declared.owner.Owner.{Owner}
 use Rattle.sock_card.specs.Conflict.{overlap, refuses}
 use Rattle.bind_buckets.specs.declared.request.Request.{Request}
@@ -28,19 +29,19 @@ each_read P (x ∷ xs) zero d p q = p.0
 each_read P (x ∷ xs) (suc i) d p q = each_read P xs i d p.1 q
 
 abbrev pub Fits : List ℕ → Type 0
-Fits members = length members ≤ 16
+Fits members = length members ≤ group_room
 
 fits_left : (name : ℕ) (members : List ℕ) → Fits members → Fits (left_by name members)
 fits_left name members p = simp length-take (omega arith)
 
-room_if_group : (b : Bool) (x : Option ℕ) (n : ℕ) → b ≡ ltb n 16 → IsGroup (cond b (answers.Group x) answers.GroupFull) → n < 16
+room_if_group : (b : Bool) (x : Option ℕ) (n : ℕ) → b ≡ ltb n group_room → IsGroup (cond b (answers.Group x) answers.GroupFull) → n < group_room
 room_if_group true x n e g = grind (arith, nat_tests)
 room_if_group false x n e g = absurd g
 
 fits_with : (n : ℕ) (h : Held) (place : Option ℕ) (m : ℕ) → IsGroup (group_answer n h place) → Each Fits h.groups → Each Fits (with_member place m h.groups)
 fits_with n h None m g p = p
 fits_with n h (Some place) m g p =
-    let room : length (members_at h place) < 16 = room_if_group _ _ _ refl g in
+    let room : length (members_at h place) < group_room = room_if_group _ _ _ refl g in
     each_set Fits h.groups place (joined_by m (members_at h place)) p (simp length-append (omega arith))
 
 fits_joined : (n : ℕ) (h : Held) (a : Owner) (o : Option Owner) (b : Bool) (m : ℕ) → a.reuseport ≡ b → IsGroup (listener_answer n h a o) → Each Fits h.groups → Each Fits (cond b (with_member (place_for h a) m h.groups) h.groups)
@@ -73,7 +74,7 @@ step_fits b (requests.MayListen name) allowed p =
     spoken_keeps (Each Fits) b.held name (may_listen b.number b.held name) (find (has_name name) b.held.owners) p (λ a e. p)
 step_fits b (requests.Listen name slot) allowed p =
     spoken_keeps (Each Fits) b.held name (listening b.held name slot) (find (has_name name) b.held.owners) p (λ a e. listened b name slot a e allowed p)
-step_fits b (requests.Free port) allowed p = p
+step_fits b (requests.Free port net) allowed p = p
 step_fits b (requests.ConnectAuto a) allowed p = p
 step_fits b (requests.ConnectBound name local remote rport) allowed p =
     let h = b.held in
@@ -121,7 +122,7 @@ step_eight b (requests.MayListen name) p =
 step_eight b (requests.Listen name slot) p =
     spoken_keeps AreEight b.held name (listening b.held name slot) (find (has_name name) b.held.owners) p
     (λ a e. eight_joined a.reuseport (place_for b.held a) (member slot name) b.held.groups p)
-step_eight b (requests.Free port) p = p
+step_eight b (requests.Free port net) p = p
 step_eight b (requests.ConnectAuto a) p = p
 step_eight b (requests.ConnectBound name local remote rport) p =
     let h = b.held in

@@ -12,7 +12,7 @@ use Rattle.bind_buckets.specs.Journal.{OwnersAgree}
 use Rattle.bind_buckets.specs.HeldBy.{CanBeAt, CanCarryOut}
 use Rattle.bind_buckets.specs.Bucket.{Bucket, IsAllowed, IsSound, StandsAt, called, step_of, entry_of, entries_of}
 use Rattle.bind_buckets.proofs.Journals.{replayed_push, legal_push}
-use Rattle.bind_buckets.proofs.StaysAgreed.{step_agrees, step_ports}
+use Rattle.bind_buckets.proofs.StaysAgreed.{step_agrees, step_keys}
 use Rattle.bind_buckets.proofs.StaysGrouped.{step_eight, step_fits}
 
 pub sound_called : (b : Bucket) (request : Request) → IsSound b → IsAllowed b request → IsSound (called b request)
@@ -28,7 +28,7 @@ sound_called b request s allowed =
       legal = rw grown (legal_push n empty es e s.legal (rw (← s.replay) refl) (rw (← s.replay) agree));
       replay = rw grown (sym (replayed_push n empty es e ∙ ap (λ h. (owner_step n h request).held) (sym s.replay)));
       agree = agree;
-      ports = step_ports b request allowed s.ports;
+      keys = step_keys b request allowed s.keys;
       places = step_eight b request s.places;
       members = step_fits b request allowed s.members;
     }
@@ -43,7 +43,7 @@ can_carry_out b (requests.Bind a) h = tt
 can_carry_out b (requests.BindAuto a) h = tt
 can_carry_out b (requests.MayListen name) h = tt
 can_carry_out b (requests.Listen name slot) h = h
-can_carry_out b (requests.Free port) h = tt
+can_carry_out b (requests.Free port net) h = tt
 can_carry_out b (requests.ConnectAuto a) h = tt
 can_carry_out b (requests.ConnectBound name local remote rport) h = bound_there local (find (has_name name) b.held.owners) h
 can_carry_out b (requests.Inherit parent name local remote rport) h = tt

@@ -3,6 +3,7 @@ use Rattle.std.proofs.Common.{◌≡◌, ℕ, ◌≤◌, Bool, true, false, cond
 use Rattle.std.specs.Option.{option_map}
 use Rattle.std.proofs.lemmas.Bool.Decides.{nat_tests}
 use Rattle.list_words.specs.Lists.{Each}
+use Rattle.sock_card.specs.Limits.{group_room}
 use Rattle.sock_card.specs.declared.owner.Owner.{Owner}
 use Rattle.sock_card.specs.Conflict.{refuses}
 use Rattle.bind_buckets.specs.declared.request.Answer.{Answer}
@@ -84,7 +85,7 @@ cond_listens false x y p q = q
 group_answers : (n : ℕ) (h : Held) (place : Option ℕ) → IsOfListen (group_answer n h place)
 group_answers n h None = tt
 group_answers n h (Some place) =
-    cond_listens (ltb (length (members_at h place)) 16) (answers.Group (Some (group_number n place))) answers.GroupFull tt tt
+    cond_listens (ltb (length (members_at h place)) group_room) (answers.Group (Some (group_number n place))) answers.GroupFull tt tt
 
 listener_answers : (n : ℕ) (h : Held) (a : Owner) (o : Option Owner) → IsOfListen (listener_answer n h a o)
 listener_answers n h a (Some other) = tt
@@ -137,21 +138,21 @@ module _ (n : ℕ) (h : Held) (name : ℕ) (a : Owner) where
   no_place ends.GroupsFull q e = q
   no_place (ends.Strange other) q e = absurd (cc)
 
-  full : (end : ListenEnd) (place : ℕ) → place_for h a ≡ Some place → length (members_at h place) ≡ 16 → answer_of_end end ≡ answers.GroupFull → Hinders h name a end
+  full : (end : ListenEnd) (place : ℕ) → place_for h a ≡ Some place → length (members_at h place) ≡ group_room → answer_of_end end ≡ answers.GroupFull → Hinders h name a end
   full (ends.InUse other) place q most e = absurd (cc)
   full ends.GroupFull place q most e = rw q most
   full ends.GroupsFull place q most e = absurd (cc)
   full (ends.Strange other) place q most e = absurd (cc)
 
-  full_by : (end : ListenEnd) (place : ℕ) (b : Bool) (group : Option ℕ) → b ≡ ltb (length (members_at h place)) 16 → place_for h a ≡ Some place → length (members_at h place) ≤ 16 → answer_of_end end ≡ cond b (answers.Group group) answers.GroupFull → Hinders h name a end
+  full_by : (end : ListenEnd) (place : ℕ) (b : Bool) (group : Option ℕ) → b ≡ ltb (length (members_at h place)) group_room → place_for h a ≡ Some place → length (members_at h place) ≤ group_room → answer_of_end end ≡ cond b (answers.Group group) answers.GroupFull → Hinders h name a end
   full_by end place true group is q most e = absurd (no_group end group e)
   full_by end place false group is q most e =
-      let sixteen : length (members_at h place) ≡ 16 = grind (arith, nat_tests) in full end place q sixteen e
+      let full_there : length (members_at h place) ≡ group_room = grind (arith, nat_tests) in full end place q full_there e
 
   group_hinders : (end : ListenEnd) (place : Option ℕ) → place_for h a ≡ place → Each Fits h.groups → answer_of_end end ≡ group_answer n h place → Hinders h name a end
   group_hinders end None q fits e = no_place end q e
   group_hinders end (Some place) q fits e =
-      let none : 0 ≤ 16 = omega arith in
+      let none : 0 ≤ group_room = omega arith in
       full_by end place _ _ refl q (each_read Fits h.groups place [] fits none) e
 
   refused : (end : ListenEnd) (other : Owner) → find (refuses a) (others h name) ≡ Some other → answer_of_end end ≡ answers.InUse other.name → Hinders h name a end

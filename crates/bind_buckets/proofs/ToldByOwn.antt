@@ -13,7 +13,8 @@ use Rattle.bind_buckets.specs.declared.request.Answer.TheVariants as answers
 use Rattle.bind_buckets.specs.declared.request.Entry.{Entry}
 use Rattle.bind_buckets.specs.First.{change_first, drop_first}
 use Rattle.sock_card.specs.Became.{as_listener, connected, child, as_waiting}
-use Rattle.bind_buckets.specs.OwnerStep.{Held, owner_step, has_name, holds, free_answer, admitted, spoken, may_listen, listening, changed, with_owner, removed, without_waiting, waits_as, empty}
+use Rattle.sock_card.specs.Conflict.{holds}
+use Rattle.bind_buckets.specs.OwnerStep.{Held, owner_step, has_name, free_answer, admitted, spoken, may_listen, listening, changed, with_owner, removed, without_waiting, waits_as, empty}
 use Rattle.bind_buckets.specs.Journal.{IsLegalFrom, replayed_from, replayed}
 use Rattle.bind_buckets.specs.Followed.{done_by, told, told_from, speaks_of, IsWhole, is_mine, is_about, ToldByTheirOwn, FirstIsTold}
 use Rattle.bind_buckets.proofs.Filtered.{filter_change, filter_drop, find_filtered, unseen_change, unseen_drop}
@@ -26,9 +27,9 @@ auto_told : (h : Held) (a : Owner) (o : Option Owner) → (admitted h a o).held.
 auto_told h a None = refl
 auto_told h a (Some other) = refl
 
-free_told : (owners : List Owner) (port : ℕ) (answer : Answer) → owners ≡ told owners (requests.Free port) answer
-free_told owners port answers.Done = refl
-free_told owners port _ = refl
+free_told : (owners : List Owner) (port net : ℕ) (answer : Answer) → owners ≡ told owners (requests.Free port net) answer
+free_told owners port net answers.Done = refl
+free_told owners port net _ = refl
 
 asked_told : (owners : List Owner) (name : ℕ) (answer : Answer) → told owners (requests.MayListen name) answer ≡ owners
 asked_told owners name answers.Done = refl
@@ -69,7 +70,7 @@ step_told n h (requests.Bind a) = bind_told h a (find (refuses a) h.owners)
 step_told n h (requests.BindAuto a) = auto_told h a (find (overlap a) h.owners)
 step_told n h (requests.MayListen name) = may_told n h name (find (has_name name) h.owners)
 step_told n h (requests.Listen name slot) = listen_told h name slot (find (has_name name) h.owners)
-step_told n h (requests.Free port) = free_told h.owners port (free_answer (find (holds port) h.owners))
+step_told n h (requests.Free port net) = free_told h.owners port net (free_answer (find (holds port net) h.owners))
 step_told n h (requests.ConnectAuto a) = refl
 step_told n h (requests.ConnectBound name local remote rport) =
     connect_told h name local remote rport (find (has_name name) h.owners)
@@ -142,7 +143,7 @@ module _ (mine : ℕ → Bool) where
   done_seen (requests.BindAuto a) owners whole = push_by owners a (m a) refl
   done_seen (requests.MayListen name) owners whole = cond_same (mine name) (filter m owners)
   done_seen (requests.Listen name slot) owners whole = change_seen as_listener owners name (mine name) (λ a. refl) refl
-  done_seen (requests.Free port) owners whole = refl
+  done_seen (requests.Free port net) owners whole = refl
   done_seen (requests.ConnectAuto a) owners whole = push_by owners a (m a) refl
   done_seen (requests.ConnectBound name local remote rport) owners whole =
       change_seen (connected local remote rport) owners name (mine name) (λ a. refl) refl

@@ -3,7 +3,7 @@ use Rattle.std.proofs.Common.{◌≡◌, ℕ, true, ◌&&◌, ◌||◌, sym, ⊎
 use Rattle.std.specs.Prelude.{◌==◌, not}
 use Rattle.std.proofs.lemmas.Bool.{eqb-true, eq-eqb, and_parts, or_cases, or_left, or_right}
 use Rattle.sock_card.specs.declared.owner.Owner.{Owner}
-use Rattle.sock_card.specs.Conflict.{meet, overlap, refuses, both_reuse_addr, both_reuse_port, is_listening, is_time_wait}
+use Rattle.sock_card.specs.Conflict.{same_port, meet, overlap, refuses, both_reuse_addr, both_reuse_port, is_listening, is_time_wait}
 
 met : (a b : ℕ) → ((a == 0) ≡ true → ⊥) → meet a b ≡ true → ((b == a) || (b == 0)) ≡ true
 met a b other m =
@@ -17,13 +17,14 @@ met a b other m =
 pub port_wanted : (a b : Owner) → overlap a b ≡ true → (b.port == a.port) ≡ true
 unfolding overlap
 port_wanted a b o =
-    let both = and_parts ((a.port == b.port) && meet a.dev b.dev) (meet a.addr b.addr) o in
-    eq-eqb _ _ (sym (eqb-true _ _ (and_parts (a.port == b.port) (meet a.dev b.dev) both.0).0))
+    let both = and_parts (same_port a b && meet a.dev b.dev) (meet a.addr b.addr) o in
+    let port = and_parts (a.net == b.net) (a.port == b.port) (and_parts (same_port a b) (meet a.dev b.dev) both.0).0 in
+    eq-eqb _ _ (sym (eqb-true _ _ port.1))
 
 pub end_wanted : (a b : Owner) → ((a.addr == 0) ≡ true → ⊥) → overlap a b ≡ true → ((b.port == a.port) && ((b.addr == a.addr) || (b.addr == 0))) ≡ true
 unfolding overlap
 end_wanted a b other o =
-    let both = and_parts ((a.port == b.port) && meet a.dev b.dev) (meet a.addr b.addr) o in
+    let both = and_parts (same_port a b && meet a.dev b.dev) (meet a.addr b.addr) o in
     let port : (b.port == a.port) ≡ true = port_wanted a b o in
     rw port (met a.addr b.addr other both.1)
 

@@ -3,7 +3,8 @@ use Rattle.std.specs.Prelude.{◌≡◌, ℕ, true, List, length, Option, None, 
 use Rattle.std.specs.Option.{option_map}
 use Rattle.sock_card.specs.declared.owner.Owner.{Owner}
 use Rattle.list_words.specs.Lists.{Each}
-use Rattle.sock_card.specs.Conflict.{overlap, refuses}
+use Rattle.sock_card.specs.Limits.{group_room}
+use Rattle.sock_card.specs.Conflict.{overlap, refuses, has_port, holds}
 use Rattle.bind_buckets.specs.declared.request.Answer.{Answer}
 use Rattle.bind_buckets.specs.declared.request.Answer.TheVariants as answers
 use Rattle.bind_buckets.specs.declared.request.InUse.{InUse}
@@ -11,7 +12,7 @@ use Rattle.bind_buckets.specs.declared.request.NotFree.{NotFree}
 use Rattle.bind_buckets.specs.declared.request.Strange.{Strange}
 use Rattle.bind_buckets.specs.declared.request.ListenEnd.{ListenEnd}
 use Rattle.bind_buckets.specs.declared.request.ListenEnd.TheVariants as ends
-use Rattle.bind_buckets.specs.OwnerStep.{Held, has_name, waits_as, holds, others, place_for, members_at}
+use Rattle.bind_buckets.specs.OwnerStep.{Held, has_name, waits_as, others, place_for, members_at}
 
 -- the name of the first owner that refuses this one
 abbrev pub refusal : Owner → List Owner → Option ℕ
@@ -21,13 +22,13 @@ refusal a owners = option_map (λ (o : Owner). o.name) (find (refuses a) owners)
 abbrev pub overlapping : Owner → List Owner → Option ℕ
 overlapping a owners = option_map (λ (o : Owner). o.name) (find (overlap a) owners)
 
--- that of the first owner of the port that `connect` didn't choose
-abbrev pub holder : ℕ → List Owner → Option ℕ
-holder port owners = option_map (λ (o : Owner). o.name) (find (holds port) owners)
+-- that of the first owner of the port in that namespace that `connect` didn't choose
+abbrev pub holder : ℕ → ℕ → List Owner → Option ℕ
+holder port net owners = option_map (λ (o : Owner). o.name) (find (holds port net) owners)
 
--- `connect` chose each owner of the port
-abbrev pub AllByConnect : ℕ → List Owner → Type 0
-AllByConnect port owners = Each (λ (a : Owner). a.port ≡ port → a.by_connect ≡ true) owners
+-- `connect` chose each owner of the port in that namespace
+abbrev pub AllByConnect : ℕ → ℕ → List Owner → Type 0
+AllByConnect port net owners = Each (λ (a : Owner). has_port port net a ≡ true → a.by_connect ≡ true) owners
 
 abbrev pub answer_of_bind : Result (Unit {0}) InUse → Answer
 answer_of_bind (Ok done) = answers.Done
@@ -118,7 +119,7 @@ TakesIfErr (Err end) old new = new + 1 ≡ old
 -- why this owner, the first of that name, can't listen
 abbrev pub Hinders : Held → ℕ → Owner → ListenEnd → Type 0
 Hinders h name a (ends.InUse other) = refusal a (others h name) ≡ Some other
-Hinders h name a ends.GroupFull = IfSome (place_for h a) (λ place. length (members_at h place) ≡ 16)
+Hinders h name a ends.GroupFull = IfSome (place_for h a) (λ place. length (members_at h place) ≡ group_room)
 Hinders h name a ends.GroupsFull = place_for h a ≡ None
 Hinders h name a (ends.Strange other) = ⊥
 

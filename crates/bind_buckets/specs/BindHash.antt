@@ -1,4 +1,4 @@
--- The bind hash: a bucket for each remainder of a port, inet_bhashfn of include/net/inet_hashtables.h.
+-- The bind hash: a bucket for each remainder of a key, inet_bhashfn of include/net/inet_hashtables.h.
 use Rattle.std.specs.Prelude.{ℕ, ◌%◌, List, [], length, slice_set}
 use Rattle.std.specs.List.{slice_index_or}
 use Rattle.bind_buckets.specs.declared.request.Request.{Request}
@@ -10,11 +10,11 @@ use Rattle.bind_buckets.specs.Journal.{Standing, asked}
 abbrev pub untouched : Standing
 untouched = record { held = empty; entries = [] }
 
--- how the bucket of a port stands
+-- how the bucket of a key stands
 abbrev pub standing_at : List Standing → ℕ → Standing
 standing_at hash port = slice_index_or hash (port % length hash) untouched
 
--- all buckets, once that of a port was asked
+-- all buckets, once that of a key was asked
 abbrev pub asked_at : List Standing → ℕ → Request → List Standing
 asked_at hash port request =
     let number = port % length hash in slice_set hash number (asked number (standing_at hash port) request)

@@ -5,6 +5,8 @@ use Rattle.list_words.specs.Lists.{Each}
 use Rattle.sock_card.specs.declared.owner.Owner.{Owner}
 use Rattle.sock_card.specs.declared.owner.State.{State}
 use Rattle.sock_card.specs.declared.owner.State.TheVariants as states
+use Rattle.sock_card.specs.Limits.{group_room}
+use Rattle.sock_card.specs.Conflict.{owner_key}
 use Rattle.bind_buckets.specs.declared.request.Request.{Request}
 use Rattle.bind_buckets.specs.declared.request.Request.TheVariants as requests
 use Rattle.bind_buckets.specs.declared.request.Answer.{Answer}
@@ -80,9 +82,9 @@ pub record HasRoom (b : Bucket) (request : Request) : Type 0 where
   pub entry : length b.held.owners ≤ length (step_of b request).held.owners → 1 ≤ b.entries
   pub newcomer : brings_owner request ≡ true → 1 ≤ b.newcomers
 
--- the port is one of this bucket's
-abbrev pub is_port_of : Bucket → ℕ → Bool
-is_port_of b port = port % b.buckets == b.number
+-- the key is one of this bucket's
+abbrev pub is_key_of : Bucket → ℕ → Bool
+is_key_of b key = key % b.buckets == b.number
 
 -- an owner in that state, whose address is 0.0.0.0 or that one
 pub record StandsAt (wanted : State) (local : ℕ) (a : Owner) : Type 0 where
@@ -101,23 +103,23 @@ IsGroup _ = ⊥
 abbrev pub CanListen : Bucket → ℕ → Type 0
 CanListen b name = IsGroup (answer_to b (requests.MayListen name))
 
--- as the bucket stands, `connect` may choose the port
-abbrev pub CanConnect : Bucket → ℕ → Type 0
-CanConnect b port = answer_to b (requests.Free port) ≡ answers.Done
+-- as the bucket stands, `connect` may choose the port in that namespace
+abbrev pub CanConnect : Bucket → ℕ → ℕ → Type 0
+CanConnect b port net = answer_to b (requests.Free port net) ≡ answers.Done
 
 -- an owner for which `connect` has chosen such a port
 pub record ComesByConnect (b : Bucket) (a : Owner) : Type 0 where
-  pub port : is_port_of b a.port ≡ true
-  pub free : CanConnect b a.port
+  pub key : is_key_of b (owner_key a) ≡ true
+  pub free : CanConnect b a.port a.net
   pub chosen : a.by_connect ≡ true
 
 -- the conditions of each call
 abbrev pub IsAllowed : Bucket → Request → Type 0
-IsAllowed b (requests.Bind a) = is_port_of b a.port ≡ true
-IsAllowed b (requests.BindAuto a) = is_port_of b a.port ≡ true
+IsAllowed b (requests.Bind a) = is_key_of b (owner_key a) ≡ true
+IsAllowed b (requests.BindAuto a) = is_key_of b (owner_key a) ≡ true
 IsAllowed b (requests.MayListen name) = Unit {0}
 IsAllowed b (requests.Listen name slot) = CanListen b name
-IsAllowed b (requests.Free port) = Unit {0}
+IsAllowed b (requests.Free port net) = Unit {0}
 IsAllowed b (requests.ConnectAuto a) = ComesByConnect b a
 IsAllowed b (requests.ConnectBound name local remote rport) = NamesOne states.Bound local name b
 IsAllowed b (requests.Inherit parent name local remote rport) = NamesOne states.Listening local parent b
@@ -146,9 +148,9 @@ pub record IsSound (b : Bucket) : Type 0 where
   pub legal : IsLegal b.number (entries_of b.journal)
   pub replay : b.held ≡ replayed b.number (entries_of b.journal)
   pub agree : OwnersAgree b.held.owners
-  pub ports : Each (λ (a : Owner). is_port_of b a.port ≡ true) b.held.owners
+  pub keys : Each (λ (a : Owner). is_key_of b (owner_key a) ≡ true) b.held.owners
   pub places : length b.held.groups ≡ 8
-  pub members : Each (λ members. length members ≤ 16) b.held.groups
+  pub members : Each (λ members. length members ≤ group_room) b.held.groups
 
 -- an allowed request leaves owners that agree, where they did
 abbrev pub StaysAgreed : Type 0

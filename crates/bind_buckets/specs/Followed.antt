@@ -19,7 +19,7 @@ done_by owners (requests.Bind a) = owners ++ a ∷ []
 done_by owners (requests.BindAuto a) = owners ++ a ∷ []
 done_by owners (requests.MayListen name) = owners
 done_by owners (requests.Listen name slot) = change_first (has_name name) as_listener owners
-done_by owners (requests.Free port) = owners
+done_by owners (requests.Free port net) = owners
 done_by owners (requests.ConnectAuto a) = owners ++ a ∷ []
 done_by owners (requests.ConnectBound name local remote rport) =
     change_first (has_name name) (connected local remote rport) owners
@@ -44,7 +44,7 @@ speaks_of mine (requests.Bind a) = mine a.name
 speaks_of mine (requests.BindAuto a) = mine a.name
 speaks_of mine (requests.MayListen name) = mine name
 speaks_of mine (requests.Listen name slot) = mine name
-speaks_of mine (requests.Free port) = false
+speaks_of mine (requests.Free port net) = false
 speaks_of mine (requests.ConnectAuto a) = mine a.name
 speaks_of mine (requests.ConnectBound name local remote rport) = mine name
 speaks_of mine (requests.Inherit parent name local remote rport) = mine name

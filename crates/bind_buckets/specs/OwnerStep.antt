@@ -1,12 +1,13 @@
 -- What a request to a bind bucket leaves and answers: inet_csk_get_port, inet_csk_find_open_port, inet_csk_bind_conflict
 -- and inet_csk_listen_start of net/ipv4/inet_connection_sock.c, __inet_hash_connect, __inet_inherit_port and inet_put_port
 -- of net/ipv4/inet_hashtables.c, reuseport_alloc and reuseport_add_sock of net/core/sock_reuseport.c. Our own rule: eight places for groups in a bucket,
--- and sixteen members in a group.
+-- and room for so many members in a group.
 use Rattle.std.specs.Prelude.{ℕ, ◌+◌, ◌*◌, Bool, ◌==◌, ◌&&◌, not, nat_lt, List, [], ◌∷◌, ◌++◌, length, Option, None, Some, if◌then◌else◌, find, position, replicate, slice_set}
 use Rattle.std.specs.List.{slice_index_or}
 use Rattle.std.specs.Option.{option_or, option_and_then}
 use Rattle.sock_card.specs.declared.owner.Owner.{Owner}
-use Rattle.sock_card.specs.Conflict.{overlap, refuses, is_listening, is_time_wait, both_reuse_port}
+use Rattle.sock_card.specs.Limits.{group_room}
+use Rattle.sock_card.specs.Conflict.{overlap, refuses, holds, is_mate, is_time_wait}
 use Rattle.sock_card.specs.Became.{as_listener, connected, child, as_waiting}
 use Rattle.bind_buckets.specs.declared.request.Request.{Request}
 use Rattle.bind_buckets.specs.declared.request.Request.TheVariants as requests
@@ -47,10 +48,6 @@ abbrev pub admitted : Held → Owner → Option Owner → After
 admitted h a None = with_owner h a
 admitted h a (Some other) = kept h (answers.InUse other.name)
 
--- the owner has that port, and `connect` didn't choose it
-abbrev pub holds : ℕ → Owner → Bool
-holds port a = (a.port == port) && not a.by_connect
-
 -- whether `connect` may choose a port that none holds, or one does
 abbrev pub free_answer : Option Owner → Answer
 free_answer None = answers.Done
@@ -63,12 +60,6 @@ spoken h name (Some a) speak = speak a
 
 abbrev pub named : Held → ℕ → (Owner → After) → After
 named h name speak = spoken h name (find (has_name name) h.owners) speak
-
--- b is a listener with whose group a would listen
-abbrev pub is_mate : Owner → Owner → Bool
-is_mate a b =
-    is_listening b.state && both_reuse_port a b
-    && (a.port == b.port) && (a.dev == b.dev) && (a.uid == b.uid) && (a.addr == b.addr)
 
 abbrev pub is_free : List ℕ → Bool
 is_free members = length members == 0
@@ -92,7 +83,7 @@ group_number number place = 8 * number + place
 abbrev pub group_answer : ℕ → Held → Option ℕ → Answer
 group_answer number h None = answers.GroupsFull
 group_answer number h (Some place) =
-    if nat_lt (length (members_at h place)) 16 then answers.Group (Some (group_number number place)) else answers.GroupFull
+    if nat_lt (length (members_at h place)) group_room then answers.Group (Some (group_number number place)) else answers.GroupFull
 
 -- the answer to a listener that none refuses, or one does
 abbrev pub listener_answer : ℕ → Held → Owner → Option Owner → Answer
@@ -147,7 +138,7 @@ owner_step number h (requests.Bind a) = admitted h a (find (refuses a) h.owners)
 owner_step number h (requests.BindAuto a) = admitted h a (find (overlap a) h.owners)
 owner_step number h (requests.MayListen name) = named h name (may_listen number h name)
 owner_step number h (requests.Listen name slot) = named h name (listening h name slot)
-owner_step number h (requests.Free port) = kept h (free_answer (find (holds port) h.owners))
+owner_step number h (requests.Free port net) = kept h (free_answer (find (holds port net) h.owners))
 owner_step number h (requests.ConnectAuto a) = with_owner h a
 owner_step number h (requests.ConnectBound name local remote rport) =
     named h name (λ _. changed h name (connected local remote rport) h.groups)

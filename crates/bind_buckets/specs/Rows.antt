@@ -29,6 +29,7 @@ bound name uid reuseaddr reuseport =
       remote = 0;
       rport = 0;
       dev = 0;
+      net = 0;
       uid = uid;
       reuseaddr = reuseaddr;
       reuseport = reuseport;
@@ -78,7 +79,7 @@ OneListens =
 abbrev pub SearchIsStrict : Type 0
 SearchIsStrict =
     answers_from 0 empty
-    (takes 1 1 true false ∷ requests.BindAuto (bound 2 1 true false) ∷ requests.Free 80 ∷ requests.Free 81 ∷ [])
+    (takes 1 1 true false ∷ requests.BindAuto (bound 2 1 true false) ∷ requests.Free 80 0 ∷ requests.Free 81 0 ∷ [])
     ≡ answers.Done ∷ answers.InUse 1 ∷ answers.NotFree 1 ∷ answers.Done ∷ []
 
 -- a full socket closes: while it waits it keeps its port from a newcomer, and then the port is free

@@ -2,14 +2,14 @@
 use Rattle.std.specs.Prelude.{◌≡◌, ℕ, ◌+◌, ◌*◌, ◌<◌, ◌≤◌, Bool, true, false, ◌==◌, ◌&&◌, ◌||◌, List, [], ◌∷◌, map, filter, length, Option, None, Some, zero, suc, min, slice_index, IfSome}
 use Rattle.std.specs.List.{slice_index_or}
 use Rattle.sock_card.specs.declared.owner.Owner.{Owner}
-use Rattle.sock_card.specs.Conflict.{refuses, overlap}
+use Rattle.sock_card.specs.Conflict.{refuses, overlap, holds, is_mate}
 use Rattle.bind_buckets.specs.declared.slot.Slot.{Slot}
 use Rattle.bind_buckets.specs.declared.slot.Asked.{Asked}
 use Rattle.bind_buckets.specs.declared.slot.Asked.TheVariants as asks
 use Rattle.bind_buckets.specs.declared.slot.Under.{Under}
 use Rattle.bind_buckets.specs.declared.slot.Under.TheVariants as unders
 use Rattle.bind_buckets.specs.Links.{Keyed, IsFirstIn, place_or_end, IsAfter}
-use Rattle.bind_buckets.specs.OwnerStep.{has_name, waits_as, is_mate, holds}
+use Rattle.bind_buckets.specs.OwnerStep.{has_name, waits_as}
 
 -- the owners that are here, oldest first
 abbrev pub owners_in : List Slot → List Owner
@@ -22,7 +22,7 @@ answers (asks.Waiting name) = waits_as name
 answers (asks.Refuses a) = refuses a
 answers (asks.Overlaps a) = overlap a
 answers (asks.Groups a) = is_mate a
-answers (asks.Holds port) = holds port
+answers (asks.Holds port net) = holds port net
 
 -- an owner is here of which it holds
 abbrev pub has : Asked → Slot → Bool

@@ -136,7 +136,7 @@ pub record OneAsked (place : ℕ) (request : Request) (answer : Answer) (v w : V
   pub asked : IsAsked place request answer entry
   pub gave : Gave v w (entry ∷ [])
 
--- where these entries and one more are lawful, the one is a question to the bucket of its port as the others leave it
+-- where these entries and one more are lawful, the one is a question to the bucket of its key as the others leave it
 abbrev pub AsksOneMore : Type 0
 AsksOneMore =
     (count port : ℕ) (request : Request) (answer : Answer) (given : List (Placed Entry)) (x : Placed Entry)

@@ -2,6 +2,7 @@
 
 ghost use Rattle.std.specs.Prelude.{◌≡◌, ◌+◌, ◌-◌, ◌/◌, ◌≤◌, ◌<◌, true, nat_lt, length, if◌then◌else◌, OnOk, OnErr, IfErr, IfOk, find, None, IfSome};
 ghost use Rattle.std.specs.Option.{option_copied};
+ghost use Rattle.sock_card.specs.Conflict.{owner_key};
 ghost use Rattle.sock_card.specs.Became.{as_listener, connected, child, as_waiting};
 ghost use Rattle.bind_buckets.specs.HeldBy.{held_by};
 ghost use Rattle.bind_buckets.specs.OwnerStep.{has_name, with_last, waits_as, empty};
@@ -19,7 +20,7 @@ use std::alloc::{AllocError, Global};
 use std::marker::Model;
 use turn_table::{Journaled, Note};
 
-/// A bind bucket: the owners of the ports that hash there, oldest first, the groups of its listeners,
+/// A bind bucket: the owners of the keys that hash there, oldest first, the groups of its listeners,
 /// and a journal of all calls.
 ///
 /// A name may stand at more than one owner; calls on a name speak of the first. The room that
@@ -171,7 +172,8 @@ pub(crate) fn listen_result(answer: Answer) -> Result<Option<u32>, ListenEnd>
 impl Bucket {
     /// An empty bucket of that number among so many, 256 at most, without room. It takes no memory.
     ///
-    /// A port is one of this bucket's where it leaves `number` when divided by `buckets`.
+    /// A key, which is a port and its namespace's number added up, is one of this bucket's where it
+    /// leaves `number` when divided by `buckets`.
     pub fn new(alloc: Global, number: u32, buckets: u32) -> Self
         requires number { number < buckets }
         requires buckets { buckets ≤ 256 }
@@ -192,11 +194,11 @@ impl Bucket {
         }
     }
 
-    /// Whether the port is one of this bucket's. Constant cost.
-    pub fn has_port(&self, port: u16) -> bool
-        ensures { result ≡ spec.is_port_of self.now port }
+    /// Whether the key is one of this bucket's. Constant cost.
+    pub fn has_key(&self, key: u32) -> bool
+        ensures { result ≡ spec.is_key_of self.now key }
     {
-        u32::from(port) % self.buckets == self.number
+        key % self.buckets == self.number
     }
 
     /// The first owner of that name. Constant cost, and no note.
@@ -265,7 +267,7 @@ impl Bucket {
     /// user. Else it goes through the port's owners at this address and 0.0.0.0, or for a newcomer at
     /// 0.0.0.0 through all of the port's, up to the first that refuses.
     pub fn bind(&mut self, owner: Owner) -> Result<(), InUse>
-        requires port { spec.is_port_of self.old owner.port ≡ true }
+        requires key { spec.is_key_of self.old (owner_key owner) ≡ true }
         requires entry { 1 ≤ self.old.entries }
         requires newcomer { 1 ≤ self.old.newcomers }
         ensures after { self.new ≡ called self.old (Request.Bind owner) }
@@ -285,7 +287,7 @@ impl Bucket {
     /// `InUse` names the first owner that does, and the bucket holds what it held. It goes through the
     /// port's owners as [`Bucket::bind`] does, up to the first that overlaps.
     pub fn bind_auto(&mut self, owner: Owner) -> Result<(), InUse>
-        requires port { spec.is_port_of self.old owner.port ≡ true }
+        requires key { spec.is_key_of self.old (owner_key owner) ≡ true }
         requires entry { 1 ≤ self.old.entries }
         requires newcomer { 1 ≤ self.old.newcomers }
         ensures after { self.new ≡ called self.old (Request.BindAuto owner) }
@@ -299,23 +301,23 @@ impl Bucket {
         bind_result(self.carry_out(Request::BindAuto(owner)))
     }
 
-    /// Whether `connect` may choose that port as the bucket stands (`__inet_hash_connect`): nobody
-    /// owns it, or only sockets for which `connect` chose it, too.
+    /// Whether `connect` may choose that port in that namespace as the bucket stands
+    /// (`__inet_hash_connect`): nobody owns it there, or only sockets for which `connect` chose it, too.
     ///
-    /// `NotFree` names the first other owner of the port. The bucket holds what it held. It goes
+    /// `NotFree` names the first other owner of the port there. The bucket holds what it held. It goes
     /// through the port's owners, up to that one, unless their counts tell that there is none.
-    pub fn free(&mut self, port: u16) -> Result<(), NotFree>
+    pub fn free(&mut self, port: u16, net: u8) -> Result<(), NotFree>
         requires entry { 1 ≤ self.old.entries }
-        ensures after { self.new ≡ called self.old (Request.Free port) }
-        ensures answer { answer_of_free result ≡ answer_to self.old (Request.Free port) }
+        ensures after { self.new ≡ called self.old (Request.Free port net) }
+        ensures answer { answer_of_free result ≡ answer_to self.old (Request.Free port net) }
         ensures kept { self.new.held ≡ self.old.held }
-        ensures free { OnOk result (CanConnect self.new port) }
-        ensures chosen { OnOk result (AllByConnect port self.old.held.owners) }
-        ensures not_free { holder_told result ≡ holder port self.old.held.owners }
+        ensures free { OnOk result (CanConnect self.new port net) }
+        ensures chosen { OnOk result (AllByConnect port net self.old.held.owners) }
+        ensures not_free { holder_told result ≡ holder port net self.old.held.owners }
         ensures entries { self.new.entries + 1 ≡ self.old.entries }
         ensures newcomers { self.new.newcomers ≡ self.old.newcomers }
     {
-        free_result(self.carry_out(Request::Free { port }))
+        free_result(self.carry_out(Request::Free { port, net }))
     }
 
     /// Takes in a newcomer for which `connect` chose its port, where [`Bucket::free`] answers `Ok` as
@@ -323,8 +325,8 @@ impl Bucket {
     ///
     /// No conflict is looked for: such sockets are told apart by their other ends. Constant cost.
     pub fn connect_auto(&mut self, owner: Owner)
-        requires port { spec.is_port_of self.old owner.port ≡ true }
-        requires free { CanConnect self.old owner.port }
+        requires key { spec.is_key_of self.old (owner_key owner) ≡ true }
+        requires free { CanConnect self.old owner.port owner.net }
         requires chosen { owner.by_connect ≡ true }
         requires entry { 1 ≤ self.old.entries }
         requires newcomer { 1 ≤ self.old.newcomers }
@@ -339,12 +341,12 @@ impl Bucket {
     /// Whether the socket of that name may listen as the bucket stands, and in which group.
     ///
     /// Without `reuseport` it has no group. With it, it joins the listeners that have its port,
-    /// address, device and user, or begins a group at the first free place; the group's number is
+    /// namespace, address, device and user, or begins a group at the first free place; the group's number is
     /// 8 times the bucket's and the place. Refusals are tested in this order: no owner has that name,
     /// another owner keeps it from its port, no place is free for a group that it needs, its group
-    /// has sixteen members. The bucket holds what it held. It goes through the port's owners as
+    /// has no room for one more. The bucket holds what it held. It goes through the port's owners as
     /// [`Bucket::bind`] does, and once more for its mates, up to the first, where a listener with
-    /// `reuseport` may be one; and through at most 128 members.
+    /// `reuseport` may be one; and through at most 512 members.
     pub fn may_listen(&mut self, name: u32) -> Result<Option<u32>, ListenEnd>
         requires entry { 1 ≤ self.old.entries }
         ensures after { self.new ≡ called self.old (Request.MayListen name) }
@@ -363,7 +365,7 @@ impl Bucket {
     /// stands; with `reuseport` it joins its group as a member with that slot, at the end.
     ///
     /// Constant cost; with `reuseport` it goes through the port's owners at its address and 0.0.0.0 up to
-    /// the first mate, where a listener with `reuseport` may be one, and through at most 128 members.
+    /// the first mate, where a listener with `reuseport` may be one, and through at most 512 members.
     pub fn listen(&mut self, name: u32, slot: u32)
         requires entry { 1 ≤ self.old.entries }
         requires free { CanListen self.old name }
@@ -464,7 +466,7 @@ impl Bucket {
     /// Takes out the first owner of that name (`inet_put_port`), and the member of that name from
     /// its group, in whose place the last one stands then (`reuseport_detach_sock`).
     ///
-    /// It uses the entry that was kept for the owner. It goes through at most 128 members.
+    /// It uses the entry that was kept for the owner. It goes through at most 512 members.
     pub fn remove(&mut self, name: u32) -> Result<(), Strange>
         requires { find (has_name name) self.old.held.owners ≡ None → 1 ≤ self.old.entries }
         ensures after { self.new ≡ called self.old (Request.Remove name) }

@@ -3,7 +3,7 @@
 //! Those by port answer most questions. Where many owners share a port at one address, and one at
 //! another address shares it with none, those by address still tell that none refuses a newcomer.
 
-ghost use Rattle.std.specs.Prelude.{◌≡◌, ◌==◌, ◌||◌, ◌+◌, ◌^◌, ◌<◌, ◌≤◌, Bool, true, List, [], ◌∷◌, ◌++◌, length, find, None, Some, OnOk};
+ghost use Rattle.std.specs.Prelude.{ℕ, ◌≡◌, ◌==◌, ◌||◌, ◌+◌, ◌^◌, ◌<◌, ◌≤◌, Bool, true, List, [], ◌∷◌, ◌++◌, length, find, None, Some, OnOk};
 ghost use Rattle.sock_card.specs.Conflict as conflict_spec;
 ghost use Rattle.bind_buckets.specs.OwnerStep as step_spec;
 ghost use Rattle.bind_buckets.specs.First.{change_first, drop_first};
@@ -180,12 +180,12 @@ impl OwnerCounts {
         self.at_port(owner.port).owners == 0
     }
 
-    /// Whether the counts tell that `connect` chose the port of each owner that has that one.
-    /// Constant cost.
+    /// Whether the counts tell that `connect` chose the port of each owner that has that one, in whatever
+    /// namespace. Constant cost.
     pub fn none_holds(&self, port: u16) -> bool
         ensures counts { result ≡ (port_tally self.now port).held == 0 }
         ensures none { result ≡ true → (owners : List Owner) → IsCountOf self.now owners
-            → find (step_spec.holds port) owners ≡ None }
+            → (net : ℕ) → find (conflict_spec.holds port net) owners ≡ None }
     {
         self.at_port(port).held == 0
     }
@@ -194,7 +194,7 @@ impl OwnerCounts {
     pub fn no_mate(&self, owner: &Owner) -> bool
         ensures counts { result ≡ (port_tally self.now owner.now.port).grouped == 0 }
         ensures none { result ≡ true → (owners : List Owner) → IsCountOf self.now owners
-            → find (step_spec.is_mate owner.now) owners ≡ None }
+            → find (conflict_spec.is_mate owner.now) owners ≡ None }
     {
         self.at_port(owner.port).grouped == 0
     }

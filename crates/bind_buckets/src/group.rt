@@ -1,27 +1,30 @@
 //! The members of one group of listeners.
 
 ghost use Rattle.std.specs.Prelude.{◌≡◌, ◌≤◌, ◌<◌, [], length, position, nat_lt, true};
+ghost use Rattle.sock_card.specs.Limits.{group_room};
 ghost use Rattle.bind_buckets.specs.Members as spec;
 ghost use Rattle.bind_buckets.specs.OwnerStep as step_spec;
 
 use arrayvec::ArrayVec;
+use sock_card::GROUP_ROOM;
 use std::marker::Model;
 
-/// The members of a group, at most sixteen: of each the slot of its card in the upper half of the
+/// The members of a group, at most [`GROUP_ROOM`]: of each the slot of its card in the upper half of the
 /// number, and its name in the lower.
 #[derive(Drop)]
 pub struct Group {
-    members: ArrayVec<u64, 16>,
+    members: ArrayVec<u64, GROUP_ROOM>,
 }
 
 impl Model for Group {
     ghost use Rattle.std.specs.Prelude.{ℕ, ◌≤◌, List, length};
+    ghost use Rattle.sock_card.specs.Limits.{group_room};
 
     ghost Value = { List ℕ };
 
     ghost view = { λ g. g.members.items };
 
-    ghost invariant = { λ g. length g.members.items ≤ 16 };
+    ghost invariant = { λ g. length g.members.items ≤ group_room };
 }
 
 fn is_named(name: u32, member: u64) -> bool
@@ -47,7 +50,7 @@ impl Group {
 
     pub fn members(&self) -> &[u64]
         ensures members { result.now ≡ self.now }
-        ensures most { length result.now ≤ 16 }
+        ensures most { length result.now ≤ group_room }
     {
         self.members.as_slice()
     }
@@ -59,9 +62,9 @@ impl Group {
     }
 
     pub fn has_room(&self) -> bool
-        ensures { result ≡ nat_lt (length self.now) 16 }
+        ensures { result ≡ nat_lt (length self.now) group_room }
     {
-        self.members.len() < 16
+        self.members.len() < GROUP_ROOM
     }
 
     pub fn has_member(&self, name: u32) -> bool
@@ -75,7 +78,7 @@ impl Group {
 
     /// Appends a member.
     pub fn join(&mut self, slot: u32, name: u32)
-        requires { length self.old < 16 }
+        requires { length self.old < group_room }
         ensures { self.new ≡ spec.joined_by (spec.member slot name) self.old }
     {
         self.members

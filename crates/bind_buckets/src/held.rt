@@ -82,12 +82,12 @@ impl Held {
         }
     }
 
-    fn free(&self, port: u16) -> Answer
+    fn free(&self, port: u16, net: u8) -> Answer
         ensures { IsStep
-            (spec.kept (held_by self.now) (spec.free_answer (find (spec.holds port) self.now.owners.owners)))
+            (spec.kept (held_by self.now) (spec.free_answer (find (conflict_spec.holds port net) self.now.owners.owners)))
             self.now result }
     {
-        match self.owners.holder(port) {
+        match self.owners.holder(port, net) {
             Some(owner) => Answer::NotFree(owner.name),
             None => Answer::Done,
         }
@@ -280,7 +280,7 @@ impl Held {
             Request::BindAuto(owner) => self.bind_auto(owner),
             Request::MayListen { name } => self.may_listen(number, name),
             Request::Listen { name, slot } => self.listen(number, name, slot),
-            Request::Free { port } => self.free(port),
+            Request::Free { port, net } => self.free(port, net),
             Request::ConnectAuto(owner) => self.admit(owner),
             Request::ConnectBound {
                 name,

@@ -33,7 +33,7 @@ pub fn rows()
 {}
 
 /// What a pass that is alone gave tells how all buckets stand, and each entry more is one question to
-/// the bucket of its port.
+/// the bucket of its key.
 pub fn given()
     ensures asked { law_of_turns.AsksOneMore }
 {}

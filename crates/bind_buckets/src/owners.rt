@@ -156,20 +156,20 @@ impl Owners {
         }
     }
 
-    /// The first owner of that port that `connect` didn't choose.
-    pub fn holder(&self, port: u16) -> Option<Owner>
-        ensures { result ≡ find (spec.holds port) self.now.owners }
+    /// The first owner of that port in that namespace that `connect` didn't choose.
+    pub fn holder(&self, port: u16, net: u8) -> Option<Owner>
+        ensures { result ≡ find (conflict_spec.holds port net) self.now.owners }
     {
         if self.counts.none_holds(port) {
             None
         } else {
-            self.list.first(Asked::Holds(port))
+            self.list.first(Asked::Holds(port, net))
         }
     }
 
     /// The first listener whose group this owner would join.
     pub fn mate(&self, owner: &Owner) -> Option<Owner>
-        ensures { result ≡ find (spec.is_mate owner.now) self.now.owners }
+        ensures { result ≡ find (conflict_spec.is_mate owner.now) self.now.owners }
     {
         if self.counts.no_mate(owner) {
             None

@@ -4,7 +4,7 @@ use sock_card::Owner;
 
 /// A call on a bucket, as its journal keeps it.
 ///
-/// `Bind`, `BindAuto` and `ConnectAuto` bring an owner, and `Free` speaks of all owners of a port.
+/// `Bind`, `BindAuto` and `ConnectAuto` bring an owner, and `Free` speaks of all owners of a port in a namespace.
 /// `RemoveWaiting` speaks of the first owner of a name that is in TIME_WAIT, the others of the first
 /// owner of a name.
 ///
@@ -22,6 +22,7 @@ pub enum Request {
     },
     Free {
         port: u16,
+        net: u8,
     },
     ConnectAuto(Owner),
     ConnectBound {
@@ -57,13 +58,13 @@ pub enum Answer {
     Group(Option<u32>),
     /// The owner of that name refuses it.
     InUse(u32),
-    /// The group has sixteen members.
+    /// The group has no room for one more.
     GroupFull,
     /// The bucket has eight groups.
     GroupsFull,
     /// No owner has that name; of `RemoveWaiting`, none in TIME_WAIT.
     Strange(u32),
-    /// The owner of that name has the port, and `connect` didn't choose it.
+    /// The owner of that name has the port in the namespace, and `connect` didn't choose it.
     NotFree(u32),
 }
 
@@ -107,7 +108,7 @@ pub struct NotFree(pub u32);
 pub enum ListenEnd {
     /// The owner of that name keeps it from the port.
     InUse(u32),
-    /// Its group has sixteen members.
+    /// Its group has no room for one more.
     GroupFull,
     /// It needs a group of its own, and the bucket has eight.
     GroupsFull,

@@ -5,7 +5,7 @@ ghost use Rattle.sock_card.specs.Conflict as conflict_spec;
 ghost use Rattle.bind_buckets.specs.OwnerStep as spec;
 ghost use Rattle.bind_buckets.specs.Slots.{answers, has, is_under, IsUnder};
 
-use sock_card::{Owner, State, bind_conflict, strict_conflict};
+use sock_card::{Owner, State, bind_conflict, holds, is_mate, strict_conflict};
 
 /// What may be asked of an owner.
 #[derive(Clone, Copy)]
@@ -20,8 +20,8 @@ pub enum Asked {
     Overlaps(Owner),
     /// Whether it is a listener whose group this one would join.
     Groups(Owner),
-    /// Whether it has the port, and `connect` didn't choose it.
-    Holds(u16),
+    /// Whether it has the port of that namespace, and `connect` didn't choose it.
+    Holds(u16, u8),
 }
 
 /// Where the owners are filed of which something holds.
@@ -49,18 +49,6 @@ fn waits_as(name: u32, owner: &Owner) -> bool
     owner.name == name && matches!(owner.state, State::TimeWait)
 }
 
-fn is_mate(a: &Owner, b: &Owner) -> bool
-    ensures { result ≡ spec.is_mate a.now b.now }
-{
-    matches!(b.state, State::Listening)
-        && a.reuseport
-        && b.reuseport
-        && a.port == b.port
-        && a.dev == b.dev
-        && a.uid == b.uid
-        && a.addr == b.addr
-}
-
 /// Whether what is asked holds of that owner.
 fn answers(asked: &Asked, owner: &Owner) -> bool
     ensures { result ≡ answers asked.now owner.now }
@@ -71,7 +59,7 @@ fn answers(asked: &Asked, owner: &Owner) -> bool
         Asked::Refuses(newcomer) => bind_conflict(newcomer, owner),
         Asked::Overlaps(newcomer) => strict_conflict(newcomer, owner),
         Asked::Groups(listener) => is_mate(listener, owner),
-        Asked::Holds(port) => owner.port == *port && !owner.by_connect,
+        Asked::Holds(port, net) => holds(*port, *net, owner),
     }
 }
 
@@ -96,7 +84,7 @@ impl Asked {
             Asked::Refuses(newcomer) => wanted_by(newcomer),
             Asked::Overlaps(newcomer) => wanted_by(newcomer),
             Asked::Groups(listener) => Under::End(listener.port, listener.addr),
-            Asked::Holds(port) => Under::Port(*port),
+            Asked::Holds(port, _) => Under::Port(*port),
         }
     }
 }

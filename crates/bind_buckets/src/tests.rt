@@ -3,7 +3,7 @@
 use crate::bucket::Bucket;
 use crate::owners::Owners;
 use crate::request::{Answer, InUse, ListenEnd, NotFree, Strange};
-use sock_card::{Owner, State};
+use sock_card::{GROUP_ROOM, Owner, State, bind_key};
 use std::alloc::{AllocError, Global};
 use std::process::Abort;
 
@@ -21,6 +21,7 @@ fn socket(name: u32, port: u16) -> Owner {
         remote: 0,
         rport: 0,
         dev: 0,
+        net: 0,
         uid: 1,
         reuseaddr: false,
         reuseport: false,
@@ -63,7 +64,7 @@ fn answer_of_name(known: Result<(), Strange>) -> Answer {
 
 fn bind(bucket: &mut Bucket, owner: Owner) -> Result<Answer, AllocError> {
     bucket.reserve()?;
-    if !bucket.has_port(owner.port) {
+    if !bucket.has_key(bind_key(owner.port, owner.net)) {
         return Ok(Answer::InUse(0));
     }
     Ok(answer_of_bind(bucket.bind(owner)))
@@ -71,7 +72,7 @@ fn bind(bucket: &mut Bucket, owner: Owner) -> Result<Answer, AllocError> {
 
 fn bind_auto(bucket: &mut Bucket, owner: Owner) -> Result<Answer, AllocError> {
     bucket.reserve()?;
-    if !bucket.has_port(owner.port) {
+    if !bucket.has_key(bind_key(owner.port, owner.net)) {
         return Ok(Answer::InUse(0));
     }
     Ok(answer_of_bind(bucket.bind_auto(owner)))
@@ -79,10 +80,10 @@ fn bind_auto(bucket: &mut Bucket, owner: Owner) -> Result<Answer, AllocError> {
 
 fn connect(bucket: &mut Bucket, owner: Owner) -> Result<Answer, AllocError> {
     bucket.reserve()?;
-    if !bucket.has_port(owner.port) || !owner.by_connect {
+    if !bucket.has_key(bind_key(owner.port, owner.net)) || !owner.by_connect {
         return Ok(Answer::NotFree(0));
     }
-    match bucket.free(owner.port) {
+    match bucket.free(owner.port, owner.net) {
         Ok(()) => {
             bucket.connect_auto(owner);
             Ok(Answer::Done)
@@ -229,15 +230,15 @@ fn listening(name: u32, port: u16, slot: u32, answer: Answer) -> [(Call, Answer)
 }
 
 #[test]
-fn a_group_has_sixteen_members(rt: HostRuntime) -> Result<(), AllocError> {
+fn a_group_has_sixty_four_members(rt: HostRuntime) -> Result<(), AllocError> {
     let mut bucket = Bucket::new(rt.alloc(), 1, 2);
-    for name in 1..17 {
+    for name in 1..65 {
         let calls = listening(name, 81, name + 100, Answer::Group(Some(8)));
         run(&rt, &mut bucket, &calls)?;
     }
-    let calls = listening(17, 81, 117, Answer::GroupFull);
+    let calls = listening(65, 81, 165, Answer::GroupFull);
     run(&rt, &mut bucket, &calls)?;
-    assert_eq!(rt; bucket.members(8).len(), 16);
+    assert_eq!(rt; bucket.members(8).len(), GROUP_ROOM);
     Ok(())
 }
 

@@ -1,6 +1,6 @@
 //! Buckets that threads share, each asked in its turn.
 //!
-//! An operation has one bucket in its hand: [`take`] waits for the turn of a port's bucket, the calls
+//! An operation has one bucket in its hand: [`take`] waits for the turn of a key's bucket, the calls
 //! named as those of [`Bucket`] ask it, each with a number of its own, and [`give`] gives it back. What
 //! the turn moves is a box. [`with_buckets`] makes the table; [`into_buckets`] ends it.
 
@@ -12,6 +12,7 @@ ghost use Rattle.list_words.specs.Lists.{total};
 ghost use Rattle.bind_buckets.specs.Closed.{AreNew, AreLeft, notes_in, count_in};
 ghost use Rattle.turn_table.specs.Views.{first, cut, newcomer};
 ghost use Rattle.turn_table.specs.Journals.{placed};
+ghost use Rattle.sock_card.specs.Conflict.{owner_key};
 ghost use Rattle.bind_buckets.specs.Bucket as spec;
 ghost use Rattle.bind_buckets.specs.Bucket.{called, answer_to, entries_of, IsAllowed, HasRoom, CanConnect, CanListen, NamesOne};
 ghost use Rattle.bind_buckets.specs.Callers.{MayAsk, MayName};
@@ -80,22 +81,22 @@ pub fn split(turns: &Turns<Box<Bucket>>, pass: &mut TurnPass<Box<Bucket>>) -> Tu
     pass.split(turns)
 }
 
-/// Waits for the turn of a port's bucket.
+/// Waits for the turn of a key's bucket.
 pub fn take<R: Wait>(
     rt: &R,
     turns: &Turns<Box<Bucket>>,
     pass: &mut TurnPass<Box<Bucket>>,
-    port: u16,
+    key: u32,
 ) -> Turn<Box<Bucket>>
     requires idle { IsIdle turns.now pass.old }
     ensures out { IsOut turns.now pass.new result }
-    ensures place { result.place ≡ port % words.places turns.now }
+    ensures place { result.place ≡ key % words.places turns.now }
     ensures none { made pass.new result ≡ [] }
     ensures draws { words.draws pass.new ≡ words.draws pass.old }
     ensures caller { words.caller pass.new ≡ words.caller pass.old }
     ensures within { Within (known pass.old) (known pass.new) }
 {
-    let place = usize::from(port) % turns.places();
+    let place = key as usize % turns.places();
     turns.take_turn(rt, pass, place)
 }
 
@@ -171,7 +172,7 @@ pub fn bind(
     requires out { IsOut turns.now pass.old turn.old }
     requires few { words.draws pass.old < 2 ^ 48 }
     requires may { MayName (words.caller pass.old) owner.name }
-    requires port { owner.port % words.places turns.now ≡ turn.old.place }
+    requires key { owner_key owner % words.places turns.now ≡ turn.old.place }
     requires entry { 1 ≤ turn.old.value.value.entries }
     requires newcomer { 1 ≤ turn.old.value.value.newcomers }
     ensures asks { Asks turns.now pass.old turn.old pass.new turn.new (Request.Bind owner) (answer_of_bind result) }
@@ -191,7 +192,7 @@ pub fn bind_auto(
     requires out { IsOut turns.now pass.old turn.old }
     requires few { words.draws pass.old < 2 ^ 48 }
     requires may { MayName (words.caller pass.old) owner.name }
-    requires port { owner.port % words.places turns.now ≡ turn.old.place }
+    requires key { owner_key owner % words.places turns.now ≡ turn.old.place }
     requires entry { 1 ≤ turn.old.value.value.entries }
     requires newcomer { 1 ≤ turn.old.value.value.newcomers }
     ensures asks { Asks turns.now pass.old turn.old pass.new turn.new (Request.BindAuto owner) (answer_of_bind result) }
@@ -207,16 +208,17 @@ pub fn free(
     pass: &mut TurnPass<Box<Bucket>>,
     turn: &mut Turn<Box<Bucket>>,
     port: u16,
+    net: u8,
 ) -> Result<(), NotFree>
     requires out { IsOut turns.now pass.old turn.old }
     requires few { words.draws pass.old < 2 ^ 48 }
     requires entry { 1 ≤ turn.old.value.value.entries }
-    ensures asks { Asks turns.now pass.old turn.old pass.new turn.new (Request.Free port) (answer_of_free result) }
-    ensures free { OnOk result (CanConnect turn.new.value.value port) }
+    ensures asks { Asks turns.now pass.old turn.old pass.new turn.new (Request.Free port net) (answer_of_free result) }
+    ensures free { OnOk result (CanConnect turn.new.value.value port net) }
     ensures entries { turn.new.value.value.entries + 1 ≡ turn.old.value.value.entries }
     ensures newcomers { turn.new.value.value.newcomers ≡ turn.old.value.value.newcomers }
 {
-    free_result(ask(turns, pass, turn, Request::Free { port }))
+    free_result(ask(turns, pass, turn, Request::Free { port, net }))
 }
 
 /// [`Bucket::connect_auto`], of a bucket that is out.
@@ -229,8 +231,8 @@ pub fn connect_auto(
     requires out { IsOut turns.now pass.old turn.old }
     requires few { words.draws pass.old < 2 ^ 48 }
     requires may { MayName (words.caller pass.old) owner.name }
-    requires port { owner.port % words.places turns.now ≡ turn.old.place }
-    requires free { CanConnect turn.old.value.value owner.port }
+    requires key { owner_key owner % words.places turns.now ≡ turn.old.place }
+    requires free { CanConnect turn.old.value.value owner.port owner.net }
     requires chosen { owner.by_connect ≡ true }
     requires entry { 1 ≤ turn.old.value.value.entries }
     requires newcomer { 1 ≤ turn.old.value.value.newcomers }

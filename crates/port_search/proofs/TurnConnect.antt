@@ -2,6 +2,7 @@
 use Rattle.std.proofs.Common.{◌≡◌, ℕ, ◌+◌, ◌%◌, ◌^◌, ◌<◌, ◌≤◌, inl, List, [], ◌∷◌, ◌++◌, length, map, Option, Some, None, refl, sym, ap, subst, ◌∙◌, arith, append_assoc, append-nil}
 use denote.Ref.{MutBor}
 use Rattle.sock_card.specs.declared.owner.Owner.{Owner}
+use Rattle.sock_card.specs.Conflict.{bind_key}
 use Rattle.turn_table.specs.declared.note.Placed.{Placed}
 use Rattle.turn_table.specs.Journals.{placed}
 use Rattle.turn_table.specs.Passes as words
@@ -35,43 +36,43 @@ came_three at place p q r v w (m ∷ n ∷ o ∷ []) same e g =
     let a : m.entry ≡ p = cc in let b : n.entry ≡ q = cc in let c : o.entry ≡ r = cc in (placed at m, placed at n, placed at o, same, a, same, b, same, c, g)
 came_three at place p q r v w (m ∷ n ∷ o ∷ l ∷ ms) same e g = absurd (cc)
 
-abbrev pub free_entry : ℕ → Entry
-free_entry port = record { request = requests.Free port; answer = answers.Done }
+abbrev pub free_entry : ℕ → ℕ → Entry
+free_entry net port = record { request = requests.Free port net; answer = answers.Done }
 
 abbrev pub come_entry : Owner → Entry
 come_entry a = record { request = requests.ConnectAuto a; answer = answers.Done }
 
-module _ (count port : ℕ) (a : Owner) (v w : View) (at : ℕ) (ms : List Note) (same : at ≡ port % count) (gave : Gave v w (map (placed at) ms)) where
-  pub came_alone : entries_of ms ≡ free_entry port ∷ come_entry (chosen_at a port) ∷ [] → CameAt count a port None v w
+module _ (count port : ℕ) (a : Owner) (v w : View) (at : ℕ) (ms : List Note) (same : at ≡ bind_key port a.net % count) (gave : Gave v w (map (placed at) ms)) where
+  pub came_alone : entries_of ms ≡ free_entry a.net port ∷ come_entry (chosen_at a port) ∷ [] → CameAt count a port None v w
   came_alone e =
-      let t = came_two at (port % count) (free_entry port) (come_entry (chosen_at a port)) v w ms same e gave in
+      let t = came_two at (bind_key port a.net % count) (free_entry a.net port) (come_entry (chosen_at a port)) v w ms same e gave in
       record { entries = t.0 ∷ t.1 ∷ []; come = (record { place_is = t.2; entry = t.3 }, record { place_is = t.4; entry = t.5 }); gave = t.6 }
 
-  pub came_replacing : (name : ℕ) (answer : Answer) → entries_of ms ≡ free_entry port ∷ come_entry (chosen_at a port) ∷ record { request = requests.RemoveWaiting name; answer = answer } ∷ [] → CameAt count a port (Some name) v w
+  pub came_replacing : (name : ℕ) (answer : Answer) → entries_of ms ≡ free_entry a.net port ∷ come_entry (chosen_at a port) ∷ record { request = requests.RemoveWaiting name; answer = answer } ∷ [] → CameAt count a port (Some name) v w
   came_replacing name answer e =
-      let t = came_three at (port % count) (free_entry port) (come_entry (chosen_at a port)) (record { request = requests.RemoveWaiting name; answer = answer }) v w ms same e gave in
+      let t = came_three at (bind_key port a.net % count) (free_entry a.net port) (come_entry (chosen_at a port)) (record { request = requests.RemoveWaiting name; answer = answer }) v w ms same e gave in
       record { entries = t.0 ∷ t.1 ∷ t.2 ∷ []; come = (record { place_is = t.3; entry = t.4 }, record { place_is = t.5; entry = t.6 }, answer, record { place_is = t.7; entry = t.8 }); gave = t.9 }
 
 -- all ports before those that are left were passed over
-pub record ConnectSearching {C T : Type 0} (step : C → ℕ → Attempt T → C → Type 0) (count : ℕ) (v w : View) (old state : C) (ports rest : List ℕ) : Type 0 where
+pub record ConnectSearching {C T : Type 0} (step : C → ℕ → Attempt T → C → Type 0) (count net : ℕ) (v w : View) (old state : C) (ports rest : List ℕ) : Type 0 where
   pub before : List ℕ
   pub split : ports ≡ before ++ rest
   pub passed : List (Placed Entry)
-  pub all : AllPassed step count before passed old state
+  pub all : AllPassed step count net before passed old state
   pub gave : Gave v w passed
 
-module _ {C T : Type 0} (step : C → ℕ → Attempt T → C → Type 0) (count : ℕ) where
-  pub connect_begins : (v : View) (old : C) (ports rest : List ℕ) → rest ≡ ports → ConnectSearching step count v v old old ports rest
+module _ {C T : Type 0} (step : C → ℕ → Attempt T → C → Type 0) (count net : ℕ) where
+  pub connect_begins : (v : View) (old : C) (ports rest : List ℕ) → rest ≡ ports → ConnectSearching step count net v v old old ports rest
   connect_begins v old ports rest all = record { before = []; split = sym all; passed = []; all = refl; gave = gave_none v }
 
-  pass_more : (ports : List ℕ) (xs : List (Placed Entry)) (port : ℕ) (x : Placed Entry) (f g h : C) → AllPassed step count ports xs f g → IsPassed step count port x g h → AllPassed step count (ports ++ port ∷ []) (xs ++ x ∷ []) f h
-  pass_more [] [] port x f g h all one = (h, subst (λ k. IsPassed step count port x k h) (sym all) one, refl)
+  pass_more : (ports : List ℕ) (xs : List (Placed Entry)) (port : ℕ) (x : Placed Entry) (f g h : C) → AllPassed step count net ports xs f g → IsPassed step count net port x g h → AllPassed step count net (ports ++ port ∷ []) (xs ++ x ∷ []) f h
+  pass_more [] [] port x f g h all one = (h, subst (λ k. IsPassed step count net port x k h) (sym all) one, refl)
   pass_more [] (y ∷ ys) port x f g h all one = absurd all
   pass_more (p ∷ ports) [] port x f g h all one = absurd all
   pass_more (p ∷ ports) (y ∷ ys) port x f g h all one = (all.0, all.1, pass_more ports ys port x all.0 g h all.2 one)
 
-  module _ (v w : View) (old state : C) (ports rest : List ℕ) (s : ConnectSearching step count v w old state ports rest) where
-    pub passed_on : (u : View) (next : C) (port : ℕ) (left : List ℕ) (x : Placed Entry) → rest ≡ port ∷ left → IsPassed step count port x state next → Gave w u (x ∷ []) → ConnectSearching step count v u old next ports left
+  module _ (v w : View) (old state : C) (ports rest : List ℕ) (s : ConnectSearching step count net v w old state ports rest) where
+    pub passed_on : (u : View) (next : C) (port : ℕ) (left : List ℕ) (x : Placed Entry) → rest ≡ port ∷ left → IsPassed step count net port x state next → Gave w u (x ∷ []) → ConnectSearching step count net v u old next ports left
     passed_on u next port left x here one gave = record {
       before = s.before ++ port ∷ [];
       split = s.split ∙ ap (λ xs. s.before ++ xs) here ∙ sym (append_assoc s.before (port ∷ []) left);
@@ -80,7 +81,7 @@ module _ {C T : Type 0} (step : C → ℕ → Attempt T → C → Type 0) (count
       gave = gave_both v w u s.passed (x ∷ []) s.gave gave;
     }
 
-    abbrev pub comes_to : (port : ℕ) (left : List ℕ) (answer : Attempt T) (new : C) → rest ≡ port ∷ left → step state port answer new → ComesTo step count ports old port answer new
+    abbrev pub comes_to : (port : ℕ) (left : List ℕ) (answer : Attempt T) (new : C) → rest ≡ port ∷ left → step state port answer new → ComesTo step count net ports old port answer new
     comes_to port left answer new here answered = record {
       before = s.before;
       after = left;
@@ -91,16 +92,7 @@ module _ {C T : Type 0} (step : C → ℕ → Attempt T → C → Type 0) (count
       answered = answered;
     }
 
-    pub makes : (a : Owner) (u : View) (port : ℕ) (left : List ℕ) (value : T) (replaced : Option ℕ) (new : C) → rest ≡ port ∷ left → step state port (attempts.Done value replaced) new → CameAt count a port replaced w u → MakesAt step count a ports v u old port value new
-    makes a u port left value replaced new here answered came = record {
-      replaced = replaced;
-      comes = comes_to port left (attempts.Done value replaced) new here answered;
-      entries = came.entries;
-      come = came.come;
-      gave = gave_both v w u s.passed came.entries s.gave came.gave;
-    }
-
-    pub finds_full : (u : View) (port : ℕ) (left : List ℕ) (owned held : ℕ) (new : C) (x : Placed Entry) → rest ≡ port ∷ left → step state port (attempts.Full owned held) new → IsFree count port x → Gave w u (x ∷ []) → FindsFull step count ports v u old owned held new
+    pub finds_full : (u : View) (port : ℕ) (left : List ℕ) (owned held : ℕ) (new : C) (x : Placed Entry) → rest ≡ port ∷ left → step state port (attempts.Full owned held) new → IsFree count net port x → Gave w u (x ∷ []) → FindsFull step count net ports v u old owned held new
     finds_full u port left owned held new x here answered free gave = record {
       port = port;
       comes = comes_to port left (attempts.Full owned held) new here answered;
@@ -109,7 +101,7 @@ module _ {C T : Type 0} (step : C → ℕ → Attempt T → C → Type 0) (count
       gave = gave_both v w u s.passed (x ∷ []) s.gave gave;
     }
 
-    pub not_yet_made : (u : View) (xs : List (Placed Entry)) (new : C) → IsLeftOff step count rest xs state new → Gave w u xs → MakesNotYet step count ports v u old new
+    pub not_yet_made : (u : View) (xs : List (Placed Entry)) (new : C) → IsLeftOff step count net rest xs state new → Gave w u xs → MakesNotYet step count net ports v u old new
     not_yet_made u xs new off gave = record {
       before = s.before;
       after = rest;
@@ -122,14 +114,25 @@ module _ {C T : Type 0} (step : C → ℕ → Attempt T → C → Type 0) (count
       gave = gave_both v w u s.passed xs s.gave gave;
     }
 
-    pub makes_none : rest ≡ [] → MakesNone step count ports v w old state
+    pub makes_none : rest ≡ [] → MakesNone step count net ports v w old state
     makes_none none =
         let all : s.before ≡ ports = sym (s.split ∙ ap (λ xs. s.before ++ xs) none ∙ append-nil s.before) in
-        record { passed = s.passed; all = subst (λ ps. AllPassed step count ps s.passed old state) all s.all; gave = s.gave }
+        record { passed = s.passed; all = subst (λ ps. AllPassed step count net ps s.passed old state) all s.all; gave = s.gave }
+
+-- the connection was made
+module _ {C T : Type 0} (step : C → ℕ → Attempt T → C → Type 0) (count : ℕ) (a : Owner) (v w : View) (old state : C) (ports rest : List ℕ) (s : ConnectSearching step count a.net v w old state ports rest) where
+  pub makes : (u : View) (port : ℕ) (left : List ℕ) (value : T) (replaced : Option ℕ) (new : C) → rest ≡ port ∷ left → step state port (attempts.Done value replaced) new → CameAt count a port replaced w u → MakesAt step count a ports v u old port value new
+  makes u port left value replaced new here answered came = record {
+    replaced = replaced;
+    comes = comes_to step count a.net v w old state ports rest s port left (attempts.Done value replaced) new here answered;
+    entries = came.entries;
+    come = came.come;
+    gave = gave_both v w u s.passed came.entries s.gave came.gave;
+  }
 
 -- a bucket that refused, or one at whose port the four-tuple is taken
-pub held_on : {C T : Type 0} (step : C → ℕ → Attempt T → C → Type 0) (t : Hash) (port : ℕ) (p q : Pass) (f : C) (c : ClosedAt t port p q) → IsPassed step (words.places t) port c.entry f f
-held_on step t port p q f c = inl (c.held, refl)
+pub held_on : {C T : Type 0} (step : C → ℕ → Attempt T → C → Type 0) (t : Hash) (net port : ℕ) (p q : Pass) (f : C) (c : ClosedAt t net port p q) → IsPassed step (words.places t) net port c.entry f f
+held_on step t net port p q f c = inl (c.held, refl)
 
 module _ {C T : Type 0} (pre : MutBor C → ℕ → Type 0) (post : MutBor C → ℕ → Attempt T → MutBor C → Type 0) where
   -- where the call may be made at any port, it may be made at this one
@@ -144,14 +147,14 @@ module _ {C T : Type 0} (pre : MutBor C → ℕ → Type 0) (post : MutBor C →
 pub enough_left : (most d e : ℕ) (rest left : List ℕ) (port : ℕ) → rest ≡ port ∷ left → e ≡ d + 1 → d + length rest + 2 ≤ most → e + length left + 2 ≤ most
 enough_left most d e rest left port here one few = let long : length rest ≡ length left + 1 = ap length here ∙ omega arith in omega arith
 
-module _ {C T : Type 0} (step : C → ℕ → Attempt T → C → Type 0) (count : ℕ) where
+module _ {C T : Type 0} (step : C → ℕ → Attempt T → C → Type 0) (count net : ℕ) where
   -- a port that is free stands at the front of what is left, and the caller's call wanted memory there
-  pub free_front : (rest left : List ℕ) (port : ℕ) (x : Placed Entry) (old new : C) → rest ≡ port ∷ left → IsFree count port x → step old port attempts.Memory new → IsLeftOff step count rest (x ∷ []) old new
+  pub free_front : (rest left : List ℕ) (port : ℕ) (x : Placed Entry) (old new : C) → rest ≡ port ∷ left → IsFree count net port x → step old port attempts.Memory new → IsLeftOff step count net rest (x ∷ []) old new
   free_front [] left port x old new here free said = absurd (cc)
   free_front (p ∷ rest) left port x old new here free said =
-      let same : port ≡ p = cc in (subst (λ k. IsFree count k x) same free, subst (λ k. step old k attempts.Memory new) same said)
+      let same : port ≡ p = cc in (subst (λ k. IsFree count net k x) same free, subst (λ k. step old k attempts.Memory new) same said)
 
   -- its bucket wanted memory
-  pub still_there : (rest left : List ℕ) (port : ℕ) (state : C) → rest ≡ port ∷ left → IsLeftOff step count rest [] state state
+  pub still_there : (rest left : List ℕ) (port : ℕ) (state : C) → rest ≡ port ∷ left → IsLeftOff step count net rest [] state state
   still_there [] left port state here = absurd (cc)
   still_there (p ∷ rest) left port state here = refl

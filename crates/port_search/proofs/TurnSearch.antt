@@ -2,6 +2,7 @@
 use Rattle.std.proofs.Common.{◌≡◌, ℕ, ◌+◌, ◌%◌, ◌≤◌, Bool, true, false, cond, List, [], ◌∷◌, ◌++◌, length, map, Some, None, Result, Ok, Err, refl, sym, ap, subst, ◌∙◌, arith, append_assoc, append-nil, length-append}
 use Rattle.std.specs.Result.{is_ok}
 use Rattle.sock_card.specs.declared.owner.Owner.{Owner}
+use Rattle.sock_card.specs.Conflict.{bind_key}
 use Rattle.list_words.proofs.EachLemmas.{each_append, each_weaken}
 use Rattle.turn_table.specs.declared.note.Placed.{Placed}
 use Rattle.turn_table.specs.Journals.{placed, number_of}
@@ -50,7 +51,7 @@ one_asked place at request answer v w (m ∷ []) same e g =
     record { entry = placed at m; asked = record { place_is = same; entry = is }; gave = g }
 one_asked place at request answer v w (m ∷ n ∷ ms) same e g = absurd (cc)
 
-pub tried_by : (count port : ℕ) (a : Owner) (v w : View) (r : Result (Unit {0}) InUse) → OneAsked (port % count) (requests.BindAuto (at_port a port)) (answer_of_bind r) v w → TriedAt count a port v w (is_ok r)
+pub tried_by : (count port : ℕ) (a : Owner) (v w : View) (r : Result (Unit {0}) InUse) → OneAsked (bind_key port a.net % count) (requests.BindAuto (at_port a port)) (answer_of_bind r) v w → TriedAt count a port v w (is_ok r)
 tried_by count port a v w (Ok done) o = record { entry = o.entry; taken = o.asked; gave = o.gave }
 tried_by count port a v w (Err end) o = record { entry = o.entry; refusal = record { name = end.0; asked = o.asked }; gave = o.gave }
 
@@ -110,10 +111,11 @@ module _ (count : ℕ) (a : Owner) (v w : View) (ports rest : List ℕ) (s : Sea
   }
 
 -- where nobody shares the buckets
-finds_by : (hash new : List Standing) (a : Owner) (port : ℕ) (rest : List ℕ) (answer : Answer) → answer_at hash port (requests.BindAuto (at_port a port)) ≡ answer → asked_at hash port (requests.BindAuto (at_port a port)) ≡ new
+finds_by : (hash new : List Standing) (a : Owner) (port : ℕ) (rest : List ℕ) (answer : Answer) → answer_at hash (bind_key port a.net) (requests.BindAuto (at_port a port)) ≡ answer → asked_at hash (bind_key port a.net) (requests.BindAuto (at_port a port)) ≡ new
     → searched hash a (port ∷ rest) ≡ cond (is_done answer) (record { hash = new; port = Some port }) (searched new a rest)
 finds_by hash new a port rest answer told after =
-    ap (λ x. cond (is_done x) (let f : Found = record { hash = asked_at hash port (requests.BindAuto (at_port a port)); port = Some port } in f) (searched (asked_at hash port (requests.BindAuto (at_port a port))) a rest)) told
+    let asks = asked_at hash (bind_key port a.net) (requests.BindAuto (at_port a port)) in
+    ap (λ x. cond (is_done x) (let f : Found = record { hash = asks; port = Some port } in f) (searched asks a rest)) told
     ∙ ap (λ h. cond (is_done answer) (let f : Found = record { hash = h; port = Some port } in f) (searched h a rest)) after
 
 module _ (count : ℕ) (some : 1 ≤ count) (a : Owner) where
@@ -127,7 +129,7 @@ module _ (count : ℕ) (some : 1 ≤ count) (a : Owner) where
       let whole : AreLawful count ((given ++ x ∷ []) ++ xs) = subst (AreLawful count) (sym (append_assoc given (x ∷ []) xs)) lawful in
       let one : AreLawful count (given ++ x ∷ []) = lawful_front count (given ++ x ∷ []) xs whole in
       finds_by (hash_of count given) (hash_of count (given ++ x ∷ [])) a port (ports ++ rest) answer
-      (answered_by count port request answer given x some all.0.asked one) (asked_by count port request answer given x some all.0.asked one)
+      (answered_by count (bind_key port a.net) request answer given x some all.0.asked one) (asked_by count (bind_key port a.net) request answer given x some all.0.asked one)
       ∙ refused_alone (given ++ x ∷ []) ports rest xs whole all.1
       ∙ ap (λ g. searched (hash_of count g) a rest) (append_assoc given (x ∷ []) xs)
 
@@ -141,7 +143,7 @@ module _ (count : ℕ) (some : 1 ≤ count) (a : Owner) where
         ap (searched (hash_of count v.mine) a) b.split
         ∙ refused_alone v.mine b.before (port ∷ b.after) b.refused front b.refusals
         ∙ finds_by (hash_of count (v.mine ++ b.refused)) (hash_of count ((v.mine ++ b.refused) ++ b.last ∷ [])) a port b.after answers.Done
-        (answered_by count port request answers.Done (v.mine ++ b.refused) b.last some b.taken whole) (asked_by count port request answers.Done (v.mine ++ b.refused) b.last some b.taken whole)
+        (answered_by count (bind_key port a.net) request answers.Done (v.mine ++ b.refused) b.last some b.taken whole) (asked_by count (bind_key port a.net) request answers.Done (v.mine ++ b.refused) b.last some b.taken whole)
         ∙ ap (λ g. let f : Found = record { hash = hash_of count g; port = Some port } in f) (append_assoc v.mine b.refused (b.last ∷ []) ∙ sym b.gave.mine)
 
     pub none_alone : BindsNowhere count a ports v w → FindsNone (hash_of count v.mine) a ports (hash_of count w.mine)

@@ -9,9 +9,9 @@ use Rattle.bind_buckets.specs.Journal.{Standing}
 use Rattle.port_search.specs.Search.{Found, searched}
 use Rattle.bind_buckets.specs.BindHash.{untouched}
 
--- a socket that is to have any address
-abbrev pub owner : ℕ → Owner
-owner name =
+-- a socket that is to have any address, in that namespace
+abbrev pub owner : ℕ → ℕ → Owner
+owner net name =
     record {
       name = name;
       origin = name;
@@ -20,6 +20,7 @@ owner name =
       remote = 0;
       rport = 0;
       dev = 0;
+      net = net;
       uid = 0;
       reuseaddr = true;
       reuseport = true;
@@ -35,19 +36,23 @@ abbrev pub two_ports : List ℕ
 two_ports = 40001 ∷ 40003 ∷ []
 
 abbrev pub once : Found
-once = searched (untouched ∷ []) (owner 1) two_ports
+once = searched (untouched ∷ []) (owner 0 1) two_ports
 
 abbrev pub twice : Found
-twice = searched once.hash (owner 2) two_ports
+twice = searched once.hash (owner 0 2) two_ports
 
 abbrev pub thrice : Found
-thrice = searched twice.hash (owner 3) two_ports
+thrice = searched twice.hash (owner 0 3) two_ports
 
--- three sockets are bound to any of two ports: the third finds none
+abbrev pub elsewhere : Found
+elsewhere = searched thrice.hash (owner 1 4) two_ports
+
+-- three sockets are bound to any of two ports: the third finds none, but one of another namespace does
 pub record BindsInTurn : Type 0 where
   pub first : once.port ≡ Some 40001
   pub second : twice.port ≡ Some 40003
   pub third : thrice.port ≡ None
+  pub fourth : elsewhere.port ≡ Some 40001
   pub answers :
       answers_in thrice.hash
       ≡ (answers.Done ∷ answers.InUse 1 ∷ answers.Done ∷ answers.InUse 1 ∷ answers.InUse 2 ∷ []) ∷ []

@@ -1,6 +1,7 @@
 -- A search through buckets that are shared, each port asked in its own turn: our own.
 use Rattle.std.specs.Prelude.{◌≡◌, ℕ, ◌%◌, Bool, true, false, List, [], ◌∷◌, ◌++◌}
 use Rattle.sock_card.specs.declared.owner.Owner.{Owner}
+use Rattle.sock_card.specs.Conflict.{bind_key}
 use Rattle.turn_table.specs.declared.note.Placed.{Placed}
 use Rattle.bind_buckets.specs.declared.request.Request.TheVariants as requests
 use Rattle.bind_buckets.specs.declared.request.Answer.TheVariants as answers
@@ -8,14 +9,14 @@ use Rattle.bind_buckets.specs.declared.request.Entry.{Entry}
 use Rattle.bind_buckets.specs.Turned.{View, Gave, IsAsked}
 use Rattle.port_search.specs.Search.{at_port}
 
--- the port's bucket took in the owner
+-- the port's bucket in the owner's namespace took it in
 abbrev pub IsTaken : ℕ → Owner → ℕ → Placed Entry → Type 0
-IsTaken count a port x = IsAsked (port % count) (requests.BindAuto (at_port a port)) answers.Done x
+IsTaken count a port x = IsAsked (bind_key port a.net % count) (requests.BindAuto (at_port a port)) answers.Done x
 
 -- it refused to
 pub record IsRefusal (count : ℕ) (a : Owner) (port : ℕ) (x : Placed Entry) : Type 0 where
   pub name : ℕ
-  pub asked : IsAsked (port % count) (requests.BindAuto (at_port a port)) (answers.InUse name) x
+  pub asked : IsAsked (bind_key port a.net % count) (requests.BindAuto (at_port a port)) (answers.InUse name) x
 
 -- each of the ports was refused, one after the other
 abbrev pub AllRefuse : ℕ → Owner → List ℕ → List (Placed Entry) → Type 0

@@ -3,6 +3,7 @@ use Rattle.std.specs.Prelude.{◌≡◌, ℕ, ◌+◌, ◌%◌, ◌^◌, ◌<◌
 use Rattle.std.specs.List.{FoldsTo}
 use denote.Ref.{MutBor}
 use Rattle.sock_card.specs.declared.owner.Owner.{Owner}
+use Rattle.sock_card.specs.Conflict.{bind_key}
 use Rattle.turn_table.specs.declared.note.Placed.{Placed}
 use Rattle.turn_table.specs.Passes as words
 use Rattle.turn_table.specs.Passes.{known}
@@ -18,14 +19,14 @@ use Rattle.port_search.specs.declared.ends.SearchEnd.{SearchEnd}
 use Rattle.port_search.specs.declared.ends.SearchEnd.TheVariants as ends
 use Rattle.port_search.specs.Search.{chosen_at, SaysTaken}
 
--- `connect` may choose the port
-abbrev pub IsFree : ℕ → ℕ → Placed Entry → Type 0
-IsFree count port x = IsAsked (port % count) (requests.Free port) answers.Done x
+-- `connect` may choose the port in that namespace
+abbrev pub IsFree : ℕ → ℕ → ℕ → Placed Entry → Type 0
+IsFree count net port x = IsAsked (bind_key port net % count) (requests.Free port net) answers.Done x
 
 -- it may not
-pub record IsHeld (count port : ℕ) (x : Placed Entry) : Type 0 where
+pub record IsHeld (count net port : ℕ) (x : Placed Entry) : Type 0 where
   pub name : ℕ
-  pub asked : IsAsked (port % count) (requests.Free port) (answers.NotFree name) x
+  pub asked : IsAsked (bind_key port net % count) (requests.Free port net) (answers.NotFree name) x
 
 -- the caller's call, at its own context and that port, may answer so and leave the context so
 pub record Tries {C T : Type 0} (post : MutBor C → ℕ → Attempt T → MutBor C → Type 0) (old : C) (port : ℕ) (answer : Attempt T) (new : C) : Type 0 where
@@ -41,16 +42,16 @@ MayTry {C} pre post context =
     (ports : List ℕ) (now : C) → FoldsTo (SaysTaken (Tries post)) context ports now
     → (shown : MutBor C) (port : ℕ) → shown.now ≡ now → port < 2 ^ 16 → pre shown port
 
-module _ {C T : Type 0} (step : C → ℕ → Attempt T → C → Type 0) (count : ℕ) where
+module _ {C T : Type 0} (step : C → ℕ → Attempt T → C → Type 0) (count net : ℕ) where
   -- the port is free, but the caller's call says that its four-tuple is taken
   pub record IsTakenThere (port : ℕ) (x : Placed Entry) (old new : C) : Type 0 where
-    pub free : IsFree count port x
+    pub free : IsFree count net port x
     pub name : ℕ
     pub said : step old port (attempts.Taken name) new
 
   -- a port is passed over, with one entry
   abbrev pub IsPassed : ℕ → Placed Entry → C → C → Type 0
-  IsPassed port x old new = (IsHeld count port x × (old ≡ new)) ⊎ IsTakenThere port x old new
+  IsPassed port x old new = (IsHeld count net port x × (old ≡ new)) ⊎ IsTakenThere port x old new
 
   -- each of the ports is, one after the other
   abbrev pub AllPassed : List ℕ → List (Placed Entry) → C → C → Type 0
@@ -69,13 +70,13 @@ module _ {C T : Type 0} (step : C → ℕ → Attempt T → C → Type 0) (count
     pub all : AllPassed before passed old asked
     pub answered : step asked port answer new
 
--- the owner came to the port: the entries of that turn
+-- the owner came to the port, in its namespace: the entries of that turn
 abbrev pub IsCome : ℕ → Owner → ℕ → Option ℕ → List (Placed Entry) → Type 0
 IsCome count a port None (x ∷ y ∷ []) =
-    IsFree count port x × IsAsked (port % count) (requests.ConnectAuto (chosen_at a port)) answers.Done y
+    IsFree count a.net port x × IsAsked (bind_key port a.net % count) (requests.ConnectAuto (chosen_at a port)) answers.Done y
 IsCome count a port (Some name) (x ∷ y ∷ z ∷ []) =
-    IsFree count port x × IsAsked (port % count) (requests.ConnectAuto (chosen_at a port)) answers.Done y
-    × (answer : Answer) × IsAsked (port % count) (requests.RemoveWaiting name) answer z
+    IsFree count a.net port x × IsAsked (bind_key port a.net % count) (requests.ConnectAuto (chosen_at a port)) answers.Done y
+    × (answer : Answer) × IsAsked (bind_key port a.net % count) (requests.RemoveWaiting name) answer z
 IsCome count a port replaced _ = ⊥
 
 -- the owner came in this turn
@@ -84,27 +85,28 @@ pub record CameAt (count : ℕ) (a : Owner) (port : ℕ) (replaced : Option ℕ)
   pub come : IsCome count a port replaced entries
   pub gave : Gave v w entries
 
-module _ {C T : Type 0} (step : C → ℕ → Attempt T → C → Type 0) (count : ℕ) where
-  -- the connection was made at that port
-  pub record MakesAt (a : Owner) (ports : List ℕ) (v w : View) (old : C) (port : ℕ) (value : T) (new : C) : Type 0 where
-    pub replaced : Option ℕ
-    pub comes : ComesTo step count ports old port (attempts.Done value replaced) new
-    pub entries : List (Placed Entry)
-    pub come : IsCome count a port replaced entries
-    pub gave : Gave v w (comes.passed ++ entries)
+-- the connection was made at that port, in the owner's namespace
+pub record MakesAt {C T : Type 0} (step : C → ℕ → Attempt T → C → Type 0) (count : ℕ) (a : Owner) (ports : List ℕ)
+    (v w : View) (old : C) (port : ℕ) (value : T) (new : C) : Type 0 where
+  pub replaced : Option ℕ
+  pub comes : ComesTo step count a.net ports old port (attempts.Done value replaced) new
+  pub entries : List (Placed Entry)
+  pub come : IsCome count a port replaced entries
+  pub gave : Gave v w (comes.passed ++ entries)
 
+module _ {C T : Type 0} (step : C → ℕ → Attempt T → C → Type 0) (count net : ℕ) where
   -- each port was passed over
   pub record MakesNone (ports : List ℕ) (v w : View) (old new : C) : Type 0 where
     pub passed : List (Placed Entry)
-    pub all : AllPassed step count ports passed old new
+    pub all : AllPassed step count net ports passed old new
     pub gave : Gave v w passed
 
   -- no slot was left for the connection at that port
   pub record FindsFull (ports : List ℕ) (v w : View) (old : C) (owned held : ℕ) (new : C) : Type 0 where
     pub port : ℕ
-    pub comes : ComesTo step count ports old port (attempts.Full owned held) new
+    pub comes : ComesTo step count net ports old port (attempts.Full owned held) new
     pub entry : Placed Entry
-    pub free : IsFree count port entry
+    pub free : IsFree count net port entry
     pub gave : Gave v w (comes.passed ++ entry ∷ [])
 
   abbrev pub SaysFull : List ℕ → View → View → C → SearchEnd → C → Type 0
@@ -114,7 +116,7 @@ module _ {C T : Type 0} (step : C → ℕ → Attempt T → C → Type 0) (count
   -- where a search was left off for want of memory: before the next port, or at that port, which is free
   abbrev pub IsLeftOff : List ℕ → List (Placed Entry) → C → C → Type 0
   IsLeftOff (port ∷ after) [] old new = old ≡ new
-  IsLeftOff (port ∷ after) (x ∷ []) old new = IsFree count port x × step old port attempts.Memory new
+  IsLeftOff (port ∷ after) (x ∷ []) old new = IsFree count net port x × step old port attempts.Memory new
   IsLeftOff _ _ old new = ⊥
 
   -- it was left off after some ports that were passed over
@@ -124,28 +126,28 @@ module _ {C T : Type 0} (step : C → ℕ → Attempt T → C → Type 0) (count
     pub split : ports ≡ before ++ after
     pub passed : List (Placed Entry)
     pub state : C
-    pub all : AllPassed step count before passed old state
+    pub all : AllPassed step count net before passed old state
     pub entries : List (Placed Entry)
     pub off : IsLeftOff after entries state new
     pub gave : Gave v w (passed ++ entries)
 
--- a bucket that is out, of whose port `connect` may choose
-pub record OpenAt (t : Hash) (port : ℕ) (p q : Pass) (turn : Out) : Type 0 where
+-- a bucket that is out, of whose port `connect` may choose in that namespace
+pub record OpenAt (t : Hash) (net port : ℕ) (p q : Pass) (turn : Out) : Type 0 where
   pub out : IsOut t q turn
-  pub place : turn.place ≡ port % words.places t
-  pub made_is : entries_of (made q turn) ≡ record { request = requests.Free port; answer = answers.Done } ∷ []
+  pub place : turn.place ≡ bind_key port net % words.places t
+  pub made_is : entries_of (made q turn) ≡ record { request = requests.Free port net; answer = answers.Done } ∷ []
   pub within : Within (known p) (known q)
   pub draws : words.draws q ≡ words.draws p + 1
   pub caller : words.caller q ≡ words.caller p
-  pub free : CanConnect turn.value.value port
+  pub free : CanConnect turn.value.value port net
   pub entries : 2 ≤ turn.value.value.entries
   pub newcomer : 1 ≤ turn.value.value.newcomers
 
 -- it is held, and home again
-pub record ClosedAt (t : Hash) (port : ℕ) (p q : Pass) : Type 0 where
+pub record ClosedAt (t : Hash) (net port : ℕ) (p q : Pass) : Type 0 where
   pub idle : IsIdle t q
   pub entry : Placed Entry
-  pub held : IsHeld (words.places t) port entry
+  pub held : IsHeld (words.places t) net port entry
   pub gave : Gave (known p) (known q) (entry ∷ [])
 
 -- there was no memory
@@ -154,7 +156,7 @@ pub record GivenUp (t : Hash) (p q : Pass) (end : SearchEnd) : Type 0 where
   pub gave : Gave (known p) (known q) []
   pub memory : end ≡ ends.Memory
 
-abbrev pub Opened : Hash → ℕ → Pass → Pass → Result (Option Out) SearchEnd → Type 0
-Opened t port p q (Ok (Some turn)) = OpenAt t port p q turn
-Opened t port p q (Ok None) = ClosedAt t port p q
-Opened t port p q (Err end) = GivenUp t p q end
+abbrev pub Opened : Hash → ℕ → ℕ → Pass → Pass → Result (Option Out) SearchEnd → Type 0
+Opened t net port p q (Ok (Some turn)) = OpenAt t net port p q turn
+Opened t net port p q (Ok None) = ClosedAt t net port p q
+Opened t net port p q (Err end) = GivenUp t p q end

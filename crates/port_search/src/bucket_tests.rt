@@ -5,13 +5,13 @@ ghost use Rattle.turn_table.specs.Passes as words;
 ghost use Rattle.bind_buckets.specs.Turned.{IsIdle, IsOut};
 
 use bind_buckets::{Bucket, InUse, ListenEnd, Sharing, Strange, turning};
-use sock_card::{Owner, State};
+use sock_card::{Owner, State, bind_key};
 use std::alloc::{AllocError, Global};
 use std::process::Abort;
 use std::sync::Wait;
 use turn_table::{Turn, TurnPass, Turns};
 
-/// A socket with `reuseport` of that user, at 10.0.0.1.
+/// A socket with `reuseport` of that user, at 10.0.0.1 in the namespace 0.
 fn socket(name: u32, port: u16, uid: u32) -> Owner {
     Owner {
         name,
@@ -21,6 +21,7 @@ fn socket(name: u32, port: u16, uid: u32) -> Owner {
         remote: 0,
         rport: 0,
         dev: 0,
+        net: 0,
         uid,
         reuseaddr: false,
         reuseport: true,
@@ -29,12 +30,13 @@ fn socket(name: u32, port: u16, uid: u32) -> Owner {
     }
 }
 
-/// What is done in one turn: a socket is bound; it is bound and then listens; that of a name leaves a port.
+/// What is done in one turn: a socket is bound; it is bound and then listens; that of a name leaves the
+/// bucket of a key.
 #[derive(Clone, Copy)]
 enum Visit {
     Bind(Owner),
     Listen(Owner),
-    Remove(u16, u32),
+    Remove(u32, u32),
 }
 
 /// The group that a visit tells, or its refusal; None where memory ran out.
@@ -81,7 +83,7 @@ fn bind<R: Wait>(
     ensures pass { IsIdle turns.now pass.new × (words.caller pass.new ≡ 0) }
     ensures draws { words.draws pass.new ≤ words.draws pass.old + 3 }
 {
-    let mut turn = turning::take(rt, turns, pass, owner.port);
+    let mut turn = turning::take(rt, turns, pass, bind_key(owner.port, owner.net));
     match turning::reserve(turns, pass, &mut turn) {
         Ok(()) => match turning::bind(turns, pass, &mut turn, owner) {
             Ok(()) => {
@@ -104,12 +106,12 @@ fn bind<R: Wait>(
     }
 }
 
-/// The socket of that name leaves its port.
+/// The socket of that name leaves its port, in the bucket of that key.
 fn remove<R: Wait>(
     rt: &R,
     turns: &Turns<Box<Bucket>>,
     pass: &mut TurnPass<Box<Bucket>>,
-    port: u16,
+    key: u32,
     name: u32,
 ) -> Told
     requires pass { IsIdle turns.now pass.old × (words.caller pass.old ≡ 0) }
@@ -117,7 +119,7 @@ fn remove<R: Wait>(
     ensures pass { IsIdle turns.now pass.new × (words.caller pass.new ≡ 0) }
     ensures draws { words.draws pass.new ≤ words.draws pass.old + 3 }
 {
-    let mut turn = turning::take(rt, turns, pass, port);
+    let mut turn = turning::take(rt, turns, pass, key);
     match turning::reserve(turns, pass, &mut turn) {
         Ok(()) => {
             let removed = turning::remove(turns, pass, &mut turn, name);
@@ -149,7 +151,7 @@ fn pay<R: Wait>(
     match next {
         Visit::Bind(owner) => bind(rt, turns, pass, owner, false),
         Visit::Listen(owner) => bind(rt, turns, pass, owner, true),
-        Visit::Remove(port, name) => remove(rt, turns, pass, port, name),
+        Visit::Remove(key, name) => remove(rt, turns, pass, key, name),
     }
 }
 
@@ -198,22 +200,45 @@ fn users_keep_each_other_from_a_port(rt: HostRuntime) -> Result<(), AllocError> 
     )
 }
 
-/// Seventeen listeners of port 80, and one of each of the eight ports from 81 on.
+#[test]
+fn namespaces_keep_apart(rt: HostRuntime) -> Result<(), AllocError> {
+    let other = Owner {
+        net: 1,
+        ..socket(2, 80, 2)
+    };
+    let visits = [
+        Visit::Listen(socket(1, 80, 1)),
+        Visit::Bind(socket(3, 80, 2)),
+        Visit::Listen(other),
+        Visit::Bind(Owner { name: 4, ..other }),
+        Visit::Bind(Owner { uid: 1, ..other }),
+    ];
+    let group = |place| Some(Ok(Some(place)));
+    let in_use = |name| Some(Err(ListenEnd::InUse(name)));
+    check(
+        &rt,
+        rt.alloc(),
+        &visits,
+        &[group(0), in_use(1), group(1), Some(Ok(None)), in_use(2)],
+    )
+}
+
+/// One listener of port 80 more than a group has room for, and one of each of the eight ports from 81 on.
 fn listeners(alloc: Global) -> Result<Vec<Visit>, AllocError> {
     let mut visits = Vec::new(alloc);
-    for name in 0..17u32 {
+    for name in 0..65u32 {
         visits.push(Visit::Listen(socket(name, 80, 1)))?;
     }
     for place in 1..9u16 {
-        visits.push(Visit::Listen(socket(20 + u32::from(place), 80 + place, 1)))?;
+        visits.push(Visit::Listen(socket(70 + u32::from(place), 80 + place, 1)))?;
     }
     Ok(visits)
 }
 
-/// Sixteen join the group 0, and then seven begin groups of their own.
+/// Sixty-four join the group 0, and then seven begin groups of their own.
 fn limits(alloc: Global) -> Result<Vec<Told>, AllocError> {
     let mut told = Vec::new(alloc);
-    for _ in 0..16u32 {
+    for _ in 0..64u32 {
         told.push(Some(Ok(Some(0))))?;
     }
     told.push(Some(Err(ListenEnd::GroupFull)))?;
@@ -231,6 +256,6 @@ fn groups_have_their_limits(rt: HostRuntime) -> Result<(), AllocError> {
     if visits.len() <= 100 {
         check(&rt, rt.alloc(), visits.as_slice(), told.as_slice())?;
     }
-    assert_eq!(rt; visits.len(), 25);
+    assert_eq!(rt; visits.len(), 73);
     Ok(())
 }

@@ -6,7 +6,8 @@
 //! and `__inet_hash_connect` of `net/ipv4/inet_hashtables.c` also whether the connection's four-tuple
 //! is still to be had there. [`Ports`] are the ports in their order. [`turning::find_bind`] and
 //! [`turning::find_connect`] go through them over buckets that threads share, each port in a turn of
-//! its own: a port's bucket is the one at the place that the port leaves when divided by their number.
+//! its own. A port's bucket is the one at the place that the port and the number of the owner's
+//! namespace, added up, leave when divided by the number of buckets.
 //! It stands on `bind_buckets`, and on `flat_list` for the order.
 //!
 //! The contracts say that the port found was taken in its turn and each before it refused in its own,

@@ -17,8 +17,8 @@ use std::test::Fail;
 use std::thread::{Threads, join};
 use turn_table::{TurnPass, Turns};
 
-/// A socket that is to be bound to 0.0.0.0.
-fn socket(name: u32) -> Owner
+/// A socket that is to be bound to 0.0.0.0 in that namespace.
+fn socket(name: u32, net: u8) -> Owner
     ensures { result.name ≡ name }
 {
     Owner {
@@ -29,6 +29,7 @@ fn socket(name: u32) -> Owner
         remote: 0,
         rport: 0,
         dev: 0,
+        net,
         uid: 0,
         reuseaddr: true,
         reuseport: true,
@@ -92,7 +93,7 @@ fn connect<R: Wait>(
         turns,
         pass,
         ports,
-        socket(9),
+        socket(9, 0),
         connected,
         |connected: &mut Vec<(u16, u16)>, port: u16| -> Attempt<()> {
             insert(connected, port, rport)
@@ -104,10 +105,11 @@ fn connect<R: Wait>(
     }
 }
 
-/// What is searched for: a port to bind to, or one to connect from to that port of the other end.
+/// What is searched for: a port to bind to in that namespace, or one to connect from to that port of the
+/// other end, in the namespace 0.
 #[derive(Clone, Copy)]
 enum Search {
-    Bind,
+    Bind(u8),
     Connect(u16),
 }
 
@@ -127,7 +129,10 @@ fn find<R: Wait>(
     ensures draws { words.draws pass.new ≤ words.draws pass.old + 6 }
 {
     match search {
-        Search::Bind => find_bind(rt, turns, pass, ports(four, offset, First::Odd), socket(1)),
+        Search::Bind(net) => {
+            let ports = ports(four, offset, First::Odd);
+            find_bind(rt, turns, pass, ports, socket(1, net))
+        }
         Search::Connect(rport) => {
             let ports = ports(four, offset, First::Even);
             connect(rt, turns, pass, connected, ports, rport)
@@ -174,7 +179,7 @@ const NONE: Result<u16, SearchEnd> = Err(SearchEnd::NoPort);
 
 #[test]
 fn bind_finds_odd_distances_first(rt: HostRuntime) -> Result<(), AllocError> {
-    let (b, c) = (Search::Bind, Search::Connect(80));
+    let (b, c) = (Search::Bind(0), Search::Connect(80));
     let expected = [Ok(40001), Ok(40003), Ok(40000), Ok(40002), NONE, NONE];
     check(&rt, rt.alloc(), true, 0, &[b, b, b, b, b, c], &expected)?;
     let expected = [Ok(40003), Ok(40001), Ok(40002), Ok(40000)];
@@ -189,6 +194,29 @@ fn connect_finds_even_distances_first(rt: HostRuntime) -> Result<(), AllocError>
     check(&rt, rt.alloc(), false, 0, &[c, c, c, other], &expected)?;
     let expected = [Ok(40002), Ok(40000), Ok(40003), Ok(40001)];
     check(&rt, rt.alloc(), true, 2, &[c, c, c, c], &expected)
+}
+
+#[test]
+fn each_namespace_has_all_ports(rt: HostRuntime) -> Result<(), AllocError> {
+    let (b, other, c) = (Search::Bind(0), Search::Bind(1), Search::Connect(80));
+    let expected = [Ok(40001), Ok(40001), Ok(40000), NONE, Ok(40000), NONE];
+    check(
+        &rt,
+        rt.alloc(),
+        false,
+        0,
+        &[other, b, other, other, c, b],
+        &expected,
+    )?;
+    let expected = [Ok(40001), Ok(40000), NONE, Ok(40000), Ok(40001)];
+    check(
+        &rt,
+        rt.alloc(),
+        false,
+        0,
+        &[other, other, other, c, c],
+        &expected,
+    )
 }
 
 /// The forty ports from 40000 on.
@@ -219,7 +247,7 @@ fn bind_ten<R: Wait>(
     let mut pass = pass;
     let mut found = Vec::new(alloc);
     for number in 0..10u32 {
-        let owner = socket(section * 0x100_0000 + number);
+        let owner = socket(section * 0x100_0000 + number, 0);
         if let Ok(port) = find_bind(rt, turns, &mut pass, forty(), owner) {
             found.push(port)?;
         }

@@ -1,6 +1,7 @@
 //! The searches of `bind` and `connect` through buckets that threads share, each port in its own turn.
 
 ghost use Rattle.std.specs.Prelude.{◌≡◌, ◌+◌, ◌%◌, ◌^◌, ◌<◌, ◌≤◌, length, OnErr, IfOk, IfErr, Some, Err, [], ◌∷◌};
+ghost use Rattle.sock_card.specs.Conflict as conflict;
 ghost use Rattle.turn_table.specs.Passes as words;
 ghost use Rattle.turn_table.specs.Passes.{known};
 ghost use Rattle.bind_buckets.specs.Callers.{MayName};
@@ -16,7 +17,7 @@ ghost use Rattle.bind_buckets.specs.declared.request.Answer.TheVariants as answe
 use crate::ends::{Attempt, SearchEnd};
 use crate::ports::Ports;
 use bind_buckets::{Bucket, turning};
-use sock_card::Owner;
+use sock_card::{Owner, bind_key};
 use std::sync::Wait;
 use turn_table::{Turn, TurnPass, Turns};
 
@@ -27,7 +28,8 @@ fn at_port(owner: Owner, port: u16) -> Owner
     Owner { port, ..owner }
 }
 
-/// Asks the port's bucket to take in the owner, where no other overlaps it; whether it did.
+/// Asks the port's bucket in the owner's namespace to take it in, where no other overlaps it; whether it
+/// did.
 fn bind_at<R: Wait>(
     rt: &R,
     turns: &Turns<Box<Bucket>>,
@@ -44,7 +46,7 @@ fn bind_at<R: Wait>(
     ensures nothing { OnErr result (Gave (known pass.old) (known pass.new) []) }
     ensures end { IfErr result (λ end. end ≡ SearchEnd.Memory) }
 {
-    let mut turn = turning::take(rt, turns, pass, port);
+    let mut turn = turning::take(rt, turns, pass, bind_key(port, owner.net));
     match turning::reserve(turns, pass, &mut turn) {
         Ok(()) => {
             let bound = turning::bind_auto(turns, pass, &mut turn, at_port(owner, port));
@@ -58,8 +60,8 @@ fn bind_at<R: Wait>(
     }
 }
 
-/// Binds the owner to the first of the ports at which no owner overlaps it as its turn comes, whatever
-/// their options (`inet_csk_find_open_port`).
+/// Binds the owner to the first of the ports at which no owner of its namespace overlaps it as its turn
+/// comes, whatever their options (`inet_csk_find_open_port`).
 ///
 /// Each port that is tried adds one entry to its bucket, with a number of its own. `NoPort` says that
 /// each of the ports, at its own turn in this call, was refused. Where nobody else was ever split off,
@@ -98,21 +100,22 @@ pub fn find_bind<R: Wait>(
     Err(SearchEnd::NoPort)
 }
 
-/// Takes the turn of the port's bucket, makes room there and asks whether `connect` may choose the
-/// port; where it may, the bucket stays out.
+/// Takes the turn of the port's bucket in that namespace, makes room there and asks whether `connect`
+/// may choose the port there; where it may, the bucket stays out.
 fn open_at<R: Wait>(
     rt: &R,
     turns: &Turns<Box<Bucket>>,
     pass: &mut TurnPass<Box<Bucket>>,
     port: u16,
+    net: u8,
 ) -> Result<Option<Turn<Box<Bucket>>>, SearchEnd>
     requires idle { IsIdle turns.now pass.old }
     requires few { words.draws pass.old < 2 ^ 48 }
-    ensures { Opened turns.now port pass.old pass.new result }
+    ensures { Opened turns.now net port pass.old pass.new result }
 {
-    let mut turn = turning::take(rt, turns, pass, port);
+    let mut turn = turning::take(rt, turns, pass, bind_key(port, net));
     match turning::reserve(turns, pass, &mut turn) {
-        Ok(()) => match turning::free(turns, pass, &mut turn, port) {
+        Ok(()) => match turning::free(turns, pass, &mut turn, port, net) {
             Ok(()) => Ok(Some(turn)),
             Err(_) => {
                 turning::give(turns, pass, turn);
@@ -137,8 +140,8 @@ fn chosen_at(owner: Owner, port: u16) -> Owner
     }
 }
 
-/// Takes in the owner for which `connect` chose the port, in place of the one that was replaced, and
-/// gives the bucket back.
+/// Takes in the owner for which `connect` chose the port in its namespace, in place of the one that was
+/// replaced, and gives the bucket back.
 fn connect_at(
     turns: &Turns<Box<Bucket>>,
     pass: &mut TurnPass<Box<Bucket>>,
@@ -148,16 +151,16 @@ fn connect_at(
     replaced: Option<u32>,
 )
     requires out { IsOut turns.now pass.old turn }
-    requires place { turn.place ≡ port % words.places turns.now }
+    requires place { turn.place ≡ conflict.bind_key port owner.net % words.places turns.now }
     requires few { words.draws pass.old + 2 ≤ 2 ^ 48 }
     requires may { MayName (words.caller pass.old) owner.name }
-    requires free { CanConnect turn.value.value port }
+    requires free { CanConnect turn.value.value port owner.net }
     requires entries { 2 ≤ turn.value.value.entries }
     requires newcomer { 1 ≤ turn.value.value.newcomers }
     ensures idle { IsIdle turns.now pass.new }
     ensures draws { words.draws pass.new ≤ words.draws pass.old + 2 }
     ensures came { (v : View) → Within v (known pass.old)
-        → entries_of (made pass.old turn) ≡ record { request = requests.Free port; answer = answers.Done } ∷ []
+        → entries_of (made pass.old turn) ≡ record { request = requests.Free port owner.net; answer = answers.Done } ∷ []
         → CameAt (words.places turns.now) owner port replaced v (known pass.new) }
 {
     let mut turn = turn;
@@ -171,8 +174,8 @@ fn connect_at(
     }
 }
 
-/// Connects the owner from the first of the ports that is free as its turn comes and at which `insert`
-/// makes the connection (`__inet_hash_connect`); its value comes with the port.
+/// Connects the owner from the first of the ports that is free in its namespace as its turn comes and at
+/// which `insert` makes the connection (`__inet_hash_connect`); its value comes with the port.
 ///
 /// `insert` is called once for each free port in turn, until it answers other than `Taken`, with the
 /// port's bucket out and with the caller's `context`, such as its pass of the chains. What became of the
@@ -203,21 +206,21 @@ pub fn find_connect<R: Wait, T, C, F: Fn(&mut C, u16) -> Attempt<T>>(
     ensures draws { words.draws pass.new ≤ words.draws pass.old + length ports + 2 }
     ensures made { IfOk result (λ found. MakesAt (Tries (F.post insert)) (words.places turns.now) owner ports
         (known pass.old) (known pass.new) context.old found.0 found.1 context.new) }
-    ensures none { result ≡ Err SearchEnd.NoPort → MakesNone (Tries (F.post insert)) (words.places turns.now) ports
-        (known pass.old) (known pass.new) context.old context.new }
-    ensures full { IfErr result (λ end. SaysFull (Tries (F.post insert)) (words.places turns.now) ports
-        (known pass.old) (known pass.new) context.old end context.new) }
-    ensures memory { result ≡ Err SearchEnd.Memory → MakesNotYet (Tries (F.post insert)) (words.places turns.now) ports
-        (known pass.old) (known pass.new) context.old context.new }
+    ensures none { result ≡ Err SearchEnd.NoPort → MakesNone (Tries (F.post insert)) (words.places turns.now)
+        owner.net ports (known pass.old) (known pass.new) context.old context.new }
+    ensures full { IfErr result (λ end. SaysFull (Tries (F.post insert)) (words.places turns.now)
+        owner.net ports (known pass.old) (known pass.new) context.old end context.new) }
+    ensures memory { result ≡ Err SearchEnd.Memory → MakesNotYet (Tries (F.post insert)) (words.places turns.now)
+        owner.net ports (known pass.old) (known pass.new) context.old context.new }
     ensures alone { IsAlone (known pass.old) → IfOk result (λ found.
         ConnectsAt (Tries (F.post insert)) (hash_of (words.places turns.now) (words.given pass.old))
         (hash_of (words.places turns.now) (words.given pass.new)) context.old owner ports found.0 found.1) }
     ensures alone_none { IsAlone (known pass.old) → result ≡ Err SearchEnd.NoPort
         → ConnectsNowhere (Tries (F.post insert)) (hash_of (words.places turns.now) (words.given pass.old))
-        (hash_of (words.places turns.now) (words.given pass.new)) context.old ports }
+        (hash_of (words.places turns.now) (words.given pass.new)) context.old owner.net ports }
 {
     for port in ports {
-        match open_at(rt, turns, pass, port) {
+        match open_at(rt, turns, pass, port, owner.net) {
             Err(end) => return Err(end),
             Ok(None) => {}
             Ok(Some(turn)) => match insert(context, port) {

@@ -5,4 +5,4 @@ use Rattle.port_search.proofs.laws.rows.Goals as goal
 
 pub returns : goal.returns
 unfolding owner_step overlap
-returns c = record { first = refl; second = refl; third = refl; answers = refl }
+returns c = record { first = refl; second = refl; third = refl; fourth = refl; answers = refl }

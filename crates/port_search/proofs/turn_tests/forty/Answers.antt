@@ -1,4 +1,4 @@
-use Rattle.std.proofs.Common.{◌≡◌, ℕ, List, length, ap, ◌∙◌}
+use Rattle.std.proofs.Common.{ℕ, List, length, ap, ◌∙◌}
 use Rattle.flat_list.specs.declared.header.First.TheVariants as firsts
 use Rattle.flat_list.proofs.PortAt.{order_length}
 use Rattle.port_search.proofs.turn_tests.forty.Goals as goal

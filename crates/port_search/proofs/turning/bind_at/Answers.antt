@@ -2,6 +2,7 @@ use Rattle.std.proofs.Common.{◌%◌, ◌∷◌, ◌++◌, [], List, ap, sym, s
 use Rattle.turn_table.specs.Passes as words
 use Rattle.turn_table.specs.Passes.{known}
 use Rattle.sock_card.specs.declared.owner.Owner.{Owner}
+use Rattle.sock_card.specs.Conflict.{bind_key}
 use Rattle.bind_buckets.specs.declared.request.Request.TheVariants as requests
 use Rattle.bind_buckets.specs.Notes.{Note}
 use Rattle.bind_buckets.specs.Bucket.{entries_of}
@@ -18,10 +19,10 @@ returns-in-Ok-clause-tried g c =
     let asks = c.bind_auto-bound.ensures.asks in
     let none = c.reserve.ensures.made ∙ c.take-turn.ensures.none in
     let made = asks.made_is ∙ ap (λ (ms : List Note). entries_of ms ++ record { request = requests.BindAuto c.at_port.result; answer = answer_of_bind c.bind_auto-bound.result } ∷ []) none in
-    let place = asks.place ∙ (c.reserve.ensures.place ∙ c.take-turn.ensures.place) in
+    let place = asks.place ∙ (c.reserve.ensures.place ∙ (c.take-turn.ensures.place ∙ ap (λ k. k % words.places c.args.turns.now) c.bind_key.ensures)) in
     subst (TriedAt (words.places c.args.turns.now) c.args.owner c.args.port v w) (sym c.is_ok.ensures.value)
     (tried_by (words.places c.args.turns.now) c.args.port c.args.owner v w c.bind_auto-bound.result
-    (subst (λ (a : Owner). OneAsked (c.args.port % words.places c.args.turns.now) (requests.BindAuto a) (answer_of_bind c.bind_auto-bound.result) v w) c.at_port.ensures
+    (subst (λ (a : Owner). OneAsked (bind_key c.args.port c.args.owner.net % words.places c.args.turns.now) (requests.BindAuto a) (answer_of_bind c.bind_auto-bound.result) v w) c.at_port.ensures
     (one_asked _ _ _ _ v w _ place made (c.give.ensures.gave v (asks.within v c.take-turn.ensures.within)))))
 
 pub returns-in-Err-clause-nothing : goal.returns-in-Err-clause-nothing

@@ -1,4 +1,5 @@
 use Rattle.std.proofs.Common.{rules, refl, ◌+◌, ◌^◌, ◌%◌, [], ◌∷◌, inr, Ok, length, subst, ◌∙◌}
+use Rattle.sock_card.specs.Conflict.{bind_key}
 use Rattle.turn_table.specs.Passes as words
 use Rattle.turn_table.specs.Passes.{known}
 use Rattle.bind_buckets.specs.declared.request.Request.TheVariants as requests
@@ -11,7 +12,7 @@ use Rattle.port_search.proofs.turning.find_connect.Goals as goal
 
 pub loop-port-preserved-in-Ok-None : goal.loop-port-preserved-in-Ok-None
 loop-port-preserved-in-Ok-None g c =
-    let k : ClosedAt c.args.turns.now c.in-Some.port c.loop-port.pass c.open_at.new.pass = subst (λ r. Opened c.args.turns.now c.in-Some.port c.loop-port.pass c.open_at.new.pass (Ok r)) c.in-Ok-None.field-0-is c.in-Ok-None.ensures in
+    let k : ClosedAt c.args.turns.now c.args.owner.net c.in-Some.port c.loop-port.pass c.open_at.new.pass = subst (λ r. Opened c.args.turns.now c.args.owner.net c.in-Some.port c.loop-port.pass c.open_at.new.pass (Ok r)) c.in-Ok-None.field-0-is c.in-Ok-None.ensures in
     let n = words.places c.args.turns.now in
     let v = known c.args.pass.now in
     let w = known c.loop-port.pass in
@@ -24,19 +25,19 @@ loop-port-preserved-in-Ok-None g c =
       enough_left (2 ^ 48) (words.draws c.loop-port.pass) (words.draws c.open_at.new.pass) c.loop-port.port-iterator c.next.new.self c.in-Some.port here k.gave.draws c.loop-port.invariant.4,
       enough (words.draws c.args.pass.now + length c.args.ports) (words.draws c.loop-port.pass) (words.draws c.open_at.new.pass) c.loop-port.port-iterator c.next.new.self c.in-Some.port here k.gave.draws c.loop-port.invariant.5,
       k.gave.caller ∙ c.loop-port.invariant.6,
-      passed_on (Tries (goal.F-post g c.args.insert)) n v w c.args.context.now c.loop-port.context c.args.ports c.loop-port.port-iterator c.loop-port.invariant.7 u c.loop-port.context c.in-Some.port c.next.new.self k.entry here
-          (held_on (Tries (goal.F-post g c.args.insert)) c.args.turns.now c.in-Some.port c.loop-port.pass c.open_at.new.pass c.loop-port.context k) k.gave,
+      passed_on (Tries (goal.F-post g c.args.insert)) n c.args.owner.net v w c.args.context.now c.loop-port.context c.args.ports c.loop-port.port-iterator c.loop-port.invariant.7 u c.loop-port.context c.in-Some.port c.next.new.self k.entry here
+          (held_on (Tries (goal.F-post g c.args.insert)) c.args.turns.now c.args.owner.net c.in-Some.port c.loop-port.pass c.open_at.new.pass c.loop-port.context k) k.gave,
     )
 
 pub loop-port-preserved : goal.loop-port-preserved
 loop-port-preserved g c =
-    let k : OpenAt c.args.turns.now c.in-Some.port c.loop-port.pass c.open_at.new.pass c.in-Ok-Some.turn = subst (λ r. Opened c.args.turns.now c.in-Some.port c.loop-port.pass c.open_at.new.pass (Ok r)) c.in-Ok-Some.field-0-is c.in-Ok-Some.ensures in
+    let k : OpenAt c.args.turns.now c.args.owner.net c.in-Some.port c.loop-port.pass c.open_at.new.pass c.in-Ok-Some.turn = subst (λ r. Opened c.args.turns.now c.args.owner.net c.in-Some.port c.loop-port.pass c.open_at.new.pass (Ok r)) c.in-Ok-Some.field-0-is c.in-Ok-Some.ensures in
     let n = words.places c.args.turns.now in
     let v = known c.args.pass.now in
     let w = known c.loop-port.pass in
     let u = known c.give.new.pass in
     let here = c.in-Some.ensures.steps in
-    let o = one_asked (c.in-Some.port % n) _ (requests.Free c.in-Some.port) answers.Done w u _ k.place k.made_is (c.give.ensures.gave w k.within) in (
+    let o = one_asked (bind_key c.in-Some.port c.args.owner.net % n) _ (requests.Free c.in-Some.port c.args.owner.net) answers.Done w u _ k.place k.made_is (c.give.ensures.gave w k.within) in (
       tt,
       tt,
       may_again (goal.F-pre g c.args.insert) (goal.F-post g c.args.insert) c.loop-port.context c.insert.new.arg2 c.in-Some.port c.in-Taken.field-0 c.loop-port.invariant.2 (record { shown = _; shows = refl; left = _; answered = c.in-Taken.ensures; leaves = refl }),
@@ -44,48 +45,48 @@ loop-port-preserved g c =
       enough_left (2 ^ 48) (words.draws c.loop-port.pass) (words.draws c.give.new.pass) c.loop-port.port-iterator c.next.new.self c.in-Some.port here o.gave.draws c.loop-port.invariant.4,
       enough (words.draws c.args.pass.now + length c.args.ports) (words.draws c.loop-port.pass) (words.draws c.give.new.pass) c.loop-port.port-iterator c.next.new.self c.in-Some.port here o.gave.draws c.loop-port.invariant.5,
       o.gave.caller ∙ c.loop-port.invariant.6,
-      passed_on (Tries (goal.F-post g c.args.insert)) n v w c.args.context.now c.loop-port.context c.args.ports c.loop-port.port-iterator c.loop-port.invariant.7 u c.insert.new.arg2 c.in-Some.port c.next.new.self o.entry here
+      passed_on (Tries (goal.F-post g c.args.insert)) n c.args.owner.net v w c.args.context.now c.loop-port.context c.args.ports c.loop-port.port-iterator c.loop-port.invariant.7 u c.insert.new.arg2 c.in-Some.port c.next.new.self o.entry here
           (inr (record { free = o.asked; name = c.in-Taken.field-0; said = record { shown = _; shows = refl; left = _; answered = c.in-Taken.ensures; leaves = refl } })) o.gave,
     )
 
 pub returns-in-Done-clause-made : goal.returns-in-Done-clause-made
 returns-in-Done-clause-made g c =
-    let k : OpenAt c.args.turns.now c.in-Some.port c.loop-port.pass c.open_at.new.pass c.in-Ok-Some.turn = subst (λ r. Opened c.args.turns.now c.in-Some.port c.loop-port.pass c.open_at.new.pass (Ok r)) c.in-Ok-Some.field-0-is c.in-Ok-Some.ensures in
+    let k : OpenAt c.args.turns.now c.args.owner.net c.in-Some.port c.loop-port.pass c.open_at.new.pass c.in-Ok-Some.turn = subst (λ r. Opened c.args.turns.now c.args.owner.net c.in-Some.port c.loop-port.pass c.open_at.new.pass (Ok r)) c.in-Ok-Some.field-0-is c.in-Ok-Some.ensures in
     let n = words.places c.args.turns.now in
     let v = known c.args.pass.now in
     let w = known c.loop-port.pass in
     let u = known c.connect_at.new.pass in
-    makes (Tries (goal.F-post g c.args.insert)) n v w c.args.context.now c.loop-port.context c.args.ports c.loop-port.port-iterator c.loop-port.invariant.7 c.args.owner u c.in-Some.port c.next.new.self c.in-Done.value c.in-Done.replaced c.insert.new.arg2 c.in-Some.ensures.steps (record { shown = _; shows = refl; left = _; answered = c.in-Done.ensures; leaves = refl })
+    makes (Tries (goal.F-post g c.args.insert)) n c.args.owner v w c.args.context.now c.loop-port.context c.args.ports c.loop-port.port-iterator c.loop-port.invariant.7 u c.in-Some.port c.next.new.self c.in-Done.value c.in-Done.replaced c.insert.new.arg2 c.in-Some.ensures.steps (record { shown = _; shows = refl; left = _; answered = c.in-Done.ensures; leaves = refl })
     (c.connect_at.ensures.came w k.within k.made_is)
 
 pub returns-in-Full-clause-full : goal.returns-in-Full-clause-full
 returns-in-Full-clause-full g c =
-    let k : OpenAt c.args.turns.now c.in-Some.port c.loop-port.pass c.open_at.new.pass c.in-Ok-Some.turn = subst (λ r. Opened c.args.turns.now c.in-Some.port c.loop-port.pass c.open_at.new.pass (Ok r)) c.in-Ok-Some.field-0-is c.in-Ok-Some.ensures in
+    let k : OpenAt c.args.turns.now c.args.owner.net c.in-Some.port c.loop-port.pass c.open_at.new.pass c.in-Ok-Some.turn = subst (λ r. Opened c.args.turns.now c.args.owner.net c.in-Some.port c.loop-port.pass c.open_at.new.pass (Ok r)) c.in-Ok-Some.field-0-is c.in-Ok-Some.ensures in
     let n = words.places c.args.turns.now in
     let v = known c.args.pass.now in
     let w = known c.loop-port.pass in
     let u = known c.give-in-Full.new.pass in
-    let o = one_asked (c.in-Some.port % n) _ (requests.Free c.in-Some.port) answers.Done w u _ k.place k.made_is (c.give-in-Full.ensures.gave w k.within) in
-    finds_full (Tries (goal.F-post g c.args.insert)) n v w c.args.context.now c.loop-port.context c.args.ports c.loop-port.port-iterator c.loop-port.invariant.7 u c.in-Some.port c.next.new.self c.in-Full.owned c.in-Full.held c.insert.new.arg2 o.entry c.in-Some.ensures.steps (record { shown = _; shows = refl; left = _; answered = c.in-Full.ensures; leaves = refl }) o.asked o.gave
+    let o = one_asked (bind_key c.in-Some.port c.args.owner.net % n) _ (requests.Free c.in-Some.port c.args.owner.net) answers.Done w u _ k.place k.made_is (c.give-in-Full.ensures.gave w k.within) in
+    finds_full (Tries (goal.F-post g c.args.insert)) n c.args.owner.net v w c.args.context.now c.loop-port.context c.args.ports c.loop-port.port-iterator c.loop-port.invariant.7 u c.in-Some.port c.next.new.self c.in-Full.owned c.in-Full.held c.insert.new.arg2 o.entry c.in-Some.ensures.steps (record { shown = _; shows = refl; left = _; answered = c.in-Full.ensures; leaves = refl }) o.asked o.gave
 
 pub returns-in-Done-clause-alone : goal.returns-in-Done-clause-alone
 returns-in-Done-clause-alone g c =
-    let k : OpenAt c.args.turns.now c.in-Some.port c.loop-port.pass c.open_at.new.pass c.in-Ok-Some.turn = subst (λ r. Opened c.args.turns.now c.in-Some.port c.loop-port.pass c.open_at.new.pass (Ok r)) c.in-Ok-Some.field-0-is c.in-Ok-Some.ensures in
+    let k : OpenAt c.args.turns.now c.args.owner.net c.in-Some.port c.loop-port.pass c.open_at.new.pass c.in-Ok-Some.turn = subst (λ r. Opened c.args.turns.now c.args.owner.net c.in-Some.port c.loop-port.pass c.open_at.new.pass (Ok r)) c.in-Ok-Some.field-0-is c.in-Ok-Some.ensures in
     let n = words.places c.args.turns.now in
     let v = known c.args.pass.now in
     let w = known c.loop-port.pass in
     let u = known c.connect_at.new.pass in
-    let m = makes (Tries (goal.F-post g c.args.insert)) n v w c.args.context.now c.loop-port.context c.args.ports c.loop-port.port-iterator c.loop-port.invariant.7 c.args.owner u c.in-Some.port c.next.new.self c.in-Done.value c.in-Done.replaced c.insert.new.arg2 c.in-Some.ensures.steps (record { shown = _; shows = refl; left = _; answered = c.in-Done.ensures; leaves = refl })
+    let m = makes (Tries (goal.F-post g c.args.insert)) n c.args.owner v w c.args.context.now c.loop-port.context c.args.ports c.loop-port.port-iterator c.loop-port.invariant.7 u c.in-Some.port c.next.new.self c.in-Done.value c.in-Done.replaced c.insert.new.arg2 c.in-Some.ensures.steps (record { shown = _; shows = refl; left = _; answered = c.in-Done.ensures; leaves = refl })
     (c.connect_at.ensures.came w k.within k.made_is) in
-    λ alone. makes_alone (Tries (goal.F-post g c.args.insert)) n c.requires.idle.some c.args.ports v u c.args.context.now c.insert.new.arg2 alone c.connect_at.ensures.idle.knows c.args.owner c.in-Some.port c.in-Done.value m
+    λ alone. makes_alone (Tries (goal.F-post g c.args.insert)) n c.requires.idle.some c.args.owner c.args.ports v u c.args.context.now c.insert.new.arg2 alone c.connect_at.ensures.idle.knows c.in-Some.port c.in-Done.value m
 
 pub returns-clause-alone_none : goal.returns-clause-alone_none
 returns-clause-alone_none g c =
     let n = words.places c.args.turns.now in
     let v = known c.args.pass.now in
     let w = known c.loop-port.pass in
-    let m = makes_none (Tries (goal.F-post g c.args.insert)) n v w c.args.context.now c.loop-port.context c.args.ports c.loop-port.port-iterator c.loop-port.invariant.7 c.in-None.ensures.steps.0 in
-    λ alone same. makes_none_alone (Tries (goal.F-post g c.args.insert)) n c.requires.idle.some c.args.ports v w c.args.context.now c.loop-port.context alone c.loop-port.invariant.3.knows m
+    let m = makes_none (Tries (goal.F-post g c.args.insert)) n c.args.owner.net v w c.args.context.now c.loop-port.context c.args.ports c.loop-port.port-iterator c.loop-port.invariant.7 c.in-None.ensures.steps.0 in
+    λ alone same. makes_none_alone (Tries (goal.F-post g c.args.insert)) n c.args.owner.net c.requires.idle.some c.args.ports v w c.args.context.now c.loop-port.context alone c.loop-port.invariant.3.knows m
 
 pub returns-in-Err-clause-memory : goal.returns-in-Err-clause-memory
 returns-in-Err-clause-memory g c =
@@ -93,17 +94,17 @@ returns-in-Err-clause-memory g c =
     let v = known c.args.pass.now in
     let w = known c.loop-port.pass in
     let k : GivenUp c.args.turns.now c.loop-port.pass c.open_at.new.pass c.in-Err.end = c.in-Err.ensures in
-    λ same. not_yet_made (Tries (goal.F-post g c.args.insert)) n v w c.args.context.now c.loop-port.context c.args.ports c.loop-port.port-iterator c.loop-port.invariant.7 (known c.open_at.new.pass) [] c.loop-port.context (still_there (Tries (goal.F-post g c.args.insert)) n c.loop-port.port-iterator c.next.new.self c.in-Some.port c.loop-port.context c.in-Some.ensures.steps) k.gave
+    λ same. not_yet_made (Tries (goal.F-post g c.args.insert)) n c.args.owner.net v w c.args.context.now c.loop-port.context c.args.ports c.loop-port.port-iterator c.loop-port.invariant.7 (known c.open_at.new.pass) [] c.loop-port.context (still_there (Tries (goal.F-post g c.args.insert)) n c.args.owner.net c.loop-port.port-iterator c.next.new.self c.in-Some.port c.loop-port.context c.in-Some.ensures.steps) k.gave
 
 pub returns-in-Memory-clause-memory : goal.returns-in-Memory-clause-memory
 returns-in-Memory-clause-memory g c =
-    let k : OpenAt c.args.turns.now c.in-Some.port c.loop-port.pass c.open_at.new.pass c.in-Ok-Some.turn = subst (λ r. Opened c.args.turns.now c.in-Some.port c.loop-port.pass c.open_at.new.pass (Ok r)) c.in-Ok-Some.field-0-is c.in-Ok-Some.ensures in
+    let k : OpenAt c.args.turns.now c.args.owner.net c.in-Some.port c.loop-port.pass c.open_at.new.pass c.in-Ok-Some.turn = subst (λ r. Opened c.args.turns.now c.args.owner.net c.in-Some.port c.loop-port.pass c.open_at.new.pass (Ok r)) c.in-Ok-Some.field-0-is c.in-Ok-Some.ensures in
     let n = words.places c.args.turns.now in
     let v = known c.args.pass.now in
     let w = known c.loop-port.pass in
     let u = known c.give-in-Memory.new.pass in
-    let o = one_asked (c.in-Some.port % n) _ (requests.Free c.in-Some.port) answers.Done w u _ k.place k.made_is (c.give-in-Memory.ensures.gave w k.within) in
-    λ same. not_yet_made (Tries (goal.F-post g c.args.insert)) n v w c.args.context.now c.loop-port.context c.args.ports c.loop-port.port-iterator c.loop-port.invariant.7 u (o.entry ∷ []) c.insert.new.arg2 (free_front (Tries (goal.F-post g c.args.insert)) n c.loop-port.port-iterator c.next.new.self c.in-Some.port o.entry c.loop-port.context c.insert.new.arg2 c.in-Some.ensures.steps o.asked (record { shown = _; shows = refl; left = _; answered = c.in-Memory.ensures; leaves = refl })) o.gave
+    let o = one_asked (bind_key c.in-Some.port c.args.owner.net % n) _ (requests.Free c.in-Some.port c.args.owner.net) answers.Done w u _ k.place k.made_is (c.give-in-Memory.ensures.gave w k.within) in
+    λ same. not_yet_made (Tries (goal.F-post g c.args.insert)) n c.args.owner.net v w c.args.context.now c.loop-port.context c.args.ports c.loop-port.port-iterator c.loop-port.invariant.7 u (o.entry ∷ []) c.insert.new.arg2 (free_front (Tries (goal.F-post g c.args.insert)) n c.args.owner.net c.loop-port.port-iterator c.next.new.self c.in-Some.port o.entry c.loop-port.context c.insert.new.arg2 c.in-Some.ensures.steps o.asked (record { shown = _; shows = refl; left = _; answered = c.in-Memory.ensures; leaves = refl })) o.gave
 
 pub loop-port-init : goal.loop-port-init
 loop-port-init g c = (
@@ -114,7 +115,7 @@ loop-port-init g c = (
   search rules,
   search rules,
   refl,
-  connect_begins (Tries (goal.F-post g c.args.insert)) (words.places c.args.turns.now) (known c.args.pass.now) c.args.context.now c.args.ports _ (search rules),
+  connect_begins (Tries (goal.F-post g c.args.insert)) (words.places c.args.turns.now) c.args.owner.net (known c.args.pass.now) c.args.context.now c.args.ports _ (search rules),
 )
 
 pub insert-requires : goal.insert-requires
@@ -122,6 +123,6 @@ insert-requires g c = may_now (goal.F-pre g c.args.insert) (goal.F-post g c.args
 
 pub returns-in-Done-clause-caller : goal.returns-in-Done-clause-caller
 returns-in-Done-clause-caller g c =
-    let k : OpenAt c.args.turns.now c.in-Some.port c.loop-port.pass c.open_at.new.pass c.in-Ok-Some.turn = subst (λ r. Opened c.args.turns.now c.in-Some.port c.loop-port.pass c.open_at.new.pass (Ok r)) c.in-Ok-Some.field-0-is c.in-Ok-Some.ensures in
+    let k : OpenAt c.args.turns.now c.args.owner.net c.in-Some.port c.loop-port.pass c.open_at.new.pass c.in-Ok-Some.turn = subst (λ r. Opened c.args.turns.now c.args.owner.net c.in-Some.port c.loop-port.pass c.open_at.new.pass (Ok r)) c.in-Ok-Some.field-0-is c.in-Ok-Some.ensures in
     let w = known c.loop-port.pass in
     (c.connect_at.ensures.came w k.within k.made_is).gave.caller ∙ c.loop-port.invariant.6

@@ -15,4 +15,4 @@ invariant-loop-port g l =
     × (words.draws l.pass + length l.port-iterator + 2 ≤ 2 ^ 48)
     × (words.draws l.pass + length l.port-iterator ≤ words.draws l.fn.pass + length l.fn.ports)
     × (words.caller l.pass ≡ words.caller l.fn.pass)
-    × ConnectSearching (Tries (goal.F-post g l.insert)) (words.places l.turns) (known l.fn.pass) (known l.pass) l.fn.context l.context l.fn.ports l.port-iterator
+    × ConnectSearching (Tries (goal.F-post g l.insert)) (words.places l.turns) l.owner.net (known l.fn.pass) (known l.pass) l.fn.context l.context l.fn.ports l.port-iterator

@@ -1,4 +1,5 @@
 use Rattle.std.proofs.Common.{◌∷◌, ◌++◌, ◌%◌, [], List, refl, ap, ◌∙◌, arith}
+use Rattle.sock_card.specs.Conflict.{bind_key}
 use Rattle.turn_table.specs.Passes as words
 use Rattle.turn_table.specs.Passes.{known}
 use Rattle.bind_buckets.specs.declared.request.Request.TheVariants as requests
@@ -13,11 +14,11 @@ pub returns-in-Ok-free : goal.returns-in-Ok-free
 returns-in-Ok-free g c =
     let asks = c.free.ensures.asks in
     let none = c.reserve.ensures.made ∙ c.take-turn.ensures.none in
-    let made = asks.made_is ∙ ap (λ (ms : List Note). entries_of ms ++ record { request = requests.Free c.args.port; answer = answer_of_free c.free.result } ∷ []) none in
+    let made = asks.made_is ∙ ap (λ (ms : List Note). entries_of ms ++ record { request = requests.Free c.args.port c.args.net; answer = answer_of_free c.free.result } ∷ []) none in
     record {
       out = asks.out;
-      place = asks.place ∙ (c.reserve.ensures.place ∙ c.take-turn.ensures.place);
-      made_is = made ∙ ap (λ r. record { request = requests.Free c.args.port; answer = answer_of_free r } ∷ []) c.in-Ok-free.is;
+      place = asks.place ∙ (c.reserve.ensures.place ∙ (c.take-turn.ensures.place ∙ ap (λ k. k % words.places c.args.turns.now) c.bind_key.ensures));
+      made_is = made ∙ ap (λ r. record { request = requests.Free c.args.port c.args.net; answer = answer_of_free r } ∷ []) c.in-Ok-free.is;
       within = asks.within (known c.args.pass.now) c.take-turn.ensures.within;
       draws = let a = asks.draws in let b = c.take-turn.ensures.draws in omega arith;
       caller = asks.caller ∙ c.take-turn.ensures.caller;
@@ -32,9 +33,10 @@ returns-in-Err-free g c =
     let w = known c.give.new.pass in
     let asks = c.free.ensures.asks in
     let none = c.reserve.ensures.made ∙ c.take-turn.ensures.none in
-    let made = asks.made_is ∙ ap (λ (ms : List Note). entries_of ms ++ record { request = requests.Free c.args.port; answer = answer_of_free c.free.result } ∷ []) none
-    ∙ ap (λ r. record { request = requests.Free c.args.port; answer = answer_of_free r } ∷ []) c.in-Err-free.is in
-    let o = one_asked (c.args.port % words.places c.args.turns.now) _ (requests.Free c.args.port) (answers.NotFree c.in-Err-free.field-0.0) v w _ (asks.place ∙ (c.reserve.ensures.place ∙ c.take-turn.ensures.place)) made (c.give.ensures.gave v (asks.within v c.take-turn.ensures.within)) in
+    let place = asks.place ∙ (c.reserve.ensures.place ∙ (c.take-turn.ensures.place ∙ ap (λ k. k % words.places c.args.turns.now) c.bind_key.ensures)) in
+    let made = asks.made_is ∙ ap (λ (ms : List Note). entries_of ms ++ record { request = requests.Free c.args.port c.args.net; answer = answer_of_free c.free.result } ∷ []) none
+    ∙ ap (λ r. record { request = requests.Free c.args.port c.args.net; answer = answer_of_free r } ∷ []) c.in-Err-free.is in
+    let o = one_asked (bind_key c.args.port c.args.net % words.places c.args.turns.now) _ (requests.Free c.args.port c.args.net) (answers.NotFree c.in-Err-free.field-0.0) v w _ place made (c.give.ensures.gave v (asks.within v c.take-turn.ensures.within)) in
     record { idle = c.give.ensures.idle; entry = o.entry; held = record { name = c.in-Err-free.field-0.0; asked = o.asked }; gave = o.gave }
 
 pub returns-in-Err : goal.returns-in-Err

@@ -1,5 +1,6 @@
 use Rattle.std.proofs.Common.{find, ◌∙◌, refl, arith}
-use Rattle.bind_buckets.specs.OwnerStep.{owner_step, holds}
+use Rattle.sock_card.specs.Conflict.{holds}
+use Rattle.bind_buckets.specs.OwnerStep.{owner_step}
 use Rattle.bind_buckets.proofs.FreePort.{free_answers, free_now, all_if_ok, held_by_first}
 use Rattle.bind_buckets.proofs.RoomToGo.{used, settled}
 use Rattle.bind_buckets.proofs.bucket.Bucket.free.Goals as goal
@@ -7,7 +8,7 @@ use Rattle.bind_buckets.proofs.bucket.Bucket.free.Goals as goal
 pub free_result-requires : goal.free_result-requires
 unfolding owner_step
 free_result-requires c =
-    rw c.carry_out.ensures.answer (free_answers (find (holds c.args.port) c.args.self.now.held.owners))
+    rw c.carry_out.ensures.answer (free_answers (find (holds c.args.port c.args.net) c.args.self.now.held.owners))
 
 pub returns-clause-kept : goal.returns-clause-kept
 unfolding owner_step
@@ -17,18 +18,18 @@ pub returns-clause-free : goal.returns-clause-free
 unfolding owner_step
 returns-clause-free c =
     rw c.carry_out.ensures.after
-    (free_now (find (holds c.args.port) c.args.self.now.held.owners) c.free_result.result (c.free_result.ensures ∙ c.carry_out.ensures.answer))
+    (free_now (find (holds c.args.port c.args.net) c.args.self.now.held.owners) c.free_result.result (c.free_result.ensures ∙ c.carry_out.ensures.answer))
 
 pub returns-clause-chosen : goal.returns-clause-chosen
 unfolding owner_step
 returns-clause-chosen c =
     let owners = c.args.self.now.held.owners in
-    all_if_ok c.args.port owners (find (holds c.args.port) owners) c.free_result.result refl (c.free_result.ensures ∙ c.carry_out.ensures.answer)
+    all_if_ok c.args.port c.args.net owners (find (holds c.args.port c.args.net) owners) c.free_result.result refl (c.free_result.ensures ∙ c.carry_out.ensures.answer)
 
 pub returns-clause-not_free : goal.returns-clause-not_free
 unfolding owner_step
 returns-clause-not_free c =
-    held_by_first (find (holds c.args.port) c.args.self.now.held.owners) c.free_result.result (c.free_result.ensures ∙ c.carry_out.ensures.answer)
+    held_by_first (find (holds c.args.port c.args.net) c.args.self.now.held.owners) c.free_result.result (c.free_result.ensures ∙ c.carry_out.ensures.answer)
 
 pub returns-clause-entries : goal.returns-clause-entries
 unfolding owner_step
