@@ -63,6 +63,6 @@ lawful_says script capture race l =
     record {
       tuples = serial_has_none race.book race.shape race.seed (begin_apart race.book n.distinct) n.order l.serial;
       owners = agree_all 0 race.journals l.journals.legal;
-      ports = ports_of script.header (Among race.book) race.shape.bind script.sections race.sections race.journals l.sections l.journals.each_once;
+      keys = ports_of script.header (Among race.book) race.shape.bind script.sections race.sections race.journals l.sections l.journals.each_once;
       packets = causes race.book race.shape race.seed race.clock l.serial capture.items race.looked l.items;
     }

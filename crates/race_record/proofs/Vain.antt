@@ -1,5 +1,6 @@
 -- How often a plan's deeds seek a slot in vain.
 use Rattle.std.proofs.Common.{◌≡◌, ℕ, ◌+◌, ◌==◌, Bool, true, false, cond, nat_lt, List, [], ◌∷◌, ◌++◌, length, Option, None, Some, append-nil, if◌then◌else◌, refl, sym, ap, ◌∙◌, arith}
+use Rattle.sock_card.specs.Conflict.{owner_key, bind_key}
 use Rattle.sock_card.specs.declared.owner.Owner.{Owner}
 use Rattle.sock_card.specs.declared.owner.State.{State}
 use Rattle.sock_card.specs.declared.owner.State.TheVariants as states
@@ -98,10 +99,10 @@ module _ {R : Type 0} (k : ℕ) (told : R → ℕ) where
   v_search : (a : Owner) (addr : ℕ) (found : ℕ → Asking R) (none : Asking R) → ((port : ℕ) → Vains k told (found port)) → Vains k told none → (ports : List ℕ) → Vains k told (op.search_bind a addr found none ports)
   v_search a addr found none h i [] = i
   v_search a addr found none h i (port ∷ ports) =
-      v_asks port _ _ (λ answer. v_found (found port) (op.search_bind a addr found none ports) answer (h port) (v_search a addr found none h i ports))
+      v_asks (bind_key port a.net) _ _ (λ answer. v_found (found port) (op.search_bind a addr found none ports) answer (h port) (v_search a addr found none h i ports))
 
   v_leave : (a : Owner) (x : R) → k ≡ told x → Vains k told (op.leave a x)
-  v_leave a x e = v_asks a.port _ _ (λ answer. v_done (ends x) answer (v_ends x e))
+  v_leave a x e = v_asks (owner_key a) _ _ (λ answer. v_done (ends x) answer (v_ends x e))
 
   v_drop_as : (s : State) (m : Mine) (x : R) → k ≡ told x → Vains k told (op.drop_as s m x)
   v_drop_as states.Unbound m x e = v_ends x e
@@ -112,7 +113,7 @@ module _ {R : Type 0} (k : ℕ) (told : R → ℕ) where
 
   v_replaced : (old : Option Hashed) (next : Asking R) → Vains k told next → Vains k told (op.then_replaced old next)
   v_replaced None next h = h
-  v_replaced (Some x) next h = v_asks x.card.lport _ _ (λ answer. h)
+  v_replaced (Some x) next h = v_asks (bind_key x.card.lport x.card.net) _ _ (λ answer. h)
 
 -- how often an operation that came to that sought in vain
 abbrev told_end : OpEnd → ℕ
@@ -132,7 +133,7 @@ abbrev told_count : ℕ → ℕ
 told_count n = 0
 
 v_give_up : (took : Bool) (a : Owner) (end : OpEnd) (k : ℕ) → k ≡ told_end end → Vains k told_did (op.give_up took a end)
-v_give_up true a end k e = v_asks k told_did a.port _ _ (λ answer. v_done k told_did (ends (refused end)) answer (v_ends k told_did (refused end) e))
+v_give_up true a end k e = v_asks k told_did (owner_key a) _ _ (λ answer. v_done k told_did (ends (refused end)) answer (v_ends k told_did (refused end) e))
 v_give_up false a end k e = v_ends k told_did (refused end) e
 
 v_bind_answered : (a : Owner) (end : End) (answer : Answer) → Vains 0 told_did (op.bind_answered a end answer)
@@ -144,9 +145,9 @@ v_bind_answered a end answers_.GroupsFull = v_impossible 0 told_did
 v_bind_answered a end (answers_.Strange n) = v_impossible 0 told_did
 v_bind_answered a end (answers_.NotFree n) = v_impossible 0 told_did
 
-v_bind_by : (a : Owner) (end : End) (ports : List ℕ) (b : Bool) → Vains 0 told_did (if b then op.search_bind a end.addr (op.bound a end.addr) (ends (refused errors.NoPort)) ports else asks end.port (requests.Bind (bound_at a end.addr end.port)) (op.bind_answered a end))
+v_bind_by : (a : Owner) (end : End) (ports : List ℕ) (b : Bool) → Vains 0 told_did (if b then op.search_bind a end.addr (op.bound a end.addr) (ends (refused errors.NoPort)) ports else asks (bind_key end.port a.net) (requests.Bind (bound_at a end.addr end.port)) (op.bind_answered a end))
 v_bind_by a end ports true = v_search 0 told_did a end.addr _ _ (λ port. v_ends 0 told_did _ refl) (v_ends 0 told_did _ refl) ports
-v_bind_by a end ports false = v_asks 0 told_did end.port _ _ (λ answer. v_bind_answered a end answer)
+v_bind_by a end ports false = v_asks 0 told_did (bind_key end.port a.net) _ _ (λ answer. v_bind_answered a end answer)
 
 v_bind : (s : State) (m : Mine) (end : End) (ports : List ℕ) → Vains 0 told_did (op.bind_as s m end ports)
 v_bind states.Unbound m end ports = v_bind_by m.owner end ports (end.port == 0)
@@ -160,7 +161,7 @@ v_refused end e = v_ends 0 told_did (refused end) (sym e)
 
 module _ (shape : Shape) (seed : ℕ) where
   v_listen_put : (took : Bool) (a : Owner) (l : Mine) (slot : ℕ) (old : Option Hashed) → Vains 0 told_did (op.listen_hashed shape seed took a l (put slot old))
-  v_listen_put took a l slot None = v_asks 0 told_did a.port _ _ (λ answer. v_done 0 told_did (ends (done (op.listens_in shape seed l slot))) answer (v_ends 0 told_did _ refl))
+  v_listen_put took a l slot None = v_asks 0 told_did (owner_key a) _ _ (λ answer. v_done 0 told_did (ends (done (op.listens_in shape seed l slot))) answer (v_ends 0 told_did _ refl))
   v_listen_put took a l slot (Some x) = v_impossible 0 told_did
 
   v_listen_in : (took : Bool) (a : Owner) (l : Mine) → Vains 0 told_did (op.listen_in shape seed took a l)
@@ -180,7 +181,7 @@ module _ (shape : Shape) (seed : ℕ) where
   v_listen_answered took a (answers_.NotFree n) = v_impossible 0 told_did
 
   v_listen_at : (took : Bool) (a : Owner) → Vains 0 told_did (op.listen_at shape seed took a)
-  v_listen_at took a = v_asks 0 told_did a.port _ (op.listen_answered shape seed took a) (v_listen_answered took a)
+  v_listen_at took a = v_asks 0 told_did (owner_key a) _ (op.listen_answered shape seed took a) (v_listen_answered took a)
 
   v_listen : (s : State) (m : Mine) (ports : List ℕ) → Vains 0 told_did (op.listen_as shape seed s m ports)
   v_listen states.Unbound m ports = v_search 0 told_did m.owner 0 (op.listen_found shape seed m.owner) (ends (refused errors.NoPort)) (λ port. v_listen_at true (bound_at m.owner 0 port)) (v_refused errors.NoPort refl) ports
@@ -197,14 +198,14 @@ module _ (shape : Shape) (seed : ℕ) where
 
   v_connect_bound : (a : Owner) (moment : ℕ) (rule : Replace) → Vains 0 told_did (op.connect_bound shape seed a moment rule)
   v_connect_bound a moment rule = v_inserts 0 told_did _ moment rule (op.connect_hashed shape seed a) (record {
-    puts = λ slot old. v_full_then a.port (requests.ConnectBound a.name a.addr a.remote a.rport) a slot old;
+    puts = λ slot old. v_full_then (owner_key a) (requests.ConnectBound a.name a.addr a.remote a.rport) a slot old;
     takes = λ name. v_refused (errors.Taken name) refl;
     none = λ owned held. v_ends 1 told_did (refused (errors.Full owned held)) refl;
   })
 
   v_tried : (a : Owner) (next : Asking Did) → Vains 0 told_did next → Tries 0 told_did (op.connect_tried shape seed a next)
   v_tried a next h = record {
-    puts = λ slot old. v_full_then a.port (requests.ConnectAuto a) a slot old;
+    puts = λ slot old. v_full_then (owner_key a) (requests.ConnectAuto a) a slot old;
     takes = λ name. h;
     none = λ owned held. v_ends 1 told_did (refused (errors.Full owned held)) refl;
   }
@@ -221,7 +222,7 @@ module _ (shape : Shape) (seed : ℕ) where
   v_search_connect : (a : Owner) (source : ℕ) (to : End) (moment : ℕ) (rule : Replace) (ports : List ℕ) → Vains 0 told_did (op.search_connect shape seed a source to moment rule ports)
   v_search_connect a source to moment rule [] = v_refused errors.NoPort refl
   v_search_connect a source to moment rule (port ∷ ports) =
-      v_asks 0 told_did port _ (op.connect_free shape seed (connected_at a source port to) moment rule (op.search_connect shape seed a source to moment rule ports))
+      v_asks 0 told_did (bind_key port a.net) _ (op.connect_free shape seed (connected_at a source port to) moment rule (op.search_connect shape seed a source to moment rule ports))
       (λ answer. v_connect_free (connected_at a source port to) moment rule (op.search_connect shape seed a source to moment rule ports) answer (v_search_connect a source to moment rule ports))
 
   v_connect : (s : State) (a : Owner) (source : Option ℕ) (to : End) (moment : ℕ) (rule : Replace) (ports : List ℕ) → Vains 0 told_did (op.connect_from shape seed s a source to moment rule ports)
@@ -235,7 +236,7 @@ module _ (shape : Shape) (seed : ℕ) where
 
   v_accept_as : (l child : Owner) → Vains 0 told_did (op.accept_as shape seed l child)
   v_accept_as l child = v_inserts 0 told_did _ 0 _ (op.accept_hashed shape seed l child) (record {
-    puts = λ slot old. v_full_then l.port (requests.Inherit l.name child.name child.addr child.remote child.rport) child slot old;
+    puts = λ slot old. v_full_then (owner_key l) (requests.Inherit l.name child.name child.addr child.remote child.rport) child slot old;
     takes = λ name. v_refused (errors.Taken name) refl;
     none = λ owned held. v_ends 1 told_did (refused (errors.Full owned held)) refl;
   })
@@ -245,8 +246,8 @@ module _ (shape : Shape) (seed : ℕ) where
   v_accept_by l name from at false = v_accept_as l.owner (child_owner l.owner name from at)
 
   v_close_put : (m w : Mine) (slot : ℕ) (old : Option Hashed) → Vains 0 told_closed (op.close_hashed shape seed m w (put slot old))
-  v_close_put m w slot None = v_unhashes 0 told_closed m.place _ (asks m.owner.port (requests.ToTimeWait m.owner.name) (op.when_done (ends (waiting (op.waits_in shape seed w slot)))))
-      (v_asks 0 told_closed m.owner.port _ (op.when_done (ends (waiting (op.waits_in shape seed w slot)))) (λ answer. v_done 0 told_closed (ends (waiting (op.waits_in shape seed w slot))) answer (v_ends 0 told_closed _ refl)))
+  v_close_put m w slot None = v_unhashes 0 told_closed m.place _ (asks (owner_key m.owner) (requests.ToTimeWait m.owner.name) (op.when_done (ends (waiting (op.waits_in shape seed w slot)))))
+      (v_asks 0 told_closed (owner_key m.owner) _ (op.when_done (ends (waiting (op.waits_in shape seed w slot)))) (λ answer. v_done 0 told_closed (ends (waiting (op.waits_in shape seed w slot))) answer (v_ends 0 told_closed _ refl)))
   v_close_put m w slot (Some x) = v_impossible 0 told_closed
 
   v_close_full : (m w : Mine) → Vains 0 told_closed (op.close_full shape seed m w)
@@ -264,7 +265,7 @@ module _ (shape : Shape) (seed : ℕ) where
   v_close states.TimeWait m moment = v_drop_as 0 told_closed states.TimeWait m gone refl
 
 v_reaped : (w : Mine) (count : ℕ) (next : ℕ → Asking ℕ) (b : Bool) → ((n : ℕ) → Vains 0 told_count (next n)) → Vains 0 told_count (op.reaped_next w count next b)
-v_reaped w count next true h = v_asks 0 told_count w.owner.port _ (λ answer. next (count + 1)) (λ answer. h (count + 1))
+v_reaped w count next true h = v_asks 0 told_count (owner_key w.owner) _ (λ answer. next (count + 1)) (λ answer. h (count + 1))
 v_reaped w count next false h = h count
 
 v_reap : (ws : List Mine) (count : ℕ) → Vains 0 told_count (op.reap_each ws count)
@@ -364,7 +365,7 @@ module _ (header : Header) where
 
   v_plan : (own : Own) (c : Command) → Vains 0 told_reply (plan header own c)
   unfolding plan
-  v_plan own (commands.Socket label uid dev reuseaddr reuseport) = v_ends 0 told_reply _ refl
+  v_plan own (commands.Socket label options) = v_ends 0 told_reply _ refl
   v_plan own (commands.Bind label end) = v_bind_command own _ end
   v_plan own (commands.Listen label) = v_listen_command own _
   v_plan own (commands.Connect label from to) = v_connect_command own _ from to
@@ -373,7 +374,7 @@ module _ (header : Header) where
   v_plan own (commands.Drop label) = v_drop_command own _
   v_plan own (commands.At moment) = v_at own moment (nat_lt moment own.moment)
   v_plan own commands.Reap = v_then told_count _ _ (v_reap _ 0) (λ count. refl)
-  v_plan own (commands.Look from to dev) = v_impossible 0 told_reply
+  v_plan own (commands.Look query) = v_impossible 0 told_reply
   v_plan own (commands.Packets count) = v_impossible 0 told_reply
 
   pub replies_tell : (own next : Own) (c : Command) (reply : Reply) (deeds : List Deed) → Goes (plan header own c) deeds (answers next reply) → length (vain_in deeds) ≡ cond (drew_for reply) 1 0

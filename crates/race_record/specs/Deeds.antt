@@ -23,7 +23,7 @@ pub data Tried : Type 0 where
   no_slot : ℕ → ℕ → ℕ → Tried  -- a number of the clock was drawn in vain: so many slots were owned, and so many only held
 
 pub data Deed : Type 0 where
-  entered : ℕ → Note Entry → Deed  -- a call on the bind bucket of that port, as its journal has it
+  entered : ℕ → Note Entry → Deed  -- a call on the bind bucket of that key, as its journal has it
   inserted : Wish → Tried → Deed  -- a full card, or the try
   added : Card → Tried → Deed  -- a card that no four-tuple keeps out, or the try
   left : Change → Deed  -- an unhash
@@ -47,7 +47,7 @@ one_or_none (Some x) = x ∷ []
 
 -- the entry that a deed made, with its bucket among so many
 abbrev pub entry_of : ℕ → Deed → List (Placed Entry)
-entry_of buckets (entered port note) = placed (port % buckets) note ∷ []
+entry_of buckets (entered key note) = placed (key % buckets) note ∷ []
 entry_of buckets _ = []
 
 abbrev pub changes_tried : Tried → List Change

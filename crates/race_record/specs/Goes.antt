@@ -73,8 +73,8 @@ was_there (Some u) = true
 -- The plan comes to that result by these deeds: each is what the plan asks for there, and by the deed's answer it goes on.
 abbrev pub Goes : {R : Type 0} → Asking R → List Deed → R → Type 0
 Goes (ends r) [] result = result ≡ r
-Goes (asks port request then_) (entered p note ∷ deeds) result =
-    (p ≡ port) × (note.entry.request ≡ request) × Goes (then_ note.entry.answer) deeds result
+Goes (asks key request then_) (entered k note ∷ deeds) result =
+    (k ≡ key) × (note.entry.request ≡ request) × Goes (then_ note.entry.answer) deeds result
 Goes (inserts card moment rule then_) (inserted wish tried ∷ deeds) result =
     (wish ≡ record { card = card; moment = moment; rule = rule }) × Grants wish tried
     × Goes (then_ (outcome_of tried)) deeds result

@@ -1,5 +1,6 @@
 -- What a lawful record says of its race: our own.
 use Rattle.std.specs.Prelude.{◌≡◌, ◌+◌, ◌*◌, ◌%◌, ◌<◌, ℕ, List, length, filter, map, take}
+use Rattle.sock_card.specs.Conflict.{owner_key}
 use Rattle.list_words.specs.Lists.{Each}
 use Rattle.sock_card.specs.declared.owner.Owner.{Owner}
 use Rattle.turn_table.specs.declared.note.Note.{Note}
@@ -23,11 +24,11 @@ use Rattle.race_record.specs.Lawful.{Lawful, EachFrom, entry_in}
 abbrev pub AlwaysAgree : ℕ → List (Note Entry) → Type 0
 AlwaysAgree number journal = (k : ℕ) → OwnersAgree (replayed number (take k (map entry_in journal))).owners
 
--- whatever was entered so far, each owner of the bucket of that number among so many has a port of it: so no two owners of
--- different buckets have one port
+-- whatever was entered so far, each owner of the bucket of that number among so many has a key of it: so no two owners of
+-- different buckets have one port of one namespace
 abbrev pub AlwaysAtHome : ℕ → ℕ → List (Note Entry) → Type 0
 AlwaysAtHome buckets number journal =
-    (k : ℕ) → Each (λ (a : Owner). a.port % buckets ≡ number) (replayed number (take k (map entry_in journal))).owners
+    (k : ℕ) → Each (λ (a : Owner). owner_key a % buckets ≡ number) (replayed number (take k (map entry_in journal))).owners
 
 -- what was found, or wasn't, has its cause among all lives
 abbrev pub HasCause : (Change → Type 0) → Shape → Looked → Type 0
@@ -40,8 +41,8 @@ pub record Headline (race : Race) : Type 0 where
   pub tuples : NoTwinsStand race.book
   -- no two bound sockets of one bucket that are of different origin ever conflict
   pub owners : EachFrom AlwaysAgree 0 race.journals
-  -- nor do two of different buckets, since they have different ports
-  pub ports : EachFrom (AlwaysAtHome race.shape.bind) 0 race.journals
+  -- nor do two of different buckets, since they have different ports or namespaces
+  pub keys : EachFrom (AlwaysAtHome race.shape.bind) 0 race.journals
   -- each packet's socket stood hashed with matching keys while no better one stood hashed throughout; nothing was found,
   -- or a lookup given up, only with its cause
   pub packets : Each (HasCause (Among race.book) race.shape) race.looked

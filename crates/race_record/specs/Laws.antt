@@ -56,7 +56,7 @@ GoesApart =
 
 -- what a deed tells a plan, apart from the numbers of the clock: as the plans of table_model go on
 abbrev pub told_of : ℕ → Deed → goes.Told
-told_of buckets (entered port note) = goes.entered (placed (port % buckets) note)
+told_of buckets (entered key note) = goes.entered (placed (key % buckets) note)
 told_of buckets (inserted wish tried) = goes.inserted wish.card wish.moment wish.rule (outcome_of tried)
 told_of buckets (added card tried) = goes.added card (outcome_of tried)
 told_of buckets (left u) = goes.left (record { bucket = u.bucket; slot = u.slot }) u.card

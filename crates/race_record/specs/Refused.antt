@@ -19,7 +19,7 @@ use Rattle.chain_book.specs.declared.outcome.Replace.TheVariants as rules
 use Rattle.flat_list.specs.declared.command.Command.TheVariants as commands
 use Rattle.flat_list.specs.declared.command.Reply.TheVariants as replies
 use Rattle.flat_list.specs.Owned.{new_owner, bound_at, connected_to, card_as}
-use Rattle.flat_list.specs.Rows.{with_slots, a, b, c, d, one, two, socket, reusable, connect}
+use Rattle.flat_list.specs.Rows.{plain, with_slots, a, b, c, d, one, two, socket, reusable, connect}
 use Rattle.flat_list.specs.Script.{Script}
 use Rattle.flat_list.specs.Sections.{name_at}
 use Rattle.race_record.specs.declared.record.Looked.TheVariants as looks
@@ -47,7 +47,7 @@ refused_capture =
 
 abbrev pub reusing : ℕ → Owner
 reusing name =
-    bound_at (new_owner name (record { uid = None; dev = None; reuseaddr = true; reuseport = false })) 0x0A000001 90
+    bound_at (new_owner name (record plain { reuseaddr = true })) 0x0A000001 90
 
 abbrev pub connected : Owner → Card
 connected owner = card_as kinds.Full (connected_to owner 0x0A000001 (two 80)) 0

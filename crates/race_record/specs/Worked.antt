@@ -25,7 +25,7 @@ use Rattle.flat_list.specs.declared.command.Command.TheVariants as commands
 use Rattle.flat_list.specs.declared.command.Reply.{Reply}
 use Rattle.flat_list.specs.declared.command.Reply.TheVariants as replies
 use Rattle.flat_list.specs.Owned.{new_owner, bound_at, child_owner, card_as}
-use Rattle.flat_list.specs.Rows.{with_slots, a, b, d, e, any, one, two, socket, accept}
+use Rattle.flat_list.specs.Rows.{with_slots, plain, a, b, d, e, any, one, two, socket, accept}
 use Rattle.flat_list.specs.Script.{Script}
 use Rattle.flat_list.specs.Sections.{name_at}
 use Rattle.race_record.specs.declared.record.Looked.TheVariants as looks
@@ -47,7 +47,7 @@ step command reply deeds from to =
 -- the owner that a socket of that name is once it is bound to that end
 abbrev pub bound : ℕ → ℕ → ℕ → Owner
 bound name addr port =
-    bound_at (new_owner name (record { uid = None; dev = None; reuseaddr = false; reuseport = false })) addr port
+    bound_at (new_owner name plain) addr port
 
 -- the listener of section 1, and its hash
 abbrev pub owner_a : Owner

@@ -33,7 +33,7 @@ unfolding home
 one_home shape seed a b p q s =
     let t : PartsAgree (tuple_of a) (tuple_of b) = parts_agree (tuple_of a) (tuple_of b) s in
     ap (λ (k : Kind). home_as k shape seed a) (full_is a.kind p)
-    ∙ (λ i. tuple_home shape seed (t.local i) (t.lport i) (t.remote i) (t.rport i))
+    ∙ (λ i. tuple_home shape seed (t.local i) (t.lport i) (t.remote i) (t.rport i) (t.net i))
     ∙ sym (ap (λ (k : Kind). home_as k shape seed b) (full_is b.kind q))
 
 -- a full card's kind is the least bits of its second word

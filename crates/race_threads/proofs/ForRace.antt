@@ -29,7 +29,7 @@ never h = absurd (not_true h)
 
 -- what may come in a race looks nothing up
 allowed : (other : Bool) (c : Command) → IsTrue (is_allowed modes.Race c && other) → is_lookup c ≡ false
-allowed other (commands.Socket label uid dev reuseaddr reuseport) h = refl
+allowed other (commands.Socket label options) h = refl
 allowed other (commands.Bind label end) h = refl
 allowed other (commands.Listen label) h = refl
 allowed other (commands.Connect label from to) h = refl
@@ -38,7 +38,7 @@ allowed other (commands.Close label) h = refl
 allowed other (commands.Drop label) h = refl
 allowed other (commands.At moment) h = refl
 allowed other commands.Reap h = refl
-allowed other (commands.Look from to dev) h = never h
+allowed other (commands.Look query) h = never h
 allowed other (commands.Packets count) h = never h
 
 -- so it is of sections with one more command that may come
@@ -70,7 +70,7 @@ line_says old new words (lines.Offset offset) form f s = subst SaysRace (sym f.1
 line_says old new words (lines.TimeWaitReuse reuse) form f s = subst SaysRace (sym f.1) (record { table = s.table; range = s.range; looks = s.looks })
 line_says old new words (lines.Section n) form f s =
     subst SaysRace (sym f.1) (record { table = s.table; range = s.range; looks = each_append LooksNothingUp old.sections ([] ∷ []) s.looks (tt, tt) })
-line_says old new words (lines.Capture dev) form f s = subst SaysRace (sym f) (record { table = s.table; range = s.range; looks = s.looks })
+line_says old new words (lines.Capture dev net) form f s = subst SaysRace (sym f) (record { table = s.table; range = s.range; looks = s.looks })
 line_says old new words (lines.Command c) form f s =
     subst SaysRace (sym f.1) (record { table = s.table; range = s.range; looks = with_one c old.sections f.0 s.looks })
 

@@ -1,6 +1,7 @@
 -- What each command's plan leaves of a section's own, and that no plan hashes a TIME_WAIT but that of `close`.
 use Rattle.std.proofs.Common.{◌≡◌, ℕ, ◌+◌, ◌<◌, ◌≤◌, ◌==◌, Bool, true, false, cond, nat_lt, not, List, [], ◌∷◌, ◌++◌, length, map, filter, Option, None, Some, append-nil, if◌then◌else◌, refl, sym, ap, ◌∙◌, subst, arith, ◌⊎◌, inl, inr, ⊎_elim, length-append}
 use Rattle.std.proofs.lemmas.Bool.{true≢false, ltb-false, eq-eqb}
+use Rattle.sock_card.specs.Conflict.{owner_key, bind_key}
 use Rattle.list_words.specs.Lists.{Each}
 use Rattle.sock_card.specs.declared.owner.Owner.{Owner}
 use Rattle.sock_card.specs.declared.owner.State.{State}
@@ -170,10 +171,10 @@ module _ {R : Type 0} (Q : R → Type 0) where
   c_search : (a : Owner) (addr : ℕ) (found : ℕ → Asking R) (none : Asking R) → ((port : ℕ) → Calms Q (found port)) → Calms Q none → (ports : List ℕ) → Calms Q (op.search_bind a addr found none ports)
   c_search a addr found none h i [] = i
   c_search a addr found none h i (port ∷ ports) =
-      c_asks port _ _ (λ answer. c_found (found port) (op.search_bind a addr found none ports) answer (h port) (c_search a addr found none h i ports))
+      c_asks (bind_key port a.net) _ _ (λ answer. c_found (found port) (op.search_bind a addr found none ports) answer (h port) (c_search a addr found none h i ports))
 
   c_leave : (a : Owner) (x : R) → Q x → Calms Q (op.leave a x)
-  c_leave a x q = c_asks a.port _ _ (λ answer. c_done (ends x) answer (c_ends x q))
+  c_leave a x q = c_asks (owner_key a) _ _ (λ answer. c_done (ends x) answer (c_ends x q))
 
   pub c_drop_as : (s : State) (m : Mine) (x : R) → Q x → Calms Q (op.drop_as s m x)
   c_drop_as states.Unbound m x q = c_ends x q
@@ -184,7 +185,7 @@ module _ {R : Type 0} (Q : R → Type 0) where
 
   c_replaced : (old : Option Hashed) (next : Asking R) → Calms Q next → Calms Q (op.then_replaced old next)
   c_replaced None next h = h
-  c_replaced (Some x) next h = c_asks x.card.lport _ _ (λ answer. h)
+  c_replaced (Some x) next h = c_asks (bind_key x.card.lport x.card.net) _ _ (λ answer. h)
 
 -- Operations
 
@@ -195,7 +196,7 @@ any_end : (d : Did) → Calms Any (ends d)
 any_end d = c_ends Any d tt
 
 any_give_up : (took : Bool) (a : Owner) (end : OpEnd) → Calms Any (op.give_up took a end)
-any_give_up true a end = c_asks Any a.port _ _ (λ answer. c_done Any (ends (refused end)) answer (any_end (refused end)))
+any_give_up true a end = c_asks Any (owner_key a) _ _ (λ answer. c_done Any (ends (refused end)) answer (any_end (refused end)))
 any_give_up false a end = any_end (refused end)
 
 any_bind_answered : (a : Owner) (end : End) (answer : Answer) → Calms Any (op.bind_answered a end answer)
@@ -207,9 +208,9 @@ any_bind_answered a end answers_.GroupsFull = c_impossible Any
 any_bind_answered a end (answers_.Strange n) = c_impossible Any
 any_bind_answered a end (answers_.NotFree n) = c_impossible Any
 
-any_bind_by : (a : Owner) (end : End) (ports : List ℕ) (b : Bool) → Calms Any (if b then op.search_bind a end.addr (op.bound a end.addr) (ends (refused errors.NoPort)) ports else asks end.port (requests.Bind (bound_at a end.addr end.port)) (op.bind_answered a end))
+any_bind_by : (a : Owner) (end : End) (ports : List ℕ) (b : Bool) → Calms Any (if b then op.search_bind a end.addr (op.bound a end.addr) (ends (refused errors.NoPort)) ports else asks (bind_key end.port a.net) (requests.Bind (bound_at a end.addr end.port)) (op.bind_answered a end))
 any_bind_by a end ports true = c_search Any a end.addr _ _ (λ port. any_end _) (any_end _) ports
-any_bind_by a end ports false = c_asks Any end.port _ _ (λ answer. any_bind_answered a end answer)
+any_bind_by a end ports false = c_asks Any (bind_key end.port a.net) _ _ (λ answer. any_bind_answered a end answer)
 
 any_bind : (s : State) (m : Mine) (end : End) (ports : List ℕ) → Calms Any (op.bind_as s m end ports)
 any_bind states.Unbound m end ports = any_bind_by m.owner end ports (end.port == 0)
@@ -225,7 +226,7 @@ NamedBy name (refused end) = Unit {0}
 
 module _ (shape : Shape) (seed : ℕ) where
   any_listen_hashed : (took : Bool) (a : Owner) (l : Mine) (o : Outcome) → Calms Any (op.listen_hashed shape seed took a l o)
-  any_listen_hashed took a l (put slot None) = c_asks Any a.port _ _ (λ answer. c_done Any (ends (done (op.listens_in shape seed l slot))) answer (any_end _))
+  any_listen_hashed took a l (put slot None) = c_asks Any (owner_key a) _ _ (λ answer. c_done Any (ends (done (op.listens_in shape seed l slot))) answer (any_end _))
   any_listen_hashed took a l (put slot (Some x)) = c_impossible Any
   any_listen_hashed took a l (full owned held) = any_give_up took a (errors.Full owned held)
   any_listen_hashed took a l (taken name) = c_impossible Any
@@ -243,7 +244,7 @@ module _ (shape : Shape) (seed : ℕ) where
   any_listen_answered took a (answers_.NotFree n) = c_impossible Any
 
   any_listen_at : (took : Bool) (a : Owner) → Calms Any (op.listen_at shape seed took a)
-  any_listen_at took a = c_asks Any a.port _ (op.listen_answered shape seed took a) (any_listen_answered took a)
+  any_listen_at took a = c_asks Any (owner_key a) _ (op.listen_answered shape seed took a) (any_listen_answered took a)
 
   any_listen : (s : State) (m : Mine) (ports : List ℕ) → Calms Any (op.listen_as shape seed s m ports)
   any_listen states.Unbound m ports = c_search Any m.owner 0 (op.listen_found shape seed m.owner) (ends (refused errors.NoPort)) (λ port. any_listen_at true (bound_at m.owner 0 port)) (any_end _) ports
@@ -258,12 +259,12 @@ module _ (shape : Shape) (seed : ℕ) where
       (λ answer. c_done Q (op.full_done shape seed a slot old) answer (c_replaced Q old (ends (done (op.full_in shape seed a slot))) (c_ends Q _ q)))
 
   any_connect_hashed : (a : Owner) (o : Outcome) → Calms Any (op.connect_hashed shape seed a o)
-  any_connect_hashed a (put slot old) = full_then Any a.port _ a slot old tt
+  any_connect_hashed a (put slot old) = full_then Any (owner_key a) _ a slot old tt
   any_connect_hashed a (taken name) = any_end _
   any_connect_hashed a (full owned held) = any_end _
 
   any_connect_tried : (a : Owner) (next : Asking Did) → Calms Any next → (o : Outcome) → Calms Any (op.connect_tried shape seed a next o)
-  any_connect_tried a next h (put slot old) = full_then Any a.port _ a slot old tt
+  any_connect_tried a next h (put slot old) = full_then Any (owner_key a) _ a slot old tt
   any_connect_tried a next h (taken name) = h
   any_connect_tried a next h (full owned held) = any_end _
 
@@ -279,7 +280,7 @@ module _ (shape : Shape) (seed : ℕ) where
   any_search_connect : (a : Owner) (source : ℕ) (to : End) (moment : ℕ) (rule : Replace) (ports : List ℕ) → Calms Any (op.search_connect shape seed a source to moment rule ports)
   any_search_connect a source to moment rule [] = any_end _
   any_search_connect a source to moment rule (port ∷ ports) =
-      c_asks Any port _ (op.connect_free shape seed (connected_at a source port to) moment rule (op.search_connect shape seed a source to moment rule ports))
+      c_asks Any (bind_key port a.net) _ (op.connect_free shape seed (connected_at a source port to) moment rule (op.search_connect shape seed a source to moment rule ports))
       (λ answer. any_connect_free (connected_at a source port to) moment rule (op.search_connect shape seed a source to moment rule ports) answer (any_search_connect a source to moment rule ports))
 
   any_connect_bound : (a : Owner) (moment : ℕ) (rule : Replace) → Calms Any (op.connect_bound shape seed a moment rule)
@@ -295,7 +296,7 @@ module _ (shape : Shape) (seed : ℕ) where
   any_connect states.TimeWait a source to moment rule ports = any_end _
 
   named_accept_hashed : (l child : Owner) (o : Outcome) → Calms (NamedBy child.name) (op.accept_hashed shape seed l child o)
-  named_accept_hashed l child (put slot old) = full_then (NamedBy child.name) l.port _ child slot old refl
+  named_accept_hashed l child (put slot old) = full_then (NamedBy child.name) (owner_key l) _ child slot old refl
   named_accept_hashed l child (taken name) = c_ends (NamedBy child.name) _ tt
   named_accept_hashed l child (full owned held) = c_ends (NamedBy child.name) _ tt
 

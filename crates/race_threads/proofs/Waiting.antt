@@ -1,6 +1,7 @@
 -- What one step leaves of the TIME_WAITs for which its section waits.
 use Rattle.std.proofs.Common.{◌≡◌, ℕ, ◌+◌, Bool, true, false, nat_lt, not, List, [], ◌∷◌, ◌++◌, map, filter, find, Option, None, Some, append-nil, refl, sym, ap, ◌∙◌, subst, arith, ◌⊎◌, inl, inr, option_and_then}
 use Rattle.std.proofs.lemmas.Bool.{true≢false}
+use Rattle.sock_card.specs.Conflict.{owner_key}
 use Rattle.list_words.specs.Lists.{Each}
 use Rattle.list_words.proofs.EachLemmas.{each_weaken, each_found}
 use Rattle.sock_card.specs.declared.owner.State.{State}
@@ -17,7 +18,6 @@ use Rattle.flat_list.specs.declared.command.Command.{Command}
 use Rattle.flat_list.specs.declared.command.Command.TheVariants as commands
 use Rattle.flat_list.specs.declared.command.Reply.{Reply}
 use Rattle.flat_list.specs.declared.command.Reply.TheVariants as replies
-use Rattle.flat_list.specs.declared.owned.Options.{Options}
 use Rattle.table_model.specs.Asking.{Asking, ends, asks, and_then}
 use Rattle.table_model.specs.Own.{Own, Mine, is_named, is_over, card_of, open_socket, name_of, with_wait, without}
 use Rattle.table_model.specs.Means.{name_in}
@@ -163,16 +163,16 @@ module _ (header : Header) (own : Own) (m : Mine) where
   after_hash slot =
       let Q : Replied → Type 0 = IsOwn (with_wait (without own name) (waited slot)) in
       let last : Answer → Asking Replied = λ answer. and_then (op.when_done (ends (waiting (waited slot))) answer) then_ in
-      Plans.c_unhashes Q m.place (card_of kinds.Full m) (asks m.owner.port (requests.ToTimeWait name) last)
-      (Plans.c_asks Q m.owner.port (requests.ToTimeWait name) last
+      Plans.c_unhashes Q m.place (card_of kinds.Full m) (asks (owner_key m.owner) (requests.ToTimeWait name) last)
+      (Plans.c_asks Q (owner_key m.owner) (requests.ToTimeWait name) last
       (λ answer. done_then Q (waiting (waited slot)) then_ answer (Plans.c_ends Q _ refl)))
 
   after_none : (owned held : ℕ) → Plans.Calms (Plans.CalmBy own) (and_then (op.close_hashed header.shape header.seed m w (full owned held)) then_)
   after_none owned held =
       let Q : Replied → Type 0 = Plans.CalmBy own in
       let last : Answer → Asking Replied = λ answer. and_then (op.when_done (ends (closed_without owned held)) answer) then_ in
-      Plans.c_unhashes Q m.place (card_of kinds.Full m) (asks m.owner.port (requests.Remove name) last)
-      (Plans.c_asks Q m.owner.port (requests.Remove name) last
+      Plans.c_unhashes Q m.place (card_of kinds.Full m) (asks (owner_key m.owner) (requests.Remove name) last)
+      (Plans.c_asks Q (owner_key m.owner) (requests.Remove name) last
       (λ answer. done_then Q (closed_without owned held) then_ answer (Plans.c_ends Q _ (Plans.fewer own name))))
 
   it_or_none : (h c : Change) (rest : List Change) → Each Plans.IsNoWait rest → Among (h ∷ rest) c → Plans.IsWait c → c ≡ h
@@ -251,8 +251,7 @@ module _ (header : Header) (own next : Own) (deeds : List Deed) (reply : Reply) 
   -- each step
   pub turn : (c : Command) → Goes (plan header own c) deeds (answers next reply) → Turn own next (is_reap c) deeds
   unfolding plan
-  turn (commands.Socket label uid dev reuseaddr reuseport) g =
-      let options : Options = record { uid = uid; dev = dev; reuseaddr = reuseaddr; reuseport = reuseport } in
+  turn (commands.Socket label options) g =
       calmly (command.socket_command own label options) (Plans.c_socket_command own label options) g
   turn (commands.Bind label end) g = calmly _ (Plans.c_bind_command own _ end) g
   turn (commands.Listen label) g = calmly _ (Plans.c_listen_command header own _) g
@@ -262,5 +261,5 @@ module _ (header : Header) (own next : Own) (deeds : List Deed) (reply : Reply) 
   turn (commands.Drop label) g = calmly _ (Plans.c_drop_command own _) g
   turn (commands.At moment) g = calmly _ (Plans.c_at own moment (nat_lt moment own.moment) refl) g
   turn commands.Reap g = reap_turn own next deeds reply g
-  turn (commands.Look from to dev) g = absurd g
+  turn (commands.Look query) g = absurd g
   turn (commands.Packets count) g = absurd g

@@ -7,7 +7,7 @@ use Rattle.bind_buckets.specs.Turned.{IsAlone, AreLawful}
 use Rattle.flat_list.specs.declared.header.Header.{Header}
 use Rattle.flat_list.specs.declared.command.Command.{Command}
 use Rattle.flat_list.specs.declared.command.Command.TheVariants as commands
-use Rattle.flat_list.specs.declared.command.End.{End}
+use Rattle.flat_list.specs.declared.command.Query.{Query}
 use Rattle.flat_list.specs.declared.command.Reply.{Reply}
 use Rattle.reuseport_group.specs.Passes as lists
 use Rattle.sock_script.specs.Steps.{takes_items}
@@ -114,8 +114,8 @@ module _ (t : Tables) (k : Kept) (w u : Worker) (command : Command) (next : Own)
 -- What a step answers
 
 -- a command that is no lookup and takes no items asks for no lookup
-pub no_lookup : (command : Command) → takes_items command ≡ false → ((from to : End) (dev : Option ℕ) → command ≡ commands.Look from to dev → ⊥) → is_lookup command ≡ false
-no_lookup (commands.Socket label uid dev reuseaddr reuseport) none other = refl
+pub no_lookup : (command : Command) → takes_items command ≡ false → ((query : Query) → command ≡ commands.Look query → ⊥) → is_lookup command ≡ false
+no_lookup (commands.Socket label options) none other = refl
 no_lookup (commands.Bind label end) none other = refl
 no_lookup (commands.Listen label) none other = refl
 no_lookup (commands.Connect label from to) none other = refl
@@ -124,7 +124,7 @@ no_lookup (commands.Close label) none other = refl
 no_lookup (commands.Drop label) none other = refl
 no_lookup (commands.At moment) none other = refl
 no_lookup commands.Reap none other = refl
-no_lookup (commands.Look from to dev) none other = absurd (other from to dev refl)
+no_lookup (commands.Look query) none other = absurd (other query refl)
 no_lookup (commands.Packets n) none other = none
 
 module _ (t : Tables) (k l : Kept) (w u : Worker) (command : Command) (running : IsRunning t k w) (ready : IsReady t u) where

@@ -11,7 +11,7 @@ use Rattle.sock_card.specs.declared.card.Kind.{Kind}
 use Rattle.sock_card.specs.declared.card.Kind.TheVariants as kinds
 use Rattle.sock_card.specs.declared.owner.State.{State}
 use Rattle.sock_card.specs.declared.owner.State.TheVariants as states
-use Rattle.sock_card.specs.Conflict.{is_listening}
+use Rattle.sock_card.specs.Conflict.{owner_key, is_listening}
 use Rattle.flat_list.specs.declared.socket.Socket.{Socket}
 use Rattle.flat_list.specs.Flat.{Flat}
 use Rattle.flat_list.specs.Groups.{Group, has_member, bucket_of}
@@ -116,9 +116,9 @@ bound_at : (o : Option Group) (extra count : ℕ) → option_map_or (λ (g : Gro
 bound_at None extra count h low = omega (arith, h)
 bound_at (Some g) extra count h low = omega (arith, h, low g refl)
 
-below_eight : (port buckets number : ℕ) → 1 ≤ buckets → port % buckets ≡ number / 8 → number < 8 * buckets
-below_eight port buckets number some e =
-    let low : port % buckets < buckets = omega arith in omega (arith, low, e)
+below_eight : (key buckets number : ℕ) → 1 ≤ buckets → key % buckets ≡ number / 8 → number < 8 * buckets
+below_eight key buckets number some e =
+    let low : key % buckets < buckets = omega arith in omega (arith, low, e)
 
 module _ (flat : Flat) (sound : IsSound flat) where
   abbrev pub cards : List Card
@@ -169,9 +169,9 @@ module _ (flat : Flat) (sound : IsSound flat) where
   number_below : 1 ≤ flat.header.shape.bind → (c : Card) (o : OfSocket flat.groups flat.sockets c) (g : Group) → group_of c.name flat.groups ≡ Some g → g.number < 8 * flat.header.shape.bind
   number_below some c o g h =
       let is : IsGroupOf flat.header.shape.bind flat.sockets g = each_in (IsGroupOf flat.header.shape.bind flat.sockets) g flat.groups sound.grouped.each (found_in (has_member c.name) flat.groups g h) in
-      let at = each_in (λ (s : Socket). has_member s.owner.name g ≡ true → bucket_of s.owner.port flat.header.shape.bind ≡ g.number / 8) o.socket flat.sockets is.bucket o.within
+      let at = each_in (λ (s : Socket). has_member s.owner.name g ≡ true → bucket_of (owner_key s.owner) flat.header.shape.bind ≡ g.number / 8) o.socket flat.sockets is.bucket o.within
       (ap (λ n. has_member n g) o.says.name ∙ found_passes (has_member c.name) flat.groups g h) in
-      below_eight o.socket.owner.port flat.header.shape.bind g.number some at
+      below_eight (owner_key o.socket.owner) flat.header.shape.bind g.number some at
 
   module _ (some : 1 ≤ flat.header.shape.bind) (count : ℕ) (count_is : count ≡ 8 * flat.header.shape.bind) where
     within : (c : Card) (o : OfSocket flat.groups flat.sockets c) → c.kind ≡ kinds.Listen → c.extra ≤ count

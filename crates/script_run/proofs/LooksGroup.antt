@@ -14,7 +14,7 @@ use Rattle.sock_card.specs.declared.card.Packet.{Packet}
 use Rattle.sock_card.specs.declared.owner.Owner.{Owner}
 use Rattle.sock_card.specs.declared.owner.State.{State}
 use Rattle.sock_card.specs.declared.owner.State.TheVariants as states
-use Rattle.sock_card.specs.Conflict.{is_listening, both_reuse_port}
+use Rattle.sock_card.specs.Conflict.{same_port, is_listening, both_reuse_port}
 use Rattle.sock_card.specs.Rank.{rank, rank_as, listen_rank}
 use Rattle.jhash_words.specs.Jhash.{mixed, final_mix, started_mix, jhash_3words}
 use Rattle.jhash_words.specs.Places.{tuple_hash, scale}
@@ -84,19 +84,21 @@ mate_parts a b c d e f h =
     let port = and_parts (a && b) c dev.0 in
     (port.1, dev.1, last.1)
 
--- two owners at one end and device
+-- two owners at one end and device of a namespace
 record AtOneEnd (a b : Owner) : Type 0 where
+  net : a.net ≡ b.net
   addr : a.addr ≡ b.addr
   port : a.port ≡ b.port
   dev : a.dev ≡ b.dev
 
 by_mates : (a : Owner) (s : Socket) → is_mate a s ≡ true → AtOneEnd a s.owner
 by_mates a s h =
-    let p = mate_parts (is_listening s.owner.state) (both_reuse_port a s.owner) (a.port == s.owner.port) (a.dev == s.owner.dev) (a.uid == s.owner.uid) (a.addr == s.owner.addr) h in
-    record { addr = eqb-true _ _ p.2; port = eqb-true _ _ p.0; dev = eqb-true _ _ p.1 }
+    let p = mate_parts (is_listening s.owner.state) (both_reuse_port a s.owner) (same_port a s.owner) (a.dev == s.owner.dev) (a.uid == s.owner.uid) (a.addr == s.owner.addr) h in
+    let port = and_parts (a.net == s.owner.net) (a.port == s.owner.port) p.0 in
+    record { net = eqb-true _ _ port.0; addr = eqb-true _ _ p.2; port = eqb-true _ _ port.1; dev = eqb-true _ _ p.1 }
 
 other_way : (a b : Owner) → AtOneEnd a b → AtOneEnd b a
-other_way a b e = record { addr = sym e.addr; port = sym e.port; dev = sym e.dev }
+other_way a b e = record { net = sym e.net; addr = sym e.addr; port = sym e.port; dev = sym e.dev }
 
 listening_kind : (st : State) (k : Kind) → is_listening st ≡ true → kind_of st ≡ Some k → k ≡ kinds.Listen
 listening_kind states.Listening k h e = sym (some_same kinds.Listen k e)
@@ -152,7 +154,7 @@ module _ (t : Tables) (flat : Flat) (shape : IsShape flat.header) (sound : IsSou
       let both : are_together flat.groups r.owner.name s.owner.name ≡ true = any_in (λ y. has_member r.owner.name y && has_member s.owner.name y) g flat.groups k (and_from (has_member r.owner.name g) (has_member s.owner.name g) h e) in
       let other : are_together flat.groups s.owner.name r.owner.name ≡ true = any_in (λ y. has_member s.owner.name y && has_member r.owner.name y) g flat.groups k (and_from (has_member s.owner.name g) (has_member r.owner.name g) e h) in
       elim (pairs_in (GroupsAreOfMates flat.groups) r s flat.sockets sound.grouped.mates i j) [
-        | inl same ↦ record { addr = ap (λ (x : Socket). x.owner.addr) same; port = ap (λ (x : Socket). x.owner.port) same; dev = ap (λ (x : Socket). x.owner.dev) same }
+        | inl same ↦ record { net = ap (λ (x : Socket). x.owner.net) same; addr = ap (λ (x : Socket). x.owner.addr) same; port = ap (λ (x : Socket). x.owner.port) same; dev = ap (λ (x : Socket). x.owner.dev) same }
         | inr (inl m) ↦ by_mates r.owner s (sym (m share_r share_s) ∙ both)
         | inr (inr m) ↦ other_way s.owner r.owner (by_mates s.owner r (sym (m share_s share_r) ∙ other))
       ]
@@ -175,7 +177,7 @@ module _ (t : Tables) (flat : Flat) (shape : IsShape flat.header) (sound : IsSou
       let local : a.local ≡ b.local = sym (ap (λ (c : Card). c.local) o.says.is) ∙ end.addr ∙ ap (λ (c : Card). c.local) p.says.is in
       let lport : a.lport ≡ b.lport = sym (ap (λ (c : Card). c.lport) o.says.is) ∙ end.port ∙ ap (λ (c : Card). c.lport) p.says.is in
       let dev : a.dev ≡ b.dev = sym (ap (λ (c : Card). c.dev) o.says.is) ∙ end.dev ∙ ap (λ (c : Card). c.dev) p.says.is in
-      let net : a.net ≡ b.net = sym (ap (λ (c : Card). c.net) o.says.is) ∙ ap (λ (c : Card). c.net) p.says.is in
+      let net : a.net ≡ b.net = sym (ap (λ (c : Card). c.net) o.says.is) ∙ end.net ∙ ap (λ (c : Card). c.net) p.says.is in
       rank_alike a b packet listens_a listens_b local lport dev net
 
   -- a card that stands says a name

@@ -12,7 +12,7 @@ use Rattle.capture_reader.specs.declared.packet.Item.{Item}
 use Rattle.flat_list.specs.Owned.{packet_of}
 use Rattle.flat_list.specs.Step.{step}
 use Rattle.flat_list.specs.declared.command.Command.TheVariants as commands
-use Rattle.flat_list.specs.declared.command.End.{End}
+use Rattle.flat_list.specs.declared.command.Query.{Query}
 use Rattle.flat_list.specs.declared.command.Reply.{Reply}
 use Rattle.flat_list.specs.declared.command.Reply.TheVariants as replies
 use Rattle.sock_script.specs.Output.{item_reply}
@@ -96,10 +96,10 @@ module _ (t : Tables) (w u : Worker) (l : Looked t w u) where
   }
 
   -- a lookup answers as the list does, and leaves all as it was
-  pub look_refines : (k : Kept) (from to : End) (dev : Option ℕ) (packet : Packet) (card : Option Card) → packet ≡ packet_of from to dev → Finds (tables_of t w) packet card
-      → RefinesEach k (tables_of t w) (commands.Look from to dev) (tables_of t u) k.own (replies.Found card)
+  pub look_refines : (k : Kept) (query : Query) (packet : Packet) (card : Option Card) → packet ≡ packet_of query → Finds (tables_of t w) packet card
+      → RefinesEach k (tables_of t w) (commands.Look query) (tables_of t u) k.own (replies.Found card)
   unfolding step
-  look_refines k from to dev packet card is finds flat header means = record {
+  look_refines k query packet card is finds flat header means = record {
     reply = ap replies.Found (subst (λ (p : Packet). Finds (tables_of t w) p card) is finds flat means.shape means.sound means.tables);
     means = subst (λ (x : Plain). Means k.own.number k.own x flat) (sym tables_same) means;
   }

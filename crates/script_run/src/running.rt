@@ -74,8 +74,8 @@ fn step<R: Wait>(
         (tables_of tables.now worker.new) machine.new.own) }
 {
     match command {
-        Command::Look { from, to, dev } => {
-            let packet = packet_of(*from, *to, *dev);
+        Command::Look { query } => {
+            let packet = packet_of(*query);
             Ok(Reply::Found(look(tables, worker, &packet)))
         }
         _ => machine.step(rt, tables, worker, command),

@@ -4,7 +4,7 @@ ghost use Rattle.std.specs.Prelude.{◌≡◌, length, IfOk};
 
 use crate::run;
 use capture_reader::Capture;
-use flat_list::{Command, End, Header, Range, Reply, Script, Shape};
+use flat_list::{Command, End, Header, Query, Range, Reply, Script, Shape};
 use std::alloc::{AllocError, Global};
 use std::test::Fail;
 
@@ -38,11 +38,13 @@ const THERE: End = End {
 fn looking(alloc: Global) -> Result<Vec<Command>, AllocError>
     ensures { IfOk result (λ section. length section.items ≡ 1) }
 {
-    let look = Command::Look {
+    let query = Query {
         from: THERE,
         to: HERE,
         dev: None,
+        net: None,
     };
+    let look = Command::Look { query };
     let mut section = Vec::new(alloc);
     section.push(look)?;
     Ok(section)

@@ -1,7 +1,7 @@
 -- What plans ask, whatever they are answered: about which names, which cards leave their chains, and what is left.
 use Rattle.std.proofs.Common.{◌≡◌, ◌==◌, ◌||◌, ◌∙◌, not, ℕ, Bool, true, false, cond, List, [], ◌∷◌, Option, None, Some, refl, sym, subst}
 use Rattle.list_words.specs.Lists.{Each}
-use Rattle.sock_card.specs.Conflict.{is_time_wait, is_listening}
+use Rattle.sock_card.specs.Conflict.{bind_key, is_time_wait, is_listening}
 use Rattle.sock_card.specs.declared.card.Card.{Card}
 use Rattle.sock_card.specs.declared.owner.Owner.{Owner}
 use Rattle.sock_card.specs.declared.owner.State.{State}
@@ -79,7 +79,7 @@ IsAbout name (requests.Bind a) = (a.name ≡ name) × (is_time_wait a.state ≡ 
 IsAbout name (requests.BindAuto a) = (a.name ≡ name) × (is_time_wait a.state ≡ false)
 IsAbout name (requests.MayListen n) = n ≡ name
 IsAbout name (requests.Listen n slot) = n ≡ name
-IsAbout name (requests.Free port) = Unit {0}
+IsAbout name (requests.Free port net) = Unit {0}
 IsAbout name (requests.ConnectAuto a) = (a.name ≡ name) × (is_time_wait a.state ≡ false)
 IsAbout name (requests.ConnectBound n local remote rport) = n ≡ name
 IsAbout name (requests.Inherit parent n local remote rport) = ⊥
@@ -177,7 +177,7 @@ module _ (L : Type 0) (never : L → ⊥) where
 
   of_bind_unbound : (a : Owner) (end : End) (ports : List ℕ) → IsOf L a.name (plans.bind_unbound a end ports)
   of_bind_unbound a end ports =
-      let given = asks end.port (requests.Bind (bound_at a end.addr end.port)) (plans.bind_answered a end) in
+      let given = asks (bind_key end.port a.net) (requests.Bind (bound_at a end.addr end.port)) (plans.bind_answered a end) in
       all_if (IsAbout a.name) (HasName a.name) (Named L a.name) (end.port == 0) (search_bind a end.addr (plans.bound a end.addr) (ends (refused errors.NoPort)) ports) given
       (of_search a end.addr (plans.bound a end.addr) (ends (refused errors.NoPort)) (λ port. it a.name (plans.plain (bound_at a end.addr port)) refl) tt ports) ((refl, refl), of_answered a end)
 

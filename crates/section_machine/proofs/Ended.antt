@@ -1,5 +1,6 @@
 -- What a section has once one of its sockets was closed or dropped.
 use Rattle.std.proofs.Common.{◌≡◌, ℕ, List, Option, Some, refl, sym, ap, ◌∙◌, subst}
+use Rattle.sock_card.specs.Conflict.{owner_key}
 use Rattle.sock_card.specs.declared.owner.State.{State}
 use Rattle.sock_card.specs.declared.owner.State.TheVariants as states
 use Rattle.turn_table.specs.Passes as words
@@ -48,9 +49,9 @@ module _ {R : Type 0} (x : R) where
 
   drop_then : (m : Mine) (state : State) → and_then (plans.drop_as state m gone) next ≡ plans.drop_as state m x
   drop_then m states.Unbound = refl
-  drop_then m states.Bound = λ i. asks m.owner.port (requests.Remove m.owner.name) (λ answer. leave_then answer i)
-  drop_then m states.Listening = λ i. unhashes m.place (card_of kinds.Listen m) (asks m.owner.port (requests.Remove m.owner.name) (λ answer. leave_then answer i))
-  drop_then m states.Full = λ i. unhashes m.place (card_of kinds.Full m) (asks m.owner.port (requests.Remove m.owner.name) (λ answer. leave_then answer i))
+  drop_then m states.Bound = λ i. asks (owner_key m.owner) (requests.Remove m.owner.name) (λ answer. leave_then answer i)
+  drop_then m states.Listening = λ i. unhashes m.place (card_of kinds.Listen m) (asks (owner_key m.owner) (requests.Remove m.owner.name) (λ answer. leave_then answer i))
+  drop_then m states.Full = λ i. unhashes m.place (card_of kinds.Full m) (asks (owner_key m.owner) (requests.Remove m.owner.name) (λ answer. leave_then answer i))
   drop_then m states.TimeWait = refl
 
 module _ (t : Tables) (k : Kept) (header : Header) (l l1 : Labelled) (moment : ℕ) (o : Offsets) (waits : List Mine) (label : List ℕ) (i : ℕ) (s : Sock) (w : Worker)

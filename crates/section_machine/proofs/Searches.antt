@@ -1,6 +1,7 @@
 -- The ports of a search, and plans in which none begins.
 use Rattle.std.proofs.Common.{◌≡◌, ◌==◌, ◌&&◌, ℕ, ◌+◌, ◌/◌, ◌%◌, ◌≤◌, ◌*◌, Bool, true, false, cond, List, ◌++◌, length, length-append, Option, Some, None, refl, ap, arith}
 use Rattle.std.proofs.lemmas.List.FromFn.{length-map-range_with_len}
+use Rattle.sock_card.specs.Conflict.{bind_key}
 use Rattle.sock_card.specs.declared.owner.Owner.{Owner}
 use Rattle.sock_card.specs.declared.owner.State.{State}
 use Rattle.sock_card.specs.declared.owner.State.TheVariants as states
@@ -40,7 +41,7 @@ bind_as_same : (m : Mine) (end : End) (ports ours : List ℕ) (state : State) �
 bind_as_same m end ports ours states.Unbound same =
     let a = m.owner in
     if_begins (λ ps. plans.search_bind a end.addr (plans.bound a end.addr) (ends (refused errors.NoPort)) ps)
-    (asks end.port (requests.Bind (bound_at a end.addr end.port)) (plans.bind_answered a end)) (end.port == 0) ports ours same
+    (asks (bind_key end.port a.net) (requests.Bind (bound_at a end.addr end.port)) (plans.bind_answered a end)) (end.port == 0) ports ours same
 bind_as_same m end ports ours states.Bound same = refl
 bind_as_same m end ports ours states.Listening same = refl
 bind_as_same m end ports ours states.Full same = refl

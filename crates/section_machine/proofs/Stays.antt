@@ -1,6 +1,7 @@
 -- What a section has, as one of its sockets is operated on.
 use Rattle.std.proofs.Common.{◌≡◌, ◌≢◌, ℕ, ◌==◌, ◌&&◌, ◌%◌, ◌≤◌, not, Bool, true, false, cond, List, [], ◌∷◌, map, filter, Option, Some, None, refl, sym, ap, subst, ◌∙◌, ne_eqb, arith}
 use Rattle.std.proofs.lemmas.Bool.{eqb-false}
+use Rattle.sock_card.specs.Conflict.{owner_key}
 use Rattle.list_words.specs.Lists.{Each}
 use Rattle.list_words.proofs.EachLemmas.{each_weaken, each_append}
 use Rattle.sock_card.specs.declared.owner.Owner.{Owner}
@@ -42,7 +43,7 @@ about_misses b a (requests.Bind x) ne h = other x.name b a h.0 ne
 about_misses b a (requests.BindAuto x) ne h = other x.name b a h.0 ne
 about_misses b a (requests.MayListen n) ne h = other n b a h ne
 about_misses b a (requests.Listen n slot) ne h = other n b a h ne
-about_misses b a (requests.Free port) ne h = refl
+about_misses b a (requests.Free port net) ne h = refl
 about_misses b a (requests.ConnectAuto x) ne h = other x.name b a h.0 ne
 about_misses b a (requests.ConnectBound n local remote rport) ne h = other n b a h ne
 about_misses b a (requests.Inherit parent n local remote rport) ne h = absurd h
@@ -56,7 +57,7 @@ about_keeps mine b (requests.BindAuto x) h = λ said. h.1
 about_keeps mine b (requests.ConnectAuto x) h = λ said. h.1
 about_keeps mine b (requests.MayListen n) h = tt
 about_keeps mine b (requests.Listen n slot) h = tt
-about_keeps mine b (requests.Free port) h = tt
+about_keeps mine b (requests.Free port net) h = tt
 about_keeps mine b (requests.ConnectBound n local remote rport) h = tt
 about_keeps mine b (requests.Inherit parent n local remote rport) h = absurd h
 about_keeps mine b (requests.ToTimeWait n) h = absurd h
@@ -224,7 +225,7 @@ module _ (t : Tables) (r s : Roll) (v w : View) (c d : Side) (new : List (Placed
 
     owns : IsOwner t m.owner v → IsOwner t m.owner w
     owns k =
-        let place : ℕ = m.owner.port % buckets_of t in
+        let place : ℕ = owner_key m.owner % buckets_of t in
         stands_of m.owner place w (knows (Some m.owner) place (known_of m.owner place v k))
 
     stands : (state : State) → StandsIn state t m v c → StandsIn state t m w d

@@ -134,7 +134,7 @@ module _ (mine : ℕ → Bool) where
   done_seen (requests.BindAuto a) owners whole = push_by owners a (m a) refl
   done_seen (requests.MayListen name) owners whole = cond_same (mine name) (filter m owners)
   done_seen (requests.Listen name slot) owners whole = change_seen as_listener owners name (mine name) (λ a. refl) refl
-  done_seen (requests.Free port) owners whole = refl
+  done_seen (requests.Free port net) owners whole = refl
   done_seen (requests.ConnectAuto a) owners whole = push_by owners a (m a) refl
   done_seen (requests.ConnectBound name local remote rport) owners whole =
       change_seen (connected local remote rport) owners name (mine name) (λ a. refl) refl

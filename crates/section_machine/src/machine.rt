@@ -236,21 +236,7 @@ impl Machine {
         ensures kept { KeepsHeader self.old self.new }
     {
         match command {
-            Command::Socket {
-                label,
-                uid,
-                dev,
-                reuseaddr,
-                reuseport,
-            } => {
-                let options = Options {
-                    uid: *uid,
-                    dev: *dev,
-                    reuseaddr: *reuseaddr,
-                    reuseport: *reuseport,
-                };
-                self.socket(tables, worker, *label, options)
-            }
+            Command::Socket { label, options } => self.socket(tables, worker, *label, *options),
             Command::Bind { label, end } => self.bind(rt, tables, worker, label, *end),
             Command::Listen { label } => self.listen(rt, tables, worker, label),
             Command::Connect { label, from, to } => {

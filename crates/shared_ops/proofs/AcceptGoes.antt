@@ -5,7 +5,7 @@ use Rattle.sock_card.specs.declared.owner.Owner.{Owner}
 use Rattle.std.proofs.lemmas.Bool.{false≢true, not-false}
 use Rattle.sock_card.specs.declared.owner.State.{State}
 use Rattle.sock_card.specs.declared.owner.State.TheVariants as states
-use Rattle.sock_card.specs.Conflict.{is_listening}
+use Rattle.sock_card.specs.Conflict.{owner_key, is_listening}
 use Rattle.sock_card.specs.declared.card.Kind.TheVariants as kinds
 use Rattle.flat_list.specs.declared.command.End.{End}
 use Rattle.flat_list.specs.Owned.{is_no_accept, child_owner}
@@ -43,21 +43,21 @@ use Rattle.shared_ops.specs.Socks.{FitsState, full_at, mine_of}
 use Rattle.shared_ops.specs.Stands.{IsOwner, StandsAs}
 use Rattle.shared_ops.specs.There.{IsNew}
 use Rattle.shared_ops.proofs.Goes.{deed_at, by_entry, by_inserted, all_entries, does_both, does_none, does_entries, all_first}
-use Rattle.shared_ops.proofs.Inserted.{grants_of, put_outcome, ports_of, names_of}
+use Rattle.shared_ops.proofs.Inserted.{grants_of, put_outcome, keys_of, names_of}
 use Rattle.shared_ops.proofs.ConnectGoes.{replaced_leads, full_is, gone_quiet, hashed_still}
 use Rattle.shared_ops.proofs.Knows.{Grows, after, grows, grows_first, grows_rest, gave_first, all_pass, inherits, stands_on}
 
 abbrev pub child_entry : Owner → Owner → Entry
 child_entry l a = record { request = requests.Inherit l.name a.name a.addr a.remote a.rport; answer = answers.Done }
 
-module _ (count : ℕ) (l a : Owner) (port : a.port ≡ l.port) (v w : View) (c d : Side) where
+module _ (count : ℕ) (l a : Owner) (port : owner_key a ≡ owner_key l) (v w : View) (c d : Side) where
   abbrev plan : Asking Did
   plan = accept_as c.layout.shape c.layout.seed l a
 
   pub accept_done : (place : Place) (replaced : Option ℕ) (m : Mine) (answer : Answer) → PutsIn (wish_for a 0 rules.Always) place replaced c d → m ≡ full_at a place
-      → AskedAll (l.port % count) (child_entry l a ∷ gone_of replaced answer) v w → Went count plan v w c d (ends (done m))
+      → AskedAll (owner_key l % count) (child_entry l a ∷ gone_of replaced answer) v w → Went count plan v w c d (ends (done m))
   accept_done place replaced m answer p m_is all =
-      let at = l.port % count in
+      let at = owner_key l % count in
       let f = all_first at (child_entry l a) (gone_of replaced answer) v w all in
       let slot : ℕ = p.hash.slot in
       let shape = c.layout.shape in
@@ -68,17 +68,17 @@ module _ (count : ℕ) (l a : Owner) (port : a.port ≡ l.port) (v w : View) (c 
       let grants = grants_of wish tried c d p.does in
       let there : Asking Did = ends (done (full_in shape seed a slot)) in
       let more = subst (λ r. AreAsked at (gone_of r answer) f.zs) (p.replaced_is ∙ names_of p.old) f.more in
-      let last : List Deed = deed_at l.port f.x ∷ map (deed_at l.port) f.zs in
+      let last : List Deed = deed_at (owner_key l) f.x ∷ map (deed_at (owner_key l)) f.zs in
       let told : Leads (accept_hashed shape seed l a (put slot old)) last there =
-      by_entry count l.port (requests.Inherit l.name a.name a.addr a.remote a.rport) answers.Done (when_done (full_done shape seed a slot old)) f.x (map (deed_at l.port) f.zs) there f.is
-      (replaced_leads count l.port old answer there f.zs (λ x is. ports_of wish p.hash p.old grants x is ∙ port) more) in
+      by_entry count (owner_key l) (requests.Inherit l.name a.name a.addr a.remote a.rport) answers.Done (when_done (full_done shape seed a slot old)) f.x (map (deed_at (owner_key l)) f.zs) there f.is
+      (replaced_leads count (owner_key l) old answer there f.zs (λ x is. keys_of wish p.hash p.old grants x is ∙ port) more) in
       record {
         deeds = inserted wish tried ∷ last;
         leads = subst (λ (n : Mine). Leads plan (inserted wish tried ∷ last) (ends (done n))) (full_is a 0 rules.Always place replaced m c d p m_is)
             (by_inserted (full_card a) 0 rules.Always tried (accept_hashed shape seed l a) last there grants
             (subst (λ (o : Outcome). Leads (accept_hashed shape seed l a o) last there) (sym (put_outcome p.hash p.old)) told));
-        gave = subst (Gave v w) (sym (all_entries count l.port (child_entry l a ∷ gone_of replaced answer) (f.x ∷ f.zs) (f.is, f.more))) f.gave;
-        does = does_both (inserted wish tried ∷ []) last c d d p.does (does_entries l.port (f.x ∷ f.zs) d);
+        gave = subst (Gave v w) (sym (all_entries count (owner_key l) (child_entry l a ∷ gone_of replaced answer) (f.x ∷ f.zs) (f.is, f.more))) f.gave;
+        does = does_both (inserted wish tried ∷ []) last c d d p.does (does_entries (owner_key l) (f.x ∷ f.zs) d);
       }
 
   refused_went : (tried : Tried) (end : OpEnd) → accept_hashed c.layout.shape c.layout.seed l a (outcome_of tried) ≡ ends (refused end) → Does (inserted (wish_for a 0 rules.Always) tried ∷ []) c d → Gave v w [] → Went count plan v w c d (ends (refused end))

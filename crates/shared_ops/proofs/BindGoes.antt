@@ -3,7 +3,7 @@ use Rattle.std.proofs.Common.{◌≡◌, ℕ, ◌%◌, List, [], ◌∷◌, ◌+
 use Rattle.sock_card.specs.declared.owner.Owner.{Owner}
 use Rattle.sock_card.specs.declared.owner.State.{State}
 use Rattle.sock_card.specs.declared.owner.State.TheVariants as states
-use Rattle.sock_card.specs.Conflict.{is_time_wait}
+use Rattle.sock_card.specs.Conflict.{bind_key, is_time_wait}
 use Rattle.turn_table.specs.declared.note.Placed.{Placed}
 use Rattle.bind_buckets.specs.declared.request.Request.{Request}
 use Rattle.bind_buckets.specs.declared.request.Request.TheVariants as requests
@@ -54,23 +54,24 @@ went_so_far count plan v w c gave = record { deeds = []; leads = refl; gave = ga
 pub left_at_once : {R : Type 0} (count name : ℕ) (plan : Asking R) (v w : View) (c : Side) → Gave v w [] → LeftOff count name plan v w c c
 left_at_once count name plan v w c gave = record { rest = plan; deeds = []; leads = refl; back = []; gives = tt; gave = gave; does = does_none c }
 
--- each of these ports was asked once
-abbrev deeds_of : List ℕ → List (Placed Entry) → List Deed
-deeds_of (port ∷ ports) (x ∷ xs) = deed_at port x ∷ deeds_of ports xs
-deeds_of _ _ = []
+-- each of these ports of a namespace was asked once
+abbrev deeds_of : ℕ → List ℕ → List (Placed Entry) → List Deed
+deeds_of net (port ∷ ports) (x ∷ xs) = deed_at (bind_key port net) x ∷ deeds_of net ports xs
+deeds_of net _ _ = []
 
-does_each : (ports : List ℕ) (xs : List (Placed Entry)) (c : Side) → Does (deeds_of ports xs) c c
-does_each [] xs c = does_none c
-does_each (port ∷ ports) [] c = does_none c
-does_each (port ∷ ports) (x ∷ xs) c = does_both (deed_at port x ∷ []) (deeds_of ports xs) c c c (does_entry port x c) (does_each ports xs c)
+does_each : (net : ℕ) (ports : List ℕ) (xs : List (Placed Entry)) (c : Side) → Does (deeds_of net ports xs) c c
+does_each net [] xs c = does_none c
+does_each net (port ∷ ports) [] c = does_none c
+does_each net (port ∷ ports) (x ∷ xs) c =
+    does_both (deed_at (bind_key port net) x ∷ []) (deeds_of net ports xs) c c c (does_entry (bind_key port net) x c) (does_each net ports xs c)
 
 module _ (count : ℕ) (b : Owner) where
-  entries_each : (ports : List ℕ) (xs : List (Placed Entry)) → AllRefuse count b ports xs → entries_in count (deeds_of ports xs) ≡ xs
+  entries_each : (ports : List ℕ) (xs : List (Placed Entry)) → AllRefuse count b ports xs → entries_in count (deeds_of b.net ports xs) ≡ xs
   entries_each [] [] all = refl
   entries_each [] (x ∷ xs) all = absurd all
   entries_each (port ∷ ports) [] all = absurd all
   entries_each (port ∷ ports) (x ∷ xs) all =
-      ap (λ (y : Placed Entry). y ∷ entries_in count (deeds_of ports xs)) (entry_is count port (requests.BindAuto (at_port b port)) (answers.InUse all.0.name) x all.0.asked)
+      ap (λ (y : Placed Entry). y ∷ entries_in count (deeds_of b.net ports xs)) (entry_is count (bind_key port b.net) (requests.BindAuto (at_port b port)) (answers.InUse all.0.name) x all.0.asked)
       ∙ ap (λ ys. x ∷ ys) (entries_each ports xs all.1)
 
   pub all_quiet : (ports : List ℕ) (xs : List (Placed Entry)) → is_time_wait b.state ≡ false → AllRefuse count b ports xs → AllQuiet xs
@@ -78,12 +79,12 @@ module _ (count : ℕ) (b : Owner) where
   all_quiet [] (x ∷ xs) awake all = absurd all
   all_quiet (port ∷ ports) [] awake all = absurd all
   all_quiet (port ∷ ports) (x ∷ xs) awake all =
-      (asked_quiet (port % count) (requests.BindAuto (at_port b port)) (answers.InUse all.0.name) x all.0.asked awake, all_quiet ports xs awake all.1)
+      (asked_quiet (bind_key port b.net % count) (requests.BindAuto (at_port b port)) (answers.InUse all.0.name) x all.0.asked awake, all_quiet ports xs awake all.1)
 
   -- a search leaves the owner that it bound the only one of its name
-  pub search_came : (v w : View) (ports : List ℕ) (port : ℕ) → is_time_wait b.state ≡ false → IsAway b.name v → BindsAt count b ports v w port → Came (at_port b port) (port % count) w
+  pub search_came : (v w : View) (ports : List ℕ) (port : ℕ) → is_time_wait b.state ≡ false → IsAway b.name v → BindsAt count b ports v w port → Came (at_port b port) (bind_key port b.net % count) w
   search_came v w ports port awake away at =
-      let place = port % count in
+      let place = bind_key port b.net % count in
       let g = grows v w (at.refused ++ at.last ∷ []) at.gave in
       let k = knows_on b.name place None v (after v at.refused) at.refused (away place) (grows_first v w at.refused (at.last ∷ []) g) (all_pass place at.refused (all_quiet at.before at.refused awake at.refusals)) in
       comes (at_port b port) place (requests.BindAuto (at_port b port)) (after v at.refused) w at.last k (grows_rest v w at.refused (at.last ∷ []) g) at.taken refl awake
@@ -96,24 +97,24 @@ module _ (count : ℕ) (b : Owner) where
 
 module _ (count : ℕ) (a : Owner) (v w : View) where
   -- to the port that is given
-  pub given_goes : (end : End) (r : Result (Unit {0}) InUse) (c : Side) → OneAsked (end.port % count) (requests.Bind (bound_at a end.addr end.port)) (answer_of_bind r) v w
-      → CarriedOut {X = Unit {0}} (λ _. bound_to a end.addr end.port) refused count a.name (asks end.port (requests.Bind (bound_at a end.addr end.port)) (bind_answered a end)) v w c c (end_of_bind r)
-  given_goes end (Ok x) c o = went_one count end.port (requests.Bind (bound_at a end.addr end.port)) answers.Done (bind_answered a end) v w c o
-  given_goes end (Err e) c o = went_one count end.port (requests.Bind (bound_at a end.addr end.port)) (answers.InUse e.0) (bind_answered a end) v w c o
+  pub given_goes : (end : End) (r : Result (Unit {0}) InUse) (c : Side) → OneAsked (bind_key end.port a.net % count) (requests.Bind (bound_at a end.addr end.port)) (answer_of_bind r) v w
+      → CarriedOut {X = Unit {0}} (λ _. bound_to a end.addr end.port) refused count a.name (asks (bind_key end.port a.net) (requests.Bind (bound_at a end.addr end.port)) (bind_answered a end)) v w c c (end_of_bind r)
+  given_goes end (Ok x) c o = went_one count (bind_key end.port a.net) (requests.Bind (bound_at a end.addr end.port)) answers.Done (bind_answered a end) v w c o
+  given_goes end (Err e) c o = went_one count (bind_key end.port a.net) (requests.Bind (bound_at a end.addr end.port)) (answers.InUse e.0) (bind_answered a end) v w c o
 
-  pub given_stands : (end : End) (r : Result (Unit {0}) InUse) → OneAsked (end.port % count) (requests.Bind (bound_at a end.addr end.port)) (answer_of_bind r) v w → IsAway a.name v
-      → IfOk (end_of_bind r) (λ _. StandsOwn (bound_at a end.addr end.port) (end.port % count) w)
+  pub given_stands : (end : End) (r : Result (Unit {0}) InUse) → OneAsked (bind_key end.port a.net % count) (requests.Bind (bound_at a end.addr end.port)) (answer_of_bind r) v w → IsAway a.name v
+      → IfOk (end_of_bind r) (λ _. StandsOwn (bound_at a end.addr end.port) (bind_key end.port a.net % count) w)
   given_stands end (Ok x) o away =
       let b = bound_at a end.addr end.port in
-      let place = end.port % count in
+      let place = bind_key end.port a.net % count in
       came_stands b place w (comes b place (requests.Bind b) v w o.entry (away place) (grows v w (o.entry ∷ []) o.gave) o.asked refl refl)
   given_stands end (Err e) o away = tt
 
-  pub given_kept : (end : End) (r : Result (Unit {0}) InUse) → OneAsked (end.port % count) (requests.Bind (bound_at a end.addr end.port)) (answer_of_bind r) v w → IsAway a.name v
+  pub given_kept : (end : End) (r : Result (Unit {0}) InUse) → OneAsked (bind_key end.port a.net % count) (requests.Bind (bound_at a end.addr end.port)) (answer_of_bind r) v w → IsAway a.name v
       → OnErr (end_of_bind r) (IsAway a.name w)
   given_kept end (Ok x) o away = tt
   given_kept end (Err e) o away =
-      away_on a.name v w (o.entry ∷ []) away o.gave (asked_quiet (end.port % count) (requests.Bind (bound_at a end.addr end.port)) (answers.InUse e.0) o.entry o.asked refl, tt)
+      away_on a.name v w (o.entry ∷ []) away o.gave (asked_quiet (bind_key end.port a.net % count) (requests.Bind (bound_at a end.addr end.port)) (answers.InUse e.0) o.entry o.asked refl, tt)
 
   module _ (addr : ℕ) {R : Type 0} (found : ℕ → Asking R) (none : Asking R) where
     abbrev plan : List ℕ → Asking R
@@ -122,49 +123,49 @@ module _ (count : ℕ) (a : Owner) (v w : View) where
     abbrev b : Owner
     b = bound_at a addr 0
 
-    leads_refused : (ports rest : List ℕ) (xs : List (Placed Entry)) → AllRefuse count b ports xs → Leads (plan (ports ++ rest)) (deeds_of ports xs) (plan rest)
+    leads_refused : (ports rest : List ℕ) (xs : List (Placed Entry)) → AllRefuse count b ports xs → Leads (plan (ports ++ rest)) (deeds_of a.net ports xs) (plan rest)
     leads_refused [] rest [] all = refl
     leads_refused [] rest (x ∷ xs) all = absurd all
     leads_refused (p ∷ ports) rest [] all = absurd all
     leads_refused (p ∷ ports) rest (x ∷ xs) all =
-        by_entry count p (requests.BindAuto (bound_at a addr p)) (answers.InUse all.0.name) (found_next (found p) (plan (ports ++ rest))) x (deeds_of ports xs) (plan rest) all.0.asked
+        by_entry count (bind_key p a.net) (requests.BindAuto (bound_at a addr p)) (answers.InUse all.0.name) (found_next (found p) (plan (ports ++ rest))) x (deeds_of a.net ports xs) (plan rest) all.0.asked
         (leads_refused ports rest xs all.1)
 
     pub search_finds : (ports : List ℕ) (port : ℕ) (c : Side) → BindsAt count b ports v w port → Went count (plan ports) v w c c (found port)
     search_finds ports port c at =
-        let first = deeds_of at.before at.refused in
-        let last = deed_at port at.last ∷ [] in
-        let one = by_entry count port (requests.BindAuto (bound_at a addr port)) answers.Done (found_next (found port) (plan at.after)) at.last [] (found port) at.taken refl in
+        let first = deeds_of a.net at.before at.refused in
+        let last = deed_at (bind_key port a.net) at.last ∷ [] in
+        let one = by_entry count (bind_key port a.net) (requests.BindAuto (bound_at a addr port)) answers.Done (found_next (found port) (plan at.after)) at.last [] (found port) at.taken refl in
         let here : entries_in count (first ++ last) ≡ at.refused ++ at.last ∷ [] =
         entries_both count first last ∙ ap (λ xs. xs ++ entries_in count last) (entries_each count b at.before at.refused at.refusals)
-        ∙ ap (λ (x : Placed Entry). at.refused ++ x ∷ []) (entry_is count port (requests.BindAuto (bound_at a addr port)) answers.Done at.last at.taken) in
+        ∙ ap (λ (x : Placed Entry). at.refused ++ x ∷ []) (entry_is count (bind_key port a.net) (requests.BindAuto (bound_at a addr port)) answers.Done at.last at.taken) in
         record {
           deeds = first ++ last;
           leads = leads_both (plan ports) (plan (port ∷ at.after)) (found port) first last
               (subst (λ ps. Leads (plan ps) first (plan (port ∷ at.after))) (sym at.split) (leads_refused at.before (port ∷ at.after) at.refused at.refusals)) one;
           gave = subst (Gave v w) (sym here) at.gave;
-          does = does_both first last c c c (does_each at.before at.refused c) (does_entry port at.last c);
+          does = does_both first last c c c (does_each a.net at.before at.refused c) (does_entry (bind_key port a.net) at.last c);
         }
 
     pub search_fails : (ports : List ℕ) (c : Side) → BindsNowhere count b ports v w → Went count (plan ports) v w c c none
     search_fails ports c at =
         record {
-          deeds = deeds_of ports at.refused;
-          leads = subst (λ ps. Leads (plan ps) (deeds_of ports at.refused) none) (append-nil ports) (leads_refused ports [] at.refused at.refusals);
+          deeds = deeds_of a.net ports at.refused;
+          leads = subst (λ ps. Leads (plan ps) (deeds_of a.net ports at.refused) none) (append-nil ports) (leads_refused ports [] at.refused at.refusals);
           gave = subst (Gave v w) (sym (entries_each count b ports at.refused at.refusals)) at.gave;
-          does = does_each ports at.refused c;
+          does = does_each a.net ports at.refused c;
         }
 
     pub search_stops : (ports : List ℕ) (c : Side) → BindsNotYet count b ports v w → LeftOff count a.name (plan ports) v w c c
     search_stops ports c at =
         record {
           rest = plan (at.port ∷ at.after);
-          deeds = deeds_of at.before at.refused;
-          leads = subst (λ ps. Leads (plan ps) (deeds_of at.before at.refused) (plan (at.port ∷ at.after))) (sym at.split) (leads_refused at.before (at.port ∷ at.after) at.refused at.refusals);
+          deeds = deeds_of a.net at.before at.refused;
+          leads = subst (λ ps. Leads (plan ps) (deeds_of a.net at.before at.refused) (plan (at.port ∷ at.after))) (sym at.split) (leads_refused at.before (at.port ∷ at.after) at.refused at.refusals);
           back = [];
           gives = tt;
-          gave = subst (Gave v w) (sym (append-nil (entries_in count (deeds_of at.before at.refused)) ∙ entries_each count b at.before at.refused at.refusals)) at.gave;
-          does = does_each at.before at.refused c;
+          gave = subst (Gave v w) (sym (append-nil (entries_in count (deeds_of a.net at.before at.refused)) ∙ entries_each count b at.before at.refused at.refusals)) at.gave;
+          does = does_each a.net at.before at.refused c;
         }
 
   pub searched_goes : (addr : ℕ) (ports : List ℕ) (r : Result ℕ SearchEnd) (c : Side) → IfOk r (BindsAt count (bound_at a addr 0) ports v w) → (r ≡ Err searches.NoPort → BindsNowhere count (bound_at a addr 0) ports v w) → (r ≡ Err searches.Memory → BindsNotYet count (bound_at a addr 0) ports v w) → IfErr r IsNotFull
@@ -174,8 +175,8 @@ module _ (count : ℕ) (a : Owner) (v w : View) where
   searched_goes addr ports (Err searches.Memory) c at none yet end = search_stops addr (bound a addr) (ends (refused errors.NoPort)) ports c (yet refl)
   searched_goes addr ports (Err (searches.Full owned held)) c at none yet end = absurd end
 
-  pub searched_stands : (addr : ℕ) (ports : List ℕ) (r : Result ℕ SearchEnd) → IfOk r (BindsAt count (bound_at a addr 0) ports v w) → IsAway a.name v → IfOk (end_of_search r) (λ port. StandsOwn (bound_at a addr port) (port % count) w)
-  searched_stands addr ports (Ok port) at away = came_stands (bound_at a addr port) (port % count) w (search_came count (bound_at a addr 0) v w ports port refl away at)
+  pub searched_stands : (addr : ℕ) (ports : List ℕ) (r : Result ℕ SearchEnd) → IfOk r (BindsAt count (bound_at a addr 0) ports v w) → IsAway a.name v → IfOk (end_of_search r) (λ port. StandsOwn (bound_at a addr port) (bind_key port a.net % count) w)
+  searched_stands addr ports (Ok port) at away = came_stands (bound_at a addr port) (bind_key port a.net % count) w (search_came count (bound_at a addr 0) v w ports port refl away at)
   searched_stands addr ports (Err end) at away = tt
 
   pub searched_kept : (addr : ℕ) (ports : List ℕ) (r : Result ℕ SearchEnd) → (r ≡ Err searches.NoPort → BindsNowhere count (bound_at a addr 0) ports v w) → (r ≡ Err searches.Memory → BindsNotYet count (bound_at a addr 0) ports v w) → IfErr r IsNotFull → IsAway a.name v → OnErr (end_of_search r) (IsAway a.name w)
@@ -199,11 +200,11 @@ module _ (count : ℕ) (m : Mine) (end : End) (ports : List ℕ) (v w : View) (c
 -- by the end's port
 pub searched_plan : (a : Owner) (end : End) (ports : List ℕ) → end.port ≡ 0 → search_bind a end.addr (bound a end.addr) (ends (refused errors.NoPort)) ports ≡ bind_unbound a end ports
 searched_plan a end ports is =
-    sym (ap (λ t. if t then search_bind a end.addr (bound a end.addr) (ends (refused errors.NoPort)) ports else asks end.port (requests.Bind (bound_at a end.addr end.port)) (bind_answered a end)) (eq-eqb end.port 0 is))
+    sym (ap (λ t. if t then search_bind a end.addr (bound a end.addr) (ends (refused errors.NoPort)) ports else asks (bind_key end.port a.net) (requests.Bind (bound_at a end.addr end.port)) (bind_answered a end)) (eq-eqb end.port 0 is))
 
-pub given_plan : (a : Owner) (end : End) (ports : List ℕ) → end.port ≢ 0 → asks end.port (requests.Bind (bound_at a end.addr end.port)) (bind_answered a end) ≡ bind_unbound a end ports
+pub given_plan : (a : Owner) (end : End) (ports : List ℕ) → end.port ≢ 0 → asks (bind_key end.port a.net) (requests.Bind (bound_at a end.addr end.port)) (bind_answered a end) ≡ bind_unbound a end ports
 given_plan a end ports not =
-    sym (ap (λ t. if t then search_bind a end.addr (bound a end.addr) (ends (refused errors.NoPort)) ports else asks end.port (requests.Bind (bound_at a end.addr end.port)) (bind_answered a end)) (ne_eqb end.port 0 not))
+    sym (ap (λ t. if t then search_bind a end.addr (bound a end.addr) (ends (refused errors.NoPort)) ports else asks (bind_key end.port a.net) (requests.Bind (bound_at a end.addr end.port)) (bind_answered a end)) (ne_eqb end.port 0 not))
 
 -- a socket that has a port
 pub has_port : (count : ℕ) (m : Mine) (end : End) (ports : List ℕ) (v : View) (c : Side) (state : State) → m.owner.state ≡ state → bind_as state m end ports ≡ ends (refused errors.Inval) → Went count (bind m end ports) v v c c (ends (refused errors.Inval))

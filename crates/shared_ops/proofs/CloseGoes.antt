@@ -1,5 +1,6 @@
 -- How the plans of `close` and `drop` go on.
 use Rattle.std.proofs.Common.{◌≡◌, ℕ, ◌+◌, ◌≤◌, ◌%◌, List, [], ◌∷◌, None, Result, Ok, Err, refl, sym, ap, subst, ◌∙◌, arith}
+use Rattle.sock_card.specs.Conflict.{owner_key}
 use Rattle.sock_card.specs.declared.owner.Owner.{Owner}
 use Rattle.sock_card.specs.declared.owner.State.{State}
 use Rattle.sock_card.specs.declared.card.Card.{Card}
@@ -74,10 +75,10 @@ module _ (count : ℕ) (m : Mine) (moment : ℕ) (v w : View) (c d : Side) where
 
   -- a slot was free
   pub close_waits : (o : Owner) (k : Card) (p : Place) → o ≡ as_waiting m.owner → k ≡ card_as kinds.TimeWait o moment → Replaces (place_in kinds.Full m) k p c d
-      → AskedAll (m.owner.port % count) (wait_entry m.owner ∷ []) v w
+      → AskedAll (owner_key m.owner % count) (wait_entry m.owner ∷ []) v w
       → Went count closing v w c d (ends (waiting (record { owner = o; extra = moment; place = p })))
   close_waits o k p o_is k_is waits_as all =
-      let one = all_one (m.owner.port % count) (wait_entry m.owner) v w all in
+      let one = all_one (owner_key m.owner % count) (wait_entry m.owner) v w all in
       let same : k ≡ card = k_is ∙ ap (λ (x : Owner). card_as kinds.TimeWait x moment) o_is in
       let waits : Replaces (place_in kinds.Full m) card p c d = subst (λ (x : Card). Replaces (place_in kinds.Full m) x p c d) same waits_as in
       let slot : ℕ = waits.hash.slot in
@@ -87,65 +88,65 @@ module _ (count : ℕ) (m : Mine) (moment : ℕ) (v w : View) (c d : Side) where
       let there : Asking plan.Closed = ends (waiting stays) in
       let end : stays ≡ record { owner = o; extra = moment; place = p } =
       ap (λ (q : Place). let x : Mine = record { owner = as_waiting m.owner; extra = moment; place = q } in x) (sym at) ∙ ap (λ (x : Owner). let y : Mine = record { owner = x; extra = moment; place = p } in y) (sym o_is) in
-      let last : List Deed = deed_at m.owner.port one.x ∷ [] in
+      let last : List Deed = deed_at (owner_key m.owner) one.x ∷ [] in
       let later : List Deed = left waits.unhash ∷ last in
       let all_deeds : List Deed = added card tried ∷ later in
       record {
-        deeds = added card tried ∷ left waits.unhash ∷ deed_at m.owner.port one.x ∷ [];
+        deeds = added card tried ∷ left waits.unhash ∷ deed_at (owner_key m.owner) one.x ∷ [];
         leads = subst (λ (n : Mine). Leads closing all_deeds (ends (waiting n))) end
             (by_added card tried (close_hashed c.layout.shape c.layout.seed m (wait_of m moment)) later there waits.is
-            (by_left m.place (card_of kinds.Full m) (asks m.owner.port (requests.ToTimeWait m.owner.name) (when_done there)) waits.unhash last there waits.goes
-            (by_entry count m.owner.port (requests.ToTimeWait m.owner.name) answers.Done (when_done there) one.x [] there one.is refl)));
-        gave = gave_one count m.owner.port (wait_entry m.owner) v w one;
-        does = does_both (added card tried ∷ left waits.unhash ∷ []) last c d d waits.does (does_entry m.owner.port one.x d);
+            (by_left m.place (card_of kinds.Full m) (asks (owner_key m.owner) (requests.ToTimeWait m.owner.name) (when_done there)) waits.unhash last there waits.goes
+            (by_entry count (owner_key m.owner) (requests.ToTimeWait m.owner.name) answers.Done (when_done there) one.x [] there one.is refl)));
+        gave = gave_one count (owner_key m.owner) (wait_entry m.owner) v w one;
+        does = does_both (added card tried ∷ left waits.unhash ∷ []) last c d d waits.does (does_entry (owner_key m.owner) one.x d);
       }
 
   -- none was
   pub close_goes : (o : Owner) (k : Card) (owned held : ℕ) → o ≡ as_waiting m.owner → k ≡ card_as kinds.TimeWait o moment → GoesAlone (place_in kinds.Full m) k owned held c d
-      → AskedAll (m.owner.port % count) (leave_entry m.owner ∷ []) v w
+      → AskedAll (owner_key m.owner % count) (leave_entry m.owner ∷ []) v w
       → Went count closing v w c d (ends (no_slot owned held))
   close_goes o k owned held o_is k_is goes_as all =
-      let one = all_one (m.owner.port % count) (leave_entry m.owner) v w all in
+      let one = all_one (owner_key m.owner % count) (leave_entry m.owner) v w all in
       let same : k ≡ card = k_is ∙ ap (λ (x : Owner). card_as kinds.TimeWait x moment) o_is in
       let goes : GoesAlone (place_in kinds.Full m) card owned held c d = subst (λ (x : Card). GoesAlone (place_in kinds.Full m) x owned held c d) same goes_as in
       let tried : Tried = deeds.no_slot goes.number owned held in
       let there : Asking plan.Closed = ends (no_slot owned held) in
-      let last : List Deed = deed_at m.owner.port one.x ∷ [] in
+      let last : List Deed = deed_at (owner_key m.owner) one.x ∷ [] in
       let later : List Deed = left goes.unhash ∷ last in
       record {
-        deeds = added card tried ∷ left goes.unhash ∷ deed_at m.owner.port one.x ∷ [];
+        deeds = added card tried ∷ left goes.unhash ∷ deed_at (owner_key m.owner) one.x ∷ [];
         leads = by_added card tried (close_hashed c.layout.shape c.layout.seed m (wait_of m moment)) later there tt
             (by_left m.place (card_of kinds.Full m) (leave m.owner (no_slot owned held)) goes.unhash last there goes.goes
-            (by_entry count m.owner.port (requests.Remove m.owner.name) answers.Done (when_done there) one.x [] there one.is refl));
-        gave = gave_one count m.owner.port (leave_entry m.owner) v w one;
-        does = does_both (added card tried ∷ left goes.unhash ∷ []) last c d d goes.does (does_entry m.owner.port one.x d);
+            (by_entry count (owner_key m.owner) (requests.Remove m.owner.name) answers.Done (when_done there) one.x [] there one.is refl));
+        gave = gave_one count (owner_key m.owner) (leave_entry m.owner) v w one;
+        does = does_both (added card tried ∷ left goes.unhash ∷ []) last c d d goes.does (does_entry (owner_key m.owner) one.x d);
       }
 
 -- a bound socket, and one that stands hashed
 module _ (count : ℕ) (a : Owner) (v w : View) where
-  pub bound_leaves : (c : Side) → AskedAll (a.port % count) (leave_entry a ∷ []) v w → Went count (leave a plan.gone) v w c c (ends plan.gone)
+  pub bound_leaves : (c : Side) → AskedAll (owner_key a % count) (leave_entry a ∷ []) v w → Went count (leave a plan.gone) v w c c (ends plan.gone)
   bound_leaves c all =
-      let one = all_one (a.port % count) (leave_entry a) v w all in
+      let one = all_one (owner_key a % count) (leave_entry a) v w all in
       let there : Asking plan.Closed = ends plan.gone in
       record {
-        deeds = deed_at a.port one.x ∷ [];
-        leads = by_entry count a.port (requests.Remove a.name) answers.Done (when_done there) one.x [] there one.is refl;
-        gave = gave_one count a.port (leave_entry a) v w one;
-        does = does_entry a.port one.x c;
+        deeds = deed_at (owner_key a) one.x ∷ [];
+        leads = by_entry count (owner_key a) (requests.Remove a.name) answers.Done (when_done there) one.x [] there one.is refl;
+        gave = gave_one count (owner_key a) (leave_entry a) v w one;
+        does = does_entry (owner_key a) one.x c;
       }
 
-  pub hashed_leaves : (p : Stood) (u : Change) (c d : Side) → IsUnhashAt (spot_of p) p.card u → Does (left u ∷ []) c d → AskedAll (a.port % count) (leave_entry a ∷ []) v w
+  pub hashed_leaves : (p : Stood) (u : Change) (c d : Side) → IsUnhashAt (spot_of p) p.card u → Does (left u ∷ []) c d → AskedAll (owner_key a % count) (leave_entry a ∷ []) v w
       → Went count (unhashes (spot_of p) p.card (leave a plan.gone)) v w c d (ends plan.gone)
   hashed_leaves p u c d is does all =
-      let one = all_one (a.port % count) (leave_entry a) v w all in
+      let one = all_one (owner_key a % count) (leave_entry a) v w all in
       let there : Asking plan.Closed = ends plan.gone in
-      let last : List Deed = deed_at a.port one.x ∷ [] in
+      let last : List Deed = deed_at (owner_key a) one.x ∷ [] in
       record {
-        deeds = left u ∷ deed_at a.port one.x ∷ [];
+        deeds = left u ∷ deed_at (owner_key a) one.x ∷ [];
         leads = by_left (spot_of p) p.card (leave a plan.gone) u last there is
-            (by_entry count a.port (requests.Remove a.name) answers.Done (when_done there) one.x [] there one.is refl);
-        gave = gave_one count a.port (leave_entry a) v w one;
-        does = does_both (left u ∷ []) last c d d does (does_entry a.port one.x d);
+            (by_entry count (owner_key a) (requests.Remove a.name) answers.Done (when_done there) one.x [] there one.is refl);
+        gave = gave_one count (owner_key a) (leave_entry a) v w one;
+        does = does_both (left u ∷ []) last c d d does (does_entry (owner_key a) one.x d);
       }
 
 -- where nobody else is at the tables

@@ -1,6 +1,7 @@
 -- How the plan of `connect` of a bound socket goes on.
 use Rattle.std.proofs.Common.{◌≡◌, ℕ, ◌%◌, List, [], ◌∷◌, map, Option, Some, None, Err, refl, sym, ap, subst, ◌∙◌}
 use Rattle.std.specs.Option.{option_map}
+use Rattle.sock_card.specs.Conflict.{owner_key, bind_key}
 use Rattle.sock_card.specs.declared.owner.Owner.{Owner}
 use Rattle.sock_card.specs.declared.card.Card.{Card}
 use Rattle.sock_card.specs.declared.card.Kind.{Kind}
@@ -35,7 +36,7 @@ use Rattle.shared_ops.specs.Hashing.{InsertsAs, PutsIn, wish_for}
 use Rattle.shared_ops.specs.Socks.{full_at}
 use Rattle.shared_ops.specs.Stands.{IsHashed}
 use Rattle.shared_ops.proofs.Goes.{deed_at, by_entry, by_inserted, all_entries, does_both, does_none, does_entries, all_first}
-use Rattle.shared_ops.proofs.Inserted.{grants_of, put_outcome, ports_of, names_of}
+use Rattle.shared_ops.proofs.Inserted.{grants_of, put_outcome, keys_of, names_of}
 use Rattle.shared_ops.proofs.Knows.{AllQuiet, after, grows, grows_first, grows_rest, all_pass, asked_quiet, connects, stands_on}
 
 abbrev pub bound_entry : Owner → Entry
@@ -54,7 +55,7 @@ name_at x = x.card.name
 
 module _ {R : Type 0} (count port : ℕ) where
   -- the owner of what was replaced leaves, if there was one
-  pub replaced_leads : (old : Option Hashed) (answer : Answer) (rest : Asking R) (zs : List (Placed Entry)) → ((x : Hashed) → old ≡ Some x → x.card.lport ≡ port)
+  pub replaced_leads : (old : Option Hashed) (answer : Answer) (rest : Asking R) (zs : List (Placed Entry)) → ((x : Hashed) → old ≡ Some x → bind_key x.card.lport x.card.net ≡ port)
       → AreAsked (port % count) (gone_of (option_map name_at old) answer) zs → Leads (then_replaced old rest) (map (deed_at port) zs) rest
   replaced_leads None answer rest [] at are = refl
   replaced_leads None answer rest (z ∷ zs) at are = absurd are
@@ -88,9 +89,9 @@ module _ (count : ℕ) (a : Owner) (moment : ℕ) (rule : Replace) (v w : View) 
   plan = connect_bound c.layout.shape c.layout.seed a moment rule
 
   pub connect_done : (place : Place) (replaced : Option ℕ) (m : Mine) (answer : Answer) → PutsIn (wish_for a moment rule) place replaced c d → m ≡ full_at a place
-      → AskedAll (a.port % count) (bound_entry a ∷ gone_of replaced answer) v w → Went count plan v w c d (ends (done m))
+      → AskedAll (owner_key a % count) (bound_entry a ∷ gone_of replaced answer) v w → Went count plan v w c d (ends (done m))
   connect_done place replaced m answer p m_is all =
-      let at = a.port % count in
+      let at = owner_key a % count in
       let f = all_first at (bound_entry a) (gone_of replaced answer) v w all in
       let slot : ℕ = p.hash.slot in
       let shape = c.layout.shape in
@@ -101,17 +102,17 @@ module _ (count : ℕ) (a : Owner) (moment : ℕ) (rule : Replace) (v w : View) 
       let grants = grants_of (wish_for a moment rule) tried c d p.does in
       let there : Asking Did = ends (done (full_in shape seed a slot)) in
       let more = subst (λ r. AreAsked at (gone_of r answer) f.zs) (p.replaced_is ∙ names_of p.old) f.more in
-      let last : List Deed = deed_at a.port f.x ∷ map (deed_at a.port) f.zs in
+      let last : List Deed = deed_at (owner_key a) f.x ∷ map (deed_at (owner_key a)) f.zs in
       let told : Leads (connect_hashed shape seed a (put slot old)) last there =
-      by_entry count a.port (requests.ConnectBound a.name a.addr a.remote a.rport) answers.Done (when_done (full_done shape seed a slot old)) f.x (map (deed_at a.port) f.zs) there f.is
-      (replaced_leads count a.port old answer there f.zs (ports_of (wish_for a moment rule) p.hash p.old grants) more) in
+      by_entry count (owner_key a) (requests.ConnectBound a.name a.addr a.remote a.rport) answers.Done (when_done (full_done shape seed a slot old)) f.x (map (deed_at (owner_key a)) f.zs) there f.is
+      (replaced_leads count (owner_key a) old answer there f.zs (keys_of (wish_for a moment rule) p.hash p.old grants) more) in
       record {
         deeds = inserted (wish_for a moment rule) tried ∷ last;
         leads = subst (λ (n : Mine). Leads plan (inserted (wish_for a moment rule) tried ∷ last) (ends (done n))) (full_is a moment rule place replaced m c d p m_is)
             (by_inserted card moment rule tried (connect_hashed shape seed a) last there grants
             (subst (λ (o : Outcome). Leads (connect_hashed shape seed a o) last there) (sym (put_outcome p.hash p.old)) told));
-        gave = subst (Gave v w) (sym (all_entries count a.port (bound_entry a ∷ gone_of replaced answer) (f.x ∷ f.zs) (f.is, f.more))) f.gave;
-        does = does_both (inserted (wish_for a moment rule) tried ∷ []) last c d d p.does (does_entries a.port (f.x ∷ f.zs) d);
+        gave = subst (Gave v w) (sym (all_entries count (owner_key a) (bound_entry a ∷ gone_of replaced answer) (f.x ∷ f.zs) (f.is, f.more))) f.gave;
+        does = does_both (inserted (wish_for a moment rule) tried ∷ []) last c d d p.does (does_entries (owner_key a) (f.x ∷ f.zs) d);
       }
 
   refused_went : (tried : Tried) (end : OpEnd) → connect_hashed c.layout.shape c.layout.seed a (outcome_of tried) ≡ ends (refused end) → Does (inserted (wish_for a moment rule) tried ∷ []) c d → Gave v w [] → Went count plan v w c d (ends (refused end))
@@ -139,12 +140,12 @@ module _ (count : ℕ) (a : Owner) (moment : ℕ) (rule : Replace) (v w : View) 
       record { rest = plan; deeds = []; leads = refl; back = []; gives = tt; gave = gave; does = subst (Does [] c) same (does_none c) }
 
 -- the connected owner stands
-pub connect_stands : (count : ℕ) (bound a : Owner) (v w : View) (replaced : Option ℕ) (answer : Answer) → a ≡ connected a.addr a.remote a.rport bound → StandsOwn bound (bound.port % count) v
-    → AskedAll (a.port % count) (bound_entry a ∷ gone_of replaced answer) v w → StandsOwn a (a.port % count) w
+pub connect_stands : (count : ℕ) (bound a : Owner) (v w : View) (replaced : Option ℕ) (answer : Answer) → a ≡ connected a.addr a.remote a.rport bound → StandsOwn bound (owner_key bound % count) v
+    → AskedAll (owner_key a % count) (bound_entry a ∷ gone_of replaced answer) v w → StandsOwn a (owner_key a % count) w
 connect_stands count bound a v w replaced answer is stands all =
-    let at = a.port % count in
+    let at = owner_key a % count in
     let named : bound.name ≡ a.name = sym (ap (λ (o : Owner). o.name) is) in
-    let port : bound.port ≡ a.port = sym (ap (λ (o : Owner). o.port) is) in
+    let port : owner_key bound ≡ owner_key a = sym (ap (λ (o : Owner). owner_key o) is) in
     let f = all_first at (bound_entry a) (gone_of replaced answer) v w all in
     let g = grows v w (f.x ∷ f.zs) f.gave in
     let u = after v (f.x ∷ []) in

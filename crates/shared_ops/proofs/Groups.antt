@@ -2,14 +2,15 @@
 use Rattle.std.proofs.Common.{◌≡◌, ℕ, ◌<◌, Bool, true, false, cond, ltb, length, find, position, Some, None, Option, Result, Ok, Err, IfOk, IfSome, arith, subst, refl, []}
 use Rattle.std.specs.Option.{option_or, option_and_then}
 use Rattle.std.proofs.lemmas.List.Quantifiers.{position-Some}
+use Rattle.sock_card.specs.Limits.{group_room}
 use Rattle.sock_card.specs.declared.owner.Owner.{Owner}
-use Rattle.sock_card.specs.Conflict.{refuses}
+use Rattle.sock_card.specs.Conflict.{is_mate, refuses}
 use Rattle.bind_buckets.specs.declared.request.Answer.{Answer}
 use Rattle.bind_buckets.specs.declared.request.Answer.TheVariants as answers
 use Rattle.bind_buckets.specs.declared.request.ListenEnd.{ListenEnd}
 use Rattle.bind_buckets.specs.Answers.{answer_of_listen}
 use Rattle.bind_buckets.specs.Members.{has_member}
-use Rattle.bind_buckets.specs.OwnerStep.{Held, listener_answer, group_answer, group_number, place_for, mates_place, is_mate, is_free, members_at, others}
+use Rattle.bind_buckets.specs.OwnerStep.{Held, listener_answer, group_answer, group_number, place_for, mates_place, is_free, members_at, others}
 
 within_then : (f : Owner → Option ℕ) (o : Option Owner) (n i : ℕ) → ((a : Owner) → f a ≡ Some i → i < n) → option_and_then f o ≡ Some i → i < n
 within_then f None n i h e = absurd (cc)
@@ -37,7 +38,7 @@ few_by false n place m h = tt
 group_few : (n : ℕ) (h : Held) (a : Owner) (place : Option ℕ) → n < 256 → length h.groups ≡ 8 → place_for h a ≡ place → IsFew (group_answer n h place)
 group_few n h a None m eight q = tt
 group_few n h a (Some place) m eight q =
-    few_by (ltb (length (members_at h place)) 16) n place m (subst (λ k. place < k) eight (place_within h a place q))
+    few_by (ltb (length (members_at h place)) group_room) n place m (subst (λ k. place < k) eight (place_within h a place q))
 
 shared_few : (b : Bool) (x : Answer) → IsFew x → IsFew (cond b x (answers.Group None))
 shared_few true x h = h

@@ -2,8 +2,11 @@
 use Rattle.std.proofs.Common.{◌≡◌, true, ◌==◌, ◌&&◌, Option, Some, None, Result, Ok, Err, [], ◌∷◌, refl, sym, ap, subst, ◌∙◌, arith}
 use Rattle.std.specs.Option.{option_map}
 use Rattle.std.proofs.lemmas.Bool.{and_parts, eqb-true}
+use Rattle.sock_card.specs.Conflict.{bind_key}
 use Rattle.sock_card.specs.declared.card.Card.{Card}
 use Rattle.sock_card.specs.TimeWait.{is_time_wait_kind}
+use Rattle.sock_card.specs.Tuples.{tuple_of}
+use Rattle.sock_card.proofs.Tuples.{PartsAgree, parts_agree}
 use Rattle.chain_book.specs.declared.book.Change.{Change}
 use Rattle.chain_book.specs.declared.outcome.Hashed.{Hashed}
 use Rattle.chain_book.specs.Chains.{put}
@@ -94,19 +97,18 @@ pub put_outcome : (hash : Change) (old : Option Change) → outcome_of (hashed h
 put_outcome hash None = refl
 put_outcome hash (Some u) = refl
 
--- what was replaced had the card's port
-port_of : (card old : Card) → waits_at card old ≡ true → old.lport ≡ card.lport
-port_of card old is =
+-- what was replaced had the card's key
+key_of : (card old : Card) → waits_at card old ≡ true → bind_key old.lport old.net ≡ bind_key card.lport card.net
+key_of card old is =
     let same = (and_parts (same_cards card old) (is_time_wait_kind old.kind) is).0 in
-    let first = (and_parts ((card.net == old.net) && (card.local == old.local) && (card.lport == old.lport) && (card.remote == old.remote)) (card.rport == old.rport) same).0 in
-    let more = (and_parts ((card.net == old.net) && (card.local == old.local) && (card.lport == old.lport)) (card.remote == old.remote) first).0 in
-    sym (eqb-true card.lport old.lport (and_parts ((card.net == old.net) && (card.local == old.local)) (card.lport == old.lport) more).1)
+    let parts : PartsAgree (tuple_of card) (tuple_of old) = parts_agree (tuple_of card) (tuple_of old) same in
+    sym (ap (λ n. bind_key card.lport n) parts.net ∙ ap (λ p. bind_key p old.net) parts.lport)
 
-pub ports_of : (wish : Wish) (hash : Change) (old : Option Change) → Grants wish (hashed hash old) → (x : Hashed) → option_map hashed_of old ≡ Some x → x.card.lport ≡ wish.card.lport
-ports_of wish hash None g x is = absurd (cc)
-ports_of wish hash (Some u) g x is =
+pub keys_of : (wish : Wish) (hash : Change) (old : Option Change) → Grants wish (hashed hash old) → (x : Hashed) → option_map hashed_of old ≡ Some x → bind_key x.card.lport x.card.net ≡ bind_key wish.card.lport wish.card.net
+keys_of wish hash None g x is = absurd (cc)
+keys_of wish hash (Some u) g x is =
     let same : hashed_of u ≡ x = cc in
-    sym (ap (λ (h : Hashed). h.card.lport) same) ∙ port_of wish.card u.card g.1.tuple
+    sym (ap (λ (h : Hashed). bind_key h.card.lport h.card.net) same) ∙ key_of wish.card u.card g.1.tuple
 
 -- and its name
 pub names_of : (old : Option Change) → option_map name_in old ≡ option_map (λ (h : Hashed). h.card.name) (option_map hashed_of old)

@@ -185,7 +185,7 @@ abbrev pub IsQuiet : Request → Answer → Type 0
 IsQuiet (requests.Bind a) (answers.InUse name) = is_time_wait a.state ≡ false
 IsQuiet (requests.BindAuto a) (answers.InUse name) = is_time_wait a.state ≡ false
 IsQuiet (requests.MayListen name) answer = Unit {0}
-IsQuiet (requests.Free port) answer = Unit {0}
+IsQuiet (requests.Free port net) answer = Unit {0}
 IsQuiet (requests.RemoveWaiting name) answer = Unit {0}
 IsQuiet _ answer = ⊥
 
@@ -193,7 +193,7 @@ quiet_keeps : (mine : ℕ → Bool) (request : Request) (answer : Answer) → Is
 quiet_keeps mine (requests.Bind a) (answers.InUse name) quiet = λ said. quiet
 quiet_keeps mine (requests.BindAuto a) (answers.InUse name) quiet = λ said. quiet
 quiet_keeps mine (requests.MayListen name) answer quiet = tt
-quiet_keeps mine (requests.Free port) answer quiet = tt
+quiet_keeps mine (requests.Free port net) answer quiet = tt
 quiet_keeps mine (requests.RemoveWaiting name) answer quiet = tt
 quiet_keeps mine _ answer quiet = absurd quiet
 
@@ -210,7 +210,7 @@ quiet_next mine owners (requests.Bind a) (answers.InUse name) quiet = same_both 
 quiet_next mine owners (requests.BindAuto a) (answers.InUse name) quiet = same_both (mine a.name) owners
 quiet_next mine owners (requests.MayListen name) answer quiet =
     ap (λ os. cond (mine name) os owners) (asked_told owners name answer) ∙ same_both (mine name) owners
-quiet_next mine owners (requests.Free port) answer quiet = refl
+quiet_next mine owners (requests.Free port net) answer quiet = refl
 quiet_next mine owners (requests.RemoveWaiting name) answer quiet = refl
 quiet_next mine owners _ answer quiet = absurd quiet
 

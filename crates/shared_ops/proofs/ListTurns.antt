@@ -2,6 +2,7 @@
 use Rattle.std.proofs.Common.{◌≡◌, inl, inr, ℕ, ◌+◌, ◌%◌, Bool, true, false, List, [], ◌∷◌, ◌++◌, map, Option, Result, Ok, Err, refl, sym, ap, subst, ◌∙◌, append_assoc}
 use Rattle.std.proofs.lemmas.List.{map-append}
 use Rattle.std.specs.Option.{option_map_or}
+use Rattle.sock_card.specs.Conflict.{owner_key}
 use Rattle.list_words.specs.Lists.{Each}
 use Rattle.list_words.proofs.EachLemmas.{each_append, each_weaken}
 use Rattle.sock_card.specs.declared.owner.Owner.{Owner}
@@ -104,14 +105,14 @@ module _ (count place : ℕ) (a : Owner) (v w : View) (p q : GroupPasses) where
       (all_spares place (tells.first ++ []) v w tells.asked (each_append Spares tells.first [] (asked_spares a tells.first tells.listens) tt))
 
 module _ (n : ℕ) (a : Owner) (v w : View) (p q : GroupPasses) where
-  listens_there : (took : Bool) (l : Mine) → TellsAs (a.port % n) a took v w (Ok l) → ListensAs (a.port % n) l w p q → ListensAs (l.owner.port % n) l w p q
-  listens_there took l tells lists = subst (λ i. ListensAs i l w p q) (ap (λ (o : Owner). o.port % n) (sym tells.owner)) lists
+  listens_there : (took : Bool) (l : Mine) → TellsAs (owner_key a % n) a took v w (Ok l) → ListensAs (owner_key a % n) l w p q → ListensAs (owner_key l.owner % n) l w p q
+  listens_there took l tells lists = subst (λ i. ListensAs i l w p q) (ap (λ (o : Owner). owner_key o % n) (sym tells.owner)) lists
 
-  pub taken_lists : (name : ℕ) (r : Result Mine OpEnd) → a.name ≡ name → TellsAs (a.port % n) a true v w r → StartsLists true (a.port % n) a w p q r → StartsUnbound n name w p q r
+  pub taken_lists : (name : ℕ) (r : Result Mine OpEnd) → a.name ≡ name → TellsAs (owner_key a % n) a true v w r → StartsLists true (owner_key a % n) a w p q r → StartsUnbound n name w p q r
   taken_lists name (Ok l) is tells lists = listens_there true l tells lists
   taken_lists name (Err end) is tells lists = inr (record { a = a; name_is = is; leaves = lists })
 
-  pub bound_lists : (s : Mine) (r : Result Mine OpEnd) → TellsAs (a.port % n) a false v w r → StartsLists false (a.port % n) a w p q r → ListsOfListen n (socks.Bound s) w p q (without_socket (listen_answer (socks.Bound s) r))
+  pub bound_lists : (s : Mine) (r : Result Mine OpEnd) → TellsAs (owner_key a % n) a false v w r → StartsLists false (owner_key a % n) a w p q r → ListsOfListen n (socks.Bound s) w p q (without_socket (listen_answer (socks.Bound s) r))
   bound_lists s (Ok l) tells lists = listens_there false l tells lists
   bound_lists s (Err end) tells lists = inl lists
 

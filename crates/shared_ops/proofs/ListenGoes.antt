@@ -1,6 +1,7 @@
 -- How the plan of `listen` goes on.
 use Rattle.std.proofs.Common.{◌≡◌, ℕ, ◌+◌, ◌%◌, Bool, true, false, List, [], ◌∷◌, map, Option, None, Result, Ok, Err, refl, sym, ap, subst, ◌∙◌}
 use Rattle.std.specs.Option.{option_map_or}
+use Rattle.sock_card.specs.Conflict.{owner_key}
 use Rattle.sock_card.specs.declared.owner.Owner.{Owner}
 use Rattle.sock_card.specs.declared.card.Card.{Card}
 use Rattle.sock_card.specs.declared.card.Kind.TheVariants as kinds
@@ -38,7 +39,7 @@ module _ (count : ℕ) (a : Owner) (took : Bool) (v w : View) (c d : Side) where
   pub listen_done : (group : Option ℕ) (l : Owner) (extra : ℕ) (card : Card) (place : Place) (m : Mine)
       → l ≡ as_listener a → extra ≡ option_map_or (λ (n : ℕ). n + 1) group 0 → card ≡ card_as kinds.Listen l extra
       → ComesTo card place c d → m ≡ listening_at l extra place
-      → AskedAll (a.port % count) (asked_listen a (answers.Group group) ∷ said_listen a place.slot ∷ []) v w
+      → AskedAll (owner_key a % count) (asked_listen a (answers.Group group) ∷ said_listen a place.slot ∷ []) v w
       → Went count plan v w c d (ends (done m))
   listen_done group l extra card place m l_is extra_is card_is comes_as m_is all =
       let here : Mine = listener a group in
@@ -46,77 +47,77 @@ module _ (count : ℕ) (a : Owner) (took : Bool) (v w : View) (c d : Side) where
       let same : card ≡ known = card_is ∙ ap (λ (o : Owner). card_as kinds.Listen o extra) l_is ∙ ap (card_as kinds.Listen (as_listener a)) extra_is in
       let comes : ComesTo known place c d = subst (λ (k : Card). ComesTo k place c d) same comes_as in
       let slot : ℕ = comes.hash.slot in
-      let both = subst (λ n. AskedAll (a.port % count) (asked_listen a (answers.Group group) ∷ said_listen a n ∷ []) v w) comes.slot all in
-      let two = all_two (a.port % count) (asked_listen a (answers.Group group)) (said_listen a slot) v w both in
+      let both = subst (λ n. AskedAll (owner_key a % count) (asked_listen a (answers.Group group) ∷ said_listen a n ∷ []) v w) comes.slot all in
+      let two = all_two (owner_key a % count) (asked_listen a (answers.Group group)) (said_listen a slot) v w both in
       let tried : Tried = hashed comes.hash None in
       let at : place ≡ record { bucket = home c.layout.shape c.layout.seed known; slot = slot } = λ i. record { bucket = comes.bucket i; slot = comes.slot i } in
       let end : listens_in c.layout.shape c.layout.seed here slot ≡ m =
       sym (m_is ∙ ap (λ (o : Owner). listening_at o extra place) l_is ∙ ap (λ n. listening_at (as_listener a) n place) extra_is ∙ ap (listening_at (as_listener a) here.extra) at) in
       let there : Asking Did = ends (done (listens_in c.layout.shape c.layout.seed here slot)) in
-      let last : List Deed = deed_at a.port two.y ∷ [] in
+      let last : List Deed = deed_at (owner_key a) two.y ∷ [] in
       let later : List Deed = added known tried ∷ last in
       record {
-        deeds = deed_at a.port two.x ∷ added known tried ∷ deed_at a.port two.y ∷ [];
-        leads = subst (λ (n : Mine). Leads plan (deed_at a.port two.x ∷ added known tried ∷ deed_at a.port two.y ∷ []) (ends (done n))) end
-            (by_entry count a.port (requests.MayListen a.name) (answers.Group group) (listen_answered c.layout.shape c.layout.seed took a) two.x later there two.is_x
+        deeds = deed_at (owner_key a) two.x ∷ added known tried ∷ deed_at (owner_key a) two.y ∷ [];
+        leads = subst (λ (n : Mine). Leads plan (deed_at (owner_key a) two.x ∷ added known tried ∷ deed_at (owner_key a) two.y ∷ []) (ends (done n))) end
+            (by_entry count (owner_key a) (requests.MayListen a.name) (answers.Group group) (listen_answered c.layout.shape c.layout.seed took a) two.x later there two.is_x
             (by_added known tried (listen_hashed c.layout.shape c.layout.seed took a here) last there comes.is
-            (by_entry count a.port (requests.Listen a.name slot) answers.Done (when_done there) two.y [] there two.is_y refl)));
+            (by_entry count (owner_key a) (requests.Listen a.name slot) answers.Done (when_done there) two.y [] there two.is_y refl)));
         gave = gave_two (asked_listen a (answers.Group group)) (said_listen a slot) two;
-        does = does_both (deed_at a.port two.x ∷ []) later c c d (does_entry a.port two.x c)
-            (does_both (added known tried ∷ []) last c d d comes.does (does_entry a.port two.y d));
+        does = does_both (deed_at (owner_key a) two.x ∷ []) later c c d (does_entry (owner_key a) two.x c)
+            (does_both (added known tried ∷ []) last c d d comes.does (does_entry (owner_key a) two.y d));
       }
     where
-      gave_two : (e f : Entry) (two : Two (a.port % count) e f v w) → Gave v w (placed (a.port % count) two.x.note ∷ placed (a.port % count) two.y.note ∷ [])
+      gave_two : (e f : Entry) (two : Two (owner_key a % count) e f v w) → Gave v w (placed (owner_key a % count) two.x.note ∷ placed (owner_key a % count) two.y.note ∷ [])
       gave_two e f two =
-          subst (λ (p : Placed Entry). Gave v w (p ∷ placed (a.port % count) two.y.note ∷ [])) (sym (entry_is count a.port e.request e.answer two.x two.is_x))
-          (subst (λ (q : Placed Entry). Gave v w (two.x ∷ q ∷ [])) (sym (entry_is count a.port f.request f.answer two.y two.is_y)) two.gave)
+          subst (λ (p : Placed Entry). Gave v w (p ∷ placed (owner_key a % count) two.y.note ∷ [])) (sym (entry_is count (owner_key a) e.request e.answer two.x two.is_x))
+          (subst (λ (q : Placed Entry). Gave v w (two.x ∷ q ∷ [])) (sym (entry_is count (owner_key a) f.request f.answer two.y two.is_y)) two.gave)
 
-  gives_up : (end : OpEnd) (b : Bool) (zs : List (Placed Entry)) → AreAsked (a.port % count) (gone_if b a) zs → Leads (give_up b a end) (map (deed_at a.port) zs) (ends (refused end))
+  gives_up : (end : OpEnd) (b : Bool) (zs : List (Placed Entry)) → AreAsked (owner_key a % count) (gone_if b a) zs → Leads (give_up b a end) (map (deed_at (owner_key a)) zs) (ends (refused end))
   gives_up end true [] are = absurd are
-  gives_up end true (z ∷ []) are = by_entry count a.port (requests.Remove a.name) answers.Done (when_done (ends (refused end))) z [] (ends (refused end)) are.0 refl
+  gives_up end true (z ∷ []) are = by_entry count (owner_key a) (requests.Remove a.name) answers.Done (when_done (ends (refused end))) z [] (ends (refused end)) are.0 refl
   gives_up end true (z ∷ y ∷ zs) are = absurd are.1
   gives_up end false [] are = refl
   gives_up end false (z ∷ zs) are = absurd are
 
-  gave_up : (b : Bool) (zs : List (Placed Entry)) → AreAsked (a.port % count) (gone_if b a) zs → GivesUp count a.name zs
+  gave_up : (b : Bool) (zs : List (Placed Entry)) → AreAsked (owner_key a % count) (gone_if b a) zs → GivesUp count a.name zs
   gave_up true [] are = absurd are
-  gave_up true (z ∷ []) are = (a.port, are.0)
+  gave_up true (z ∷ []) are = ((owner_key a), are.0)
   gave_up true (z ∷ y ∷ zs) are = absurd are.1
   gave_up false [] are = tt
   gave_up false (z ∷ zs) are = absurd are
 
   -- one question, and then those of an owner that gives up its port
-  gave_first : (e : Entry) (f : First (a.port % count) e (gone_if took a) v w) → Gave v w (placed (a.port % count) f.x.note ∷ entries_in count (map (deed_at a.port) f.zs))
+  gave_first : (e : Entry) (f : First (owner_key a % count) e (gone_if took a) v w) → Gave v w (placed (owner_key a % count) f.x.note ∷ entries_in count (map (deed_at (owner_key a)) f.zs))
   gave_first e f =
-      subst (λ (p : Placed Entry). Gave v w (p ∷ entries_in count (map (deed_at a.port) f.zs))) (sym (entry_is count a.port e.request e.answer f.x f.is))
-      (subst (λ (ys : List (Placed Entry)). Gave v w (f.x ∷ ys)) (sym (all_entries count a.port (gone_if took a) f.zs f.more)) f.gave)
+      subst (λ (p : Placed Entry). Gave v w (p ∷ entries_in count (map (deed_at (owner_key a)) f.zs))) (sym (entry_is count (owner_key a) e.request e.answer f.x f.is))
+      (subst (λ (ys : List (Placed Entry)). Gave v w (f.x ∷ ys)) (sym (all_entries count (owner_key a) (gone_if took a) f.zs f.more)) f.gave)
 
   -- no slot for it
   full_goes : (group : Option ℕ) (card : Card) (owned held : ℕ) → card ≡ card_of kinds.Listen (listener a group) → FindsNoSlot card owned held c d
-      → First (a.port % count) (asked_listen a (answers.Group group)) (gone_if took a) v w
+      → First (owner_key a % count) (asked_listen a (answers.Group group)) (gone_if took a) v w
       → Went count plan v w c d (ends (refused (errors.Full owned held)))
   full_goes group card owned held card_is finds f =
       let known : Card = card_of kinds.Listen (listener a group) in
       let there : Asking Did = ends (refused (errors.Full owned held)) in
       let tried : Tried = no_slot finds.number owned held in
-      let last : List Deed = map (deed_at a.port) f.zs in
+      let last : List Deed = map (deed_at (owner_key a)) f.zs in
       let later : List Deed = added known tried ∷ last in
       record {
-        deeds = deed_at a.port f.x ∷ added known tried ∷ map (deed_at a.port) f.zs;
-        leads = by_entry count a.port (requests.MayListen a.name) (answers.Group group) (listen_answered c.layout.shape c.layout.seed took a) f.x later there f.is
+        deeds = deed_at (owner_key a) f.x ∷ added known tried ∷ map (deed_at (owner_key a)) f.zs;
+        leads = by_entry count (owner_key a) (requests.MayListen a.name) (answers.Group group) (listen_answered c.layout.shape c.layout.seed took a) f.x later there f.is
             (by_added known tried (listen_hashed c.layout.shape c.layout.seed took a (listener a group)) last there tt (gives_up (errors.Full owned held) took f.zs f.more));
         gave = gave_first (asked_listen a (answers.Group group)) f;
-        does = does_both (deed_at a.port f.x ∷ []) later c c d (does_entry a.port f.x c)
-            (does_both (added known tried ∷ []) last c d d (subst (λ (k : Card). Does (added k tried ∷ []) c d) card_is finds.does) (does_entries a.port f.zs d));
+        does = does_both (deed_at (owner_key a) f.x ∷ []) later c c d (does_entry (owner_key a) f.x c)
+            (does_both (added known tried ∷ []) last c d d (subst (λ (k : Card). Does (added k tried ∷ []) c d) card_is finds.does) (does_entries (owner_key a) f.zs d));
       }
 
   pub listen_full : (group : Option ℕ) (l : Owner) (extra : ℕ) (card : Card) (end : OpEnd)
       → l ≡ as_listener a → extra ≡ option_map_or (λ (n : ℕ). n + 1) group 0 → card ≡ card_as kinds.Listen l extra
-      → AddsAs card c d (Err end) → AskedAll (a.port % count) (asked_listen a (answers.Group group) ∷ gone_if took a) v w
+      → AddsAs card c d (Err end) → AskedAll (owner_key a % count) (asked_listen a (answers.Group group) ∷ gone_if took a) v w
       → CarriedOut {X = Mine} done refused count a.name plan v w c d (Err end)
   listen_full group l extra card (errors.Full owned held) l_is extra_is card_is adds all =
       full_goes group card owned held (card_is ∙ ap (λ (o : Owner). card_as kinds.Listen o extra) l_is ∙ ap (card_as kinds.Listen (as_listener a)) extra_is) adds
-      (all_first (a.port % count) (asked_listen a (answers.Group group)) (gone_if took a) v w all)
+      (all_first (owner_key a % count) (asked_listen a (answers.Group group)) (gone_if took a) v w all)
   listen_full group l extra card (errors.InUse name) l_is extra_is card_is adds all = absurd adds
   listen_full group l extra card errors.NoPort l_is extra_is card_is adds all = absurd adds
   listen_full group l extra card (errors.Taken name) l_is extra_is card_is adds all = absurd adds
@@ -128,24 +129,24 @@ module _ (count : ℕ) (a : Owner) (took : Bool) (v w : View) (c d : Side) where
 
   -- the bucket refused it
   refuses_goes : (answer : Answer) (end : OpEnd) → listen_answered c.layout.shape c.layout.seed took a answer ≡ give_up took a end → c ≡ d
-      → First (a.port % count) (asked_listen a answer) (gone_if took a) v w → Went count plan v w c d (ends (refused end))
+      → First (owner_key a % count) (asked_listen a answer) (gone_if took a) v w → Went count plan v w c d (ends (refused end))
   refuses_goes answer end goes same f =
       record {
-        deeds = deed_at a.port f.x ∷ map (deed_at a.port) f.zs;
-        leads = by_entry count a.port (requests.MayListen a.name) answer (listen_answered c.layout.shape c.layout.seed took a) f.x (map (deed_at a.port) f.zs) (ends (refused end)) f.is
-            (subst (λ (p : Asking Did). Leads p (map (deed_at a.port) f.zs) (ends (refused end))) (sym goes) (gives_up end took f.zs f.more));
+        deeds = deed_at (owner_key a) f.x ∷ map (deed_at (owner_key a)) f.zs;
+        leads = by_entry count (owner_key a) (requests.MayListen a.name) answer (listen_answered c.layout.shape c.layout.seed took a) f.x (map (deed_at (owner_key a)) f.zs) (ends (refused end)) f.is
+            (subst (λ (p : Asking Did). Leads p (map (deed_at (owner_key a)) f.zs) (ends (refused end))) (sym goes) (gives_up end took f.zs f.more));
         gave = gave_first (asked_listen a answer) f;
-        does = subst (λ (k : Side). Does (deed_at a.port f.x ∷ map (deed_at a.port) f.zs) c k) same (does_entries a.port (f.x ∷ f.zs) c);
+        does = subst (λ (k : Side). Does (deed_at (owner_key a) f.x ∷ map (deed_at (owner_key a)) f.zs) c k) same (does_entries (owner_key a) (f.x ∷ f.zs) c);
       }
 
-  pub listen_refused : (answer : Answer) (end : OpEnd) → SaysListen answer end → c ≡ d → AskedAll (a.port % count) (asked_listen a answer ∷ gone_if took a) v w
+  pub listen_refused : (answer : Answer) (end : OpEnd) → SaysListen answer end → c ≡ d → AskedAll (owner_key a % count) (asked_listen a answer ∷ gone_if took a) v w
       → CarriedOut {X = Mine} done refused count a.name plan v w c d (Err end)
   listen_refused answer (errors.InUse name) says same all =
-      refuses_goes answer (errors.InUse name) (ap (listen_answered c.layout.shape c.layout.seed took a) says) same (all_first (a.port % count) (asked_listen a answer) (gone_if took a) v w all)
+      refuses_goes answer (errors.InUse name) (ap (listen_answered c.layout.shape c.layout.seed took a) says) same (all_first (owner_key a % count) (asked_listen a answer) (gone_if took a) v w all)
   listen_refused answer errors.GroupFull says same all =
-      refuses_goes answer errors.GroupFull (ap (listen_answered c.layout.shape c.layout.seed took a) says) same (all_first (a.port % count) (asked_listen a answer) (gone_if took a) v w all)
+      refuses_goes answer errors.GroupFull (ap (listen_answered c.layout.shape c.layout.seed took a) says) same (all_first (owner_key a % count) (asked_listen a answer) (gone_if took a) v w all)
   listen_refused answer errors.GroupsFull says same all =
-      refuses_goes answer errors.GroupsFull (ap (listen_answered c.layout.shape c.layout.seed took a) says) same (all_first (a.port % count) (asked_listen a answer) (gone_if took a) v w all)
+      refuses_goes answer errors.GroupsFull (ap (listen_answered c.layout.shape c.layout.seed took a) says) same (all_first (owner_key a % count) (asked_listen a answer) (gone_if took a) v w all)
   listen_refused answer (errors.Full owned held) says same all = absurd says
   listen_refused answer errors.NoPort says same all = absurd says
   listen_refused answer (errors.Taken name) says same all = absurd says
@@ -154,7 +155,7 @@ module _ (count : ℕ) (a : Owner) (took : Bool) (v w : View) (c d : Side) where
   listen_refused answer errors.Memory says same all = absurd says
 
   -- there was no memory
-  pub listen_left : c ≡ d → AskedAll (a.port % count) (gone_if took a) v w → LeftOff count a.name plan v w c d
+  pub listen_left : c ≡ d → AskedAll (owner_key a % count) (gone_if took a) v w → LeftOff count a.name plan v w c d
   listen_left same all =
       record {
         rest = plan;

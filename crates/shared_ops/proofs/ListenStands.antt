@@ -3,6 +3,7 @@ use Rattle.std.proofs.Common.{◌≡◌, ◌≢◌, ℕ, ◌%◌, inl, inr, Bool
 use Rattle.std.proofs.lemmas.Bool.{false≢true}
 use mathlib.Core.Logic.{dite}
 use native.Mathlib.Decide.{ℕ_discrete}
+use Rattle.sock_card.specs.Conflict.{owner_key, bind_key}
 use Rattle.list_words.specs.Lists.{Each}
 use Rattle.list_words.proofs.EachLemmas.{each_append}
 use Rattle.sock_card.specs.declared.owner.Owner.{Owner}
@@ -122,13 +123,13 @@ module _ (count : ℕ) (a : Owner) (v u w : View) (ports : List ℕ) (port : ℕ
   abbrev taken : Owner
   taken = bound_at a 0 port
 
-  came : Came taken (port % count) u
+  came : Came taken (bind_key port a.net % count) u
   came = search_came count (bound_at a 0 0) v u ports port refl away at
 
-  pub search_stands : StandsOwn taken (port % count) u
-  search_stands = came_stands taken (port % count) u came
+  pub search_stands : StandsOwn taken (bind_key port a.net % count) u
+  search_stands = came_stands taken (bind_key port a.net % count) u came
 
-  elsewhere : (other : ℕ) → other ≢ port % count → Knows a.name None other u
+  elsewhere : (other : ℕ) → other ≢ bind_key port a.net % count → Knows a.name None other u
   elsewhere other ne =
       let b = bound_at a 0 0 in
       let xs = at.refused ++ at.last ∷ [] in
@@ -136,22 +137,22 @@ module _ (count : ℕ) (a : Owner) (v u w : View) (ports : List ℕ) (port : ℕ
       let pass = each_append (Passes other) at.refused (at.last ∷ []) quiet (inl (λ here. ne (sym here ∙ at.taken.place_is)), tt) in
       knows_on a.name other None v u xs (away other) (grows v u xs at.gave) pass
 
-  pub taken_stands : (r : Result Mine OpEnd) → TellsAs (port % count) taken true u w r → IfOk r (λ m. StandsOwn m.owner (m.owner.port % count) w)
+  pub taken_stands : (r : Result Mine OpEnd) → TellsAs (bind_key port a.net % count) taken true u w r → IfOk r (λ m. StandsOwn m.owner (owner_key m.owner % count) w)
   taken_stands (Ok m) t =
-      subst (λ (p : ℕ). StandsOwn m.owner (p % count) w) (sym (ap (λ (o : Owner). o.port) t.owner)) (tells_stand (port % count) taken u w m search_stands t)
+      subst (λ (p : ℕ). StandsOwn m.owner (p % count) w) (sym (ap (λ (o : Owner). owner_key o) t.owner)) (tells_stand (bind_key port a.net % count) taken u w m search_stands t)
   taken_stands (Err end) t = tt
 
-  pub taken_kept : (r : Result Mine OpEnd) → TellsAs (port % count) taken true u w r → OnErr r (IsAway a.name w)
+  pub taken_kept : (r : Result Mine OpEnd) → TellsAs (bind_key port a.net % count) taken true u w r → OnErr r (IsAway a.name w)
   taken_kept (Ok m) t = tt
-  taken_kept (Err end) t = tells_not_away (port % count) taken u w came elsewhere t
+  taken_kept (Err end) t = tells_not_away (bind_key port a.net % count) taken u w came elsewhere t
 
 -- a bound socket that would listen
-module _ (t : Tables) (m : Mine) (v w : View) (d : Side) (s : Sock) (stands : StandsOwn m.owner (m.owner.port % buckets_of t) v) where
-  pub bound_stands : (r : Result Mine OpEnd) → TellsAs (m.owner.port % buckets_of t) m.owner false v w r → IfOk r (λ l. IsHashed kinds.Listen l d) → IfOk (listen_answer s r) (λ x. StandsAs t x.0 w d)
+module _ (t : Tables) (m : Mine) (v w : View) (d : Side) (s : Sock) (stands : StandsOwn m.owner (owner_key m.owner % buckets_of t) v) where
+  pub bound_stands : (r : Result Mine OpEnd) → TellsAs (owner_key m.owner % buckets_of t) m.owner false v w r → IfOk r (λ l. IsHashed kinds.Listen l d) → IfOk (listen_answer s r) (λ x. StandsAs t x.0 w d)
   bound_stands (Ok l) told hashed =
-      (subst (λ (p : ℕ). StandsOwn l.owner (p % buckets_of t) w) (sym (ap (λ (o : Owner). o.port) told.owner)) (tells_stand (m.owner.port % buckets_of t) m.owner v w l stands told), hashed)
+      (subst (λ (p : ℕ). StandsOwn l.owner (p % buckets_of t) w) (sym (ap (λ (o : Owner). owner_key o) told.owner)) (tells_stand (owner_key m.owner % buckets_of t) m.owner v w l stands told), hashed)
   bound_stands (Err end) told hashed = tt
 
-  pub bound_kept : (r : Result Mine OpEnd) → TellsAs (m.owner.port % buckets_of t) m.owner false v w r → OnErr (listen_answer s r) (StandsAs t (socks.Bound m) w d)
+  pub bound_kept : (r : Result Mine OpEnd) → TellsAs (owner_key m.owner % buckets_of t) m.owner false v w r → OnErr (listen_answer s r) (StandsAs t (socks.Bound m) w d)
   bound_kept (Ok l) told = tt
-  bound_kept (Err end) told = tells_not_stand (m.owner.port % buckets_of t) m.owner v w stands told
+  bound_kept (Err end) told = tells_not_stand (owner_key m.owner % buckets_of t) m.owner v w stands told

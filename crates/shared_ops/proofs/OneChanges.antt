@@ -1,6 +1,7 @@
 -- As a member comes into a group of a bucket or leaves it, no other list of the bucket changes.
 use Rattle.std.proofs.Common.{◌≡◌, ◌≢◌, ℕ, zero, suc, ◌+◌, ◌*◌, ◌/◌, ◌%◌, ◌<◌, Bool, true, false, cond, ltb, List, [], ◌∷◌, length, get_or, find, Option, Some, None, refl, sym, ap, subst, ◌∙◌, arith}
 use Rattle.std.proofs.lemmas.List.{get_or-set_other}
+use Rattle.sock_card.specs.Limits.{group_room}
 use Rattle.sock_card.specs.declared.owner.Owner.{Owner}
 use Rattle.sock_card.specs.Conflict.{refuses}
 use Rattle.bind_buckets.specs.First.{change_first}
@@ -78,7 +79,7 @@ joins_at true n gs m place group few said =
 joins_in : (n : ℕ) (h : Held) (a : Owner) (m : ℕ) (place group : Option ℕ) → length h.groups ≡ 8 → place_for h a ≡ place → group_answer n h place ≡ answers.Group group → OneChanges n group h.groups (with_member place m h.groups)
 joins_in n h a m None group eight is said = absurd (cc)
 joins_in n h a m (Some place) group eight is said =
-    joins_at (ltb (length (members_at h place)) 16) n h.groups m place group (subst (λ k. place < k) eight (place_within h a place is)) said
+    joins_at (ltb (length (members_at h place)) group_room) n h.groups m place group (subst (λ k. place < k) eight (place_within h a place is)) said
 
 joins_by : (b : Bool) (n : ℕ) (h : Held) (a : Owner) (m : ℕ) (group : Option ℕ) → length h.groups ≡ 8 → cond b (group_answer n h (place_for h a)) (answers.Group None) ≡ answers.Group group
     → OneChanges n group h.groups (cond b (with_member (place_for h a) m h.groups) h.groups)

@@ -1,6 +1,7 @@
 -- How the plan of `reap` goes on by one TIME_WAIT.
 use Rattle.std.proofs.Common.{◌≡◌, ℕ, ◌+◌, ◌%◌, List, [], ◌∷◌, Option, Some, None, refl, sym, subst}
 use Rattle.std.specs.Option.{option_map}
+use Rattle.sock_card.specs.Conflict.{owner_key}
 use Rattle.sock_card.specs.declared.card.Card.{Card}
 use Rattle.sock_card.specs.declared.card.Kind.TheVariants as kinds
 use Rattle.turn_table.specs.declared.note.Placed.{Placed}
@@ -33,21 +34,21 @@ module _ (count : ℕ) (w : Mine) (rest : List Mine) (n : ℕ) (v u : View) (c d
   abbrev card : Card
   card = card_of kinds.TimeWait w
 
-  found_by : (unhash : Option Change) (slot : ℕ) (answer : Answer) → Some slot ≡ option_map slot_in unhash → Does (reaped card unhash ∷ []) c d → AskedAll (w.owner.port % count) (reap_entry w.owner.name answer ∷ []) v u
+  found_by : (unhash : Option Change) (slot : ℕ) (answer : Answer) → Some slot ≡ option_map slot_in unhash → Does (reaped card unhash ∷ []) c d → AskedAll (owner_key w.owner % count) (reap_entry w.owner.name answer ∷ []) v u
       → Went count (reap_each (w ∷ rest) n) v u c d (reap_each rest (n + 1))
   found_by None slot answer is does all = absurd (cc)
   found_by (Some x) slot answer is does all =
-      let port = w.owner.port in
+      let key = owner_key w.owner in
       let e = reap_entry w.owner.name answer in
-      let one = all_one (port % count) e v u all in
+      let one = all_one (key % count) e v u all in
       let there : Asking ℕ = reap_each rest (n + 1) in
-      let last : List Deed = deed_at port one.x ∷ [] in
+      let last : List Deed = deed_at key one.x ∷ [] in
       record {
-        deeds = reaped card (Some x) ∷ deed_at port one.x ∷ [];
+        deeds = reaped card (Some x) ∷ deed_at key one.x ∷ [];
         leads = by_reaped card (Some x) (reaped_next w n (reap_each rest)) last there does.leaves.1.fits
-            (by_entry count port (requests.RemoveWaiting w.owner.name) answer (λ _. there) one.x [] there one.is refl);
-        gave = subst (λ (p : Placed Entry). Gave v u (p ∷ [])) (sym (entry_is count port e.request e.answer one.x one.is)) one.gave;
-        does = does_both (reaped card (Some x) ∷ []) last c d d does (does_entry port one.x d);
+            (by_entry count key (requests.RemoveWaiting w.owner.name) answer (λ _. there) one.x [] there one.is refl);
+        gave = subst (λ (p : Placed Entry). Gave v u (p ∷ [])) (sym (entry_is count key e.request e.answer one.x one.is)) one.gave;
+        does = does_both (reaped card (Some x) ∷ []) last c d d does (does_entry key one.x d);
       }
 
   none_by : (unhash : Option Change) → None ≡ option_map slot_in unhash → Does (reaped card unhash ∷ []) c d → Gave v u []
@@ -63,7 +64,7 @@ module _ (count : ℕ) (w : Mine) (rest : List Mine) (n : ℕ) (v u : View) (c d
       }
 
   -- it was there
-  pub reap_found : (k : Card) (slot : ℕ) (answer : Answer) → k ≡ card → Reaps k (Some slot) c d → AskedAll (w.owner.port % count) (reap_entry w.owner.name answer ∷ []) v u
+  pub reap_found : (k : Card) (slot : ℕ) (answer : Answer) → k ≡ card → Reaps k (Some slot) c d → AskedAll (owner_key w.owner % count) (reap_entry w.owner.name answer ∷ []) v u
       → Went count (reap_each (w ∷ rest) n) v u c d (reap_each rest (n + 1))
   reap_found k slot answer same reaps_as all =
       let r : Reaps card (Some slot) c d = subst (λ (x : Card). Reaps x (Some slot) c d) same reaps_as in

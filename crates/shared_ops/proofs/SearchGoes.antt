@@ -2,7 +2,7 @@
 use Rattle.std.proofs.Common.{◌≡◌, ℕ, ◌+◌, ◌≤◌, ◌%◌, List, [], ◌∷◌, map, length, Option, Some, None, Result, Ok, Err, false, refl, sym, ap, subst, ◌∙◌, arith}
 use Rattle.std.specs.Option.{option_map}
 use Rattle.sock_card.specs.declared.owner.Owner.{Owner}
-use Rattle.sock_card.specs.Conflict.{is_time_wait}
+use Rattle.sock_card.specs.Conflict.{owner_key, is_time_wait}
 use Rattle.turn_table.specs.declared.note.Placed.{Placed}
 use Rattle.bind_buckets.specs.declared.request.Request.TheVariants as requests
 use Rattle.bind_buckets.specs.declared.request.Answer.{Answer}
@@ -35,15 +35,15 @@ use Rattle.shared_ops.specs.declared.tables.Tables.{Tables}
 use Rattle.shared_ops.specs.declared.tables.Worker.{Worker}
 use Rattle.table_rule.specs.Passes as chain_words
 use Rattle.shared_ops.proofs.Goes.{deed_at, entry_is, by_entry, by_inserted, all_entries, does_both, does_none, does_entry, does_entries, One, all_one, went_both, went_nowhere, carried_both}
-use Rattle.shared_ops.proofs.Inserted.{grants_of, put_outcome, ports_of, names_of}
+use Rattle.shared_ops.proofs.Inserted.{grants_of, put_outcome, keys_of, names_of}
 use Rattle.shared_ops.proofs.ConnectGoes.{replaced_leads, all_none, full_is, gone_quiet}
 use Rattle.shared_ops.proofs.Knows.{AllQuiet, after, grows, grows_first, grows_rest, all_pass, asked_quiet, away_on, came_on, came_stands, comes, knows_on}
 
 abbrev pub come_entry : Owner → Entry
 come_entry a = record { request = requests.ConnectAuto a; answer = answers.Done }
 
-abbrev pub held_entry : ℕ → ℕ → Entry
-held_entry port name = record { request = requests.Free port; answer = answers.NotFree name }
+abbrev pub held_entry : Owner → ℕ → Entry
+held_entry a name = record { request = requests.Free a.port a.net; answer = answers.NotFree name }
 
 record TwoMore (place : ℕ) (e f : Entry) (es : List Entry) (v w : View) : Type 0 where
   x : Placed Entry
@@ -65,10 +65,10 @@ two_more place e f es v w all = two_of place e f es v w all.xs all.asked all.gav
 
 module _ (count : ℕ) (a : Owner) (moment : ℕ) (rule : Replace) (v w : View) (c d : Side) where
   pub tries_done : (place : Place) (replaced : Option ℕ) (m : Mine) (answer : Answer) → PutsIn (wish_for a moment rule) place replaced c d → m ≡ full_at a place
-      → AskedAll (a.port % count) (free_entry a.port ∷ come_entry a ∷ gone_of replaced answer) v w → TriesAt count c.layout a moment rule v w c d (Ok (Some m))
+      → AskedAll (owner_key a % count) (free_entry a ∷ come_entry a ∷ gone_of replaced answer) v w → TriesAt count c.layout a moment rule v w c d (Ok (Some m))
   tries_done place replaced m answer p m_is all = λ next.
-      let at = a.port % count in
-      let t = two_more at (free_entry a.port) (come_entry a) (gone_of replaced answer) v w all in
+      let at = owner_key a % count in
+      let t = two_more at (free_entry a) (come_entry a) (gone_of replaced answer) v w all in
       let slot : ℕ = p.hash.slot in
       let shape = c.layout.shape in
       let seed = c.layout.seed in
@@ -78,39 +78,39 @@ module _ (count : ℕ) (a : Owner) (moment : ℕ) (rule : Replace) (v w : View) 
       let grants = grants_of wish tried c d p.does in
       let there : Asking Did = ends (done (full_in shape seed a slot)) in
       let more = subst (λ r. AreAsked at (gone_of r answer) t.zs) (p.replaced_is ∙ names_of p.old) t.more in
-      let last : List Deed = deed_at a.port t.y ∷ map (deed_at a.port) t.zs in
-      let deeds : List Deed = deed_at a.port t.x ∷ inserted wish tried ∷ last in
+      let last : List Deed = deed_at (owner_key a) t.y ∷ map (deed_at (owner_key a)) t.zs in
+      let deeds : List Deed = deed_at (owner_key a) t.x ∷ inserted wish tried ∷ last in
       let told : Leads (connect_tried shape seed a next (put slot old)) last there =
-      by_entry count a.port (requests.ConnectAuto a) answers.Done (when_done (full_done shape seed a slot old)) t.y (map (deed_at a.port) t.zs) there t.is_y
-      (replaced_leads count a.port old answer there t.zs (ports_of wish p.hash p.old grants) more) in
-      let does_first = does_both (deed_at a.port t.x ∷ []) (inserted wish tried ∷ []) c c d (does_entry a.port t.x c) p.does in
+      by_entry count (owner_key a) (requests.ConnectAuto a) answers.Done (when_done (full_done shape seed a slot old)) t.y (map (deed_at (owner_key a)) t.zs) there t.is_y
+      (replaced_leads count (owner_key a) old answer there t.zs (keys_of wish p.hash p.old grants) more) in
+      let does_first = does_both (deed_at (owner_key a) t.x ∷ []) (inserted wish tried ∷ []) c c d (does_entry (owner_key a) t.x c) p.does in
       record {
         deeds = deeds;
         leads = subst (λ (n : Mine). Leads (port_plan c.layout a moment rule next) deeds (ends (done n))) (full_is a moment rule place replaced m c d p m_is)
-            (by_entry count a.port (requests.Free a.port) answers.Done (connect_free shape seed a moment rule next) t.x (inserted wish tried ∷ last) there t.is_x
+            (by_entry count (owner_key a) (requests.Free a.port a.net) answers.Done (connect_free shape seed a moment rule next) t.x (inserted wish tried ∷ last) there t.is_x
             (by_inserted (full_card a) moment rule tried (connect_tried shape seed a next) last there grants
             (subst (λ (o : Outcome). Leads (connect_tried shape seed a next o) last there) (sym (put_outcome p.hash p.old)) told)));
-        gave = subst (Gave v w) (sym (all_entries count a.port (free_entry a.port ∷ come_entry a ∷ gone_of replaced answer) (t.x ∷ t.y ∷ t.zs) (t.is_x, (t.is_y, t.more)))) t.gave;
-        does = does_both (deed_at a.port t.x ∷ inserted wish tried ∷ []) last c d d does_first (does_entries a.port (t.y ∷ t.zs) d);
+        gave = subst (Gave v w) (sym (all_entries count (owner_key a) (free_entry a ∷ come_entry a ∷ gone_of replaced answer) (t.x ∷ t.y ∷ t.zs) (t.is_x, (t.is_y, t.more)))) t.gave;
+        does = does_both (deed_at (owner_key a) t.x ∷ inserted wish tried ∷ []) last c d d does_first (does_entries (owner_key a) (t.y ∷ t.zs) d);
       }
 
   refused_goes : (tried : Tried) (next rest : Asking Did) → connect_tried c.layout.shape c.layout.seed a next (outcome_of tried) ≡ rest → Does (inserted (wish_for a moment rule) tried ∷ []) c d
-      → One (a.port % count) (free_entry a.port) v w → Went count (port_plan c.layout a moment rule next) v w c d rest
+      → One (owner_key a % count) (free_entry a) v w → Went count (port_plan c.layout a moment rule next) v w c d rest
   refused_goes tried next rest goes does o =
       let wish = wish_for a moment rule in
       record {
-        deeds = deed_at a.port o.x ∷ inserted wish tried ∷ [];
-        leads = by_entry count a.port (requests.Free a.port) answers.Done (connect_free c.layout.shape c.layout.seed a moment rule next) o.x (inserted wish tried ∷ []) rest o.is
+        deeds = deed_at (owner_key a) o.x ∷ inserted wish tried ∷ [];
+        leads = by_entry count (owner_key a) (requests.Free a.port a.net) answers.Done (connect_free c.layout.shape c.layout.seed a moment rule next) o.x (inserted wish tried ∷ []) rest o.is
             (by_inserted (full_card a) moment rule tried (connect_tried c.layout.shape c.layout.seed a next) [] rest (grants_of wish tried c d does) goes);
-        gave = subst (λ (x : Placed Entry). Gave v w (x ∷ [])) (sym (entry_is count a.port (requests.Free a.port) answers.Done o.x o.is)) o.gave;
-        does = does_both (deed_at a.port o.x ∷ []) (inserted wish tried ∷ []) c c d (does_entry a.port o.x c) does;
+        gave = subst (λ (x : Placed Entry). Gave v w (x ∷ [])) (sym (entry_is count (owner_key a) (requests.Free a.port a.net) answers.Done o.x o.is)) o.gave;
+        does = does_both (deed_at (owner_key a) o.x ∷ []) (inserted wish tried ∷ []) c c d (does_entry (owner_key a) o.x c) does;
       }
 
-  pub tries_refused : (end : OpEnd) → InsertsAs (wish_for a moment rule) c d (Err end) → AskedAll (a.port % count) (free_entry a.port ∷ []) v w → TriesAt count c.layout a moment rule v w c d (next_or end)
+  pub tries_refused : (end : OpEnd) → InsertsAs (wish_for a moment rule) c d (Err end) → AskedAll (owner_key a % count) (free_entry a ∷ []) v w → TriesAt count c.layout a moment rule v w c d (next_or end)
   tries_refused (errors.Taken name) ins all = λ next.
-      refused_goes (kept_out name) next next refl ins (all_one (a.port % count) (free_entry a.port) v w all)
+      refused_goes (kept_out name) next next refl ins (all_one (owner_key a % count) (free_entry a) v w all)
   tries_refused (errors.Full owned held) ins all = λ next.
-      refused_goes (no_slot ins.number owned held) next (ends (refused (errors.Full owned held))) refl ins.does (all_one (a.port % count) (free_entry a.port) v w all)
+      refused_goes (no_slot ins.number owned held) next (ends (refused (errors.Full owned held))) refl ins.does (all_one (owner_key a % count) (free_entry a) v w all)
   tries_refused (errors.InUse name) ins all = absurd ins
   tries_refused errors.NoPort ins all = absurd ins
   tries_refused errors.Inval ins all = absurd ins
@@ -119,17 +119,17 @@ module _ (count : ℕ) (a : Owner) (moment : ℕ) (rule : Replace) (v w : View) 
   tries_refused errors.GroupsFull ins all = absurd ins
   tries_refused errors.Memory ins all = absurd ins
 
-  pub tries_held : (name : ℕ) → c ≡ d → AskedAll (a.port % count) (held_entry a.port name ∷ []) v w → TriesAt count c.layout a moment rule v w c d (Ok None)
+  pub tries_held : (name : ℕ) → c ≡ d → AskedAll (owner_key a % count) (held_entry a name ∷ []) v w → TriesAt count c.layout a moment rule v w c d (Ok None)
   tries_held name same all = λ next.
-      let o = all_one (a.port % count) (held_entry a.port name) v w all in
+      let o = all_one (owner_key a % count) (held_entry a name) v w all in
       record {
-        deeds = deed_at a.port o.x ∷ [];
-        leads = by_entry count a.port (requests.Free a.port) (answers.NotFree name) (connect_free c.layout.shape c.layout.seed a moment rule next) o.x [] next o.is refl;
-        gave = subst (λ (x : Placed Entry). Gave v w (x ∷ [])) (sym (entry_is count a.port (requests.Free a.port) (answers.NotFree name) o.x o.is)) o.gave;
-        does = subst (Does (deed_at a.port o.x ∷ []) c) same (does_entry a.port o.x c);
+        deeds = deed_at (owner_key a) o.x ∷ [];
+        leads = by_entry count (owner_key a) (requests.Free a.port a.net) (answers.NotFree name) (connect_free c.layout.shape c.layout.seed a moment rule next) o.x [] next o.is refl;
+        gave = subst (λ (x : Placed Entry). Gave v w (x ∷ [])) (sym (entry_is count (owner_key a) (requests.Free a.port a.net) (answers.NotFree name) o.x o.is)) o.gave;
+        does = subst (Does (deed_at (owner_key a) o.x ∷ []) c) same (does_entry (owner_key a) o.x c);
       }
 
-  pub tries_left : c ≡ d → AskedAll (a.port % count) [] v w → TriesAt count c.layout a moment rule v w c d (Err errors.Memory)
+  pub tries_left : c ≡ d → AskedAll (owner_key a % count) [] v w → TriesAt count c.layout a moment rule v w c d (Err errors.Memory)
   tries_left same all = λ next.
       record {
         rest = port_plan c.layout a moment rule next;
@@ -137,7 +137,7 @@ module _ (count : ℕ) (a : Owner) (moment : ℕ) (rule : Replace) (v w : View) 
         leads = refl;
         back = [];
         gives = tt;
-        gave = all_none (a.port % count) v w all;
+        gave = all_none (owner_key a % count) v w all;
         does = subst (Does [] c) same (does_none c);
       }
 
@@ -155,13 +155,13 @@ module _ (count : ℕ) (a : Owner) (moment : ℕ) (rule : Replace) (v w : View) 
 
 -- the owner came, and no other of its name was there
 pub try_stands : (count : ℕ) (a : Owner) (v w : View) (replaced : Option ℕ) (answer : Answer) → is_time_wait a.state ≡ false → IsAway a.name v
-    → AskedAll (a.port % count) (free_entry a.port ∷ come_entry a ∷ gone_of replaced answer) v w → StandsOwn a (a.port % count) w
+    → AskedAll (owner_key a % count) (free_entry a ∷ come_entry a ∷ gone_of replaced answer) v w → StandsOwn a (owner_key a % count) w
 try_stands count a v w replaced answer awake away all =
-    let at = a.port % count in
-    let t = two_more at (free_entry a.port) (come_entry a) (gone_of replaced answer) v w all in
+    let at = owner_key a % count in
+    let t = two_more at (free_entry a) (come_entry a) (gone_of replaced answer) v w all in
     let g = grows v w (t.x ∷ t.y ∷ t.zs) t.gave in
     let u = after v (t.x ∷ []) in
-    let quiet : AllQuiet (t.x ∷ []) = (asked_quiet at (requests.Free a.port) answers.Done t.x t.is_x tt, tt) in
+    let quiet : AllQuiet (t.x ∷ []) = (asked_quiet at (requests.Free a.port a.net) answers.Done t.x t.is_x tt, tt) in
     let k = knows_on a.name at None v u (t.x ∷ []) (away at) (grows_first v w (t.x ∷ []) (t.y ∷ t.zs) g) (all_pass at (t.x ∷ []) quiet) in
     let h = grows_rest v w (t.x ∷ []) (t.y ∷ t.zs) g in
     let s = after u (t.y ∷ []) in
@@ -169,10 +169,10 @@ try_stands count a v w replaced answer awake away all =
     came_stands a at w (came_on a at s w t.zs came (grows_rest u w (t.y ∷ []) t.zs h) (all_pass at t.zs (gone_quiet at replaced answer t.zs t.more)))
 
 -- one question about a port leaves a name away
-pub try_away : (place port name : ℕ) (answer : Answer) (v w : View) → IsAway name v → AskedAll place (record { request = requests.Free port; answer = answer } ∷ []) v w → IsAway name w
-try_away place port name answer v w away all =
-    let o = all_one place (record { request = requests.Free port; answer = answer }) v w all in
-    away_on name v w (o.x ∷ []) away o.gave (asked_quiet place (requests.Free port) answer o.x o.is tt, tt)
+pub try_away : (place port net name : ℕ) (answer : Answer) (v w : View) → IsAway name v → AskedAll place (record { request = requests.Free port net; answer = answer } ∷ []) v w → IsAway name w
+try_away place port net name answer v w away all =
+    let o = all_one place (record { request = requests.Free port net; answer = answer }) v w all in
+    away_on name v w (o.x ∷ []) away o.gave (asked_quiet place (requests.Free port net) answer o.x o.is tt, tt)
 
 -- and a refusal at one port, whatever it means for the search
 pub next_away : (t : Tables) (name : ℕ) (w : View) (d : Side) (end : OpEnd) → IsAway name w → TryLeaves t name w d (next_or end)

@@ -1,6 +1,7 @@
 -- Calls on an owner that its bucket has.
 use Rattle.std.proofs.Common.{◌≡◌, ℕ, ◌<◌, Bool, true, false, cond, List, [], ◌∷◌, ◌++◌, find, Some, None, Option, Result, Ok, Err, ltb, length, refl, sym, ap, subst, ◌∙◌, append_assoc, arith}
 use Rattle.std.proofs.lemmas.List.{map-append}
+use Rattle.sock_card.specs.Limits.{group_room}
 use Rattle.sock_card.specs.declared.owner.Owner.{Owner}
 use Rattle.sock_card.specs.Conflict.{refuses}
 use Rattle.turn_table.specs.Passes as words
@@ -65,7 +66,7 @@ cond_known false x y p q = q
 group_known : (n : ℕ) (h : Held) (place : Option ℕ) → IsNotStrange (group_answer n h place)
 group_known n h None = tt
 group_known n h (Some place) =
-    cond_known (ltb (length (members_at h place)) 16) (answers.Group (Some (group_number n place))) answers.GroupFull tt tt
+    cond_known (ltb (length (members_at h place)) group_room) (answers.Group (Some (group_number n place))) answers.GroupFull tt tt
 
 listener_known : (n : ℕ) (h : Held) (a : Owner) (o : Option Owner) → IsNotStrange (listener_answer n h a o)
 listener_known n h a (Some other) = tt

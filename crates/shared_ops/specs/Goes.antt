@@ -28,7 +28,7 @@ pub record Went {R : Type 0} (count : ℕ) (plan : Asking R) (v w : View) (c d :
 -- the owner of that name leaves its port
 abbrev pub GivesUp : ℕ → ℕ → List (Placed Entry) → Type 0
 GivesUp count name [] = Unit {0}
-GivesUp count name (x ∷ []) = (port : ℕ) × IsAsked (port % count) (requests.Remove name) answers.Done x
+GivesUp count name (x ∷ []) = (key : ℕ) × IsAsked (key % count) (requests.Remove name) answers.Done x
 GivesUp count name _ = ⊥
 
 -- for want of memory the plan was left off somewhere, and a port that it had taken was given up

@@ -2,6 +2,7 @@
 -- reuseport_detach_sock of net/core/sock_reuseport.c. That a bucket's turn stands for reuseport_lock is our own.
 use Rattle.std.specs.Prelude.{◌≡◌, ◌≢◌, ◌⊎◌, ℕ, ◌+◌, ◌/◌, ◌%◌, ◌<◌, Bool, true, false, List, [], ◌∷◌, ◌++◌, Option, None, Some, Result, Ok, Err}
 use Rattle.std.specs.Option.{option_map_or}
+use Rattle.sock_card.specs.Conflict.{owner_key}
 use Rattle.list_words.specs.Lists.{Each}
 use Rattle.sock_card.specs.declared.owner.Owner.{Owner}
 use Rattle.turn_table.specs.declared.note.Placed.{Placed}
@@ -107,20 +108,20 @@ StartsLists took place a v p q (Err end) = GaveBack took place a v p q
 pub record GivesBack (count name : ℕ) (v : View) (p q : GroupPasses) : Type 0 where
   pub a : Owner
   pub name_is : a.name ≡ name
-  pub leaves : LeavesAs (a.port % count) a v p q
+  pub leaves : LeavesAs (owner_key a % count) a v p q
 
 abbrev pub MayGiveBack : ℕ → ℕ → View → GroupPasses → GroupPasses → Type 0
 MayGiveBack count name v p q = (q ≡ p) ⊎ GivesBack count name v p q
 
 -- what became of them as a socket without a port would listen
 abbrev pub StartsUnbound : ℕ → ℕ → View → GroupPasses → GroupPasses → Result Mine OpEnd → Type 0
-StartsUnbound count name v p q (Ok l) = ListensAs (l.owner.port % count) l v p q
+StartsUnbound count name v p q (Ok l) = ListensAs (owner_key l.owner % count) l v p q
 StartsUnbound count name v p q (Err end) = MayGiveBack count name v p q
 
 -- by `listen`: a listener stays as it is, another socket listens, or a port that the call took is given up
 abbrev pub ListensBy : ℕ → Sock → Mine → View → GroupPasses → GroupPasses → Type 0
 ListensBy count (socks.Listening m) l v p q = q ≡ p
-ListensBy count s l v p q = ListensAs (l.owner.port % count) l v p q
+ListensBy count s l v p q = ListensAs (owner_key l.owner % count) l v p q
 
 abbrev pub ListsOfListen : ℕ → Sock → View → GroupPasses → GroupPasses → Result (Sock × ℕ) OpEnd → Type 0
 ListsOfListen count s v p q (Ok x) = ListensBy count s (mine_of x.0) v p q
@@ -133,9 +134,9 @@ LeavesOrStays place a v p q = (q ≡ p) ⊎ LeavesAs place a v p q
 -- by `close`: one that is connected leaves its bucket at once where no slot is free for its TIME_WAIT
 abbrev pub LeavesBy : ℕ → Sock → View → GroupPasses → GroupPasses → Type 0
 LeavesBy count (socks.Unbound m) v p q = q ≡ p
-LeavesBy count (socks.Full m) v p q = LeavesOrStays (m.owner.port % count) m.owner v p q
-LeavesBy count (socks.Bound m) v p q = LeavesAs (m.owner.port % count) m.owner v p q
-LeavesBy count (socks.Listening m) v p q = LeavesAs (m.owner.port % count) m.owner v p q
+LeavesBy count (socks.Full m) v p q = LeavesOrStays (owner_key m.owner % count) m.owner v p q
+LeavesBy count (socks.Bound m) v p q = LeavesAs (owner_key m.owner % count) m.owner v p q
+LeavesBy count (socks.Listening m) v p q = LeavesAs (owner_key m.owner % count) m.owner v p q
 
 abbrev pub ListsOfLeave : {B E : Type 0} → ℕ → Sock → View → GroupPasses → GroupPasses → Result B E → Type 0
 ListsOfLeave count s v p q (Ok x) = LeavesBy count s v p q

@@ -6,8 +6,8 @@ use Rattle.race_record.specs.Goes.{Grants, Admits, IsUnhashAt, IsReapOf, outcome
 
 -- the plan's first question has that deed, by whose answer it goes on so
 abbrev pub Takes : {R : Type 0} → Asking R → Deed → Asking R → Type 0
-Takes (asks port request then_) (entered p note) next =
-    (p ≡ port) × (note.entry.request ≡ request) × (next ≡ then_ note.entry.answer)
+Takes (asks key request then_) (entered k note) next =
+    (k ≡ key) × (note.entry.request ≡ request) × (next ≡ then_ note.entry.answer)
 Takes (inserts card moment rule then_) (inserted wish tried) next =
     (wish ≡ record { card = card; moment = moment; rule = rule }) × Grants wish tried × (next ≡ then_ (outcome_of tried))
 Takes (adds card then_) (added c tried) next = (c ≡ card) × Admits card tried × (next ≡ then_ (outcome_of tried))

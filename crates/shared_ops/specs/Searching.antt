@@ -1,5 +1,6 @@
 -- What became of the connection at one port: our own.
 use Rattle.std.specs.Prelude.{◌≡◌, ℕ, ◌+◌, Option, None, Some, Result, Ok, Err}
+use Rattle.sock_card.specs.Conflict.{owner_key}
 use Rattle.sock_card.specs.declared.owner.Owner.{Owner}
 use Rattle.bind_buckets.specs.declared.request.Request.TheVariants as requests
 use Rattle.bind_buckets.specs.declared.request.Answer.TheVariants as answers
@@ -20,13 +21,13 @@ use Rattle.shared_ops.specs.Goes.{Went, LeftOff}
 use Rattle.shared_ops.specs.Stands.{IsAway, MayDraw}
 
 -- `connect` may choose the port
-abbrev pub free_entry : ℕ → Entry
-free_entry port = record { request = requests.Free port; answer = answers.Done }
+abbrev pub free_entry : Owner → Entry
+free_entry a = record { request = requests.Free a.port a.net; answer = answers.Done }
 
 -- the plan at the owner's port, and then the next
 abbrev pub port_plan : Layout → Owner → ℕ → Replace → Asking Did → Asking Did
 port_plan layout a moment rule next =
-    asks a.port (requests.Free a.port) (connect_free layout.shape layout.seed a moment rule next)
+    asks (owner_key a) (requests.Free a.port a.net) (connect_free layout.shape layout.seed a moment rule next)
 
 -- the connection is made, or the next port is to be tried, or the search ends; whatever the next is
 abbrev pub TriesAt : ℕ → Layout → Owner → ℕ → Replace → View → View → Side → Side → Result (Option Mine) OpEnd → Type 0

@@ -1,5 +1,6 @@
 -- What an operation asks of the socket that it takes: our own.
 use Rattle.std.specs.Prelude.{◌≡◌, ℕ, ◌+◌, ◌*◌, ◌%◌, ◌≤◌, ◌^◌, Bool, true, filter, find, Option, None, Some, []}
+use Rattle.sock_card.specs.Conflict.{owner_key}
 use Rattle.sock_card.specs.declared.owner.Owner.{Owner}
 use Rattle.sock_card.specs.declared.card.Kind.{Kind}
 use Rattle.sock_card.specs.declared.card.Kind.TheVariants as kinds
@@ -70,9 +71,9 @@ pub record Knows (name : ℕ) (owner : Option Owner) (place : ℕ) (v : View) : 
 abbrev pub IsAway : ℕ → View → Type 0
 IsAway name v = (place : ℕ) → Knows name None place v
 
--- the bucket of its port has the owner
+-- the bucket of its key has the owner
 abbrev pub IsOwner : Tables → Owner → View → Type 0
-IsOwner t a v = StandsOwn a (a.port % buckets_of t) v
+IsOwner t a v = StandsOwn a (owner_key a % buckets_of t) v
 
 -- the bucket that is out has it, as the first of its name
 abbrev pub IsThere : Out → Owner → Type 0

@@ -1,6 +1,7 @@
 //! Questions to the bucket of an owner that stands: its turn, and then calls that can't miss it.
 
 ghost use Rattle.std.specs.Prelude.{◌≡◌, ◌+◌, ◌%◌, ◌^◌, ◌<◌, ◌≤◌, ◌==◌, ◌||◌, [], true, IfOk, IfSome};
+ghost use Rattle.sock_card.specs.Conflict.{owner_key};
 ghost use Rattle.turn_table.specs.Passes as words;
 ghost use Rattle.turn_table.specs.Passes.{known};
 ghost use Rattle.bind_buckets.specs.Answers.{answer_of_listen};
@@ -14,7 +15,7 @@ ghost use Rattle.shared_ops.specs.Stands.{IsThere};
 ghost use Rattle.shared_ops.specs.There.{IsKnown};
 
 use bind_buckets::{Bucket, ListenEnd, turning};
-use sock_card::{Owner, State};
+use sock_card::{Owner, State, bind_key};
 use std::sync::Wait;
 use turn_table::{Turn, TurnPass, Turns};
 
@@ -26,9 +27,9 @@ pub(crate) fn take<R: Wait>(
     owner: &Owner,
 ) -> Turn<Box<Bucket>>
     requires idle { IsIdle buckets.now pass.old }
-    requires stands { StandsOwn owner.now (owner.now.port % words.places buckets.now) (known pass.old) }
+    requires stands { StandsOwn owner.now (owner_key owner.now % words.places buckets.now) (known pass.old) }
     ensures out { IsOut buckets.now pass.new result }
-    ensures place { result.place ≡ owner.now.port % words.places buckets.now }
+    ensures place { result.place ≡ owner_key owner.now % words.places buckets.now }
     ensures none { made pass.new result ≡ [] }
     ensures there { IsThere result owner.now }
     ensures sound { IsSound result.value.value }
@@ -36,7 +37,7 @@ pub(crate) fn take<R: Wait>(
     ensures caller { words.caller pass.new ≡ words.caller pass.old }
     ensures within { Within (known pass.old) (known pass.new) }
 {
-    let turn = turning::take(rt, buckets, pass, owner.port);
+    let turn = turning::take(rt, buckets, pass, bind_key(owner.port, owner.net));
     turn.value.recall();
     turn
 }

@@ -1,6 +1,7 @@
 //! `bind`.
 
 ghost use Rattle.std.specs.Prelude.{◌≡◌, ◌+◌, ◌%◌, ◌^◌, ◌<◌, ◌≤◌, length, IfOk, IfErr, OnErr};
+ghost use Rattle.sock_card.specs.Conflict.{bind_key};
 ghost use Rattle.turn_table.specs.Passes as words;
 ghost use Rattle.turn_table.specs.Passes.{known};
 ghost use Rattle.bind_buckets.specs.Callers.{MayName};
@@ -29,7 +30,7 @@ use bind_buckets::{Bucket, InUse, turning};
 use flat_list::{End, owned};
 use port_search::turning::find_bind;
 use port_search::{Ports, SearchEnd};
-use sock_card::Owner;
+use sock_card::{Owner, bind_key};
 use std::sync::Wait;
 use table_model::OpEnd;
 use turn_table::{TurnPass, Turns};
@@ -70,14 +71,14 @@ fn bind_given<R: Wait>(
     ensures draws { words.draws pass.new ≤ words.draws pass.old + 1 }
     ensures carried { (c : Side) → CarriedOut (λ _. bound_to owner end.addr end.port) refused
         (words.places buckets.now) owner.name
-        (asks end.port (requests.Bind (bound_at owner end.addr end.port)) (bind_answered owner end))
+        (asks (bind_key end.port owner.net) (requests.Bind (bound_at owner end.addr end.port)) (bind_answered owner end))
         (known pass.old) (known pass.new) c c result }
     ensures stands { IsAway owner.name (known pass.old) → IfOk result (λ _.
-        StandsOwn (bound_at owner end.addr end.port) (end.port % words.places buckets.now) (known pass.new)) }
+        StandsOwn (bound_at owner end.addr end.port) (bind_key end.port owner.net % words.places buckets.now) (known pass.new)) }
     ensures kept { IsAway owner.name (known pass.old) → OnErr result (IsAway owner.name (known pass.new)) }
     ensures spares { GaveSparing (known pass.old) (known pass.new) }
 {
-    let mut turn = turning::take(rt, buckets, pass, end.port);
+    let mut turn = turning::take(rt, buckets, pass, bind_key(end.port, owner.net));
     match turning::reserve(buckets, pass, &mut turn) {
         Ok(()) => {
             let bound_owner = owned::bound_at(owner, end.addr, end.port);
@@ -111,7 +112,7 @@ fn bind_searched<R: Wait>(
         (search_bind owner addr (plans.bound owner addr) (ends (refused errors.NoPort)) ports)
         (known pass.old) (known pass.new) c c result }
     ensures stands { IsAway owner.name (known pass.old) → IfOk result (λ port.
-        StandsOwn (bound_at owner addr port) (port % words.places buckets.now) (known pass.new)) }
+        StandsOwn (bound_at owner addr port) (bind_key port owner.net % words.places buckets.now) (known pass.new)) }
     ensures kept { IsAway owner.name (known pass.old) → OnErr result (IsAway owner.name (known pass.new)) }
     ensures spares { GaveSparing (known pass.old) (known pass.new) }
 {
@@ -138,7 +139,7 @@ fn bind_unbound<R: Wait>(
     ensures carried { (c : Side) → CarriedOut (bound_to owner end.addr) refused (words.places buckets.now) owner.name
         (plans.bind_unbound owner end ports) (known pass.old) (known pass.new) c c result }
     ensures stands { IsAway owner.name (known pass.old) → IfOk result (λ port.
-        StandsOwn (bound_at owner end.addr port) (port % words.places buckets.now) (known pass.new)) }
+        StandsOwn (bound_at owner end.addr port) (bind_key port owner.net % words.places buckets.now) (known pass.new)) }
     ensures kept { IsAway owner.name (known pass.old) → OnErr result (IsAway owner.name (known pass.new)) }
     ensures spares { GaveSparing (known pass.old) (known pass.new) }
 {

@@ -62,7 +62,7 @@ pub(crate) fn end_turn(
     }
 }
 
-/// Connects a bound owner, which becomes `full`: it is hashed, and then its port's bucket knows, in the same turn, in
+/// Connects a bound owner, which becomes `full`: it is hashed, and then its key's bucket knows, in the same turn, in
 /// which the owner of a TIME_WAIT that it replaced leaves.
 fn connect_bound<R: Wait>(
     rt: &R,

@@ -1,6 +1,7 @@
 //! `close`, and `drop_sock` beside it, by which a socket is gone at once.
 
 ghost use Rattle.std.specs.Prelude.{◌≡◌, ◌+◌, ◌%◌, ◌^◌, ◌<◌, ◌≤◌, ◌∷◌, [], IfErr, OnErr, OnOk};
+ghost use Rattle.sock_card.specs.Conflict.{owner_key};
 ghost use Rattle.sock_card.specs.declared.card.Kind.TheVariants as kinds;
 ghost use Rattle.turn_table.specs.Passes as words;
 ghost use Rattle.turn_table.specs.Passes.{known};
@@ -130,7 +131,7 @@ fn wait_in<R: Wait>(
     moment: u32,
 ) -> Closed
     requires out { IsOut tables.now.buckets worker.old.turns turn }
-    requires place { turn.place ≡ full.now.owner.port % buckets_of tables.now }
+    requires place { turn.place ≡ owner_key full.now.owner % buckets_of tables.now }
     requires made { made worker.old.turns turn ≡ [] }
     requires enters { MayEnter 1 worker.old }
     requires may { MayTell worker.old full.now.owner.name }
@@ -148,7 +149,7 @@ fn wait_in<R: Wait>(
     ensures went { (v : View) → Within v (turned worker.old) → Went (buckets_of tables.now)
         (plans.close_full tables.now.chains.layout.shape tables.now.chains.layout.seed full.now (plans.wait_of full.now moment))
         v (turned worker.new) (chained tables.now worker.old) (chained tables.now worker.new) (ends (spec.became result)) }
-    ensures lists { (v : View) → Within v (turned worker.old) → LeavesOrStays (full.now.owner.port % buckets_of tables.now)
+    ensures lists { (v : View) → Within v (turned worker.old) → LeavesOrStays (owner_key full.now.owner % buckets_of tables.now)
         full.now.owner (turned worker.new) worker.old.groups worker.new.groups }
     ensures listed { (v : View) → Within v (turned worker.old) → KeepsListed (words_of_groups.groups tables.now.groups)
         v (turned worker.new) worker.old.groups worker.new.groups }
@@ -190,7 +191,7 @@ fn wait_in<R: Wait>(
     }
 }
 
-/// Closes a connected socket: its TIME_WAIT stands before it is gone, and then its port's bucket knows, in one turn.
+/// Closes a connected socket: its TIME_WAIT stands before it is gone, and then its key's bucket knows, in one turn.
 fn close_full<R: Wait>(
     rt: &R,
     tables: &Tables,
@@ -214,7 +215,7 @@ fn close_full<R: Wait>(
         (chained tables.now worker.old) (chained tables.now worker.new) result }
     ensures kept { OnErr result (IsOwner tables.now full.now.owner (turned worker.new)
         × IsHashed kinds.Full full.now (chained tables.now worker.new)) }
-    ensures lists { LeavesOrStays (full.now.owner.port % buckets_of tables.now)
+    ensures lists { LeavesOrStays (owner_key full.now.owner % buckets_of tables.now)
         full.now.owner (turned worker.new) worker.old.groups worker.new.groups }
     ensures none { OnErr result (worker.new.groups ≡ worker.old.groups) }
     ensures listed { KeepsLists tables.now worker.old worker.new }
@@ -242,13 +243,13 @@ fn leave_port<R: Wait>(
     requires groups { HasGroups tables.now passes.old }
     requires few { words.draws pass.old < 2 ^ 48 }
     requires may { MayName (words.caller pass.old) owner.now.name }
-    requires stands { StandsOwn owner.now (owner.now.port % buckets_of tables.now) (known pass.old) }
+    requires stands { StandsOwn owner.now (owner_key owner.now % buckets_of tables.now) (known pass.old) }
     ensures idle { IsIdle tables.now.buckets pass.new }
     ensures groups { HasGroups tables.now passes.new }
     ensures caller { words.caller pass.new ≡ words.caller pass.old }
     ensures draws { words.draws pass.new ≤ words.draws pass.old + 1 }
-    ensures gave { AskedAll (owner.now.port % buckets_of tables.now) (leave_entry owner.now ∷ []) (known pass.old) (known pass.new) }
-    ensures lists { LeavesAs (owner.now.port % buckets_of tables.now) owner.now (known pass.new) passes.old passes.new }
+    ensures gave { AskedAll (owner_key owner.now % buckets_of tables.now) (leave_entry owner.now ∷ []) (known pass.old) (known pass.new) }
+    ensures lists { LeavesAs (owner_key owner.now % buckets_of tables.now) owner.now (known pass.new) passes.old passes.new }
     ensures listed { KeepsListed (words_of_groups.groups tables.now.groups) (known pass.old) (known pass.new) passes.old passes.new }
 {
     let mut turn = asking::take(rt, &tables.buckets, pass, owner);
@@ -256,8 +257,8 @@ fn leave_port<R: Wait>(
     turning::give(&tables.buckets, pass, turn);
 }
 
-/// Takes an owner out of its port's bucket, where its group's list is published without it, and then its socket out of its
-/// chain, in one turn.
+/// Takes an owner out of its key's bucket, where its group's list is published without it, and then its socket out of
+/// its chain, in one turn.
 fn leave_chain<R: Wait>(
     rt: &R,
     tables: &Tables,
@@ -282,7 +283,7 @@ fn leave_chain<R: Wait>(
         (chained tables.now worker.old) (chained tables.now worker.new) result }
     ensures kept { OnErr result (IsOwner tables.now owner.now (turned worker.new)) }
     ensures side { OnErr result (chained tables.now worker.new ≡ chained tables.now worker.old) }
-    ensures lists { OnOk result (LeavesAs (owner.now.port % buckets_of tables.now) owner.now (turned worker.new)
+    ensures lists { OnOk result (LeavesAs (owner_key owner.now % buckets_of tables.now) owner.now (turned worker.new)
         worker.old.groups worker.new.groups) }
     ensures none { OnErr result (worker.new.groups ≡ worker.old.groups) }
     ensures listed { KeepsLists tables.now worker.old worker.new }

@@ -2,7 +2,7 @@
 //!
 //! [`Tables`] are the bind buckets under turns and the chain table; a [`Worker`] is a thread's part in both. A socket
 //! is a value of its own type for each state, [`Sock`], which an operation takes and hands back: a refused one as it
-//! came. An operation takes the turn of its port's bind bucket, makes room, and then takes a chain's lock: never two
+//! came. An operation takes the turn of its key's bind bucket, makes room, and then takes a chain's lock: never two
 //! turns and never two locks. So want of memory comes before anything has changed. What an operation asks of buckets
 //! and chains, in which order, and what it comes to is its plan in table_model; each contract says which deeds it did
 //! by that plan, whoever else was at the tables, and that on a worker which was never split the plan, carried out on

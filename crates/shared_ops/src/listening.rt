@@ -2,6 +2,7 @@
 
 ghost use Rattle.std.specs.Prelude.{◌≡◌, ◌+◌, ◌%◌, ◌^◌, ◌<◌, ◌≤◌, ◌++◌, ◌∷◌, [], length, IfOk, IfErr, OnErr, IfSome};
 ghost use Rattle.std.specs.Option.{option_map_or};
+ghost use Rattle.sock_card.specs.Conflict.{owner_key};
 ghost use Rattle.sock_card.specs.declared.card.Kind.TheVariants as kinds;
 ghost use Rattle.turn_table.specs.Passes as words;
 ghost use Rattle.turn_table.specs.Passes.{known};
@@ -136,7 +137,7 @@ fn start_in<R: Wait>(
     group: Option<u32>,
 ) -> Result<Listening, OpEnd>
     requires out { IsOut tables.now.buckets worker.old.turns turn }
-    requires place { turn.place ≡ owner.now.port % buckets_of tables.now }
+    requires place { turn.place ≡ owner_key owner.now % buckets_of tables.now }
     requires enters { MayEnter 1 worker.old }
     requires may { MayTell worker.old owner.now.name }
     requires there { IsThere turn owner.now }
@@ -158,10 +159,10 @@ fn start_in<R: Wait>(
         v (turned worker.new) (chained tables.now worker.old) (chained tables.now worker.new) result }
     ensures tells { (v : View) → Within v (turned worker.old)
         → entries_of (made worker.old.turns turn) ≡ asked_listen owner.now (answers.Group group) ∷ []
-        → TellsAs (owner.now.port % buckets_of tables.now) owner.now took v (turned worker.new) result }
+        → TellsAs (owner_key owner.now % buckets_of tables.now) owner.now took v (turned worker.new) result }
     ensures lists { (v : View) → Within v (turned worker.old)
         → entries_of (made worker.old.turns turn) ≡ asked_listen owner.now (answers.Group group) ∷ []
-        → StartsLists took (owner.now.port % buckets_of tables.now) owner.now (turned worker.new)
+        → StartsLists took (owner_key owner.now % buckets_of tables.now) owner.now (turned worker.new)
         worker.old.groups worker.new.groups result }
     ensures hashed { IfOk result (λ l. IsHashed kinds.Listen l (chained tables.now worker.new)) }
     ensures stay { PlacesStay (chained tables.now worker.old).view (chained tables.now worker.new).view }
@@ -198,7 +199,7 @@ fn start_in<R: Wait>(
     }
 }
 
-/// Lets a bound owner listen: its port's bucket says whether it may and in which group, it is hashed, and then the
+/// Lets a bound owner listen: its key's bucket says whether it may and in which group, it is hashed, and then the
 /// bucket knows, all in one turn. One that is refused, and whose port this call took, leaves its port in that turn.
 fn start<R: Wait>(
     rt: &R,
@@ -220,9 +221,9 @@ fn start<R: Wait>(
         (plans.listen_at tables.now.chains.layout.shape tables.now.chains.layout.seed took owner.now)
         (turned worker.old) (turned worker.new)
         (chained tables.now worker.old) (chained tables.now worker.new) result }
-    ensures tells { TellsAs (owner.now.port % buckets_of tables.now) owner.now took
+    ensures tells { TellsAs (owner_key owner.now % buckets_of tables.now) owner.now took
         (turned worker.old) (turned worker.new) result }
-    ensures lists { StartsLists took (owner.now.port % buckets_of tables.now) owner.now (turned worker.new)
+    ensures lists { StartsLists took (owner_key owner.now % buckets_of tables.now) owner.now (turned worker.new)
         worker.old.groups worker.new.groups result }
     ensures listed { KeepsLists tables.now worker.old worker.new }
     ensures hashed { IfOk result (λ l. IsHashed kinds.Listen l (chained tables.now worker.new)) }

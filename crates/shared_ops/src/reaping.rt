@@ -1,6 +1,7 @@
 //! `reap`, by which sockets in TIME_WAIT end, one after the other.
 
 ghost use Rattle.std.specs.Prelude.{◌≡◌, ◌+◌, ◌%◌, ◌≤◌, [], IfOk, OnErr};
+ghost use Rattle.sock_card.specs.Conflict.{owner_key};
 ghost use Rattle.turn_table.specs.Passes as words;
 ghost use Rattle.bind_buckets.specs.Turned.{View, Gave, IsOut, Within, made};
 ghost use Rattle.chain_deeds.specs.Sides.{HasRoom, IsResting};
@@ -16,7 +17,7 @@ use crate::room::make_room;
 use crate::tables::{Tables, Worker};
 use bind_buckets::{Bucket, turning};
 use flat_list::owned;
-use sock_card::{Kind, tw_expired};
+use sock_card::{Kind, bind_key, tw_expired};
 use std::alloc::AllocError;
 use std::sync::Wait;
 use turn_table::Turn;
@@ -39,7 +40,7 @@ fn reap_in<R: Wait>(
     waiting: &Waiting,
 ) -> bool
     requires out { IsOut tables.now.buckets worker.old.turns turn }
-    requires place { turn.place ≡ waiting.now.owner.port % buckets_of tables.now }
+    requires place { turn.place ≡ owner_key waiting.now.owner % buckets_of tables.now }
     requires made { made worker.old.turns turn ≡ [] }
     requires enters { MayEnter 1 worker.old }
     requires entry { 1 ≤ turn.value.value.entries }
@@ -78,7 +79,7 @@ fn reap_in<R: Wait>(
     }
 }
 
-/// Lets a socket in TIME_WAIT go; whether it was still there. Who has the turn of its port's bucket and its chain's lock
+/// Lets a socket in TIME_WAIT go; whether it was still there. Who has the turn of its key's bucket and its chain's lock
 /// takes it out, so another may have been before.
 ///
 /// # Errors
@@ -105,7 +106,8 @@ pub fn reap_one<R: Wait>(
     ensures groups { worker.new.groups ≡ worker.old.groups }
     ensures listed { KeepsLists tables.now worker.old worker.new }
 {
-    let mut turn = turning::take(rt, &tables.buckets, &mut worker.turns, waiting.owner.port);
+    let key = bind_key(waiting.owner.port, waiting.owner.net);
+    let mut turn = turning::take(rt, &tables.buckets, &mut worker.turns, key);
     match make_room(tables, worker, &mut turn, 1) {
         Ok(()) => Ok(reap_in(rt, tables, worker, turn, waiting)),
         Err(end) => {

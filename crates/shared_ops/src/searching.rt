@@ -1,6 +1,7 @@
 //! `connect` of a socket without a port, which searches for one.
 
 ghost use Rattle.std.specs.Prelude.{◌≡◌, ◌+◌, ◌%◌, ◌≤◌, ◌∷◌, [], true, length, IfOk, OnErr};
+ghost use Rattle.sock_card.specs.Conflict.{owner_key};
 ghost use Rattle.turn_table.specs.Passes as words;
 ghost use Rattle.bind_buckets.specs.Bucket.{CanConnect, entries_of};
 ghost use Rattle.bind_buckets.specs.Turned.{View, IsOut, Within, made};
@@ -25,7 +26,7 @@ use bind_buckets::{Bucket, turning};
 use chain_book::Replace;
 use flat_list::{End, owned};
 use port_search::Ports;
-use sock_card::{Owner, State};
+use sock_card::{Owner, State, bind_key};
 use std::sync::Wait;
 use table_model::OpEnd;
 use turn_table::Turn;
@@ -51,10 +52,10 @@ fn connect_in<R: Wait>(
     rule: Replace,
 ) -> Result<Option<Connected>, OpEnd>
     requires out { IsOut tables.now.buckets worker.old.turns turn }
-    requires place { turn.place ≡ full.port % buckets_of tables.now }
+    requires place { turn.place ≡ owner_key full % buckets_of tables.now }
     requires enters { MayEnter 2 worker.old }
     requires may { MayTell worker.old full.name }
-    requires free { CanConnect turn.value.value full.port }
+    requires free { CanConnect turn.value.value full.port full.net }
     requires entries { 2 ≤ turn.value.value.entries }
     requires newcomers { 1 ≤ turn.value.value.newcomers }
     requires chosen { full.by_connect ≡ true }
@@ -72,13 +73,13 @@ fn connect_in<R: Wait>(
     ensures stay { PlacesStay (chain_words.known worker.old.chain.pass) (chain_words.known worker.new.chain.pass) }
     ensures groups { worker.new.groups ≡ worker.old.groups }
     ensures spares { (v : View) → Within v (turned worker.old)
-        → entries_of (made worker.old.turns turn) ≡ free_entry full.port ∷ [] → GaveSparing v (turned worker.new) }
+        → entries_of (made worker.old.turns turn) ≡ free_entry full ∷ [] → GaveSparing v (turned worker.new) }
     ensures tries { (v : View) → Within v (turned worker.old)
-        → entries_of (made worker.old.turns turn) ≡ free_entry full.port ∷ []
+        → entries_of (made worker.old.turns turn) ≡ free_entry full ∷ []
         → TriesAt (buckets_of tables.now) tables.now.chains.layout full moment rule v (turned worker.new)
         (chained tables.now worker.old) (chained tables.now worker.new) result }
     ensures leaves { (v : View) → Within v (turned worker.old)
-        → entries_of (made worker.old.turns turn) ≡ free_entry full.port ∷ [] → IsAway full.name v
+        → entries_of (made worker.old.turns turn) ≡ free_entry full ∷ [] → IsAway full.name v
         → TryLeaves tables.now full.name (turned worker.new) (chained tables.now worker.new) result }
 {
     match insert(rt, &tables.chains, &mut worker.chain, &full, moment, rule) {
@@ -125,9 +126,16 @@ fn connect_at<R: Wait>(
         (turned worker.new) (chained tables.now worker.old) (chained tables.now worker.new) result }
     ensures leaves { TryLeaves tables.now full.name (turned worker.new) (chained tables.now worker.new) result }
 {
-    let mut turn = turning::take(rt, &tables.buckets, &mut worker.turns, full.port);
+    let key = bind_key(full.port, full.net);
+    let mut turn = turning::take(rt, &tables.buckets, &mut worker.turns, key);
     match make_room(tables, worker, &mut turn, 2) {
-        Ok(()) => match turning::free(&tables.buckets, &mut worker.turns, &mut turn, full.port) {
+        Ok(()) => match turning::free(
+            &tables.buckets,
+            &mut worker.turns,
+            &mut turn,
+            full.port,
+            full.net,
+        ) {
             Ok(()) => connect_in(rt, tables, worker, turn, full, moment, rule),
             Err(_) => {
                 turning::give(&tables.buckets, &mut worker.turns, turn);

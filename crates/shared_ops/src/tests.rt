@@ -21,6 +21,7 @@ use std::sync::Wait;
 use std::test::Fail;
 
 const PLAIN: Options = Options {
+    net: None,
     uid: None,
     dev: None,
     reuseaddr: false,

@@ -7,7 +7,7 @@ use Rattle.list_words.proofs.EachLemmas.{each_weaken, each_filter}
 use Rattle.sock_card.specs.declared.owner.Owner.{Owner}
 use Rattle.sock_card.specs.declared.owner.State.{State}
 use Rattle.sock_card.specs.declared.owner.State.TheVariants as states
-use Rattle.sock_card.specs.Conflict.{is_listening}
+use Rattle.sock_card.specs.Conflict.{bind_key, owner_key, is_listening}
 use Rattle.bind_buckets.specs.declared.request.Request.{Request}
 use Rattle.bind_buckets.specs.declared.request.Request.TheVariants as requests
 use Rattle.bind_buckets.specs.declared.request.Answer.TheVariants as answers
@@ -145,7 +145,7 @@ module _ (n : ℕ) (own : Own) (t : Tables) (flat : Flat) (h : Means n own t fla
     accept_comes : Comes t (accept_as flat.header.shape flat.header.seed l.owner (child_owner l.owner name from at)) P
     accept_comes =
         accept_attempt n own t flat h.tables h.shape h.sound h.own_is new fresh refl 0 rules.Always twin
-        (twin_same t.chains flat 0 new.owner h.tables.chains) l.owner.port (requests.Inherit l.owner.name name at.addr from.addr from.port)
+        (twin_same t.chains flat 0 new.owner h.tables.chains) (owner_key l.owner) (requests.Inherit l.owner.name name at.addr from.addr from.port)
         (inherit_asked t.buckets flat h.tables.owners h.shape.bind h.sound.names l.owner.name l listed (accepts_own l.owner from at accepts) name at.addr from.addr from.port new refl)
         (accept_hashed flat.header.shape flat.header.seed l.owner new.owner) P (λ slot old. refl)
         (λ holder k. comes_ends t (refused (errors.Taken holder)) P (good_as true (has_room flat) k refl (record { tables = t; result = refused (errors.Taken holder) }) (refl, refused_means n own t flat h label)))
@@ -179,8 +179,9 @@ module _ (n : ℕ) (own : Own) (t : Tables) (flat : Flat) (h : Means n own t fla
   replaced_ends t' m None = comes_ends t' (done m) Ended_so tt
   replaced_ends t' m (Some x) =
       let request : Request = requests.RemoveWaiting x.card.name in
-      comes_asks t' x.card.lport request (λ answer. ends (done m)) (answer_at t'.buckets x.card.lport request) Ended_so refl
-      (comes_ends (with_buckets t' (asked_at t'.buckets x.card.lport request)) (done m) Ended_so tt)
+      let key : ℕ = bind_key x.card.lport x.card.net in
+      comes_asks t' key request (λ answer. ends (done m)) (answer_at t'.buckets key request) Ended_so refl
+      (comes_ends (with_buckets t' (asked_at t'.buckets key request)) (done m) Ended_so tt)
 
   module _ (name : ℕ) (accepts : is_no_accept l.owner from at ≡ false) where
     abbrev child : Owner
@@ -192,10 +193,10 @@ module _ (n : ℕ) (own : Own) (t : Tables) (flat : Flat) (h : Means n own t fla
     hashed_ends (put slot old) =
         let t1 : Tables = with_chains t (hashed t.chains (full_card child) (put slot old)) in
         let request : Request = requests.Inherit l.owner.name name at.addr from.addr from.port in
-        let asked : IsDone t.buckets l.owner.port request (with_sockets flat (flat.sockets ++ flat_connect.child_of l name from at ∷ [])) =
+        let asked : IsDone t.buckets (owner_key l.owner) request (with_sockets flat (flat.sockets ++ flat_connect.child_of l name from at ∷ [])) =
         inherit_asked t.buckets flat h.tables.owners h.shape.bind h.sound.names l.owner.name l listed (accepts_own l.owner from at accepts) name at.addr from.addr from.port (flat_connect.child_of l name from at) refl in
-        comes_asks t1 l.owner.port request (when_done (full_done flat.header.shape flat.header.seed child slot old)) answers.Done Ended_so asked.answer
-        (replaced_ends (with_buckets t1 (asked_at t.buckets l.owner.port request)) (full_in flat.header.shape flat.header.seed child slot) old)
+        comes_asks t1 (owner_key l.owner) request (when_done (full_done flat.header.shape flat.header.seed child slot old)) answers.Done Ended_so asked.answer
+        (replaced_ends (with_buckets t1 (asked_at t.buckets (owner_key l.owner) request)) (full_in flat.header.shape flat.header.seed child slot) old)
 
     as_ends : Comes t (accept_as flat.header.shape flat.header.seed l.owner child) Ended_so
     as_ends = comes_inserts t (full_card child) 0 rules.Always (accept_hashed flat.header.shape flat.header.seed l.owner child) (insert_outcome t.chains (full_card child) 0 rules.Always) Ended_so refl (hashed_ends (insert_outcome t.chains (full_card child) 0 rules.Always))

@@ -12,8 +12,9 @@ use Rattle.flat_list.specs.declared.socket.Socket.{Socket}
 use Rattle.flat_list.specs.Groups.{Group}
 use Rattle.flat_list.specs.Look.{cards_of, extra_as}
 use Rattle.flat_list.specs.Owned.{card_as}
-use Rattle.flat_list.specs.Sockets.{kind_of, has_name, put, without, waits_at, same_tuple}
+use Rattle.flat_list.specs.Sockets.{kind_of, has_name, put, without, waits_at, tuple_of, same_tuple}
 use Rattle.flat_list.specs.Sound.{NamesDiffer, TuplesDiffer, holds_tuple}
+use Rattle.sock_card.proofs.Tuples.{PartsAgree, parts_agree}
 use Rattle.sock_card.specs.Conflict.{is_time_wait}
 use Rattle.sock_card.specs.declared.owner.State.{State}
 use Rattle.sock_card.specs.declared.owner.State.TheVariants as states
@@ -50,19 +51,12 @@ name_once n xs h = pairs_once NamesDiffer (has_name n) xs (same_names n) h
 pub only_named : (q : Socket → Bool) (xs : List Socket) (s : Socket) (n : ℕ) → find q xs ≡ Some s → s.owner.name ≡ n → Pairs NamesDiffer xs → Only (has_name n) s xs
 only_named q xs s n found is h = only_found (has_name n) q xs s found (eq-eqb s.owner.name n is) (name_once n xs h)
 
-same_parts : (a b : Owner) → same_tuple a b ≡ true → (a.addr ≡ b.addr) × (a.port ≡ b.port) × (a.remote ≡ b.remote) × (a.rport ≡ b.rport)
-same_parts a b h =
-    let one = and_parts ((a.addr == b.addr) && (a.port == b.port) && (a.remote == b.remote)) (a.rport == b.rport) h in
-    let two = and_parts ((a.addr == b.addr) && (a.port == b.port)) (a.remote == b.remote) one.0 in
-    let three = and_parts (a.addr == b.addr) (a.port == b.port) two.0 in
-    (eqb-true a.addr b.addr three.0, eqb-true a.port b.port three.1, eqb-true a.remote b.remote two.1, eqb-true a.rport b.rport one.1)
-
 -- two that have the four-tuple of one have one four-tuple
 tuples_meet : (a b c : Owner) → same_tuple a b ≡ true → same_tuple a c ≡ true → same_tuple b c ≡ true
 tuples_meet a b c x y =
-    let p = same_parts a b x in
-    let q = same_parts a c y in
-    rw (eq-eqb b.addr c.addr (sym p.0 ∙ q.0), eq-eqb b.port c.port (sym p.1 ∙ q.1), eq-eqb b.remote c.remote (sym p.2 ∙ q.2), eq-eqb b.rport c.rport (sym p.3 ∙ q.3)) refl
+    let p : PartsAgree (tuple_of a) (tuple_of b) = parts_agree (tuple_of a) (tuple_of b) x in
+    let q : PartsAgree (tuple_of a) (tuple_of c) = parts_agree (tuple_of a) (tuple_of c) y in
+    rw (eq-eqb b.net c.net (sym p.net ∙ q.net), eq-eqb b.addr c.addr (sym p.local ∙ q.local), eq-eqb b.port c.port (sym p.lport ∙ q.lport), eq-eqb b.remote c.remote (sym p.remote ∙ q.remote), eq-eqb b.rport c.rport (sym p.rport ∙ q.rport)) refl
 
 waits_hold : (st : State) → is_time_wait st ≡ true → holds_tuple st ≡ true
 waits_hold states.TimeWait h = refl

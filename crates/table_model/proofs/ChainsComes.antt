@@ -7,7 +7,7 @@ use Rattle.sock_card.specs.declared.card.Kind.TheVariants as kinds
 use Rattle.sock_card.specs.declared.owner.Owner.{Owner}
 use Rattle.sock_card.specs.declared.owner.State.{State}
 use Rattle.sock_card.specs.declared.owner.State.TheVariants as states
-use Rattle.sock_card.specs.Conflict.{is_time_wait}
+use Rattle.sock_card.specs.Conflict.{owner_key, bind_key, is_time_wait}
 use Rattle.bind_buckets.specs.Journal.{Standing}
 use Rattle.bind_buckets.specs.declared.request.Request.{Request}
 use Rattle.bind_buckets.specs.declared.request.Request.TheVariants as requests
@@ -48,7 +48,7 @@ waits_own states.Full h = refl
 -- what was replaced, in the list in which the newcomer stands
 abbrev pub StandsOld : Option Hashed → List Socket → Type 0
 StandsOld None xs = Unit {0}
-StandsOld (Some x) xs = (s : Socket) × Listed x.card.name xs s × (is_time_wait s.owner.state ≡ true) × (x.card.lport ≡ s.owner.port)
+StandsOld (Some x) xs = (s : Socket) × Listed x.card.name xs s × (is_time_wait s.owner.state ≡ true) × (bind_key x.card.lport x.card.net ≡ owner_key s.owner)
 
 module _ {R : Type 0} (flat : Flat) (some : 1 ≤ flat.header.shape.bind) (names : Pairs NamesDiffer flat.sockets) (t : Tables) (om : OwnersMean t.buckets flat) (next : Asking R) (P : Ended R → Type 0) where
   -- its owner leaves its port
@@ -58,10 +58,11 @@ module _ {R : Type 0} (flat : Flat) (some : 1 ≤ flat.header.shape.bind) (names
   old_leaves None st h = h t.buckets (left_same t.buckets flat om)
   old_leaves (Some x) st h =
       let request : Request = requests.RemoveWaiting x.card.name in
-      let gone : IsDone t.buckets st.0.owner.port request (with_sockets flat (without x.card.name flat.sockets)) =
+      let gone : IsDone t.buckets (owner_key st.0.owner) request (with_sockets flat (without x.card.name flat.sockets)) =
       remove_waiting_asked t.buckets flat om some names x.card.name st.0 st.1 (waits_own st.0.owner.state st.2) st.2 in
-      comes_asks t x.card.lport request (λ answer. next) (answer_at t.buckets x.card.lport request) P refl
-      (h (asked_at t.buckets x.card.lport request) (subst (λ (port : ℕ). Left t.buckets (asked_at t.buckets port request) (with_sockets flat (without x.card.name flat.sockets))) (sym st.3) gone.left))
+      let key : ℕ = bind_key x.card.lport x.card.net in
+      comes_asks t key request (λ answer. next) (answer_at t.buckets key request) P refl
+      (h (asked_at t.buckets key request) (subst (λ (k : ℕ). Left t.buckets (asked_at t.buckets k request) (with_sockets flat (without x.card.name flat.sockets))) (sym st.3) gone.left))
 
 -- a socket has come: the tables mean the list with it, and who stood stands
 pub record Came (t : Tables) (own : Own) (flat : Flat) (m : Mine) : Type 0 where
@@ -93,7 +94,7 @@ module _ (n : ℕ) (own : Own) (t : Tables) (flat : Flat) (mean : TablesMean t f
       (listed : (x : Hashed) (s : Socket) → Replaces flat a x s → Listed x.card.name with_it s) where
     stands_by : (old : Option Hashed) → OldListed a old flat → StandsOld old with_it
     stands_by None h = tt
-    stands_by (Some x) h = (h.0, listed x h.0 h.1, h.1.waits_there, h.1.card (λ (y : Card). y.lport))
+    stands_by (Some x) h = (h.0, listed x h.0 h.1, h.1.waits_there, h.1.card (λ (y : Card). bind_key y.lport y.net))
 
     module _ (slot : ℕ) (old : Option Hashed) (moment : ℕ) (rule : Replace) (is : insert_outcome t.chains card moment rule ≡ put slot old) where
       parts : (keeper t.chains flat mean.chains card moment rule ≡ None) × (free_slot t.chains.slots ≡ Some slot) × (find (waits card) row ≡ old)

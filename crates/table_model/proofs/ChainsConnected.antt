@@ -2,7 +2,7 @@
 use Rattle.std.proofs.Common.{◌≡◌, ℕ, Bool, true, false, ◌&&◌, not, cond, List, find, Option, Some, None, refl, ap, sym, subst, inl, inr}
 use Rattle.sock_card.specs.declared.owner.State.{State}
 use Rattle.sock_card.specs.declared.owner.State.TheVariants as states
-use Rattle.sock_card.specs.Conflict.{is_time_wait}
+use Rattle.sock_card.specs.Conflict.{owner_key, is_time_wait}
 use Rattle.bind_buckets.specs.declared.request.Request.TheVariants as requests
 use Rattle.flat_list.specs.declared.command.End.{End}
 use Rattle.flat_list.specs.declared.command.Reply.TheVariants as replies
@@ -97,7 +97,7 @@ module _ (n : ℕ) (own : Own) (t : Tables) (flat : Flat) (h : Means n own t fla
     pub bound_comes : Comes t (connect_bound flat.header.shape flat.header.seed (connected_to s.owner source to) moment (connect_rule flat.header)) P
     bound_comes =
         attempt n own t flat h.tables h.shape h.sound h.own_is s at (ap is_time_wait bound) (ap kind_of bound) new refl refl moment (rule_of switch) is_kept
-        (taken_same t.chains flat switch moment new.owner h.tables.chains) s.owner.port (requests.ConnectBound s.owner.name source to.addr to.port)
+        (taken_same t.chains flat switch moment new.owner h.tables.chains) (owner_key s.owner) (requests.ConnectBound s.owner.name source to.addr to.port)
         (connect_bound_asked t.buckets flat h.tables.owners h.shape.bind h.sound.names s.owner.name s at (ap is_owner bound) source to.addr to.port new refl)
         (connect_hashed flat.header.shape flat.header.seed new.owner) P (λ slot old. refl)
         (λ name k. comes_ends t (refused (errors.Taken name)) P (good_as true (has_room flat) k refl (record { tables = t; result = refused (errors.Taken name) }) (refl, λ sound. h)))
@@ -165,7 +165,7 @@ module _ (n : ℕ) (own : Own) (t : Tables) (flat : Flat) (h : Means n own t fla
     searched_good (Some port) e (inr c) = subst (λ (b : Bool). GoodReply n own' (room_out port b) e) (sym c.0) (came_at port e c.1)
 
     abbrev suits_as : ℕ → ℕ → Bool
-    suits_as time port = not (is_claimed port flat.sockets) && not (is_taken switch time (at_port port).owner flat.sockets)
+    suits_as time port = not (is_claimed port s.owner.net flat.sockets) && not (is_taken switch time (at_port port).owner flat.sockets)
 
     pub search_comes : Comes t (searching (ports_of own.offsets firsts.Even)) (GoodReply n own' (flat_connect.connect_search flat n s to (Some source)))
     search_comes =

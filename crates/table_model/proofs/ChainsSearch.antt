@@ -1,7 +1,7 @@
 -- `connect` searches through ports: on tables that mean a list it comes to what the list's search comes to.
 use Rattle.std.proofs.Common.{◌≡◌, ℕ, Bool, true, false, ◌&&◌, not, cond, List, [], ◌∷◌, find, Option, Some, None, refl, ap, sym, subst, inl, inr, ◌⊎◌}
 use Rattle.sock_card.specs.declared.owner.State.TheVariants as states
-use Rattle.sock_card.specs.Conflict.{is_time_wait}
+use Rattle.sock_card.specs.Conflict.{bind_key, is_time_wait}
 use Rattle.bind_buckets.specs.declared.request.Request.{Request}
 use Rattle.bind_buckets.specs.declared.request.Request.TheVariants as requests
 use Rattle.bind_buckets.specs.declared.request.Answer.{Answer}
@@ -46,7 +46,7 @@ module _ (n : ℕ) (own : Own) (flat : Flat) (shape : IsShape flat.header) (soun
 
   -- a port that the search takes
   abbrev pub suits : ℕ → Bool
-  suits port = not (is_claimed port flat.sockets) && not (is_taken switch moment (new_at port).owner flat.sockets)
+  suits port = not (is_claimed port s.owner.net flat.sockets) && not (is_taken switch moment (new_at port).owner flat.sockets)
 
   -- the list with the socket from that port, and without what it replaces
   abbrev pub list_at : ℕ → List Socket
@@ -68,10 +68,10 @@ module _ (n : ℕ) (own : Own) (flat : Flat) (shape : IsShape flat.header) (soun
   module _ (port : ℕ) (ports : List ℕ) (t : Tables) (mean : TablesMean t flat) (own_is : OwnMeans n own t flat)
       (later : (t' : Tables) → TablesMean t' flat → OwnMeans n own t' flat → Comes t' (searching ports) (SearchedTo (find suits ports))) where
     abbrev request : Request
-    request = requests.Free port
+    request = requests.Free port s.owner.net
 
     abbrev t1 : Tables
-    t1 = with_buckets t (asked_at t.buckets port request)
+    t1 = with_buckets t (asked_at t.buckets (bind_key port s.owner.net) request)
 
     abbrev then_free : Answer → Asking Did
     then_free = connect_free flat.header.shape flat.header.seed (connected_at s.owner source port to) moment (rule_of switch) (searching ports)
@@ -82,29 +82,29 @@ module _ (n : ℕ) (own : Own) (flat : Flat) (shape : IsShape flat.header) (soun
     abbrev P : Ended Did → Type 0
     P = SearchedTo (find suits (port ∷ ports))
 
-    as_found : (claimed k : Bool) → is_claimed port flat.sockets ≡ claimed → kept ≡ k → (e : Ended Did) → SearchedTo (found_in claimed k port ports) e → P e
+    as_found : (claimed k : Bool) → is_claimed port s.owner.net flat.sockets ≡ claimed → kept ≡ k → (e : Ended Did) → SearchedTo (found_in claimed k port ports) e → P e
     as_found claimed k c q e h =
         subst (λ (b : Bool). SearchedTo (found_in b kept port ports) e) (sym c) (subst (λ (b : Bool). SearchedTo (found_in claimed b port ports) e) (sym q) h)
 
-    free_port : is_claimed port flat.sockets ≡ false → IsDone t.buckets port request flat → Comes t (asks port request then_free) P
+    free_port : is_claimed port s.owner.net flat.sockets ≡ false → IsDone t.buckets (bind_key port s.owner.net) request flat → Comes t (asks (bind_key port s.owner.net) request then_free) P
     free_port free done_so =
-        let stays = stays_asked n own flat t (asked_at t.buckets port request) mean own_is done_so.left in
-        comes_asks t port request then_free answers.Done P done_so.answer
+        let stays = stays_asked n own flat t (asked_at t.buckets (bind_key port s.owner.net) request) mean own_is done_so.left in
+        comes_asks t (bind_key port s.owner.net) request then_free answers.Done P done_so.answer
         (attempt n own t1 flat stays.0 shape sound stays.1 s at (ap is_time_wait unbound) (ap kind_of unbound) (new_at port) refl refl moment (rule_of switch) kept
-        (taken_same t1.chains flat switch moment (new_at port).owner stays.0.chains) port (requests.ConnectAuto (new_at port).owner)
+        (taken_same t1.chains flat switch moment (new_at port).owner stays.0.chains) (bind_key port s.owner.net) (requests.ConnectAuto (new_at port).owner)
         (connect_auto_asked t1.buckets flat stays.0.owners shape.bind sound.names (new_at port) s at (ap is_owner unbound) refl)
         (connect_tried flat.header.shape flat.header.seed (new_at port).owner (searching ports)) P (λ slot old. refl)
         (λ name k. comes_weaken t1 (searching ports) (SearchedTo (find suits ports)) P (λ e h. as_found false true free k e h) (later t1 stays.0 stays.1))
         (λ k room. comes_ends t1 (refused (errors.Full flat.header.shape.slots 0)) P (as_found false false free k (record { tables = t1; result = refused (errors.Full flat.header.shape.slots 0) }) (inl (room, refl, stays))))
         (λ e k room h. as_found false false free k e (inr (room, h))))
 
-    claimed_port : is_claimed port flat.sockets ≡ true → IsNotFree t.buckets port request flat → Comes t (asks port request then_free) P
+    claimed_port : is_claimed port s.owner.net flat.sockets ≡ true → IsNotFree t.buckets (bind_key port s.owner.net) request flat → Comes t (asks (bind_key port s.owner.net) request then_free) P
     claimed_port claimed not_so =
-        let stays = stays_asked n own flat t (asked_at t.buckets port request) mean own_is not_so.left in
-        comes_asks t port request then_free (answers.NotFree not_so.other) P not_so.answer
+        let stays = stays_asked n own flat t (asked_at t.buckets (bind_key port s.owner.net) request) mean own_is not_so.left in
+        comes_asks t (bind_key port s.owner.net) request then_free (answers.NotFree not_so.other) P not_so.answer
         (comes_weaken t1 (searching ports) (SearchedTo (find suits ports)) P (λ e h. as_found true kept claimed refl e h) (later t1 stays.0 stays.1))
 
-    tried : ((is_claimed port flat.sockets ≡ false) × IsDone t.buckets port request flat) ⊎ ((is_claimed port flat.sockets ≡ true) × IsNotFree t.buckets port request flat) → Comes t (asks port request then_free) P
+    tried : ((is_claimed port s.owner.net flat.sockets ≡ false) × IsDone t.buckets (bind_key port s.owner.net) request flat) ⊎ ((is_claimed port s.owner.net flat.sockets ≡ true) × IsNotFree t.buckets (bind_key port s.owner.net) request flat) → Comes t (asks (bind_key port s.owner.net) request then_free) P
     tried (inl x) = free_port x.0 x.1
     tried (inr x) = claimed_port x.0 x.1
 
@@ -112,4 +112,4 @@ module _ (n : ℕ) (own : Own) (flat : Flat) (shape : IsShape flat.header) (soun
   pub searched_to : (ports : List ℕ) (t : Tables) → TablesMean t flat → OwnMeans n own t flat → Comes t (searching ports) (SearchedTo (find suits ports))
   searched_to [] t mean own_is = comes_ends t (refused errors.NoPort) (SearchedTo None) (refl, (mean, own_is))
   searched_to (port ∷ ports) t mean own_is =
-      tried port ports t mean own_is (λ t' m o. searched_to ports t' m o) (free_asked t.buckets flat mean.owners shape.bind port)
+      tried port ports t mean own_is (λ t' m o. searched_to ports t' m o) (free_asked t.buckets flat mean.owners shape.bind port s.owner.net)

@@ -36,21 +36,21 @@ abbrev is_tuple_kind : Kind → Bool
 is_tuple_kind kind = is_full_kind kind || is_time_wait_kind kind
 
 home_kinds : (shape : Shape) (seed : ℕ) (a b : Card) (j k : Kind) → is_tuple_kind j ≡ true → is_tuple_kind k ≡ true
-    → a.local ≡ b.local → a.lport ≡ b.lport → a.remote ≡ b.remote → a.rport ≡ b.rport → home_as j shape seed a ≡ home_as k shape seed b
-home_kinds shape seed a b kinds.Listen k x y p q r s = absurd (cc)
-home_kinds shape seed a b kinds.Full kinds.Listen x y p q r s = absurd (cc)
-home_kinds shape seed a b kinds.TimeWait kinds.Listen x y p q r s = absurd (cc)
-home_kinds shape seed a b kinds.Full kinds.Full x y p q r s = rw (p, q, r, s) refl
-home_kinds shape seed a b kinds.Full kinds.TimeWait x y p q r s = rw (p, q, r, s) refl
-home_kinds shape seed a b kinds.TimeWait kinds.Full x y p q r s = rw (p, q, r, s) refl
-home_kinds shape seed a b kinds.TimeWait kinds.TimeWait x y p q r s = rw (p, q, r, s) refl
+    → a.local ≡ b.local → a.lport ≡ b.lport → a.remote ≡ b.remote → a.rport ≡ b.rport → a.net ≡ b.net → home_as j shape seed a ≡ home_as k shape seed b
+home_kinds shape seed a b kinds.Listen k x y p q r s o = absurd (cc)
+home_kinds shape seed a b kinds.Full kinds.Listen x y p q r s o = absurd (cc)
+home_kinds shape seed a b kinds.TimeWait kinds.Listen x y p q r s o = absurd (cc)
+home_kinds shape seed a b kinds.Full kinds.Full x y p q r s o = rw (p, q, r, s, o) refl
+home_kinds shape seed a b kinds.Full kinds.TimeWait x y p q r s o = rw (p, q, r, s, o) refl
+home_kinds shape seed a b kinds.TimeWait kinds.Full x y p q r s o = rw (p, q, r, s, o) refl
+home_kinds shape seed a b kinds.TimeWait kinds.TimeWait x y p q r s o = rw (p, q, r, s, o) refl
 
 -- cards of one four-tuple have one home, unless one listens
 same_home : (shape : Shape) (seed : ℕ) (a b : Card) → is_tuple_kind a.kind ≡ true → is_tuple_kind b.kind ≡ true → same_cards a b ≡ true → home shape seed b ≡ home shape seed a
 unfolding home
 same_home shape seed a b x y h =
     let parts = parts_agree (tuple_of a) (tuple_of b) h in
-    sym (home_kinds shape seed a b a.kind b.kind x y parts.local parts.lport parts.remote parts.rport)
+    sym (home_kinds shape seed a b a.kind b.kind x y parts.local parts.lport parts.remote parts.rport parts.net)
 
 keeps_kind : (kind : Kind) (replaced : Bool) → (is_full_kind kind || is_time_wait_kind kind && not replaced) ≡ true → is_tuple_kind kind ≡ true
 keeps_kind kinds.Full replaced h = refl

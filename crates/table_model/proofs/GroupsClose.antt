@@ -10,7 +10,7 @@ use Rattle.sock_card.specs.declared.card.Kind.{Kind}
 use Rattle.sock_card.specs.declared.card.Kind.TheVariants as kinds
 use Rattle.sock_card.specs.declared.owner.State.{State}
 use Rattle.sock_card.specs.declared.owner.State.TheVariants as states
-use Rattle.sock_card.specs.Conflict.{is_time_wait, is_listening}
+use Rattle.sock_card.specs.Conflict.{owner_key, is_time_wait, is_listening}
 use Rattle.bind_buckets.specs.declared.request.Answer.{Answer}
 use Rattle.bind_buckets.specs.declared.request.Request.TheVariants as requests
 use Rattle.chain_book.specs.declared.outcome.Place.{Place}
@@ -175,11 +175,11 @@ module _ (n : ℕ) (own : Own) (t : Tables) (flat : Flat) (h : Means n own t fla
           (some_unhashed between flat.header.shape flat.header.seed (λ f. weighing flat f + f card) held place.bucket (stands_test m) x found v (λ e. d (sym e ∙ there.1.name))
           (some_placed t.chains home slot card v inside st))
 
-      asked : IsDone t.buckets s.owner.port (requests.ToTimeWait name) after
+      asked : IsDone t.buckets (owner_key s.owner) (requests.ToTimeWait name) after
       asked = to_time_wait_asked t.buckets flat h.tables.owners h.shape.bind h.sound.names name s at owner new refl
 
       abbrev left : Tables
-      left = record { buckets = asked_at t.buckets s.owner.port (requests.ToTimeWait name); chains = chains }
+      left = record { buckets = asked_at t.buckets (owner_key s.owner) (requests.ToTimeWait name); chains = chains }
 
       abbrev waiter : Mine
       waiter = waits_in flat.header.shape flat.header.seed w slot

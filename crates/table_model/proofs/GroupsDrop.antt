@@ -5,7 +5,7 @@ use Rattle.sock_card.specs.declared.card.Kind.{Kind}
 use Rattle.sock_card.specs.declared.card.Kind.TheVariants as kinds
 use Rattle.sock_card.specs.declared.owner.State.{State}
 use Rattle.sock_card.specs.declared.owner.State.TheVariants as states
-use Rattle.sock_card.specs.Conflict.{is_time_wait}
+use Rattle.sock_card.specs.Conflict.{owner_key, is_time_wait}
 use Rattle.bind_buckets.specs.declared.request.Answer.{Answer}
 use Rattle.bind_buckets.specs.declared.request.Answer.TheVariants as answers
 use Rattle.bind_buckets.specs.declared.request.Request.TheVariants as requests
@@ -44,16 +44,16 @@ module _ (n : ℕ) (own : Own) (t : Tables) (flat : Flat) (h : Means n own t fla
   left_own = commands.answers (own_words.without own s.owner.name) reply
 
   abbrev pub removal : (Answer → Asking Replied) → Asking Replied
-  removal then_ = asks s.owner.port (requests.Remove s.owner.name) then_
+  removal then_ = asks (owner_key s.owner) (requests.Remove s.owner.name) then_
 
-  answered : is_owner s.owner.state ≡ true → answer_at t.buckets s.owner.port (requests.Remove s.owner.name) ≡ answers.Done
+  answered : is_owner s.owner.state ≡ true → answer_at t.buckets (owner_key s.owner) (requests.Remove s.owner.name) ≡ answers.Done
   answered owner = remove_answer t.buckets flat h.tables.owners h.shape.bind h.sound.names s.owner.name s at owner
 
   -- its card is unhashed, and it leaves its port
   pub carried_unhashed : (kind : Kind) (then_ : Answer → Asking Replied) → is_owner s.owner.state ≡ true → kind_of s.owner.state ≡ Some kind → then_ answers.Done ≡ ends left_own
       → Carried n t (unhashes place (card_of kind m) (removal then_)) (removed flat s reply)
   carried_unhashed kind then_ owner is done =
-      let t' : Tables = record { buckets = asked_at t.buckets s.owner.port (requests.Remove s.owner.name); chains = unhashed t.chains place } in
+      let t' : Tables = record { buckets = asked_at t.buckets (owner_key s.owner) (requests.Remove s.owner.name); chains = unhashed t.chains place } in
       record {
         ended = record { tables = t'; result = left_own };
         runs = ap (λ (answer : Answer). run t' (then_ answer)) (answered owner) ∙ ap (run t') done;
@@ -66,7 +66,7 @@ module _ (n : ℕ) (own : Own) (t : Tables) (flat : Flat) (h : Means n own t fla
   pub carried_leave : (then_ : Answer → Asking Replied) → is_owner s.owner.state ≡ true → kind_of s.owner.state ≡ None → then_ answers.Done ≡ ends left_own
       → Carried n t (removal then_) (removed flat s reply)
   carried_leave then_ owner none done =
-      let t' : Tables = record { buckets = asked_at t.buckets s.owner.port (requests.Remove s.owner.name); chains = t.chains } in
+      let t' : Tables = record { buckets = asked_at t.buckets (owner_key s.owner) (requests.Remove s.owner.name); chains = t.chains } in
       record {
         ended = record { tables = t'; result = left_own };
         runs = ap (λ (answer : Answer). run t' (then_ answer)) (answered owner) ∙ ap (run t') done;

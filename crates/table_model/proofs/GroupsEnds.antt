@@ -1,5 +1,7 @@
 -- The plan of `listen` comes to an end on tables that mean a list, however many labels there are.
 use Rattle.std.proofs.Common.{◌≡◌, ℕ, ◌%◌, ◌≤◌, Bool, true, false, cond, ltb, List, length, find, Option, None, Some, ◌⊎◌, inl, inr, refl, ap, sym, ◌∙◌, subst}
+use Rattle.sock_card.specs.Limits.{group_room}
+use Rattle.sock_card.specs.Conflict.{owner_key}
 use Rattle.list_words.specs.Lists.{Pairs}
 use Rattle.sock_card.specs.declared.owner.Owner.{Owner}
 use Rattle.sock_card.specs.declared.owner.State.{State}
@@ -56,14 +58,14 @@ module _ (flat : Flat) (some : 1 ≤ flat.header.shape.bind) (names : Pairs Name
   -- a port is given up
   gives_up : (t : Tables) → OwnersMean t.buckets flat → (end : OpEnd) → ComesToEnd t (give_up true a end)
   gives_up t om end =
-      let t' : Tables = with_buckets t (asked_at t.buckets a.port (requests.Remove a.name)) in
+      let t' : Tables = with_buckets t (asked_at t.buckets (owner_key a) (requests.Remove a.name)) in
       (record { tables = t'; result = refused end }, ap (λ (x : Answer). run t' (when_done (ends (refused end)) x)) (remove_answer t.buckets flat om some names a.name s at owner))
 
   -- a listener finds a slot, or none
   slotted : (t : Tables) → OwnersMean t.buckets flat → (l : Mine) (o : Option ℕ) → ComesToEnd (with_chains t (hashed t.chains (card_of kinds.Listen l) (slot_outcome t.chains o None))) (listen_hashed shape seed true a l (slot_outcome t.chains o None))
   slotted t om l None = gives_up t om (errors.Full (length t.chains.slots.used) 0)
   slotted t om l (Some slot) =
-      let t' : Tables = with_buckets (with_chains t (hashed t.chains (card_of kinds.Listen l) (slot_outcome t.chains (Some slot) None))) (asked_at t.buckets a.port (requests.Listen a.name slot)) in
+      let t' : Tables = with_buckets (with_chains t (hashed t.chains (card_of kinds.Listen l) (slot_outcome t.chains (Some slot) None))) (asked_at t.buckets (owner_key a) (requests.Listen a.name slot)) in
       (record { tables = t'; result = done (listens_in shape seed l slot) }, ap (λ (x : Answer). run t' (when_done (ends (done (listens_in shape seed l slot))) x)) (listen_answer t.buckets flat om some names a.name s at owner slot))
 
   in_group : (t : Tables) → OwnersMean t.buckets flat → (group : Option ℕ) → ComesToEnd t (listen_answered shape seed true a (answers.Group group))
@@ -75,19 +77,19 @@ module _ (flat : Flat) (some : 1 ≤ flat.header.shape.bind) (names : Pairs Name
 
   by_place : (t : Tables) → OwnersMean t.buckets flat → (number : ℕ) (h : Held) (place : Option ℕ) → ComesToEnd t (listen_answered shape seed true a (group_answer number h place))
   by_place t om number h None = gives_up t om errors.GroupsFull
-  by_place t om number h (Some place) = by_room t om (Some (group_number number place)) (ltb (length (members_at h place)) 16)
+  by_place t om number h (Some place) = by_room t om (Some (group_number number place)) (ltb (length (members_at h place)) group_room)
 
   by_sharing : (t : Tables) → OwnersMean t.buckets flat → (number : ℕ) (h : Held) (b : Bool) → ComesToEnd t (listen_answered shape seed true a (cond b (group_answer number h (place_for h a)) (answers.Group None)))
   by_sharing t om number h true = by_place t om number h (place_for h a)
   by_sharing t om number h false = in_group t om None
 
-  by_asked : (t : Tables) → {free in_way : Type 0} → (free × MayTry t.buckets a.port (requests.MayListen a.name) a flat) ⊎ (in_way × IsInUse t.buckets a.port (requests.MayListen a.name) flat) → ComesToEnd t (listen_at shape seed true a)
+  by_asked : (t : Tables) → {free in_way : Type 0} → (free × MayTry t.buckets (owner_key a) (requests.MayListen a.name) a flat) ⊎ (in_way × IsInUse t.buckets (owner_key a) (requests.MayListen a.name) flat) → ComesToEnd t (listen_at shape seed true a)
   by_asked t (inl x) =
-      let t' : Tables = with_buckets t (asked_at t.buckets a.port (requests.MayListen a.name)) in
+      let t' : Tables = with_buckets t (asked_at t.buckets (owner_key a) (requests.MayListen a.name)) in
       subst (λ (y : Answer). ComesToEnd t' (listen_answered shape seed true a y)) (sym x.1.answer)
-      (by_sharing t' x.1.left.owners (a.port % length t.buckets) (standing_at t.buckets a.port).held a.reuseport)
+      (by_sharing t' x.1.left.owners ((owner_key a) % length t.buckets) (standing_at t.buckets (owner_key a)).held a.reuseport)
   by_asked t (inr x) =
-      let t' : Tables = with_buckets t (asked_at t.buckets a.port (requests.MayListen a.name)) in
+      let t' : Tables = with_buckets t (asked_at t.buckets (owner_key a) (requests.MayListen a.name)) in
       subst (λ (y : Answer). ComesToEnd t' (listen_answered shape seed true a y)) (sym x.1.answer) (gives_up t' x.1.left.owners (errors.InUse x.1.other))
 
   -- once it has its port

@@ -10,7 +10,7 @@ use Rattle.sock_card.specs.declared.card.Kind.TheVariants as kinds
 use Rattle.sock_card.specs.declared.owner.Owner.{Owner}
 use Rattle.sock_card.specs.declared.owner.State.{State}
 use Rattle.sock_card.specs.declared.owner.State.TheVariants as states
-use Rattle.sock_card.specs.Conflict.{is_listening}
+use Rattle.sock_card.specs.Conflict.{owner_key, is_listening}
 use Rattle.bind_buckets.specs.declared.request.Request.TheVariants as requests
 use Rattle.chain_book.specs.declared.outcome.Hashed.{Hashed}
 use Rattle.chain_book.specs.Chains.{Chains, unhashed}
@@ -165,15 +165,15 @@ module _ (n : ℕ) (own : Own) (t : Tables) (flat : Flat) (h : Means n own t fla
 
   -- the socket leaves its port, and is gone
   pub leaves_port : is_owner s.owner.state ≡ true → (chains : Chains) → HasLeft chains → IsSound left
-      → Means n own' (record { buckets = asked_at t.buckets s.owner.port (requests.Remove name); chains = chains }) left
+      → Means n own' (record { buckets = asked_at t.buckets (owner_key s.owner) (requests.Remove name); chains = chains }) left
   leaves_port owner chains has sound =
       let om = remove_means t.buckets flat h.tables.owners h.shape.bind h.sound.names name s at owner in
-      let t' : Tables = record { buckets = asked_at t.buckets s.owner.port (requests.Remove name); chains = chains } in
+      let t' : Tables = record { buckets = asked_at t.buckets (owner_key s.owner) (requests.Remove name); chains = chains } in
       record {
         shape = h.shape;
         sound = sound;
         tables = record {
-          owners = record { count = om.count; owners = om.owners; ports = om.ports };
+          owners = record { count = om.count; owners = om.owners; keys = om.keys };
           chains = has.means;
           groups = removed_means t flat h.tables.owners h.tables.groups h.shape.bind h.sound name s at owner small chains left refl sound gone (λ w g d sw. has.words w d sw);
         };
@@ -193,7 +193,7 @@ module _ (n : ℕ) (own : Own) (t : Tables) (flat : Flat) (h : Means n own t fla
           owners = record {
             count = h.tables.owners.count;
             owners = λ f. omega (arith, h.tables.owners.owners f, without_weighs name (owns f) s flat.sockets h.sound.names at, ap (λ (b : Bool). cond {A = ℕ} b (f s.owner) 0) unbound);
-            ports = h.tables.owners.ports;
+            keys = h.tables.owners.keys;
           };
           chains = has.means;
           groups = groups_stay t t flat left h.tables.groups refl none_leave (λ m g st. st);

@@ -5,12 +5,13 @@ use Rattle.std.proofs.lemmas.Bool.{cond-true, cond-false, lt-ltb, eqb-false, cas
 use Rattle.std.proofs.lemmas.List.{get_or-set_same, length-set}
 use Rattle.list_words.specs.Lists.{Each, Pairs, total}
 use Rattle.list_words.proofs.EachLemmas.{each_weaken}
+use Rattle.sock_card.specs.Limits.{group_room}
 use Rattle.sock_card.specs.declared.card.Card.{Card}
 use Rattle.sock_card.specs.declared.card.Kind.{Kind}
 use Rattle.sock_card.specs.declared.card.Kind.TheVariants as kinds
 use Rattle.sock_card.specs.declared.owner.Owner.{Owner}
 use Rattle.sock_card.specs.declared.owner.State.TheVariants as states
-use Rattle.sock_card.specs.Conflict.{is_time_wait, is_listening}
+use Rattle.sock_card.specs.Conflict.{owner_key, is_time_wait, is_listening}
 use Rattle.bind_buckets.specs.declared.request.Answer.{Answer}
 use Rattle.bind_buckets.specs.declared.request.Answer.TheVariants as answers
 use Rattle.bind_buckets.specs.declared.request.Request.TheVariants as requests
@@ -124,7 +125,7 @@ module _ (n : ℕ) (own : Own) (t : Tables) (flat : Flat) (h : Means n own t fla
 
   -- once it was asked whether it may
   abbrev buckets : List Standing
-  buckets = asked_at t.buckets a.port (requests.MayListen a.name)
+  buckets = asked_at t.buckets (owner_key a) (requests.MayListen a.name)
 
   abbrev t1 : Tables
   t1 = with_buckets t buckets
@@ -154,11 +155,11 @@ module _ (n : ℕ) (own : Own) (t : Tables) (flat : Flat) (h : Means n own t fla
 
     -- with that group, or none
     module _ (group : Option ℕ) (groups : List Group) (with_groups : groups_with flat s ≡ Some groups)
-        (answer : answer_at t.buckets a.port (requests.MayListen a.name) ≡ answers.Group group)
+        (answer : answer_at t.buckets (owner_key a) (requests.MayListen a.name) ≡ answers.Group group)
         (extra : extra_of a.name groups ≡ option_map_or (λ (g : ℕ). g + 1) group 0)
         (extras : (k : ℕ) → a.name ≢ k → extra_of k groups ≡ extra_of k flat.groups)
         (grouped : (slot : ℕ) (chains : Chains) → ((m : ℕ) → stands_in_some m t.chains.rows ≡ true → stands_in_some m chains.rows ≡ true) → stands_in_some (member slot a.name) chains.rows ≡ true
-        → GroupsMean (record { buckets = asked_at buckets a.port (requests.Listen a.name slot); chains = chains }) (after groups)) where
+        → GroupsMean (record { buckets = asked_at buckets (owner_key a) (requests.Listen a.name slot); chains = chains }) (after groups)) where
       abbrev l : Mine
       l = listener a group
 
@@ -227,7 +228,7 @@ module _ (n : ℕ) (own : Own) (t : Tables) (flat : Flat) (h : Means n own t fla
         result = listens_in flat.header.shape flat.header.seed l slot
 
         abbrev t2 : Tables
-        t2 = record { buckets = asked_at buckets a.port (requests.Listen a.name slot); chains = chains }
+        t2 = record { buckets = asked_at buckets (owner_key a) (requests.Listen a.name slot); chains = chains }
 
         at_home : result.place.bucket ≡ bucket
         at_home = ap (λ (x : Shape). home x flat.header.seed card) (sym h.tables.chains.shape) ∙ ap (λ (k : ℕ). home t.chains.shape k card) (sym h.tables.chains.seed)
@@ -243,7 +244,7 @@ module _ (n : ℕ) (own : Own) (t : Tables) (flat : Flat) (h : Means n own t fla
         own_listens : OwnMeans n (with_socket own result) t2 (record flat { sockets = put (listening s) flat.sockets })
         own_listens = own_put n own t t2 flat (listening s) s result h.own_is names at refl refl (ap is_time_wait bound) refl stands others
 
-        owners_listen : OwnersMean (asked_at buckets a.port (requests.Listen a.name slot)) (record flat { sockets = put (listening s) flat.sockets })
+        owners_listen : OwnersMean (asked_at buckets (owner_key a) (requests.Listen a.name slot)) (record flat { sockets = put (listening s) flat.sockets })
         owners_listen = listen_means buckets flat om h.shape.bind names a.name s at owner slot (listening s) refl
 
         chains_listen : ChainsMean chains (after groups)
@@ -263,7 +264,7 @@ module _ (n : ℕ) (own : Own) (t : Tables) (flat : Flat) (h : Means n own t fla
             shape = h.shape;
             sound = sound;
             tables = record {
-              owners = record { count = owners_listen.count; owners = owners_listen.owners; ports = owners_listen.ports };
+              owners = record { count = owners_listen.count; owners = owners_listen.owners; keys = owners_listen.keys };
               chains = chains_listen;
               groups = grouped slot chains (λ m st. some_placed t.chains bucket slot card m inside st) (stands_new t.chains bucket slot card inside small);
             };
@@ -290,25 +291,25 @@ module _ (n : ℕ) (own : Own) (t : Tables) (flat : Flat) (h : Means n own t fla
 
     -- what the bucket answers, by what it holds then
     abbrev there : Held
-    there = (standing_at buckets a.port).held
+    there = (standing_at buckets (owner_key a)).held
 
-    answer_then : answer_at t.buckets a.port (requests.MayListen a.name) ≡ listener_answer (a.port % length t.buckets) (standing_at t.buckets a.port).held a None
-        → answer_at t.buckets a.port (requests.MayListen a.name) ≡ listener_answer (a.port % length buckets) there a None
+    answer_then : answer_at t.buckets (owner_key a) (requests.MayListen a.name) ≡ listener_answer ((owner_key a) % length t.buckets) (standing_at t.buckets (owner_key a)).held a None
+        → answer_at t.buckets (owner_key a) (requests.MayListen a.name) ≡ listener_answer ((owner_key a) % length buckets) there a None
     answer_then e =
         e
-        ∙ (ap (λ (x : Held). listener_answer (a.port % length t.buckets) x a None) (sym (held_same t.buckets a.port a.name (near t.buckets flat h.tables.owners h.shape.bind a.port)))
-        ∙ ap (λ (k : ℕ). listener_answer (a.port % k) there a None) (sym (length-set t.buckets (a.port % length t.buckets) (asked (a.port % length t.buckets) (standing_at t.buckets a.port) (requests.MayListen a.name)))))
+        ∙ (ap (λ (x : Held). listener_answer ((owner_key a) % length t.buckets) x a None) (sym (held_same t.buckets (owner_key a) a.name (near t.buckets flat h.tables.owners h.shape.bind (owner_key a))))
+        ∙ ap (λ (k : ℕ). listener_answer ((owner_key a) % k) there a None) (sym (length-set t.buckets ((owner_key a) % length t.buckets) (asked ((owner_key a) % length t.buckets) (standing_at t.buckets (owner_key a)) (requests.MayListen a.name)))))
 
-    alone : answer_at t.buckets a.port (requests.MayListen a.name) ≡ listener_answer (a.port % length buckets) there a None → a.reuseport ≡ false → Listens ⊎ Refuses
+    alone : answer_at t.buckets (owner_key a) (requests.MayListen a.name) ≡ listener_answer ((owner_key a) % length buckets) there a None → a.reuseport ≡ false → Listens ⊎ Refuses
     alone answer shares =
         in_group None flat.groups
-        (cond-false a.reuseport (join (a.port % flat.header.shape.bind) a.name (mate_of s.owner flat.sockets) flat.groups) (Some flat.groups) shares)
-        (answer ∙ cond-false a.reuseport (group_answer (a.port % length buckets) there (place_for there a)) (answers.Group None) shares)
+        (cond-false a.reuseport (join ((owner_key a) % flat.header.shape.bind) a.name (mate_of s.owner flat.sockets) flat.groups) (Some flat.groups) shares)
+        (answer ∙ cond-false a.reuseport (group_answer ((owner_key a) % length buckets) there (place_for there a)) (answers.Group None) shares)
         (none_extra a.name flat.groups outside)
         (λ k d. refl)
         (λ slot chains keeps new. listened_alone t1 flat om gm h.shape.bind h.sound a.name s at owner small chains slot (after flat.groups) shares refl keeps)
 
-    refused_full : (end : OpEnd) (x : Answer) → answer_at t.buckets a.port (requests.MayListen a.name) ≡ x → listen_answered flat.header.shape flat.header.seed took a x ≡ give_up took a end → bind_error end ≡ replies.Emfile
+    refused_full : (end : OpEnd) (x : Answer) → answer_at t.buckets (owner_key a) (requests.MayListen a.name) ≡ x → listen_answered flat.header.shape flat.header.seed took a x ≡ give_up took a end → bind_error end ≡ replies.Emfile
         → groups_with flat s ≡ None → Refuses
     refused_full end x answer gives emfile nowhere = record {
       buckets = buckets;
@@ -318,25 +319,25 @@ module _ (n : ℕ) (own : Own) (t : Tables) (flat : Flat) (h : Means n own t fla
       listed = λ other alike. listed_as None nowhere other alike ∙ ap (unchanged other) (sym emfile);
     }
 
-    by_full : answer_at t.buckets a.port (requests.MayListen a.name) ≡ group_at buckets s → HasNone buckets flat s → (group_at buckets s ≡ answers.GroupFull) ⊎ (group_at buckets s ≡ answers.GroupsFull) → Refuses
+    by_full : answer_at t.buckets (owner_key a) (requests.MayListen a.name) ≡ group_at buckets s → HasNone buckets flat s → (group_at buckets s ≡ answers.GroupFull) ⊎ (group_at buckets s ≡ answers.GroupsFull) → Refuses
     by_full answer r (inl e) = refused_full errors.GroupFull answers.GroupFull (answer ∙ e) refl refl r.listed
     by_full answer r (inr e) = refused_full errors.GroupsFull answers.GroupsFull (answer ∙ e) refl refl r.listed
 
-    by_decision : answer_at t.buckets a.port (requests.MayListen a.name) ≡ group_at buckets s → a.reuseport ≡ true → Decided buckets flat s → Listens ⊎ Refuses
+    by_decision : answer_at t.buckets (owner_key a) (requests.MayListen a.name) ≡ group_at buckets s → a.reuseport ≡ true → Decided buckets flat s → Listens ⊎ Refuses
     by_decision answer shares (room place groups r) =
-        let number : ℕ = a.port % length buckets in
+        let number : ℕ = (owner_key a) % length buckets in
         in_group (Some (group_number number place)) groups r.listed
-        (answer ∙ (ap (group_answer number there) r.there ∙ cond-true (ltb (length (members_at there place)) 16) (answers.Group (Some (group_number number place))) answers.GroupFull (lt-ltb (length (members_at there place)) 16 r.less)))
+        (answer ∙ (ap (group_answer number there) r.there ∙ cond-true (ltb (length (members_at there place)) group_room) (answers.Group (Some (group_number number place))) answers.GroupFull (lt-ltb (length (members_at there place)) group_room r.less)))
         r.extra r.extras
         (λ slot chains keeps new. listened t1 flat om gm h.shape.bind h.sound a.name s at owner small chains slot place groups (after groups) shares r refl keeps new)
     by_decision answer shares (none r) = inr (by_full answer r r.answer)
 
-    by_sharing : (b : Bool) → a.reuseport ≡ b → answer_at t.buckets a.port (requests.MayListen a.name) ≡ listener_answer (a.port % length buckets) there a None → Listens ⊎ Refuses
+    by_sharing : (b : Bool) → a.reuseport ≡ b → answer_at t.buckets (owner_key a) (requests.MayListen a.name) ≡ listener_answer ((owner_key a) % length buckets) there a None → Listens ⊎ Refuses
     by_sharing false e answer = alone answer e
     by_sharing true e answer =
         by_decision (answer ∙ cond-true a.reuseport (group_at buckets s) (answers.Group None) e) e (decided t1 flat om gm h.shape.bind h.sound (has_name a.name) s at not_listening e)
 
-  in_use : is_refused a flat.sockets ≡ true → IsInUse t.buckets a.port (requests.MayListen a.name) flat → Refuses
+  in_use : is_refused a flat.sockets ≡ true → IsInUse t.buckets (owner_key a) (requests.MayListen a.name) flat → Refuses
   in_use taken found = record {
     buckets = buckets;
     end = errors.InUse found.other;
@@ -345,7 +346,7 @@ module _ (n : ℕ) (own : Own) (t : Tables) (flat : Flat) (h : Means n own t fla
     listed = λ other alike. ap (λ b. refused_as other b (groups_with other s)) (alike.refuses ∙ taken);
   }
 
-  by_asked : ((is_refused a flat.sockets ≡ false) × MayTry t.buckets a.port (requests.MayListen a.name) a flat) ⊎ ((is_refused a flat.sockets ≡ true) × IsInUse t.buckets a.port (requests.MayListen a.name) flat) → Listens ⊎ Refuses
+  by_asked : ((is_refused a flat.sockets ≡ false) × MayTry t.buckets (owner_key a) (requests.MayListen a.name) a flat) ⊎ ((is_refused a flat.sockets ≡ true) × IsInUse t.buckets (owner_key a) (requests.MayListen a.name) flat) → Listens ⊎ Refuses
   by_asked (inl x) = by_sharing x.1.left x.0 a.reuseport refl (answer_then x.1.left x.0 x.1.answer)
   by_asked (inr x) = inr (in_use x.0 x.1)
 

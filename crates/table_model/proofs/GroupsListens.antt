@@ -8,7 +8,7 @@ use Rattle.list_words.proofs.EachLemmas.{each_weaken, each_found}
 use Rattle.sock_card.specs.declared.owner.Owner.{Owner}
 use Rattle.sock_card.specs.declared.owner.State.{State}
 use Rattle.sock_card.specs.declared.owner.State.TheVariants as states
-use Rattle.sock_card.specs.Conflict.{is_listening, refuses}
+use Rattle.sock_card.specs.Conflict.{owner_key, is_listening, refuses}
 use Rattle.bind_buckets.specs.declared.request.Answer.{Answer}
 use Rattle.bind_buckets.specs.declared.request.Answer.TheVariants as answers
 use Rattle.bind_buckets.specs.declared.request.Request.TheVariants as requests
@@ -225,7 +225,7 @@ module _ (n : ℕ) (own : Own) (t : Tables) (flat : Flat) (h : Means n own t fla
 
     tables' : TablesMean t sections
     tables' = record {
-      owners = record { count = h.tables.owners.count; owners = h.tables.owners.owners; ports = h.tables.owners.ports };
+      owners = record { count = h.tables.owners.count; owners = h.tables.owners.owners; keys = h.tables.owners.keys };
       chains = cards_kept t.chains flat sections refl (λ f. refl) h.tables.chains;
       groups = groups_kept t t.buckets flat sections refl refl h.tables.groups;
     }
@@ -237,6 +237,9 @@ module _ (n : ℕ) (own : Own) (t : Tables) (flat : Flat) (h : Means n own t fla
         (sound1 : IsSound (with_sockets sections (put (at_port s 0 port) flat.sockets))) where
       abbrev s1 : Socket
       s1 = at_port s 0 port
+
+      abbrev key : ℕ
+      key = owner_key s1.owner
 
       abbrev flat1 : Flat
       flat1 = with_sockets sections (put s1 flat.sockets)
@@ -253,7 +256,7 @@ module _ (n : ℕ) (own : Own) (t : Tables) (flat : Flat) (h : Means n own t fla
       h1 : Means n own1 t1 flat1
       h1 =
           bound_means n own' t sections h.shape tables' own_is' h.sound.names buckets s 0 port at unbound
-          record { owners = record { count = left.owners.count; owners = left.owners.owners; ports = left.owners.ports }; groups = left.groups } sound1
+          record { owners = record { count = left.owners.count; owners = left.owners.owners; keys = left.owners.keys }; groups = left.groups } sound1
 
       at1 : Listed s.owner.name flat1.sockets s1
       at1 = put_listed s1 s flat.sockets at
@@ -278,7 +281,7 @@ module _ (n : ℕ) (own : Own) (t : Tables) (flat : Flat) (h : Means n own t fla
       alike1 = record {
         header = refl;
         refuses = sym (refused_put s1.owner s1 flat.sockets refl);
-        groups = ap (λ o. cond s1.owner.reuseport (join (s1.owner.port % flat.header.shape.bind) s1.owner.name o flat.groups) (Some flat.groups)) same_mate;
+        groups = ap (λ o. cond s1.owner.reuseport (join ((owner_key s1.owner) % flat.header.shape.bind) s1.owner.name o flat.groups) (Some flat.groups)) same_mate;
         slot = ap (λ k. ltb k flat.header.shape.slots) (sym same_slots);
       }
 
@@ -291,7 +294,7 @@ module _ (n : ℕ) (own : Own) (t : Tables) (flat : Flat) (h : Means n own t fla
       -- once it gave its port up again
       module _ (taken : List Standing) (left1 : Left t1.buckets taken flat1) where
         abbrev given_up : List Standing
-        given_up = asked_at taken port (requests.Remove s.owner.name)
+        given_up = asked_at taken key (requests.Remove s.owner.name)
 
         om : OwnersMean taken flat1
         om = left1.owners
@@ -310,40 +313,40 @@ module _ (n : ℕ) (own : Own) (t : Tables) (flat : Flat) (h : Means n own t fla
                 put_weighs s1 (owns f) s flat.sockets h.sound.names at,
                 ap (λ (st : State). cond {A = ℕ} (is_owner st) (f s.owner) 0) unbound,
               );
-          ports = removed_mean.ports;
+          keys = removed_mean.keys;
         }
 
         gm : GroupsMean (with_buckets t taken) flat1
         gm = groups_kept t taken flat flat1 (left1.groups ∙ left.groups) refl h.tables.groups
 
         abbrev number : ℕ
-        number = port % length taken
+        number = key % length taken
 
         inside : number < length taken
-        inside = near taken flat1 om h.shape.bind port
+        inside = near taken flat1 om h.shape.bind key
 
         ungrouped : Each (λ g. has_member s.owner.name g ≡ false) flat.groups
         ungrouped = in_no_group flat h.sound (has_name s.owner.name) s at (ap (λ (st : State). is_listening st && s.owner.reuseport) unbound)
 
-        unmoved : change_first (is_member s.owner.name) (left_in s.owner.name) (standing_at taken port).held.groups ≡ (standing_at taken port).held.groups
+        unmoved : change_first (is_member s.owner.name) (left_in s.owner.name) (standing_at taken key).held.groups ≡ (standing_at taken key).held.groups
         unmoved =
-            let eight : length (standing_at taken port).held.groups ≡ 8 = each_at (λ (x : Standing). length x.held.groups ≡ 8) taken number untouched gm.places inside in
-            change_none (is_member s.owner.name) (left_in s.owner.name) (standing_at taken port).held.groups
-            (each_by_place (λ ms. is_member s.owner.name ms ≡ false) (standing_at taken port).held.groups []
+            let eight : length (standing_at taken key).held.groups ≡ 8 = each_at (λ (x : Standing). length x.held.groups ≡ 8) taken number untouched gm.places inside in
+            change_none (is_member s.owner.name) (left_in s.owner.name) (standing_at taken key).held.groups
+            (each_by_place (λ ms. is_member s.owner.name ms ≡ false) (standing_at taken key).held.groups []
             (λ k l.
-            any_names s.owner.name (get_or (standing_at taken port).held.groups k [])
+            any_names s.owner.name (get_or (standing_at taken key).held.groups k [])
             ∙ (ap (list_any (is_name s.owner.name)) (gm.members number k inside (omega (arith, l, eight))) ∙ nobody_named s.owner.name (8 * number + k) flat.groups (find (at_number (8 * number + k)) flat.groups) refl ungrouped)))
 
         groups_back : map asking.groups_in given_up ≡ map asking.groups_in t.buckets
         groups_back =
-            asking.groups_stay taken flat1 om h.shape.bind port (requests.Remove s.owner.name)
+            asking.groups_stay taken flat1 om h.shape.bind key (requests.Remove s.owner.name)
             (ap (λ (x : After). x.held.groups) (remove_is taken flat1 om h.shape.bind sound1.names s.owner.name s1 at1 refl) ∙ unmoved)
             ∙ (left1.groups ∙ left.groups)
 
         left_back : Left t.buckets given_up sections
         left_back = record { owners = owners_back; groups = groups_back }
 
-        given_answer : answer_at taken port (requests.Remove s.owner.name) ≡ answers.Done
+        given_answer : answer_at taken key (requests.Remove s.owner.name) ≡ answers.Done
         given_answer = remove_answer taken flat1 om h.shape.bind sound1.names s.owner.name s1 at1 refl
 
       by_tried1 : (ports : List ℕ) → run t1 plan1 ≡ run t (searching ports) → Listens n own1 t1 flat1 h1 few s1 at1 mine refl true ⊎ Refuses n own1 t1 flat1 h1 few s1 at1 mine refl true
@@ -375,7 +378,7 @@ module _ (n : ℕ) (own : Own) (t : Tables) (flat : Flat) (h : Means n own t fla
       runs = run_and_then (next own') t (searching ports) ∙ ap (goes_on (next own')) (sym g.runs);
       reply = refl;
       means = unbound_means n own' t sections h.shape tables' own_is' h.sound.names g.buckets
-          record { owners = record { count = g.left.owners.count; owners = g.left.owners.owners; ports = g.left.owners.ports }; groups = g.left.groups };
+          record { owners = record { count = g.left.owners.count; owners = g.left.owners.owners; keys = g.left.owners.keys }; groups = g.left.groups };
     }
     search_by ports (Some port) e g =
         let out : IsSound (bind_found (record { port = Some port; flat = drawn }) s 0 (Some port)).flat =

@@ -4,6 +4,7 @@ use Rattle.std.proofs.Math.ListN.{set}
 use Rattle.std.specs.List.{list_any}
 use Rattle.std.proofs.lemmas.Bool.{both_ways, cond-true, cond-false}
 use Rattle.std.proofs.lemmas.List.{length-set}
+use Rattle.sock_card.specs.Conflict.{owner_key}
 use Rattle.list_words.specs.Lists.{Each, Pairs}
 use Rattle.list_words.proofs.EachLemmas.{each_weaken, each_both, each_found, found_passes, each_push}
 use Rattle.bind_buckets.specs.declared.request.Request.{Request}
@@ -103,7 +104,7 @@ of_bucket number place bucket one l home e = omega arith
 module _ (t : Tables) (flat : Flat) (om : OwnersMean t.buckets flat) (gm : GroupsMean t flat) (some : 1 ≤ flat.header.shape.bind) (sound : IsSound flat)
     (name : ℕ) (s : Socket) (at : Listed name flat.sockets s) (owner : is_owner s.owner.state ≡ true) (small : name < 2 ^ 32) (chains : Chains) where
   abbrev port : ℕ
-  port = s.owner.port
+  port = (owner_key s.owner)
 
   abbrev bucket : ℕ
   bucket = port % length t.buckets
@@ -172,7 +173,7 @@ module _ (t : Tables) (flat : Flat) (om : OwnersMean t.buckets flat) (gm : Group
       let g = group_of_sharing flat sound (has_name name) s at e in
       let has : has_member s.owner.name g.0 ≡ true = found_passes (has_member s.owner.name) flat.groups g.0 g.1.found in
       let home : port % flat.header.shape.bind ≡ g.0.number / 8 =
-      each_found (λ (y : Socket). has_member y.owner.name g.0 ≡ true → y.owner.port % flat.header.shape.bind ≡ g.0.number / 8) (has_name name) flat.sockets s g.1.of.bucket at has in (
+      each_found (λ (y : Socket). has_member y.owner.name g.0 ≡ true → (owner_key y.owner) % flat.header.shape.bind ≡ g.0.number / 8) (has_name name) flat.sockets s g.1.of.bucket at has in (
         g.0.number,
         record {
           home = sym home ∙ ap (λ n. port % n) (sym om.count);

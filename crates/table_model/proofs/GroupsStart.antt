@@ -53,7 +53,7 @@ new_mean_empty header =
       owners = record {
         count = length-replicate bind untouched;
         owners = λ f. total-replicate (λ (s : Standing). total f s.held.owners) bind untouched refl;
-        ports = λ port. rw (get_or-same (header.shape.bind) (port % length (replicate bind untouched)) untouched) tt;
+        keys = λ key. rw (get_or-same (header.shape.bind) (key % length (replicate bind untouched)) untouched) tt;
       };
       chains = record {
         shape = refl;

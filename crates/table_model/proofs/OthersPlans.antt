@@ -2,6 +2,7 @@
 use Rattle.std.proofs.Common.{◌≢◌, ℕ, ◌==◌, ◌+◌, Bool, true, false, List, [], ◌∷◌, Option, None, Some}
 use Rattle.std.specs.Prelude.{nat_lt}
 use Rattle.std.proofs.lemmas.Bool.{cond_both}
+use Rattle.sock_card.specs.Conflict.{bind_key}
 use Rattle.sock_card.specs.declared.owner.Owner.{Owner}
 use Rattle.sock_card.specs.declared.owner.State.{State}
 use Rattle.sock_card.specs.declared.owner.State.TheVariants as states
@@ -88,7 +89,7 @@ module _ (w : Mine) (card : Card) where
   unbound_spares : (a : Owner) (end : End) (ports : List ℕ) → Sp (bind_unbound a end ports)
   unbound_spares a end ports =
       cond_both (end.port == 0) (search_bind a end.addr (bound a end.addr) (ends (refused errors.NoPort)) ports)
-      (asks end.port (requests.Bind (bound_at a end.addr end.port)) (bind_answered a end)) Sp
+      (asks (bind_key end.port a.net) (requests.Bind (bound_at a end.addr end.port)) (bind_answered a end)) Sp
       (λ _. search_spares a end.addr (bound a end.addr) (ends (refused errors.NoPort)) ports (λ port. tt) tt) (λ _. answered_spares a end)
 
   bind_spares : (state : State) (m : Mine) (end : End) (ports : List ℕ) → Sp (bind_as state m end ports)
@@ -244,7 +245,7 @@ module _ (w : Mine) (card : Card) where
     -- of each command, where the socket that a label names stands in another slot
     pub plan_spares : ((label : List ℕ) → AreElsewhere w.place.slot (open_socket own label)) → (command : Command) → Sp (plan header own command)
     unfolding plan
-    plan_spares d (commands.Socket label uid dev reuseaddr reuseport) = tt
+    plan_spares d (commands.Socket label options) = tt
     plan_spares d (commands.Bind label end) = bind_all (open_socket own label) end
     plan_spares d (commands.Listen label) = listen_all (open_socket own label)
     plan_spares d (commands.Connect label from to) = connect_all (open_socket own label) from to
@@ -253,5 +254,5 @@ module _ (w : Mine) (card : Card) where
     plan_spares d (commands.Drop label) = drop_all (open_socket own label) (d label)
     plan_spares d (commands.At moment) = at_all moment
     plan_spares d commands.Reap = spares_then (reap own.waits own.moment) _ (reap_spares _ 0) (λ count. tt)
-    plan_spares d (commands.Look from to dev) = tt
+    plan_spares d (commands.Look query) = tt
     plan_spares d (commands.Packets count) = tt

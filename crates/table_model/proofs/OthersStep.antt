@@ -220,8 +220,7 @@ module _ (n m : ℕ) (apart : m ≢ n) (other : Own) (t : Tables) (flat : Flat) 
   -- after any command of section n
   pub step_rest : (c : Command) → length (labels_of n flat.sections) + 1 < 2 ^ 24 → R (step flat n c).flat.sockets
   unfolding step
-  step_rest (commands.Socket label uid dev reuseaddr reuseport) few =
-      let options : Options = record { uid = uid; dev = dev; reuseaddr = reuseaddr; reuseport = reuseport } in
+  step_rest (commands.Socket label options) few =
       rest_added n m apart other own_is.given (new_socket (next_name n flat.sections) options) flat.sockets (name_of n (length (labels_of n flat.sections)) few) here
   step_rest (commands.Bind label end) few = bind_all (open_socket flat n label) end (open_of n flat label few)
   step_rest (commands.Listen label) few = listen_all (open_socket flat n label) (open_of n flat label few)
@@ -232,5 +231,5 @@ module _ (n m : ℕ) (apart : m ≢ n) (other : Own) (t : Tables) (flat : Flat) 
   step_rest (commands.Close label) few = close_all (open_socket flat n label) (open_of n flat label few)
   step_rest (commands.At moment) few = at_all moment
   step_rest commands.Reap few = reap_rest
-  step_rest (commands.Look from to dev) few = here
+  step_rest (commands.Look query) few = here
   step_rest (commands.Packets count) few = here

@@ -62,7 +62,7 @@ ListenEnds = (n : ℕ) (own : Own) (t : Tables) (flat : Flat) → Means n own t 
 
 -- each command is carried out
 pub all_carried : ListenCarried → AllCarried
-all_carried listens n own t flat (commands.Socket label uid dev reuseaddr reuseport) near few looks h = socket_carried n own t flat h label uid dev reuseaddr reuseport few
+all_carried listens n own t flat (commands.Socket label options) near few looks h = socket_carried n own t flat h label options few
 all_carried listens n own t flat (commands.Bind label end) near few looks h = bind_carried n own t flat h label end few
 all_carried listens n own t flat (commands.Listen label) near few looks h = listens n own t flat h near label few
 all_carried listens n own t flat (commands.Connect label from to) near few looks h = connect_carried n own t flat h label from to few
@@ -71,7 +71,7 @@ all_carried listens n own t flat (commands.Close label) near few looks h = close
 all_carried listens n own t flat (commands.Drop label) near few looks h = drop_carried n own t flat h near label few
 all_carried listens n own t flat (commands.At moment) near few looks h = at_carried n own t flat h moment
 all_carried listens n own t flat commands.Reap near few looks h = reap_carried n own t flat h near
-all_carried listens n own t flat (commands.Look from to dev) near few looks h = absurd (cc)
+all_carried listens n own t flat (commands.Look query) near few looks h = absurd (cc)
 all_carried listens n own t flat (commands.Packets count) near few looks h = absurd (cc)
 
 -- each refines the list's
@@ -80,7 +80,7 @@ all_refine listens stays = plans_refine stays (all_carried listens)
 
 -- and each comes to an end
 pub all_end : ListenEnds → PlansEnd
-all_end listens n own t flat (commands.Socket label uid dev reuseaddr reuseport) near looks h = socket_ends n own t flat h label uid dev reuseaddr reuseport
+all_end listens n own t flat (commands.Socket label options) near looks h = socket_ends n own t flat h label options
 all_end listens n own t flat (commands.Bind label end) near looks h = bind_ends n own t flat h label end
 all_end listens n own t flat (commands.Listen label) near looks h = listens n own t flat h near label
 all_end listens n own t flat (commands.Connect label from to) near looks h = connect_ends n own t flat h label from to
@@ -89,5 +89,5 @@ all_end listens n own t flat (commands.Close label) near looks h = close_ends n 
 all_end listens n own t flat (commands.Drop label) near looks h = drop_ends n own t flat h near label
 all_end listens n own t flat (commands.At moment) near looks h = at_ends n own t flat h moment
 all_end listens n own t flat commands.Reap near looks h = ends_so n own t flat commands.Reap (step flat n commands.Reap) (reap_carried n own t flat h near)
-all_end listens n own t flat (commands.Look from to dev) near looks h = absurd (cc)
+all_end listens n own t flat (commands.Look query) near looks h = absurd (cc)
 all_end listens n own t flat (commands.Packets count) near looks h = absurd (cc)

@@ -6,7 +6,7 @@ use Rattle.list_words.specs.Lists.{Pairs, total}
 use Rattle.list_words.proofs.EachLemmas.{each_push, some_same}
 use Rattle.list_words.proofs.TotalLemmas.{total-append}
 use Rattle.sock_card.specs.declared.owner.Owner.{Owner}
-use Rattle.sock_card.specs.Conflict.{is_time_wait}
+use Rattle.sock_card.specs.Conflict.{owner_key, is_time_wait}
 use Rattle.bind_buckets.specs.declared.request.Request.{Request}
 use Rattle.bind_buckets.specs.First.{change_first, drop_first}
 use Rattle.bind_buckets.specs.Journal.{Standing, asked}
@@ -75,16 +75,16 @@ module _ (buckets : List Standing) (flat : Flat) (om : OwnersMean buckets flat) 
   -- nothing comes or goes
   pub kept_means : (port : ℕ) (request : Request) → (step_at port request).held ≡ held_at port → OwnersMean (asked_at buckets port request) flat
   kept_means port request is =
-      asked_means port request (held_at port).owners flat.sockets (ap (λ (h : Held). h.owners) is) (λ f. refl) (om.ports port)
+      asked_means port request (held_at port).owners flat.sockets (ap (λ (h : Held). h.owners) is) (λ f. refl) (om.keys port)
 
   module _ (names : Pairs NamesDiffer flat.sockets) where
     -- an owner comes, and one socket has become it
     pub came_means : (request : Request) (new s : Socket) → Listed new.owner.name flat.sockets s → is_owner s.owner.state ≡ false → is_owner new.owner.state ≡ true
-        → (step_at new.owner.port request).held.owners ≡ (held_at new.owner.port).owners ++ new.owner ∷ []
-        → OwnersMean (asked_at buckets new.owner.port request) (with_sockets flat (put new flat.sockets))
+        → (step_at (owner_key new.owner) request).held.owners ≡ (held_at (owner_key new.owner)).owners ++ new.owner ∷ []
+        → OwnersMean (asked_at buckets (owner_key new.owner) request) (with_sockets flat (put new flat.sockets))
     came_means request new s at unbound bound is =
-        let old : List Owner = (held_at new.owner.port).owners in
-        asked_means new.owner.port request (old ++ new.owner ∷ []) (put new flat.sockets) is
+        let old : List Owner = (held_at (owner_key new.owner)).owners in
+        asked_means (owner_key new.owner) request (old ++ new.owner ∷ []) (put new flat.sockets) is
         (λ f. omega (
           arith,
           total-append f old (new.owner ∷ []),
@@ -92,10 +92,10 @@ module _ (buckets : List Standing) (flat : Flat) (om : OwnersMean buckets flat) 
           ap (λ (b : Bool). cond {A = ℕ} b (f s.owner) 0) unbound,
           ap (λ (b : Bool). cond {A = ℕ} b (f new.owner) 0) bound,
         ))
-        (each_push (λ (a : Owner). a.port % length buckets ≡ new.owner.port % length buckets) old new.owner (om.ports new.owner.port) refl)
+        (each_push (λ (a : Owner). (owner_key a) % length buckets ≡ owner_key new.owner % length buckets) old new.owner (om.keys (owner_key new.owner)) refl)
 
     -- an owner comes with a socket of its own
-    pub joined_means : (request : Request) (port : ℕ) (new : Socket) → is_owner new.owner.state ≡ true → new.owner.port ≡ port
+    pub joined_means : (request : Request) (port : ℕ) (new : Socket) → is_owner new.owner.state ≡ true → owner_key new.owner ≡ port
         → (step_at port request).held.owners ≡ (held_at port).owners ++ new.owner ∷ []
         → OwnersMean (asked_at buckets port request) (with_sockets flat (flat.sockets ++ new ∷ []))
     joined_means request port new bound there is =
@@ -107,22 +107,22 @@ module _ (buckets : List Standing) (flat : Flat) (om : OwnersMean buckets flat) 
           total-append (owns f) flat.sockets (new ∷ []),
           ap (λ (b : Bool). cond {A = ℕ} b (f new.owner) 0) bound,
         ))
-        (each_push (λ (a : Owner). a.port % length buckets ≡ port % length buckets) old new.owner (om.ports port) (ap (λ (p : ℕ). p % length buckets) there))
+        (each_push (λ (a : Owner). (owner_key a) % length buckets ≡ port % length buckets) old new.owner (om.keys port) (ap (λ (p : ℕ). p % length buckets) there))
 
     module _ (name : ℕ) (s : Socket) (at : Listed name flat.sockets s) (owner : is_owner s.owner.state ≡ true) where
       -- the first of the name
-      pub first : find (is_owner_named name) (held_at s.owner.port).owners ≡ Some s.owner
+      pub first : find (is_owner_named name) (held_at (owner_key s.owner)).owners ≡ Some s.owner
       first = stands buckets flat om some names name s at owner
 
       -- it becomes another, at the same port
       pub became_means : (request : Request) (change : Owner → Owner) (new : Socket)
-          → (step_at s.owner.port request).held.owners ≡ change_first (is_owner_named name) change (held_at s.owner.port).owners
-          → new.owner ≡ change s.owner → new.owner.name ≡ name → is_owner new.owner.state ≡ true → ((a : Owner) → (change a).port ≡ a.port)
-          → OwnersMean (asked_at buckets s.owner.port request) (with_sockets flat (put new flat.sockets))
+          → (step_at (owner_key s.owner) request).held.owners ≡ change_first (is_owner_named name) change (held_at (owner_key s.owner)).owners
+          → new.owner ≡ change s.owner → new.owner.name ≡ name → is_owner new.owner.state ≡ true → ((a : Owner) → owner_key (change a) ≡ owner_key a)
+          → OwnersMean (asked_at buckets (owner_key s.owner) request) (with_sockets flat (put new flat.sockets))
       became_means request change new is becomes same bound stays =
-          let old : List Owner = (held_at s.owner.port).owners in
+          let old : List Owner = (held_at (owner_key s.owner)).owners in
           let listed : Listed new.owner.name flat.sockets s = subst (λ (k : ℕ). Listed k flat.sockets s) (sym same) at in
-          asked_means s.owner.port request (change_first (is_owner_named name) change old) (put new flat.sockets) is
+          asked_means (owner_key s.owner) request (change_first (is_owner_named name) change old) (put new flat.sockets) is
           (λ f. omega (
             arith,
             change_weighs (is_owner_named name) change f s.owner old first,
@@ -131,24 +131,24 @@ module _ (buckets : List Standing) (flat : Flat) (om : OwnersMean buckets flat) 
             ap (λ (b : Bool). cond {A = ℕ} b (f new.owner) 0) bound,
             ap f becomes,
           ))
-          (change_each (is_owner_named name) (λ (a : Owner). a.port % length buckets ≡ s.owner.port % length buckets) change old
-          (λ a e. ap (λ (p : ℕ). p % length buckets) (stays a) ∙ e) (om.ports s.owner.port))
+          (change_each (is_owner_named name) (λ (a : Owner). (owner_key a) % length buckets ≡ owner_key s.owner % length buckets) change old
+          (λ a e. ap (λ (p : ℕ). p % length buckets) (stays a) ∙ e) (om.keys (owner_key s.owner)))
 
       -- it goes, by a test that it is the first to pass
-      pub gone_means : (request : Request) (test : Owner → Bool) → find test (held_at s.owner.port).owners ≡ Some s.owner
-          → (step_at s.owner.port request).held.owners ≡ drop_first test (held_at s.owner.port).owners
-          → OwnersMean (asked_at buckets s.owner.port request) (with_sockets flat (without name flat.sockets))
+      pub gone_means : (request : Request) (test : Owner → Bool) → find test (held_at (owner_key s.owner)).owners ≡ Some s.owner
+          → (step_at (owner_key s.owner) request).held.owners ≡ drop_first test (held_at (owner_key s.owner)).owners
+          → OwnersMean (asked_at buckets (owner_key s.owner) request) (with_sockets flat (without name flat.sockets))
       gone_means request test passes is =
-          let old : List Owner = (held_at s.owner.port).owners in
-          asked_means s.owner.port request (drop_first test old) (without name flat.sockets) is
+          let old : List Owner = (held_at (owner_key s.owner)).owners in
+          asked_means (owner_key s.owner) request (drop_first test old) (without name flat.sockets) is
           (λ f. omega (
             arith,
             drop_weighs test f s.owner old passes,
             without_weighs name (owns f) s flat.sockets names at,
             ap (λ (b : Bool). cond {A = ℕ} b (f s.owner) 0) owner,
           ))
-          (drop_each test (λ (a : Owner). a.port % length buckets ≡ s.owner.port % length buckets) old (om.ports s.owner.port))
+          (drop_each test (λ (a : Owner). (owner_key a) % length buckets ≡ owner_key s.owner % length buckets) old (om.keys (owner_key s.owner)))
 
       -- it is the first of the name in TIME_WAIT, where it waits
-      pub first_waits : is_time_wait s.owner.state ≡ true → find (waits_as name) (held_at s.owner.port).owners ≡ Some s.owner
-      first_waits waits = both_pass (is_owner_named name) (λ (a : Owner). is_time_wait a.state) s.owner (held_at s.owner.port).owners waits first
+      pub first_waits : is_time_wait s.owner.state ≡ true → find (waits_as name) (held_at (owner_key s.owner)).owners ≡ Some s.owner
+      first_waits waits = both_pass (is_owner_named name) (λ (a : Owner). is_time_wait a.state) s.owner (held_at (owner_key s.owner)).owners waits first

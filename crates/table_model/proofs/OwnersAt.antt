@@ -4,6 +4,7 @@ use Rattle.std.proofs.lemmas.Bool.{cases_Bool, cases_lt}
 use Rattle.std.proofs.lemmas.List.{length-set, get_or-set_same, get_or-set_other, get_or_past}
 use Rattle.std.proofs.Math.Nat.{mod-eq_of_lt}
 use Rattle.std.proofs.lemmas.Nat.{mod_below}
+use Rattle.sock_card.specs.Conflict.{owner_key}
 use Rattle.list_words.specs.Lists.{Each, total}
 use Rattle.list_words.proofs.EachLemmas.{each_weaken}
 use Rattle.sock_card.specs.declared.owner.Owner.{Owner}
@@ -23,7 +24,7 @@ weigh_in f s = total f s.held.owners
 
 -- each owner is of that bucket among so many
 abbrev pub AreOf : ℕ → ℕ → List Owner → Type 0
-AreOf buckets number owners = Each (λ (a : Owner). a.port % buckets ≡ number) owners
+AreOf buckets number owners = Each (λ (a : Owner). (owner_key a) % buckets ≡ number) owners
 
 module _ (buckets : List Standing) (flat : Flat) (om : OwnersMean buckets flat) (some : 1 ≤ flat.header.shape.bind) where
   -- a port's bucket is one of them
@@ -35,7 +36,7 @@ module _ (buckets : List Standing) (flat : Flat) (om : OwnersMean buckets flat) 
   homes number = ⊎_elim
       (λ (l : number < length buckets).
       let same : number % length buckets ≡ number = mod-eq_of_lt l in
-      subst (λ (k : ℕ). AreOf (length buckets) k (get_or buckets k untouched).held.owners) same (om.ports number))
+      subst (λ (k : ℕ). AreOf (length buckets) k (get_or buckets k untouched).held.owners) same (om.keys number))
       (λ (l : length buckets ≤ number).
       subst (λ (s : Standing). AreOf (length buckets) number s.held.owners) (sym (get_or_past buckets number untouched l)) tt)
       (cases_lt number (length buckets))
@@ -65,15 +66,15 @@ module _ (buckets : List Standing) (flat : Flat) (om : OwnersMean buckets flat) 
           let w : total (weigh_in f) (set buckets number new) + weigh_in f (standing_at buckets port) ≡ total (weigh_in f) buckets + weigh_in f new = total_set (weigh_in f) buckets number new untouched (near port) in
           let v : total (weigh_in f) buckets ≡ total (owns f) flat.sockets = om.owners f in
           omega (arith, w, v, weighs f);
-      ports = λ p.
-          subst (λ (l : ℕ). Each (λ (a : Owner). a.port % l ≡ p % l) (get_or (set buckets number new) (p % l) untouched).held.owners) (sym (length-set buckets number new))
+      keys = λ p.
+          subst (λ (l : ℕ). Each (λ (a : Owner). (owner_key a) % l ≡ p % l) (get_or (set buckets number new) (p % l) untouched).held.owners) (sym (length-set buckets number new))
           (changed_homes are (p % length buckets));
     }
 
   -- what weighs something at one port alone is in its bucket
-  pub only_there : (f : Owner → ℕ) (port : ℕ) → ((a : Owner) → a.port ≢ port → f a ≡ 0) → weigh_owners f buckets ≡ weigh_in f (standing_at buckets port)
+  pub only_there : (f : Owner → ℕ) (port : ℕ) → ((a : Owner) → owner_key a ≢ port → f a ≡ 0) → weigh_owners f buckets ≡ weigh_in f (standing_at buckets port)
   only_there f port h =
       total_only (weigh_in f) buckets (port % length buckets) untouched (near port)
       (λ j d. none_of_each f (get_or buckets j untouched).held.owners
-      (each_weaken (λ (a : Owner). a.port % length buckets ≡ j) (λ (a : Owner). f a ≡ 0) (get_or buckets j untouched).held.owners
+      (each_weaken (λ (a : Owner). (owner_key a) % length buckets ≡ j) (λ (a : Owner). f a ≡ 0) (get_or buckets j untouched).held.owners
       (λ a e. h a (λ q. d (sym e ∙ ap (λ (k : ℕ). k % length buckets) q))) (homes j)))

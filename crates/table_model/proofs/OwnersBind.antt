@@ -4,7 +4,7 @@ use Rattle.list_words.specs.Lists.{Pairs, total}
 use Rattle.sock_card.specs.declared.card.Card.{Card}
 use Rattle.sock_card.specs.declared.owner.State.{State}
 use Rattle.sock_card.specs.declared.owner.State.TheVariants as states
-use Rattle.sock_card.specs.Conflict.{is_time_wait}
+use Rattle.sock_card.specs.Conflict.{bind_key, is_time_wait}
 use Rattle.bind_buckets.specs.declared.request.Request.{Request}
 use Rattle.bind_buckets.specs.declared.request.Request.TheVariants as requests
 use Rattle.bind_buckets.specs.declared.request.Answer.{Answer}
@@ -91,10 +91,10 @@ module _ (n : ℕ) (own : Own) (t : Tables) (flat : Flat) (h : Means n own t fla
     request = requests.Bind (bound_at s.owner end.addr end.port)
 
     abbrev asked : List Standing
-    asked = asked_at t.buckets end.port request
+    asked = asked_at t.buckets (bind_key end.port s.owner.net) request
 
     abbrev given_plan : Asking Replied
-    given_plan = and_then (asks end.port request (bind_answered s.owner end)) (next own)
+    given_plan = and_then (asks (bind_key end.port s.owner.net) request (bind_answered s.owner end)) (next own)
 
     abbrev then_ : Answer → Asking Replied
     then_ answer = and_then (bind_answered s.owner end answer) (next own)
@@ -102,8 +102,8 @@ module _ (n : ℕ) (own : Own) (t : Tables) (flat : Flat) (h : Means n own t fla
     abbrev given_as : Bool → Outcome
     given_as b = cond b (unchanged flat replies.Eaddrinuse) (changed flat (at_end s end) (replies.Port end.port))
 
-    given_by : ((is_refused (at_end s end).owner flat.sockets ≡ false) × IsDone t.buckets end.port request (with_sockets flat (put (at_end s end) flat.sockets)))
-        ⊎ ((is_refused (at_end s end).owner flat.sockets ≡ true) × IsInUse t.buckets end.port request flat)
+    given_by : ((is_refused (at_end s end).owner flat.sockets ≡ false) × IsDone t.buckets (bind_key end.port s.owner.net) request (with_sockets flat (put (at_end s end) flat.sockets)))
+        ⊎ ((is_refused (at_end s end).owner flat.sockets ≡ true) × IsInUse t.buckets (bind_key end.port s.owner.net) request flat)
         → Carried n t given_plan (bind_given flat s end)
     given_by (inl x) = subst (Carried n t given_plan) (sym (ap given_as x.0)) record {
       ended = record { tables = with_buckets t asked; result = bind_reply own (done (plain (bound_at s.owner end.addr end.port))) };
@@ -139,7 +139,7 @@ module _ (n : ℕ) (own : Own) (t : Tables) (flat : Flat) (h : Means n own t fla
 
     tables' : TablesMean t sections
     tables' = record {
-      owners = record { count = h.tables.owners.count; owners = h.tables.owners.owners; ports = h.tables.owners.ports };
+      owners = record { count = h.tables.owners.count; owners = h.tables.owners.owners; keys = h.tables.owners.keys };
       chains = cards_kept t.chains flat sections refl (λ f. refl) h.tables.chains;
       groups = groups_kept t t.buckets flat sections refl refl h.tables.groups;
     }
@@ -154,14 +154,14 @@ module _ (n : ℕ) (own : Own) (t : Tables) (flat : Flat) (h : Means n own t fla
       runs = run_and_then (next own') t (searching ports) ∙ ap (goes_on (next own')) (sym g.runs);
       reply = refl;
       means = unbound_means n own' t sections h.shape tables' own_is' h.sound.names g.buckets
-          record { owners = record { count = g.left.owners.count; owners = g.left.owners.owners; ports = g.left.owners.ports }; groups = g.left.groups };
+          record { owners = record { count = g.left.owners.count; owners = g.left.owners.owners; keys = g.left.owners.keys }; groups = g.left.groups };
     }
     search_by ports (Some port) g = record {
       ended = record { tables = with_buckets t g.buckets; result = bind_reply own' (done (plain (bound_at s.owner end.addr port))) };
       runs = run_and_then (next own') t (searching ports) ∙ ap (goes_on (next own')) (sym g.runs);
       reply = refl;
       means = bound_means n own' t sections h.shape tables' own_is' h.sound.names g.buckets s end.addr port at unbound
-          record { owners = record { count = g.left.owners.count; owners = g.left.owners.owners; ports = g.left.owners.ports }; groups = g.left.groups };
+          record { owners = record { count = g.left.owners.count; owners = g.left.owners.owners; keys = g.left.owners.keys }; groups = g.left.groups };
     }
 
     search : Carried n t (and_then (searching (ports_of own.offsets firsts.Odd)) (next own')) (bind_search flat n s end.addr)
@@ -175,7 +175,7 @@ module _ (n : ℕ) (own : Own) (t : Tables) (flat : Flat) (h : Means n own t fla
         (subst (λ (f : Flat). Carried n t plan (found_out (find suits ports) f)) (sym (drawn_sockets flat n flat.header.offset)) there)
 
     unbound_by : (b : Bool)
-        → Carried n t (and_then (cond b (searching (ports_of own.offsets firsts.Odd)) (asks end.port request (bind_answered s.owner end))) (next (after_search b own)))
+        → Carried n t (and_then (cond b (searching (ports_of own.offsets firsts.Odd)) (asks (bind_key end.port s.owner.net) request (bind_answered s.owner end))) (next (after_search b own)))
         (cond b (bind_search flat n s end.addr) (bind_given flat s end))
     unbound_by true = search
     unbound_by false = given

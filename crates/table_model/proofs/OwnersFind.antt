@@ -1,6 +1,7 @@
 -- The owner of a socket is the first of its name in the bucket of its port.
 use Rattle.std.proofs.Common.{◌≡◌, ◌≢◌, ℕ, ◌%◌, ◌≤◌, ◌==◌, Bool, true, false, cond, List, [], ◌∷◌, length, find, Option, None, Some, refl, ap, sym, ◌∙◌, arith, get_or}
 use Rattle.std.specs.Prelude.{is_some}
+use Rattle.sock_card.specs.Conflict.{owner_key}
 use Rattle.list_words.specs.Lists.{Pairs, total}
 use Rattle.list_words.proofs.EachLemmas.{each_both, each_weaken, found_passes}
 use Rattle.sock_card.specs.declared.owner.Owner.{Owner}
@@ -60,7 +61,7 @@ found_one name xs b (Some a) e is weighs =
 module _ (buckets : List Standing) (flat : Flat) (om : OwnersMean buckets flat) (some : 1 ≤ flat.header.shape.bind) (names : Pairs NamesDiffer flat.sockets)
     (name : ℕ) (s : Socket) (at : Listed name flat.sockets s) (owner : is_owner s.owner.state ≡ true) where
   abbrev number : ℕ
-  number = s.owner.port % length buckets
+  number = (owner_key s.owner) % length buckets
 
   by_name : (f : Owner → ℕ) → weigh_owners (if_named name f) buckets ≡ f s.owner
   by_name f = omega (
@@ -73,25 +74,25 @@ module _ (buckets : List Standing) (flat : Flat) (om : OwnersMean buckets flat) 
   )
 
   abbrev far : Owner → ℕ
-  far x = cond (x.port % length buckets == number) 0 1
+  far x = cond ((owner_key x) % length buckets == number) 0 1
 
   elsewhere : (f : Owner → ℕ) (j : ℕ) → j ≢ number → weigh_in (if_named name f) (get_or buckets j untouched) ≡ 0
   elsewhere f j d =
       let none : weigh_owners (if_named name far) buckets ≡ 0 = by_name far ∙ ap (λ (c : Bool). cond {A = ℕ} c 0 1) (is_same number number refl) in
       let owners : List Owner = (get_or buckets j untouched).held.owners in
       none_of_each (if_named name f) owners
-      (each_weaken (λ (x : Owner). (x.port % length buckets ≡ j) × (if_named name far x ≡ 0)) (λ (x : Owner). if_named name f x ≡ 0) owners
-      (λ x h. one_zero (x.name == name) (f x) (sym (ap (λ (c : Bool). cond {A = ℕ} (x.name == name) (cond {A = ℕ} c 0 1) 0) (is_ne (x.port % length buckets) number (λ e. d (sym h.0 ∙ e)))) ∙ h.1))
-      (each_both (λ (x : Owner). x.port % length buckets ≡ j) (λ (x : Owner). if_named name far x ≡ 0) owners (homes buckets flat om some j)
+      (each_weaken (λ (x : Owner). ((owner_key x) % length buckets ≡ j) × (if_named name far x ≡ 0)) (λ (x : Owner). if_named name f x ≡ 0) owners
+      (λ x h. one_zero (x.name == name) (f x) (sym (ap (λ (c : Bool). cond {A = ℕ} (x.name == name) (cond {A = ℕ} c 0 1) 0) (is_ne ((owner_key x) % length buckets) number (λ e. d (sym h.0 ∙ e)))) ∙ h.1))
+      (each_both (λ (x : Owner). (owner_key x) % length buckets ≡ j) (λ (x : Owner). if_named name far x ≡ 0) owners (homes buckets flat om some j)
       (each_none (if_named name far) owners (part_none (weigh_in (if_named name far)) buckets j untouched refl none))))
 
-  here : (f : Owner → ℕ) → weigh_in (if_named name f) (standing_at buckets s.owner.port) ≡ f s.owner
-  here f = sym (total_only (weigh_in (if_named name f)) buckets number untouched (near buckets flat om some s.owner.port) (elsewhere f)) ∙ by_name f
+  here : (f : Owner → ℕ) → weigh_in (if_named name f) (standing_at buckets (owner_key s.owner)) ≡ f s.owner
+  here f = sym (total_only (weigh_in (if_named name f)) buckets number untouched (near buckets flat om some (owner_key s.owner)) (elsewhere f)) ∙ by_name f
 
   -- it is the first of its name there
-  pub stands : find (is_owner_named name) (standing_at buckets s.owner.port).held.owners ≡ Some s.owner
+  pub stands : find (is_owner_named name) (standing_at buckets (owner_key s.owner)).held.owners ≡ Some s.owner
   stands =
-      let owners : List Owner = (standing_at buckets s.owner.port).held.owners in
+      let owners : List Owner = (standing_at buckets (owner_key s.owner)).held.owners in
       let one : total (ind (is_owner_named name)) owners ≡ 1 = here (λ (x : Owner). 1) in
       found_one name owners s.owner (find (is_owner_named name) owners) refl
       (passes_by (is_some (find (is_owner_named name) owners)) (total (ind (is_owner_named name)) owners) (found_weighs (is_owner_named name) owners) (omega (arith, one)))

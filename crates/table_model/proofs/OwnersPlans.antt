@@ -1,5 +1,6 @@
 -- The plans of `socket`, `bind` and `at` beside the list's step, and the laws of plans from what each comes to.
 use Rattle.std.proofs.Common.{◌≡◌, ℕ, ◌+◌, ◌^◌, ◌<◌, ◌≤◌, Bool, false, List, length, Option, None, Some, refl, sym, subst}
+use Rattle.flat_list.specs.declared.owned.Options.{Options}
 use Rattle.flat_list.specs.declared.command.Command.{Command}
 use Rattle.flat_list.specs.declared.command.Command.TheVariants as commands
 use Rattle.flat_list.specs.declared.command.End.{End}
@@ -50,15 +51,15 @@ module _ (n : ℕ) (own : Own) (t : Tables) (flat : Flat) (h : Means n own t fla
   at_ends moment = ends_so n own t flat (commands.At moment) (step flat n (commands.At moment)) (at_carried moment)
 
   -- `socket` beside the list's
-  pub socket_carried : (label : List ℕ) (uid dev : Option ℕ) (reuseaddr reuseport : Bool) → length own.labels + 1 < 2 ^ 24
-      → Carried n t (plan flat.header own (commands.Socket label uid dev reuseaddr reuseport)) (step flat n (commands.Socket label uid dev reuseaddr reuseport))
+  pub socket_carried : (label : List ℕ) (options : Options) → length own.labels + 1 < 2 ^ 24
+      → Carried n t (plan flat.header own (commands.Socket label options)) (step flat n (commands.Socket label options))
   unfolding plan step
-  socket_carried label uid dev reuseaddr reuseport few = socket_mine n own t flat h label (record { uid = uid; dev = dev; reuseaddr = reuseaddr; reuseport = reuseport }) few
+  socket_carried label options few = socket_mine n own t flat h label options few
 
   -- it comes to an end, however many labels there are
-  pub socket_ends : (label : List ℕ) (uid dev : Option ℕ) (reuseaddr reuseport : Bool) → Ends t own flat (commands.Socket label uid dev reuseaddr reuseport)
+  pub socket_ends : (label : List ℕ) (options : Options) → Ends t own flat (commands.Socket label options)
   unfolding plan
-  socket_ends label uid dev reuseaddr reuseport = (_, refl)
+  socket_ends label options = (_, refl)
 
 -- what each command comes to, beside the list
 abbrev pub AllCarried : Type 0

@@ -12,7 +12,7 @@ use Rattle.sock_card.specs.declared.card.Kind.TheVariants as kinds
 use Rattle.sock_card.specs.declared.owner.Owner.{Owner}
 use Rattle.sock_card.specs.declared.owner.State.{State}
 use Rattle.sock_card.specs.declared.owner.State.TheVariants as states
-use Rattle.sock_card.specs.Conflict.{is_time_wait}
+use Rattle.sock_card.specs.Conflict.{owner_key, is_time_wait}
 use Rattle.sock_card.specs.TimeWait.{is_time_wait_kind}
 use Rattle.bind_buckets.specs.declared.request.Request.TheVariants as requests
 use Rattle.chain_book.specs.declared.outcome.Hashed.{Hashed}
@@ -238,7 +238,7 @@ module _ (n : ℕ) (own : Own) (base : Flat) (shape : IsShape base.header) where
     chains_after = unhashed t.chains its_place
 
     abbrev pub tables_after : Tables
-    tables_after = record { buckets = asked_at t.buckets s.owner.port (requests.RemoveWaiting name); chains = chains_after }
+    tables_after = record { buckets = asked_at t.buckets (owner_key s.owner) (requests.RemoveWaiting name); chains = chains_after }
 
     there : (x : Hashed) × StandsThere t.chains stood x
     there = stands_there t.chains stood kinds.TimeWait stands
@@ -262,7 +262,7 @@ module _ (n : ℕ) (own : Own) (base : Flat) (shape : IsShape base.header) where
         k.tables.groups.stand
         (words_differ t (at xs) name k.tables.groups (wait_in_no_group (at xs) s (each_found (IsInOneGroup base.groups) (has_name name) xs s k.sharing found) (ap is_time_wait waits)))
 
-    its_leave : IsDone t.buckets s.owner.port (requests.RemoveWaiting name) (at (without name xs))
+    its_leave : IsDone t.buckets (owner_key s.owner) (requests.RemoveWaiting name) (at (without name xs))
     its_leave = remove_waiting_asked t.buckets (at xs) k.tables.owners shape.bind k.names name s found (ap is_owner waits) (ap is_time_wait waits)
 
     -- what stayed stays

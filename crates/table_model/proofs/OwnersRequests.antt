@@ -3,14 +3,14 @@ use Rattle.std.proofs.Common.{◌≡◌, ℕ, ◌%◌, ◌≤◌, Bool, true, fa
 use Rattle.std.specs.Prelude.{is_some}
 use Rattle.list_words.specs.Lists.{Pairs}
 use Rattle.sock_card.specs.declared.owner.Owner.{Owner}
-use Rattle.sock_card.specs.Conflict.{refuses, overlap, is_time_wait}
+use Rattle.sock_card.specs.Conflict.{owner_key, bind_key, holds, refuses, overlap, is_time_wait}
 use Rattle.sock_card.specs.Became.{as_listener, connected, child, as_waiting}
 use Rattle.bind_buckets.specs.declared.request.Request.{Request}
 use Rattle.bind_buckets.specs.declared.request.Request.TheVariants as requests
 use Rattle.bind_buckets.specs.declared.request.Answer.{Answer}
 use Rattle.bind_buckets.specs.declared.request.Answer.TheVariants as answers
 use Rattle.bind_buckets.specs.Journal.{Standing}
-use Rattle.bind_buckets.specs.OwnerStep.{Held, After, owner_step, has_name as is_owner_named, with_owner, admitted, waits_as, spoken, kept, may_listen, listener_answer, listening, changed, removed, without_waiting, free_answer, holds, others}
+use Rattle.bind_buckets.specs.OwnerStep.{Held, After, owner_step, has_name as is_owner_named, with_owner, admitted, waits_as, spoken, kept, may_listen, listener_answer, listening, changed, removed, without_waiting, free_answer, others}
 use Rattle.flat_list.specs.declared.socket.Socket.{Socket}
 use Rattle.flat_list.specs.Flat.{Flat}
 use Rattle.flat_list.specs.Sockets.{is_owner, put, without, is_refused, is_overlapped, is_claimed}
@@ -57,9 +57,9 @@ module _ (n : ℕ) (h : Held) where
   unfolding owner_step
   auto_step a = refl
 
-  free_step : (port : ℕ) → owner_step n h (requests.Free port) ≡ kept h (free_answer (find (holds port) h.owners))
+  free_step : (port net : ℕ) → owner_step n h (requests.Free port net) ≡ kept h (free_answer (find (holds port net) h.owners))
   unfolding owner_step
-  free_step port = refl
+  free_step port net = refl
 
   connect_auto_step : (a : Owner) → owner_step n h (requests.ConnectAuto a) ≡ with_owner h a
   unfolding owner_step
@@ -103,27 +103,37 @@ module _ (buckets : List Standing) (flat : Flat) (om : OwnersMean buckets flat) 
     groups = groups_stay buckets flat om some port request (ap (λ (x : After). x.held.groups) is);
   }
 
-  free_by : (port : ℕ) (o : Option Owner) → find (holds port) (held_at buckets flat om some port).owners ≡ o
-      → ((is_claimed port flat.sockets ≡ false) × IsDone buckets port (requests.Free port) flat) ⊎ ((is_claimed port flat.sockets ≡ true) × IsNotFree buckets port (requests.Free port) flat)
-  free_by port None e =
-      let is : step_at buckets flat om some port (requests.Free port) ≡ kept (held_at buckets flat om some port) answers.Done =
-      free_step (port % length buckets) (held_at buckets flat om some port) port ∙ ap (λ (o : Option Owner). kept (held_at buckets flat om some port) (free_answer o)) e in
-      inl (claimed buckets flat om some port ∙ ap is_some e, record { answer = ap (λ (x : After). x.answer) is; left = kept_left port (requests.Free port) answers.Done is })
-  free_by port (Some a) e =
-      let is : step_at buckets flat om some port (requests.Free port) ≡ kept (held_at buckets flat om some port) (answers.NotFree a.name) =
-      free_step (port % length buckets) (held_at buckets flat om some port) port ∙ ap (λ (o : Option Owner). kept (held_at buckets flat om some port) (free_answer o)) e in
-      inr (claimed buckets flat om some port ∙ ap is_some e, record { other = a.name; answer = ap (λ (x : After). x.answer) is; left = kept_left port (requests.Free port) (answers.NotFree a.name) is })
+  module _ (port net : ℕ) where
+    abbrev its_key : ℕ
+    its_key = bind_key port net
 
-  -- whether `connect` may choose the port is as the list says
-  pub free_asked : (port : ℕ)
-      → ((is_claimed port flat.sockets ≡ false) × IsDone buckets port (requests.Free port) flat) ⊎ ((is_claimed port flat.sockets ≡ true) × IsNotFree buckets port (requests.Free port) flat)
-  free_asked port = free_by port (find (holds port) (held_at buckets flat om some port).owners) refl
+    abbrev asks_free : Request
+    asks_free = requests.Free port net
+
+    -- whether `connect` may choose the port is as the list says
+    abbrev pub FreeAsked : Type 0
+    FreeAsked =
+        ((is_claimed port net flat.sockets ≡ false) × IsDone buckets its_key asks_free flat)
+        ⊎ ((is_claimed port net flat.sockets ≡ true) × IsNotFree buckets its_key asks_free flat)
+
+    free_by : (o : Option Owner) → find (holds port net) (held_at buckets flat om some its_key).owners ≡ o → FreeAsked
+    free_by None e =
+        let is : step_at buckets flat om some its_key asks_free ≡ kept (held_at buckets flat om some its_key) answers.Done =
+        free_step (its_key % length buckets) (held_at buckets flat om some its_key) port net ∙ ap (λ (o : Option Owner). kept (held_at buckets flat om some its_key) (free_answer o)) e in
+        inl (claimed buckets flat om some port net ∙ ap is_some e, record { answer = ap (λ (x : After). x.answer) is; left = kept_left its_key asks_free answers.Done is })
+    free_by (Some a) e =
+        let is : step_at buckets flat om some its_key asks_free ≡ kept (held_at buckets flat om some its_key) (answers.NotFree a.name) =
+        free_step (its_key % length buckets) (held_at buckets flat om some its_key) port net ∙ ap (λ (o : Option Owner). kept (held_at buckets flat om some its_key) (free_answer o)) e in
+        inr (claimed buckets flat om some port net ∙ ap is_some e, record { other = a.name; answer = ap (λ (x : After). x.answer) is; left = kept_left its_key asks_free (answers.NotFree a.name) is })
+
+    pub free_asked : FreeAsked
+    free_asked = free_by (find (holds port net) (held_at buckets flat om some its_key).owners) refl
 
   module _ (names : Pairs NamesDiffer flat.sockets) where
     -- a socket without a port comes to have one, whoever is in the way
     module _ (new s : Socket) (at : Listed new.owner.name flat.sockets s) (unbound : is_owner s.owner.state ≡ false) (bound : is_owner new.owner.state ≡ true) where
       abbrev port : ℕ
-      port = new.owner.port
+      port = owner_key new.owner
 
       abbrev after : Flat
       after = with_sockets flat (put new flat.sockets)
@@ -166,7 +176,7 @@ module _ (buckets : List Standing) (flat : Flat) (om : OwnersMean buckets flat) 
     -- a socket that has a port
     module _ (name : ℕ) (s : Socket) (at : Listed name flat.sockets s) (owner : is_owner s.owner.state ≡ true) where
       abbrev its_port : ℕ
-      its_port = s.owner.port
+      its_port = owner_key s.owner
 
       abbrev there : Held
       there = held_at buckets flat om some its_port
@@ -197,7 +207,7 @@ module _ (buckets : List Standing) (flat : Flat) (om : OwnersMean buckets flat) 
 
       -- it becomes that, in the bucket as in the list
       changed_done : (request : Request) (change : Owner → Owner) (new : Socket) → step_at buckets flat om some its_port request ≡ changed there name change there.groups
-          → new.owner ≡ change s.owner → new.owner.name ≡ name → is_owner new.owner.state ≡ true → ((a : Owner) → (change a).port ≡ a.port)
+          → new.owner ≡ change s.owner → new.owner.name ≡ name → is_owner new.owner.state ≡ true → ((a : Owner) → owner_key (change a) ≡ owner_key a)
           → IsDone buckets its_port request (with_sockets flat (put new flat.sockets))
       changed_done request change new is becomes same bound stays = record {
         answer = ap (λ (x : After). x.answer) is;
@@ -237,7 +247,7 @@ module _ (buckets : List Standing) (flat : Flat) (om : OwnersMean buckets flat) 
           record {
             answer = ap (λ (x : After). x.answer) is;
             left = record {
-              owners = joined_means buckets flat om some names request its_port new (ap (λ (a : Owner). is_owner a.state) e) (ap (λ (a : Owner). a.port) e) (ap (λ (x : After). x.held.owners) is);
+              owners = joined_means buckets flat om some names request its_port new (ap (λ (a : Owner). is_owner a.state) e) (ap (λ (a : Owner). owner_key a) e) (ap (λ (x : After). x.held.owners) is);
               groups = groups_stay buckets flat om some its_port request (ap (λ (x : After). x.held.groups) is);
             };
           }

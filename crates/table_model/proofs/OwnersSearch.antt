@@ -1,5 +1,6 @@
 -- A search through ports, carried out on tables that mean a list, finds the port that the list's search finds.
 use Rattle.std.proofs.Common.{◌≡◌, ℕ, ◌≤◌, Bool, true, false, not, cond, List, [], ◌∷◌, find, Option, None, Some, ◌⊎◌, inl, inr, refl, ap, sym, ◌∙◌, subst}
+use Rattle.sock_card.specs.Conflict.{bind_key}
 use Rattle.list_words.specs.Lists.{Pairs}
 use Rattle.bind_buckets.specs.declared.request.Request.{Request}
 use Rattle.bind_buckets.specs.declared.request.Request.TheVariants as requests
@@ -55,7 +56,7 @@ module _ (R : Type 0) (flat : Flat) (some : 1 ≤ flat.header.shape.bind) (names
     request = requests.BindAuto (bound_at s.owner addr port)
 
     abbrev asked : List Standing
-    asked = asked_at t.buckets port request
+    asked = asked_at t.buckets (bind_key port s.owner.net) request
 
     abbrev rest : Asking R
     rest = search_bind s.owner addr found none ports
@@ -63,9 +64,9 @@ module _ (R : Type 0) (flat : Flat) (some : 1 ≤ flat.header.shape.bind) (names
     abbrev suits : ℕ → Bool
     suits = suits_bind flat s addr
 
-    tried : ((is_overlapped (at_port s addr port).owner flat.sockets ≡ false) × IsDone t.buckets port request (with_port port)) ⊎ ((is_overlapped (at_port s addr port).owner flat.sockets ≡ true) × IsInUse t.buckets port request flat)
+    tried : ((is_overlapped (at_port s addr port).owner flat.sockets ≡ false) × IsDone t.buckets (bind_key port s.owner.net) request (with_port port)) ⊎ ((is_overlapped (at_port s addr port).owner flat.sockets ≡ true) × IsInUse t.buckets (bind_key port s.owner.net) request flat)
         → (OwnersMean asked flat → run (with_buckets t asked) rest ≡ result → Searched (with_buckets t asked) (find suits ports))
-        → run (with_buckets t asked) (found_next (found port) rest (answer_at t.buckets port request)) ≡ result
+        → run (with_buckets t asked) (found_next (found port) rest (answer_at t.buckets (bind_key port s.owner.net) request)) ≡ result
         → Searched t (find suits (port ∷ ports))
     tried (inl h) later runs =
         let suited : suits port ≡ true = ap not h.0 in
@@ -85,4 +86,4 @@ module _ (R : Type 0) (flat : Flat) (some : 1 ≤ flat.header.shape.bind) (names
   searched [] t om runs = record { buckets = t.buckets; left = left_same t.buckets flat om; runs = runs }
   searched (port ∷ ports) t om runs =
       tried t om port ports (bind_auto_asked t.buckets flat om some names (at_port s addr port) s at unbound refl)
-      (λ om' later. searched ports (with_buckets t (asked_at t.buckets port (requests.BindAuto (bound_at s.owner addr port)))) om' later) runs
+      (λ om' later. searched ports (with_buckets t (asked_at t.buckets (bind_key port s.owner.net) (requests.BindAuto (bound_at s.owner addr port)))) om' later) runs

@@ -28,7 +28,7 @@ use Rattle.table_model.proofs.ChainsCards.{card_weight, cards_weigh}
 -- tables don't mean anything of sections
 pub sections_kept : (t : Tables) (flat : Flat) (sections : List Section) → TablesMean t flat → TablesMean t (with_sections flat sections)
 sections_kept t flat sections h = record {
-  owners = record { count = h.owners.count; owners = h.owners.owners; ports = h.owners.ports };
+  owners = record { count = h.owners.count; owners = h.owners.owners; keys = h.owners.keys };
   chains = cards_kept t.chains flat (with_sections flat sections) refl (λ f. refl) h.chains;
   groups = groups_kept t t.buckets flat (with_sections flat sections) refl refl h.groups;
 }
@@ -83,7 +83,7 @@ module _ (n : ℕ) (own : Own) (t : Tables) (flat : Flat) (h : Means n own t fla
           owners = record {
             count = m.owners.count;
             owners = λ f. m.owners.owners f ∙ sym (total-append _ flat.sockets (new ∷ []) ∙ omega arith);
-            ports = m.owners.ports;
+            keys = m.owners.keys;
           };
           chains = cards_kept t.chains given after refl
               (λ f. omega (arith, cards_weigh flat.groups f (flat.sockets ++ new ∷ []), cards_weigh flat.groups f flat.sockets, total-append (card_weight flat.groups f) flat.sockets (new ∷ []))) m.chains;

@@ -1,5 +1,6 @@
 -- Every owner's socket, and every socket's owner, is known by its name.
 use Rattle.std.proofs.Common.{◌≡◌, ◌≤◌, Bool, true, cond, List, [], ◌∷◌, map, filter, find, Some, refl, ap, sym, ◌∙◌, subst}
+use Rattle.sock_card.specs.Conflict.{owner_key}
 use Rattle.list_words.specs.Lists.{Each, Pairs}
 use Rattle.list_words.proofs.EachLemmas.{each_weaken, each_both, each_map, each_filter}
 use Rattle.sock_card.specs.declared.owner.Owner.{Owner}
@@ -37,7 +38,7 @@ each_unmap P f (x ∷ xs) h = (h.0, each_unmap P f xs h.1)
 
 -- an owner that has a port is the first of its name there
 abbrev pub StandsFirst : List Standing → Owner → Type 0
-StandsFirst buckets a = is_owner a.state ≡ true → find (is_owner_named a.name) (standing_at buckets a.port).held.owners ≡ Some a
+StandsFirst buckets a = is_owner a.state ≡ true → find (is_owner_named a.name) (standing_at buckets (owner_key a)).held.owners ≡ Some a
 
 -- each socket's owner is the first of its name in the bucket of its port
 pub all_stand : (buckets : List Standing) (flat : Flat) → OwnersMean buckets flat → 1 ≤ flat.header.shape.bind → Pairs NamesDiffer flat.sockets

@@ -11,7 +11,7 @@ use Rattle.chain_book.specs.Chains.{Outcome}
 
 pub data Asking (R : Type 0) : Type 0 where
   ends : R → Asking R
-  asks : ℕ → Request → (Answer → Asking R) → Asking R  -- the bind bucket of that port
+  asks : ℕ → Request → (Answer → Asking R) → Asking R  -- the bind bucket of that key
   inserts : Card → ℕ → Replace → (Outcome → Asking R) → Asking R  -- a full card, at that moment by that rule
   adds : Card → (Outcome → Asking R) → Asking R  -- a card that no four-tuple keeps out
   unhashes : Place → Card → Asking R → Asking R  -- the card that stands in that place
@@ -21,7 +21,7 @@ pub data Asking (R : Type 0) : Type 0 where
 -- one plan, and then the next by what it came to
 abbrev pub and_then : {R S : Type 0} → Asking R → (R → Asking S) → Asking S
 and_then (ends r) next = next r
-and_then (asks port request then_) next = asks port request (λ answer. and_then (then_ answer) next)
+and_then (asks key request then_) next = asks key request (λ answer. and_then (then_ answer) next)
 and_then (inserts card moment rule then_) next = inserts card moment rule (λ outcome. and_then (then_ outcome) next)
 and_then (adds card then_) next = adds card (λ outcome. and_then (then_ outcome) next)
 and_then (unhashes place card then_) next = unhashes place card (and_then then_ next)

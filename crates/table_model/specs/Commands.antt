@@ -136,8 +136,7 @@ module _ (header : Header) where
 
   -- all commands but `look` and `packets`
   unfoldable pub plan : Own → Command → Asking Replied
-  plan own (commands.Socket label uid dev reuseaddr reuseport) =
-      socket_command own label (record { uid = uid; dev = dev; reuseaddr = reuseaddr; reuseport = reuseport })
+  plan own (commands.Socket label options) = socket_command own label options
   plan own (commands.Bind label end) = bind_command own (open_socket own label) end
   plan own (commands.Listen label) = listen_command own (open_socket own label)
   plan own (commands.Connect label from to) = connect_command own (open_socket own label) from to
@@ -147,5 +146,5 @@ module _ (header : Header) where
   plan own (commands.Drop label) = drop_command own (open_socket own label)
   plan own (commands.At moment) = at_command own moment
   plan own commands.Reap = reap_command own
-  plan own (commands.Look from to dev) = impossible
+  plan own (commands.Look query) = impossible
   plan own (commands.Packets count) = impossible

@@ -20,8 +20,8 @@ pub data Told : Type 0 where
 
 -- the plan's first question is that one, and then it goes on so
 abbrev pub Takes : {R : Type 0} → ℕ → Asking R → Told → Asking R → Type 0
-Takes count (asks port request then_) (entered x) next =
-    (x.place ≡ port % count) × (x.note.entry.request ≡ request) × (next ≡ then_ x.note.entry.answer)
+Takes count (asks key request then_) (entered x) next =
+    (x.place ≡ key % count) × (x.note.entry.request ≡ request) × (next ≡ then_ x.note.entry.answer)
 Takes count (inserts card moment rule then_) (inserted c m r outcome) next =
     (c ≡ card) × (m ≡ moment) × (r ≡ rule) × (next ≡ then_ outcome)
 Takes count (adds card then_) (added c outcome) next = (c ≡ card) × (next ≡ then_ outcome)

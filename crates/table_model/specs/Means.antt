@@ -8,7 +8,7 @@ use Rattle.list_words.specs.Lists.{Each, Pairs, total}
 use Rattle.sock_card.specs.declared.owner.Owner.{Owner}
 use Rattle.sock_card.specs.declared.card.Card.{Card}
 use Rattle.sock_card.specs.declared.card.Kind.{Kind}
-use Rattle.sock_card.specs.Conflict.{is_time_wait}
+use Rattle.sock_card.specs.Conflict.{owner_key, is_time_wait}
 use Rattle.bind_buckets.specs.Journal.{Standing}
 use Rattle.bind_buckets.specs.Members.{has_member}
 use Rattle.bind_buckets.specs.OwnerStep.{has_name as is_owner_named, members_at}
@@ -39,11 +39,11 @@ owns f s = cond (is_owner s.owner.state) (f s.owner) 0
 abbrev pub weigh_owners : (Owner → ℕ) → List Standing → ℕ
 weigh_owners f buckets = total (λ (s : Standing). total f s.held.owners) buckets
 
--- the buckets hold the owners of the list, each in that of its port
+-- the buckets hold the owners of the list, each in that of its key
 pub record OwnersMean (buckets : List Standing) (flat : Flat) : Type 0 where
   pub count : length buckets ≡ flat.header.shape.bind
   pub owners : (f : Owner → ℕ) → weigh_owners f buckets ≡ total (owns f) flat.sockets
-  pub ports : (port : ℕ) → Each (λ (a : Owner). a.port % length buckets ≡ port % length buckets) (standing_at buckets port).held.owners
+  pub keys : (key : ℕ) → Each (λ (a : Owner). owner_key a % length buckets ≡ key % length buckets) (standing_at buckets key).held.owners
 
 -- the weight of all cards of the chains
 abbrev pub weigh_cards : (Card → ℕ) → List (List Hashed) → ℕ
@@ -172,7 +172,7 @@ pub record Refines (n : ℕ) (ended : Ended Replied) (flat : Flat) (command : Co
 
 -- a command that asks for lookups, and changes nothing
 abbrev pub is_lookup : Command → Bool
-is_lookup (commands.Look from to dev) = true
+is_lookup (commands.Look query) = true
 is_lookup (commands.Packets count) = true
 is_lookup _ = false
 
@@ -209,13 +209,13 @@ StartsMeant =
     → section_of flat.header n flat.sections ≡ section_as (new_own flat.header n)
     → Means n (new_own flat.header n) t flat
 
--- an open socket of a section's own is an owner of its port, the first of its name
+-- an open socket of a section's own is an owner in its bucket, the first of its name
 abbrev pub OwnersStand : Type 0
 OwnersStand =
     (n : ℕ) (own : Own) (t : Tables) (flat : Flat) → Means n own t flat
     → Each
     (λ (m : Mine). is_owner m.owner.state ≡ true
-    → find (is_owner_named m.owner.name) (standing_at t.buckets m.owner.port).held.owners ≡ Some m.owner)
+    → find (is_owner_named m.owner.name) (standing_at t.buckets (owner_key m.owner)).held.owners ≡ Some m.owner)
     own.sockets
 
 -- of an open socket of a section's own that has no port, no bucket has an owner or a member of that name
@@ -224,6 +224,6 @@ UnboundFresh =
     (n : ℕ) (own : Own) (t : Tables) (flat : Flat) → Means n own t flat
     → Each
     (λ (m : Mine). is_owner m.owner.state ≡ false
-    → (port : ℕ) → (find (is_owner_named m.owner.name) (standing_at t.buckets port).held.owners ≡ None)
-    × (find (has_member m.owner.name) (standing_at t.buckets port).held.groups ≡ None))
+    → (key : ℕ) → (find (is_owner_named m.owner.name) (standing_at t.buckets key).held.owners ≡ None)
+    × (find (has_member m.owner.name) (standing_at t.buckets key).held.groups ≡ None))
     own.sockets

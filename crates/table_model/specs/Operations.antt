@@ -5,6 +5,7 @@
 -- questions, and what `drop` and `reap` do.
 use Rattle.std.specs.Prelude.{ℕ, ◌+◌, Bool, true, false, ◌==◌, List, [], ◌∷◌, Option, None, Some, if◌then◌else◌, filter, not}
 use Rattle.std.specs.Option.{option_map_or}
+use Rattle.sock_card.specs.Conflict.{owner_key, bind_key}
 use Rattle.sock_card.specs.declared.owner.Owner.{Owner}
 use Rattle.sock_card.specs.declared.owner.State.{State}
 use Rattle.sock_card.specs.declared.owner.State.TheVariants as states
@@ -61,7 +62,8 @@ found_next found next _ = impossible
 abbrev pub search_bind : {R : Type 0} → Owner → ℕ → (ℕ → Asking R) → Asking R → List ℕ → Asking R
 search_bind a addr found none [] = none
 search_bind a addr found none (port ∷ ports) =
-    asks port (requests.BindAuto (bound_at a addr port)) (found_next (found port) (search_bind a addr found none ports))
+    asks (bind_key port a.net) (requests.BindAuto (bound_at a addr port))
+    (found_next (found port) (search_bind a addr found none ports))
 
 abbrev pub bound : Owner → ℕ → ℕ → Asking Did
 bound a addr port = ends (done (plain (bound_at a addr port)))
@@ -75,7 +77,7 @@ bind_answered a end _ = impossible
 abbrev pub bind_unbound : Owner → End → List ℕ → Asking Did
 bind_unbound a end ports =
     if end.port == 0 then search_bind a end.addr (bound a end.addr) (ends (refused errors.NoPort)) ports
-    else asks end.port (requests.Bind (bound_at a end.addr end.port)) (bind_answered a end)
+    else asks (bind_key end.port a.net) (requests.Bind (bound_at a end.addr end.port)) (bind_answered a end)
 
 -- `bind` of a socket in that state, to an end or to a port out of these
 abbrev pub bind_as : State → Mine → End → List ℕ → Asking Did
@@ -87,7 +89,7 @@ bind m end ports = bind_as m.owner.state m end ports
 
 -- a refused `listen` gives up the port that it took
 abbrev pub give_up : Bool → Owner → OpEnd → Asking Did
-give_up true a end = asks a.port (requests.Remove a.name) (when_done (ends (refused end)))
+give_up true a end = asks (owner_key a) (requests.Remove a.name) (when_done (ends (refused end)))
 give_up false a end = ends (refused end)
 
 -- the listener that the owner becomes, in that group
@@ -98,7 +100,8 @@ listener a group =
 -- the owner of a TIME_WAIT that was replaced leaves; what that answers is passed over
 abbrev pub then_replaced : {R : Type 0} → Option Hashed → Asking R → Asking R
 then_replaced None next = next
-then_replaced (Some old) next = asks old.card.lport (requests.RemoveWaiting old.card.name) (λ answer. next)
+then_replaced (Some old) next =
+    asks (bind_key old.card.lport old.card.net) (requests.RemoveWaiting old.card.name) (λ answer. next)
 
 abbrev pub full_card : Owner → Card
 full_card a = card_of kinds.Full (plain a)
@@ -114,7 +117,7 @@ source_to a from to = if is_no_end to then None else source_of (bound_addr a.sta
 
 -- the owner leaves its port
 abbrev pub leave : {R : Type 0} → Owner → R → Asking R
-leave a result = asks a.port (requests.Remove a.name) (when_done (ends result))
+leave a result = asks (owner_key a) (requests.Remove a.name) (when_done (ends result))
 
 -- a socket is gone; it leaves its chain first
 abbrev pub drop_as : {R : Type 0} → State → Mine → R → Asking R
@@ -133,7 +136,7 @@ wait_of m moment = record { owner = as_waiting m.owner; extra = moment; place = 
 
 abbrev pub reaped_next : Mine → ℕ → (ℕ → Asking ℕ) → Bool → Asking ℕ
 reaped_next w count next true =
-    asks w.owner.port (requests.RemoveWaiting w.owner.name) (λ answer. next (count + 1))
+    asks (owner_key w.owner) (requests.RemoveWaiting w.owner.name) (λ answer. next (count + 1))
 reaped_next w count next false = next count
 
 -- these TIME_WAITs in turn; those that others replaced are gone
@@ -156,7 +159,7 @@ module _ (shape : Shape) (seed : ℕ) where
 
   abbrev pub listen_hashed : Bool → Owner → Mine → Outcome → Asking Did
   listen_hashed took a l (put slot None) =
-      asks a.port (requests.Listen a.name slot) (when_done (ends (done (listens_in l slot))))
+      asks (owner_key a) (requests.Listen a.name slot) (when_done (ends (done (listens_in l slot))))
   listen_hashed took a l (full owned held) = give_up took a (errors.Full owned held)
   listen_hashed took a l _ = impossible
 
@@ -172,7 +175,7 @@ module _ (shape : Shape) (seed : ℕ) where
 
   -- `listen` of a socket that has a port, taken by this call or before
   abbrev pub listen_at : Bool → Owner → Asking Did
-  listen_at took a = asks a.port (requests.MayListen a.name) (listen_answered took a)
+  listen_at took a = asks (owner_key a) (requests.MayListen a.name) (listen_answered took a)
 
   abbrev pub listen_found : Owner → ℕ → Asking Did
   listen_found a port = listen_at true (bound_at a 0 port)
@@ -196,7 +199,7 @@ module _ (shape : Shape) (seed : ℕ) where
 
   abbrev pub connect_hashed : Owner → Outcome → Asking Did
   connect_hashed a (put slot old) =
-      asks a.port (requests.ConnectBound a.name a.addr a.remote a.rport) (when_done (full_done a slot old))
+      asks (owner_key a) (requests.ConnectBound a.name a.addr a.remote a.rport) (when_done (full_done a slot old))
   connect_hashed a (taken name) = ends (refused (errors.Taken name))
   connect_hashed a (full owned held) = ends (refused (errors.Full owned held))
 
@@ -206,7 +209,7 @@ module _ (shape : Shape) (seed : ℕ) where
 
   -- the four-tuple at one port: it is had, or the next port is tried
   abbrev pub connect_tried : Owner → Asking Did → Outcome → Asking Did
-  connect_tried a next (put slot old) = asks a.port (requests.ConnectAuto a) (when_done (full_done a slot old))
+  connect_tried a next (put slot old) = asks (owner_key a) (requests.ConnectAuto a) (when_done (full_done a slot old))
   connect_tried a next (taken name) = next
   connect_tried a next (full owned held) = ends (refused (errors.Full owned held))
 
@@ -219,7 +222,7 @@ module _ (shape : Shape) (seed : ℕ) where
   abbrev pub search_connect : Owner → ℕ → End → ℕ → Replace → List ℕ → Asking Did
   search_connect a source to moment rule [] = ends (refused errors.NoPort)
   search_connect a source to moment rule (port ∷ ports) =
-      asks port (requests.Free port)
+      asks (bind_key port a.net) (requests.Free port a.net)
       (connect_free (connected_at a source port to) moment rule (search_connect a source to moment rule ports))
 
   -- from that source, if there is one
@@ -237,7 +240,7 @@ module _ (shape : Shape) (seed : ℕ) where
 
   abbrev pub accept_hashed : Owner → Owner → Outcome → Asking Did
   accept_hashed l child (put slot old) =
-      asks l.port (requests.Inherit l.name child.name child.addr child.remote child.rport)
+      asks (owner_key l) (requests.Inherit l.name child.name child.addr child.remote child.rport)
       (when_done (full_done child slot old))
   accept_hashed l child (taken name) = ends (refused (errors.Taken name))
   accept_hashed l child (full owned held) = ends (refused (errors.Full owned held))
@@ -258,7 +261,7 @@ module _ (shape : Shape) (seed : ℕ) where
   abbrev pub close_hashed : Mine → Mine → Outcome → Asking Closed
   close_hashed m w (put slot None) =
       unhashes m.place (card_of kinds.Full m)
-      (asks m.owner.port (requests.ToTimeWait m.owner.name) (when_done (ends (waiting (waits_in w slot)))))
+      (asks (owner_key m.owner) (requests.ToTimeWait m.owner.name) (when_done (ends (waiting (waits_in w slot)))))
   close_hashed m w (full owned held) =
       unhashes m.place (card_of kinds.Full m) (leave m.owner (no_slot owned held))
   close_hashed m w _ = impossible

@@ -1,6 +1,8 @@
 -- Worked examples, computed by the plans on new tables: each line is a command of section 1 with its reply, and the flat
 -- list has the same reply.
 use Rattle.std.specs.Prelude.{◌≡◌, ℕ, List, [], ◌∷◌, ◌++◌, ◌+◌, Option, None, Some, map, codes, false, true}
+use Rattle.std.specs.List.{range_with_len}
+use Rattle.sock_card.specs.Limits.{group_room}
 use Rattle.flat_list.specs.declared.header.Header.{Header}
 use Rattle.flat_list.specs.declared.command.Command.{Command}
 use Rattle.flat_list.specs.declared.command.Command.TheVariants as commands
@@ -97,14 +99,14 @@ listeners (byte ∷ rest) =
     ∷ says (commands.Listen (byte ∷ [])) (replies.Port 80)
     ∷ listeners rest
 
--- a group has sixteen members at most; when one leaves there is room again
+-- a group has room for so many members; when one leaves there is room again
 abbrev pub group_is_full : List Line
 group_is_full =
-    listeners (codes "abcdefghijklmnop")
+    listeners (range_with_len 128 group_room)
     ++ says (sharing (codes "q")) replies.Ok
     ∷ says (commands.Bind (codes "q") (one 80)) (replies.Port 80)
     ∷ says (commands.Listen (codes "q")) replies.Emfile
-    ∷ says (commands.Close b) replies.Ok
+    ∷ says (commands.Close (128 ∷ [])) replies.Ok
     ∷ says (commands.Listen (codes "q")) (replies.Port 80)
     ∷ []
 

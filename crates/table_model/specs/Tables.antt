@@ -39,8 +39,8 @@ reaped chains card (Some x) = unhashed chains (record { bucket = home_in chains 
 -- the plan, carried out on these tables; none where they answer what no table answers
 abbrev pub run : {R : Type 0} → Tables → Asking R → Option (Ended R)
 run t (ends r) = Some (record { tables = t; result = r })
-run t (asks port request then_) =
-    run (with_buckets t (asked_at t.buckets port request)) (then_ (answer_at t.buckets port request))
+run t (asks key request then_) =
+    run (with_buckets t (asked_at t.buckets key request)) (then_ (answer_at t.buckets key request))
 run t (inserts card moment rule then_) =
     let outcome = insert_outcome t.chains card moment rule in
     run (with_chains t (hashed t.chains card outcome)) (then_ outcome)

@@ -11,7 +11,7 @@ pub fn beginnings()
     ensures section { law.StartsMeant }
 {}
 
-/// The owner of an open socket of a section's own stands in the bucket of its port, the first of its name; of
+/// The owner of an open socket of a section's own stands in the bucket of its key, the first of its name; of
 /// one without a port no bucket knows the name.
 pub fn owners_stand()
     ensures stand { law.OwnersStand }

@@ -15,7 +15,7 @@ pub enum OpEnd {
     IsConn,
     /// The group has all its members.
     GroupFull,
-    /// The port's bucket has all its groups.
+    /// The bucket of its key has all its groups.
     GroupsFull,
     /// No slot is free: so many are owned, and so many only held by a lookup.
     Full { owned: u32, held: u32 },

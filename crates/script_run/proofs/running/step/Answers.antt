@@ -18,7 +18,7 @@ returns-in-Look g c =
       kept = record { header = refl; number = refl; labels = omega arith };
       spends = spends_nothing t w u l k;
       refines = subst (λ command. RefinesEach k (tables_of t w) command (tables_of t u) k.own (replies.Found c.look.result)) (sym c.in-Look.is)
-          (look_refines t w u l k c.in-Look.from c.in-Look.to c.in-Look.dev c.packet_of-packet.result c.look.result c.packet_of-packet.ensures c.look.ensures.found);
+          (look_refines t w u l k c.in-Look.query c.packet_of-packet.result c.look.result c.packet_of-packet.ensures c.look.ensures.found);
     }
 
 pub returns-in_default-clause-running : goal.returns-in_default-clause-running
@@ -30,4 +30,4 @@ pub returns-in_default-clause-refines : goal.returns-in_default-clause-refines
 returns-in_default-clause-refines g c =
     let e = c.step.ensures in
     step_refines c.args.tables.now c.args.machine.now c.step.new.self c.args.worker.now c.step.new.worker c.args.command.now c.requires.running e.ready c.step.result e.did
-    c.requires.room (no_lookup c.args.command.now c.requires.one (λ from to dev is. c.in_default.not-Look from to dev is))
+    c.requires.room (no_lookup c.args.command.now c.requires.one (λ query is. c.in_default.not-Look query is))

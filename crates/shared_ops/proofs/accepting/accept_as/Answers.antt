@@ -1,4 +1,5 @@
 use Rattle.std.proofs.Common.{◌≡◌, ◌+◌, ◌++◌, ◌∷◌, [], List, Err, ap, sym, subst, ◌∙◌, ◌%◌, refl}
+use Rattle.sock_card.specs.Conflict.{owner_key}
 use Rattle.turn_table.specs.Passes.{known}
 use Rattle.sock_card.specs.declared.owner.Owner.{Owner}
 use Rattle.bind_buckets.specs.Notes.{Note}
@@ -37,7 +38,7 @@ returns-in-Ok-insert-clause-carried g c =
     let all = subst (λ at. AskedAll at (child_entry l a ∷ gone_of came.replaced end.0) v w) place
     (subst (λ es. AskedAll c.inherit.new.turn.place (es ++ gone_of came.replaced end.0) v w) once end.1) in
     let puts = subst (λ (k : Side). PutsIn (wish_for a 0 rules.Always) came.place came.replaced k d) c.make_room.ensures.side c.in-Ok-insert.ensures.inserts in
-    accept_done n l a (ap (λ (o : Owner). o.port) c.requires.child) v w (side_of t.chains c.args.worker.now.chain) d came.place came.replaced c.at_place.result end.0 puts c.at_place.ensures all
+    accept_done n l a (ap (λ (o : Owner). owner_key o) c.requires.child) v w (side_of t.chains c.args.worker.now.chain) d came.place came.replaced c.at_place.result end.0 puts c.at_place.ensures all
 
 pub returns-in-Ok-insert-clause-stands : goal.returns-in-Ok-insert-clause-stands
 returns-in-Ok-insert-clause-stands g c =
@@ -55,9 +56,9 @@ returns-in-Ok-insert-clause-stands g c =
     let end = c.end_turn.ensures.gave v (asks.within v (c.make_room.ensures.within v c.take-turn.ensures.within)) in
     let all = subst (λ at. AskedAll at (child_entry l a ∷ gone_of came.replaced end.0) v w) place
     (subst (λ es. AskedAll c.inherit.new.turn.place (es ++ gone_of came.replaced end.0) v w) once end.1) in
-    let port : l.port ≡ a.port = sym (ap (λ (o : Owner). o.port) c.requires.child) in
-    let stands = subst (λ p. StandsOwn a (p % n) w) port (child_stands l a (l.port % n) v w came.replaced end.0 c.requires.stands all c.requires.child c.requires.may c.requires.new) in (
-      subst (λ (m : Mine). StandsOwn m.owner (m.owner.port % n) w) (sym c.at_place.ensures) stands,
+    let port : owner_key l ≡ owner_key a = sym (ap (λ (o : Owner). owner_key o) c.requires.child) in
+    let stands = subst (λ p. StandsOwn a (p % n) w) port (child_stands l a (owner_key l % n) v w came.replaced end.0 c.requires.stands all c.requires.child c.requires.may c.requires.new) in (
+      subst (λ (m : Mine). StandsOwn m.owner (owner_key m.owner % n) w) (sym c.at_place.ensures) stands,
       hashed_at a 0 rules.Always came.place came.replaced c.at_place.result (side_of t.chains c.make_room.new.worker.chain) d c.in-Ok-insert.ensures.inserts refl c.at_place.ensures,
     )
 
@@ -76,7 +77,7 @@ returns-in-Ok-insert-clause-listener g c =
     let end = c.end_turn.ensures.gave v (asks.within v (c.make_room.ensures.within v c.take-turn.ensures.within)) in
     let all = subst (λ at. AskedAll at (child_entry l a ∷ gone_of came.replaced end.0) v w) place
     (subst (λ es. AskedAll c.inherit.new.turn.place (es ++ gone_of came.replaced end.0) v w) once end.1) in
-    parent_stands l a (l.port % n) v w came.replaced end.0 c.requires.stands all
+    parent_stands l a (owner_key l % n) v w came.replaced end.0 c.requires.stands all
 
 pub returns-in-Ok-insert-clause-drawn : goal.returns-in-Ok-insert-clause-drawn
 returns-in-Ok-insert-clause-drawn g c = λ more has.
@@ -99,7 +100,7 @@ returns-in-Err-insert-clause-carried g c =
     let made_is = ap (λ (ms : List Note). entries_of ms) (c.make_room.ensures.made ∙ c.take-turn.ensures.none) in
     let gave = all_none turn.place v w (asked_all turn.place turn.place [] v w (made c.make_room.new.worker.turns turn) refl made_is (c.give.ensures.gave v (c.make_room.ensures.within v c.take-turn.ensures.within))) in
     let ins = subst (λ (k : Side). InsertsAs (wish_for a 0 rules.Always) k d (Err c.in-Err-insert.end)) c.make_room.ensures.side c.in-Err-insert.ensures.inserts in
-    accept_refused (buckets_of t) c.args.listener.now a (ap (λ (o : Owner). o.port) c.requires.child) v w (side_of t.chains c.args.worker.now.chain) d c.in-Err-insert.end ins gave
+    accept_refused (buckets_of t) c.args.listener.now a (ap (λ (o : Owner). owner_key o) c.requires.child) v w (side_of t.chains c.args.worker.now.chain) d c.in-Err-insert.end ins gave
 
 pub returns-in-Err-insert-clause-listener : goal.returns-in-Err-insert-clause-listener
 returns-in-Err-insert-clause-listener g c =
@@ -109,7 +110,7 @@ returns-in-Err-insert-clause-listener g c =
     let turn = c.make_room.new.turn in
     let made_is = ap (λ (ms : List Note). entries_of ms) (c.make_room.ensures.made ∙ c.take-turn.ensures.none) in
     let gave = all_none turn.place v w (asked_all turn.place turn.place [] v w (made c.make_room.new.worker.turns turn) refl made_is (c.give.ensures.gave v (c.make_room.ensures.within v c.take-turn.ensures.within))) in
-    stands_still l (l.port % buckets_of c.args.tables.now) v w gave c.requires.stands
+    stands_still l (owner_key l % buckets_of c.args.tables.now) v w gave c.requires.stands
 
 pub returns-in-Err-clause-carried : goal.returns-in-Err-clause-carried
 returns-in-Err-clause-carried g c =
@@ -120,7 +121,7 @@ returns-in-Err-clause-carried g c =
     let turn = c.make_room.new.turn in
     let made_is = ap (λ (ms : List Note). entries_of ms) (c.make_room.ensures.made ∙ c.take-turn.ensures.none) in
     let gave = all_none turn.place v w (asked_all turn.place turn.place [] v w (made c.make_room.new.worker.turns turn) refl made_is (c.give-in-Err.ensures.gave v (c.make_room.ensures.within v c.take-turn.ensures.within))) in
-    accept_left (buckets_of t) c.args.listener.now a (ap (λ (o : Owner). o.port) c.requires.child) v w (side_of t.chains c.args.worker.now.chain) (side_of t.chains c.make_room.new.worker.chain) (sym c.make_room.ensures.side) gave
+    accept_left (buckets_of t) c.args.listener.now a (ap (λ (o : Owner). owner_key o) c.requires.child) v w (side_of t.chains c.args.worker.now.chain) (side_of t.chains c.make_room.new.worker.chain) (sym c.make_room.ensures.side) gave
 
 pub returns-in-Err-clause-listener : goal.returns-in-Err-clause-listener
 returns-in-Err-clause-listener g c =
@@ -130,7 +131,7 @@ returns-in-Err-clause-listener g c =
     let turn = c.make_room.new.turn in
     let made_is = ap (λ (ms : List Note). entries_of ms) (c.make_room.ensures.made ∙ c.take-turn.ensures.none) in
     let gave = all_none turn.place v w (asked_all turn.place turn.place [] v w (made c.make_room.new.worker.turns turn) refl made_is (c.give-in-Err.ensures.gave v (c.make_room.ensures.within v c.take-turn.ensures.within))) in
-    stands_still l (l.port % buckets_of c.args.tables.now) v w gave c.requires.stands
+    stands_still l (owner_key l % buckets_of c.args.tables.now) v w gave c.requires.stands
 
 pub returns-in-Ok-insert-clause-spares : goal.returns-in-Ok-insert-clause-spares
 returns-in-Ok-insert-clause-spares g c =

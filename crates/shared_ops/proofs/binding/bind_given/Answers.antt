@@ -1,4 +1,5 @@
 use Rattle.std.proofs.Common.{◌%◌, ◌∷◌, ◌++◌, [], List, IfOk, OnErr, ap, sym, subst, ◌∙◌}
+use Rattle.sock_card.specs.Conflict.{bind_key}
 use Rattle.turn_table.specs.Passes as words
 use Rattle.turn_table.specs.Passes.{known}
 use Rattle.sock_card.specs.declared.owner.Owner.{Owner}
@@ -30,10 +31,10 @@ returns-in-Ok-clause-carried g c = λ s.
     let asks_it = c.bind-bound.ensures.asks in
     let none = c.reserve.ensures.made ∙ c.take-turn.ensures.none in
     let made = asks_it.made_is ∙ ap (λ (ms : List Note). entries_of ms ++ record { request = requests.Bind c.bound_at-bound_owner.result; answer = answer_of_bind r } ∷ []) none in
-    let place = asks_it.place ∙ (c.reserve.ensures.place ∙ c.take-turn.ensures.place) in
-    let o = subst (λ (b : Owner). OneAsked (end.port % n) (requests.Bind b) (answer_of_bind r) v w) c.bound_at-bound_owner.ensures
+    let place = asks_it.place ∙ (c.reserve.ensures.place ∙ c.take-turn.ensures.place) ∙ ap (λ k. k % n) c.bind_key.ensures in
+    let o = subst (λ (b : Owner). OneAsked (bind_key end.port a.net % n) (requests.Bind b) (answer_of_bind r) v w) c.bound_at-bound_owner.ensures
     (one_asked _ _ _ _ v w _ place made (c.give.ensures.gave v (asks_it.within v c.take-turn.ensures.within))) in
-    subst (CarriedOut {X = Unit {0}} (λ _. bound_to a end.addr end.port) refused n a.name (asks end.port (requests.Bind (bound_at a end.addr end.port)) (bind_answered a end)) v w s s) (sym c.end_of_bind.ensures)
+    subst (CarriedOut {X = Unit {0}} (λ _. bound_to a end.addr end.port) refused n a.name (asks (bind_key end.port a.net) (requests.Bind (bound_at a end.addr end.port)) (bind_answered a end)) v w s s) (sym c.end_of_bind.ensures)
     (given_goes n a v w end r s o)
 
 pub returns-in-Ok-clause-stands : goal.returns-in-Ok-clause-stands
@@ -47,10 +48,10 @@ returns-in-Ok-clause-stands g c = λ away.
     let asks_it = c.bind-bound.ensures.asks in
     let none = c.reserve.ensures.made ∙ c.take-turn.ensures.none in
     let made = asks_it.made_is ∙ ap (λ (ms : List Note). entries_of ms ++ record { request = requests.Bind c.bound_at-bound_owner.result; answer = answer_of_bind r } ∷ []) none in
-    let place = asks_it.place ∙ (c.reserve.ensures.place ∙ c.take-turn.ensures.place) in
-    let o = subst (λ (b : Owner). OneAsked (end.port % n) (requests.Bind b) (answer_of_bind r) v w) c.bound_at-bound_owner.ensures
+    let place = asks_it.place ∙ (c.reserve.ensures.place ∙ c.take-turn.ensures.place) ∙ ap (λ k. k % n) c.bind_key.ensures in
+    let o = subst (λ (b : Owner). OneAsked (bind_key end.port a.net % n) (requests.Bind b) (answer_of_bind r) v w) c.bound_at-bound_owner.ensures
     (one_asked _ _ _ _ v w _ place made (c.give.ensures.gave v (asks_it.within v c.take-turn.ensures.within))) in
-    subst (λ q. IfOk q (λ _. StandsOwn (bound_at a end.addr end.port) (end.port % n) w)) (sym c.end_of_bind.ensures) (given_stands n a v w end r o away)
+    subst (λ q. IfOk q (λ _. StandsOwn (bound_at a end.addr end.port) (bind_key end.port a.net % n) w)) (sym c.end_of_bind.ensures) (given_stands n a v w end r o away)
 
 pub returns-in-Ok-clause-kept : goal.returns-in-Ok-clause-kept
 returns-in-Ok-clause-kept g c = λ away.
@@ -63,8 +64,8 @@ returns-in-Ok-clause-kept g c = λ away.
     let asks_it = c.bind-bound.ensures.asks in
     let none = c.reserve.ensures.made ∙ c.take-turn.ensures.none in
     let made = asks_it.made_is ∙ ap (λ (ms : List Note). entries_of ms ++ record { request = requests.Bind c.bound_at-bound_owner.result; answer = answer_of_bind r } ∷ []) none in
-    let place = asks_it.place ∙ (c.reserve.ensures.place ∙ c.take-turn.ensures.place) in
-    let o = subst (λ (b : Owner). OneAsked (end.port % n) (requests.Bind b) (answer_of_bind r) v w) c.bound_at-bound_owner.ensures
+    let place = asks_it.place ∙ (c.reserve.ensures.place ∙ c.take-turn.ensures.place) ∙ ap (λ k. k % n) c.bind_key.ensures in
+    let o = subst (λ (b : Owner). OneAsked (bind_key end.port a.net % n) (requests.Bind b) (answer_of_bind r) v w) c.bound_at-bound_owner.ensures
     (one_asked _ _ _ _ v w _ place made (c.give.ensures.gave v (asks_it.within v c.take-turn.ensures.within))) in
     subst (λ q. OnErr q (IsAway a.name w)) (sym c.end_of_bind.ensures) (given_kept n a v w end r o away)
 
@@ -72,7 +73,7 @@ pub returns-in-Err-clause-carried : goal.returns-in-Err-clause-carried
 returns-in-Err-clause-carried g c = λ s.
     let a = c.args.owner in
     let end = c.args.end in
-    left_at_once (words.places c.args.buckets.now) a.name (asks end.port (requests.Bind (bound_at a end.addr end.port)) (bind_answered a end)) (known c.args.pass.now) (known c.give-in-Err.new.pass) s
+    left_at_once (words.places c.args.buckets.now) a.name (asks (bind_key end.port a.net) (requests.Bind (bound_at a end.addr end.port)) (bind_answered a end)) (known c.args.pass.now) (known c.give-in-Err.new.pass) s
     (nothing_made _ _ _ _ (c.reserve.ensures.made ∙ c.take-turn.ensures.none) (c.give-in-Err.ensures.gave (known c.args.pass.now) c.take-turn.ensures.within))
 
 pub returns-in-Err-clause-kept : goal.returns-in-Err-clause-kept

@@ -1,4 +1,5 @@
 use Rattle.std.proofs.Common.{◌≡◌, ◌%◌, Err, IfOk, OnErr, sym, subst}
+use Rattle.sock_card.specs.Conflict.{bind_key}
 use Rattle.turn_table.specs.Passes as words
 use Rattle.turn_table.specs.Passes.{known}
 use Rattle.sock_card.specs.declared.owner.Owner.{Owner}
@@ -42,7 +43,7 @@ returns-clause-stands g c = λ away.
     let addr = c.args.addr in
     let ports = c.args.ports in
     let r = c.find_bind-found.result in
-    subst (λ q. IfOk q (λ port. StandsOwn (bound_at a addr port) (port % n) w)) (sym c.end_of_search.ensures)
+    subst (λ q. IfOk q (λ port. StandsOwn (bound_at a addr port) (bind_key port a.net % n) w)) (sym c.end_of_search.ensures)
     (searched_stands n a v w addr ports r (subst (λ (b : Owner). IfOk r (BindsAt n b ports v w)) c.bound_at-bound.ensures c.find_bind-found.ensures.bound) away)
 
 pub returns-clause-kept : goal.returns-clause-kept

@@ -1,4 +1,5 @@
 use Rattle.std.proofs.Common.{◌+◌, ◌++◌, ◌∷◌, [], List, Err, ap, sym, subst, ◌∙◌, ◌%◌, refl, ℕ}
+use Rattle.sock_card.specs.Conflict.{owner_key}
 use Rattle.turn_table.specs.Passes.{known}
 use Rattle.sock_card.specs.declared.owner.Owner.{Owner}
 use Rattle.bind_buckets.specs.declared.request.Request.TheVariants as requests
@@ -36,7 +37,7 @@ returns-in-Ok-insert-clause-carried g c =
     let came = c.in-Ok-insert.came in
     let asks = c.connect_bound.ensures.asks in
     let once = asks.made_is ∙ ap (λ (ms : List Note). entries_of ms ++ entry b.name a ∷ []) (c.make_room.ensures.made ∙ c.take-turn.ensures.none) ∙ ap (λ name. entry name a ∷ []) (sym (ap (λ (o : Owner). o.name) c.requires.full)) in
-    let place = asks.place ∙ (c.make_room.ensures.place ∙ c.take-turn.ensures.place) ∙ ap (λ p. p % n) (sym (ap (λ (o : Owner). o.port) c.requires.full)) in
+    let place = asks.place ∙ (c.make_room.ensures.place ∙ c.take-turn.ensures.place) ∙ ap (λ p. p % n) (sym (ap (λ (o : Owner). owner_key o) c.requires.full)) in
     let end = c.end_turn.ensures.gave v (asks.within v (c.make_room.ensures.within v c.take-turn.ensures.within)) in
     let all = subst (λ at. AskedAll at (bound_entry a ∷ gone_of came.replaced end.0) v w) place
     (subst (λ es. AskedAll c.connect_bound.new.turn.place (es ++ gone_of came.replaced end.0) v w) once end.1) in
@@ -55,12 +56,12 @@ returns-in-Ok-insert-clause-stands g c =
     let came = c.in-Ok-insert.came in
     let asks = c.connect_bound.ensures.asks in
     let once = asks.made_is ∙ ap (λ (ms : List Note). entries_of ms ++ entry b.name a ∷ []) (c.make_room.ensures.made ∙ c.take-turn.ensures.none) ∙ ap (λ name. entry name a ∷ []) (sym (ap (λ (o : Owner). o.name) c.requires.full)) in
-    let place = asks.place ∙ (c.make_room.ensures.place ∙ c.take-turn.ensures.place) ∙ ap (λ p. p % n) (sym (ap (λ (o : Owner). o.port) c.requires.full)) in
+    let place = asks.place ∙ (c.make_room.ensures.place ∙ c.take-turn.ensures.place) ∙ ap (λ p. p % n) (sym (ap (λ (o : Owner). owner_key o) c.requires.full)) in
     let end = c.end_turn.ensures.gave v (asks.within v (c.make_room.ensures.within v c.take-turn.ensures.within)) in
     let all = subst (λ at. AskedAll at (bound_entry a ∷ gone_of came.replaced end.0) v w) place
     (subst (λ es. AskedAll c.connect_bound.new.turn.place (es ++ gone_of came.replaced end.0) v w) once end.1) in
     let stands = connect_stands n b a v w came.replaced end.0 c.requires.full c.requires.stands all in (
-      subst (λ (m : Mine). StandsOwn m.owner (m.owner.port % n) w) (sym c.at_place.ensures) stands,
+      subst (λ (m : Mine). StandsOwn m.owner (owner_key m.owner % n) w) (sym c.at_place.ensures) stands,
       hashed_at a c.args.moment c.args.rule came.place came.replaced c.at_place.result (side_of t.chains c.make_room.new.worker.chain) d c.in-Ok-insert.ensures.inserts refl c.at_place.ensures,
     )
 
@@ -95,7 +96,7 @@ returns-in-Err-insert-clause-kept g c =
     let turn = c.make_room.new.turn in
     let made_is = ap (λ (ms : List Note). entries_of ms) (c.make_room.ensures.made ∙ c.take-turn.ensures.none) in
     let gave = all_none turn.place v w (asked_all turn.place turn.place [] v w (made c.make_room.new.worker.turns turn) refl made_is (c.give.ensures.gave v (c.make_room.ensures.within v c.take-turn.ensures.within))) in
-    stands_still b (b.port % buckets_of c.args.tables.now) v w gave c.requires.stands
+    stands_still b (owner_key b % buckets_of c.args.tables.now) v w gave c.requires.stands
 
 pub returns-in-Err-clause-carried : goal.returns-in-Err-clause-carried
 returns-in-Err-clause-carried g c =
@@ -116,7 +117,7 @@ returns-in-Err-clause-kept g c =
     let turn = c.make_room.new.turn in
     let made_is = ap (λ (ms : List Note). entries_of ms) (c.make_room.ensures.made ∙ c.take-turn.ensures.none) in
     let gave = all_none turn.place v w (asked_all turn.place turn.place [] v w (made c.make_room.new.worker.turns turn) refl made_is (c.give-in-Err.ensures.gave v (c.make_room.ensures.within v c.take-turn.ensures.within))) in
-    stands_still b (b.port % buckets_of c.args.tables.now) v w gave c.requires.stands
+    stands_still b (owner_key b % buckets_of c.args.tables.now) v w gave c.requires.stands
 
 pub returns-in-Ok-insert-clause-spares : goal.returns-in-Ok-insert-clause-spares
 returns-in-Ok-insert-clause-spares g c =

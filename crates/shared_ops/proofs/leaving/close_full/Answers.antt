@@ -1,4 +1,5 @@
 use Rattle.std.proofs.Common.{◌+◌, [], List, ap, sym, subst, ◌∙◌, ◌%◌, refl}
+use Rattle.sock_card.specs.Conflict.{owner_key}
 use Rattle.sock_card.specs.declared.card.Kind.TheVariants as kinds
 use Rattle.turn_table.specs.Passes.{known}
 use Rattle.bind_buckets.specs.Notes.{Note}
@@ -53,7 +54,7 @@ returns-in-Err-clause-kept g c =
     let w = known c.give.new.pass in
     let place = c.make_room.new.turn.place in
     let all = asked_all place place [] v w (made c.make_room.new.worker.turns c.make_room.new.turn) refl (ap (λ (ms : List Note). entries_of ms) (c.make_room.ensures.made ∙ c.take-turn.ensures.none)) (c.give.ensures.gave v (c.make_room.ensures.within v c.take-turn.ensures.within)) in (
-      stands_on m.owner (m.owner.port % buckets_of t) v w [] c.requires.stands (grows v w [] (all_none place v w all)) tt,
+      stands_on m.owner (owner_key m.owner % buckets_of t) v w [] c.requires.stands (grows v w [] (all_none place v w all)) tt,
       subst (IsHashed kinds.Full m) (sym c.make_room.ensures.side) c.requires.hashed,
     )
 
@@ -62,7 +63,7 @@ returns-in-Ok-clause-lists g c =
     let m : Mine = c.args.full.now in
     let v = turned c.args.worker.now in
     let u = c.wait_in.new.worker in
-    subst (λ p. LeavesOrStays (m.owner.port % buckets_of c.args.tables.now) m.owner (turned u) p u.groups) c.make_room.ensures.groups
+    subst (λ p. LeavesOrStays (owner_key m.owner % buckets_of c.args.tables.now) m.owner (turned u) p u.groups) c.make_room.ensures.groups
     (c.wait_in.ensures.lists v (c.make_room.ensures.within v c.take-turn.ensures.within))
 
 pub returns-in-Ok-clause-listed : goal.returns-in-Ok-clause-listed

@@ -1,4 +1,5 @@
 use Rattle.std.proofs.Common.{◌≡◌, ◌∷◌, [], ◌%◌, ap, sym, subst, ◌∙◌}
+use Rattle.sock_card.specs.Conflict.{owner_key}
 use Rattle.turn_table.specs.Passes.{known}
 use Rattle.sock_card.specs.declared.owner.Owner.{Owner}
 use Rattle.sock_card.specs.declared.owner.State.{State}
@@ -24,6 +25,6 @@ returns-in-Bound-clause-carried g c =
     let m : Mine = c.in-Bound.field-0 in
     let owner : c.owner-owner.result.now ≡ m.owner = c.owner-owner.ensures.owner ∙ ap (λ (s : Sock). (mine_of s).owner) c.in-Bound.is in
     let state = subst FitsState c.in-Bound.is c.owner-owner.ensures.state in
-    let all = subst (λ (o : Owner). AskedAll (o.port % n) (leave_entry o ∷ []) v w) owner c.leave_port.ensures.gave in
+    let all = subst (λ (o : Owner). AskedAll (owner_key o % n) (leave_entry o ∷ []) v w) owner c.leave_port.ensures.gave in
     let planned = subst (λ (st : State). Went n (plans.drop_as st m plans.gone) v w k k (ends plans.gone)) (sym state) (bound_leaves n m.owner v w k all) in
     subst (λ (s : Sock). Went n (plans.drop (mine_of s) plans.gone) v w k k (ends plans.gone)) (sym c.in-Bound.is) planned

@@ -1,4 +1,5 @@
 use Rattle.std.proofs.Common.{◌+◌, ◌++◌, ◌∷◌, [], List, ap, sym, subst, ◌∙◌, ◌%◌, refl}
+use Rattle.sock_card.specs.Conflict.{owner_key}
 use Rattle.turn_table.specs.Passes.{known}
 use Rattle.bind_buckets.specs.Notes.{Note}
 use Rattle.bind_buckets.specs.Bucket.{entries_of}
@@ -35,7 +36,7 @@ returns-in-Ok-clause-carried g c =
     let asks = c.leave.ensures.asks in
     let once = asks.made_is ∙ ap (λ (ms : List Note). entries_of ms ++ leave_entry a ∷ []) (c.make_room.ensures.made ∙ c.take-turn.ensures.none) in
     let place = asks.place ∙ (c.make_room.ensures.place ∙ c.take-turn.ensures.place) in
-    let all = asked_all c.leave.new.turn.place (a.port % n) (leave_entry a ∷ []) v w (made c.leave.new.pass c.leave.new.turn) place once (c.give.ensures.gave v (asks.within v (c.make_room.ensures.within v c.take-turn.ensures.within))) in
+    let all = asked_all c.leave.new.turn.place (owner_key a % n) (leave_entry a ∷ []) v w (made c.leave.new.pass c.leave.new.turn) place once (c.give.ensures.gave v (asks.within v (c.make_room.ensures.within v c.take-turn.ensures.within))) in
     hashed_leaves n a v w c.args.place removes.unhash (side_of t.chains c.args.worker.now.chain) d removes.is removes.does all
 
 pub returns-in-Err-clause-carried : goal.returns-in-Err-clause-carried
@@ -57,7 +58,7 @@ returns-in-Err-clause-kept g c =
     let w = known c.give-in-Err.new.pass in
     let place = c.make_room.new.turn.place in
     let all = asked_all place place [] v w (made c.make_room.new.worker.turns c.make_room.new.turn) refl (ap (λ (ms : List Note). entries_of ms) (c.make_room.ensures.made ∙ c.take-turn.ensures.none)) (c.give-in-Err.ensures.gave v (c.make_room.ensures.within v c.take-turn.ensures.within)) in
-    stands_on a (a.port % buckets_of t) v w [] c.requires.stands (grows v w [] (all_none place v w all)) tt
+    stands_on a (owner_key a % buckets_of t) v w [] c.requires.stands (grows v w [] (all_none place v w all)) tt
 
 pub returns-in-Ok-clause-lists : goal.returns-in-Ok-clause-lists
 returns-in-Ok-clause-lists g c =
@@ -70,7 +71,7 @@ returns-in-Ok-clause-lists g c =
     let r = c.make_room in
     let within = e.asks.within v (r.ensures.within v c.take-turn.ensures.within) in
     let at = r.ensures.place ∙ c.take-turn.ensures.place in
-    let leaves = subst (λ p. LeavesAs (a.port % buckets_of t) a w p q) r.ensures.groups
+    let leaves = subst (λ p. LeavesAs (owner_key a % buckets_of t) a w p q) r.ensures.groups
     (subst (λ i. LeavesAs i a w r.new.worker.groups q) at
     (leaves_as t.buckets r.new.worker.turns r.new.turn c.leave.new.pass c.leave.new.turn a v w e.lists.0 r.new.worker.groups q e.sound.0 e.sound.1 r.ensures.out e.asks
     within (c.give.ensures.gave v within) e.lists.1)) in
@@ -87,13 +88,13 @@ returns-in-Ok-clause-listed g c =
     let r = c.make_room in
     let within = e.asks.within v (r.ensures.within v c.take-turn.ensures.within) in
     let at = r.ensures.place ∙ c.take-turn.ensures.place in
-    let leaves = subst (λ p. LeavesAs (a.port % buckets_of t) a w p q) r.ensures.groups
+    let leaves = subst (λ p. LeavesAs (owner_key a % buckets_of t) a w p q) r.ensures.groups
     (subst (λ i. LeavesAs i a w r.new.worker.groups q) at
     (leaves_as t.buckets r.new.worker.turns r.new.turn c.leave.new.pass c.leave.new.turn a v w e.lists.0 r.new.worker.groups q e.sound.0 e.sound.1 r.ensures.out e.asks
     within (c.give.ensures.gave v within) e.lists.1)) in
     let once = e.asks.made_is ∙ ap (λ (ms : List Note). entries_of ms ++ leave_entry a ∷ []) (r.ensures.made ∙ c.take-turn.ensures.none) in
-    let all = asked_all c.leave.new.turn.place (a.port % buckets_of t) (leave_entry a ∷ []) v w (made c.leave.new.pass c.leave.new.turn) (e.asks.place ∙ at) once (c.give.ensures.gave v within) in
-    left_keeps (lists.groups t.groups) (a.port % buckets_of t) a v w c.args.worker.now.groups q all leaves
+    let all = asked_all c.leave.new.turn.place (owner_key a % buckets_of t) (leave_entry a ∷ []) v w (made c.leave.new.pass c.leave.new.turn) (e.asks.place ∙ at) once (c.give.ensures.gave v within) in
+    left_keeps (lists.groups t.groups) (owner_key a % buckets_of t) a v w c.args.worker.now.groups q all leaves
 
 pub returns-in-Err-clause-listed : goal.returns-in-Err-clause-listed
 returns-in-Err-clause-listed g c =

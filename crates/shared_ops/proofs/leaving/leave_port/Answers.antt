@@ -1,4 +1,5 @@
 use Rattle.std.proofs.Common.{subst, ◌++◌, ◌∷◌, [], List, ap, ◌∙◌, ◌%◌}
+use Rattle.sock_card.specs.Conflict.{owner_key}
 use Rattle.turn_table.specs.Passes as words
 use Rattle.turn_table.specs.Passes.{known}
 use Rattle.bind_buckets.specs.Notes.{Note}
@@ -17,7 +18,7 @@ returns-clause-gave g c =
     let v = known c.args.pass.now in
     let asks = c.leave.ensures.asks in
     let once = asks.made_is ∙ ap (λ (ms : List Note). entries_of ms ++ leave_entry a ∷ []) c.take-turn.ensures.none in
-    asked_all c.leave.new.turn.place (a.port % words.places c.args.tables.now.buckets) (leave_entry a ∷ []) v (known c.give.new.pass) (made c.leave.new.pass c.leave.new.turn) (asks.place ∙ c.take-turn.ensures.place) once (c.give.ensures.gave v (asks.within v c.take-turn.ensures.within))
+    asked_all c.leave.new.turn.place (owner_key a % words.places c.args.tables.now.buckets) (leave_entry a ∷ []) v (known c.give.new.pass) (made c.leave.new.pass c.leave.new.turn) (asks.place ∙ c.take-turn.ensures.place) once (c.give.ensures.gave v (asks.within v c.take-turn.ensures.within))
 
 pub returns-clause-lists : goal.returns-clause-lists
 returns-clause-lists g c =
@@ -40,7 +41,7 @@ returns-clause-listed g c =
     let p = c.args.passes.now in
     let q = c.leave.new.passes in
     let e = c.leave.ensures in
-    let place = a.port % words.places c.args.tables.now.buckets in
+    let place = owner_key a % words.places c.args.tables.now.buckets in
     let once = e.asks.made_is ∙ ap (λ (ms : List Note). entries_of ms ++ leave_entry a ∷ []) c.take-turn.ensures.none in
     let within = e.asks.within v c.take-turn.ensures.within in
     left_keeps (lists.groups c.args.tables.now.groups) place a v w p q

@@ -1,4 +1,5 @@
 use Rattle.std.proofs.Common.{inl, inr, refl, ◌≡◌, ◌++◌, ◌∷◌, [], List, Ok, Err, ap, sym, subst, ◌∙◌, ◌%◌}
+use Rattle.sock_card.specs.Conflict.{owner_key}
 use Rattle.sock_card.specs.declared.owner.Owner.{Owner}
 use Rattle.sock_card.specs.declared.card.Kind.TheVariants as kinds
 use Rattle.sock_card.specs.Became.{as_waiting}
@@ -40,7 +41,7 @@ returns-in-Ok-clause-went g c = λ v within.
     let d = side_of t.chains c.replace.new.pass in
     let asks = c.to_time_wait.ensures.asks in
     let once = asks.made_is ∙ ap (λ (ms : List Note). entries_of ms ++ wait_entry c.full.inside.owner ∷ []) c.requires.made ∙ ap (λ (o : Owner). wait_entry o ∷ []) own in
-    let all = asked_all c.to_time_wait.new.turn.place (m.owner.port % n) (wait_entry m.owner ∷ []) v w (made c.to_time_wait.new.pass c.to_time_wait.new.turn) (asks.place ∙ c.requires.place) once (c.give.ensures.gave v (asks.within v within)) in
+    let all = asked_all c.to_time_wait.new.turn.place (owner_key m.owner % n) (wait_entry m.owner ∷ []) v w (made c.to_time_wait.new.pass c.to_time_wait.new.turn) (asks.place ∙ c.requires.place) once (c.give.ensures.gave v (asks.within v within)) in
     let waits = subst (λ (p : Stood). WaitsAs p c.card_as-card.result k d (Ok c.in-Ok.place)) c.full_place.ensures c.in-Ok.ensures.waits in
     close_waits n m c.args.moment v w k d c.as_waiting-waiting.result c.card_as-card.result c.in-Ok.place (c.as_waiting-waiting.ensures ∙ ap as_waiting own) c.card_as-card.ensures waits all
 
@@ -55,7 +56,7 @@ returns-in-Err-clause-went g c = λ v within.
     let d = side_of t.chains c.replace.new.pass in
     let asks = c.leave.ensures.asks in
     let once = asks.made_is ∙ ap (λ (ms : List Note). entries_of ms ++ leave_entry c.full.inside.owner ∷ []) c.requires.made ∙ ap (λ (o : Owner). leave_entry o ∷ []) own in
-    let all = asked_all c.leave.new.turn.place (m.owner.port % n) (leave_entry m.owner ∷ []) v w (made c.leave.new.pass c.leave.new.turn) (asks.place ∙ c.requires.place) once (c.give-in-Err.ensures.gave v (asks.within v within)) in
+    let all = asked_all c.leave.new.turn.place (owner_key m.owner % n) (leave_entry m.owner ∷ []) v w (made c.leave.new.pass c.leave.new.turn) (asks.place ∙ c.requires.place) once (c.give-in-Err.ensures.gave v (asks.within v within)) in
     let slots = c.in-Err.slots in
     let goes = subst (λ (p : Stood). WaitsAs p c.card_as-card.result k d (Err slots)) c.full_place.ensures c.in-Err.ensures.waits in
     close_goes n m c.args.moment v w k d c.as_waiting-waiting.result c.card_as-card.result slots.owned slots.held (c.as_waiting-waiting.ensures ∙ ap as_waiting own) c.card_as-card.ensures goes all
@@ -83,7 +84,7 @@ returns-in-Err-clause-lists g c = λ v within.
     let q = c.leave.new.passes in
     let e = c.leave.ensures in
     let inside = e.asks.within v within in
-    let leaves = subst (λ (o : Owner). LeavesAs (m.owner.port % n) o w p q) own
+    let leaves = subst (λ (o : Owner). LeavesAs (owner_key m.owner % n) o w p q) own
     (subst (λ i. LeavesAs i c.full.inside.owner w p q) c.requires.place
     (leaves_as t.buckets c.args.worker.now.turns c.args.turn c.leave.new.pass c.leave.new.turn c.full.inside.owner v w e.lists.0 p q e.sound.0 e.sound.1 c.requires.out e.asks
     inside (c.give-in-Err.ensures.gave v inside) e.lists.1)) in
@@ -100,10 +101,10 @@ returns-in-Err-clause-listed g c = λ v within.
     let q = c.leave.new.passes in
     let e = c.leave.ensures in
     let inside = e.asks.within v within in
-    let leaves = subst (λ (o : Owner). LeavesAs (m.owner.port % n) o w p q) own
+    let leaves = subst (λ (o : Owner). LeavesAs (owner_key m.owner % n) o w p q) own
     (subst (λ i. LeavesAs i c.full.inside.owner w p q) c.requires.place
     (leaves_as t.buckets c.args.worker.now.turns c.args.turn c.leave.new.pass c.leave.new.turn c.full.inside.owner v w e.lists.0 p q e.sound.0 e.sound.1 c.requires.out e.asks
     inside (c.give-in-Err.ensures.gave v inside) e.lists.1)) in
     let once = e.asks.made_is ∙ ap (λ (ms : List Note). entries_of ms ++ leave_entry c.full.inside.owner ∷ []) c.requires.made ∙ ap (λ (o : Owner). leave_entry o ∷ []) own in
-    let all = asked_all c.leave.new.turn.place (m.owner.port % n) (leave_entry m.owner ∷ []) v w (made c.leave.new.pass c.leave.new.turn) (e.asks.place ∙ c.requires.place) once (c.give-in-Err.ensures.gave v inside) in
-    left_keeps (lists.groups t.groups) (m.owner.port % n) m.owner v w p q all leaves
+    let all = asked_all c.leave.new.turn.place (owner_key m.owner % n) (leave_entry m.owner ∷ []) v w (made c.leave.new.pass c.leave.new.turn) (e.asks.place ∙ c.requires.place) once (c.give-in-Err.ensures.gave v inside) in
+    left_keeps (lists.groups t.groups) (owner_key m.owner % n) m.owner v w p q all leaves

@@ -1,4 +1,5 @@
 use Rattle.std.proofs.Common.{◌≡◌, ◌%◌, false, IfOk, OnErr, ap, sym, subst, ◌∙◌}
+use Rattle.sock_card.specs.Conflict.{owner_key}
 use Rattle.sock_card.specs.declared.owner.Owner.{Owner}
 use Rattle.sock_card.specs.declared.owner.State.{State}
 use Rattle.table_model.specs.declared.operation.OpEnd.TheVariants as errors
@@ -49,7 +50,7 @@ returns-in-Bound-clause-stands g c =
     let r = c.start-started.result in
     let owner : c.owner.result.now ≡ m.owner = c.owner.ensures.owner ∙ ap (λ (s : Sock). (mine_of s).owner) c.in-Bound.is in
     let stands = subst (λ (s : Sock). StandsAs t s v k) c.in-Bound.is c.requires.stands in
-    let tells = subst (λ (o : Owner). TellsAs (o.port % n) o false v w r) owner c.start-started.ensures.tells in
+    let tells = subst (λ (o : Owner). TellsAs (owner_key o % n) o false v w r) owner c.start-started.ensures.tells in
     subst (λ x. IfOk x (λ listens. StandsAs t listens.0 w d)) (sym c.listen_answer-in-Bound.ensures)
     (bound_stands t m v w d (socks.Bound m) stands r tells c.start-started.ensures.hashed)
 
@@ -65,7 +66,7 @@ returns-in-Bound-clause-kept g c =
     let r = c.start-started.result in
     let owner : c.owner.result.now ≡ m.owner = c.owner.ensures.owner ∙ ap (λ (s : Sock). (mine_of s).owner) c.in-Bound.is in
     let stands = subst (λ (s : Sock). StandsAs t s v k) c.in-Bound.is c.requires.stands in
-    let tells = subst (λ (o : Owner). TellsAs (o.port % n) o false v w r) owner c.start-started.ensures.tells in
+    let tells = subst (λ (o : Owner). TellsAs (owner_key o % n) o false v w r) owner c.start-started.ensures.tells in
     subst (λ x. OnErr x (StandsAs t c.args.socket w d)) (sym c.listen_answer-in-Bound.ensures)
     (subst (λ (s : Sock). OnErr (listen_answer (socks.Bound m) r) (StandsAs t s w d)) (sym c.in-Bound.is) (bound_kept t m v w d (socks.Bound m) stands r tells))
 
@@ -103,7 +104,7 @@ returns-in-Bound-clause-lists g c =
     let m : Mine = c.in-Bound.bound in
     let r = c.start-started.result in
     let owner : c.owner.result.now ≡ m.owner = c.owner.ensures.owner ∙ ap (λ (s : Sock). (mine_of s).owner) c.in-Bound.is in
-    let tells = subst (λ (o : Owner). TellsAs (o.port % n) o false v w r) owner c.start-started.ensures.tells in
-    let starts = subst (λ (o : Owner). StartsLists false (o.port % n) o w p u.groups r) owner c.start-started.ensures.lists in
+    let tells = subst (λ (o : Owner). TellsAs (owner_key o % n) o false v w r) owner c.start-started.ensures.tells in
+    let starts = subst (λ (o : Owner). StartsLists false (owner_key o % n) o w p u.groups r) owner c.start-started.ensures.lists in
     subst (λ x. ListsOfListen n c.args.socket w p u.groups (without_socket x)) (sym c.listen_answer-in-Bound.ensures)
     (subst (λ (s : Sock). ListsOfListen n s w p u.groups (without_socket (listen_answer (socks.Bound m) r))) (sym c.in-Bound.is) (bound_lists n m.owner v w p u.groups m r tells starts))

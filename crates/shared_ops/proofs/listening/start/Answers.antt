@@ -1,4 +1,5 @@
 use Rattle.std.proofs.Common.{Result, Err, ◌+◌, ◌++◌, ◌∷◌, [], List, ap, sym, subst, ◌∙◌, ◌%◌}
+use Rattle.sock_card.specs.Conflict.{owner_key}
 use Rattle.turn_table.specs.Passes.{known}
 use Rattle.bind_buckets.specs.declared.request.Answer.TheVariants as answers
 use Rattle.bind_buckets.specs.Notes.{Note}
@@ -28,7 +29,7 @@ give_back-requires-in-Err-clause-there g c =
     let v = turned c.args.worker.now in
     let e = c.make_room.ensures in
     let k = c.take-turn.ensures in
-    there_now t.buckets c.make_room.new.worker.turns c.make_room.new.turn a (a.port % buckets_of t) v e.out e.sound (e.made ∙ k.none) (e.place ∙ k.place) (e.within v k.within) c.requires.stands
+    there_now t.buckets c.make_room.new.worker.turns c.make_room.new.turn a (owner_key a % buckets_of t) v e.out e.sound (e.made ∙ k.none) (e.place ∙ k.place) (e.within v k.within) c.requires.stands
 
 pub returns-in-Ok-may_listen-clause-drawn : goal.returns-in-Ok-may_listen-clause-drawn
 returns-in-Ok-may_listen-clause-drawn g c = λ more may.
@@ -97,7 +98,7 @@ returns-in-Err-may_listen-clause-tells g c =
     let e = asked_listen a answer in
     let made = asks.made_is ∙ ap (λ (ms : List Note). entries_of ms ++ e ∷ []) (c.make_room.ensures.made ∙ c.take-turn.ensures.none) in
     let place = asks.place ∙ (c.make_room.ensures.place ∙ c.take-turn.ensures.place) in
-    first_told (a.port % buckets_of c.args.tables.now) a v w took answer
+    first_told (owner_key a % buckets_of c.args.tables.now) a v w took answer
     (subst (λ at. AskedAll at (e ∷ gone_if took a) v w) place
     (subst (λ es. AskedAll c.may_listen.new.turn.place (es ++ gone_if took a) v w) made (c.give_back.ensures.gave v (asks.within v (c.make_room.ensures.within v c.take-turn.ensures.within)))))
 
@@ -108,7 +109,7 @@ returns-in-Err-clause-tells g c =
     let w = known c.give_back-in-Err.new.pass in
     let took = c.args.took in
     let place = c.make_room.ensures.place ∙ c.take-turn.ensures.place in
-    none_told (a.port % buckets_of c.args.tables.now) a v w took
+    none_told (owner_key a % buckets_of c.args.tables.now) a v w took
     (subst (λ at. AskedAll at (gone_if took a) v w) place
     (subst (λ (ms : List Note). AskedAll c.make_room.new.turn.place (entries_of ms ++ gone_if took a) v w) (c.make_room.ensures.made ∙ c.take-turn.ensures.none) (c.give_back-in-Err.ensures.gave v (c.make_room.ensures.within v c.take-turn.ensures.within))))
 
@@ -120,7 +121,7 @@ returns-in-Ok-may_listen-clause-lists g c =
     let asks = c.in-Ok-may_listen.ensures.asks in
     let e = asked_listen a (answers.Group c.in-Ok-may_listen.group) in
     let made = asks.made_is ∙ ap (λ (ms : List Note). entries_of ms ++ e ∷ []) (c.make_room.ensures.made ∙ c.take-turn.ensures.none) in
-    subst (λ p. StartsLists c.args.took (a.port % buckets_of c.args.tables.now) a (turned u) p u.groups c.start_in.result) c.make_room.ensures.groups
+    subst (λ p. StartsLists c.args.took (owner_key a % buckets_of c.args.tables.now) a (turned u) p u.groups c.start_in.result) c.make_room.ensures.groups
     (c.start_in.ensures.lists v (asks.within v (c.make_room.ensures.within v c.take-turn.ensures.within)) made)
 
 pub returns-in-Ok-may_listen-clause-listed : goal.returns-in-Ok-may_listen-clause-listed
@@ -130,7 +131,7 @@ returns-in-Ok-may_listen-clause-listed g c =
     let u = c.start_in.new.worker in
     let t = c.args.tables.now in
     let p = c.args.worker.now.groups in
-    let place = a.port % buckets_of t in
+    let place = owner_key a % buckets_of t in
     let asks = c.in-Ok-may_listen.ensures.asks in
     let e = asked_listen a (answers.Group c.in-Ok-may_listen.group) in
     let made = asks.made_is ∙ ap (λ (ms : List Note). entries_of ms ++ e ∷ []) (c.make_room.ensures.made ∙ c.take-turn.ensures.none) in
@@ -145,7 +146,7 @@ returns-in-Err-may_listen-clause-lists g c =
     let w = known c.give_back.new.pass in
     let asks = c.in-Err-may_listen.ensures.asks in
     let at = asks.place ∙ (c.make_room.ensures.place ∙ c.take-turn.ensures.place) in
-    subst (λ p. GaveBack c.args.took (a.port % buckets_of c.args.tables.now) a w p c.give_back.new.passes) c.make_room.ensures.groups
+    subst (λ p. GaveBack c.args.took (owner_key a % buckets_of c.args.tables.now) a w p c.give_back.new.passes) c.make_room.ensures.groups
     (subst (λ i. GaveBack c.args.took i a w c.make_room.new.worker.groups c.give_back.new.passes) at
     (c.give_back.ensures.lists v (asks.within v (c.make_room.ensures.within v c.take-turn.ensures.within))))
 
@@ -154,7 +155,7 @@ returns-in-Err-may_listen-clause-listed g c =
     let a = c.args.owner.now in
     let end : Result Mine OpEnd = Err c.end_of.result in
     let t = c.args.tables.now in
-    start_keeps (lists.groups t.groups) (a.port % buckets_of t) a (turned c.args.worker.now) (known c.give_back.new.pass) c.args.worker.now.groups c.give_back.new.passes c.args.took end
+    start_keeps (lists.groups t.groups) (owner_key a % buckets_of t) a (turned c.args.worker.now) (known c.give_back.new.pass) c.args.worker.now.groups c.give_back.new.passes c.args.took end
     (returns-in-Err-may_listen-clause-tells g c) (returns-in-Err-may_listen-clause-lists g c)
 
 pub returns-in-Err-clause-lists : goal.returns-in-Err-clause-lists
@@ -163,7 +164,7 @@ returns-in-Err-clause-lists g c =
     let v = turned c.args.worker.now in
     let w = known c.give_back-in-Err.new.pass in
     let at = c.make_room.ensures.place ∙ c.take-turn.ensures.place in
-    subst (λ p. GaveBack c.args.took (a.port % buckets_of c.args.tables.now) a w p c.give_back-in-Err.new.passes) c.make_room.ensures.groups
+    subst (λ p. GaveBack c.args.took (owner_key a % buckets_of c.args.tables.now) a w p c.give_back-in-Err.new.passes) c.make_room.ensures.groups
     (subst (λ i. GaveBack c.args.took i a w c.make_room.new.worker.groups c.give_back-in-Err.new.passes) at
     (c.give_back-in-Err.ensures.lists v (c.make_room.ensures.within v c.take-turn.ensures.within)))
 
@@ -172,5 +173,5 @@ returns-in-Err-clause-listed g c =
     let a = c.args.owner.now in
     let end : Result Mine OpEnd = Err errors.Memory in
     let t = c.args.tables.now in
-    start_keeps (lists.groups t.groups) (a.port % buckets_of t) a (turned c.args.worker.now) (known c.give_back-in-Err.new.pass) c.args.worker.now.groups c.give_back-in-Err.new.passes c.args.took end
+    start_keeps (lists.groups t.groups) (owner_key a % buckets_of t) a (turned c.args.worker.now) (known c.give_back-in-Err.new.pass) c.args.worker.now.groups c.give_back-in-Err.new.passes c.args.took end
     (returns-in-Err-clause-tells g c) (returns-in-Err-clause-lists g c)

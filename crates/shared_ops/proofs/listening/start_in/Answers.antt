@@ -1,4 +1,5 @@
 use Rattle.std.proofs.Common.{◌++◌, ◌∷◌, [], List, ap, subst, ◌∙◌, ◌%◌}
+use Rattle.sock_card.specs.Conflict.{owner_key}
 use Rattle.turn_table.specs.Passes.{known}
 use Rattle.bind_buckets.specs.declared.request.Entry.{Entry}
 use Rattle.bind_buckets.specs.declared.request.Answer.TheVariants as answers
@@ -26,7 +27,7 @@ returns-in-Ok-clause-carried g c = λ v within only.
     let said = said_listen a c.in-Ok.place.slot in
     listen_done n a c.args.took v w (side_of t.chains c.args.worker.now.chain) (side_of t.chains c.hash.new.pass) group c.as_listener-listener.result c.extra_of-extra.result c.card_as-card.result c.in-Ok.place c.at_place.result
     c.as_listener-listener.ensures c.extra_of-extra.ensures c.card_as-card.ensures c.in-Ok.ensures.adds c.at_place.ensures
-    (asked_all c.join.new.turn.place (a.port % n) (asked_listen a (answers.Group group) ∷ said ∷ []) v w (made c.join.new.pass c.join.new.turn) (asks.place ∙ c.requires.place)
+    (asked_all c.join.new.turn.place (owner_key a % n) (asked_listen a (answers.Group group) ∷ said ∷ []) v w (made c.join.new.pass c.join.new.turn) (asks.place ∙ c.requires.place)
     (asks.made_is ∙ ap (λ (xs : List Entry). xs ++ said ∷ []) only) (c.give.ensures.gave v (asks.within v within)))
 
 pub returns-in-Err-clause-carried : goal.returns-in-Err-clause-carried
@@ -45,7 +46,7 @@ pub returns-in-Ok-clause-tells : goal.returns-in-Ok-clause-tells
 returns-in-Ok-clause-tells g c = λ v within only.
     let a = c.args.owner.now in
     let t = c.args.tables.now in
-    let place = a.port % buckets_of t in
+    let place = owner_key a % buckets_of t in
     let w = known c.give.new.pass in
     let asks = c.join.ensures.asks in
     let said = said_listen a c.in-Ok.place.slot in
@@ -61,7 +62,7 @@ returns-in-Err-clause-tells g c = λ v within only.
     let answer = answers.Group c.args.group in
     let all = subst (λ place. AskedAll place (asked_listen a answer ∷ gone_if took a) v w) c.requires.place
     (subst (λ (es : List Entry). AskedAll c.args.turn.place (es ++ gone_if took a) v w) only (c.give_back.ensures.gave v within)) in
-    first_told (a.port % buckets_of c.args.tables.now) a v w took answer all
+    first_told (owner_key a % buckets_of c.args.tables.now) a v w took answer all
 
 pub returns-in-Ok-clause-lists : goal.returns-in-Ok-clause-lists
 returns-in-Ok-clause-lists g c = λ v within only.

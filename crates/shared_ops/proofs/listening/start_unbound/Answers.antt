@@ -1,4 +1,5 @@
 use Rattle.std.proofs.Common.{ℕ, ◌%◌, true, Err, refl, ap, subst, sym, ◌∙◌}
+use Rattle.sock_card.specs.Conflict.{owner_key}
 use Rattle.sock_card.specs.declared.owner.Owner.{Owner}
 use Rattle.turn_table.specs.Passes.{known}
 use Rattle.flat_list.specs.Owned.{bound_at}
@@ -26,7 +27,7 @@ start-requires-clause-stands g c =
     let v = turned c.args.worker.now in
     let u = known c.find_bind.new.pass in
     let at = subst (λ (b : Owner). BindsAt n b c.args.ports v u c.in-Ok.port) c.bound_at-wanted.ensures c.in-Ok.ensures.bound in
-    subst (λ (b : Owner). StandsOwn b (b.port % n) u) (sym c.bound_at-bound.ensures) (search_stands n a v u u c.args.ports c.in-Ok.port c.requires.away at)
+    subst (λ (b : Owner). StandsOwn b (owner_key b % n) u) (sym c.bound_at-bound.ensures) (search_stands n a v u u c.args.ports c.in-Ok.port c.requires.away at)
 
 pub returns-in-Ok-clause-carried : goal.returns-in-Ok-clause-carried
 returns-in-Ok-clause-carried g c =
@@ -54,7 +55,7 @@ returns-in-Ok-clause-stands g c =
     let u = known c.find_bind.new.pass in
     let w = turned c.start.new.worker in
     let at = subst (λ (b : Owner). BindsAt n b c.args.ports v u c.in-Ok.port) c.bound_at-wanted.ensures c.in-Ok.ensures.bound in
-    let tells = subst (λ (b : Owner). TellsAs (b.port % n) b true u w c.start.result) c.bound_at-bound.ensures c.start.ensures.tells in
+    let tells = subst (λ (b : Owner). TellsAs (owner_key b % n) b true u w c.start.result) c.bound_at-bound.ensures c.start.ensures.tells in
     taken_stands n a v u w c.args.ports c.in-Ok.port c.requires.away at c.start.result tells
 
 pub returns-in-Ok-clause-kept : goal.returns-in-Ok-clause-kept
@@ -65,7 +66,7 @@ returns-in-Ok-clause-kept g c =
     let u = known c.find_bind.new.pass in
     let w = turned c.start.new.worker in
     let at = subst (λ (b : Owner). BindsAt n b c.args.ports v u c.in-Ok.port) c.bound_at-wanted.ensures c.in-Ok.ensures.bound in
-    let tells = subst (λ (b : Owner). TellsAs (b.port % n) b true u w c.start.result) c.bound_at-bound.ensures c.start.ensures.tells in
+    let tells = subst (λ (b : Owner). TellsAs (owner_key b % n) b true u w c.start.result) c.bound_at-bound.ensures c.start.ensures.tells in
     taken_kept n a v u w c.args.ports c.in-Ok.port c.requires.away at c.start.result tells
 
 pub returns-in-Err-NoPort-clause-carried : goal.returns-in-Err-NoPort-clause-carried

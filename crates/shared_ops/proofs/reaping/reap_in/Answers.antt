@@ -1,4 +1,5 @@
 use Rattle.std.proofs.Common.{◌≡◌, ◌++◌, ◌∷◌, ◌%◌, [], List, ap, ◌∙◌, refl}
+use Rattle.sock_card.specs.Conflict.{owner_key}
 use Rattle.sock_card.specs.declared.card.Kind.TheVariants as kinds
 use Rattle.turn_table.specs.Passes.{known}
 use Rattle.bind_buckets.specs.Answers.{answer_of_name}
@@ -24,7 +25,7 @@ returns-in-Some-clause-reaps g c = λ v within rest n.
     let same : c.card_as-card.result ≡ card_of kinds.TimeWait m = c.card_as-card.ensures ∙ ap (λ (x : Mine). card_of kinds.TimeWait x) c.waiting.view_is in
     let once = asks.made_is ∙ ap (λ (ms : List Note). entries_of ms ++ reap_entry c.waiting.inside.owner.name answer ∷ []) c.requires.made
     ∙ ap (λ (x : Mine). reap_entry x.owner.name answer ∷ []) c.waiting.view_is in
-    let all = asked_all c.remove_waiting-known.new.turn.place (m.owner.port % b) (reap_entry m.owner.name answer ∷ []) v u (made c.remove_waiting-known.new.pass c.remove_waiting-known.new.turn) (asks.place ∙ c.requires.place) once (c.give.ensures.gave v (asks.within v within)) in
+    let all = asked_all c.remove_waiting-known.new.turn.place (owner_key m.owner % b) (reap_entry m.owner.name answer ∷ []) v u (made c.remove_waiting-known.new.pass c.remove_waiting-known.new.turn) (asks.place ∙ c.requires.place) once (c.give.ensures.gave v (asks.within v within)) in
     reap_found b m rest n v u (side_of t.chains c.args.worker.now.chain) (side_of t.chains c.remove_tw.new.pass) c.card_as-card.result c.in-Some.field-0 answer same c.in-Some.ensures.reaps all
 
 pub returns-in-None-clause-reaps : goal.returns-in-None-clause-reaps

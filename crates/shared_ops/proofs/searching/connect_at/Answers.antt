@@ -1,4 +1,5 @@
 use Rattle.std.proofs.Common.{◌+◌, ◌++◌, ◌∷◌, [], List, ap, sym, subst, ◌∙◌, ◌%◌}
+use Rattle.sock_card.specs.Conflict.{owner_key}
 use Rattle.turn_table.specs.Passes.{known}
 use Rattle.bind_buckets.specs.declared.request.Answer.TheVariants as answers
 use Rattle.bind_buckets.specs.Notes.{Note}
@@ -29,7 +30,7 @@ returns-in-Ok-free-clause-tries g c =
     let t = c.args.tables.now in
     let v = turned c.args.worker.now in
     let asks = c.in-Ok-free.ensures.asks in
-    let once = asks.made_is ∙ ap (λ (ms : List Note). entries_of ms ++ free_entry a.port ∷ []) (c.make_room.ensures.made ∙ c.take-turn.ensures.none) in
+    let once = asks.made_is ∙ ap (λ (ms : List Note). entries_of ms ++ free_entry a ∷ []) (c.make_room.ensures.made ∙ c.take-turn.ensures.none) in
     subst (λ (k : Side). TriesAt (buckets_of t) t.chains.layout a c.args.moment c.args.rule v (turned c.connect_in.new.worker) k (side_of t.chains c.connect_in.new.worker.chain) c.connect_in.result) c.make_room.ensures.side
     (c.connect_in.ensures.tries v (asks.within v (c.make_room.ensures.within v c.take-turn.ensures.within)) once)
 
@@ -37,7 +38,7 @@ pub returns-in-Ok-free-clause-leaves : goal.returns-in-Ok-free-clause-leaves
 returns-in-Ok-free-clause-leaves g c =
     let v = turned c.args.worker.now in
     let asks = c.in-Ok-free.ensures.asks in
-    let once = asks.made_is ∙ ap (λ (ms : List Note). entries_of ms ++ free_entry c.args.full.port ∷ []) (c.make_room.ensures.made ∙ c.take-turn.ensures.none) in
+    let once = asks.made_is ∙ ap (λ (ms : List Note). entries_of ms ++ free_entry c.args.full ∷ []) (c.make_room.ensures.made ∙ c.take-turn.ensures.none) in
     c.connect_in.ensures.leaves v (asks.within v (c.make_room.ensures.within v c.take-turn.ensures.within)) once c.requires.away
 
 pub returns-in-Err-free-clause-tries : goal.returns-in-Err-free-clause-tries
@@ -49,9 +50,9 @@ returns-in-Err-free-clause-tries g c =
     let w = known c.give.new.pass in
     let asks = c.in-Err-free.ensures.asks in
     let name = c.in-Err-free.field-0.0 in
-    let once = asks.made_is ∙ ap (λ (ms : List Note). entries_of ms ++ held_entry a.port name ∷ []) (c.make_room.ensures.made ∙ c.take-turn.ensures.none) in
-    let place = asks.place ∙ (c.make_room.ensures.place ∙ c.take-turn.ensures.place) in
-    let all = asked_all c.free.new.turn.place (a.port % n) (held_entry a.port name ∷ []) v w (made c.free.new.pass c.free.new.turn) place once
+    let once = asks.made_is ∙ ap (λ (ms : List Note). entries_of ms ++ held_entry a name ∷ []) (c.make_room.ensures.made ∙ c.take-turn.ensures.none) in
+    let place = asks.place ∙ (c.make_room.ensures.place ∙ c.take-turn.ensures.place) ∙ ap (λ k. k % n) c.bind_key-key.ensures in
+    let all = asked_all c.free.new.turn.place (owner_key a % n) (held_entry a name ∷ []) v w (made c.free.new.pass c.free.new.turn) place once
     (c.give.ensures.gave v (asks.within v (c.make_room.ensures.within v c.take-turn.ensures.within))) in
     tries_held n a c.args.moment c.args.rule v w (side_of t.chains c.args.worker.now.chain) (side_of t.chains c.make_room.new.worker.chain) name (sym c.make_room.ensures.side) all
 
@@ -64,11 +65,11 @@ returns-in-Err-free-clause-leaves g c =
     let w = known c.give.new.pass in
     let asks = c.in-Err-free.ensures.asks in
     let name = c.in-Err-free.field-0.0 in
-    let once = asks.made_is ∙ ap (λ (ms : List Note). entries_of ms ++ held_entry a.port name ∷ []) (c.make_room.ensures.made ∙ c.take-turn.ensures.none) in
-    let place = asks.place ∙ (c.make_room.ensures.place ∙ c.take-turn.ensures.place) in
-    let all = asked_all c.free.new.turn.place (a.port % n) (held_entry a.port name ∷ []) v w (made c.free.new.pass c.free.new.turn) place once
+    let once = asks.made_is ∙ ap (λ (ms : List Note). entries_of ms ++ held_entry a name ∷ []) (c.make_room.ensures.made ∙ c.take-turn.ensures.none) in
+    let place = asks.place ∙ (c.make_room.ensures.place ∙ c.take-turn.ensures.place) ∙ ap (λ k. k % n) c.bind_key-key.ensures in
+    let all = asked_all c.free.new.turn.place (owner_key a % n) (held_entry a name ∷ []) v w (made c.free.new.pass c.free.new.turn) place once
     (c.give.ensures.gave v (asks.within v (c.make_room.ensures.within v c.take-turn.ensures.within))) in
-    try_away (a.port % n) a.port a.name (answers.NotFree name) v w c.requires.away all
+    try_away (owner_key a % n) a.port a.net a.name (answers.NotFree name) v w c.requires.away all
 
 pub returns-in-Err-clause-tries : goal.returns-in-Err-clause-tries
 returns-in-Err-clause-tries g c =
@@ -77,8 +78,8 @@ returns-in-Err-clause-tries g c =
     let n = buckets_of t in
     let v = turned c.args.worker.now in
     let w = known c.give-in-Err.new.pass in
-    let place = c.make_room.ensures.place ∙ c.take-turn.ensures.place in
-    let all = asked_all c.make_room.new.turn.place (a.port % n) [] v w (made c.make_room.new.worker.turns c.make_room.new.turn) place (ap (λ (ms : List Note). entries_of ms) (c.make_room.ensures.made ∙ c.take-turn.ensures.none))
+    let place = c.make_room.ensures.place ∙ c.take-turn.ensures.place ∙ ap (λ k. k % n) c.bind_key-key.ensures in
+    let all = asked_all c.make_room.new.turn.place (owner_key a % n) [] v w (made c.make_room.new.worker.turns c.make_room.new.turn) place (ap (λ (ms : List Note). entries_of ms) (c.make_room.ensures.made ∙ c.take-turn.ensures.none))
     (c.give-in-Err.ensures.gave v (c.make_room.ensures.within v c.take-turn.ensures.within)) in
     tries_left n a c.args.moment c.args.rule v w (side_of t.chains c.args.worker.now.chain) (side_of t.chains c.make_room.new.worker.chain) (sym c.make_room.ensures.side) all
 
@@ -88,16 +89,16 @@ returns-in-Err-clause-leaves g c =
     let n = buckets_of c.args.tables.now in
     let v = turned c.args.worker.now in
     let w = known c.give-in-Err.new.pass in
-    let place = c.make_room.ensures.place ∙ c.take-turn.ensures.place in
-    let all = asked_all c.make_room.new.turn.place (a.port % n) [] v w (made c.make_room.new.worker.turns c.make_room.new.turn) place (ap (λ (ms : List Note). entries_of ms) (c.make_room.ensures.made ∙ c.take-turn.ensures.none))
+    let place = c.make_room.ensures.place ∙ c.take-turn.ensures.place ∙ ap (λ k. k % n) c.bind_key-key.ensures in
+    let all = asked_all c.make_room.new.turn.place (owner_key a % n) [] v w (made c.make_room.new.worker.turns c.make_room.new.turn) place (ap (λ (ms : List Note). entries_of ms) (c.make_room.ensures.made ∙ c.take-turn.ensures.none))
     (c.give-in-Err.ensures.gave v (c.make_room.ensures.within v c.take-turn.ensures.within)) in
-    still_away a.name (a.port % n) v w c.requires.away all
+    still_away a.name (owner_key a % n) v w c.requires.away all
 
 pub returns-in-Ok-free-clause-spares : goal.returns-in-Ok-free-clause-spares
 returns-in-Ok-free-clause-spares g c =
     let v = turned c.args.worker.now in
     let asks = c.in-Ok-free.ensures.asks in
-    let once = asks.made_is ∙ ap (λ (ms : List Note). entries_of ms ++ free_entry c.args.full.port ∷ []) (c.make_room.ensures.made ∙ c.take-turn.ensures.none) in
+    let once = asks.made_is ∙ ap (λ (ms : List Note). entries_of ms ++ free_entry c.args.full ∷ []) (c.make_room.ensures.made ∙ c.take-turn.ensures.none) in
     c.connect_in.ensures.spares v (asks.within v (c.make_room.ensures.within v c.take-turn.ensures.within)) once
 
 pub returns-in-Err-free-clause-spares : goal.returns-in-Err-free-clause-spares

@@ -1,6 +1,6 @@
 use Rattle.std.proofs.Common.{◌++◌, ◌∷◌, [], List, refl, ap, sym, subst, ◌∙◌, ◌%◌}
 use Rattle.turn_table.specs.Passes.{known}
-use Rattle.sock_card.specs.Conflict.{is_time_wait}
+use Rattle.sock_card.specs.Conflict.{owner_key, is_time_wait}
 use Rattle.bind_buckets.specs.declared.request.Entry.{Entry}
 use Rattle.bind_buckets.specs.OwnTold.{StandsOwn}
 use Rattle.bind_buckets.specs.Turned.{made}
@@ -29,7 +29,7 @@ returns-in-Ok-clause-tries g c = λ v within only.
     let asks = c.connect_auto.ensures.asks in
     let once = asks.made_is ∙ ap (λ (es : List Entry). es ++ come_entry a ∷ []) only in
     let end = c.end_turn.ensures.gave v (asks.within v within) in
-    let all = subst (λ at. AskedAll at (free_entry a.port ∷ come_entry a ∷ gone_of came.replaced end.0) v w) (asks.place ∙ c.requires.place)
+    let all = subst (λ at. AskedAll at (free_entry a ∷ come_entry a ∷ gone_of came.replaced end.0) v w) (asks.place ∙ c.requires.place)
     (subst (λ es. AskedAll c.connect_auto.new.turn.place (es ++ gone_of came.replaced end.0) v w) once end.1) in
     tries_done n a c.args.moment c.args.rule v w (side_of t.chains c.args.worker.now.chain) (side_of t.chains c.insert.new.pass) came.place came.replaced c.at_place.result end.0 c.in-Ok.ensures.inserts c.at_place.ensures all
 
@@ -43,9 +43,9 @@ returns-in-Ok-clause-leaves g c = λ v within only away.
     let asks = c.connect_auto.ensures.asks in
     let once = asks.made_is ∙ ap (λ (es : List Entry). es ++ come_entry a ∷ []) only in
     let end = c.end_turn.ensures.gave v (asks.within v within) in
-    let all = subst (λ at. AskedAll at (free_entry a.port ∷ come_entry a ∷ gone_of came.replaced end.0) v w) (asks.place ∙ c.requires.place)
+    let all = subst (λ at. AskedAll at (free_entry a ∷ come_entry a ∷ gone_of came.replaced end.0) v w) (asks.place ∙ c.requires.place)
     (subst (λ es. AskedAll c.connect_auto.new.turn.place (es ++ gone_of came.replaced end.0) v w) once end.1) in (
-      subst (λ (m : Mine). StandsOwn m.owner (m.owner.port % n) w) (sym c.at_place.ensures) (try_stands n a v w came.replaced end.0 (ap is_time_wait c.requires.full) away all),
+      subst (λ (m : Mine). StandsOwn m.owner (owner_key m.owner % n) w) (sym c.at_place.ensures) (try_stands n a v w came.replaced end.0 (ap is_time_wait c.requires.full) away all),
       hashed_at a c.args.moment c.args.rule came.place came.replaced c.at_place.result (side_of t.chains c.args.worker.now.chain) (side_of t.chains c.insert.new.pass) c.in-Ok.ensures.inserts refl c.at_place.ensures,
     )
 
@@ -66,7 +66,7 @@ returns-in-Err-clause-tries g c = λ v within only.
     let w = known c.give.new.pass in
     let k = side_of t.chains c.args.worker.now.chain in
     let d = side_of t.chains c.insert.new.pass in
-    let all = asked_all c.args.turn.place (a.port % n) (free_entry a.port ∷ []) v w (made c.args.worker.now.turns c.args.turn) c.requires.place only (c.give.ensures.gave v within) in
+    let all = asked_all c.args.turn.place (owner_key a % n) (free_entry a ∷ []) v w (made c.args.worker.now.turns c.args.turn) c.requires.place only (c.give.ensures.gave v within) in
     subst (TriesAt n t.chains.layout a c.args.moment c.args.rule v w k d) (sym c.next_or.ensures)
     (tries_refused n a c.args.moment c.args.rule v w k d c.in-Err.end c.in-Err.ensures.inserts all)
 
@@ -77,8 +77,8 @@ returns-in-Err-clause-leaves g c = λ v within only away.
     let n = buckets_of t in
     let w = known c.give.new.pass in
     let d = side_of t.chains c.insert.new.pass in
-    let all = asked_all c.args.turn.place (a.port % n) (free_entry a.port ∷ []) v w (made c.args.worker.now.turns c.args.turn) c.requires.place only (c.give.ensures.gave v within) in
-    subst (TryLeaves t a.name w d) (sym c.next_or.ensures) (next_away t a.name w d c.in-Err.end (try_away (a.port % n) a.port a.name _ v w away all))
+    let all = asked_all c.args.turn.place (owner_key a % n) (free_entry a ∷ []) v w (made c.args.worker.now.turns c.args.turn) c.requires.place only (c.give.ensures.gave v within) in
+    subst (TryLeaves t a.name w d) (sym c.next_or.ensures) (next_away t a.name w d c.in-Err.end (try_away (owner_key a % n) a.port a.net a.name _ v w away all))
 
 pub returns-in-Ok-clause-spares : goal.returns-in-Ok-clause-spares
 returns-in-Ok-clause-spares g c = λ v within only.
@@ -86,9 +86,9 @@ returns-in-Ok-clause-spares g c = λ v within only.
     let p = c.args.worker.now.turns in
     let q = c.connect_auto.new.pass in
     ended_spares c.connect_auto.new.turn.place (entries_of (made q c.connect_auto.new.turn)) c.in-Ok.came.replaced v (known c.end_turn.new.pass) (c.end_turn.ensures.gave v (asks.within v within))
-    (made_more c.args.tables.now.buckets p c.args.turn q c.connect_auto.new.turn _ _ asks (made_only (made p c.args.turn) (free_entry c.args.full.port) only tt) tt)
+    (made_more c.args.tables.now.buckets p c.args.turn q c.connect_auto.new.turn _ _ asks (made_only (made p c.args.turn) (free_entry c.args.full) only tt) tt)
 
 pub returns-in-Err-clause-spares : goal.returns-in-Err-clause-spares
 returns-in-Err-clause-spares g c = λ v within only.
     let ms = made c.args.worker.now.turns c.args.turn in
-    given_spares c.args.turn.place v (known c.give.new.pass) ms (c.give.ensures.gave v within) (made_only ms (free_entry c.args.full.port) only tt)
+    given_spares c.args.turn.place v (known c.give.new.pass) ms (c.give.ensures.gave v within) (made_only ms (free_entry c.args.full) only tt)

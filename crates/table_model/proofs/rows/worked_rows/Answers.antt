@@ -76,9 +76,9 @@ pub returns-clause-users : goal.returns-clause-users
 unfolding step plan owner_step overlap refuses home tuple_hash listen_hash jhash_3words jhash_1word started_mix final_mix mixed
 returns-clause-users c = (refl, refl)
 
-pub returns-clause-seventeen : goal.returns-clause-seventeen
+pub returns-clause-one_too_many : goal.returns-clause-one_too_many
 unfolding step plan owner_step overlap refuses home tuple_hash listen_hash jhash_3words jhash_1word started_mix final_mix mixed
-returns-clause-seventeen c = (refl, refl)
+returns-clause-one_too_many c = (refl, refl)
 
 pub returns-clause-full_group : goal.returns-clause-full_group
 unfolding step plan owner_step overlap refuses home tuple_hash listen_hash jhash_3words jhash_1word started_mix final_mix mixed
