@@ -31,27 +31,27 @@ KindIs order bytes (blocks.Packet item) = number order 4 0 bytes ≡ packet_type
 KindIs order bytes blocks.Other =
     (number orders.Big 4 0 bytes ≢ section_type) × (number order 4 0 bytes ≢ interface_type) × (number order 4 0 bytes ≢ packet_type)
 
-module _ (dev : ℕ) (section : Section) where
+module _ (dev net : ℕ) (section : Section) where
   -- an interface is of one link type
   one_interface : (block : List ℕ) (a b : Option Link) → IsInterfaceBlock section.order block a → IsInterfaceBlock section.order block b → a ≡ b
   one_interface block a b h k = one_link_type (number section.order 2 8 block) a b h.link_type k.link_type
 
   -- a block stores one packet
-  one_packet : (block : List ℕ) (a b : Item) → IsBlock dev section block (blocks.Packet a) → IsBlock dev section block (blocks.Packet b) → a ≡ b
+  one_packet : (block : List ℕ) (a b : Item) → IsBlock dev net section block (blocks.Packet a) → IsBlock dev net section block (blocks.Packet b) → a ≡ b
   one_packet block a b h k =
       let link : h.0 ≡ k.0 = (let e = sym h.2.interface ∙ k.2.interface in cc) in
       let stored : h.1 ≡ k.1 = h.2.bytes ∙ sym k.2.bytes in
-      h.3 ∙ ap (λ (l : Option Link). item_on l dev h.1) link ∙ ap (item_on k.0 dev) stored ∙ sym k.3
+      h.3 ∙ ap (λ (l : Option Link). item_on l dev net h.1) link ∙ ap (item_on k.0 dev net) stored ∙ sym k.3
 
   -- a block that begins no section is whole in the section's order
-  whole_in : (block : List ℕ) (b : Block) → ((o : Order) → b ≢ blocks.Section o) → IsBlock dev section block b → IsWhole section.order block
+  whole_in : (block : List ℕ) (b : Block) → ((o : Order) → b ≢ blocks.Section o) → IsBlock dev net section block b → IsWhole section.order block
   whole_in block (blocks.Section o) other h = absurd (other o refl)
   whole_in block (blocks.Interface link) other h = h.whole
   whole_in block (blocks.Packet item) other h = h.2.whole
   whole_in block blocks.Other other h = h.whole
 
   -- the type of the block that bytes begin with is as what it says
-  kind_is : (bytes : List ℕ) (b : Block) (rest : List ℕ) → BeginsWithBlock dev section bytes b rest → KindIs section.order bytes b
+  kind_is : (bytes : List ℕ) (b : Block) (rest : List ℕ) → BeginsWithBlock dev net section bytes b rest → KindIs section.order bytes b
   unfolding KindIs
   kind_is bytes (blocks.Section o) rest h = (front bytes o rest h).kind
   kind_is bytes (blocks.Interface link) rest h =
@@ -64,7 +64,7 @@ module _ (dev : ℕ) (section : Section) where
       (λ e. h.2.no_section (sym big ∙ e), λ e. h.2.no_interface (sym own ∙ e), λ e. h.2.no_packet (sym own ∙ e))
 
   -- bytes begin with one block at most
-  pub one_block : (bytes : List ℕ) (a b : Block) (r q : List ℕ) → AreBytes bytes → BeginsWithBlock dev section bytes a r → BeginsWithBlock dev section bytes b q → (a ≡ b) × (r ≡ q)
+  pub one_block : (bytes : List ℕ) (a b : Block) (r q : List ℕ) → AreBytes bytes → BeginsWithBlock dev net section bytes a r → BeginsWithBlock dev net section bytes b q → (a ≡ b) × (r ≡ q)
   unfolding KindIs
   one_block bytes (blocks.Section o) (blocks.Section p) r q fits h k =
       let same = one_section bytes o p r q fits h k in
@@ -91,7 +91,7 @@ module _ (dev : ℕ) (section : Section) where
       absurd (omega (arith, kind_is bytes (blocks.Interface l) q k, kind_is bytes (blocks.Packet i) r h))
   one_block bytes (blocks.Packet i) (blocks.Packet j) r q fits h k =
       let same = one_whole section.order bytes h.0 r k.0 q h.1 h.2.2.whole k.1 k.2.2.whole in
-      let again = subst (λ (b : List ℕ). IsBlock dev section b (blocks.Packet i)) same.0 h.2 in
+      let again = subst (λ (b : List ℕ). IsBlock dev net section b (blocks.Packet i)) same.0 h.2 in
       (ap (λ (x : Item). blocks.Packet x) (one_packet k.0 i j again k.2), same.1)
   one_block bytes (blocks.Packet i) blocks.Other r q fits h k =
       absurd ((kind_is bytes blocks.Other q k).2 (kind_is bytes (blocks.Packet i) r h))
@@ -105,48 +105,48 @@ module _ (dev : ℕ) (section : Section) where
       (refl, (one_whole section.order bytes h.0 r k.0 q h.1 h.2.whole k.1 k.2.whole).1)
 
   -- no block stands in no bytes
-  pub none_in_nothing : (bytes : List ℕ) → bytes ≡ [] → HasBlock dev section bytes → ⊥
+  pub none_in_nothing : (bytes : List ℕ) → bytes ≡ [] → HasBlock dev net section bytes → ⊥
   none_in_nothing bytes e (blocks.Section o, rest, h) = omega (arith, ap length e, (front bytes o rest h).least)
   none_in_nothing bytes e (blocks.Interface l, rest, h) = omega (arith, ap length e, ap length h.1 ∙ length-append h.0 rest, h.2.least)
   none_in_nothing bytes e (blocks.Packet i, rest, h) = omega (arith, ap length e, ap length h.1 ∙ length-append h.0 rest, h.2.2.least)
   none_in_nothing bytes e (blocks.Other, rest, h) = omega (arith, ap length e, ap length h.1 ∙ length-append h.0 rest, h.2.whole.least)
 
   -- a block has bytes
-  pub is_shorter : (bytes : List ℕ) (b : Block) (rest : List ℕ) → BeginsWithBlock dev section bytes b rest → length rest < length bytes
+  pub is_shorter : (bytes : List ℕ) (b : Block) (rest : List ℕ) → BeginsWithBlock dev net section bytes b rest → length rest < length bytes
   is_shorter bytes (blocks.Section o) rest h = omega (arith, ap length h.1 ∙ length-append h.0 rest, h.2.least)
   is_shorter bytes (blocks.Interface l) rest h = omega (arith, ap length h.1 ∙ length-append h.0 rest, h.2.least)
   is_shorter bytes (blocks.Packet i) rest h = omega (arith, ap length h.1 ∙ length-append h.0 rest, h.2.2.least)
   is_shorter bytes blocks.Other rest h = omega (arith, ap length h.1 ∙ length-append h.0 rest, h.2.whole.least)
 
   -- where the bytes end there is no block
-  no_block : (bytes : List ℕ) (cut : Bool) → EndsBlocks dev section bytes cut → HasBlock dev section bytes → ⊥
+  no_block : (bytes : List ℕ) (cut : Bool) → EndsBlocks dev net section bytes cut → HasBlock dev net section bytes → ⊥
   no_block bytes false e h = none_in_nothing bytes e h
   no_block bytes true e h = e.1 h
 
   -- bytes end in one way
-  one_end : (bytes : List ℕ) (a b : Bool) → EndsBlocks dev section bytes a → EndsBlocks dev section bytes b → a ≡ b
+  one_end : (bytes : List ℕ) (a b : Bool) → EndsBlocks dev net section bytes a → EndsBlocks dev net section bytes b → a ≡ b
   one_end bytes false false h k = refl
   one_end bytes false true h k = absurd (k.0 h)
   one_end bytes true false h k = absurd (h.0 k)
   one_end bytes true true h k = refl
 
   -- how bytes without a valid block end, by whether any are left
-  pub ends_as : (bytes : List ℕ) (empty : Bool) → empty ≡ (length bytes == 0) → (HasBlock dev section bytes → ⊥) → EndsBlocks dev section bytes (not empty)
+  pub ends_as : (bytes : List ℕ) (empty : Bool) → empty ≡ (length bytes == 0) → (HasBlock dev net section bytes → ⊥) → EndsBlocks dev net section bytes (not empty)
   ends_as [] true e none = refl
   ends_as [] false e none = cc
   ends_as (b ∷ bytes) true e none = absurd (omega (arith, eqb-true (length (b ∷ bytes)) 0 (sym e)))
   ends_as (b ∷ bytes) false e none = ((λ f. omega (arith, ap length f)), none)
 
 -- bytes are blocks of one list, and are cut or not
-pub one_reading : (dev : ℕ) (section : Section) (bytes : List ℕ) (xs ys : List Block) (a b : Bool) → AreBytes bytes → AreBlocks dev section bytes xs a → AreBlocks dev section bytes ys b → (xs ≡ ys) × (a ≡ b)
-one_reading dev section bytes [] [] a b fits h k = (refl, one_end dev section bytes a b h k)
-one_reading dev section bytes [] (y ∷ ys) a b fits h k = absurd (no_block dev section bytes a h (y, k.0, k.1))
-one_reading dev section bytes (x ∷ xs) [] a b fits h k = absurd (no_block dev section bytes b k (x, h.0, h.1))
-one_reading dev section bytes (x ∷ xs) (y ∷ ys) a b fits h k =
-    let same = one_block dev section bytes x y h.0 k.0 fits h.1 k.1 in
-    let moved = subst (λ (z : Block). AreBlocks dev (after section z) k.0 ys b) (sym same.0) k.2 in
-    let again = subst (λ (r : List ℕ). AreBlocks dev (after section x) r ys b) (sym same.1) moved in
-    let more = one_reading dev (after section x) h.0 xs ys a b (fits_rest bytes h.1.0 h.0 h.1.1 fits) h.2 again in
+pub one_reading : (dev net : ℕ) (section : Section) (bytes : List ℕ) (xs ys : List Block) (a b : Bool) → AreBytes bytes → AreBlocks dev net section bytes xs a → AreBlocks dev net section bytes ys b → (xs ≡ ys) × (a ≡ b)
+one_reading dev net section bytes [] [] a b fits h k = (refl, one_end dev net section bytes a b h k)
+one_reading dev net section bytes [] (y ∷ ys) a b fits h k = absurd (no_block dev net section bytes a h (y, k.0, k.1))
+one_reading dev net section bytes (x ∷ xs) [] a b fits h k = absurd (no_block dev net section bytes b k (x, h.0, h.1))
+one_reading dev net section bytes (x ∷ xs) (y ∷ ys) a b fits h k =
+    let same = one_block dev net section bytes x y h.0 k.0 fits h.1 k.1 in
+    let moved = subst (λ (z : Block). AreBlocks dev net (after section z) k.0 ys b) (sym same.0) k.2 in
+    let again = subst (λ (r : List ℕ). AreBlocks dev net (after section x) r ys b) (sym same.1) moved in
+    let more = one_reading dev net (after section x) h.0 xs ys a b (fits_rest bytes h.1.0 h.0 h.1.1 fits) h.2 again in
     let first = same.0 in
     let rest = more.0 in
     (cc, more.1)
@@ -213,47 +213,47 @@ module _ (section : Section) (block : List ℕ) (whole : IsWhole section.order b
         ]
       ]
 
-module _ (dev : ℕ) (section : Section) (bytes : List ℕ) (no_section : (o : Order) (rest : List ℕ) → BeginsWithSection bytes o rest → ⊥) where
+module _ (dev net : ℕ) (section : Section) (bytes : List ℕ) (no_section : (o : Order) (rest : List ℕ) → BeginsWithSection bytes o rest → ⊥) where
   -- bytes that begin with no section, and with no whole block, begin with no valid one
-  pub none_whole : ((whole rest : List ℕ) → bytes ≡ whole ++ rest → IsWhole section.order whole → ⊥) → HasBlock dev section bytes → ⊥
+  pub none_whole : ((whole rest : List ℕ) → bytes ≡ whole ++ rest → IsWhole section.order whole → ⊥) → HasBlock dev net section bytes → ⊥
   none_whole none (blocks.Section o, rest, h) = no_section o rest h
   none_whole none (blocks.Interface l, rest, h) = none h.0 rest h.1 h.2.whole
   none_whole none (blocks.Packet i, rest, h) = none h.0 rest h.1 h.2.2.whole
   none_whole none (blocks.Other, rest, h) = none h.0 rest h.1 h.2.whole
 
   -- nor where the whole block isn't valid
-  pub none_valid : (whole rest : List ℕ) → bytes ≡ whole ++ rest → IsWhole section.order whole → ((b : Block) → IsBlock dev section whole b → ⊥) → HasBlock dev section bytes → ⊥
+  pub none_valid : (whole rest : List ℕ) → bytes ≡ whole ++ rest → IsWhole section.order whole → ((b : Block) → IsBlock dev net section whole b → ⊥) → HasBlock dev net section bytes → ⊥
   none_valid whole rest parts is none (blocks.Section o, r, h) = no_section o r h
   none_valid whole rest parts is none (blocks.Interface l, r, h) =
       let same = (one_whole section.order bytes h.0 r whole rest h.1 h.2.whole parts is).0 in
-      none (blocks.Interface l) (subst (λ (b : List ℕ). IsBlock dev section b (blocks.Interface l)) same h.2)
+      none (blocks.Interface l) (subst (λ (b : List ℕ). IsBlock dev net section b (blocks.Interface l)) same h.2)
   none_valid whole rest parts is none (blocks.Packet i, r, h) =
       let same = (one_whole section.order bytes h.0 r whole rest h.1 h.2.2.whole parts is).0 in
-      none (blocks.Packet i) (subst (λ (b : List ℕ). IsBlock dev section b (blocks.Packet i)) same h.2)
+      none (blocks.Packet i) (subst (λ (b : List ℕ). IsBlock dev net section b (blocks.Packet i)) same h.2)
   none_valid whole rest parts is none (blocks.Other, r, h) =
       let same = (one_whole section.order bytes h.0 r whole rest h.1 h.2.whole parts is).0 in
-      none blocks.Other (subst (λ (b : List ℕ). IsBlock dev section b blocks.Other) same h.2)
+      none blocks.Other (subst (λ (b : List ℕ). IsBlock dev net section b blocks.Other) same h.2)
 
   -- nor where they have the type of a section's block
-  pub none_of_type : AreBytes bytes → number orders.Big 4 0 bytes ≡ section_type → HasBlock dev section bytes → ⊥
+  pub none_of_type : AreBytes bytes → number orders.Big 4 0 bytes ≡ section_type → HasBlock dev net section bytes → ⊥
   unfolding KindIs
   none_of_type fits kind (blocks.Section o, r, h) = no_section o r h
   none_of_type fits kind (blocks.Interface l, r, h) =
-      omega (arith, type_reads bytes section.order fits kind, kind_is dev section bytes (blocks.Interface l) r h)
+      omega (arith, type_reads bytes section.order fits kind, kind_is dev net section bytes (blocks.Interface l) r h)
   none_of_type fits kind (blocks.Packet i, r, h) =
-      omega (arith, type_reads bytes section.order fits kind, kind_is dev section bytes (blocks.Packet i) r h)
-  none_of_type fits kind (blocks.Other, r, h) = (kind_is dev section bytes blocks.Other r h).0 kind
+      omega (arith, type_reads bytes section.order fits kind, kind_is dev net section bytes (blocks.Packet i) r h)
+  none_of_type fits kind (blocks.Other, r, h) = (kind_is dev net section bytes blocks.Other r h).0 kind
 
   -- what a whole block says that is valid, or that it isn't
-  some_said : (whole rest : List ℕ) → bytes ≡ whole ++ rest → IsWhole section.order whole → ((b : Block) × IsBlock dev section whole b) ⊎ ((b : Block) → IsBlock dev section whole b → ⊥)
+  some_said : (whole rest : List ℕ) → bytes ≡ whole ++ rest → IsWhole section.order whole → ((b : Block) × IsBlock dev net section whole b) ⊎ ((b : Block) → IsBlock dev net section whole b → ⊥)
   some_said whole rest parts is =
       elim (is_interface section whole is) [
         | inl i ↦ inl (blocks.Interface i.0, i.1)
         | inr no_interface ↦ elim (is_packet section whole is) [
-          | inl p ↦ inl (blocks.Packet (item_on p.0 dev p.1), (p.0, p.1, p.2, refl))
+          | inl p ↦ inl (blocks.Packet (item_on p.0 dev net p.1), (p.0, p.1, p.2, refl))
           | inr no_packet ↦ elim (is_other section whole is) [
             | inl o ↦ inl (blocks.Other, o)
-            | inr no_other ↦ inr (λ b. elim b as (λ (x : Block). IsBlock dev section whole x → ⊥) [
+            | inr no_other ↦ inr (λ b. elim b as (λ (x : Block). IsBlock dev net section whole x → ⊥) [
               | blocks.Section o ↦ λ h. no_section o rest (whole, parts, h)
               | blocks.Interface l ↦ no_interface l
               | blocks.Packet i ↦ λ h. no_packet h.0 h.1 h.2
@@ -264,7 +264,7 @@ module _ (dev : ℕ) (section : Section) (bytes : List ℕ) (no_section : (o : O
       ]
 
   -- bytes that begin with no section begin with another valid block, or with none
-  some_inner : HasBlock dev section bytes ⊎ (HasBlock dev section bytes → ⊥)
+  some_inner : HasBlock dev net section bytes ⊎ (HasBlock dev net section bytes → ⊥)
   some_inner =
       elim (some_whole section.order bytes) [
         | inr none ↦ inr (none_whole none)
@@ -275,27 +275,27 @@ module _ (dev : ℕ) (section : Section) (bytes : List ℕ) (no_section : (o : O
       ]
 
 -- bytes begin with a valid block, or with none
-some_block : (dev : ℕ) (section : Section) (bytes : List ℕ) → HasBlock dev section bytes ⊎ (HasBlock dev section bytes → ⊥)
-some_block dev section bytes =
+some_block : (dev net : ℕ) (section : Section) (bytes : List ℕ) → HasBlock dev net section bytes ⊎ (HasBlock dev net section bytes → ⊥)
+some_block dev net section bytes =
     elim (some_section bytes) [
       | inl s ↦ inl (blocks.Section s.0, s.1, s.2)
-      | inr none ↦ some_inner dev section bytes none
+      | inr none ↦ some_inner dev net section bytes none
     ]
 
 -- bytes of which so many are left are some blocks, and an end
-some_reading : (fuel : ℕ) (dev : ℕ) (section : Section) (bytes : List ℕ) → length bytes ≤ fuel → (blocks : List Block) × ((cut : Bool) × AreBlocks dev section bytes blocks cut)
-some_reading fuel dev section [] h = ([], (false, refl))
-some_reading zero dev section (b ∷ bytes) h = absurd (omega arith)
-some_reading (suc fuel) dev section (b ∷ bytes) h =
+some_reading : (fuel : ℕ) (dev net : ℕ) (section : Section) (bytes : List ℕ) → length bytes ≤ fuel → (blocks : List Block) × ((cut : Bool) × AreBlocks dev net section bytes blocks cut)
+some_reading fuel dev net section [] h = ([], (false, refl))
+some_reading zero dev net section (b ∷ bytes) h = absurd (omega arith)
+some_reading (suc fuel) dev net section (b ∷ bytes) h =
     let all : List ℕ = b ∷ bytes in
-    elim (some_block dev section all) [
+    elim (some_block dev net section all) [
       | inr none ↦ ([], (true, ((λ e. omega (arith, ap length e)), none)))
       | inl found ↦
-          let less = is_shorter dev section all found.0 found.1 found.2 in
-          let more = some_reading fuel dev (after section found.0) found.1 (omega arith) in
+          let less = is_shorter dev net section all found.0 found.1 found.2 in
+          let more = some_reading fuel dev net (after section found.0) found.1 (omega arith) in
           (found.0 ∷ more.0, (more.1.0, (found.1, found.2, more.1.1)))
     ]
 
 -- bytes are some blocks, and an end
-pub some_blocks : (dev : ℕ) (section : Section) (bytes : List ℕ) → (blocks : List Block) × ((cut : Bool) × AreBlocks dev section bytes blocks cut)
-some_blocks dev section bytes = some_reading (length bytes) dev section bytes (omega arith)
+pub some_blocks : (dev net : ℕ) (section : Section) (bytes : List ℕ) → (blocks : List Block) × ((cut : Bool) × AreBlocks dev net section bytes blocks cut)
+some_blocks dev net section bytes = some_reading (length bytes) dev net section bytes (omega arith)

@@ -41,15 +41,15 @@ same_capture a b e f =
     made a.items b.items a.cut b.cut e f
 
 -- bytes are records of one list of items, and are cut or not
-pub one_reading : (header : Header) (dev : ℕ) (bytes : List ℕ) (xs ys : List Item) (a b : Bool) → AreRecords header dev bytes xs a → AreRecords header dev bytes ys b → (xs ≡ ys) × (a ≡ b)
-one_reading header dev bytes [] [] a b h k = (refl, one_end header.order bytes a b h k)
-one_reading header dev bytes [] (y ∷ ys) a b h k = absurd (no_record header.order bytes a k.0 k.1 h k.2)
-one_reading header dev bytes (x ∷ xs) [] a b h k = absurd (no_record header.order bytes b h.0 h.1 k h.2)
-one_reading header dev bytes (x ∷ xs) (y ∷ ys) a b h k =
+pub one_reading : (header : Header) (dev net : ℕ) (bytes : List ℕ) (xs ys : List Item) (a b : Bool) → AreRecords header dev net bytes xs a → AreRecords header dev net bytes ys b → (xs ≡ ys) × (a ≡ b)
+one_reading header dev net bytes [] [] a b h k = (refl, one_end header.order bytes a b h k)
+one_reading header dev net bytes [] (y ∷ ys) a b h k = absurd (no_record header.order bytes a k.0 k.1 h k.2)
+one_reading header dev net bytes (x ∷ xs) [] a b h k = absurd (no_record header.order bytes b h.0 h.1 k h.2)
+one_reading header dev net bytes (x ∷ xs) (y ∷ ys) a b h k =
     let stored : h.0 ≡ k.0 = sym (one_stored header.order bytes h.0 h.1 h.2) ∙ one_stored header.order bytes k.0 k.1 k.2 in
     let rest : k.1 ≡ h.1 = sym (one_rest header.order bytes k.0 k.1 k.2) ∙ one_rest header.order bytes h.0 h.1 h.2 in
-    let item : x ≡ y = h.3 ∙ ap (item_of header.link dev) stored ∙ sym k.3 in
-    let more = one_reading header dev h.1 xs ys a b h.4 (subst (λ r. AreRecords header dev r ys b) rest k.4) in
+    let item : x ≡ y = h.3 ∙ ap (item_of header.link dev net) stored ∙ sym k.3 in
+    let more = one_reading header dev net h.1 xs ys a b h.4 (subst (λ r. AreRecords header dev net r ys b) rest k.4) in
     let items = more.0 in (cc, more.1)
 
 -- how bytes without a whole record end, by whether any are left
@@ -60,10 +60,10 @@ ends_as order (b ∷ bytes) true e cut = absurd (omega (arith, eqb-true (length 
 ends_as order (b ∷ bytes) false e cut = cut (omega arith)
 
 -- bytes of which so many are left are some records, and an end
-some_reading : (fuel : ℕ) (header : Header) (dev : ℕ) (bytes : List ℕ) → length bytes ≤ fuel → (items : List Item) × ((cut : Bool) × AreRecords header dev bytes items cut)
-some_reading fuel header dev [] h = ([], (false, refl))
-some_reading zero header dev (b ∷ bytes) h = absurd (omega arith)
-some_reading (suc fuel) header dev (b ∷ bytes) h =
+some_reading : (fuel : ℕ) (header : Header) (dev net : ℕ) (bytes : List ℕ) → length bytes ≤ fuel → (items : List Item) × ((cut : Bool) × AreRecords header dev net bytes items cut)
+some_reading fuel header dev net [] h = ([], (false, refl))
+some_reading zero header dev net (b ∷ bytes) h = absurd (omega arith)
+some_reading (suc fuel) header dev net (b ∷ bytes) h =
     let all : List ℕ = b ∷ bytes in
     let count : ℕ = stored_length header.order all in
     elim (cases_lt (length all) 16) [
@@ -76,12 +76,12 @@ some_reading (suc fuel) header dev (b ∷ bytes) h =
             let rest : List ℕ = drop count body in
             let size : length body ≡ length all - 16 = length-drop 16 all in
             let left : length rest ≡ length body - count = length-drop count body in
-            let more = some_reading fuel header dev rest (omega arith) in
+            let more = some_reading fuel header dev net rest (omega arith) in
             let begins : BeginsWithRecord header.order all stored rest = record { whole = enough; count = length-take-le count body (omega arith); body = sym (take-append-drop count body) } in
-            (item_of header.link dev stored ∷ more.0, (more.1.0, (stored, rest, begins, refl, more.1.1)))
+            (item_of header.link dev net stored ∷ more.0, (more.1.0, (stored, rest, begins, refl, more.1.1)))
       ]
     ]
 
 -- bytes are some records, and an end
-pub some_records : (header : Header) (dev : ℕ) (bytes : List ℕ) → (items : List Item) × ((cut : Bool) × AreRecords header dev bytes items cut)
-some_records header dev bytes = some_reading (length bytes) header dev bytes (omega arith)
+pub some_records : (header : Header) (dev net : ℕ) (bytes : List ℕ) → (items : List Item) × ((cut : Bool) × AreRecords header dev net bytes items cut)
+some_records header dev net bytes = some_reading (length bytes) header dev net bytes (omega arith)

@@ -28,7 +28,7 @@ big links = record { order = orders.Big; links = links }
 abbrev ethernet : Option Link
 ethernet = Some links.Ethernet
 
-records_row : IsCapture 3 of_records (cut_after (found ∷ items.Skip ∷ found ∷ items.Skip ∷ []))
+records_row : IsCapture 3 2 of_records (cut_after (found ∷ items.Skip ∷ found ∷ items.Skip ∷ []))
 unfolding number ip_item frame_item
 records_row =
     let last : List ℕ = replicate 8 0 in
@@ -109,41 +109,41 @@ no_section bytes other o rest h = other (front bytes o rest h).kind
 
 -- a block of the type of packets that stores none isn't valid
 no_packet : (section : Section) (block : List ℕ) → number orders.Big 4 0 block ≢ section_type → number section.order 4 0 block ≡ 6
-    → ((l : Option Link) (s : List ℕ) → IsPacketBlock section block l s → ⊥) → (b : Block) → IsBlock 3 section block b → ⊥
+    → ((l : Option Link) (s : List ℕ) → IsPacketBlock section block l s → ⊥) → (b : Block) → IsBlock 3 2 section block b → ⊥
 no_packet section block other kind none (blocks.Section o) h = other h.kind
 no_packet section block other kind none (blocks.Interface l) h = omega (arith, kind, h.kind)
 no_packet section block other kind none (blocks.Packet i) h = none h.0 h.1 h.2
 no_packet section block other kind none blocks.Other h = h.no_packet kind
 
 -- a packet's block that isn't valid, at the end of the bytes
-ends_invalid : (links : List (Option Link)) (interface count : ℕ) → ((l : Option Link) (s : List ℕ) → IsPacketBlock (little links) (packet_block interface count 72) l s → ⊥) → HasBlock 3 (little links) (packet_block interface count 72) → ⊥
+ends_invalid : (links : List (Option Link)) (interface count : ℕ) → ((l : Option Link) (s : List ℕ) → IsPacketBlock (little links) (packet_block interface count 72) l s → ⊥) → HasBlock 3 2 (little links) (packet_block interface count 72) → ⊥
 unfolding number
 ends_invalid links interface count none =
     let block : List ℕ = packet_block interface count 72 in
     let other : number orders.Big 4 0 block ≢ section_type = (λ e. omega (arith, e)) in
-    none_valid 3 (little links) block (no_section block other) block [] refl (packet_whole interface count) (no_packet (little links) block other refl none)
+    none_valid 3 2 (little links) block (no_section block other) block [] refl (packet_whole interface count) (no_packet (little links) block other refl none)
 
 -- the text begins with a section and an Ethernet interface, and has those items
-as_capture : (rest : List ℕ) (found : List Block) (cut : Bool) → AreBlocks 3 (little (ethernet ∷ [])) rest found cut → IsCapture 3 (with_interface rest) (record { items = items_of found; cut = cut })
+as_capture : (rest : List ℕ) (found : List Block) (cut : Bool) → AreBlocks 3 2 (little (ethernet ∷ [])) rest found cut → IsCapture 3 2 (with_interface rest) (record { items = items_of found; cut = cut })
 as_capture rest found cut h =
     inr (inr (orders.Little, interface_block 1 ++ rest, blocks.Interface ethernet ∷ found, (section_block, refl, section_is), (rest, (interface_block 1, refl, ethernet_is), h), refl))
 
 -- a packet of the first interface, and more blocks
-first_packet : (links : List (Option Link)) (rest : List ℕ) (more : List Block) (cut : Bool) → AreBlocks 3 (little (ethernet ∷ links)) rest more cut → AreBlocks 3 (little (ethernet ∷ links)) (packet_block 0 38 72 ++ rest) (blocks.Packet found ∷ more) cut
+first_packet : (links : List (Option Link)) (rest : List ℕ) (more : List Block) (cut : Bool) → AreBlocks 3 2 (little (ethernet ∷ links)) rest more cut → AreBlocks 3 2 (little (ethernet ∷ links)) (packet_block 0 38 72 ++ rest) (blocks.Packet found ∷ more) cut
 unfolding number ip_item frame_item
 first_packet links rest more cut h = (rest, (packet_block 0 38 72, refl, (ethernet, frame (datagram 0), packet_is ethernet links, refl)), h)
 
-last_lost : HasBlock 3 (little (ethernet ∷ [])) (take 68 (packet_block 0 38 72)) → ⊥
+last_lost : HasBlock 3 2 (little (ethernet ∷ [])) (take 68 (packet_block 0 38 72)) → ⊥
 unfolding number
 last_lost =
     let bytes : List ℕ = take 68 (packet_block 0 38 72) in
-    none_whole 3 (little (ethernet ∷ [])) bytes (no_section bytes (λ e. omega (arith, e))) (λ whole rest parts is. omega (arith, (is_there orders.Little bytes whole rest parts is).1))
+    none_whole 3 2 (little (ethernet ∷ [])) bytes (no_section bytes (λ e. omega (arith, e))) (λ whole rest parts is. omega (arith, (is_there orders.Little bytes whole rest parts is).1))
 
-two_lengths : HasBlock 3 (little (ethernet ∷ [])) (packet_block 0 38 76) → ⊥
+two_lengths : HasBlock 3 2 (little (ethernet ∷ [])) (packet_block 0 38 76) → ⊥
 unfolding number
 two_lengths =
     let bytes : List ℕ = packet_block 0 38 76 in
-    none_whole 3 (little (ethernet ∷ [])) bytes (no_section bytes (λ e. omega (arith, e))) (λ whole rest parts is.
+    none_whole 3 2 (little (ethernet ∷ [])) bytes (no_section bytes (λ e. omega (arith, e))) (λ whole rest parts is.
     let same : IsWhole orders.Little bytes = subst (λ (b : List ℕ). IsWhole orders.Little b) (sym (whole_is orders.Little bytes whole rest parts is)) is in
     omega (arith, same.back))
 

@@ -52,17 +52,17 @@ pub record IsOtherBlock (order : Order) (block : List ℕ) : Type 0 where
   pub no_packet : number order 4 0 block ≢ packet_type
 
 -- what a stored packet is: one of an interface whose link type isn't read is passed over
-abbrev pub item_on : Option Link → ℕ → List ℕ → Item
-item_on (Some link) dev stored = item_of link dev stored
-item_on None dev stored = items.Skip
+abbrev pub item_on : Option Link → ℕ → ℕ → List ℕ → Item
+item_on (Some link) dev net stored = item_of link dev net stored
+item_on None dev net stored = items.Skip
 
 -- the bytes are a valid block in that section, and say this
-abbrev pub IsBlock : ℕ → Section → List ℕ → Block → Type 0
-IsBlock dev section bytes (blocks.Section order) = IsSectionBlock order bytes
-IsBlock dev section bytes (blocks.Interface link) = IsInterfaceBlock section.order bytes link
-IsBlock dev section bytes (blocks.Packet item) =
-    (link : Option Link) × (stored : List ℕ) × IsPacketBlock section bytes link stored × (item ≡ item_on link dev stored)
-IsBlock dev section bytes blocks.Other = IsOtherBlock section.order bytes
+abbrev pub IsBlock : ℕ → ℕ → Section → List ℕ → Block → Type 0
+IsBlock dev net section bytes (blocks.Section order) = IsSectionBlock order bytes
+IsBlock dev net section bytes (blocks.Interface link) = IsInterfaceBlock section.order bytes link
+IsBlock dev net section bytes (blocks.Packet item) =
+    (link : Option Link) × (stored : List ℕ) × IsPacketBlock section bytes link stored × (item ≡ item_on link dev net stored)
+IsBlock dev net section bytes blocks.Other = IsOtherBlock section.order bytes
 
 -- the section that the next block is in: another one begins, or this one has one more interface
 abbrev pub after : Section → Block → Section
@@ -72,25 +72,25 @@ after section (blocks.Packet item) = section
 after section blocks.Other = section
 
 -- the bytes begin with a valid block that says this, and the rest follows
-abbrev pub BeginsWithBlock : ℕ → Section → List ℕ → Block → List ℕ → Type 0
-BeginsWithBlock dev section bytes block rest =
-    (whole : List ℕ) × (bytes ≡ whole ++ rest) × IsBlock dev section whole block
+abbrev pub BeginsWithBlock : ℕ → ℕ → Section → List ℕ → Block → List ℕ → Type 0
+BeginsWithBlock dev net section bytes block rest =
+    (whole : List ℕ) × (bytes ≡ whole ++ rest) × IsBlock dev net section whole block
 
 -- a valid block stands at the front
-abbrev pub HasBlock : ℕ → Section → List ℕ → Type 0
-HasBlock dev section bytes = (block : Block) × (rest : List ℕ) × BeginsWithBlock dev section bytes block rest
+abbrev pub HasBlock : ℕ → ℕ → Section → List ℕ → Type 0
+HasBlock dev net section bytes = (block : Block) × (rest : List ℕ) × BeginsWithBlock dev net section bytes block rest
 
 -- what is left after the last valid block, by whether the capture is cut there
-abbrev pub EndsBlocks : ℕ → Section → List ℕ → Bool → Type 0
-EndsBlocks dev section bytes false = bytes ≡ []
-EndsBlocks dev section bytes true = (bytes ≢ []) × ¬ (HasBlock dev section bytes)
+abbrev pub EndsBlocks : ℕ → ℕ → Section → List ℕ → Bool → Type 0
+EndsBlocks dev net section bytes false = bytes ≡ []
+EndsBlocks dev net section bytes true = (bytes ≢ []) × ¬ (HasBlock dev net section bytes)
 
 -- The bytes are valid blocks, one after the other, and the end.
-abbrev pub AreBlocks : ℕ → Section → List ℕ → List Block → Bool → Type 0
-AreBlocks dev section bytes [] cut = EndsBlocks dev section bytes cut
-AreBlocks dev section bytes (block ∷ blocks) cut =
-    (rest : List ℕ) × BeginsWithBlock dev section bytes block rest
-    × AreBlocks dev (after section block) rest blocks cut
+abbrev pub AreBlocks : ℕ → ℕ → Section → List ℕ → List Block → Bool → Type 0
+AreBlocks dev net section bytes [] cut = EndsBlocks dev net section bytes cut
+AreBlocks dev net section bytes (block ∷ blocks) cut =
+    (rest : List ℕ) × BeginsWithBlock dev net section bytes block rest
+    × AreBlocks dev net (after section block) rest blocks cut
 
 -- the items of the packets that some blocks store
 abbrev pub items_of : List Block → List Item

@@ -34,44 +34,45 @@ Ends order bytes false = bytes ≡ []
 Ends order bytes true = IsCutRecord order bytes
 
 -- The bytes are a record for each item, one after the other, and the end.
-abbrev pub AreRecords : Header → ℕ → List ℕ → List Item → Bool → Type 0
-AreRecords header dev bytes [] cut = Ends header.order bytes cut
-AreRecords header dev bytes (item ∷ items) cut =
+abbrev pub AreRecords : Header → ℕ → ℕ → List ℕ → List Item → Bool → Type 0
+AreRecords header dev net bytes [] cut = Ends header.order bytes cut
+AreRecords header dev net bytes (item ∷ items) cut =
     (stored : List ℕ) × (rest : List ℕ) × BeginsWithRecord header.order bytes stored rest
-    × (item ≡ item_of header.link dev stored) × AreRecords header dev rest items cut
+    × (item ≡ item_of header.link dev net stored) × AreRecords header dev net rest items cut
 
 -- a text without bytes has no items, and isn't cut
 abbrev pub nothing : Capture
 nothing = record { items = []; cut = false }
 
 -- the text is a header and records
-abbrev pub IsOfRecords : ℕ → List ℕ → Capture → Type 0
-IsOfRecords dev bytes capture =
+abbrev pub IsOfRecords : ℕ → ℕ → List ℕ → Capture → Type 0
+IsOfRecords dev net bytes capture =
     (header : Header) × BeginsWithHeader bytes header
-    × AreRecords header dev (drop 24 bytes) capture.items capture.cut
+    × AreRecords header dev net (drop 24 bytes) capture.items capture.cut
 
 -- the text is a block that begins a section, and more blocks, of that section and of others
-abbrev pub IsOfBlocks : ℕ → List ℕ → Capture → Type 0
-IsOfBlocks dev bytes capture =
+abbrev pub IsOfBlocks : ℕ → ℕ → List ℕ → Capture → Type 0
+IsOfBlocks dev net bytes capture =
     (order : Order) × (rest : List ℕ) × (blocks : List Block) × BeginsWithSection bytes order rest
-    × AreBlocks dev (begun order) rest blocks capture.cut × (capture.items ≡ items_of blocks)
+    × AreBlocks dev net (begun order) rest blocks capture.cut × (capture.items ≡ items_of blocks)
 
--- The text is this capture, of packets that came in by that device: no bytes at all, or one in either format.
-abbrev pub IsCapture : ℕ → List ℕ → Capture → Type 0
-IsCapture dev bytes capture =
-    ((bytes ≡ []) × (capture ≡ nothing)) ⊎ (IsOfRecords dev bytes capture ⊎ IsOfBlocks dev bytes capture)
+-- The text is this capture, of packets that came in by that device and in that network namespace: no bytes at all, or one
+-- in either format.
+abbrev pub IsCapture : ℕ → ℕ → List ℕ → Capture → Type 0
+IsCapture dev net bytes capture =
+    ((bytes ≡ []) × (capture ≡ nothing)) ⊎ (IsOfRecords dev net bytes capture ⊎ IsOfBlocks dev net bytes capture)
 
 -- a text is one capture at most
 abbrev pub IsDetermined : Type 0
 IsDetermined =
-    (dev : ℕ) (bytes : List ℕ) (a b : Capture) → AreBytes bytes → IsCapture dev bytes a → IsCapture dev bytes b → a ≡ b
+    (dev net : ℕ) (bytes : List ℕ) (a b : Capture) → AreBytes bytes → IsCapture dev net bytes a → IsCapture dev net bytes b → a ≡ b
 
 -- a text without bytes is a capture, and so is each that begins with a header, whatever follows
 abbrev pub TakesEach : Type 0
 TakesEach =
-    (dev : ℕ) (bytes : List ℕ) → (bytes ≡ []) ⊎ HasHeader bytes → (capture : Capture) × IsCapture dev bytes capture
+    (dev net : ℕ) (bytes : List ℕ) → (bytes ≡ []) ⊎ HasHeader bytes → (capture : Capture) × IsCapture dev net bytes capture
 
 -- no other text is one
 abbrev pub TakesNoOther : Type 0
 TakesNoOther =
-    (dev : ℕ) (bytes : List ℕ) (capture : Capture) → bytes ≢ [] → ¬ (HasHeader bytes) → ¬ (IsCapture dev bytes capture)
+    (dev net : ℕ) (bytes : List ℕ) (capture : Capture) → bytes ≢ [] → ¬ (HasHeader bytes) → ¬ (IsCapture dev net bytes capture)

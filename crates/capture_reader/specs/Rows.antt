@@ -30,15 +30,15 @@ arp_frame = addresses ++ 8 ∷ 6 ∷ []
 
 -- the packet that each finds
 abbrev pub found : Item
-found = items.Packet (record { src = 0x0A000002; sport = 1000; dst = 0x0A000001; dport = 80; dev = 3; net = 0 })
+found = items.Packet (record { src = 0x0A000002; sport = 1000; dst = 0x0A000001; dport = 80; dev = 3; net = 2 })
 
--- what these are that came in by device 3: a packet plain, in a VLAN and without a frame; a frame of ARP; a later
--- fragment; a packet without its last byte
+-- what these are that came in by device 3 in network namespace 2: a packet plain, in a VLAN and without a frame; a frame
+-- of ARP; a later fragment; a packet without its last byte
 abbrev pub judged : List Item
 judged =
-    map (item_of links.Ethernet 3) (frame (datagram 0) ∷ tagged_frame (datagram 0) ∷ [])
-    ++ item_of links.Raw 3 (datagram 0)
-    ∷ map (item_of links.Ethernet 3) (arp_frame ∷ frame (datagram 1) ∷ take 37 (frame (datagram 0)) ∷ [])
+    map (item_of links.Ethernet 3 2) (frame (datagram 0) ∷ tagged_frame (datagram 0) ∷ [])
+    ++ item_of links.Raw 3 2 (datagram 0)
+    ∷ map (item_of links.Ethernet 3 2) (arp_frame ∷ frame (datagram 1) ∷ take 37 (frame (datagram 0)) ∷ [])
 
 -- the header of an Ethernet capture from a machine with the lowest byte first
 abbrev pub file_header : List ℕ
@@ -107,22 +107,22 @@ whole items = record { items = items; cut = false }
 abbrev pub cut_after : List Item → Capture
 cut_after items = record { items = items; cut = true }
 
--- Which captures these texts are, whose packets came in by device 3.
+-- Which captures these texts are, whose packets came in by device 3 in network namespace 2.
 pub record RowsHold : Type 0 where
-  pub records : IsCapture 3 of_records (cut_after (found ∷ items.Skip ∷ found ∷ items.Skip ∷ []))
-  pub packet : IsCapture 3 (with_interface (packet_block 0 38 72)) (whole (found ∷ []))
+  pub records : IsCapture 3 2 of_records (cut_after (found ∷ items.Skip ∷ found ∷ items.Skip ∷ []))
+  pub packet : IsCapture 3 2 (with_interface (packet_block 0 38 72)) (whole (found ∷ []))
   -- without its last four bytes
-  pub last_lost : IsCapture 3 (with_interface (take 68 (packet_block 0 38 72))) (cut_after [])
+  pub last_lost : IsCapture 3 2 (with_interface (take 68 (packet_block 0 38 72))) (cut_after [])
   -- a simple packet, an interface of another link type, and a packet of each interface
-  pub link_types : IsCapture 3 (with_interface (simple_block ++ (interface_block 113 ++ (packet_block 0 38 72 ++ packet_block 1 38 72)))) (whole (found ∷ items.Skip ∷ []))
+  pub link_types : IsCapture 3 2 (with_interface (simple_block ++ (interface_block 113 ++ (packet_block 0 38 72 ++ packet_block 1 38 72)))) (whole (found ∷ items.Skip ∷ []))
   -- another section, in the other order of bytes
-  pub orders : IsCapture 3 (with_interface (packet_block 0 38 72 ++ (big_section_block ++ (big_interface_block ++ big_packet_block)))) (whole (found ∷ found ∷ []))
+  pub orders : IsCapture 3 2 (with_interface (packet_block 0 38 72 ++ (big_section_block ++ (big_interface_block ++ big_packet_block)))) (whole (found ∷ found ∷ []))
   -- another section, which has no interface
-  pub sections : IsCapture 3 (with_interface (packet_block 0 38 72 ++ (section_block ++ packet_block 0 38 72))) (cut_after (found ∷ []))
+  pub sections : IsCapture 3 2 (with_interface (packet_block 0 38 72 ++ (section_block ++ packet_block 0 38 72))) (cut_after (found ∷ []))
   -- a packet of an interface that the section doesn't have
-  pub no_interface : IsCapture 3 (with_interface (packet_block 1 38 72)) (cut_after [])
+  pub no_interface : IsCapture 3 2 (with_interface (packet_block 1 38 72)) (cut_after [])
   -- a packet whose block tells two lengths
-  pub lengths : IsCapture 3 (with_interface (packet_block 0 38 76)) (cut_after [])
+  pub lengths : IsCapture 3 2 (with_interface (packet_block 0 38 76)) (cut_after [])
   -- a packet that has room with its padding, and one that hasn't
-  pub room : IsCapture 3 (with_interface (packet_block 0 40 72)) (whole (found ∷ []))
-  pub no_room : IsCapture 3 (with_interface (packet_block 0 41 72)) (cut_after [])
+  pub room : IsCapture 3 2 (with_interface (packet_block 0 40 72)) (whole (found ∷ []))
+  pub no_room : IsCapture 3 2 (with_interface (packet_block 0 41 72)) (cut_after [])

@@ -99,11 +99,11 @@ fn interface_of(order: Order, block: &[u8]) -> Option<Option<Link>>
 }
 
 /// What is stored of a packet that came in by an interface of that link type.
-fn item_on(link: Option<Link>, dev: u16, stored: &[u8]) -> Item
-    ensures { result ≡ item_on link dev stored.now }
+fn item_on(link: Option<Link>, dev: u16, net: u8, stored: &[u8]) -> Item
+    ensures { result ≡ item_on link dev net stored.now }
 {
     match link {
-        Some(link) => item_of(link, dev, stored),
+        Some(link) => item_of(link, dev, net, stored),
         None => Item::Skip,
     }
 }
@@ -129,26 +129,32 @@ fn packet_of<'a>(section: &Section, block: &'a [u8]) -> Option<(Option<Link>, &'
 }
 
 /// What a whole block says that begins no section. None where it isn't valid.
-fn block_of(section: &Section, dev: u16, block: &[u8]) -> Option<Block>
+fn block_of(section: &Section, dev: u16, net: u8, block: &[u8]) -> Option<Block>
     requires whole { IsWhole section.now.order block.now }
     requires no_section { number Order.Big 4 0 block.now ≢ section_type }
-    ensures some { IfSome result (λ found. IsBlock dev section.now block.now found) }
-    ensures none { IfNone result ((found : Block) → ¬ (IsBlock dev section.now block.now found)) }
+    ensures some { IfSome result (λ found. IsBlock dev net section.now block.now found) }
+    ensures none { IfNone result ((found : Block) → ¬ (IsBlock dev net section.now block.now found)) }
 {
     match u32_at(section.order(), block, 0) {
         1 => Some(Block::Interface(interface_of(section.order(), block)?)),
         6 => {
             let (link, stored) = packet_of(section, block)?;
-            Some(Block::Packet(item_on(link, dev, stored)))
+            Some(Block::Packet(item_on(link, dev, net, stored)))
         }
         _ => Some(Block::Other),
     }
 }
 
-/// What the first block says, if it is valid, of packets that came in by that device, and the bytes after it.
-pub fn next_block<'a>(section: &Section, dev: u16, bytes: &'a [u8]) -> Option<(Block, &'a [u8])>
-    ensures some { IfSome result (λ found. BeginsWithBlock dev section.now bytes.now found.0 found.1.now) }
-    ensures none { IfNone result (¬ (HasBlock dev section.now bytes.now)) }
+/// What the first block says, if it is valid, of packets that came in by that device and in that network namespace, and
+/// the bytes after it.
+pub fn next_block<'a>(
+    section: &Section,
+    dev: u16,
+    net: u8,
+    bytes: &'a [u8],
+) -> Option<(Block, &'a [u8])>
+    ensures some { IfSome result (λ found. BeginsWithBlock dev net section.now bytes.now found.0 found.1.now) }
+    ensures none { IfNone result (¬ (HasBlock dev net section.now bytes.now)) }
 {
     if let Some((order, rest)) = next_section(bytes) {
         return Some((Block::Section(order), rest));
@@ -157,5 +163,5 @@ pub fn next_block<'a>(section: &Section, dev: u16, bytes: &'a [u8]) -> Option<(B
     if is_section(whole) {
         return None;
     }
-    Some((block_of(section, dev, whole)?, rest))
+    Some((block_of(section, dev, net, whole)?, rest))
 }

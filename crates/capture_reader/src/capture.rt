@@ -81,13 +81,14 @@ fn read_records(
     header: Header,
     bytes: &[u8],
     dev: u16,
+    net: u8,
 ) -> Result<Capture, AllocError>
-    ensures { IfOk result (λ capture. AreRecords header dev bytes.now capture.items capture.cut) }
+    ensures { IfOk result (λ capture. AreRecords header dev net bytes.now capture.items capture.cut) }
 {
     let mut items = Vec::new(alloc);
     let mut rest = bytes;
     while let Some((stored, after)) = next_record(header.order, rest) {
-        items.push(item_of(header.link, dev, stored))?;
+        items.push(item_of(header.link, dev, net, stored))?;
         rest = after;
     }
     let cut = !rest.is_empty();
@@ -95,14 +96,20 @@ fn read_records(
 }
 
 /// Reads the blocks after the one that begins a section, to the first that isn't valid or to the end of the bytes.
-fn read_blocks(alloc: Global, order: Order, bytes: &[u8], dev: u16) -> Result<Capture, AllocError>
+fn read_blocks(
+    alloc: Global,
+    order: Order,
+    bytes: &[u8],
+    dev: u16,
+    net: u8,
+) -> Result<Capture, AllocError>
     ensures { IfOk result (λ capture. (blocks : List Block)
-        × AreBlocks dev (begun order) bytes.now blocks capture.cut × (capture.items ≡ items_of blocks)) }
+        × AreBlocks dev net (begun order) bytes.now blocks capture.cut × (capture.items ≡ items_of blocks)) }
 {
     let mut section = Section::new(alloc, order);
     let mut items = Vec::new(alloc);
     let mut rest = bytes;
-    while let Some((block, after)) = next_block(&section, dev, rest) {
+    while let Some((block, after)) = next_block(&section, dev, net, rest) {
         match block {
             Block::Section(order) => section.begin(order),
             Block::Interface(link) => section.add(link)?,
@@ -116,14 +123,14 @@ fn read_blocks(alloc: Global, order: Order, bytes: &[u8], dev: u16) -> Result<Ca
 }
 
 /// Reads a capture in either format: what it says of each packet, all of which came in by that device, 0 where that
-/// isn't told.
+/// isn't told, and in that network namespace.
 ///
 /// No bytes are a capture without items. Times, how long a packet was on the wire, and options aren't read; a packet of
 /// an interface whose link type isn't read is passed over. Takes memory for the items and for the interfaces of one
 /// section, and the time is about that of one look at each record or block.
-pub fn packets(alloc: Global, bytes: &[u8], dev: u16) -> Result<Capture, CaptureEnd>
-    ensures capture { IfOk result (IsCapture dev bytes.now) }
-    ensures only { (capture : Contents) → IsCapture dev bytes.now capture → IfOk result (λ found. found ≡ capture) }
+pub fn packets(alloc: Global, bytes: &[u8], dev: u16, net: u8) -> Result<Capture, CaptureEnd>
+    ensures capture { IfOk result (IsCapture dev net bytes.now) }
+    ensures only { (capture : Contents) → IsCapture dev net bytes.now capture → IfOk result (λ found. found ≡ capture) }
     // So BadHead comes for each text that is no capture, and for no other.
     ensures bad_head { (result ≡ Err CaptureEnd.BadHead) ↔ ((bytes.now ≢ []) × ¬ HasHeader bytes.now) }
 {
@@ -131,10 +138,10 @@ pub fn packets(alloc: Global, bytes: &[u8], dev: u16) -> Result<Capture, Capture
         return Ok(Capture::new(alloc));
     }
     if let Some(header) = header_of(bytes) {
-        return Ok(read_records(alloc, header, &bytes[FILE_HEADER..], dev)?);
+        return Ok(read_records(alloc, header, &bytes[FILE_HEADER..], dev, net)?);
     }
     let Some((order, rest)) = next_section(bytes) else {
         return Err(CaptureEnd::BadHead);
     };
-    Ok(read_blocks(alloc, order, rest, dev)?)
+    Ok(read_blocks(alloc, order, rest, dev, net)?)
 }

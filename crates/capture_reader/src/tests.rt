@@ -99,19 +99,19 @@ fn reads(
     items: &[Item],
     cut: bool,
 ) -> Result<bool, CaptureEnd> {
-    let capture = packets(alloc, &capture_of(alloc, header, records)?, 0)?;
+    let capture = packets(alloc, &capture_of(alloc, header, records)?, 0, 0)?;
     Ok(capture.items() == items && capture.is_cut() == cut)
 }
 
 /// The packet that the captures hold, from 10.0.0.2:1000 to 10.0.0.1:80.
-fn packet(dev: u16) -> Packet {
+fn packet(dev: u16, net: u8) -> Packet {
     Packet {
         src: 0x0a00_0002,
         sport: 1000,
         dst: 0x0a00_0001,
         dport: 80,
         dev,
-        net: 0,
+        net,
     }
 }
 
@@ -119,8 +119,8 @@ fn packet(dev: u16) -> Packet {
 fn packets_are_found_with_a_tag_and_without(rt: HostRuntime) -> Result<(), Fail> {
     let bytes = capture_of(rt.alloc(), HEADER, RECORDS)?;
     assert_eq!(rt; bytes.len(), 228);
-    let capture = packets(rt.alloc(), &bytes, 7)?;
-    let found = Item::Packet(packet(7));
+    let capture = packets(rt.alloc(), &bytes, 7, 15)?;
+    let found = Item::Packet(packet(7, 15));
     assert!(rt; capture.items() == [found, Item::Skip, found, Item::Skip].as_slice());
     assert!(rt; capture.is_cut());
     Ok(())
@@ -130,7 +130,7 @@ fn packets_are_found_with_a_tag_and_without(rt: HostRuntime) -> Result<(), Fail>
 fn a_capture_may_be_cut_anywhere(rt: HostRuntime) -> Result<(), Fail> {
     let bytes = capture_of(rt.alloc(), HEADER, RECORDS)?;
     for len in 0..=bytes.len() {
-        let capture = packets(rt.alloc(), &bytes[..len], 0);
+        let capture = packets(rt.alloc(), &bytes[..len], 0, 0);
         if 0 < len && len < 24 {
             assert!(rt; matches!(capture, Err(CaptureEnd::BadHead)), "at {len}");
             continue;
@@ -170,9 +170,9 @@ fn each_header_that_is_read(rt: HostRuntime) -> Result<(), Fail> {
         ),
     ] {
         let bytes = capture_of(rt.alloc(), header, record)?;
-        let capture = packets(rt.alloc(), &bytes, 0)?;
+        let capture = packets(rt.alloc(), &bytes, 0, 0)?;
         assert!(rt;
-            capture.items() == [Item::Packet(packet(0))].as_slice(),
+            capture.items() == [Item::Packet(packet(0, 0))].as_slice(),
             "{header}"
         );
         assert!(rt; !capture.is_cut(), "{header}");
@@ -194,7 +194,7 @@ fn other_headers_are_refused(rt: HostRuntime) -> Result<(), Fail> {
         "d4c3b2a1 0200 0400 00000000 00000000 ffff0000 65000100",
     ] {
         let bytes = capture_of(rt.alloc(), header, "")?;
-        let capture = packets(rt.alloc(), &bytes, 0);
+        let capture = packets(rt.alloc(), &bytes, 0, 0);
         assert!(rt; matches!(capture, Err(CaptureEnd::BadHead)), "{header}");
     }
     Ok(())
@@ -202,7 +202,7 @@ fn other_headers_are_refused(rt: HostRuntime) -> Result<(), Fail> {
 
 #[test]
 fn each_test_of_a_stored_packet(rt: HostRuntime) -> Result<(), Fail> {
-    let found = Item::Packet(packet(0));
+    let found = Item::Packet(packet(0, 0));
     for (record, item) in [
         // A frame without a whole EtherType, and one without what stands after its tag.
         (
@@ -280,7 +280,7 @@ fn each_test_of_a_stored_packet(rt: HostRuntime) -> Result<(), Fail> {
     ] {
         let mut bytes = capture_of(rt.alloc(), HEADER, "00000000 00000000")?;
         add_hex(&mut bytes, record)?;
-        let capture = packets(rt.alloc(), &bytes, 0)?;
+        let capture = packets(rt.alloc(), &bytes, 0, 0)?;
         assert!(rt; capture.items() == [item].as_slice(), "{record}");
         assert!(rt; !capture.is_cut(), "{record}");
     }
@@ -290,7 +290,7 @@ fn each_test_of_a_stored_packet(rt: HostRuntime) -> Result<(), Fail> {
 #[test]
 fn no_stored_length_is_refused(rt: HostRuntime) -> Result<(), Fail> {
     let bytes = capture_of(rt.alloc(), HEADER, "00000000 00000000 ffffffff ffffffff 00")?;
-    let capture = packets(rt.alloc(), &bytes, 0)?;
+    let capture = packets(rt.alloc(), &bytes, 0, 0)?;
     assert!(rt; capture.items().is_empty());
     assert!(rt; capture.is_cut());
     Ok(())
@@ -298,7 +298,7 @@ fn no_stored_length_is_refused(rt: HostRuntime) -> Result<(), Fail> {
 
 #[test]
 fn blocks_in_either_order(rt: HostRuntime) -> Result<(), Fail> {
-    let found = Item::Packet(packet(0));
+    let found = Item::Packet(packet(0, 0));
     for (first, second, items) in [
         (BLOCKS, "", [found, Item::Skip].as_slice()),
         (BIG_BLOCKS, "", [found].as_slice()),
@@ -314,7 +314,7 @@ fn blocks_in_either_order(rt: HostRuntime) -> Result<(), Fail> {
 fn blocks_may_end_anywhere(rt: HostRuntime) -> Result<(), Fail> {
     let bytes = capture_of(rt.alloc(), BLOCKS, BIG_BLOCKS)?;
     for len in 0..=bytes.len() {
-        let capture = packets(rt.alloc(), &bytes[..len], 0);
+        let capture = packets(rt.alloc(), &bytes[..len], 0, 0);
         if 0 < len && len < 28 {
             assert!(rt; matches!(capture, Err(CaptureEnd::BadHead)), "at {len}");
             continue;
@@ -330,7 +330,7 @@ fn blocks_may_end_anywhere(rt: HostRuntime) -> Result<(), Fail> {
 
 #[test]
 fn blocks_that_are_not_valid_end_a_capture(rt: HostRuntime) -> Result<(), Fail> {
-    let found = Item::Packet(packet(0));
+    let found = Item::Packet(packet(0, 0));
     let section = "0a0d0d0a 1c000000 4d3c2b1a 0100 0000 ffffffff ffffffff 1c000000";
     let items = [found, Item::Skip];
     for block in [
@@ -356,7 +356,7 @@ fn blocks_that_are_not_valid_end_a_capture(rt: HostRuntime) -> Result<(), Fail> 
     // The interfaces of a section are its own.
     let packet = "06000000 20000000 00000000 00000000 00000000 00000000 00000000 20000000";
     let bytes = capture_of(rt.alloc(), section, packet)?;
-    let capture = packets(rt.alloc(), &bytes, 0)?;
+    let capture = packets(rt.alloc(), &bytes, 0, 0)?;
     assert!(rt; capture.items().is_empty() && capture.is_cut());
     Ok(())
 }

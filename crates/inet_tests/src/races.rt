@@ -7,9 +7,9 @@ use std::test::Fail;
 /// The words that ask for a race with one looker, whose lookups have one pass.
 const WORDS: [&str; 6] = ["inet", "race", "--lookers", "1", "--passes", "1"];
 
-/// Scripts for a race, each with what is written for it: no section, one listener, a refusal, and a connection that is
-/// closed.
-const ROWS: [(&str, &str); 4] = [
+/// Scripts for a race, each with what is written for it: no section, one listener, one in a network namespace, a refusal,
+/// and a connection that is closed.
+const ROWS: [(&str, &str); 5] = [
     (
         "",
         "race lookers 1 passes 1\nshape 1024 16 256 32\nclock 0\n",
@@ -18,6 +18,11 @@ const ROWS: [(&str, &str); 4] = [
         "table slots 2 bind 1 hash 1 listen 1\nscript 1\nsocket a\nbind a 10.0.0.1:80\nlisten a\n",
         "race lookers 1 passes 1\nshape 2 1 1 1\n1 socket a ok\n1 bind a ok 80\n1 listen a ok 80\n\
          journal 0 3\nlife 1 0 listen 1.a 10.0.0.1:80 0.0.0.0:0 dev 0 hash 0 1 unhash -\nclock 2\n",
+    ),
+    (
+        "table slots 2 bind 1 hash 1 listen 1\nscript 1\nsocket a net 3\nbind a 10.0.0.1:80\nlisten a\n",
+        "race lookers 1 passes 1\nshape 2 1 1 1\n1 socket a ok\n1 bind a ok 80\n1 listen a ok 80\n\
+         journal 0 3\nlife 1 0 listen 1.a 10.0.0.1:80 0.0.0.0:0 dev 0 net 3 hash 0 1 unhash -\nclock 2\n",
     ),
     (
         "table slots 2 bind 1 hash 1 listen 1\nscript 1\nsocket a\nbind a 10.0.0.1:80\nbind a 10.0.0.1:81\n\

@@ -492,6 +492,43 @@ const DEVICES: (&str, &str) = (
      1 bind k ok 84\n",
 );
 
+/// Two tenants have one address and one port, and a third hears nothing.
+const NAMESPACES: (&str, &str) = (
+    "\
+     script 1\n\
+     socket a\n\
+     bind a 10.0.0.1:80\n\
+     listen a\n\
+     socket b net 1\n\
+     bind b 10.0.0.1:80\n\
+     listen b\n\
+     look 10.0.0.2:5 10.0.0.1:80\n\
+     look 10.0.0.2:5 10.0.0.1:80 net 1\n\
+     look 10.0.0.2:5 10.0.0.1:80 net 2\n\
+     socket c\n\
+     bind c 10.0.0.1:90\n\
+     socket d net 1\n\
+     bind d 10.0.0.1:90\n\
+     connect c to 10.0.0.2:80\n\
+     connect d to 10.0.0.2:80\n",
+    "\
+     1 socket a ok\n\
+     1 bind a ok 80\n\
+     1 listen a ok 80\n\
+     1 socket b ok\n\
+     1 bind b ok 80\n\
+     1 listen b ok 80\n\
+     1 look listen 1.a\n\
+     1 look listen 1.b\n\
+     1 look none\n\
+     1 socket c ok\n\
+     1 bind c ok 90\n\
+     1 socket d ok\n\
+     1 bind d ok 90\n\
+     1 connect c ok 10.0.0.1:90\n\
+     1 connect d ok 10.0.0.1:90\n",
+);
+
 #[test]
 fn rules_decide_beside_each_other(rt: HostRuntime) -> Result<(), Fail> {
     let rows = [
@@ -504,6 +541,7 @@ fn rules_decide_beside_each_other(rt: HostRuntime) -> Result<(), Fail> {
         SEARCHES,
         KEPT_MARK,
         DEVICES,
+        NAMESPACES,
     ];
     for (script, output) in rows {
         let input = script.as_bytes().to_vec(rt.alloc())?;

@@ -300,12 +300,12 @@ fn sharing(alloc: Global, count: u32) -> Result<(String, String), AllocError> {
 }
 
 #[test]
-fn a_group_has_sixteen_members(rt: HostRuntime) -> Result<(), Fail> {
-    let (input, output) = sharing(rt.alloc(), 16)?;
+fn a_group_has_sixty_four_members(rt: HostRuntime) -> Result<(), Fail> {
+    let (input, output) = sharing(rt.alloc(), 64)?;
     let answer = run(&rt, input.as_str(), PLAIN)?;
     assert!(rt; answer.0 == Status::Done);
     assert_eq!(rt; answer.1.as_slice(), output.as_bytes());
-    let (input, output) = sharing(rt.alloc(), 17)?;
+    let (input, output) = sharing(rt.alloc(), 65)?;
     let answer = run(&rt, input.as_str(), PLAIN)?;
     assert!(rt; answer.0 == Status::Done);
     let granted = output

@@ -5,7 +5,7 @@ use Rattle.capture_reader.specs.Header.{HasHeader}
 use Rattle.flat_list.specs.Script.{Script}
 use Rattle.sock_script.specs.declared.parse.Mode.{Mode}
 use Rattle.sock_script.specs.Words.{lines_of}
-use Rattle.sock_script.specs.Grammar.{IsScript, IsInside, IsFirstOutside, capture_bytes, capture_device}
+use Rattle.sock_script.specs.Grammar.{IsScript, IsInside, IsFirstOutside, capture_bytes, capture_device, capture_namespace}
 use Rattle.sock_script.proofs.Fronts.{none_outside, one_first}
 use Rattle.sock_script.proofs.Scripts.{one_script}
 use Rattle.capture_reader.proofs.Captures.{no_other}
@@ -36,7 +36,7 @@ module _ (mode : Mode) (bytes : List ℕ) where
       let same : bad.0 ≡ good.0 = one_script mode bytes bad.0 good.0 bad.1 good.2 in
       let none = subst (λ (s : Script). capture_bytes s.capture bytes ≢ []) same bad.2 in
       let headless = subst (λ (s : Script). HasHeader (capture_bytes s.capture bytes) → ⊥) same bad.3 in
-      no_other (capture_device good.0.capture) (capture_bytes good.0.capture bytes) good.1 none headless good.3
+      no_other (capture_device good.0.capture) (capture_namespace good.0.capture) (capture_bytes good.0.capture bytes) good.1 none headless good.3
 
   -- a good input has no fault
   pub no_fault : (f : Fault) → IsGood mode bytes → HasFault mode bytes f → ⊥

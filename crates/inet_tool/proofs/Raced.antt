@@ -4,7 +4,7 @@ use Rattle.capture_reader.specs.Captures.{Capture}
 use Rattle.capture_reader.specs.Grammar.{IsCapture}
 use Rattle.flat_list.specs.Script.{Script}
 use Rattle.sock_script.specs.declared.parse.Mode.TheVariants as modes
-use Rattle.sock_script.specs.Grammar.{IsScript, capture_bytes, capture_device}
+use Rattle.sock_script.specs.Grammar.{IsScript, capture_bytes, capture_device, capture_namespace}
 use Rattle.race_book.specs.Listed.{FitSlots, StampsDiffer}
 use Rattle.race_record.proofs.Drawn.{numbers_tell}
 use Rattle.race_record.proofs.Says.{lawful_says}
@@ -24,7 +24,7 @@ module _ (script : Script) (capture : Capture) (lookers passes : ℕ) (t : Told)
 
   -- so what is written of the script's commands and of that is what a race writes for these bytes
   pub race_out : (bytes text : List ℕ) → IsScript modes.Race bytes script
-      → IsCapture (capture_device script.capture) (capture_bytes script.capture bytes) capture
+      → IsCapture (capture_device script.capture) (capture_namespace script.capture) (capture_bytes script.capture bytes) capture
       → text ≡ told_text script.sections t → IsRaceOf lookers passes bytes text
   race_out bytes text script_is capture_is text_is = (
     (

@@ -11,7 +11,7 @@ use Rattle.capture_reader.specs.Grammar.{IsCapture}
 use Rattle.capture_reader.specs.Header.{HasHeader}
 use Rattle.flat_list.specs.Script.{Script}
 use Rattle.flat_list.specs.Sound.{IsSound}
-use Rattle.sock_script.specs.Grammar.{IsScript, IsFirstOutside, capture_bytes, capture_device}
+use Rattle.sock_script.specs.Grammar.{IsScript, IsFirstOutside, capture_bytes, capture_device, capture_namespace}
 use Rattle.sock_script.specs.Output.{FlatOut, flat_replies, lists_of}
 use Rattle.sock_script.specs.Make.{made_text}
 use Rattle.sock_script.specs.Counts.{script_counts, counts_text}
@@ -51,7 +51,7 @@ fault_text faults.Capture = codes "bad capture\n"
 abbrev pub IsGood : Mode → List ℕ → Type 0
 IsGood mode bytes =
     (script : Script) × (capture : Capture) × IsScript mode bytes script
-    × IsCapture (capture_device script.capture) (capture_bytes script.capture bytes) capture
+    × IsCapture (capture_device script.capture) (capture_namespace script.capture) (capture_bytes script.capture bytes) capture
 
 -- Whatever script these bytes are, each list that it runs through is sound: no two bound sockets of different origin
 -- conflict, but for those whose ports `connect` chose, and no two sockets that are full or in TIME_WAIT have one

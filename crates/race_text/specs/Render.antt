@@ -16,7 +16,7 @@ use Rattle.flat_list.specs.declared.command.Command.{Command}
 use Rattle.flat_list.specs.declared.command.Reply.{Reply}
 use Rattle.flat_list.specs.Script.{Script}
 use Rattle.sock_script.specs.declared.parse.Mode.TheVariants as modes
-use Rattle.sock_script.specs.Grammar.{IsScript, capture_bytes, capture_device}
+use Rattle.sock_script.specs.Grammar.{IsScript, capture_bytes, capture_device, capture_namespace}
 use Rattle.sock_script.specs.Output.{answer_with, label_in, lines_text, events_from, issued_from, cut_text}
 use Rattle.race_book.specs.declared.lives.Life.{Life}
 use Rattle.race_book.specs.Listed.{lives_of}
@@ -162,7 +162,7 @@ render race = told_text (commands_of race) (told race)
 -- the text is a script for a race, with that capture
 pub record HasRace (input : List ℕ) (script : Script) (capture : Capture) : Type 0 where
   pub script_is : IsScript modes.Race input script
-  pub capture_is : IsCapture (capture_device script.capture) (capture_bytes script.capture input) capture
+  pub capture_is : IsCapture (capture_device script.capture) (capture_namespace script.capture) (capture_bytes script.capture input) capture
 
 -- what is written for a text that is a script for a race, by so many lookers with so many passes: some lawful record of it
 abbrev pub RaceOut : ℕ → ℕ → List ℕ → List ℕ → Type 0

@@ -2,15 +2,17 @@
 use Rattle.std.proofs.Common.{◌≡◌, ℕ, ◌∙◌, List, [], ◌∷◌, ◌++◌, Bool, true, false, Option, Some, None, cond, ◌==◌, codes, slice_get, arith, sym, refl, ap}
 use Rattle.std.proofs.lemmas.Fmt.{decimal_injective}
 use Rattle.flat_list.specs.declared.command.End.{End}
+use Rattle.flat_list.specs.declared.command.Query.{Query}
+use Rattle.flat_list.specs.declared.owned.Options.{Options}
 use Rattle.flat_list.specs.declared.command.Command.{Command}
 use Rattle.flat_list.specs.declared.command.Command.TheVariants as commands
 use Rattle.chain_book.specs.declared.shape.Shape.{Shape}
 use Rattle.flat_list.specs.declared.header.Range.{Range}
 use Rattle.sock_script.specs.declared.line.Line.{Line}
 use Rattle.sock_script.specs.declared.line.Line.TheVariants as lines
-use Rattle.sock_script.specs.Forms.{HasForm, command_words, CommandFits, EndFits, DeviceFits, ShapeFits, SourceFits, RangeFits, range_words, shape_words, UserFits, user_words, device_words, flag_words, source_words}
+use Rattle.sock_script.specs.Forms.{HasForm, command_words, option_words, CommandFits, EndFits, NamespaceFits, DeviceFits, ShapeFits, SourceFits, RangeFits, range_words, shape_words, UserFits, namespace_words, user_words, device_words, flag_words, source_words}
 use Rattle.sock_script.proofs.Verbs.{word_code, verb_code, never}
-use Rattle.sock_script.proofs.Words.{second_is, third_is, past_one, past_two, past_three, options_of, rest-lacks_uid, flags-lack_dev, reuseport-lacks_reuseaddr, flag-last, device-last, one_switch}
+use Rattle.sock_script.proofs.Words.{second_is, third_is, past_one, past_two, past_three, options_of, rest-lacks_net, rest-lacks_uid, flags-lack_dev, namespace-lacks_dev, reuseport-lacks_reuseaddr, flag-last, namespace-last, one_switch}
 use Rattle.inet_io.specs.Texts.{end_text}
 use Rattle.inet_io.proofs.EndTexts.{addr_text_injective, end_text_injective}
 
@@ -32,6 +34,14 @@ one_user None None vs ws x y p q h = (refl, h)
 one_user None (Some e) vs ws x y p q h = absurd (p (ap (λ w. slice_get w 0) h))
 one_user (Some d) None vs ws x y p q h = absurd (q (ap (λ w. slice_get w 0) (sym h)))
 one_user (Some d) (Some e) vs ws x y p q h =
+    (ap Some (decimal_injective d e (omega arith) (omega arith) (second_is _ _ _ _ _ _ h)), past_two _ _ _ _ _ _ h)
+
+-- and an optional namespace
+one_namespace : (d e : Option ℕ) (vs ws : List (List ℕ)) → NamespaceFits d → NamespaceFits e → Lacks (codes "net") vs → Lacks (codes "net") ws → namespace_words d ++ vs ≡ namespace_words e ++ ws → (d ≡ e) × (vs ≡ ws)
+one_namespace None None vs ws x y p q h = (refl, h)
+one_namespace None (Some e) vs ws x y p q h = absurd (p (ap (λ w. slice_get w 0) h))
+one_namespace (Some d) None vs ws x y p q h = absurd (q (ap (λ w. slice_get w 0) (sym h)))
+one_namespace (Some d) (Some e) vs ws x y p q h =
     (ap Some (decimal_injective d e (omega arith) (omega arith) (second_is _ _ _ _ _ _ h)), past_two _ _ _ _ _ _ h)
 
 -- and so is a flag
@@ -56,17 +66,19 @@ one_end e f x y h =
     let P : ℕ → ℕ → End = λ a p. record { addr = a; port = p } in
     ap (λ a. P a e.port) both.0 ∙ ap (P f.addr) both.1
 
--- so are the words of each command that has more than a label
-one_socket : (l m : List ℕ) (u v d e : Option ℕ) (r s p q : Bool) → UserFits u × DeviceFits d → UserFits v × DeviceFits e → command_words (commands.Socket l u d r p) ≡ command_words (commands.Socket m v e s q) → commands.Socket l u d r p ≡ commands.Socket m v e s q
-one_socket l m u v d e r s p q x y h =
-    let label = second_is _ _ _ _ _ _ h in
-    let options = sym (options_of u d r p) ∙ past_two _ _ _ _ _ _ h ∙ options_of v e s q in
-    let uid = one_user u v _ _ x.0 y.0 (rest-lacks_uid d r p) (rest-lacks_uid e s q) options in
-    let dev = one_device d e _ _ x.1 y.1 (flags-lack_dev r p) (flags-lack_dev s q) uid.1 in
-    let addr = one_flag _ r s _ _ (reuseport-lacks_reuseaddr p) (reuseport-lacks_reuseaddr q) dev.1 in
-    let port = one_flag _ p q [] [] (λ w. cc) (λ w. cc) (sym (flag-last _ p) ∙ addr.1 ∙ flag-last _ q) in
-    ap (λ t. commands.Socket t u d r p) label ∙ ap (λ t. commands.Socket m t d r p) uid.0 ∙ ap (λ t. commands.Socket m v t r p) dev.0
-    ∙ ap (λ t. commands.Socket m v e t p) addr.0 ∙ ap (commands.Socket m v e s) port.0
+-- so are a socket's options, and the words of each command that has more than a label
+one_options : (a b : Options) → NamespaceFits a.net × UserFits a.uid × DeviceFits a.dev → NamespaceFits b.net × UserFits b.uid × DeviceFits b.dev → option_words a ≡ option_words b → a ≡ b
+one_options a b x y h =
+    let words = sym (options_of a) ∙ h ∙ options_of b in
+    let net = one_namespace a.net b.net _ _ x.0 y.0 (rest-lacks_net a.uid a.dev a.reuseaddr a.reuseport) (rest-lacks_net b.uid b.dev b.reuseaddr b.reuseport) words in
+    let uid = one_user a.uid b.uid _ _ x.1 y.1 (rest-lacks_uid a.dev a.reuseaddr a.reuseport) (rest-lacks_uid b.dev b.reuseaddr b.reuseport) net.1 in
+    let dev = one_device a.dev b.dev _ _ x.2 y.2 (flags-lack_dev a.reuseaddr a.reuseport) (flags-lack_dev b.reuseaddr b.reuseport) uid.1 in
+    let addr = one_flag _ a.reuseaddr b.reuseaddr _ _ (reuseport-lacks_reuseaddr a.reuseport) (reuseport-lacks_reuseaddr b.reuseport) dev.1 in
+    let port = one_flag _ a.reuseport b.reuseport [] [] (λ w. cc) (λ w. cc) (sym (flag-last _ a.reuseport) ∙ addr.1 ∙ flag-last _ b.reuseport) in
+    let P : Option ℕ → Option ℕ → Option ℕ → Bool → Bool → Options = λ n u d r s. record { net = n; uid = u; dev = d; reuseaddr = r; reuseport = s } in
+    ap (λ t. P t a.uid a.dev a.reuseaddr a.reuseport) net.0 ∙ ap (λ t. P b.net t a.dev a.reuseaddr a.reuseport) uid.0
+    ∙ ap (λ t. P b.net b.uid t a.reuseaddr a.reuseport) dev.0 ∙ ap (λ t. P b.net b.uid b.dev t a.reuseport) addr.0
+    ∙ ap (P b.net b.uid b.dev b.reuseaddr) port.0
 
 one_connect : (l m : List ℕ) (d e : Option ℕ) (a b : End) → CommandFits (commands.Connect l d a) → CommandFits (commands.Connect m e b) → command_words (commands.Connect l d a) ≡ command_words (commands.Connect m e b) → commands.Connect l d a ≡ commands.Connect m e b
 one_connect l m d e a b x y h =
@@ -88,17 +100,21 @@ one_accept k l m n a b c d x y h =
     ap (λ t. commands.Accept t l a b) words.0 ∙ ap (λ t. commands.Accept m t a b) words.1
     ∙ ap (λ t. commands.Accept m n t b) from ∙ ap (commands.Accept m n c) at
 
-one_look : (a b c d : End) (e f : Option ℕ) → CommandFits (commands.Look a b e) → CommandFits (commands.Look c d f) → command_words (commands.Look a b e) ≡ command_words (commands.Look c d f) → commands.Look a b e ≡ commands.Look c d f
-one_look a b c d e f x y h =
-    let from = one_end a c x.0 y.0 (second_is _ _ _ _ _ _ h) in
-    let to = one_end b d x.1 y.1 (third_is _ _ _ _ _ _ _ _ h) in
-    let dev = one_device e f [] [] x.2 y.2 (λ w. cc) (λ w. cc) (sym (device-last e) ∙ past_three _ _ _ _ _ _ _ _ h ∙ device-last f) in
-    ap (λ t. commands.Look t b e) from ∙ ap (λ t. commands.Look c t e) to ∙ ap (commands.Look c d) dev.0
+one_look : (a b : Query) → CommandFits (commands.Look a) → CommandFits (commands.Look b) → command_words (commands.Look a) ≡ command_words (commands.Look b) → a ≡ b
+one_look a b x y h =
+    let from = one_end a.from b.from x.0 y.0 (second_is _ _ _ _ _ _ h) in
+    let to = one_end a.to b.to x.1 y.1 (third_is _ _ _ _ _ _ _ _ h) in
+    let dev = one_device a.dev b.dev _ _ x.2 y.2 (namespace-lacks_dev a.net) (namespace-lacks_dev b.net) (past_three _ _ _ _ _ _ _ _ h) in
+    let net = one_namespace a.net b.net [] [] x.3 y.3 (λ w. cc) (λ w. cc) (sym (namespace-last a.net) ∙ dev.1 ∙ namespace-last b.net) in
+    let P : End → End → Option ℕ → Option ℕ → Query = λ f t d n. record { from = f; to = t; dev = d; net = n } in
+    ap (λ t. P t a.to a.dev a.net) from ∙ ap (λ t. P b.from t a.dev a.net) to
+    ∙ ap (λ t. P b.from b.to t a.net) dev.0 ∙ ap (P b.from b.to b.dev) net.0
 
 -- a command's words are no other's
 one_command : (c k : Command) → command_words c ≡ command_words k → CommandFits c → CommandFits k → c ≡ k
-one_command (commands.Socket l u d r p) (commands.Socket m v e s q) h x y =
-    one_socket l m u v d e r s p q (x.1, x.2) (y.1, y.2) h
+one_command (commands.Socket l a) (commands.Socket m b) h x y =
+    ap (λ t. commands.Socket t a) (second_is _ _ _ _ _ _ h)
+    ∙ ap (commands.Socket m) (one_options a b (x.1, x.2, x.3) (y.1, y.2, y.3) (past_two _ _ _ _ _ _ h))
 one_command (commands.Bind l e) (commands.Bind m f) h x y =
     ap (λ t. commands.Bind t e) (second_is _ _ _ _ _ _ h) ∙ ap (commands.Bind m) (one_end e f x.1 y.1 (third_is _ _ _ _ _ _ _ _ h))
 one_command (commands.Listen l) (commands.Listen m) h x y = ap commands.Listen (second_is _ _ _ _ _ _ h)
@@ -108,7 +124,7 @@ one_command (commands.Close l) (commands.Close m) h x y = ap commands.Close (sec
 one_command (commands.Drop l) (commands.Drop m) h x y = ap commands.Drop (second_is _ _ _ _ _ _ h)
 one_command (commands.At m) (commands.At n) h x y = ap commands.At (decimal_injective m n (omega arith) (omega arith) (second_is _ _ _ _ _ _ h))
 one_command commands.Reap commands.Reap h x y = refl
-one_command (commands.Look a b e) (commands.Look c d f) h x y = one_look a b c d e f x y h
+one_command (commands.Look a) (commands.Look b) h x y = ap commands.Look (one_look a b x y h)
 one_command (commands.Packets m) (commands.Packets n) h x y = ap commands.Packets (decimal_injective m n (omega arith) (omega arith) (second_is _ _ _ _ _ _ h))
 one_command c k h x y = absurd (never (verb_code (command_words c)) (verb_code (command_words k)) (ap verb_code h) refl)
 
@@ -164,12 +180,12 @@ line_kind (lines.Range range) = 3
 line_kind (lines.Seed seed) = 4
 line_kind (lines.Offset offset) = 5
 line_kind (lines.TimeWaitReuse reuse) = 6
-line_kind (lines.Capture dev) = 8
+line_kind (lines.Capture dev net) = 8
 line_kind (lines.Command command) = 7
 
 -- no command begins like a header line, a section or a comment
 command-kind : (c : Command) → words_kind (command_words c) ≡ 7
-command-kind (commands.Socket label uid dev reuseaddr reuseport) = refl
+command-kind (commands.Socket label options) = refl
 command-kind c = refl
 
 -- a line and its words are of one kind
@@ -183,7 +199,7 @@ has_kind w (lines.Range range) h = ap words_kind h.0
 has_kind w (lines.Seed seed) h = ap words_kind h.0
 has_kind w (lines.Offset offset) h = ap words_kind h.0
 has_kind w (lines.TimeWaitReuse reuse) h = ap words_kind h
-has_kind w (lines.Capture dev) h = ap words_kind h.0
+has_kind w (lines.Capture dev net) h = ap words_kind h.0
 has_kind w (lines.Command command) h = ap words_kind h.0 ∙ command-kind command
 
 -- words are one line at most
@@ -198,7 +214,9 @@ one_form w (lines.Seed n) (lines.Seed m) h k =
 one_form w (lines.Offset n) (lines.Offset m) h k =
     ap lines.Offset (decimal_injective n m (omega (arith, h.1)) (omega (arith, k.1)) (second_is _ _ _ _ _ _ (sym h.0 ∙ k.0)))
 one_form w (lines.TimeWaitReuse r) (lines.TimeWaitReuse s) h k = ap lines.TimeWaitReuse (one_switch r s (second_is _ _ _ _ _ _ (sym h ∙ k)))
-one_form w (lines.Capture d) (lines.Capture e) h k =
-    ap lines.Capture (one_device d e [] [] h.1 k.1 (λ l. cc) (λ l. cc) (sym (device-last d) ∙ past_one _ _ _ _ (sym h.0 ∙ k.0) ∙ device-last e)).0
+one_form w (lines.Capture d m) (lines.Capture e n) h k =
+    let dev = one_device d e _ _ h.1 k.1 (namespace-lacks_dev m) (namespace-lacks_dev n) (past_one _ _ _ _ (sym h.0 ∙ k.0)) in
+    let net = one_namespace m n [] [] h.2 k.2 (λ l. cc) (λ l. cc) (sym (namespace-last m) ∙ dev.1 ∙ namespace-last n) in
+    ap (λ t. lines.Capture t m) dev.0 ∙ ap (lines.Capture e) net.0
 one_form w (lines.Command c) (lines.Command d) h k = ap lines.Command (one_command c d (sym h.0 ∙ k.0) h.1 k.1)
 one_form w l m h k = absurd (never (line_kind l) (line_kind m) (sym (has_kind w l h) ∙ has_kind w m k) refl)

@@ -56,7 +56,7 @@ IsRead-append old mid new texts more h k = record {
 
 -- a line that begins a capture
 abbrev begins_capture : Line → Bool
-begins_capture (lines.Capture dev) = true
+begins_capture (lines.Capture dev net) = true
 begins_capture _ = false
 
 -- what any other line makes has nothing to do with the bytes before
@@ -68,7 +68,7 @@ follows_at old new (lines.Seed seed) n plain h = (h.0, ap (λ d. at_bytes d n) h
 follows_at old new (lines.Offset offset) n plain h = (h.0, ap (λ d. at_bytes d n) h.1)
 follows_at old new (lines.TimeWaitReuse reuse) n plain h = (h.0, ap (λ d. at_bytes d n) h.1)
 follows_at old new (lines.Section number) n plain h = (h.0, ap (λ d. at_bytes d n) h.1)
-follows_at old new (lines.Capture dev) n plain h = absurd (cc)
+follows_at old new (lines.Capture dev net) n plain h = absurd (cc)
 follows_at old new (lines.Command command) n plain h = (h.0, ap (λ d. at_bytes d n) h.1)
 
 -- one line that has a form
@@ -106,9 +106,9 @@ record IsReadable (command : Command) : Type 0 where
   clear : Each IsClearWord (command_words command)
 
 has_words : (c : Command) → 0 < length (command_words c)
-has_words (commands.Socket label uid dev reuseaddr reuseport) = omega arith
+has_words (commands.Socket label options) = omega arith
 has_words (commands.Connect label from to) = omega arith
-has_words (commands.Look from to dev) = omega arith
+has_words (commands.Look query) = omega arith
 has_words (commands.Packets count) = omega arith
 has_words c = omega arith
 
@@ -171,10 +171,10 @@ module _ (i w : ℕ) (few : i ≤ 100000) (positive : 1 ≤ i) where
   fits_label = label_fits i (omega arith)
 
   socket_reads : (addr port : Bool) → IsReadable (new_socket i addr port)
-  socket_reads true true = record { fits = (fits_label, tt, tt); clear = (clear_word _ refl, (label_clear, (clear_word _ refl, (clear_word _ refl, tt)))) }
-  socket_reads true false = record { fits = (fits_label, tt, tt); clear = (clear_word _ refl, (label_clear, (clear_word _ refl, tt))) }
-  socket_reads false true = record { fits = (fits_label, tt, tt); clear = (clear_word _ refl, (label_clear, (clear_word _ refl, tt))) }
-  socket_reads false false = record { fits = (fits_label, tt, tt); clear = (clear_word _ refl, (label_clear, tt)) }
+  socket_reads true true = record { fits = (fits_label, tt, tt, tt); clear = (clear_word _ refl, (label_clear, (clear_word _ refl, (clear_word _ refl, tt)))) }
+  socket_reads true false = record { fits = (fits_label, tt, tt, tt); clear = (clear_word _ refl, (label_clear, (clear_word _ refl, tt))) }
+  socket_reads false true = record { fits = (fits_label, tt, tt, tt); clear = (clear_word _ refl, (label_clear, (clear_word _ refl, tt))) }
+  socket_reads false false = record { fits = (fits_label, tt, tt, tt); clear = (clear_word _ refl, (label_clear, tt)) }
 
   bind_reads : (addr port : ℕ) → addr < 2 ^ 32 → port < 2 ^ 16 → IsReadable (commands.Bind (step_label i) (end_at addr port))
   bind_reads addr port a p = record { fits = (fits_label, (a, p)); clear = (clear_word _ refl, (label_clear, (clear_end addr port a p, tt))) }
@@ -213,7 +213,7 @@ module _ (i w : ℕ) (few : i ≤ 100000) (positive : 1 ≤ i) where
       (record { fits = chosen_fits; clear = (clear_word _ refl, (chosen_clear, tt)) }, refl, tt)
   may_follow section fresh (suc (suc (suc (suc (suc (suc zero)))))) lt = (
     record {
-      fits = ((omega arith, omega arith), (omega arith, omega arith), tt);
+      fits = ((omega arith, omega arith), (omega arith, omega arith), tt, tt);
       clear = (clear_word _ refl, (remote_clear, (here_clear, tt)));
     },
     refl,

@@ -22,7 +22,7 @@ module _ (mode : Mode) where
   one_follower old (lines.Offset offset) a b h k = h.1 ∙ sym k.1
   one_follower old (lines.TimeWaitReuse reuse) a b h k = h.1 ∙ sym k.1
   one_follower old (lines.Section n) a b h k = h.1 ∙ sym k.1
-  one_follower old (lines.Capture dev) a b h k = h ∙ sym k
+  one_follower old (lines.Capture dev net) a b h k = h ∙ sym k
   one_follower old (lines.Command c) a b h k = h.1 ∙ sym k.1
 
   -- a line that is read makes one thing

@@ -53,7 +53,7 @@ lines_weigh text = split_weighs text
 
 -- a command has a word, so its line has a byte
 has_words : (c : Command) → command_words c ≡ [] → ⊥
-has_words (commands.Socket label uid dev reuseaddr reuseport) e = cc
+has_words (commands.Socket label options) e = cc
 has_words (commands.Bind label end) e = cc
 has_words (commands.Listen label) e = cc
 has_words (commands.Connect label from to) e = cc
@@ -62,7 +62,7 @@ has_words (commands.Close label) e = cc
 has_words (commands.Drop label) e = cc
 has_words (commands.At moment) e = cc
 has_words commands.Reap e = cc
-has_words (commands.Look from to dev) e = cc
+has_words (commands.Look query) e = cc
 has_words (commands.Packets count) e = cc
 
 not_empty : (text : List ℕ) (c : Command) → HasForm (words_of text) (lines.Command c) → 1 ≤ length text
@@ -116,7 +116,7 @@ module _ (mode : Mode) where
   after_form old new text k (lines.Seed seed) form h w = still_within old new k _ (ap (λ d. d.sections) h.1) (omega arith) w
   after_form old new text k (lines.Offset offset) form h w = still_within old new k _ (ap (λ d. d.sections) h.1) (omega arith) w
   after_form old new text k (lines.TimeWaitReuse reuse) form h w = still_within old new k _ (ap (λ d. d.sections) h.1) (omega arith) w
-  after_form old new text k (lines.Capture dev) form h w = still_within old new k _ (ap (λ d. d.sections) h) (omega arith) w
+  after_form old new text k (lines.Capture dev net) form h w = still_within old new k _ (ap (λ d. d.sections) h) (omega arith) w
   after_form old new text k (lines.Section number) form h w =
       subst (IsWithin (length text + 1 + k)) (sym h.1) (record {
         sections = omega (arith, length-append old.sections ([] ∷ []), h.0, form.2);

@@ -43,7 +43,7 @@ module _ (mode : Mode) where
   form_bytes old new (lines.Offset offset) h = ap (λ d. d.bytes) h.1
   form_bytes old new (lines.TimeWaitReuse reuse) h = ap (λ d. d.bytes) h.1
   form_bytes old new (lines.Section number) h = ap (λ d. d.bytes) h.1
-  form_bytes old new (lines.Capture dev) h = ap (λ d. d.bytes) h
+  form_bytes old new (lines.Capture dev net) h = ap (λ d. d.bytes) h
   form_bytes old new (lines.Command command) h = ap (λ d. d.bytes) h.1
 
   -- a line adds its own at most

@@ -2,6 +2,8 @@
 use Rattle.std.proofs.Common.{◌≡◌, ℕ, ◌+◌, ◌*◌, List, [], ◌∷◌, Bool, Option, false, codes, ap, refl, eqb}
 use Rattle.std.proofs.lemmas.Bool.{both_ways, eq-eqb}
 use Rattle.flat_list.specs.declared.command.End.{End}
+use Rattle.flat_list.specs.declared.command.Query.{Query}
+use Rattle.flat_list.specs.declared.owned.Options.{Options}
 use Rattle.flat_list.specs.declared.command.Command.{Command}
 use Rattle.flat_list.specs.declared.command.Command.TheVariants as commands
 use Rattle.sock_script.specs.declared.line.Line.TheVariants as lines
@@ -27,8 +29,8 @@ IsAfter verb ws c = HasForm (verb ∷ ws) (lines.Command c)
 
 -- a command whose first word is `socket` is a Socket; so for each verb
 pub socket_after : (ws : List (List ℕ)) (c : Command) → IsAfter (codes "socket") ws c
-    → (label : List ℕ) × (uid dev : Option ℕ) × (reuseaddr reuseport : Bool) × IsAfter (codes "socket") ws (commands.Socket label uid dev reuseaddr reuseport)
-socket_after ws (commands.Socket label uid dev reuseaddr reuseport) h = (label, uid, dev, reuseaddr, reuseport, h)
+    → (label : List ℕ) × (options : Options) × IsAfter (codes "socket") ws (commands.Socket label options)
+socket_after ws (commands.Socket label options) h = (label, options, h)
 socket_after ws c h = absurd (never (verb_code (codes "socket" ∷ ws)) (verb_code (command_words c)) (ap verb_code h.0) refl)
 
 pub bind_after : (ws : List (List ℕ)) (c : Command) → IsAfter (codes "bind") ws c
@@ -37,6 +39,6 @@ bind_after ws (commands.Bind label end) h = (label, end, h)
 bind_after ws c h = absurd (never (verb_code (codes "bind" ∷ ws)) (verb_code (command_words c)) (ap verb_code h.0) refl)
 
 pub look_after : (ws : List (List ℕ)) (c : Command) → IsAfter (codes "look") ws c
-    → (from : End) × (to : End) × (dev : Option ℕ) × IsAfter (codes "look") ws (commands.Look from to dev)
-look_after ws (commands.Look from to dev) h = (from, to, dev, h)
+    → (query : Query) × IsAfter (codes "look") ws (commands.Look query)
+look_after ws (commands.Look query) h = (query, h)
 look_after ws c h = absurd (never (verb_code (codes "look" ∷ ws)) (verb_code (command_words c)) (ap verb_code h.0) refl)

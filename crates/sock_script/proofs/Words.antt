@@ -4,7 +4,8 @@ use Rattle.std.specs.Borrow.{Bor}
 use Rattle.std.proofs.lemmas.Bool.{false≢true, eqb-true}
 use Rattle.std.proofs.lemmas.Fmt.{decimal_digit}
 use Rattle.sock_script.specs.Seen.{texts}
-use Rattle.sock_script.specs.Forms.{user_words, device_words, flag_words, switch_word}
+use Rattle.flat_list.specs.declared.owned.Options.{Options}
+use Rattle.sock_script.specs.Forms.{namespace_words, user_words, device_words, flag_words, option_words, switch_word}
 use Rattle.sock_script.proofs.Verbs.{word_code, never}
 
 -- the second words are the same
@@ -54,16 +55,19 @@ words_differ : (v w : List ℕ) → eqb (word_code 0 v) (word_code 0 w) ≡ fals
 unfolding first_code
 words_differ v w apart e = never (word_code 0 v) (word_code 0 w) (ap first_code e) apart
 
--- the options of a socket, one after the other
-abbrev pub options : Option ℕ → Option ℕ → Bool → Bool → List (List ℕ)
-options uid dev reuseaddr reuseport =
-    user_words uid ++ (device_words dev ++ (flag_words (codes "reuseaddr") reuseaddr ++ flag_words (codes "reuseport") reuseport))
+-- the flags of a socket
+abbrev pub flags : Options → List (List ℕ)
+flags options = flag_words (codes "reuseaddr") options.reuseaddr ++ flag_words (codes "reuseport") options.reuseport
 
-pub options_of : (uid dev : Option ℕ) (reuseaddr reuseport : Bool)
-    → user_words uid ++ device_words dev ++ flag_words (codes "reuseaddr") reuseaddr ++ flag_words (codes "reuseport") reuseport ≡ options uid dev reuseaddr reuseport
-options_of uid dev reuseaddr reuseport =
-    append_assoc (user_words uid ++ device_words dev) (flag_words (codes "reuseaddr") reuseaddr) (flag_words (codes "reuseport") reuseport)
-    ∙ append_assoc (user_words uid) (device_words dev) _
+-- the words of its options past the namespace, and all of them, one after the other
+abbrev pub past_namespace : Options → List (List ℕ)
+past_namespace options = user_words options.uid ++ (device_words options.dev ++ flags options)
+
+pub options_of : (options : Options) → option_words options ≡ namespace_words options.net ++ past_namespace options
+options_of options =
+    append_assoc (namespace_words options.net ++ user_words options.uid ++ device_words options.dev) (flag_words (codes "reuseaddr") options.reuseaddr) (flag_words (codes "reuseport") options.reuseport)
+    ∙ append_assoc (namespace_words options.net ++ user_words options.uid) (device_words options.dev) _
+    ∙ append_assoc (namespace_words options.net) (user_words options.uid) _
 
 -- flags are no device's words
 pub flags-lack_dev : (r s : Bool) → slice_get (flag_words (codes "reuseaddr") r ++ flag_words (codes "reuseport") s) 0 ≡ Some (codes "dev") → ⊥
@@ -79,6 +83,20 @@ rest-lacks_uid None true s e = words_differ _ _ refl e
 rest-lacks_uid None false true e = words_differ _ _ refl e
 rest-lacks_uid None false false e = cc
 
+-- and none of these is a namespace's
+pub rest-lacks_net : (uid dev : Option ℕ) (r s : Bool)
+    → slice_get (user_words uid ++ (device_words dev ++ (flag_words (codes "reuseaddr") r ++ flag_words (codes "reuseport") s))) 0 ≡ Some (codes "net") → ⊥
+rest-lacks_net (Some uid) dev r s e = words_differ _ _ refl e
+rest-lacks_net None (Some dev) r s e = words_differ _ _ refl e
+rest-lacks_net None None true s e = words_differ _ _ refl e
+rest-lacks_net None None false true e = words_differ _ _ refl e
+rest-lacks_net None None false false e = cc
+
+-- nor is a namespace's a device's
+pub namespace-lacks_dev : (net : Option ℕ) → slice_get (namespace_words net) 0 ≡ Some (codes "dev") → ⊥
+namespace-lacks_dev (Some net) e = words_differ _ _ refl e
+namespace-lacks_dev None e = cc
+
 -- the two flags differ
 pub reuseport-lacks_reuseaddr : (s : Bool) → slice_get (flag_words (codes "reuseport") s) 0 ≡ Some (codes "reuseaddr") → ⊥
 reuseport-lacks_reuseaddr true e = words_differ _ _ refl e
@@ -89,10 +107,10 @@ pub flag-last : (flag : List ℕ) (set : Bool) → flag_words flag set ≡ flag_
 flag-last flag true = refl
 flag-last flag false = refl
 
--- a device with nothing after it
-pub device-last : (dev : Option ℕ) → device_words dev ≡ device_words dev ++ []
-device-last None = refl
-device-last (Some dev) = refl
+-- a namespace with nothing after it
+pub namespace-last : (net : Option ℕ) → namespace_words net ≡ namespace_words net ++ []
+namespace-last None = refl
+namespace-last (Some net) = refl
 
 -- a switch is a number to 1
 pub switch_of : (n : ℕ) → n ≤ 1 → decimal n ≡ switch_word (n == 1)

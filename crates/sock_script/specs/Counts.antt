@@ -22,7 +22,7 @@ answered sections _ _ = []
 
 -- the command asks for a lookup
 abbrev pub is_look : Command → Bool
-is_look (commands.Look from to dev) = true
+is_look (commands.Look query) = true
 is_look _ = false
 
 -- the text begins with `ok`

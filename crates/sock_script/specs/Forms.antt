@@ -10,10 +10,16 @@ use Rattle.flat_list.specs.declared.command.End.{End}
 use Rattle.chain_book.specs.declared.shape.Shape.{Shape}
 use Rattle.flat_list.specs.declared.header.Range.{Range}
 use Rattle.flat_list.specs.Ports.{size}
+use Rattle.flat_list.specs.declared.owned.Options.{Options}
 use Rattle.flat_list.specs.declared.command.Command.{Command}
 use Rattle.flat_list.specs.declared.command.Command.TheVariants as commands
 use Rattle.sock_script.specs.declared.line.Line.{Line}
 use Rattle.sock_script.specs.declared.line.Line.TheVariants as lines
+
+-- `net` and the network namespace, where one is named
+abbrev pub namespace_words : Option ℕ → List (List ℕ)
+namespace_words None = []
+namespace_words (Some net) = codes "net" ∷ decimal net ∷ []
 
 -- `dev` and the device, where one is named
 abbrev pub device_words : Option ℕ → List (List ℕ)
@@ -35,11 +41,15 @@ abbrev pub flag_words : List ℕ → Bool → List (List ℕ)
 flag_words word false = []
 flag_words word true = word ∷ []
 
+-- how a socket's options are spelled, those that there are, in this order
+abbrev pub option_words : Options → List (List ℕ)
+option_words options =
+    namespace_words options.net ++ user_words options.uid ++ device_words options.dev
+    ++ flag_words (codes "reuseaddr") options.reuseaddr ++ flag_words (codes "reuseport") options.reuseport
+
 -- how a command is spelled
 abbrev pub command_words : Command → List (List ℕ)
-command_words (commands.Socket label uid dev reuseaddr reuseport) =
-    codes "socket" ∷ label
-    ∷ (user_words uid ++ device_words dev ++ flag_words (codes "reuseaddr") reuseaddr ++ flag_words (codes "reuseport") reuseport)
+command_words (commands.Socket label options) = codes "socket" ∷ label ∷ option_words options
 command_words (commands.Bind label end) = codes "bind" ∷ label ∷ end_text end.addr end.port ∷ []
 command_words (commands.Listen label) = codes "listen" ∷ label ∷ []
 command_words (commands.Connect label from to) =
@@ -51,8 +61,9 @@ command_words (commands.Close label) = codes "close" ∷ label ∷ []
 command_words (commands.Drop label) = codes "drop" ∷ label ∷ []
 command_words (commands.At moment) = codes "at" ∷ decimal moment ∷ []
 command_words commands.Reap = codes "reap" ∷ []
-command_words (commands.Look from to dev) =
-    codes "look" ∷ end_text from.addr from.port ∷ end_text to.addr to.port ∷ device_words dev
+command_words (commands.Look query) =
+    codes "look" ∷ end_text query.from.addr query.from.port ∷ end_text query.to.addr query.to.port
+    ∷ (device_words query.dev ++ namespace_words query.net)
 command_words (commands.Packets count) = codes "packets" ∷ decimal count ∷ []
 
 -- how the tables' shape is spelled
@@ -77,6 +88,11 @@ is_label label = nat_le 1 (length label) && nat_le (length label) 16 && list_all
 abbrev pub EndFits : End → Type 0
 EndFits end = (end.addr < 2 ^ 32) × (end.port < 2 ^ 16)
 
+-- no network namespace, or one from 0 to 15
+abbrev pub NamespaceFits : Option ℕ → Type 0
+NamespaceFits None = Unit {0}
+NamespaceFits (Some net) = net < 16
+
 -- no device, or one from 1 to 65535
 abbrev pub DeviceFits : Option ℕ → Type 0
 DeviceFits None = Unit {0}
@@ -94,8 +110,8 @@ SourceFits (Some addr) = addr < 2 ^ 32
 
 -- what stands in a command is in range
 abbrev pub CommandFits : Command → Type 0
-CommandFits (commands.Socket label uid dev reuseaddr reuseport) =
-    IsTrue (is_label label) × UserFits uid × DeviceFits dev
+CommandFits (commands.Socket label options) =
+    IsTrue (is_label label) × NamespaceFits options.net × UserFits options.uid × DeviceFits options.dev
 CommandFits (commands.Bind label end) = IsTrue (is_label label) × EndFits end
 CommandFits (commands.Listen label) = IsTrue (is_label label)
 CommandFits (commands.Connect label from to) = IsTrue (is_label label) × SourceFits from × EndFits to
@@ -105,7 +121,8 @@ CommandFits (commands.Close label) = IsTrue (is_label label)
 CommandFits (commands.Drop label) = IsTrue (is_label label)
 CommandFits (commands.At moment) = moment < 2 ^ 32
 CommandFits commands.Reap = Unit {0}
-CommandFits (commands.Look from to dev) = EndFits from × EndFits to × DeviceFits dev
+CommandFits (commands.Look query) =
+    EndFits query.from × EndFits query.to × DeviceFits query.dev × NamespaceFits query.net
 CommandFits (commands.Packets count) = count ≤ 1000000
 
 -- how a switch is spelled
@@ -147,5 +164,6 @@ HasForm words (lines.Offset offset) = (words ≡ codes "offset" ∷ decimal offs
 HasForm words (lines.TimeWaitReuse reuse) = words ≡ codes "twreuse" ∷ switch_word reuse ∷ []
 HasForm words (lines.Section number) =
     (words ≡ codes "script" ∷ decimal number ∷ []) × (1 ≤ number) × (number ≤ 64)
-HasForm words (lines.Capture dev) = (words ≡ codes "capture" ∷ device_words dev) × DeviceFits dev
+HasForm words (lines.Capture dev net) =
+    (words ≡ codes "capture" ∷ (device_words dev ++ namespace_words net)) × DeviceFits dev × NamespaceFits net
 HasForm words (lines.Command command) = (words ≡ command_words command) × CommandFits command

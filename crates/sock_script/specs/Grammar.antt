@@ -18,7 +18,7 @@ use Rattle.sock_script.specs.Forms.{HasForm}
 
 -- the label that a command gives to a new socket
 abbrev pub given_label : Command → Option (List ℕ)
-given_label (commands.Socket label uid dev reuseaddr reuseport) = Some label
+given_label (commands.Socket label options) = Some label
 given_label (commands.Accept listener label from at) = Some label
 given_label _ = None
 
@@ -33,7 +33,7 @@ is_new (Some label) section = not (list_any (bytes_eq label) (labels_of section)
 
 -- lookups are asked for only where sections run one after the other
 abbrev pub is_allowed : Mode → Command → Bool
-is_allowed modes.Race (commands.Look from to dev) = false
+is_allowed modes.Race (commands.Look query) = false
 is_allowed modes.Race (commands.Packets count) = false
 is_allowed _ _ = true
 
@@ -87,9 +87,9 @@ IsHeaderTurn said old = (said ≡ None) × (old.sections ≡ [])
 abbrev pub past : Draft → List ℕ → Draft
 past old text = record old { bytes = old.bytes + length text + 1 }
 
--- the capture's packets come from that device, and its first byte is the next
-abbrev pub capture_here : Draft → Option ℕ → CapturePlace
-capture_here old dev = record { dev = unwrap_or dev 0; first = old.bytes }
+-- the capture's packets come from that device and that network namespace, and its first byte is the next
+abbrev pub capture_here : Draft → Option ℕ → Option ℕ → CapturePlace
+capture_here old dev net = record { dev = unwrap_or dev 0; net = unwrap_or net 0; first = old.bytes }
 
 -- The line may follow the lines that made `old`, and makes `new` of it; its own bytes are counted in `old` already.
 abbrev pub Follows : Mode → Draft → Line → Draft → Type 0
@@ -106,7 +106,7 @@ Follows mode old (lines.TimeWaitReuse reuse) new =
     IsHeaderTurn old.twreuse old × (new ≡ record old { twreuse = Some reuse })
 Follows mode old (lines.Section number) new =
     (number ≡ length old.sections + 1) × (new ≡ record old { sections = old.sections ++ [] ∷ [] })
-Follows mode old (lines.Capture dev) new = new ≡ record old { capture = Some (capture_here old dev) }
+Follows mode old (lines.Capture dev net) new = new ≡ record old { capture = Some (capture_here old dev net) }
 Follows mode old (lines.Command command) new =
     MayCome mode old.sections command × (new ≡ record old { sections = with_command command old.sections })
 
@@ -170,6 +170,11 @@ capture_bytes (Some place) text = drop place.first text
 abbrev pub capture_device : Option CapturePlace → ℕ
 capture_device None = 0
 capture_device (Some place) = place.dev
+
+-- and the network namespace
+abbrev pub capture_namespace : Option CapturePlace → ℕ
+capture_namespace None = 0
+capture_namespace (Some place) = place.net
 
 -- a text is one script at most
 abbrev pub IsDetermined : Type 0

@@ -17,9 +17,15 @@ end_at addr port = record { addr = addr; port = port }
 abbrev pub local_addr : ℕ → ℕ
 local_addr host = 10 * 2 ^ 24 + host
 
--- a socket without a user or a device
+-- a socket without a network namespace, a user or a device
 abbrev pub new_socket : ℕ → Bool → Bool → Command
-new_socket i reuseaddr reuseport = commands.Socket (step_label i) None None reuseaddr reuseport
+new_socket i reuseaddr reuseport =
+    commands.Socket (step_label i)
+    (record { net = None; uid = None; dev = None; reuseaddr = reuseaddr; reuseport = reuseport })
+
+-- a lookup without a device or a network namespace
+abbrev pub plain_look : End → End → Command
+plain_look from to = commands.Look (record { from = from; to = to; dev = None; net = None })
 
 -- the commands of a step, for each remainder of w modulo 8
 abbrev pub commands_by_remainder : ℕ → ℕ → List (List Command)
@@ -35,7 +41,7 @@ commands_by_remainder i w =
     ∷ (new_socket i false false ∷ commands.Connect label (Some addr) (end_at (local_addr 257) (step_port w)) ∷ [])
     ∷ (commands.Accept chosen label remote here ∷ [])
     ∷ (commands.Close chosen ∷ [])
-    ∷ (commands.Look remote here None ∷ [])
+    ∷ (plain_look remote here ∷ [])
     ∷ (commands.At i ∷ commands.Reap ∷ []) ∷ []
 
 -- the commands of step i, whose word is w

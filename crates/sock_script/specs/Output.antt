@@ -24,7 +24,7 @@ use Rattle.flat_list.specs.Sound.{IsSound}
 use Rattle.list_words.specs.Lists.{Each}
 use Rattle.sock_script.specs.declared.parse.Mode.{Mode}
 use Rattle.sock_script.specs.declared.parse.Mode.TheVariants as modes
-use Rattle.sock_script.specs.Grammar.{IsScript, labels_of, capture_bytes, capture_device}
+use Rattle.sock_script.specs.Grammar.{IsScript, labels_of, capture_bytes, capture_device, capture_namespace}
 
 -- the word for a kind of socket
 abbrev pub kind_word : Kind → List ℕ
@@ -74,7 +74,7 @@ found_label sections _ = []
 
 -- a command's verb, and the word that its line shows, if it shows one
 abbrev pub subject_text : Command → List ℕ
-subject_text (commands.Socket label uid dev reuseaddr reuseport) = codes "socket " ++ label
+subject_text (commands.Socket label options) = codes "socket " ++ label
 subject_text (commands.Bind label end) = codes "bind " ++ label
 subject_text (commands.Listen label) = codes "listen " ++ label
 subject_text (commands.Connect label from to) = codes "connect " ++ label
@@ -83,7 +83,7 @@ subject_text (commands.Close label) = codes "close " ++ label
 subject_text (commands.Drop label) = codes "drop " ++ label
 subject_text (commands.At moment) = codes "at " ++ decimal moment
 subject_text commands.Reap = codes "reap"
-subject_text (commands.Look from to dev) = codes "look"
+subject_text (commands.Look query) = codes "look"
 subject_text (commands.Packets count) = codes "packets"
 
 -- the line of a command of section n, where the socket that was found has that label
@@ -178,7 +178,7 @@ lists_of script = new_flat script.header ∷ lists_from (new_flat script.header)
 -- the text is a script with that capture
 pub record HasCapture (input : List ℕ) (script : Script) (capture : Capture) : Type 0 where
   pub script_is : IsScript modes.Run input script
-  pub capture_is : IsCapture (capture_device script.capture) (capture_bytes script.capture input) capture
+  pub capture_is : IsCapture (capture_device script.capture) (capture_namespace script.capture) (capture_bytes script.capture input) capture
 
 -- what is written for a text that is a script with a capture: the lines of the flat list's replies
 abbrev pub FlatOut : List ℕ → List ℕ → Type 0

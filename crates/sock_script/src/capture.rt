@@ -4,7 +4,7 @@ ghost use Rattle.std.specs.Prelude.{◌≡◌, ◌≢◌, ◌↔◌, [], IfOk, E
 ghost use Rattle.capture_reader.specs.Grammar.{IsCapture};
 ghost use Rattle.capture_reader.specs.Header.{HasHeader};
 ghost use Rattle.capture_reader.specs.declared.capture.CaptureEnd.TheVariants as ends;
-ghost use Rattle.sock_script.specs.Grammar.{capture_bytes, capture_device};
+ghost use Rattle.sock_script.specs.Grammar.{capture_bytes, capture_device, capture_namespace};
 
 use capture_reader::{Capture, CaptureEnd, packets};
 use flat_list::Script;
@@ -30,14 +30,30 @@ fn device_of(script: &Script) -> u16
     }
 }
 
+/// The network namespace that the capture's packets came in by, 0 where none is named.
+fn namespace_of(script: &Script) -> u8
+    ensures { result ≡ capture_namespace script.now.capture }
+{
+    match script.capture() {
+        None => 0,
+        Some(place) => place.net,
+    }
+}
+
 /// Reads the capture at the end of a script's text. A script without a capture has one without bytes, and so
 /// without items.
 ///
 /// Takes memory for the items, and the time of one look at each record.
 pub fn read(alloc: Global, script: &Script, text: &[u8]) -> Result<Capture, CaptureEnd>
-    ensures capture { IfOk result (IsCapture (capture_device script.now.capture) (capture_bytes script.now.capture text.now)) }
+    ensures capture { IfOk result (IsCapture (capture_device script.now.capture) (capture_namespace script.now.capture)
+        (capture_bytes script.now.capture text.now)) }
     ensures bad_head { (result ≡ Err ends.BadHead)
         ↔ ((capture_bytes script.now.capture text.now ≢ []) × ¬ HasHeader (capture_bytes script.now.capture text.now)) }
 {
-    packets(alloc, bytes_of(script, text), device_of(script))
+    packets(
+        alloc,
+        bytes_of(script, text),
+        device_of(script),
+        namespace_of(script),
+    )
 }

@@ -281,12 +281,13 @@ impl Draft {
         Ok(true)
     }
 
-    /// Begins the capture, whose packets come from that device.
-    fn begin_capture(&mut self, dev: Option<u16>)
-        ensures { (mode : AnyMode) → Adds mode self.old (Line.Capture dev) self.new true }
+    /// Begins the capture, whose packets come from that device and that network namespace.
+    fn begin_capture(&mut self, dev: Option<u16>, net: Option<u8>)
+        ensures { (mode : AnyMode) → Adds mode self.old (Line.Capture dev net) self.new true }
     {
         self.capture = Some(CapturePlace {
             dev: dev.unwrap_or(0),
+            net: net.unwrap_or(0),
             first: self.bytes,
         });
     }
@@ -317,8 +318,8 @@ impl Draft {
             Line::Offset(offset) => Ok(self.add_offset(offset)),
             Line::TimeWaitReuse(reuse) => Ok(self.add_twreuse(reuse)),
             Line::Section(number) => self.begin_section(number),
-            Line::Capture(dev) => {
-                self.begin_capture(dev);
+            Line::Capture { dev, net } => {
+                self.begin_capture(dev, net);
                 Ok(true)
             }
             Line::Command(command) => self.add_command(mode, command),

@@ -7,7 +7,7 @@ ghost use Rattle.std.specs.List.{list_all};
 ghost use Rattle.inet_io.specs.Texts.{addr_text, end_text};
 ghost use Rattle.sock_script.specs.Seen.{texts};
 ghost use Rattle.sock_script.specs.Forms as spec;
-ghost use Rattle.sock_script.specs.Forms.{HasForm, DeviceFits, EndFits, IsPowerTo, SourceFits, UserFits, device_words, flag_words, source_words, user_words};
+ghost use Rattle.sock_script.specs.Forms.{HasForm, DeviceFits, EndFits, IsPowerTo, NamespaceFits, SourceFits, UserFits, device_words, flag_words, namespace_words, source_words, user_words};
 ghost use Rattle.sock_script.specs.declared.line.Line.{Line};
 ghost use Rattle.sock_script.specs.declared.line.Line.TheVariants as lines;
 ghost use Rattle.flat_list.specs.declared.command.Command.{Command};
@@ -17,7 +17,7 @@ ghost use Rattle.chain_book.specs.declared.shape.Shape.{Shape};
 ghost use Rattle.flat_list.specs.declared.header.Range.{Range};
 
 use crate::line::Line;
-use flat_list::{Command, End, Label, Range, Shape};
+use flat_list::{Command, End, Label, Options, Query, Range, Shape};
 use inet_io::{get_addr, get_end, get_num};
 
 fn is_label_byte(b: u8) -> bool
@@ -142,6 +142,20 @@ fn address_after<'a>(first: &[u8], words: &'a [&'a [u8]]) -> Option<(u32, &'a [&
     Some((addr, rest))
 }
 
+/// The network namespace that the words begin with, where they do, and the words after it.
+fn namespace_first<'a>(words: &'a [&'a [u8]]) -> (Option<u8>, &'a [&'a [u8]])
+    ensures spelled { texts words.now ≡ namespace_words result.0 ++ texts result.1.now }
+    ensures fits { NamespaceFits result.0 }
+
+    // However they are read, the same words are left, if no `net` comes next.
+    ensures only { (net : Option ℕ) (rest : List (List ℕ)) → texts words.now ≡ namespace_words net ++ rest → NamespaceFits net → slice_get rest 0 ≢ Some (codes "net") → rest ≡ texts result.1.now }
+{
+    match number_after(b"net", 0, 15, words) {
+        Some((net, rest)) => (Some(net as u8), rest),
+        None => (None, words),
+    }
+}
+
 /// The user that the words begin with, where they do, and the words after it.
 fn user_first<'a>(words: &'a [&'a [u8]]) -> (Option<u32>, &'a [&'a [u8]])
     ensures spelled { texts words.now ≡ user_words result.0 ++ texts result.1.now }
@@ -203,6 +217,7 @@ fn socket_of(words: &[&[u8]]) -> Option<Command>
     ensures none { IfNone result ((c : Command) → HasForm (codes "socket" ∷ texts words.now) (lines.Command c) → ⊥) }
 {
     let (label, words) = label_first(words)?;
+    let (net, words) = namespace_first(words);
     let (uid, words) = user_first(words);
     let (dev, words) = device_first(words);
     let (reuseaddr, words) = flag_first(b"reuseaddr", words);
@@ -211,13 +226,14 @@ fn socket_of(words: &[&[u8]]) -> Option<Command>
         return None;
     }
     let label = label_of(label);
-    Some(Command::Socket {
-        label,
+    let options = Options {
+        net,
         uid,
         dev,
         reuseaddr,
         reuseport,
-    })
+    };
+    Some(Command::Socket { label, options })
 }
 
 /// The command of the words after `bind`.
@@ -329,10 +345,12 @@ fn look_of(words: &[&[u8]]) -> Option<Command>
     let (from, words) = end_first(words)?;
     let (to, words) = end_first(words)?;
     let (dev, words) = device_first(words);
+    let (net, words) = namespace_first(words);
     if !words.is_empty() {
         return None;
     }
-    Some(Command::Look { from, to, dev })
+    let query = Query { from, to, dev, net };
+    Some(Command::Look { query })
 }
 
 /// The command of the words after `packets`.
@@ -479,14 +497,19 @@ fn section_of(words: &[&[u8]]) -> Option<u32>
     if words.is_empty() { Some(number) } else { None }
 }
 
-/// The device, if one is named, of the packets of the capture that the words begin.
-fn capture_of(words: &[&[u8]]) -> Option<Option<u16>>
-    ensures some { IfSome result (λ dev. HasForm (texts words.now) (lines.Capture dev)) }
-    ensures none { IfNone result ((dev : Option ℕ) → HasForm (texts words.now) (lines.Capture dev) → ⊥) }
+/// The device and the network namespace, those that are named, of the packets of the capture that the words begin.
+fn capture_of(words: &[&[u8]]) -> Option<(Option<u16>, Option<u8>)>
+    ensures some { IfSome result (λ r. HasForm (texts words.now) (lines.Capture r.0 r.1)) }
+    ensures none { IfNone result ((dev net : Option ℕ) → HasForm (texts words.now) (lines.Capture dev net) → ⊥) }
 {
     let words = after(b"capture", words)?;
     let (dev, words) = device_first(words);
-    if words.is_empty() { Some(dev) } else { None }
+    let (net, words) = namespace_first(words);
+    if words.is_empty() {
+        Some((dev, net))
+    } else {
+        None
+    }
 }
 
 /// Whether a line of these words is passed over.
@@ -527,8 +550,8 @@ pub fn line_of(words: &[&[u8]]) -> Option<Line>
     if let Some(number) = section_of(words) {
         return Some(Line::Section(number));
     }
-    if let Some(dev) = capture_of(words) {
-        return Some(Line::Capture(dev));
+    if let Some((dev, net)) = capture_of(words) {
+        return Some(Line::Capture { dev, net });
     }
     let command = command_of(words)?;
     Some(Line::Command(command))
@@ -541,7 +564,7 @@ mod tests {
 
     #[test]
     fn a_line_of_each_form_is_read(rt: HostRuntime) -> Result<(), Fail> {
-        let lines: [&[&[u8]]; 20] = [
+        let lines: [&[&[u8]]; 22] = [
             &[b"#socket"],
             &[
                 b"table", b"slots", b"65536", b"bind", b"256", b"hash", b"1", b"listen", b"4096",
@@ -554,6 +577,8 @@ mod tests {
             &[
                 b"socket",
                 b"a-1",
+                b"net",
+                b"15",
                 b"uid",
                 b"4294967295",
                 b"dev",
@@ -584,10 +609,20 @@ mod tests {
             &[b"drop", b"b"],
             &[b"at", b"4294967295"],
             &[b"reap"],
-            &[b"look", b"10.0.0.2:0", b"10.0.0.1:80", b"dev", b"65535"],
+            &[b"look", b"10.0.0.2:0", b"10.0.0.1:80", b"net", b"0"],
+            &[
+                b"look",
+                b"10.0.0.2:0",
+                b"10.0.0.1:80",
+                b"dev",
+                b"65535",
+                b"net",
+                b"15",
+            ],
             &[b"packets", b"1000000"],
             &[b"capture"],
-            &[b"capture", b"dev", b"65535"],
+            &[b"capture", b"net", b"15"],
+            &[b"capture", b"dev", b"65535", b"net", b"0"],
         ];
         for words in lines {
             assert!(rt; line_of(words).is_some());

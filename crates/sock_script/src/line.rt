@@ -17,7 +17,7 @@ pub enum Line {
     TimeWaitReuse(bool),
     /// The section of that number begins.
     Section(u32),
-    /// The bytes after this line are a capture, of packets from that device.
-    Capture(Option<u16>),
+    /// The bytes after this line are a capture, of packets from that device and that network namespace.
+    Capture { dev: Option<u16>, net: Option<u8> },
     Command(Command),
 }

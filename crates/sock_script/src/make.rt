@@ -9,7 +9,7 @@ ghost use Rattle.sock_script.specs.MadeCommands as steps;
 ghost use Rattle.sock_script.specs.Make as spec;
 
 use crate::draft::DEFAULT_RANGE;
-use flat_list::{Command, End, Header, Label, Script, Shape};
+use flat_list::{Command, End, Header, Label, Options, Query, Script, Shape};
 use inet_io::put_num;
 use rand_core::utils::NextWord;
 use rand_pcg::Lcg64Xsh32;
@@ -111,12 +111,16 @@ impl Step {
     fn socket(self, reuseaddr: bool, reuseport: bool) -> Command
         ensures { result ≡ steps.new_socket self.number reuseaddr reuseport }
     {
-        Command::Socket {
-            label: self.label(),
+        let options = Options {
+            net: None,
             uid: None,
             dev: None,
             reuseaddr,
             reuseport,
+        };
+        Command::Socket {
+            label: self.label(),
+            options,
         }
     }
 
@@ -176,14 +180,16 @@ impl Step {
     }
 
     fn look(self) -> Command
-        ensures { result ≡ Command.Look (steps.end_at (steps.local_addr 258) (spec.remote_port self.number))
-            (steps.end_at (steps.local_addr (spec.last_number self.word)) (spec.step_port self.word)) None }
+        ensures { result ≡ steps.plain_look (steps.end_at (steps.local_addr 258) (spec.remote_port self.number))
+            (steps.end_at (steps.local_addr (spec.last_number self.word)) (spec.step_port self.word)) }
     {
-        Command::Look {
+        let query = Query {
             from: self.remote(),
             to: self.here(),
             dev: None,
-        }
+            net: None,
+        };
+        Command::Look { query }
     }
 
     /// Appends the commands that make a socket and bind it.

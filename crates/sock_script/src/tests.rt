@@ -216,6 +216,75 @@ fn a_capture_ends_the_script(rt: HostRuntime) -> Result<(), Fail> {
 }
 
 #[test]
+fn namespaces_are_sixteen_and_in_place(rt: HostRuntime) -> Result<(), Fail> {
+    let cases: [(&[u8], Option<u64>); 13] = [
+        (b"script 1\nsocket a net 0 uid 1 dev 2 reuseaddr\n", None),
+        (b"script 1\nsocket a net 16\n", Some(2)),
+        (b"script 1\nsocket a net 07\n", Some(2)),
+        (b"script 1\nsocket a net\n", Some(2)),
+        (b"script 1\nsocket a net 1 net 1\n", Some(2)),
+        (b"script 1\nsocket a uid 1 net 1\n", Some(2)),
+        (
+            b"script 1\nlook 10.0.0.2:5 10.0.0.1:80 dev 1 net 15\n",
+            None,
+        ),
+        (
+            b"script 1\nlook 10.0.0.2:5 10.0.0.1:80 net 1 dev 1\n",
+            Some(2),
+        ),
+        (b"script 1\nlook 10.0.0.2:5 10.0.0.1:80 net 16\n", Some(2)),
+        (b"capture net 15\nno line\n", None),
+        (b"capture dev 1 net 0\nno line\n", None),
+        (b"capture net 1 dev 1\n", Some(1)),
+        (b"capture net 1 net 1\n", Some(1)),
+    ];
+    for (text, line) in cases {
+        assert_eq!(rt; bad_line(rt.alloc(), text, Mode::Run), line);
+    }
+    Ok(())
+}
+
+#[test]
+fn two_tenants_have_one_end(rt: HostRuntime) -> Result<(), Fail> {
+    let text = b"script 1
+socket a
+bind a 10.0.0.1:80
+listen a
+socket b net 1
+bind b 10.0.0.1:80
+listen b
+look 10.0.0.2:5 10.0.0.1:80
+look 10.0.0.2:5 10.0.0.1:80 net 1
+look 10.0.0.2:5 10.0.0.1:80 net 2
+socket c
+bind c 10.0.0.1:90
+socket d net 1
+bind d 10.0.0.1:90
+connect c to 10.0.0.2:80
+connect d to 10.0.0.2:80
+";
+    let out = output_of(rt.alloc(), text)?;
+    let wanted = b"1 socket a ok
+1 bind a ok 80
+1 listen a ok 80
+1 socket b ok
+1 bind b ok 80
+1 listen b ok 80
+1 look listen 1.a
+1 look listen 1.b
+1 look none
+1 socket c ok
+1 bind c ok 90
+1 socket d ok
+1 bind d ok 90
+1 connect c ok 10.0.0.1:90
+1 connect d ok 10.0.0.1:90
+";
+    assert!(rt; out.as_slice() == wanted.as_slice());
+    Ok(())
+}
+
+#[test]
 fn a_race_has_no_look(rt: HostRuntime) -> Result<(), Fail> {
     let text = b"script 1\nsocket a\nlook 10.0.0.2:5 10.0.0.1:80\n";
     assert_eq!(rt; bad_line(rt.alloc(), text, Mode::Run), None);

@@ -10,7 +10,7 @@ pub returns-in_err-link-in-6-clause-none : goal.returns-in_err-link-in-6-clause-
 returns-in_err-link-in-6-clause-none c = rw c.from_residual-in_err-link-in-6.ensures (λ found.
     let read : number c.args.section.now.order 4 0 c.args.block.now ≡ 6 =
     sym (ap (λ (o : Order). number o 4 0 c.args.block.now) c.order.ensures) ∙ sym c.u32_at.ensures ∙ c.in-6.is in
-    elim found as (λ (b : Block). IsBlock c.args.dev c.args.section.now c.args.block.now b → ⊥) [
+    elim found as (λ (b : Block). IsBlock c.args.dev c.args.net c.args.section.now c.args.block.now b → ⊥) [
       | blocks.Section o ↦ λ h. c.requires.no_section h.kind
       | blocks.Interface l ↦ λ h. omega (arith, read, h.kind)
       | blocks.Packet i ↦ λ h. c.in_err-link-in-6.ensures.none h.0 h.1 h.2

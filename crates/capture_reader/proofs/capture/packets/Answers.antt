@@ -8,12 +8,12 @@ pub returns-in-Some-clause-capture : goal.returns-in-Some-clause-capture
 returns-in-Some-clause-capture c =
     let header = c.in-Some.header in
     let capture = c.in_ok-read_records.field-0 in
-    let records = subst (λ (rest : List ℕ). AreRecords header c.args.dev rest capture.items capture.cut) (take_rest c.args.bytes.now 24) c.in_ok-read_records.ensures in
+    let records = subst (λ (rest : List ℕ). AreRecords header c.args.dev c.args.net rest capture.items capture.cut) (take_rest c.args.bytes.now 24) c.in_ok-read_records.ensures in
     inr (inl (header, c.in-Some.ensures.some, records))
 
 pub returns-in-Some-clause-only : goal.returns-in-Some-clause-only
 returns-in-Some-clause-only c other h =
-    one_capture c.args.dev c.args.bytes.now c.in_ok-read_records.field-0 other (λ i. omega (arith, c.type_inv.bytes i)) (returns-in-Some-clause-capture c) h
+    one_capture c.args.dev c.args.net c.args.bytes.now c.in_ok-read_records.field-0 other (λ i. omega (arith, c.type_inv.bytes i)) (returns-in-Some-clause-capture c) h
 
 pub returns-in_default-next_section-clause-bad_head : goal.returns-in_default-next_section-clause-bad_head
 returns-in_default-next_section-clause-bad_head c =
@@ -28,4 +28,4 @@ returns-clause-capture c =
 
 pub returns-clause-only : goal.returns-clause-only
 returns-clause-only c other h =
-    one_capture c.args.dev c.args.bytes.now c.in_ok-read_blocks.field-0 other (λ i. omega (arith, c.type_inv.bytes i)) (returns-clause-capture c) h
+    one_capture c.args.dev c.args.net c.args.bytes.now c.in_ok-read_blocks.field-0 other (λ i. omega (arith, c.type_inv.bytes i)) (returns-clause-capture c) h
