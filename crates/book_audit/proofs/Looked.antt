@@ -313,8 +313,8 @@ module _ (clock : ℕ) (shape : Shape) (seed : ℕ) (lives : List PrintedLife) (
   bucket_is : (bucket : ℕ) → is_bucket_of shape seed look.packet bucket ≡ true → Among (buckets_of shape seed look.packet) bucket
   bucket_is bucket e =
       let a : ℕ = packet_home shape seed look.packet in
-      let b : ℕ = listen_home shape seed look.packet.dst look.packet.dport in
-      let c : ℕ = listen_home shape seed 0 look.packet.dport in
+      let b : ℕ = listen_home shape seed look.packet.dst look.packet.dport look.packet.net in
+      let c : ℕ = listen_home shape seed 0 look.packet.dport look.packet.net in
       elim (or_cases ((bucket == a) || (bucket == b)) (bucket == c) e) as (λ _. Among (a ∷ b ∷ c ∷ []) bucket) [
         | inr p ↦ inr (inr (inl (eqb-true bucket c p)))
         | inl p ↦ elim (or_cases (bucket == a) (bucket == b) p) as (λ _. Among (a ∷ b ∷ c ∷ []) bucket) [
@@ -330,7 +330,7 @@ module _ (clock : ℕ) (shape : Shape) (seed : ℕ) (lives : List PrintedLife) (
   bucket_by a b c bucket (inr (inr (inr p))) = absurd p
 
   bucket_back : (bucket : ℕ) → Among (buckets_of shape seed look.packet) bucket → is_bucket_of shape seed look.packet bucket ≡ true
-  bucket_back bucket m = bucket_by (packet_home shape seed look.packet) (listen_home shape seed look.packet.dst look.packet.dport) (listen_home shape seed 0 look.packet.dport) bucket m
+  bucket_back bucket m = bucket_by (packet_home shape seed look.packet) (listen_home shape seed look.packet.dst look.packet.dport look.packet.net) (listen_home shape seed 0 look.packet.dport look.packet.net) bucket m
 
   pub look_is : (answer : PrintedAnswer) → look.answer ≡ answer → explains shape seed lives look answer ≡ true → IsLookExplained shape seed lives look
   look_is (answers.Found kind name) q e = found_is kind name e q

@@ -70,8 +70,8 @@ may_end slots lives look bucket (ends.Long n) = (n == slots + 1) && list_any (ha
 -- the bucket is one of the packet's three
 abbrev pub is_bucket_of : Shape → ℕ → Packet → ℕ → Bool
 is_bucket_of shape seed packet bucket =
-    (bucket == packet_home shape seed packet) || (bucket == listen_home shape seed packet.dst packet.dport)
-    || (bucket == listen_home shape seed 0 packet.dport)
+    (bucket == packet_home shape seed packet) || (bucket == listen_home shape seed packet.dst packet.dport packet.net)
+    || (bucket == listen_home shape seed 0 packet.dport packet.net)
 
 abbrev pub explains : Shape → ℕ → List PrintedLife → PrintedLook → PrintedAnswer → Bool
 explains shape seed lives look (answers.Found kind name) = list_any (is_found lives look kind name) lives

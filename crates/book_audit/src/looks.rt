@@ -241,8 +241,8 @@ fn is_bucket_of(shape: &Shape, seed: u32, packet: &Packet, bucket: u64) -> bool
     ensures { result ≡ spec.is_bucket_of shape.now seed packet.now bucket }
 {
     bucket == u64::from(packet_home(shape, seed, packet))
-        || bucket == u64::from(listen_home(shape, seed, packet.dst, packet.dport))
-        || bucket == u64::from(listen_home(shape, seed, 0, packet.dport))
+        || bucket == u64::from(listen_home(shape, seed, packet.dst, packet.dport, packet.net))
+        || bucket == u64::from(listen_home(shape, seed, 0, packet.dport, packet.net))
 }
 
 fn explains(printed: &Printed, index: &Index, look: &PrintedLook) -> bool

@@ -84,7 +84,7 @@ deeds_join xs ys = flat_map-append (λ (s : Step). s.deeds) xs ys
 
 -- a command that asks for no lookup is one event
 one_event : (n : ℕ) (c : Command) (rest : List Issued) → is_lookup c ≡ false → events_from [] (record { section = n; command = c } ∷ rest) ≡ asked (record { section = n; command = c }) ∷ events_from [] rest
-one_event n (commands.Socket label uid dev reuseaddr reuseport) rest e = refl
+one_event n (commands.Socket label options) rest e = refl
 one_event n (commands.Bind label end) rest e = refl
 one_event n (commands.Listen label) rest e = refl
 one_event n (commands.Connect label from to) rest e = refl
@@ -93,7 +93,7 @@ one_event n (commands.Close label) rest e = refl
 one_event n (commands.Drop label) rest e = refl
 one_event n (commands.At moment) rest e = refl
 one_event n commands.Reap rest e = refl
-one_event n (commands.Look from to dev) rest e = refl
+one_event n (commands.Look query) rest e = refl
 one_event n (commands.Packets count) rest e = absurd (true≢false e)
 
 section_replies : (n : ℕ) (flat : Flat) (cs : List Command) (later : List Issued) → AsksNone cs
