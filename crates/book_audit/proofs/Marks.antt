@@ -11,14 +11,7 @@ use Rattle.book_audit.specs.declared.stays.Stay.{Stay}
 use Rattle.book_audit.specs.Stays.{is_below}
 use Rattle.book_audit.specs.Index.{outlasts, goes_before, AreOrdered, precedes, is_over, NoneStays}
 use Rattle.book_audit.proofs.Prefixes.{each_line, pairs_line, pairs_last}
-
-or_left : (a b : Bool) → a ≡ true → (a || b) ≡ true
-or_left true b e = refl
-or_left false b e = absurd (true≢false (sym e))
-
-or_right : (a b : Bool) → b ≡ true → (a || b) ≡ true
-or_right true b e = refl
-or_right false b e = e
+use Rattle.book_audit.proofs.Order.{or_left, or_right}
 
 abbrev pub Goes : Stay → Stay → Type 0
 Goes s t = goes_before s t ≡ true
