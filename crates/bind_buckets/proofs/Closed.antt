@@ -1,18 +1,16 @@
 -- What the last pass learns of the buckets.
-use Rattle.std.proofs.Common.{◌≡◌, ℕ, ◌+◌, List, [], ◌∷◌, ◌++◌, length, map, Result, Ok, Err, IfOk, refl, sym, subst, ◌∙◌, arith, ap}
+use Rattle.std.proofs.Common.{◌≡◌, ℕ, ◌+◌, List, [], ◌∷◌, length, map, Result, Ok, Err, IfOk, refl, sym, subst, ◌∙◌, arith, ap}
 use Rattle.std.proofs.lemmas.List.{length-map}
 use Rattle.std.specs.Global.{Box}
 use Rattle.list_words.specs.Lists.{total, SameItems}
 use Rattle.list_words.proofs.TotalLemmas.{total-append}
-use Rattle.turn_table.specs.Values.{Fits, AllFit, all_placed}
+use Rattle.turn_table.specs.Values.{AllFit, all_placed}
 use Rattle.turn_table.specs.Journals.{placed}
 use Rattle.turn_table.specs.declared.note.Placed.{Placed}
 use Rattle.bind_buckets.specs.declared.request.Entry.{Entry}
 use Rattle.bind_buckets.specs.declared.request.Sharing.{Sharing}
-use Rattle.bind_buckets.specs.Notes.{Note}
-use Rattle.bind_buckets.specs.Callers.{MayMake, IsMadeFor}
 use Rattle.bind_buckets.specs.Journal.{IsLegal, replayed}
-use Rattle.bind_buckets.specs.Bucket.{Bucket, IsSound, entries_of}
+use Rattle.bind_buckets.specs.Bucket.{Bucket, entries_of}
 use Rattle.bind_buckets.specs.Closed.{FitsAt, notes_in, count_in, IsLeft, AreLeft}
 
 one_left : (home : Sharing) (i n : ℕ) (b : Box Bucket) → FitsAt home i n b → IsLeft i n b.value

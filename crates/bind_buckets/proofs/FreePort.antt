@@ -1,7 +1,7 @@
 -- What it means for a port's owners that `connect` may choose it.
-use Rattle.std.proofs.Common.{◌≡◌, ℕ, Bool, true, false, not, ◌&&◌, ◌==◌, List, find, Some, None, Option, Result, Ok, Err, OnOk, refl, sym, ◌∙◌}
+use Rattle.std.proofs.Common.{◌≡◌, ℕ, Bool, true, false, not, ◌&&◌, List, find, Some, None, Option, Result, Ok, Err, OnOk, refl, sym, ◌∙◌}
 use Rattle.std.specs.Option.{option_map}
-use Rattle.std.proofs.lemmas.Bool.{false≢true, true≢false, eq-eqb}
+use Rattle.std.proofs.lemmas.Bool.{false≢true, true≢false}
 use Rattle.list_words.proofs.EachLemmas.{each_weaken}
 use Rattle.sock_card.specs.declared.owner.Owner.{Owner}
 use Rattle.sock_card.specs.Conflict.{agree, same_port, has_port, holds}

@@ -1,4 +1,4 @@
--- A listener's group is one of its bucket's eight.
+-- A listener's group is one of its bucket's.
 use Rattle.std.proofs.Common.{◌≡◌, ℕ, ◌/◌, ◌<◌, Bool, true, false, cond, ltb, length, find, position, Some, None, Option, Result, Ok, Err, IfSome, arith, refl, subst}
 use Rattle.std.specs.Option.{option_or, option_and_then}
 use Rattle.std.specs.Result.{IfOk}
@@ -8,6 +8,7 @@ use Rattle.sock_card.specs.Conflict.{refuses}
 use Rattle.bind_buckets.specs.declared.request.Answer.{Answer}
 use Rattle.bind_buckets.specs.declared.request.Answer.TheVariants as answers
 use Rattle.bind_buckets.specs.declared.request.ListenEnd.{ListenEnd}
+use Rattle.bind_buckets.specs.Limits.{group_places}
 use Rattle.bind_buckets.specs.Members.{has_member}
 use Rattle.sock_card.specs.Conflict.{is_mate}
 use Rattle.bind_buckets.specs.OwnerStep.{Held, spoken, may_listen, listener_answer, group_answer, group_number, place_for, mates_place, is_free, members_at, others}
@@ -30,31 +31,31 @@ place_within h a i e =
 
 -- the answer, where it names a group, names one of this bucket's
 abbrev IsOurs : ℕ → Answer → Type 0
-IsOurs n (answers.Group group) = IfSome group (λ g. g / 8 ≡ n)
+IsOurs n (answers.Group group) = IfSome group (λ g. g / group_places ≡ n)
 IsOurs n _ = Unit {0}
 
-ours_by : (b : Bool) (n place : ℕ) → place < 8 → IsOurs n (cond b (answers.Group (Some (group_number n place))) answers.GroupFull)
+ours_by : (b : Bool) (n place : ℕ) → place < group_places → IsOurs n (cond b (answers.Group (Some (group_number n place))) answers.GroupFull)
 ours_by true n place h = omega arith
 ours_by false n place h = tt
 
-group_ours : (n : ℕ) (h : Held) (a : Owner) (place : Option ℕ) → length h.groups ≡ 8 → place_for h a ≡ place → IsOurs n (group_answer n h place)
-group_ours n h a None eight q = tt
-group_ours n h a (Some place) eight q =
-    ours_by (ltb (length (members_at h place)) group_room) n place (subst (λ k. place < k) eight (place_within h a place q))
+group_ours : (n : ℕ) (h : Held) (a : Owner) (place : Option ℕ) → length h.groups ≡ group_places → place_for h a ≡ place → IsOurs n (group_answer n h place)
+group_ours n h a None long q = tt
+group_ours n h a (Some place) long q =
+    ours_by (ltb (length (members_at h place)) group_room) n place (subst (λ k. place < k) long (place_within h a place q))
 
 shared_ours : (b : Bool) (n : ℕ) (x : Answer) → IsOurs n x → IsOurs n (cond b x (answers.Group None))
 shared_ours true n x h = h
 shared_ours false n x h = tt
 
-listener_ours : (n : ℕ) (h : Held) (a : Owner) (o : Option Owner) → length h.groups ≡ 8 → IsOurs n (listener_answer n h a o)
-listener_ours n h a None eight =
-    shared_ours a.reuseport n _ (group_ours n h a (place_for h a) eight refl)
-listener_ours n h a (Some other) eight = tt
+listener_ours : (n : ℕ) (h : Held) (a : Owner) (o : Option Owner) → length h.groups ≡ group_places → IsOurs n (listener_answer n h a o)
+listener_ours n h a None long =
+    shared_ours a.reuseport n _ (group_ours n h a (place_for h a) long refl)
+listener_ours n h a (Some other) long = tt
 
-answer_ours : (n : ℕ) (h : Held) (name : ℕ) (o : Option Owner) → length h.groups ≡ 8 → IsOurs n (spoken h name o (may_listen n h name)).answer
-answer_ours n h name None eight = tt
-answer_ours n h name (Some a) eight = listener_ours n h a (find (refuses a) (others h name)) eight
+answer_ours : (n : ℕ) (h : Held) (name : ℕ) (o : Option Owner) → length h.groups ≡ group_places → IsOurs n (spoken h name o (may_listen n h name)).answer
+answer_ours n h name None long = tt
+answer_ours n h name (Some a) long = listener_ours n h a (find (refuses a) (others h name)) long
 
-pub group_of_bucket : (n : ℕ) (h : Held) (name : ℕ) (o : Option Owner) (r : Result (Option ℕ) ListenEnd) → length h.groups ≡ 8 → answer_of_listen r ≡ (spoken h name o (may_listen n h name)).answer → IfOk r (λ group. IfSome group (λ g. g / 8 ≡ n))
-group_of_bucket n h name o (Err end) eight e = tt
-group_of_bucket n h name o (Ok group) eight e = rw (← e) at (answer_ours n h name o eight)
+pub group_of_bucket : (n : ℕ) (h : Held) (name : ℕ) (o : Option Owner) (r : Result (Option ℕ) ListenEnd) → length h.groups ≡ group_places → answer_of_listen r ≡ (spoken h name o (may_listen n h name)).answer → IfOk r (λ group. IfSome group (λ g. g / group_places ≡ n))
+group_of_bucket n h name o (Err end) long e = tt
+group_of_bucket n h name o (Ok group) long e = rw (← e) at (answer_ours n h name o long)

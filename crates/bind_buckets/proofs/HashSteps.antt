@@ -1,5 +1,5 @@
 -- How all buckets stand by what a pass gave, once it gave one entry more.
-use Rattle.std.proofs.Common.{◌≡◌, ℕ, zero, suc, ◌+◌, ◌-◌, ◌%◌, ◌<◌, ◌≤◌, ◌≢◌, List, [], ◌∷◌, ◌++◌, length, map, set, get_or, refl, sym, ap, subst, ◌∙◌, arith}
+use Rattle.std.proofs.Common.{◌≡◌, ℕ, zero, suc, ◌+◌, ◌%◌, ◌<◌, ◌≤◌, ◌≢◌, List, [], ◌∷◌, ◌++◌, length, map, set, get_or, refl, sym, ap, subst, ◌∙◌, arith}
 use Rattle.std.proofs.lemmas.Nat.{mod_below}
 use Rattle.std.proofs.lemmas.List.{map-append, append-nil}
 use Rattle.std.proofs.lemmas.List.FromFn.{get_or-map-range_with_len, length-map-range_with_len}
@@ -47,19 +47,19 @@ lawful_front count given later all i below =
     legal_front i empty (entries_at i given) (entries_at i later)
     (subst (λ es. IsLegal i es) (ap entries_of (at-append i given later) ∙ map-append entry_of (notes_at i given) (notes_at i later)) (all i below))
 
-module _ (count port : ℕ) (request : Request) (answer : Answer) (given : List (Placed Entry)) (x : Placed Entry) (some : 1 ≤ count) (is : IsAsked (port % count) request answer x) (lawful : AreLawful count (given ++ x ∷ [])) where
+module _ (count key : ℕ) (request : Request) (answer : Answer) (given : List (Placed Entry)) (x : Placed Entry) (some : 1 ≤ count) (is : IsAsked (key % count) request answer x) (lawful : AreLawful count (given ++ x ∷ [])) where
   abbrev place : ℕ
-  place = port % count
+  place = key % count
 
   below : place < count
-  below = mod_below port count some
+  below = mod_below key count some
 
   long : length (hash_of count given) ≡ count
   long = length-map-range_with_len (standing_by given) 0 count
 
-  stands : standing_at (hash_of count given) port ≡ standing_by given place
+  stands : standing_at (hash_of count given) key ≡ standing_by given place
   stands =
-      ap (λ n. get_or (hash_of count given) (port % n) untouched) long
+      ap (λ n. get_or (hash_of count given) (key % n) untouched) long
       ∙ get_or-map-range_with_len (standing_by given) 0 count place place untouched below (omega arith)
 
   one : x ∷ [] ≡ map (placed place) (x.note ∷ [])
@@ -81,9 +81,9 @@ module _ (count port : ℕ) (request : Request) (answer : Answer) (given : List 
   told : answer ≡ (owner_step place (standing_by given place).held request).answer
   told = legal_last place empty (entries_at place given) (record { request = request; answer = answer }) (subst (IsLegal place) here (lawful place below))
 
-  pub answered_by : answer_at (hash_of count given) port request ≡ answer
+  pub answered_by : answer_at (hash_of count given) key request ≡ answer
   answered_by =
-      ap (λ n. (owner_step (port % n) (standing_at (hash_of count given) port).held request).answer) long
+      ap (λ n. (owner_step (key % n) (standing_at (hash_of count given) key).held request).answer) long
       ∙ ap (λ (s : Standing). (owner_step place s.held request).answer) stands ∙ sym told
 
   after : standing_by (given ++ x ∷ []) place ≡ asked place (standing_by given place) request
@@ -92,9 +92,9 @@ module _ (count port : ℕ) (request : Request) (answer : Answer) (given : List 
       ∙ ap (λ h. let s : Standing = record { held = h; entries = entries_at place given ++ record { request = request; answer = answer } ∷ [] } in s) (replayed_push place empty (entries_at place given) (record { request = request; answer = answer }))
       ∙ ap (λ a. let s : Standing = record { held = (owner_step place (standing_by given place).held request).held; entries = entries_at place given ++ record { request = request; answer = a } ∷ [] } in s) told
 
-  pub asked_by : asked_at (hash_of count given) port request ≡ hash_of count (given ++ x ∷ [])
+  pub asked_by : asked_at (hash_of count given) key request ≡ hash_of count (given ++ x ∷ [])
   asked_by =
-      ap (λ n. set (hash_of count given) (port % n) (asked (port % n) (standing_at (hash_of count given) port) request)) long
+      ap (λ n. set (hash_of count given) (key % n) (asked (key % n) (standing_at (hash_of count given) key) request)) long
       ∙ ap (λ s. set (hash_of count given) place (asked place s request)) stands
       ∙ ap (set (hash_of count given) place) (sym after)
       ∙ sym (set_map (standing_by given) (standing_by (given ++ x ∷ [])) 0 count place place (omega arith) below else)

@@ -24,11 +24,10 @@ use Rattle.bind_buckets.specs.declared.request.Sharing.TheVariants as sharings
 use Rattle.bind_buckets.specs.Notes.{Note}
 use Rattle.bind_buckets.specs.First.{change_first, drop_first}
 use Rattle.bind_buckets.specs.OwnerStep.{has_name, waits_as}
-use Rattle.bind_buckets.specs.Journal.{replayed}
 use Rattle.bind_buckets.specs.Bucket.{IsSound, entries_of, entry_of}
 use Rattle.bind_buckets.specs.Callers.{MayName, MayAsk, MayMake, MayCall, AreOwn}
 use Rattle.bind_buckets.specs.Followed.{done_by, told, told_from, speaks_of, IsWhole, is_mine, is_about}
-use Rattle.bind_buckets.specs.Turned.{View, Hash, Pass, Out, IsOut, IsAsked, OneAsked, Gave, Within, made, own_of}
+use Rattle.bind_buckets.specs.Turned.{View, Hash, Pass, Out, IsOut, OneAsked, Within, made, own_of}
 use Rattle.bind_buckets.specs.OwnTold.{removes_waiting, is_told, KeepsOpen, AllKeepOpen, OpenAreTold, OwnAreTold, FirstOwnIsTold, OwnStands, StandsOwn, own_given, Brings, is_named_as, told_next, OwnComes, OwnStays, OwnGoesOn, OwnAccepted, with_name}
 use Rattle.bind_buckets.proofs.Filtered.{find_filtered}
 use Rattle.bind_buckets.proofs.ToldByOwn.{told_by_their_own, named_mine, told_seen}

@@ -8,6 +8,7 @@ use Rattle.bind_buckets.specs.declared.tally.Tally.{Tally}
 use Rattle.bind_buckets.specs.OwnerCounts.{port_place, end_place, place_by_port, place_by_end, both_rule_out}
 use Rattle.bind_buckets.specs.Tally.{Counts, has_place, is_exclusive, is_held, is_grouped, is_unshared, rules_out}
 use Rattle.bind_buckets.proofs.Counted.{none_counted, none_where, none_of_both}
+use Rattle.bind_buckets.proofs.Tallied.{none_of}
 use Rattle.bind_buckets.proofs.WantedBy.{port_wanted, end_wanted, overlaps_if_refused}
 
 -- the owner's port has the place of that one
@@ -31,7 +32,7 @@ no_overlap stride a b out = rw (no_port stride a b out) refl
 
 pub none_overlaps_it : (stride : ℕ) (a : Owner) (t : Tally) (owners : List Owner) → eqb t.owners 0 ≡ true → Counts (beside stride a.port) t owners → find (overlap a) owners ≡ None
 none_overlaps_it stride a t owners none k =
-    none_counted (beside stride a.port) (overlap a) owners (no_overlap stride a) (sym k.owners ∙ eqb-true t.owners 0 none)
+    none_counted (beside stride a.port) (overlap a) owners (no_overlap stride a) (none_of t.owners _ (eqb-true t.owners 0 none) k.owners)
 
 within : (x y z : Bool) → (y ≡ false → z ≡ false) → (x && y) ≡ false → (x && z) ≡ false
 within x y z less out = ⊎_elim (λ e. and_left x z e) (λ e. and_right x z (less e)) (and_cases x y out)
@@ -71,13 +72,13 @@ ruled_out at a t owners told k =
     let here : Owner → Bool = λ b. at b && refuses a b in
     ⊎_elim
     (λ first. ⊎_elim
-    (λ none. none_counted at here owners (λ b. and_left (at b) (refuses a b)) (sym k.owners ∙ eqb-true t.owners 0 none))
+    (λ none. none_counted at here owners (λ b. and_left (at b) (refuses a b)) (none_of t.owners _ (eqb-true t.owners 0 none) k.owners))
     (λ address. let parts = and_parts a.reuseaddr (t.exclusive == 0) address in
-    none_counted (λ b. at b && is_exclusive b) here owners (λ b. within (at b) (is_exclusive b) (refuses a b) (shares_address a b parts.0)) (sym k.exclusive ∙ eqb-true t.exclusive 0 parts.1))
+    none_counted (λ b. at b && is_exclusive b) here owners (λ b. within (at b) (is_exclusive b) (refuses a b) (shares_address a b parts.0)) (none_of t.exclusive _ (eqb-true t.exclusive 0 parts.1) k.exclusive))
     (or_cases (t.owners == 0) (a.reuseaddr && (t.exclusive == 0)) first))
     (λ port. let parts = and_parts (a.reuseport && (a.uid == t.uid)) (t.unshared == 0) port in
     let user = and_parts a.reuseport (a.uid == t.uid) parts.0 in
-    none_counted (λ b. at b && is_unshared t.uid b) here owners (λ b. within (at b) (is_unshared t.uid b) (refuses a b) (shares_port t.uid a b user.0 (eqb-true a.uid t.uid user.1))) (sym k.unshared ∙ eqb-true t.unshared 0 parts.1))
+    none_counted (λ b. at b && is_unshared t.uid b) here owners (λ b. within (at b) (is_unshared t.uid b) (refuses a b) (shares_port t.uid a b user.0 (eqb-true a.uid t.uid user.1))) (none_of t.unshared _ (eqb-true t.unshared 0 parts.1) k.unshared))
     (or_cases ((t.owners == 0) || a.reuseaddr && (t.exclusive == 0)) (a.reuseport && (a.uid == t.uid) && (t.unshared == 0)) told)
 
 its_port : (a b : Owner) → refuses a b ≡ true → b.port ≡ a.port
@@ -129,7 +130,7 @@ unheld stride port net b out =
 
 pub none_holds_it : (stride port net : ℕ) (t : Tally) (owners : List Owner) → eqb t.held 0 ≡ true → Counts (beside stride port) t owners → find (holds port net) owners ≡ None
 none_holds_it stride port net t owners none k =
-    none_counted (λ b. beside stride port b && is_held b) (holds port net) owners (unheld stride port net) (sym k.held ∙ eqb-true t.held 0 none)
+    none_counted (λ b. beside stride port b && is_held b) (holds port net) owners (unheld stride port net) (none_of t.held _ (eqb-true t.held 0 none) k.held)
 
 by_group : (l x y p d u i : Bool) → (p ≡ false) ⊎ ((l && y) ≡ false) → (l && (x && y) && p && d && u && i) ≡ false
 by_group l x y p d u i (inl e) = rw (e, and_right (l && (x && y)) false refl) refl
@@ -144,4 +145,4 @@ no_mate_of stride a b out =
 
 pub no_mate_there : (stride : ℕ) (a : Owner) (t : Tally) (owners : List Owner) → eqb t.grouped 0 ≡ true → Counts (beside stride a.port) t owners → find (is_mate a) owners ≡ None
 no_mate_there stride a t owners none k =
-    none_counted (λ b. beside stride a.port b && is_grouped b) (is_mate a) owners (no_mate_of stride a) (sym k.grouped ∙ eqb-true t.grouped 0 none)
+    none_counted (λ b. beside stride a.port b && is_grouped b) (is_mate a) owners (no_mate_of stride a) (none_of t.grouped _ (eqb-true t.grouped 0 none) k.grouped)

@@ -1,4 +1,4 @@
--- Each allowed request leaves eight places, and no more members at each than there is room for.
+-- Each allowed request leaves as many places, and no more members at each than there is room for.
 use Rattle.std.proofs.Common.{◌≡◌, ℕ, ◌≤◌, ◌<◌, Bool, true, false, cond, ltb, List, [], ◌∷◌, length, get_or, find, Some, None, Option, arith, refl, ◌∙◌, ap, subst, zero, suc}
 use Rattle.std.proofs.Math.ListN.{set}
 use Rattle.std.proofs.lemmas.Bool.Decides.{nat_tests}
@@ -10,6 +10,7 @@ use Rattle.sock_card.specs.Conflict.{overlap, refuses}
 use Rattle.bind_buckets.specs.declared.request.Request.{Request}
 use Rattle.bind_buckets.specs.declared.request.Request.TheVariants as requests
 use Rattle.bind_buckets.specs.declared.request.Answer.TheVariants as answers
+use Rattle.bind_buckets.specs.Limits.{group_places}
 use Rattle.bind_buckets.specs.First.{change_first}
 use Rattle.bind_buckets.specs.Members.{member, has_member, joined_by, left_by}
 use Rattle.sock_card.specs.Became.{connected, child, as_waiting}
@@ -102,41 +103,41 @@ length-change_first is f [] = refl
 length-change_first is f (x ∷ xs) =
     length_changed_by x (f x) xs (change_first is f xs) (is x) (length-change_first is f xs)
 
-abbrev AreEight : List (List ℕ) → Type 0
-AreEight groups = length groups ≡ 8
+abbrev HasPlaces : List (List ℕ) → Type 0
+HasPlaces groups = length groups ≡ group_places
 
-eight_with : (place : Option ℕ) (m : ℕ) (groups : List (List ℕ)) → AreEight groups → AreEight (with_member place m groups)
-eight_with None m groups p = p
-eight_with (Some place) m groups p = length-set groups place _ ∙ p
+places_with : (place : Option ℕ) (m : ℕ) (groups : List (List ℕ)) → HasPlaces groups → HasPlaces (with_member place m groups)
+places_with None m groups p = p
+places_with (Some place) m groups p = length-set groups place _ ∙ p
 
-eight_joined : (b : Bool) (place : Option ℕ) (m : ℕ) (groups : List (List ℕ)) → AreEight groups → AreEight (cond b (with_member place m groups) groups)
-eight_joined true place m groups p = eight_with place m groups p
-eight_joined false place m groups p = p
+places_joined : (b : Bool) (place : Option ℕ) (m : ℕ) (groups : List (List ℕ)) → HasPlaces groups → HasPlaces (cond b (with_member place m groups) groups)
+places_joined true place m groups p = places_with place m groups p
+places_joined false place m groups p = p
 
-pub step_eight : (b : Bucket) (request : Request) → AreEight b.held.groups → AreEight (step_of b request).held.groups
+pub step_places : (b : Bucket) (request : Request) → HasPlaces b.held.groups → HasPlaces (step_of b request).held.groups
 unfolding owner_step
-step_eight b (requests.Bind a) p = admitted_keeps AreEight b.held a (find (refuses a) b.held.owners) p
-step_eight b (requests.BindAuto a) p = admitted_keeps AreEight b.held a (find (overlap a) b.held.owners) p
-step_eight b (requests.MayListen name) p =
-    spoken_keeps AreEight b.held name (may_listen b.number b.held name) (find (has_name name) b.held.owners) p (λ a e. p)
-step_eight b (requests.Listen name slot) p =
-    spoken_keeps AreEight b.held name (listening b.held name slot) (find (has_name name) b.held.owners) p
-    (λ a e. eight_joined a.reuseport (place_for b.held a) (member slot name) b.held.groups p)
-step_eight b (requests.Free port net) p = p
-step_eight b (requests.ConnectAuto a) p = p
-step_eight b (requests.ConnectBound name local remote rport) p =
+step_places b (requests.Bind a) p = admitted_keeps HasPlaces b.held a (find (refuses a) b.held.owners) p
+step_places b (requests.BindAuto a) p = admitted_keeps HasPlaces b.held a (find (overlap a) b.held.owners) p
+step_places b (requests.MayListen name) p =
+    spoken_keeps HasPlaces b.held name (may_listen b.number b.held name) (find (has_name name) b.held.owners) p (λ a e. p)
+step_places b (requests.Listen name slot) p =
+    spoken_keeps HasPlaces b.held name (listening b.held name slot) (find (has_name name) b.held.owners) p
+    (λ a e. places_joined a.reuseport (place_for b.held a) (member slot name) b.held.groups p)
+step_places b (requests.Free port net) p = p
+step_places b (requests.ConnectAuto a) p = p
+step_places b (requests.ConnectBound name local remote rport) p =
     let h = b.held in
-    spoken_keeps AreEight h name (λ _. changed h name (connected local remote rport) h.groups) (find (has_name name) h.owners) p (λ a e. p)
-step_eight b (requests.Inherit parent name local remote rport) p =
+    spoken_keeps HasPlaces h name (λ _. changed h name (connected local remote rport) h.groups) (find (has_name name) h.owners) p (λ a e. p)
+step_places b (requests.Inherit parent name local remote rport) p =
     let h = b.held in
-    spoken_keeps AreEight h parent (λ listener. with_owner h (child name local remote rport listener)) (find (has_name parent) h.owners) p (λ a e. p)
-step_eight b (requests.ToTimeWait name) p =
+    spoken_keeps HasPlaces h parent (λ listener. with_owner h (child name local remote rport listener)) (find (has_name parent) h.owners) p (λ a e. p)
+step_places b (requests.ToTimeWait name) p =
     let h = b.held in
-    spoken_keeps AreEight h name (λ _. changed h name as_waiting h.groups) (find (has_name name) h.owners) p (λ a e. p)
-step_eight b (requests.RemoveWaiting name) p =
+    spoken_keeps HasPlaces h name (λ _. changed h name as_waiting h.groups) (find (has_name name) h.owners) p (λ a e. p)
+step_places b (requests.RemoveWaiting name) p =
     let h = b.held in
-    spoken_keeps AreEight h name (λ _. without_waiting h name) (find (waits_as name) h.owners) p (λ a e. p)
-step_eight b (requests.Remove name) p =
+    spoken_keeps HasPlaces h name (λ _. without_waiting h name) (find (waits_as name) h.owners) p (λ a e. p)
+step_places b (requests.Remove name) p =
     let h = b.held in
-    spoken_keeps AreEight h name (λ _. removed h name) (find (has_name name) h.owners) p
+    spoken_keeps HasPlaces h name (λ _. removed h name) (find (has_name name) h.owners) p
     (λ a e. length-change_first (has_member name) (left_by name) h.groups ∙ p)

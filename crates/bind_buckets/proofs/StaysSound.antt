@@ -13,7 +13,7 @@ use Rattle.bind_buckets.specs.HeldBy.{CanBeAt, CanCarryOut}
 use Rattle.bind_buckets.specs.Bucket.{Bucket, IsAllowed, IsSound, StandsAt, called, step_of, entry_of, entries_of}
 use Rattle.bind_buckets.proofs.Journals.{replayed_push, legal_push}
 use Rattle.bind_buckets.proofs.StaysAgreed.{step_agrees, step_keys}
-use Rattle.bind_buckets.proofs.StaysGrouped.{step_eight, step_fits}
+use Rattle.bind_buckets.proofs.StaysGrouped.{step_places, step_fits}
 
 pub sound_called : (b : Bucket) (request : Request) → IsSound b → IsAllowed b request → IsSound (called b request)
 sound_called b request s allowed =
@@ -29,7 +29,7 @@ sound_called b request s allowed =
       replay = rw grown (sym (replayed_push n empty es e ∙ ap (λ h. (owner_step n h request).held) (sym s.replay)));
       agree = agree;
       keys = step_keys b request allowed s.keys;
-      places = step_eight b request s.places;
+      places = step_places b request s.places;
       members = step_fits b request allowed s.members;
     }
 

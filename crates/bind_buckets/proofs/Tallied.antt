@@ -1,59 +1,68 @@
 -- What tallies count as owners come, go and change.
-use Rattle.std.proofs.Common.{◌≡◌, ℕ, ◌+◌, ◌-◌, ◌^◌, ◌<◌, ◌≤◌, Bool, true, false, cond, eqb, ◌&&◌, List, [], ◌∷◌, ◌++◌, length, set, get_or, take, replicate, find, Some, ◌⊎◌, inl, inr, arith, refl, ap, sym, ◌∙◌}
+use Rattle.std.proofs.Common.{◌≡◌, ℕ, ◌-◌, ◌<◌, ◌≤◌, Bool, true, false, cond, eqb, ◌&&◌, List, [], ◌∷◌, ◌++◌, length, ltb, set, get_or, take, replicate, find, Some, ◌⊎◌, inl, inr, arith, refl, ap, sym, ◌∙◌}
 use Rattle.std.specs.Prelude.{count_by}
-use Rattle.std.proofs.lemmas.Bool.{cases_Bool, cases_eq, cases_lt, eqb-true, ne_eqb, eq-eqb, and_left}
+use Rattle.std.proofs.lemmas.Bool.Decides.{nat_tests}
+use Rattle.std.proofs.lemmas.Bool.{cases_eq, cases_lt, eqb-true, ne_eqb, eq-eqb, and_left}
 use Rattle.std.proofs.lemmas.List.{get_or-set_same, get_or-set_other, get_or-replicate, get_or_past, get_or_append_left, get_or-append_right, length-set, length-append, length-replicate, take_all}
-use Rattle.std.proofs.lemmas.List.Sums.{count_by-le-length}
 use Rattle.sock_card.specs.declared.owner.Owner.{Owner}
 use Rattle.bind_buckets.specs.declared.tally.Tally.{Tally}
 use Rattle.bind_buckets.specs.First.{change_first, drop_first}
-use Rattle.bind_buckets.specs.Tally.{Counts, IsTallyOf, AreMade, tally_at, has_place, empty_tally, is_exclusive, is_held, is_grouped, is_unshared}
+use Rattle.bind_buckets.specs.Tally.{Counts, IsTallyOf, IsCount, count_limit, more, less, AreMade, tally_at, has_place, empty_tally, is_exclusive, is_held, is_grouped, is_unshared}
 use Rattle.bind_buckets.proofs.Counted.{one_if, count_come, count_go, count_anew, counted_less}
 
 pub counts_here : (x y z : Bool) → x ≡ true → z ≡ y → (x && y) ≡ z
 counts_here x y z e f = rw e (sym f)
 
-pub more_counts : (q : Owner → Bool) (owners : List Owner) (a : Owner) (n r : ℕ) (c : Bool) → q a ≡ c → length owners + 1 < 2 ^ 64 → (n + 1 < 2 ^ 64 → r ≡ n + cond c 1 0) → n ≡ count_by q owners → r ≡ count_by q (owners ++ a ∷ [])
-more_counts q owners a n r c e short step is =
-    let more = step (omega (arith, is, short, count_by-le-length q owners)) in
-    omega (arith, is, more, count_come q owners a, ap one_if e)
+-- a count of 0 is of none
+pub none_of : (count many : ℕ) → count ≡ 0 → IsCount count many → many ≡ 0
+none_of count many e is = sym (is (omega (arith, e))) ∙ e
 
-pub less_counts : (q is : Owner → Bool) (owners : List Owner) (a : Owner) (n r : ℕ) (c : Bool) → q a ≡ c → find is owners ≡ Some a → r ≡ n - cond c 1 0 → n ≡ count_by q owners → r ≡ count_by q (drop_first is owners)
-less_counts q is owners a n r c e found less is_count =
-    omega (arith, is_count, less, count_go is q owners a found, ap one_if e)
+pub more_counts : (q : Owner → Bool) (owners : List Owner) (a : Owner) (n r : ℕ) (c : Bool) → q a ≡ c → r ≡ more n c → IsCount n (count_by q owners) → IsCount r (count_by q (owners ++ a ∷ []))
+more_counts q owners a n r c e step is = λ below.
+    let few : n < count_limit = omega (arith, below, step) in
+    omega (arith, below, step, is few, count_come q owners a, ap one_if e)
 
-unshared_case : (at : Owner → Bool) (t : Tally) (owners : List Owner) (uid user : ℕ) (b : Bool) → eqb t.owners 0 ≡ b → user ≡ cond b uid t.uid → Counts at t owners → t.unshared ≡ count_by (λ a. at a && is_unshared user a) owners
-unshared_case at t owners uid user true none e k =
-    let nobody = sym k.owners ∙ eqb-true t.owners 0 none in
-    k.unshared
+below_case : (b : Bool) (n k r : ℕ) → b ≡ ltb n count_limit → r ≡ cond b (n - k) n → r < count_limit → (n < count_limit) × (r ≡ n - k)
+below_case true n k r e step below = (grind (arith, nat_tests), step)
+below_case false n k r e step below = absurd (grind (arith, nat_tests))
+
+pub less_counts : (q is : Owner → Bool) (owners : List Owner) (a : Owner) (n r : ℕ) (c : Bool) → q a ≡ c → find is owners ≡ Some a → r ≡ less n c → IsCount n (count_by q owners) → IsCount r (count_by q (drop_first is owners))
+less_counts q is owners a n r c e found step is_count = λ below.
+    let fewer = below_case _ n (cond c 1 0) r refl step below in
+    omega (arith, is_count fewer.0, fewer.1, count_go is q owners a found, ap one_if e)
+
+unshared_case : (at : Owner → Bool) (t : Tally) (owners : List Owner) (uid user : ℕ) (b : Bool) → eqb t.owners 0 ≡ b → user ≡ cond b uid t.uid → Counts at t owners → IsCount t.unshared (count_by (λ a. at a && is_unshared user a) owners)
+unshared_case at t owners uid user true none e k = λ below.
+    let nobody = none_of t.owners (count_by at owners) (eqb-true t.owners 0 none) k.owners in
+    k.unshared below
     ∙ counted_less at (λ a. at a && is_unshared t.uid a) owners (λ a out. and_left (at a) (is_unshared t.uid a) out) nobody
     ∙ sym (counted_less at (λ a. at a && is_unshared user a) owners (λ a out. and_left (at a) (is_unshared user a) out) nobody)
 unshared_case at t owners uid user false some e k = rw e k.unshared
 
 -- as many are unshared, whoever comes first to an empty place
-pub unshared_with : (at : Owner → Bool) (t : Tally) (owners : List Owner) (uid user : ℕ) → user ≡ cond (eqb t.owners 0) uid t.uid → Counts at t owners → t.unshared ≡ count_by (λ a. at a && is_unshared user a) owners
+pub unshared_with : (at : Owner → Bool) (t : Tally) (owners : List Owner) (uid user : ℕ) → user ≡ cond (eqb t.owners 0) uid t.uid → Counts at t owners → IsCount t.unshared (count_by (λ a. at a && is_unshared user a) owners)
 unshared_with at t owners uid user e k = unshared_case at t owners uid user (eqb t.owners 0) refl e k
 
 -- counts follow where every test counts as many
 recount : (at : Owner → Bool) (t : Tally) (xs ys : List Owner) → ((q : Owner → Bool) → count_by q xs ≡ count_by q ys) → Counts at t xs → Counts at t ys
 recount at t xs ys same k =
     record {
-      owners = k.owners ∙ same at;
-      exclusive = k.exclusive ∙ same (λ a. at a && is_exclusive a);
-      held = k.held ∙ same (λ a. at a && is_held a);
-      grouped = k.grouped ∙ same (λ a. at a && is_grouped a);
-      unshared = k.unshared ∙ same (λ a. at a && is_unshared t.uid a);
+      owners = λ below. k.owners below ∙ same at;
+      exclusive = λ below. k.exclusive below ∙ same (λ a. at a && is_exclusive a);
+      held = λ below. k.held below ∙ same (λ a. at a && is_held a);
+      grouped = λ below. k.grouped below ∙ same (λ a. at a && is_grouped a);
+      unshared = λ below. k.unshared below ∙ same (λ a. at a && is_unshared t.uid a);
     }
 
 -- counts of others stay, where one comes or goes that they don't count
 elsewhere : (at : Owner → Bool) (t : Tally) (a : Owner) (xs ys : List Owner) → at a ≡ false → ((q : Owner → Bool) → q a ≡ false → count_by q xs ≡ count_by q ys) → Counts at t xs → Counts at t ys
 elsewhere at t a xs ys out same k =
     record {
-      owners = k.owners ∙ same at out;
-      exclusive = k.exclusive ∙ same (λ b. at b && is_exclusive b) (and_left (at a) (is_exclusive a) out);
-      held = k.held ∙ same (λ b. at b && is_held b) (and_left (at a) (is_held a) out);
-      grouped = k.grouped ∙ same (λ b. at b && is_grouped b) (and_left (at a) (is_grouped a) out);
-      unshared = k.unshared ∙ same (λ b. at b && is_unshared t.uid b) (and_left (at a) (is_unshared t.uid a) out);
+      owners = λ below. k.owners below ∙ same at out;
+      exclusive = λ below. k.exclusive below ∙ same (λ b. at b && is_exclusive b) (and_left (at a) (is_exclusive a) out);
+      held = λ below. k.held below ∙ same (λ b. at b && is_held b) (and_left (at a) (is_held a) out);
+      grouped = λ below. k.grouped below ∙ same (λ b. at b && is_grouped b) (and_left (at a) (is_grouped a) out);
+      unshared = λ below. k.unshared below ∙ same (λ b. at b && is_unshared t.uid b) (and_left (at a) (is_unshared t.uid a) out);
     }
 
 counts_at : (p : Owner → ℕ) (ts : List Tally) (a : Owner) (r : Tally) (xs ys : List Owner) (k : ℕ) → p a < length ts → Counts (has_place p (p a)) r ys → ((q : Owner → Bool) → q a ≡ false → count_by q xs ≡ count_by q ys) → IsTallyOf p ts xs
@@ -73,7 +82,7 @@ put_tallied p ts a r xs ys made within here same tallied =
 
 -- a tally that counts one owner more, or less
 abbrev pub CountsMore : Owner → Tally → Tally → Type 0
-CountsMore a t r = (at : Owner → Bool) (owners : List Owner) → at a ≡ true → length owners + 1 < 2 ^ 64 → Counts at t owners → Counts at r (owners ++ a ∷ [])
+CountsMore a t r = (at : Owner → Bool) (owners : List Owner) → at a ≡ true → Counts at t owners → Counts at r (owners ++ a ∷ [])
 
 abbrev pub CountsLess : Owner → Tally → Tally → Type 0
 CountsLess a t r = (at : Owner → Bool) (is : Owner → Bool) (owners : List Owner) → at a ≡ true → find is owners ≡ Some a → Counts at t owners → Counts at r (drop_first is owners)
@@ -87,11 +96,11 @@ uncounted_less q is owners a found out = omega (arith, count_go is q owners a fo
 own_place : (p : Owner → ℕ) (a : Owner) → has_place p (p a) a ≡ true
 own_place p a = eq-eqb _ _ refl
 
-pub come_tallied : (p : Owner → ℕ) (ts : List Tally) (a : Owner) (r : Tally) (place : ℕ) (owners : List Owner) → p a ≡ place → place < 256 → AreMade ts → CountsMore a (tally_at ts place) r → length owners + 1 < 2 ^ 64 → IsTallyOf p ts owners → IsTallyOf p (set ts place r) (owners ++ a ∷ [])
-come_tallied p ts a r place owners at within made more short tallied =
+pub come_tallied : (p : Owner → ℕ) (ts : List Tally) (a : Owner) (r : Tally) (place : ℕ) (owners : List Owner) → p a ≡ place → place < 256 → AreMade ts → CountsMore a (tally_at ts place) r → IsTallyOf p ts owners → IsTallyOf p (set ts place r) (owners ++ a ∷ [])
+come_tallied p ts a r place owners at within made step tallied =
     rw (← at)
     (put_tallied p ts a r owners (owners ++ a ∷ []) made (rw at within)
-    (rw (← at) at more _ owners (own_place p a) short (tallied.counts (p a)))
+    (rw (← at) at step _ owners (own_place p a) (tallied.counts (p a)))
     (λ q out. uncounted_more q owners a out) tallied)
 
 some_there : (is : Owner → Bool) (owners : List Owner) (a : Owner) → find is owners ≡ Some a → 0 < length owners
@@ -99,27 +108,19 @@ some_there is [] a h = absurd (cc)
 some_there is (b ∷ owners) a h = omega arith
 
 pub go_tallied : (p : Owner → ℕ) (ts : List Tally) (a : Owner) (r : Tally) (place : ℕ) (is : Owner → Bool) (owners : List Owner) → p a ≡ place → place < 256 → CountsLess a (tally_at ts place) r → find is owners ≡ Some a → IsTallyOf p ts owners → IsTallyOf p (set ts place r) (drop_first is owners)
-go_tallied p ts a r place is owners at within less found tallied =
+go_tallied p ts a r place is owners at within step found tallied =
     rw (← at)
     (put_tallied p ts a r owners (drop_first is owners) (tallied.made (some_there is owners a found)) (rw at within)
-    (rw (← at) at less _ is owners (own_place p a) found (tallied.counts (p a)))
+    (rw (← at) at step _ is owners (own_place p a) found (tallied.counts (p a)))
     (λ q out. uncounted_less q is owners a found out) tallied)
-
-shorter_case : (is : Owner → Bool) (b : Owner) (owners : List Owner) (a : Owner) → (is b ≡ true) ⊎ (is b ≡ false) → (find is owners ≡ Some a → length (drop_first is owners) + 1 ≡ length owners) → find is (b ∷ owners) ≡ Some a → length (drop_first is (b ∷ owners)) + 1 ≡ length (b ∷ owners)
-shorter_case is b owners a (inl e) next h = rw e (omega arith)
-shorter_case is b owners a (inr e) next h = let rest = next (rw e at h) in rw e (omega (arith, rest))
-
-shorter : (is : Owner → Bool) (owners : List Owner) (a : Owner) → find is owners ≡ Some a → length (drop_first is owners) + 1 ≡ length owners
-shorter is [] a h = absurd (cc)
-shorter is (b ∷ owners) a h = shorter_case is b owners a (cases_Bool (is b)) (shorter is owners a) h
 
 pub change_tallied : (p : Owner → ℕ) (ts : List Tally) (was a : Owner) (r s : Tally) (from place : ℕ) (is : Owner → Bool) (become : Owner → Owner) (owners : List Owner) → p was ≡ from → from < 256 → p a ≡ place → place < 256
     → CountsLess was (tally_at ts from) r → CountsMore a (tally_at (set ts from r) place) s
-    → length owners < 2 ^ 64 → find is owners ≡ Some was → become was ≡ a → IsTallyOf p ts owners → IsTallyOf p (set (set ts from r) place s) (change_first is become owners)
-change_tallied p ts was a r s from place is become owners was_at was_within at within less more short found e tallied =
+    → find is owners ≡ Some was → become was ≡ a → IsTallyOf p ts owners → IsTallyOf p (set (set ts from r) place s) (change_first is become owners)
+change_tallied p ts was a r s from place is become owners was_at was_within at within gone come found e tallied =
     let made : AreMade (set ts from r) = rw length-set (tallied.made (some_there is owners was found)) in
-    let rest = go_tallied p ts was r from is owners was_at was_within less found tallied in
-    let back = come_tallied p (set ts from r) a s place (drop_first is owners) at within made more (omega (arith, short, shorter is owners was found)) rest in
+    let rest = go_tallied p ts was r from is owners was_at was_within gone found tallied in
+    let back = come_tallied p (set ts from r) a s place (drop_first is owners) at within made come rest in
     record {
       made = λ _. rw length-set made;
       counts = λ k. recount (has_place p k) (tally_at (set (set ts from r) place s) k) (drop_first is owners ++ a ∷ []) (change_first is become owners) (λ q. count_anew is q become owners was a found e) (back.counts k);

@@ -2,11 +2,11 @@
 use Rattle.std.proofs.Common.{◌≡◌, ℕ, ◌+◌, ◌<◌, ◌≤◌, ◌≢◌, List, [], ◌∷◌, ◌++◌, length, map, drop, refl, sym, ap, subst, ◌∙◌, arith, append_assoc}
 use Rattle.std.specs.Global.{Box}
 use Rattle.std.proofs.Math.Seq.{drop-append_seam}
-use Rattle.std.proofs.lemmas.List.{map-append, length-append, length-map, append-nil, drop-append-le}
+use Rattle.std.proofs.lemmas.List.{map-append, length-map, append-nil}
 use mathlib.Core.Logic.{dite}
 use native.Mathlib.Decide.{ℕ_discrete}
 use Rattle.list_words.specs.Lists.{Each}
-use Rattle.list_words.proofs.EachLemmas.{each_push, each_map, each_append}
+use Rattle.list_words.proofs.EachLemmas.{each_push, each_map}
 use Rattle.turn_table.specs.declared.note.Placed.{Placed}
 use Rattle.turn_table.specs.Journals.{number, number_of, placed, by_caller, notes_at}
 use Rattle.turn_table.specs.Views.{drawing, giving}

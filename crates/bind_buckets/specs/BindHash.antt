@@ -12,13 +12,13 @@ untouched = record { held = empty; entries = [] }
 
 -- how the bucket of a key stands
 abbrev pub standing_at : List Standing → ℕ → Standing
-standing_at hash port = slice_index_or hash (port % length hash) untouched
+standing_at hash key = slice_index_or hash (key % length hash) untouched
 
 -- all buckets, once that of a key was asked
 abbrev pub asked_at : List Standing → ℕ → Request → List Standing
-asked_at hash port request =
-    let number = port % length hash in slice_set hash number (asked number (standing_at hash port) request)
+asked_at hash key request =
+    let number = key % length hash in slice_set hash number (asked number (standing_at hash key) request)
 
 -- what it answers
 abbrev pub answer_at : List Standing → ℕ → Request → Answer
-answer_at hash port request = (owner_step (port % length hash) (standing_at hash port).held request).answer
+answer_at hash key request = (owner_step (key % length hash) (standing_at hash key).held request).answer

@@ -12,6 +12,7 @@ use Rattle.bind_buckets.specs.declared.request.Request.TheVariants as requests
 use Rattle.bind_buckets.specs.declared.request.Answer.{Answer}
 use Rattle.bind_buckets.specs.declared.request.Answer.TheVariants as answers
 use Rattle.bind_buckets.specs.declared.request.Entry.{Entry}
+use Rattle.bind_buckets.specs.Limits.{group_places}
 use Rattle.bind_buckets.specs.Notes.{Note}
 use Rattle.bind_buckets.specs.declared.request.Mark.{Mark}
 use Rattle.bind_buckets.specs.OwnerStep.{Held, After, owner_step, empty, has_name, members_at}
@@ -139,7 +140,7 @@ standing_of b = record { held = b.held; entries = entries_of b.journal }
 
 -- the members of the group of that number, in this bucket
 abbrev pub members_of : Bucket → ℕ → List ℕ
-members_of b group = if group / 8 == b.number then members_at b.held (group % 8) else []
+members_of b group = if group / group_places == b.number then members_at b.held (group % group_places) else []
 
 -- what holds of every bucket
 pub record IsSound (b : Bucket) : Type 0 where
@@ -149,7 +150,7 @@ pub record IsSound (b : Bucket) : Type 0 where
   pub replay : b.held ≡ replayed b.number (entries_of b.journal)
   pub agree : OwnersAgree b.held.owners
   pub keys : Each (λ (a : Owner). is_key_of b (owner_key a) ≡ true) b.held.owners
-  pub places : length b.held.groups ≡ 8
+  pub places : length b.held.groups ≡ group_places
   pub members : Each (λ members. length members ≤ group_room) b.held.groups
 
 -- an allowed request leaves owners that agree, where they did

@@ -1,3 +1,4 @@
+pub mod Limits
 pub mod First
 pub mod Members
 pub mod OwnerStep

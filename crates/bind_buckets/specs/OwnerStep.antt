@@ -1,8 +1,8 @@
 -- What a request to a bind bucket leaves and answers: inet_csk_get_port, inet_csk_find_open_port, inet_csk_bind_conflict
 -- and inet_csk_listen_start of net/ipv4/inet_connection_sock.c, __inet_hash_connect, __inet_inherit_port and inet_put_port
--- of net/ipv4/inet_hashtables.c, reuseport_alloc and reuseport_add_sock of net/core/sock_reuseport.c. Our own rule: eight places for groups in a bucket,
--- and room for so many members in a group.
-use Rattle.std.specs.Prelude.{ℕ, ◌+◌, ◌*◌, Bool, ◌==◌, ◌&&◌, not, nat_lt, List, [], ◌∷◌, ◌++◌, length, Option, None, Some, if◌then◌else◌, find, position, replicate, slice_set}
+-- of net/ipv4/inet_hashtables.c, reuseport_alloc and reuseport_add_sock of net/core/sock_reuseport.c. Our own rule: so
+-- many places for groups in a bucket, and room for so many members in a group.
+use Rattle.std.specs.Prelude.{ℕ, ◌+◌, ◌*◌, Bool, ◌==◌, ◌&&◌, nat_lt, List, [], ◌∷◌, ◌++◌, length, Option, None, Some, if◌then◌else◌, find, position, replicate, slice_set}
 use Rattle.std.specs.List.{slice_index_or}
 use Rattle.std.specs.Option.{option_or, option_and_then}
 use Rattle.sock_card.specs.declared.owner.Owner.{Owner}
@@ -13,6 +13,7 @@ use Rattle.bind_buckets.specs.declared.request.Request.{Request}
 use Rattle.bind_buckets.specs.declared.request.Request.TheVariants as requests
 use Rattle.bind_buckets.specs.declared.request.Answer.{Answer}
 use Rattle.bind_buckets.specs.declared.request.Answer.TheVariants as answers
+use Rattle.bind_buckets.specs.Limits.{group_places}
 use Rattle.bind_buckets.specs.First.{change_first, drop_first}
 use Rattle.bind_buckets.specs.Members.{member, has_member, joined_by, left_by}
 
@@ -27,7 +28,7 @@ pub record After : Type 0 where
   pub answer : Answer
 
 abbrev pub empty : Held
-empty = record { owners = []; groups = replicate 8 [] }
+empty = record { owners = []; groups = replicate group_places [] }
 
 abbrev pub has_name : ℕ → Owner → Bool
 has_name name a = a.name == name
@@ -78,7 +79,7 @@ members_at h place = slice_index_or h.groups place []
 
 -- a group's number among those of all buckets
 abbrev pub group_number : ℕ → ℕ → ℕ
-group_number number place = 8 * number + place
+group_number number place = group_places * number + place
 
 abbrev pub group_answer : ℕ → Held → Option ℕ → Answer
 group_answer number h None = answers.GroupsFull

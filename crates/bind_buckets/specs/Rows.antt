@@ -33,6 +33,7 @@ bound name uid reuseaddr reuseport =
       uid = uid;
       reuseaddr = reuseaddr;
       reuseport = reuseport;
+      noport = false;
       state = states.Bound;
       by_connect = false;
     }

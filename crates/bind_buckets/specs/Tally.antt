@@ -1,6 +1,6 @@
 -- Counts of a bucket's owners, by which most conflicts are ruled out without a scan: fastreuse and fastreuseport of struct
 -- inet_bind_bucket, sk_reuseport_match of net/ipv4/inet_connection_sock.c. That they always hold is our own rule.
-use Rattle.std.specs.Prelude.{◌≡◌, ℕ, ◌<◌, ◌≤◌, Bool, ◌==◌, ◌&&◌, ◌||◌, not, List, length, count_by}
+use Rattle.std.specs.Prelude.{◌≡◌, ℕ, ◌+◌, ◌-◌, ◌<◌, ◌≤◌, Bool, ◌==◌, ◌&&◌, ◌||◌, not, nat_lt, min, List, length, count_by, if◌then◌else◌}
 use Rattle.std.specs.List.{slice_index_or}
 use Rattle.sock_card.specs.declared.owner.Owner.{Owner}
 use Rattle.sock_card.specs.Conflict.{is_listening}
@@ -29,13 +29,29 @@ is_unshared uid a = not (a.reuseport && (a.uid == uid))
 abbrev pub empty_tally : Tally
 empty_tally = record { owners = 0; exclusive = 0; held = 0; grouped = 0; unshared = 0; uid = 0 }
 
+-- a count that reaches this stays there
+abbrev pub count_limit : ℕ
+count_limit = 255
+
+-- a count of so many: exact below its limit
+abbrev pub IsCount : ℕ → ℕ → Type 0
+IsCount count many = count < count_limit → count ≡ many
+
+-- one more, if it counts
+abbrev pub more : ℕ → Bool → ℕ
+more count counts = min (count + (if counts then 1 else 0)) count_limit
+
+-- one less, if it counted
+abbrev pub less : ℕ → Bool → ℕ
+less count counted = if nat_lt count count_limit then count - (if counted then 1 else 0) else count
+
 -- of the owners that pass the test, the tally counts what it says
 pub record Counts (at : Owner → Bool) (t : Tally) (all : List Owner) : Type 0 where
-  pub owners : t.owners ≡ count_by at all
-  pub exclusive : t.exclusive ≡ count_by (λ a. at a && is_exclusive a) all
-  pub held : t.held ≡ count_by (λ a. at a && is_held a) all
-  pub grouped : t.grouped ≡ count_by (λ a. at a && is_grouped a) all
-  pub unshared : t.unshared ≡ count_by (λ a. at a && is_unshared t.uid a) all
+  pub owners : IsCount t.owners (count_by at all)
+  pub exclusive : IsCount t.exclusive (count_by (λ a. at a && is_exclusive a) all)
+  pub held : IsCount t.held (count_by (λ a. at a && is_held a) all)
+  pub grouped : IsCount t.grouped (count_by (λ a. at a && is_grouped a) all)
+  pub unshared : IsCount t.unshared (count_by (λ a. at a && is_unshared t.uid a) all)
 
 -- the counts tell that none of the owners refuses this one: there is none, or all share the port with it
 abbrev pub rules_out : Tally → Owner → Bool

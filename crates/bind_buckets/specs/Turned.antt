@@ -8,8 +8,7 @@ use Rattle.turn_table.specs.declared.view.TurnView.{TurnView}
 use Rattle.turn_table.specs.declared.pass.Turn.{Turn}
 use Rattle.turn_table.specs.declared.pass.TurnPass.{TurnPass}
 use Rattle.turn_table.specs.declared.pass.Turns.{Turns}
-use Rattle.turn_table.specs.Journals.{number, number_of, placed, by_caller, notes_at}
-use Rattle.turn_table.specs.Views.{drawing}
+use Rattle.turn_table.specs.Journals.{number, number_of, by_caller, notes_at}
 use Rattle.turn_table.specs.Passes as words
 use Rattle.turn_table.specs.Passes.{IsPassOf, IsFree, HasTurn, known}
 use Rattle.bind_buckets.specs.declared.request.Entry.{Entry}
@@ -139,7 +138,7 @@ pub record OneAsked (place : ℕ) (request : Request) (answer : Answer) (v w : V
 -- where these entries and one more are lawful, the one is a question to the bucket of its key as the others leave it
 abbrev pub AsksOneMore : Type 0
 AsksOneMore =
-    (count port : ℕ) (request : Request) (answer : Answer) (given : List (Placed Entry)) (x : Placed Entry)
-    → 1 ≤ count → IsAsked (port % count) request answer x → AreLawful count (given ++ x ∷ [])
-    → (answer_at (hash_of count given) port request ≡ answer)
-    × (asked_at (hash_of count given) port request ≡ hash_of count (given ++ x ∷ []))
+    (count key : ℕ) (request : Request) (answer : Answer) (given : List (Placed Entry)) (x : Placed Entry)
+    → 1 ≤ count → IsAsked (key % count) request answer x → AreLawful count (given ++ x ∷ [])
+    → (answer_at (hash_of count given) key request ≡ answer)
+    × (asked_at (hash_of count given) key request ≡ hash_of count (given ++ x ∷ []))

@@ -4,6 +4,7 @@ ghost use Rattle.std.specs.Prelude.{◌≡◌, ◌+◌, ◌-◌, ◌/◌, ◌≤
 ghost use Rattle.std.specs.Option.{option_copied};
 ghost use Rattle.sock_card.specs.Conflict.{owner_key};
 ghost use Rattle.sock_card.specs.Became.{as_listener, connected, child, as_waiting};
+ghost use Rattle.bind_buckets.specs.Limits.{group_places};
 ghost use Rattle.bind_buckets.specs.HeldBy.{held_by};
 ghost use Rattle.bind_buckets.specs.OwnerStep.{has_name, with_last, waits_as, empty};
 ghost use Rattle.bind_buckets.specs.First.{change_first, drop_first};
@@ -12,7 +13,7 @@ ghost use Rattle.bind_buckets.specs.Bucket as spec;
 ghost use Rattle.bind_buckets.specs.Bucket.{called, answer_to, CanListen, CanConnect, NamesOne};
 ghost use Rattle.bind_buckets.specs.Answers.{answer_of_bind, answer_of_free, answer_of_name, answer_of_listen, IsOfBind, IsOfFree, IsOfName, IsOfListen, told_of, holder_told, refusal, overlapping, holder, AllByConnect, KnowsOrSays, KnowsWaitingOrSays, TakesIfOk, TakesIfErr, IsWhy};
 
-use crate::held::Held;
+use crate::held::{GROUP_PLACES, Held};
 use crate::journal::Journal;
 use crate::request::{Answer, Entry, InUse, ListenEnd, Mark, NotFree, Request, Sharing, Strange};
 use sock_card::{Owner, State};
@@ -265,7 +266,8 @@ impl Bucket {
     /// counts tell that none does: nobody owns the port, all of its owners, or all at this address and
     /// at 0.0.0.0, share it by `reuseaddr` and none of them listens, or share it by `reuseport` as one
     /// user. Else it goes through the port's owners at this address and 0.0.0.0, or for a newcomer at
-    /// 0.0.0.0 through all of the port's, up to the first that refuses.
+    /// 0.0.0.0 through all of the port's, up to the first that refuses. A count tells nothing more once
+    /// it was of 255 owners.
     pub fn bind(&mut self, owner: Owner) -> Result<(), InUse>
         requires key { spec.is_key_of self.old (owner_key owner) ≡ true }
         requires entry { 1 ≤ self.old.entries }
@@ -341,19 +343,19 @@ impl Bucket {
     /// Whether the socket of that name may listen as the bucket stands, and in which group.
     ///
     /// Without `reuseport` it has no group. With it, it joins the listeners that have its port,
-    /// namespace, address, device and user, or begins a group at the first free place; the group's number is
-    /// 8 times the bucket's and the place. Refusals are tested in this order: no owner has that name,
-    /// another owner keeps it from its port, no place is free for a group that it needs, its group
-    /// has no room for one more. The bucket holds what it held. It goes through the port's owners as
-    /// [`Bucket::bind`] does, and once more for its mates, up to the first, where a listener with
-    /// `reuseport` may be one; and through at most 512 members.
+    /// namespace, address, device and user, or begins a group at the first free place; the group's
+    /// number is [`GROUP_PLACES`] times the bucket's and the place. Refusals are tested in this order:
+    /// no owner has that name, another owner keeps it from its port, no place is free for a group that
+    /// it needs, its group has no room for one more. The bucket holds what it held. It goes through the
+    /// port's owners as [`Bucket::bind`] does, and once more for its mates, up to the first, where a
+    /// listener with `reuseport` may be one; and through at most 512 members.
     pub fn may_listen(&mut self, name: u32) -> Result<Option<u32>, ListenEnd>
         requires entry { 1 ≤ self.old.entries }
         ensures after { self.new ≡ called self.old (Request.MayListen name) }
         ensures answer { answer_of_listen result ≡ answer_to self.old (Request.MayListen name) }
         ensures kept { self.new.held ≡ self.old.held }
         ensures free { OnOk result (CanListen self.new name) }
-        ensures group { IfOk result (λ group. IfSome group (λ number. number / 8 ≡ self.old.number)) }
+        ensures group { IfOk result (λ group. IfSome group (λ number. number / group_places ≡ self.old.number)) }
         ensures why { IfErr result (IsWhy self.old.held name) }
         ensures entries { self.new.entries + 1 ≡ self.old.entries }
         ensures newcomers { self.new.newcomers ≡ self.old.newcomers }
@@ -504,13 +506,13 @@ impl Bucket {
 
     /// The members of the group of that number, each the slot of its card times 2^32, and its name.
     ///
-    /// Empty where nobody is in it, or it isn't one of this bucket's eight. Constant cost, no note.
+    /// Empty where nobody is in it, or it isn't one of this bucket's. Constant cost, no note.
     pub fn members(&self, group: u32) -> &[u64]
         ensures { result.now ≡ spec.members_of self.now group }
     {
         match &self.held {
-            Some(held) if group / 8 == self.number => {
-                held.groups[(group % 8) as usize].members()
+            Some(held) if group / GROUP_PLACES as u32 == self.number => {
+                held.groups[group as usize % GROUP_PLACES].members()
             }
             _ => &[],
         }

@@ -3,7 +3,7 @@
 //! Those by port answer most questions. Where many owners share a port at one address, and one at
 //! another address shares it with none, those by address still tell that none refuses a newcomer.
 
-ghost use Rattle.std.specs.Prelude.{ℕ, ◌≡◌, ◌==◌, ◌||◌, ◌+◌, ◌^◌, ◌<◌, ◌≤◌, Bool, true, List, [], ◌∷◌, ◌++◌, length, find, None, Some, OnOk};
+ghost use Rattle.std.specs.Prelude.{ℕ, ◌≡◌, ◌==◌, ◌||◌, ◌+◌, ◌<◌, ◌≤◌, Bool, true, List, [], ◌∷◌, ◌++◌, find, None, Some, OnOk};
 ghost use Rattle.sock_card.specs.Conflict as conflict_spec;
 ghost use Rattle.bind_buckets.specs.OwnerStep as step_spec;
 ghost use Rattle.bind_buckets.specs.First.{change_first, drop_first};
@@ -95,7 +95,7 @@ impl OwnerCounts {
     pub fn come(&mut self, owner: &Owner)
         requires made { HasMemory self.old }
         ensures made { HasMemory self.new }
-        ensures stays { (owners : List Owner) → length owners + 1 < 2 ^ 64 → IsCountOf self.old owners
+        ensures stays { (owners : List Owner) → IsCountOf self.old owners
             → IsCountOf self.new (owners ++ owner.now ∷ []) }
     {
         let port = self.port_place(owner.port);
@@ -119,7 +119,7 @@ impl OwnerCounts {
     /// Counts an owner as it is now, which was counted as it was. Constant cost.
     pub fn change(&mut self, was: &Owner, owner: &Owner)
         ensures made { HasMemory self.old → HasMemory self.new }
-        ensures stays { (is : Owner → Bool) (become : Owner → Owner) (owners : List Owner) → length owners < 2 ^ 64
+        ensures stays { (is : Owner → Bool) (become : Owner → Owner) (owners : List Owner)
             → find is owners ≡ Some was.now → become was.now ≡ owner.now
             → IsCountOf self.old owners → IsCountOf self.new (change_first is become owners) }
     {

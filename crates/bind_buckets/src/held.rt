@@ -16,11 +16,14 @@ use crate::request::{Answer, Request};
 use sock_card::{Owner, as_listener, as_waiting, child, connected};
 use std::alloc::Global;
 
-/// The owners of a bucket's ports, oldest first, and the groups at its eight places.
+/// How many places for groups a bucket has.
+pub const GROUP_PLACES: usize = 8;
+
+/// The owners of a bucket's ports, oldest first, and the groups at its places.
 #[derive(Drop)]
 pub struct Held {
     pub owners: Owners,
-    pub groups: [Group; 8],
+    pub groups: [Group; GROUP_PLACES],
 }
 
 impl Held {
@@ -133,7 +136,7 @@ impl Held {
             None => Answer::GroupsFull,
             Some(place) => {
                 if self.groups[place].has_room() {
-                    Answer::Group(Some(8 * number + place as u32))
+                    Answer::Group(Some(GROUP_PLACES as u32 * number + place as u32))
                 } else {
                     Answer::GroupFull
                 }

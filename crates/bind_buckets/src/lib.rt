@@ -4,8 +4,9 @@
 //! `net/ipv4/inet_hashtables.c`), which keeps the sockets that own the port. `bind` and `listen` ask
 //! there whether another owner stands in the way, searches for a port whether it may be taken, and
 //! listeners with `SO_REUSEPORT` find their group there (`net/core/sock_reuseport.c`). A [`Bucket`] is
-//! one such bucket: its owners, oldest first; the groups at its eight places, of sixty-four members each;
-//! and a journal with one note for each call, refused ones too. Threads share buckets by [`turning`].
+//! one such bucket: its owners, oldest first; the groups at its [`GROUP_PLACES`], of sixty-four members
+//! each; and a journal with one note for each call, refused ones too. Threads share buckets by
+//! [`turning`].
 //!
 //! Each call's contract says that the bucket afterwards, its answer and its note are what
 //! `owner_step` of `specs/` makes of the bucket before. What every bucket keeps is `IsSound`: its
@@ -46,5 +47,6 @@ mod tests;
 pub mod turning;
 
 pub use bucket::Bucket;
+pub use held::GROUP_PLACES;
 pub use request::{Answer, Entry, InUse, ListenEnd, Mark, NotFree, Request, Sharing, Strange};
 pub use turn_table::Note;

@@ -76,8 +76,6 @@ impl Owners {
         ensures owners { self.new.owners ≡ self.old.owners ++ owner ∷ [] }
         ensures room { self.new.room + 1 ≡ self.old.room }
     {
-        // It tells that the counts can't wrap.
-        let _few = self.list.len();
         self.counts.come(&owner);
         self.list.push(owner);
     }
@@ -90,7 +88,6 @@ impl Owners {
             ≡ change_first (spec.has_name owner.name) (λ _. owner) self.old.owners }
         ensures room { self.new.room ≡ self.old.room }
     {
-        let _few = self.list.len();
         if let Some(was) = self.list.named(owner.name).copied() {
             self.counts.change(&was, &owner);
             self.list.replace(owner);

@@ -60,7 +60,7 @@ pub enum Answer {
     InUse(u32),
     /// The group has no room for one more.
     GroupFull,
-    /// The bucket has eight groups.
+    /// The bucket has a group at each of its places.
     GroupsFull,
     /// No owner has that name; of `RemoveWaiting`, none in TIME_WAIT.
     Strange(u32),
@@ -110,7 +110,7 @@ pub enum ListenEnd {
     InUse(u32),
     /// Its group has no room for one more.
     GroupFull,
-    /// It needs a group of its own, and the bucket has eight.
+    /// It needs a group of its own, and the bucket has one at each of its places.
     GroupsFull,
     /// No owner has that name.
     Strange(u32),

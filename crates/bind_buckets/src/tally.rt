@@ -2,9 +2,10 @@
 //!
 //! Linux spares such scans by `fastreuse` and `fastreuseport` of `struct inet_bind_bucket`
 //! (`sk_reuseport_match` in `net/ipv4/inet_connection_sock.c`). Owners that have one place share a
-//! tally, which may cost a scan, and never changes an answer.
+//! tally, and a count that has reached 255 stays there: either may cost a scan, and never changes an
+//! answer.
 
-ghost use Rattle.std.specs.Prelude.{◌≡◌, ℕ, ◌+◌, ◌-◌, ◌^◌, ◌<◌, Bool, true, List, [], ◌∷◌, ◌++◌, length, find, Some, OnOk, OnErr, slice_set, nat_eq, if◌then◌else◌};
+ghost use Rattle.std.specs.Prelude.{◌≡◌, ℕ, ◌+◌, ◌-◌, ◌<◌, Bool, true, List, [], ◌∷◌, ◌++◌, find, Some, OnOk, OnErr, slice_set, nat_eq, if◌then◌else◌};
 ghost use Rattle.bind_buckets.specs.First.{change_first, drop_first};
 ghost use Rattle.bind_buckets.specs.Tally as spec;
 ghost use Rattle.bind_buckets.specs.Tally.{Counts, IsTallyOf, AreMade};
@@ -30,13 +31,15 @@ const EMPTY: Tally = Tally {
 /// `exclusive` are those that listen or lack `reuseaddr`, `held` those whose port `connect` didn't
 /// choose, `grouped` those that listen with `reuseport`, and `unshared` those that lack `reuseport` or
 /// aren't of the user `uid`, of whom the first owner was that came to the empty place.
+///
+/// A count that has reached 255 stays there, since nobody knows any more when none is left.
 #[derive(Clone, Copy, Debug)]
 pub struct Tally {
-    pub owners: usize,
-    exclusive: usize,
-    pub held: usize,
-    pub grouped: usize,
-    unshared: usize,
+    pub owners: u8,
+    exclusive: u8,
+    pub held: u8,
+    pub grouped: u8,
+    unshared: u8,
     uid: u32,
 }
 
@@ -58,18 +61,22 @@ fn is_unshared(uid: u32, owner: &Owner) -> bool
     !(owner.reuseport && owner.uid == uid)
 }
 
-/// One more where the owner counts. A count stays at its limit, which no list of owners reaches.
-fn more(count: usize, counts: bool) -> usize
-    ensures { count + 1 < 2 ^ 64 → result ≡ count + (if counts then 1 else 0) }
+/// One more where the owner counts.
+fn more(count: u8, counts: bool) -> u8
+    ensures { result ≡ spec.more count counts }
 {
-    count.saturating_add(usize::from(counts))
+    count.saturating_add(u8::from(counts))
 }
 
 /// One less where the owner counted.
-fn less(count: usize, counted: bool) -> usize
-    ensures { result ≡ count - (if counted then 1 else 0) }
+fn less(count: u8, counted: bool) -> u8
+    ensures { result ≡ spec.less count counted }
 {
-    count.saturating_sub(usize::from(counted))
+    if count < u8::MAX {
+        count.saturating_sub(u8::from(counted))
+    } else {
+        count
+    }
 }
 
 impl Tally {
@@ -86,8 +93,8 @@ impl Tally {
 
     /// With one owner more.
     fn with(self, owner: &Owner) -> Tally
-        ensures { (at : Owner → Bool) (owners : List Owner) → at owner.now ≡ true → length owners + 1 < 2 ^ 64
-            → Counts at self owners → Counts at result (owners ++ owner.now ∷ []) }
+        ensures { (at : Owner → Bool) (owners : List Owner) → at owner.now ≡ true → Counts at self owners
+            → Counts at result (owners ++ owner.now ∷ []) }
     {
         let uid = self.user_with(owner);
         Tally {
@@ -102,7 +109,7 @@ impl Tally {
 
     /// Without one of its owners.
     pub fn without(self, owner: &Owner) -> Tally
-        ensures fewer { result.owners ≡ self.owners - 1 }
+        ensures fewer { result.owners ≡ spec.less self.owners true }
         ensures counts { (at : Owner → Bool) (is : Owner → Bool) (owners : List Owner) → at owner.now ≡ true
             → find is owners ≡ Some owner.now → Counts at self owners → Counts at result (drop_first is owners) }
     {
@@ -191,8 +198,7 @@ impl Tallies {
         requires place { place < 256 }
         ensures made { AreMade self.new }
         ensures stays { (place_of : Owner → ℕ) (owners : List Owner) → place_of owner.now ≡ place
-            → length owners + 1 < 2 ^ 64 → IsTallyOf place_of self.old owners
-            → IsTallyOf place_of self.new (owners ++ owner.now ∷ []) }
+            → IsTallyOf place_of self.old owners → IsTallyOf place_of self.new (owners ++ owner.now ∷ []) }
     {
         let tally = self.tally_at(place);
         self.put(place, tally.with(owner));
@@ -216,7 +222,7 @@ impl Tallies {
         requires place { place < 256 }
         ensures made { AreMade self.old → AreMade self.new }
         ensures stays { (place_of : Owner → ℕ) (is : Owner → Bool) (become : Owner → Owner) (owners : List Owner)
-            → place_of was.now ≡ was_place → place_of owner.now ≡ place → length owners < 2 ^ 64
+            → place_of was.now ≡ was_place → place_of owner.now ≡ place
             → find is owners ≡ Some was.now → become was.now ≡ owner.now
             → IsTallyOf place_of self.old owners → IsTallyOf place_of self.new (change_first is become owners) }
     {

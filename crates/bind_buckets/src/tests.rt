@@ -25,6 +25,7 @@ fn socket(name: u32, port: u16) -> Owner {
         uid: 1,
         reuseaddr: false,
         reuseport: false,
+        noport: false,
         state: State::Bound,
         by_connect: false,
     }

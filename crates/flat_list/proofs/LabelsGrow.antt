@@ -20,7 +20,7 @@ use Rattle.flat_list.specs.Sockets.{is_refused, has_twin}
 use Rattle.flat_list.specs.Groups.{Group}
 use Rattle.flat_list.specs.Connect.{connected, end_of, replacing, is_taken_in, connect, connect_as, connect_from, connect_found, connect_search, connect_socket, connected_by_search, suits_connect, child_of, accept, accept_as}
 use Rattle.flat_list.specs.Owned.{source_of, is_no_end, is_no_accept}
-use Rattle.flat_list.specs.Step.{drop, step, at_end, at_port, bind, bind_given, bind_found, bind_search, bind_socket, search_bind, listen, listens_in, listen_as, groups_with, listen_bound, listen_found, listen_socket, waiting, close, close_full, close_socket, at, reap}
+use Rattle.flat_list.specs.Step.{drop, step, at_end, at_port, at_address, bind, bind_any, bind_given, bind_found, bind_search, bind_socket, search_bind, listen, listens_in, listen_as, groups_with, listen_bound, listen_found, listen_socket, waiting, close, close_full, close_socket, at, reap}
 
 find_put : (m : ℕ) (s : Section) (xs : List Section) → find (has_number m) (put_section s xs) ≡ (if has_number m s then Some s else find (has_number m) xs)
 find_put m s [] = refl
@@ -160,7 +160,7 @@ bind_found_keeps first found s addr (Some port) keeps = keeps
 
 listen_found_keeps : (first : Flat) (found : Found) (s : Socket) (port : Option ℕ) → KeepsLabels first found.flat → Keeps first (listen_found found s port)
 listen_found_keeps first found s None keeps = keeps
-listen_found_keeps first found s (Some port) keeps = listen_bound_keeps first found.flat (at_port s 0 port) keeps
+listen_found_keeps first found s (Some port) keeps = listen_bound_keeps first found.flat (at_port s s.owner.addr port) keeps
 
 connect_found_keeps : (first : Flat) (found : Found) (s : Socket) (source : ℕ) (to : End) (port : Option ℕ) → KeepsLabels first found.flat → Keeps first (connect_found found s source to port)
 connect_found_keeps first found s source to None keeps = keeps
@@ -169,8 +169,9 @@ connect_found_keeps first found s source to (Some port) keeps = connect_as_keeps
 bind_keeps : (flat : Flat) (n : ℕ) (s : Socket) (t : State) (end : End) → Keeps flat (bind_socket flat n s t end)
 bind_keeps flat n s states.Unbound end =
     let found : Found = search_bind flat n s end.addr in
-    cond_both (end.port == 0) (bind_search flat n s end.addr) (bind_given flat s end) (Keeps flat)
-    (λ _. bind_found_keeps flat found s end.addr found.port (draw_keeps flat n flat.header.offset))
+    cond_both (end.port == 0) (bind_any flat n s end.addr) (bind_given flat s end) (Keeps flat)
+    (λ _. cond_both s.owner.noport (changed flat (at_address s end.addr) (replies.Port 0)) (bind_search flat n s end.addr) (Keeps flat) (λ _ m. refl)
+    (λ _. bind_found_keeps flat found s end.addr found.port (draw_keeps flat n flat.header.offset)))
     (λ _. cond_both (is_refused (at_end s end).owner flat.sockets) (unchanged flat replies.Eaddrinuse) (changed flat (at_end s end) (replies.Port end.port)) (Keeps flat) (λ _ m. refl) (λ _ m. refl))
 bind_keeps flat n s _ end = λ m. refl
 
@@ -180,7 +181,7 @@ bind_keeps_all flat n (Some s) end = bind_keeps flat n s s.owner.state end
 
 listen_keeps : (flat : Flat) (n : ℕ) (s : Socket) (t : State) → Keeps flat (listen_socket flat n s t)
 listen_keeps flat n s states.Unbound =
-    let found : Found = search_bind flat n s 0 in listen_found_keeps flat found s found.port (draw_keeps flat n flat.header.offset)
+    let found : Found = search_bind flat n s s.owner.addr in listen_found_keeps flat found s found.port (draw_keeps flat n flat.header.offset)
 listen_keeps flat n s states.Bound = listen_bound_keeps flat flat s (λ m. refl)
 listen_keeps flat n s _ = λ m. refl
 
@@ -205,8 +206,8 @@ connect_keeps flat n s states.Bound from to =
     cond_both (is_no_end to) (unchanged flat replies.Einval) (connect_from flat n s to (source_of s.owner.addr from)) (Keeps flat) (λ _ m. refl)
     (λ _. connect_from_keeps flat n s to (source_of s.owner.addr from))
 connect_keeps flat n s states.Unbound from to =
-    cond_both (is_no_end to) (unchanged flat replies.Einval) (connect_search flat n s to (source_of 0 from)) (Keeps flat) (λ _ m. refl)
-    (λ _. connect_search_keeps flat n s to (source_of 0 from))
+    cond_both (is_no_end to) (unchanged flat replies.Einval) (connect_search flat n s to (source_of s.owner.addr from)) (Keeps flat) (λ _ m. refl)
+    (λ _. connect_search_keeps flat n s to (source_of s.owner.addr from))
 connect_keeps flat n s _ from to = λ m. refl
 
 connect_keeps_all : (flat : Flat) (n : ℕ) (o : Option Socket) (from : Option ℕ) (to : End) → Keeps flat (connect flat n o from to)

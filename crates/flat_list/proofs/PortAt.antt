@@ -1,12 +1,12 @@
 -- Which port stands at a place of the order.
-use Rattle.std.proofs.Common.{◌≡◌, ℕ, ◌+◌, ◌-◌, ◌*◌, ◌/◌, ◌%◌, ◌<◌, ◌≤◌, List, ◌++◌, length, get_or, refl, ap, ◌∙◌, arith, length-append, drop-cons, drop, find, Some, None, Bool, true, false, suc}
+use Rattle.std.proofs.Common.{◌≡◌, ℕ, ◌+◌, ◌-◌, ◌*◌, ◌/◌, ◌%◌, ◌<◌, ◌≤◌, List, ◌++◌, length, get_or, refl, ap, ◌∙◌, arith, length-append, drop-cons, drop, find, not, ◌&&◌, Some, None, Bool, true, false, suc, [], ◌∷◌}
 use Rattle.std.proofs.lemmas.List.FromFn.{get_or-map-range_with_len, length-map-range_with_len}
 use Rattle.std.proofs.lemmas.List.{get_or_append_left, get_or-append-add}
 use Rattle.std.proofs.Math.ListN.{drop_of_length-le}
 use Rattle.flat_list.specs.declared.header.Range.{Range}
 use Rattle.flat_list.specs.declared.header.First.{First}
 use Rattle.flat_list.specs.declared.header.First.TheVariants as firsts
-use Rattle.flat_list.specs.Ports.{size, half_from, even, odd, port_order}
+use Rattle.flat_list.specs.Ports.{size, half_from, even, odd, whole_order, is_reserved, unreserved}
 
 pub half_at : (r : Range) (distance number d : ℕ) → number < size r / 2 → get_or (half_from r distance) number d ≡ r.low + (distance + 2 * number) % size r
 half_at r distance number d within =
@@ -24,7 +24,7 @@ second_half_at r a b number d past =
     let place : number ≡ length (half_from r a) + (number - size r / 2) = omega (arith, half_length r a) in
     ap (λ k. get_or (half_from r a ++ half_from r b) k d) place ∙ get_or-append-add (half_from r a) (half_from r b) (number - size r / 2) d
 
-pub order_length : (r : Range) (offset : ℕ) (first : First) → length (port_order r offset first) ≡ size r / 2 * 2
+pub order_length : (r : Range) (offset : ℕ) (first : First) → length (whole_order r offset first) ≡ size r / 2 * 2
 order_length r offset firsts.Odd = omega (arith, length-append (half_from r (odd offset)) (half_from r (even offset)), half_length r (odd offset), half_length r (even offset))
 order_length r offset firsts.Even = omega (arith, length-append (half_from r (even offset)) (half_from r (odd offset)), half_length r (odd offset), half_length r (even offset))
 
@@ -48,3 +48,8 @@ searched_here suits ports place port d searched within here fits = searched.left
 -- there is none left
 pub searched_all : (suits : ℕ → Bool) (ports : List ℕ) (place : ℕ) → Searched suits ports place → length ports ≤ place → find suits ports ≡ None
 searched_all suits ports place searched past = searched.left ∙ ap (find suits) (drop_of_length-le ports past)
+
+-- what suits and isn't reserved is found where the reserved ports are left out
+pub find_unreserved : (r : Range) (suits : ℕ → Bool) (ports : List ℕ) → find (λ port. not (is_reserved r port) && suits port) ports ≡ find suits (unreserved r ports)
+find_unreserved r suits [] = refl
+find_unreserved r suits (port ∷ ports) = grind (arith, find_unreserved r suits ports)

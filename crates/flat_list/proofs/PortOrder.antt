@@ -1,13 +1,13 @@
 -- The order of ports has each port of a range of even size once: both halves go round from where they begin.
-use Rattle.std.proofs.Common.{◌≡◌, ℕ, ◌+◌, ◌*◌, ◌/◌, ◌%◌, ◌≤◌, zero, suc, map, refl, sym, ap, ◌∙◌, arith}
+use Rattle.std.proofs.Common.{◌≡◌, ℕ, ◌+◌, ◌*◌, ◌/◌, ◌%◌, ◌≤◌, zero, suc, List, [], ◌∷◌, if◌then◌else◌, map, refl, sym, ap, ◌∙◌, arith}
 use Rattle.std.proofs.Math.Nat.{add-mod_right, mod-eq_of_lt}
 use Rattle.std.specs.List.{range_with_len}
-use Rattle.list_words.specs.Lists.{total}
+use Rattle.list_words.specs.Lists.{total, SameItems}
 use Rattle.list_words.proofs.TotalLemmas.{total-append}
 use Rattle.flat_list.specs.declared.header.Range.{Range}
 use Rattle.flat_list.specs.declared.header.First.{First}
 use Rattle.flat_list.specs.declared.header.First.TheVariants as firsts
-use Rattle.flat_list.specs.Ports.{size, half_from, even, odd, port_order, TriesEachOnce}
+use Rattle.flat_list.specs.Ports.{size, half_from, even, odd, whole_order, is_reserved, unreserved, TriesEachOnce}
 
 -- what m numbers weigh, each greater by two than the one before
 abbrev seconds : (ℕ → ℕ) → ℕ → ℕ → ℕ
@@ -68,7 +68,7 @@ even_start : (r : Range) (offset : ℕ) → half_from r (even offset) ≡ half_f
 even_start r offset = ap (half_from r) (let e : even offset ≡ offset / 2 * 2 + 0 = omega arith in e)
 
 -- whichever half comes first
-either_first : (f : ℕ → ℕ) (r : Range) (offset : ℕ) (first : First) (x y : ℕ) → total f (half_from r (even offset)) ≡ x → total f (half_from r (odd offset)) ≡ y → total f (port_order r offset first) ≡ x + y
+either_first : (f : ℕ → ℕ) (r : Range) (offset : ℕ) (first : First) (x y : ℕ) → total f (half_from r (even offset)) ≡ x → total f (half_from r (odd offset)) ≡ y → total f (whole_order r offset first) ≡ x + y
 either_first f r offset firsts.Odd x y evens odds = omega (arith, total-append f (half_from r (odd offset)) (half_from r (even offset)), evens, odds)
 either_first f r offset firsts.Even x y evens odds = omega (arith, total-append f (half_from r (even offset)) (half_from r (odd offset)), evens, odds)
 
@@ -80,10 +80,20 @@ whole_range f r is_even =
     let low : r.low + 0 ≡ r.low = omega arith in
     ap (λ n. total f (range_with_len r.low n)) whole ∙ rw low (both_halves f r.low m)
 
-pub each_once : TriesEachOnce
-each_once r offset first is_even f =
+-- what the ports weigh that aren't reserved
+unreserved_weighs : (f : ℕ → ℕ) (r : Range) (ports : List ℕ) → total f (unreserved r ports) ≡ total (λ port. if is_reserved r port then 0 else f port) ports
+unreserved_weighs f r [] = refl
+unreserved_weighs f r (port ∷ ports) = grind (arith, unreserved_weighs f r ports)
+
+whole_once : (r : Range) (offset : ℕ) (first : First) → size r % 2 ≡ 0 → SameItems (whole_order r offset first) (range_with_len r.low (size r))
+whole_once r offset first is_even f =
     let m : ℕ = size r / 2 in
     let whole : size r ≡ 2 * m = omega arith in
     let evens : total f (half_from r (even offset)) ≡ seconds f (r.low + 0) m = ap (total f) (even_start r offset) ∙ half_weighs f r (offset / 2) 0 m whole refl (omega arith) in
     let odds : total f (half_from r (odd offset)) ≡ seconds f (r.low + 1) m = half_weighs f r (offset / 2) 1 m whole refl (omega arith) in
     either_first f r offset first _ _ evens odds ∙ sym (whole_range f r is_even)
+
+pub each_once : TriesEachOnce
+each_once r offset first is_even f =
+    unreserved_weighs f r (whole_order r offset first) ∙ whole_once r offset first is_even (λ port. if is_reserved r port then 0 else f port)
+    ∙ sym (unreserved_weighs f r (range_with_len r.low (size r)))

@@ -16,7 +16,7 @@ use Rattle.flat_list.specs.Owned.{source_of, is_no_end, is_no_accept}
 use Rattle.flat_list.specs.Sections.{next_name, moment_of, with_moment}
 use Rattle.flat_list.specs.Sockets.{is_refused, has_twin}
 use Rattle.flat_list.specs.Sound.{is_refusal, SameSockets, RefusalKeeps}
-use Rattle.flat_list.specs.Step.{step, at_end, at_port, bind, bind_given, bind_found, bind_search, bind_socket, search_bind, listen, listens_in, listen_as, groups_with, listen_bound, listen_found, listen_socket, waiting, close, close_socket, drop, at}
+use Rattle.flat_list.specs.Step.{step, at_end, at_port, at_address, bind, bind_any, bind_given, bind_found, bind_search, bind_socket, search_bind, listen, listens_in, listen_as, groups_with, listen_bound, listen_found, listen_socket, waiting, close, close_socket, drop, at}
 use Rattle.flat_list.proofs.Searches.{draw_sockets, draw_groups}
 
 abbrev Keeps : Flat → Outcome → Type 0
@@ -44,11 +44,11 @@ listen_bound_keeps first flat s same =
 
 listen_found_keeps : (first : Flat) (found : Found) (s : Socket) (o : Option ℕ) → SameSockets first found.flat → Keeps first (listen_found found s o)
 listen_found_keeps first found s None same = λ _. same
-listen_found_keeps first found s (Some port) same = listen_bound_keeps first found.flat (at_port s 0 port) same
+listen_found_keeps first found s (Some port) same = listen_bound_keeps first found.flat (at_port s s.owner.addr port) same
 
 listen_keeps : (flat : Flat) (n : ℕ) (s : Socket) (t : State) → Keeps flat (listen_socket flat n s t)
 listen_keeps flat n s states.Unbound =
-    let found : Found = search_bind flat n s 0 in listen_found_keeps flat found s found.port (drawn flat n)
+    let found : Found = search_bind flat n s s.owner.addr in listen_found_keeps flat found s found.port (drawn flat n)
 listen_keeps flat n s states.Bound = listen_bound_keeps flat flat s (itself flat)
 listen_keeps flat n s _ = λ _. itself flat
 
@@ -64,8 +64,10 @@ bind_keeps : (flat : Flat) (n : ℕ) (s : Socket) (t : State) (end : End) → Ke
 bind_keeps flat n s states.Unbound end =
     let found : Found = search_bind flat n s end.addr in
     let bound : Outcome = changed flat (at_end s end) (replies.Port end.port) in
-    cond_both (end.port == 0) (bind_search flat n s end.addr) (bind_given flat s end) (Keeps flat)
-    (λ _. bind_found_keeps flat found s end.addr found.port (drawn flat n))
+    let addressed : Outcome = changed flat (at_address s end.addr) (replies.Port 0) in
+    cond_both (end.port == 0) (bind_any flat n s end.addr) (bind_given flat s end) (Keeps flat)
+    (λ _. cond_both s.owner.noport addressed (bind_search flat n s end.addr) (Keeps flat) (λ _. done flat addressed refl)
+    (λ _. bind_found_keeps flat found s end.addr found.port (drawn flat n)))
     (λ _. cond_both (is_refused (at_end s end).owner flat.sockets) (unchanged flat replies.Eaddrinuse) bound (Keeps flat) (λ _ _. itself flat) (λ _. done flat bound refl))
 bind_keeps flat n s _ end = λ _. itself flat
 
@@ -99,8 +101,8 @@ connect_keeps flat n s states.Bound from to =
     cond_both (is_no_end to) (unchanged flat replies.Einval) (connect_from flat n s to (source_of s.owner.addr from)) (Keeps flat) (λ _ _. itself flat)
     (λ _. connect_from_keeps flat n s to (source_of s.owner.addr from))
 connect_keeps flat n s states.Unbound from to =
-    cond_both (is_no_end to) (unchanged flat replies.Einval) (connect_search flat n s to (source_of 0 from)) (Keeps flat) (λ _ _. itself flat)
-    (λ _. connect_search_keeps flat n s to (source_of 0 from))
+    cond_both (is_no_end to) (unchanged flat replies.Einval) (connect_search flat n s to (source_of s.owner.addr from)) (Keeps flat) (λ _ _. itself flat)
+    (λ _. connect_search_keeps flat n s to (source_of s.owner.addr from))
 connect_keeps flat n s _ from to = λ _. itself flat
 
 connect_keeps_all : (flat : Flat) (n : ℕ) (o : Option Socket) (from : Option ℕ) (to : End) → Keeps flat (connect flat n o from to)

@@ -86,10 +86,10 @@ pub bind_search_is : (flat : Flat) (n offset : ℕ) (drawn : Flat) (s : Socket) 
 bind_search_is flat n offset drawn s addr port d found =
     ap (λ (f : Found). bind_found f s addr f.port) (found_bind flat n offset drawn s addr port d found)
 
-pub listen_unbound_is : (flat : Flat) (n offset : ℕ) (drawn : Flat) (s : Socket) (port : Option ℕ) → IsDrawn flat n offset drawn → find (suits_bind drawn s 0) (port_order drawn.header.range offset firsts.Odd) ≡ port
+pub listen_unbound_is : (flat : Flat) (n offset : ℕ) (drawn : Flat) (s : Socket) (port : Option ℕ) → IsDrawn flat n offset drawn → find (suits_bind drawn s s.owner.addr) (port_order drawn.header.range offset firsts.Odd) ≡ port
     → listen_unbound flat n s ≡ listen_found (record { port = port; flat = drawn }) s port
 listen_unbound_is flat n offset drawn s port d found =
-    ap (λ (f : Found). listen_found f s f.port) (found_bind flat n offset drawn s 0 port d found)
+    ap (λ (f : Found). listen_found f s f.port) (found_bind flat n offset drawn s s.owner.addr port d found)
 
 pub connect_search_is : (flat : Flat) (n offset : ℕ) (drawn : Flat) (s : Socket) (source : ℕ) (to : End) (port : Option ℕ) → IsDrawn flat n offset drawn → find (suits_connect drawn n s source to) (port_order drawn.header.range offset firsts.Even) ≡ port
     → connect_search flat n s to (Some source) ≡ connect_found (record { port = port; flat = drawn }) s source to port
@@ -97,6 +97,6 @@ connect_search_is flat n offset drawn s source to port d found =
     ap (λ (f : Found). connect_found f s source to f.port)
     (found_port flat n offset drawn firsts.Even (suits_connect flat n s source to) (suits_connect drawn n s source to) port d (same_suits flat n offset drawn s source to d) found)
 
-pub connect_unbound_is : (flat : Flat) (n : ℕ) (s : Socket) (from : Option ℕ) (to : End) (source : ℕ) → is_no_end to ≡ false → source_of 0 from ≡ Some source → connect_unbound flat n s from to ≡ connect_search flat n s to (Some source)
+pub connect_unbound_is : (flat : Flat) (n : ℕ) (s : Socket) (from : Option ℕ) (to : End) (source : ℕ) → is_no_end to ≡ false → source_of s.owner.addr from ≡ Some source → connect_unbound flat n s from to ≡ connect_search flat n s to (Some source)
 connect_unbound_is flat n s from to source ends named =
-    ap (λ b. if b then unchanged flat replies.Einval else connect_search flat n s to (source_of 0 from)) ends ∙ ap (connect_search flat n s to) named
+    ap (λ b. if b then unchanged flat replies.Einval else connect_search flat n s to (source_of s.owner.addr from)) ends ∙ ap (connect_search flat n s to) named

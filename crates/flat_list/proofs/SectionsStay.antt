@@ -16,7 +16,7 @@ use Rattle.flat_list.specs.Sockets.{is_refused, has_twin}
 use Rattle.flat_list.specs.Groups.{Group}
 use Rattle.flat_list.specs.Connect.{connected, end_of, replacing, is_taken_in, connect, connect_as, connect_from, connect_found, connect_search, connect_socket, connected_by_search, suits_connect, child_of, accept, accept_as}
 use Rattle.flat_list.specs.Owned.{source_of, is_no_end, is_no_accept}
-use Rattle.flat_list.specs.Step.{drop, step, at_end, at_port, bind, bind_given, bind_found, bind_search, bind_socket, search_bind, listen, listens_in, listen_as, groups_with, listen_bound, listen_found, listen_socket, waiting, close, close_socket, at}
+use Rattle.flat_list.specs.Step.{drop, step, at_end, at_port, at_address, bind, bind_any, bind_given, bind_found, bind_search, bind_socket, search_bind, listen, listens_in, listen_as, groups_with, listen_bound, listen_found, listen_socket, waiting, close, close_socket, at}
 use Rattle.flat_list.proofs.LabelsGrow.{numbered}
 
 find_put : (m : ℕ) (s : Section) (xs : List Section) → find (has_number m) (put_section s xs) ≡ (if has_number m s then Some s else find (has_number m) xs)
@@ -74,7 +74,7 @@ module _ (n : ℕ) (first : Flat) where
 
   listen_found_stays : (found : Found) (s : Socket) (port : Option ℕ) → Stays n first found.flat → Stay (listen_found found s port)
   listen_found_stays found s None stays = stays
-  listen_found_stays found s (Some port) stays = listen_bound_stays found.flat (at_port s 0 port) stays
+  listen_found_stays found s (Some port) stays = listen_bound_stays found.flat (at_port s s.owner.addr port) stays
 
   connect_found_stays : (found : Found) (s : Socket) (source : ℕ) (to : End) (port : Option ℕ) → Stays n first found.flat → Stay (connect_found found s source to port)
   connect_found_stays found s source to None stays = stays
@@ -84,8 +84,9 @@ module _ (n : ℕ) (flat : Flat) where
   bind_stays : (s : Socket) (t : State) (end : End) → Stay n flat (bind_socket flat n s t end)
   bind_stays s states.Unbound end =
       let found : Found = search_bind flat n s end.addr in
-      cond_both (end.port == 0) (bind_search flat n s end.addr) (bind_given flat s end) (Stay n flat)
-      (λ _. bind_found_stays n flat found s end.addr found.port (draw_stays flat n flat.header.offset))
+      cond_both (end.port == 0) (bind_any flat n s end.addr) (bind_given flat s end) (Stay n flat)
+      (λ _. cond_both s.owner.noport (changed flat (at_address s end.addr) (replies.Port 0)) (bind_search flat n s end.addr) (Stay n flat) (λ _. same n flat)
+      (λ _. bind_found_stays n flat found s end.addr found.port (draw_stays flat n flat.header.offset)))
       (λ _. cond_both (is_refused (at_end s end).owner flat.sockets) (unchanged flat replies.Eaddrinuse) (changed flat (at_end s end) (replies.Port end.port)) (Stay n flat) (λ _. same n flat) (λ _. same n flat))
   bind_stays s _ end = same n flat
 
@@ -95,7 +96,7 @@ module _ (n : ℕ) (flat : Flat) where
 
   listen_stays : (s : Socket) (t : State) → Stay n flat (listen_socket flat n s t)
   listen_stays s states.Unbound =
-      let found : Found = search_bind flat n s 0 in listen_found_stays n flat found s found.port (draw_stays flat n flat.header.offset)
+      let found : Found = search_bind flat n s s.owner.addr in listen_found_stays n flat found s found.port (draw_stays flat n flat.header.offset)
   listen_stays s states.Bound = listen_bound_stays n flat flat s (same n flat)
   listen_stays s _ = same n flat
 
@@ -120,8 +121,8 @@ module _ (n : ℕ) (flat : Flat) where
       cond_both (is_no_end to) (unchanged flat replies.Einval) (connect_from flat n s to (source_of s.owner.addr from)) (Stay n flat) (λ _. same n flat)
       (λ _. connect_from_stays s to (source_of s.owner.addr from))
   connect_stays s states.Unbound from to =
-      cond_both (is_no_end to) (unchanged flat replies.Einval) (connect_search flat n s to (source_of 0 from)) (Stay n flat) (λ _. same n flat)
-      (λ _. connect_search_stays s to (source_of 0 from))
+      cond_both (is_no_end to) (unchanged flat replies.Einval) (connect_search flat n s to (source_of s.owner.addr from)) (Stay n flat) (λ _. same n flat)
+      (λ _. connect_search_stays s to (source_of s.owner.addr from))
   connect_stays s _ from to = same n flat
 
   connect_all : (o : Option Socket) (from : Option ℕ) (to : End) → Stay n flat (connect flat n o from to)

@@ -1,6 +1,6 @@
 -- No command uses more slots than there are.
-use Rattle.std.proofs.Common.{◌≡◌, ℕ, ◌+◌, ◌≤◌, ◌<◌, ◌==◌, nat_lt, Bool, true, false, not, cond, if◌then◌else◌, List, [], ◌∷◌, ◌++◌, filter, count_by, Option, Some, None, arith, refl, sym, ap, ◌∙◌}
-use Rattle.std.proofs.lemmas.Bool.{both_ways, cond_both, ltb-true, eqb-true, eqb-false}
+use Rattle.std.proofs.Common.{◌≡◌, ℕ, ◌+◌, ◌≤◌, ◌==◌, nat_lt, Bool, true, false, not, cond, if◌then◌else◌, List, [], ◌∷◌, ◌++◌, filter, Option, Some, None, arith, refl, sym, ap, ◌∙◌}
+use Rattle.std.proofs.lemmas.Bool.{both_ways, cond_both, ltb-true, eqb-true}
 use Rattle.list_words.specs.Lists.{Each, Pairs}
 use Rattle.list_words.proofs.PairsLemmas.{pairs_filter}
 use Rattle.sock_card.specs.declared.owner.State.{State}
@@ -8,7 +8,6 @@ use Rattle.sock_card.specs.declared.owner.State.TheVariants as states
 use Rattle.flat_list.specs.declared.header.First.TheVariants as firsts
 use Rattle.flat_list.specs.declared.socket.Socket.{Socket}
 use Rattle.flat_list.specs.declared.command.End.{End}
-use Rattle.flat_list.specs.declared.command.Command.{Command}
 use Rattle.flat_list.specs.declared.command.Command.TheVariants as commands
 use Rattle.flat_list.specs.declared.command.Reply.{Reply}
 use Rattle.flat_list.specs.declared.command.Reply.TheVariants as replies
@@ -19,9 +18,9 @@ use Rattle.flat_list.specs.Groups.{Group}
 use Rattle.flat_list.specs.Outcome.{Outcome, unchanged, changed, added, removed, with_new_label, open_socket, has_slot, no_slot, draw, Found, search_port}
 use Rattle.flat_list.specs.Owned.{source_of, is_no_end, is_no_accept}
 use Rattle.flat_list.specs.Sections.{next_name, moment_of, with_moment}
-use Rattle.flat_list.specs.Sockets.{is_hashed, slots_used, has_name, put, replaced, without, waits_at, is_refused, is_expired, has_twin}
-use Rattle.flat_list.specs.Sound.{NamesDiffer, IsSound, FitsSlots, StaysWithinSlots}
-use Rattle.flat_list.specs.Step.{step, socket, new_socket, at_end, at_port, bind, bind_given, bind_found, bind_search, bind_socket, search_bind, listening, listen, listens_in, listen_as, groups_with, listen_bound, listen_found, listen_socket, waiting, close, close_full, close_socket, drop, at, reap}
+use Rattle.flat_list.specs.Sockets.{is_hashed, slots_used, has_name, put, replaced, waits_at, is_refused, is_expired, has_twin}
+use Rattle.flat_list.specs.Sound.{NamesDiffer, FitsSlots, StaysWithinSlots}
+use Rattle.flat_list.specs.Step.{step, socket, new_socket, at_end, at_port, at_address, bind, bind_any, bind_given, bind_found, bind_search, bind_socket, search_bind, listening, listen, listens_in, listen_as, groups_with, listen_bound, listen_found, listen_socket, waiting, close, close_socket, drop, at, reap}
 use Rattle.flat_list.proofs.Counted.{count_cons, count_push}
 use Rattle.flat_list.proofs.Searches.{draw_sockets, draw_header}
 
@@ -144,11 +143,11 @@ listen_bound_fits flat s is =
 
 listen_found_fits : (found : Found) (s : Socket) (o : Option ℕ) → Fitting found.flat → Fits (listen_found found s o)
 listen_found_fits found s None is = is.fits
-listen_found_fits found s (Some port) is = listen_bound_fits found.flat (at_port s 0 port) is
+listen_found_fits found s (Some port) is = listen_bound_fits found.flat (at_port s s.owner.addr port) is
 
 listen_fits : (flat : Flat) (n : ℕ) (s : Socket) (t : State) → Fitting flat → Fits (listen_socket flat n s t)
 listen_fits flat n s states.Unbound is =
-    let found : Found = search_bind flat n s 0 in listen_found_fits found s found.port (drawn flat n is)
+    let found : Found = search_bind flat n s s.owner.addr in listen_found_fits found s found.port (drawn flat n is)
 listen_fits flat n s states.Bound is = listen_bound_fits flat s is
 listen_fits flat n s _ is = is.fits
 
@@ -156,11 +155,16 @@ listen_fits_all : (flat : Flat) (n : ℕ) (o : Option Socket) → Fitting flat �
 listen_fits_all flat n None is = is.fits
 listen_fits_all flat n (Some s) is = listen_fits flat n s s.owner.state is
 
--- a socket that is bound takes no slot
+-- a socket that is bound to an end or to an address takes no slot
 bound_fits : (flat : Flat) (s : Socket) (end : End) (reply : Reply) → Fitting flat → Fits (changed flat (at_end s end) reply)
 unfolding hashed
 bound_fits flat s end reply is =
     let less = put_quiet (at_end s end) flat.sockets refl in let fits = is.fits in omega (arith, less, fits)
+
+addressed_fits : (flat : Flat) (s : Socket) (addr : ℕ) (reply : Reply) → Fitting flat → Fits (changed flat (at_address s addr) reply)
+unfolding hashed
+addressed_fits flat s addr reply is =
+    let less = put_quiet (at_address s addr) flat.sockets refl in let fits = is.fits in omega (arith, less, fits)
 
 bind_found_fits : (found : Found) (s : Socket) (addr : ℕ) (o : Option ℕ) → Fitting found.flat → Fits (bind_found found s addr o)
 bind_found_fits found s addr None is = is.fits
@@ -169,8 +173,9 @@ bind_found_fits found s addr (Some port) is = bound_fits found.flat s (record { 
 bind_fits : (flat : Flat) (n : ℕ) (s : Socket) (t : State) (end : End) → Fitting flat → Fits (bind_socket flat n s t end)
 bind_fits flat n s states.Unbound end is =
     let found : Found = search_bind flat n s end.addr in
-    cond_both (end.port == 0) (bind_search flat n s end.addr) (bind_given flat s end) Fits
-    (λ _. bind_found_fits found s end.addr found.port (drawn flat n is))
+    cond_both (end.port == 0) (bind_any flat n s end.addr) (bind_given flat s end) Fits
+    (λ _. cond_both s.owner.noport (changed flat (at_address s end.addr) (replies.Port 0)) (bind_search flat n s end.addr) Fits
+    (λ _. addressed_fits flat s end.addr (replies.Port 0) is) (λ _. bind_found_fits found s end.addr found.port (drawn flat n is)))
     (λ _. cond_both (is_refused (at_end s end).owner flat.sockets) (unchanged flat replies.Eaddrinuse) (changed flat (at_end s end) (replies.Port end.port)) Fits (λ _. is.fits) (λ _. bound_fits flat s end (replies.Port end.port) is))
 bind_fits flat n s _ end is = is.fits
 
@@ -204,8 +209,8 @@ connect_fits flat n s states.Bound from to is =
     cond_both (is_no_end to) (unchanged flat replies.Einval) (connect_from flat n s to (source_of s.owner.addr from)) Fits (λ _. is.fits)
     (λ _. connect_from_fits flat n s to (source_of s.owner.addr from) is)
 connect_fits flat n s states.Unbound from to is =
-    cond_both (is_no_end to) (unchanged flat replies.Einval) (connect_search flat n s to (source_of 0 from)) Fits (λ _. is.fits)
-    (λ _. connect_search_fits flat n s to (source_of 0 from) is)
+    cond_both (is_no_end to) (unchanged flat replies.Einval) (connect_search flat n s to (source_of s.owner.addr from)) Fits (λ _. is.fits)
+    (λ _. connect_search_fits flat n s to (source_of s.owner.addr from) is)
 connect_fits flat n s _ from to is = is.fits
 
 connect_fits_all : (flat : Flat) (n : ℕ) (o : Option Socket) (from : Option ℕ) (to : End) → Fitting flat → Fits (connect flat n o from to)

@@ -33,7 +33,7 @@ use Rattle.flat_list.specs.Run.{Issued, is_of, after}
 use Rattle.flat_list.specs.Sections.{Section, labels_of, name_in, next_name, with_given, moment_of, with_moment}
 use Rattle.flat_list.specs.Sockets.{same_tuple, waits_at, gives_way, without_waiting, is_full, has_twin, is_mate, mate_of, is_expired, put, is_owner, is_other_owner, is_refused, is_overlapped, is_claimed, has_name, open_named}
 use Rattle.flat_list.specs.Sound.{NamesDiffer, IsGiven, AgreeAsOwners, TuplesDiffer, holds_tuple, IsItsOwn, IsAwakeIfNamed, is_sharing, IsInOneGroup, AreGroupsOf, IsSound, StartsSound, StaysSound, RunsSound}
-use Rattle.flat_list.specs.Step.{step, socket, drop, close, close_socket, at, reap, waiting, groups_with, listens_in, listen_as, new_socket, at_end, at_port, suits_bind, search_bind, bind, bind_given, bind_found, bind_search, bind_socket, listening, listen, listen_bound, listen_found, listen_socket}
+use Rattle.flat_list.specs.Step.{step, socket, drop, close, close_socket, at, reap, waiting, groups_with, listens_in, listen_as, new_socket, at_end, at_port, suits_bind, search_bind, at_address, bind, bind_any, bind_given, bind_found, bind_search, bind_socket, listening, listen, listen_bound, listen_found, listen_socket}
 use Rattle.flat_list.proofs.GivenNames.{next_is_given, next_is_new, stay_given}
 use Rattle.flat_list.proofs.LabelsGrow.{GivesAt, moment_keeps, KeepsLabels, keeps_at, given_gives, search_keeps, gives_at_one, grows}
 use Rattle.flat_list.proofs.Puts.{each_put, pairs_put}
@@ -179,14 +179,14 @@ socket_sound flat n label options room sound =
     })
 
 -- the socket is one of the list's
-abbrev IsOpen : Flat → Socket → Type 0
+abbrev pub IsOpen : Flat → Socket → Type 0
 IsOpen flat s = (name : ℕ) × (open_named name flat.sockets ≡ Some s)
 
 named_open : (flat : Flat) (o : Option ℕ) (s : Socket) → option_and_then (λ name. open_named name flat.sockets) o ≡ Some s → IsOpen flat s
 named_open flat None s h = absurd (cc)
 named_open flat (Some name) s h = (name, h)
 
-is_open : (flat : Flat) (n : ℕ) (label : List ℕ) (s : Socket) → open_socket flat n label ≡ Some s → IsOpen flat s
+pub is_open : (flat : Flat) (n : ℕ) (label : List ℕ) (s : Socket) → open_socket flat n label ≡ Some s → IsOpen flat s
 is_open flat n label s h = named_open flat (name_in n flat.sections label) s h
 
 after_open : (flat after : Flat) (s : Socket) → IsAfter flat after → IsOpen flat s → IsOpen after s
@@ -299,7 +299,7 @@ bind_found_sound found s addr None unbound sound at free = sound
 bind_found_sound found s addr (Some port) unbound sound at free =
     bound_sound found.flat s (record { addr = addr; port = port }) (replies.Port port) unbound sound at (free port refl)
 
-bind_search_sound : (flat : Flat) (n : ℕ) (s : Socket) (addr : ℕ) → s.owner.state ≡ states.Unbound → IsSound flat → IsOpen flat s → Sound (bind_search flat n s addr)
+pub bind_search_sound : (flat : Flat) (n : ℕ) (s : Socket) (addr : ℕ) → s.owner.state ≡ states.Unbound → IsSound flat → IsOpen flat s → Sound (bind_search flat n s addr)
 bind_search_sound flat n s addr unbound sound at =
     let found : Found = search_bind flat n s addr in
     let is : IsAfter flat found.flat = after_search flat n firsts.Odd (suits_bind flat s addr) in
@@ -313,10 +313,32 @@ bind_given_sound flat s end unbound sound at =
     (λ _. sound)
     (bound_sound flat s end (replies.Port end.port) unbound sound at)
 
+-- an open socket without a port meets no other, whatever its address
+addressed_sound : (flat : Flat) (s : Socket) (addr : ℕ) (reply : Reply) → s.owner.state ≡ states.Unbound → IsSound flat → IsOpen flat s → Sound (changed flat (at_address s addr) reply)
+addressed_sound flat s addr reply unbound sound at =
+    let new : Socket = at_address s addr in
+    let before : holds_tuple s.owner.state ≡ false = ap holds_tuple unbound in
+    let given : IsGiven flat.sections s = of_open (IsGiven flat.sections) flat s at sound.given in
+    changed_sound flat new reply sound
+    (record {
+      given = record { first = given.first; last = given.last };
+      bound = each_of_all (λ x. NamesDiffer new x → AgreeAsOwners new x) flat.sockets (λ x differ p q. absurd (true≢false (sym p)));
+      tuples = each_of_all (λ x. NamesDiffer new x → TuplesDiffer new x) flat.sockets (λ x differ p q. absurd (true≢false (sym p)));
+      origin = λ _. of_open IsItsOwn flat s at sound.origins before;
+      awake = of_open IsAwakeIfNamed flat s at sound.awake ∙ ap not (awake_alike s.owner.state states.Unbound before refl);
+    })
+    (quiet_by flat s new sound at (ap is_listening unbound) refl refl)
+
+bind_any_sound : (flat : Flat) (n : ℕ) (s : Socket) (addr : ℕ) → s.owner.state ≡ states.Unbound → IsSound flat → IsOpen flat s → Sound (bind_any flat n s addr)
+bind_any_sound flat n s addr unbound sound at =
+    cond_both s.owner.noport (changed flat (at_address s addr) (replies.Port 0)) (bind_search flat n s addr) Sound
+    (λ _. addressed_sound flat s addr (replies.Port 0) unbound sound at)
+    (λ _. bind_search_sound flat n s addr unbound sound at)
+
 bind_socket_sound : (flat : Flat) (n : ℕ) (s : Socket) (t : State) (end : End) → s.owner.state ≡ t → IsSound flat → IsOpen flat s → Sound (bind_socket flat n s t end)
 bind_socket_sound flat n s states.Unbound end is sound at =
-    cond_both (end.port == 0) (bind_search flat n s end.addr) (bind_given flat s end) Sound
-    (λ _. bind_search_sound flat n s end.addr is sound at)
+    cond_both (end.port == 0) (bind_any flat n s end.addr) (bind_given flat s end) Sound
+    (λ _. bind_any_sound flat n s end.addr is sound at)
     (λ _. bind_given_sound flat s end is sound at)
 bind_socket_sound flat n s _ end is sound at = sound
 
@@ -429,12 +451,12 @@ listen_bound_sound flat was s may sound at =
 listen_found_sound : (found : Found) (s : Socket) (o : Option ℕ) → s.owner.state ≡ states.Unbound → IsSound found.flat → IsOpen found.flat s → Sound (listen_found found s o)
 listen_found_sound found s None unbound sound at = sound
 listen_found_sound found s (Some port) unbound sound at =
-    listen_bound_sound found.flat s (at_port s 0 port) (record { before = ap holds_tuple unbound; silent = ap is_listening unbound; name = refl; origin = refl; by_connect = refl; named = refl }) sound at
+    listen_bound_sound found.flat s (at_port s s.owner.addr port) (record { before = ap holds_tuple unbound; silent = ap is_listening unbound; name = refl; origin = refl; by_connect = refl; named = refl }) sound at
 
 listen_socket_sound : (flat : Flat) (n : ℕ) (s : Socket) (t : State) → s.owner.state ≡ t → IsSound flat → IsOpen flat s → Sound (listen_socket flat n s t)
 listen_socket_sound flat n s states.Unbound unbound sound at =
-    let found : Found = search_bind flat n s 0 in
-    let is : IsAfter flat found.flat = after_search flat n firsts.Odd (suits_bind flat s 0) in
+    let found : Found = search_bind flat n s s.owner.addr in
+    let is : IsAfter flat found.flat = after_search flat n firsts.Odd (suits_bind flat s s.owner.addr) in
     listen_found_sound found s found.port unbound (after_sound flat found.flat n is sound) (after_open flat found.flat s is at)
 listen_socket_sound flat n s states.Bound bound sound at =
     listen_bound_sound flat s s (record { before = ap holds_tuple bound; silent = ap is_listening bound; name = refl; origin = refl; by_connect = refl; named = refl }) sound at
@@ -651,9 +673,9 @@ connect_socket_sound flat n s states.Bound from to is sound at =
     (λ _. sound)
     (λ _. connect_from_sound flat n s to (source_of s.owner.addr from) is (source_narrows s.owner.addr from) sound at)
 connect_socket_sound flat n s states.Unbound from to is sound at =
-    cond_both (is_no_end to) (unchanged flat replies.Einval) (connect_search flat n s to (source_of 0 from)) Sound
+    cond_both (is_no_end to) (unchanged flat replies.Einval) (connect_search flat n s to (source_of s.owner.addr from)) Sound
     (λ _. sound)
-    (λ _. connect_search_sound flat n s to (source_of 0 from) is sound at)
+    (λ _. connect_search_sound flat n s to (source_of s.owner.addr from) is sound at)
 connect_socket_sound flat n s _ from to is sound at = sound
 
 connect_sound : (flat : Flat) (n : ℕ) (o : Option Socket) (from : Option ℕ) (to : End) → IsSound flat → ((s : Socket) → o ≡ Some s → IsOpen flat s) → Sound (connect flat n o from to)

@@ -73,10 +73,10 @@ connect_search flat n s to (Some source) =
     let found = search_port flat n firsts.Even (suits_connect flat n s source to) in
     connect_found found s source to found.port
 
--- `connect` of an Unbound socket, which has no address to be its source
+-- `connect` of an Unbound socket, which may have an address to be its source
 abbrev pub connect_unbound : Flat → ℕ → Socket → Option ℕ → End → Outcome
 connect_unbound flat n s from to =
-    if is_no_end to then unchanged flat replies.Einval else connect_search flat n s to (source_of 0 from)
+    if is_no_end to then unchanged flat replies.Einval else connect_search flat n s to (source_of s.owner.addr from)
 
 -- `connect` of a socket in that state, in the section of that number
 abbrev pub connect_socket : Flat → ℕ → Socket → State → Option ℕ → End → Outcome

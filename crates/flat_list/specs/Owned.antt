@@ -30,9 +30,14 @@ new_owner name options =
       uid = unwrap_or options.uid 0;
       reuseaddr = options.reuseaddr;
       reuseport = options.reuseport;
+      noport = options.noport;
       state = states.Unbound;
       by_connect = false;
     }
+
+-- bound to that address, its port still to be taken
+abbrev pub addressed : Owner → ℕ → Owner
+addressed a addr = record a { addr = addr; port = 0; state = states.Unbound }
 
 -- bound to that end
 abbrev pub bound_at : Owner → ℕ → ℕ → Owner
@@ -51,8 +56,8 @@ connected_at a source port to = record (connected_to a source to) { port = port;
 abbrev pub child_owner : Owner → ℕ → End → End → Owner
 child_owner l name from at = child name at.addr from.addr from.port l
 
--- the source of `connect` for a socket bound to addr: that address, or where it is 0.0.0.0 the one named; none where
--- none is named, or another than the bound one
+-- the source of `connect` for a socket bound to addr, or to none where that is 0.0.0.0: that address, or where it is
+-- 0.0.0.0 the one named; none where none is named, or another than the bound one
 abbrev pub source_of : ℕ → Option ℕ → Option ℕ
 source_of addr None = if addr == 0 then None else Some addr
 source_of addr (Some from) =

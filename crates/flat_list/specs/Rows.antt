@@ -1,5 +1,5 @@
 -- Worked examples, computed by the definitions: each line is a command of section 1 with its reply.
-use Rattle.std.specs.Prelude.{◌≡◌, ℕ, ◌+◌, List, [], ◌∷◌, ◌++◌, Option, None, Some, map, codes, Bool, false, true}
+use Rattle.std.specs.Prelude.{◌≡◌, ℕ, ◌+◌, List, [], ◌∷◌, ◌++◌, Option, None, Some, map, codes, Bool, false, true, replicate}
 use Rattle.std.specs.List.{flat_map, range_with_len}
 use Rattle.sock_card.specs.declared.card.Kind.{Kind}
 use Rattle.sock_card.specs.declared.card.Kind.TheVariants as kinds
@@ -12,6 +12,7 @@ use Rattle.flat_list.specs.declared.owned.Options.{Options}
 use Rattle.flat_list.specs.declared.command.Reply.{Reply}
 use Rattle.flat_list.specs.declared.command.Reply.TheVariants as replies
 use Rattle.flat_list.specs.Flat.{new_flat}
+use Rattle.flat_list.specs.Ports.{none_reserved}
 use Rattle.flat_list.specs.Run.{replies_to}
 use Rattle.flat_list.specs.Sections.{name_at}
 
@@ -37,7 +38,7 @@ abbrev pub with_slots : ℕ → Header
 with_slots slots =
     record {
       shape = record { slots = slots; bind = 1; hash = 1; listen = 1 };
-      range = record { low = 32768; high = 60999 };
+      range = record { low = 32768; high = 60999; reserved = none_reserved };
       seed = 0;
       offset = None;
       twreuse = false;
@@ -45,7 +46,16 @@ with_slots slots =
 
 -- a header with that range, and that offset if there is one
 abbrev pub with_range : ℕ → ℕ → Option ℕ → Header
-with_range low high offset = record (with_slots 1024) { range = record { low = low; high = high }; offset = offset }
+with_range low high offset = record (with_slots 1024) { range = record { low = low; high = high; reserved = none_reserved }; offset = offset }
+
+-- a header with the range 40000 to 40003, of which 40001 and 40003 are reserved, and offset 0
+abbrev pub with_reserved : Header
+with_reserved =
+    let ports = 40001 ∷ 40003 ∷ replicate 62 0 in
+    record (with_slots 1024) {
+      range = record { low = 40000; high = 40003; reserved = record { ports = ports; count = 2 } };
+      offset = Some 0;
+    }
 
 -- a header with that seed, for four ports
 abbrev pub with_seed : ℕ → Header
@@ -90,7 +100,7 @@ abbrev pub two : ℕ → End
 two port = record { addr = 0x0A000002; port = port }
 
 abbrev pub plain : Options
-plain = record { net = None; uid = None; dev = None; reuseaddr = false; reuseport = false }
+plain = record { net = None; uid = None; dev = None; reuseaddr = false; reuseport = false; noport = false }
 
 abbrev pub socket : List ℕ → Command
 socket label = commands.Socket label plain
@@ -103,6 +113,9 @@ on_device label dev = commands.Socket label (record plain { dev = Some dev })
 
 abbrev pub reusable : List ℕ → Command
 reusable label = commands.Socket label (record plain { reuseaddr = true })
+
+abbrev pub late : List ℕ → Command
+late label = commands.Socket label (record plain { noport = true })
 
 abbrev pub sharing : List ℕ → Command
 sharing label = commands.Socket label (record plain { reuseport = true })
@@ -470,6 +483,59 @@ listens_anywhere =
     says (socket a) replies.Ok
     ∷ says (commands.Listen a) (replies.Port 40001)
     ∷ says (look_for (two 5) (record { addr = 0x0A000007; port = 40001 }) None) (found kinds.Listen (name_at 1 0) (any 40001) nowhere)
+    ∷ []
+
+-- in a range of two ports: sockets of one address that take their ports late share one by their other ends, and a
+-- listener takes its port at the address to which it is bound
+abbrev pub late_ports : List Line
+late_ports =
+    says (late a) replies.Ok
+    ∷ says (late b) replies.Ok
+    ∷ says (commands.Bind a (one 0)) (replies.Port 0)
+    ∷ says (commands.Bind b (one 0)) (replies.Port 0)
+    ∷ says (connect a 80) (replies.End (one 40000))
+    ∷ says (connect b 81) (replies.End (one 40000))
+    ∷ says (late c) replies.Ok
+    ∷ says (commands.Bind c (record { addr = 0x0A000009; port = 0 })) (replies.Port 0)
+    ∷ says (commands.Listen c) (replies.Port 40001)
+    ∷ says (look_for (two 5) (record { addr = 0x0A000009; port = 40001 }) None)
+    (found kinds.Listen (name_at 1 2) (record { addr = 0x0A000009; port = 40001 }) nowhere)
+    ∷ says (look_for (two 5) (record { addr = 0x0A000007; port = 40001 }) None) (replies.Found None)
+    ∷ []
+
+-- in a range of two ports: a socket that takes its port late is bound again to another address, which is its source and
+-- stays after refusals; the port that it is then bound to is its own
+abbrev pub late_again : List Line
+late_again =
+    says (late a) replies.Ok
+    ∷ says (connect a 80) replies.Einval
+    ∷ says (commands.Bind a (one 0)) (replies.Port 0)
+    ∷ says (commands.Bind a (two 0)) (replies.Port 0)
+    ∷ says (connect_from a 80) replies.Einval
+    ∷ says (socket b) replies.Ok
+    ∷ says (commands.Bind b (any 40000)) (replies.Port 40000)
+    ∷ says (socket c) replies.Ok
+    ∷ says (commands.Bind c (any 40001)) (replies.Port 40001)
+    ∷ says (commands.Listen a) replies.Eaddrinuse
+    ∷ says (connect a 80) replies.Eaddrnotavail
+    ∷ says (commands.Bind a (one 40001)) replies.Eaddrinuse
+    ∷ says (commands.Drop b) replies.Ok
+    ∷ says (commands.Listen a) (replies.Port 40000)
+    ∷ says (look_for (one 5) (two 40000) None) (found kinds.Listen (name_at 1 0) (two 40000) nowhere)
+    ∷ says (commands.Bind a (one 0)) replies.Einval
+    ∷ []
+
+-- a search passes reserved ports by, and `bind` may name one
+abbrev pub kept_ports : List Line
+kept_ports =
+    says (socket a) replies.Ok
+    ∷ says (socket b) replies.Ok
+    ∷ says (socket c) replies.Ok
+    ∷ says (socket d) replies.Ok
+    ∷ says (commands.Bind a (any 0)) (replies.Port 40000)
+    ∷ says (commands.Bind b (any 0)) (replies.Port 40002)
+    ∷ says (commands.Bind c (any 0)) replies.Eaddrinuse
+    ∷ says (commands.Bind d (any 40001)) (replies.Port 40001)
     ∷ []
 
 -- with one slot, a listener and a connection that find a port find no slot, and have no port afterwards

@@ -21,7 +21,7 @@ use Rattle.flat_list.specs.Flat.{Flat}
 use Rattle.flat_list.specs.Look.{look}
 use Rattle.flat_list.specs.Outcome.{Outcome, unchanged, changed, added, removed, with_new_label, open_socket, has_slot, no_slot, Found, search_port}
 use Rattle.flat_list.specs.Groups.{Group, bucket_of, join}
-use Rattle.flat_list.specs.Owned.{new_owner, bound_at, packet_of}
+use Rattle.flat_list.specs.Owned.{new_owner, addressed, bound_at, packet_of}
 use Rattle.flat_list.specs.Sections.{next_name, moment_of, with_moment}
 use Rattle.flat_list.specs.Sockets.{is_refused, is_overlapped, mate_of, is_expired}
 
@@ -33,6 +33,10 @@ new_socket name options = record { owner = new_owner name options; stamp = 0; na
 abbrev pub socket : Flat → ℕ → List ℕ → Options → Outcome
 socket flat n label options =
     added (with_new_label flat n label) (new_socket (next_name n flat.sections) options) replies.Ok
+
+-- the socket, bound to that address, its port still to be taken
+abbrev pub at_address : Socket → ℕ → Socket
+at_address s addr = record s { owner = addressed s.owner addr }
 
 -- the socket, bound to that end
 abbrev pub at_end : Socket → End → Socket
@@ -61,14 +65,19 @@ abbrev pub bind_found : Found → Socket → ℕ → Option ℕ → Outcome
 bind_found found s addr None = unchanged found.flat replies.Eaddrinuse
 bind_found found s addr (Some port) = changed found.flat (at_port s addr port) (replies.Port port)
 
--- `bind` of an Unbound socket to port 0
+-- `bind` of an Unbound socket to a port that is searched for
 abbrev pub bind_search : Flat → ℕ → Socket → ℕ → Outcome
 bind_search flat n s addr = let found = search_bind flat n s addr in bind_found found s addr found.port
+
+-- `bind` of an Unbound socket to port 0: one with `noport` keeps the address alone, and has no port yet
+abbrev pub bind_any : Flat → ℕ → Socket → ℕ → Outcome
+bind_any flat n s addr =
+    if s.owner.noport then changed flat (at_address s addr) (replies.Port 0) else bind_search flat n s addr
 
 -- `bind` of an Unbound socket
 abbrev pub bind_unbound : Flat → ℕ → Socket → End → Outcome
 bind_unbound flat n s end =
-    if end.port == 0 then bind_search flat n s end.addr else bind_given flat s end
+    if end.port == 0 then bind_any flat n s end.addr else bind_given flat s end
 
 -- `bind` of a socket in that state, in the section of that number
 abbrev pub bind_socket : Flat → ℕ → Socket → State → End → Outcome
@@ -108,14 +117,15 @@ listen_bound flat s =
     if is_refused s.owner flat.sockets then unchanged flat replies.Eaddrinuse
     else listen_as flat s (groups_with flat s)
 
--- at the port that was found, if there is one; where `listen` is refused then, the socket has no port again
+-- at the port that was found, if there is one; where `listen` is refused then, the socket has no port again, and its
+-- address as before
 abbrev pub listen_found : Found → Socket → Option ℕ → Outcome
 listen_found found s None = unchanged found.flat replies.Eaddrinuse
-listen_found found s (Some port) = listen_bound found.flat (at_port s 0 port)
+listen_found found s (Some port) = listen_bound found.flat (at_port s s.owner.addr port)
 
--- `listen` of an Unbound socket takes a port at 0.0.0.0
+-- `listen` of an Unbound socket takes a port at its address: 0.0.0.0 where `bind` has named none
 abbrev pub listen_unbound : Flat → ℕ → Socket → Outcome
-listen_unbound flat n s = let found = search_bind flat n s 0 in listen_found found s found.port
+listen_unbound flat n s = let found = search_bind flat n s s.owner.addr in listen_found found s found.port
 
 -- `listen` of a socket in that state, in the section of that number
 abbrev pub listen_socket : Flat → ℕ → Socket → State → Outcome

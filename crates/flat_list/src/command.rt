@@ -128,13 +128,14 @@ pub enum Command {
         label: Label,
         options: Options,
     },
-    /// Binds a socket to an end; at port 0, to a port that is searched for.
+    /// Binds a socket to an end; at port 0, to a port that is searched for, or with `noport` to the
+    /// address alone.
     Bind {
         label: Label,
         end: End,
     },
-    /// Makes a socket a listener; one that has no port is bound first, to 0.0.0.0 and a port that is
-    /// searched for.
+    /// Makes a socket a listener; one that has no port is bound first, to its address, or 0.0.0.0, and
+    /// a port that is searched for.
     Listen {
         label: Label,
     },
@@ -180,7 +181,7 @@ pub enum Command {
 #[derive(Clone, Copy, Debug, PartialEq, Eq)]
 pub enum Reply {
     Ok,
-    /// Done, and the socket has this port.
+    /// Done, and the socket has this port; 0 where it takes one later.
     Port(u16),
     /// Done, and the socket has this end.
     End(End),

@@ -1,4 +1,4 @@
-ghost use Rattle.std.specs.Prelude.{true, ℕ, ◌≡◌, ◌≢◌, ◌+◌, ◌<◌, ◌≤◌, ◌^◌, length, List, [], find, is_some, Some, IfOk, IfErr, IfSome, IfNone, OnErr};
+ghost use Rattle.std.specs.Prelude.{true, ℕ, ◌≡◌, ◌≢◌, ◌+◌, ◌<◌, ◌≤◌, ◌^◌, ◌&&◌, not, length, List, [], find, is_some, Some, IfOk, IfErr, IfSome, IfNone, OnErr};
 ghost use Rattle.flat_list.specs.declared.socket.Socket.{Socket};
 ghost use Rattle.flat_list.specs.Groups.{Group};
 ghost use Rattle.flat_list.specs.Ports as ports_spec;
@@ -15,8 +15,8 @@ use crate::header::{First, Header};
 use crate::owned::{Options, is_no_accept, is_no_end, packet_of, source_of};
 use crate::section::{Section, draw_word, give_label, moment_of, name_in, section_of, set_moment};
 use crate::socket::{
-    Socket, at_end, at_port, child_of, connected, connected_by_search, end_of, listening,
-    new_socket, waiting,
+    Socket, at_address, at_end, at_port, child_of, connected, connected_by_search, end_of,
+    listening, new_socket, waiting,
 };
 use crate::{group, ports, search};
 use sock_card::{Card, Packet, State};
@@ -55,7 +55,7 @@ fn draw_offset(header: &Header, section: u32, sections: &mut Vec<Section>) -> u1
           flat = record { header = header.now; sockets = sockets; groups = groups; sections = sections.new.items };
         } }
 {
-    let size = ports::size(header.range);
+    let size = ports::size(&header.range);
     match header.offset {
         Some(offset) => (u32::from(offset) % size) as u16,
         None => (draw_word(sections, section) % size) as u16,
@@ -154,14 +154,21 @@ impl Flat {
         !search::is_overlapped(&at_port(socket, addr, port).owner, &self.sockets)
     }
 
+    /// Whether a search of `bind` at that address takes the port.
+    fn can_bind_at(&self, socket: Socket, addr: u32, port: u16) -> bool
+        ensures { result ≡ (not (ports_spec.is_reserved self.now.header.range port) && spec.suits_bind self.now socket addr port) }
+    {
+        !ports::is_reserved(&self.header.range, port) && self.suits_bind(socket, addr, port)
+    }
+
     /// The first port of a search at that address at which no other owner overlaps.
     fn free_port(&self, socket: Socket, addr: u32, offset: u16) -> Option<u16>
         ensures { result ≡ find (spec.suits_bind self.now socket addr) (ports_spec.port_order self.now.header.range offset First.Odd) }
     {
-        let range = self.header.range;
+        let range = &self.header.range;
         for number in 0..ports::count(range) {
             let port = ports::port_at(range, offset, First::Odd, number);
-            if self.suits_bind(socket, addr, port) {
+            if self.can_bind_at(socket, addr, port) {
                 return Some(port);
             }
         }
@@ -177,13 +184,24 @@ impl Flat {
             return Reply::Einval;
         }
         if end.port == 0 {
-            return self.bind_search(section, socket, end.addr);
+            return self.bind_any(section, socket, end.addr);
         }
         let bound = at_end(socket, end);
         if search::is_refused(&bound.owner, &self.sockets) {
             return Reply::Eaddrinuse;
         }
         self.put(bound, Reply::Port(end.port))
+    }
+
+    fn bind_any(&mut self, section: u32, socket: Socket, addr: u32) -> Reply
+        requires { sections_spec.labels_of section self.old.sections ≢ [] }
+        ensures { spec.bind_any self.old section socket addr
+            ≡ record { flat = self.new; reply = result } }
+    {
+        if socket.owner.noport {
+            return self.put(at_address(socket, addr), Reply::Port(0));
+        }
+        self.bind_search(section, socket, addr)
     }
 
     fn bind_search(&mut self, section: u32, socket: Socket, addr: u32) -> Reply
@@ -262,10 +280,11 @@ impl Flat {
     {
         self.groups.reserve(1)?;
         let offset = draw_offset(&self.header, section, &mut self.sections);
-        let Some(port) = self.free_port(socket, 0, offset) else {
+        let addr = socket.owner.addr;
+        let Some(port) = self.free_port(socket, addr, offset) else {
             return Ok(Reply::Eaddrinuse);
         };
-        let bound = at_port(socket, 0, port);
+        let bound = at_port(socket, addr, port);
         if let Some(refusal) = self.listen_refusal(&bound) {
             return Ok(refusal);
         }
@@ -350,6 +369,15 @@ impl Flat {
             && !self.is_taken_in(section, &new)
     }
 
+    /// Whether a search of `connect` takes the port.
+    fn can_connect_at(&self, section: u32, socket: Socket, source: u32, to: End, port: u16) -> bool
+        ensures { result ≡ (not (ports_spec.is_reserved self.now.header.range port)
+            && connect_spec.suits_connect self.now section socket source to port) }
+    {
+        !ports::is_reserved(&self.header.range, port)
+            && self.suits_connect(section, socket, source, to, port)
+    }
+
     /// The first port of a search from which the socket can be connected.
     fn shared_port(
         &self,
@@ -361,10 +389,10 @@ impl Flat {
     ) -> Option<u16>
         ensures { result ≡ find (connect_spec.suits_connect self.now section socket source to) (ports_spec.port_order self.now.header.range offset First.Even) }
     {
-        let range = self.header.range;
+        let range = &self.header.range;
         for number in 0..ports::count(range) {
             let port = ports::port_at(range, offset, First::Even, number);
-            if self.suits_connect(section, socket, source, to, port) {
+            if self.can_connect_at(section, socket, source, to, port) {
                 return Some(port);
             }
         }
@@ -379,7 +407,7 @@ impl Flat {
         if is_no_end(to) {
             return Reply::Einval;
         }
-        let Some(source) = source_of(0, from) else {
+        let Some(source) = source_of(socket.owner.addr, from) else {
             return Reply::Einval;
         };
         let offset = self.draw(section);
@@ -604,7 +632,7 @@ impl Flat {
 mod tests {
     use super::*;
     use crate::command::Query;
-    use crate::header::Range;
+    use crate::header::{NONE_RESERVED, Range};
     use chain_book::Shape;
     use sock_card::Kind;
     use std::test::Fail;
@@ -615,6 +643,7 @@ mod tests {
         dev: None,
         reuseaddr: false,
         reuseport: false,
+        noport: false,
     };
 
     const SHAPE: Shape = Shape {
@@ -629,6 +658,7 @@ mod tests {
         range: Range {
             low: 32768,
             high: 60999,
+            reserved: NONE_RESERVED,
         },
         seed: 0,
         offset: None,

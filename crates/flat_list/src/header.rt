@@ -1,10 +1,27 @@
 use chain_book::Shape;
 
-/// The ports that a search tries: those from `low` to `high`, both among them, an even number.
+/// How many ports can be reserved.
+pub const RESERVED_ROOM: usize = 64;
+
+/// Ports that are kept from searches: the first `count` of these.
+#[derive(Clone, Copy, Debug, PartialEq, Eq)]
+pub struct Reserved {
+    pub ports: [u16; RESERVED_ROOM],
+    pub count: u8,
+}
+
+/// No port is kept from searches.
+pub const NONE_RESERVED: Reserved = Reserved {
+    ports: [0; RESERVED_ROOM],
+    count: 0,
+};
+
+/// The ports that a search tries: those from `low` to `high`, both among them, an even number, but the reserved ones.
 #[derive(Clone, Copy, Debug, PartialEq, Eq)]
 pub struct Range {
     pub low: u16,
     pub high: u16,
+    pub reserved: Reserved,
 }
 
 /// Which ports of a range a search tries first: those at odd distances from its lowest port, or

@@ -1,7 +1,7 @@
 //! What the definitions of the flat list imply of every list that commands reach.
 
 ghost use Rattle.std.specs.Prelude.{None, Some, true, false, [], ◌∷◌};
-ghost use Rattle.flat_list.specs.Rows.{Answer, with_slots, with_range, with_seed, until_one_listens, beside_by_device, one_slot, accepted_goes_first, one_four_tuple, slot_is_freed, states_refuse, four_ports, binds_from_two, connects_from_two, shared_by_connect, listens_anywhere, port_without_slot, words_are_drawn, closed_without_slot, child_stays, child_lets_in, shared_by_user, with_reuse, reused, waited_for, by_rank, with_known_hashes, chosen_by_hash, one_listener_too_many};
+ghost use Rattle.flat_list.specs.Rows.{Answer, with_slots, with_range, with_seed, with_reserved, until_one_listens, beside_by_device, one_slot, accepted_goes_first, one_four_tuple, slot_is_freed, states_refuse, four_ports, binds_from_two, connects_from_two, shared_by_connect, listens_anywhere, late_ports, late_again, kept_ports, port_without_slot, words_are_drawn, closed_without_slot, child_stays, child_lets_in, shared_by_user, with_reuse, reused, waited_for, by_rank, with_known_hashes, chosen_by_hash, one_listener_too_many};
 ghost use Rattle.flat_list.specs.Flat.{new_flat};
 ghost use Rattle.flat_list.specs.MoreRows as more;
 ghost use Rattle.flat_list.specs.Ports as ports;
@@ -48,6 +48,9 @@ pub fn rows()
     ensures connects { Answer (with_range 40000 40003 (Some 2)) connects_from_two }
     ensures shared_port { Answer (with_range 40000 40001 None) shared_by_connect }
     ensures listener { Answer (with_range 40000 40001 None) listens_anywhere }
+    ensures late { Answer (with_range 40000 40001 None) late_ports }
+    ensures late_again { Answer (with_range 40000 40001 None) late_again }
+    ensures reserved { Answer with_reserved kept_ports }
     ensures no_slot { Answer (with_slots 1) port_without_slot }
     ensures words { Answer (with_seed 7) words_are_drawn }
     ensures closed { Answer (with_slots 1) closed_without_slot }

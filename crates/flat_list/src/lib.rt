@@ -6,7 +6,8 @@
 //! and easy to believe: faster tables are proved to answer as this list does.
 //!
 //! Where a script leaves the choice of a port to the system, the ports of the header's range are tried
-//! in an order that begins at the header's offset, or at the next word of the section's generator.
+//! in an order that begins at the header's offset, or at the next word of the section's generator;
+//! reserved ports are passed by.
 //!
 //! Listeners that share an end by SO_REUSEPORT stand in a [`Group`], of which a packet's hash chooses
 //! one. A closed connection leaves a TIME_WAIT for a minute of its section's own time.
@@ -37,7 +38,7 @@ pub use chain_book::Shape;
 pub use command::{Command, End, Label, LabelKey, Query, Reply};
 pub use flat::Flat;
 pub use group::Group;
-pub use header::{First, Header, Range};
+pub use header::{First, Header, NONE_RESERVED, RESERVED_ROOM, Range, Reserved};
 pub use owned::Options;
 pub use script::{CapturePlace, Script};
 pub use section::Section;

@@ -6,8 +6,8 @@ ghost use Rattle.flat_list.specs.Owned as spec;
 use crate::command::{End, Query};
 use sock_card::{Card, Kind, Owner, Packet, State, child, connected};
 
-/// What `socket` says of a new socket: its network namespace, its user, SO_BINDTODEVICE, SO_REUSEADDR and
-/// SO_REUSEPORT.
+/// What `socket` says of a new socket: its network namespace, its user, SO_BINDTODEVICE, SO_REUSEADDR,
+/// SO_REUSEPORT and IP_BIND_ADDRESS_NO_PORT.
 #[derive(Clone, Copy, Debug, PartialEq, Eq)]
 pub struct Options {
     pub net: Option<u8>,
@@ -15,6 +15,7 @@ pub struct Options {
     pub dev: Option<u16>,
     pub reuseaddr: bool,
     pub reuseport: bool,
+    pub noport: bool,
 }
 
 /// The owner that `socket` makes: without an end, and its origin its own name.
@@ -33,8 +34,21 @@ pub fn new_owner(name: u32, options: Options) -> Owner
         uid: options.uid.unwrap_or(0),
         reuseaddr: options.reuseaddr,
         reuseport: options.reuseport,
+        noport: options.noport,
         state: State::Unbound,
         by_connect: false,
+    }
+}
+
+/// The owner, bound to that address, with its port still to be taken.
+pub fn addressed(owner: Owner, addr: u32) -> Owner
+    ensures { result ≡ spec.addressed owner addr }
+{
+    Owner {
+        addr,
+        port: 0,
+        state: State::Unbound,
+        ..owner
     }
 }
 
@@ -77,7 +91,7 @@ pub fn child_owner(listener: Owner, name: u32, from: End, at: End) -> Owner
     child(listener, name, at.addr, from.addr, from.port)
 }
 
-/// The source that `connect` takes for a socket bound to `addr`, if it can take one.
+/// The source that `connect` takes for a socket bound to `addr`, 0.0.0.0 if it is bound to none, if it can take one.
 ///
 /// A bound address is the source, and `from` may repeat it; where it is 0.0.0.0, `from` names one.
 pub fn source_of(addr: u32, from: Option<u32>) -> Option<u32>

@@ -26,6 +26,16 @@ pub fn new_socket(name: u32, options: Options) -> Socket
     }
 }
 
+/// The socket, bound to that address, with its port still to be taken.
+pub fn at_address(socket: Socket, addr: u32) -> Socket
+    ensures { result ≡ spec.at_address socket addr }
+{
+    Socket {
+        owner: owned::addressed(socket.owner, addr),
+        ..socket
+    }
+}
+
 /// The socket, bound to that end.
 pub fn at_end(socket: Socket, end: End) -> Socket
     ensures { result ≡ spec.at_end socket end }

@@ -123,7 +123,7 @@ fn a_looker_waits_for_a_section(rt: HostRuntime) -> Result<(), Fail> {
     assert!(rt; status == Status::Done && gate.late.load(Ordering::SeqCst) == 0);
     // Whether the packets find the listener hangs on the schedule.
     let begin =
-        b"race lookers 1 passes 1\nshape 2 1 1 1\n1 socket a ok\n1 bind a ok 80\n1 listen a ok 80\n\
+        b"race lookers 1 passes 1\nshape 2 1 1 1 seed 0\n1 socket a ok\n1 bind a ok 80\n1 listen a ok 80\n\
         journal 0 3\nlife 1 0 listen 1.a 10.0.0.1:80 0.0.0.0:0 dev 0 hash 0 1 unhash -\npacket 1 ";
     assert!(rt; written.starts_with(begin));
     assert!(rt; written.ends_with(b"\npacket 4 skip\ncut\nclock 2\n"));

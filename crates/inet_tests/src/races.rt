@@ -12,28 +12,28 @@ const WORDS: [&str; 6] = ["inet", "race", "--lookers", "1", "--passes", "1"];
 const ROWS: [(&str, &str); 5] = [
     (
         "",
-        "race lookers 1 passes 1\nshape 1024 16 256 32\nclock 0\n",
+        "race lookers 1 passes 1\nshape 1024 16 256 32 seed 0\nclock 0\n",
     ),
     (
         "table slots 2 bind 1 hash 1 listen 1\nscript 1\nsocket a\nbind a 10.0.0.1:80\nlisten a\n",
-        "race lookers 1 passes 1\nshape 2 1 1 1\n1 socket a ok\n1 bind a ok 80\n1 listen a ok 80\n\
+        "race lookers 1 passes 1\nshape 2 1 1 1 seed 0\n1 socket a ok\n1 bind a ok 80\n1 listen a ok 80\n\
          journal 0 3\nlife 1 0 listen 1.a 10.0.0.1:80 0.0.0.0:0 dev 0 hash 0 1 unhash -\nclock 2\n",
     ),
     (
         "table slots 2 bind 1 hash 1 listen 1\nscript 1\nsocket a net 3\nbind a 10.0.0.1:80\nlisten a\n",
-        "race lookers 1 passes 1\nshape 2 1 1 1\n1 socket a ok\n1 bind a ok 80\n1 listen a ok 80\n\
+        "race lookers 1 passes 1\nshape 2 1 1 1 seed 0\n1 socket a ok\n1 bind a ok 80\n1 listen a ok 80\n\
          journal 0 3\nlife 1 0 listen 1.a 10.0.0.1:80 0.0.0.0:0 dev 0 net 3 hash 0 1 unhash -\nclock 2\n",
     ),
     (
         "table slots 2 bind 1 hash 1 listen 1\nscript 1\nsocket a\nbind a 10.0.0.1:80\nbind a 10.0.0.1:81\n\
          listen b\n",
-        "race lookers 1 passes 1\nshape 2 1 1 1\n1 socket a ok\n1 bind a ok 80\n1 bind a EINVAL\n\
+        "race lookers 1 passes 1\nshape 2 1 1 1 seed 0\n1 socket a ok\n1 bind a ok 80\n1 bind a EINVAL\n\
          1 listen b EBADF\njournal 0 1\nclock 0\n",
     ),
     (
         "table slots 2 bind 1 hash 1 listen 1\nscript 1\nsocket a\nbind a 10.0.0.1:90\n\
          connect a to 10.0.0.2:80\ndrop a\n",
-        "race lookers 1 passes 1\nshape 2 1 1 1\n1 socket a ok\n1 bind a ok 90\n\
+        "race lookers 1 passes 1\nshape 2 1 1 1 seed 0\n1 socket a ok\n1 bind a ok 90\n\
          1 connect a ok 10.0.0.1:90\n1 drop a ok\njournal 0 3\n\
          life 0 0 full 1.a 10.0.0.1:90 10.0.0.2:80 dev 0 hash 0 1 unhash 2 3\nclock 4\n",
     ),

@@ -529,6 +529,105 @@ const NAMESPACES: (&str, &str) = (
      1 connect d ok 10.0.0.1:90\n",
 );
 
+/// Sockets that take their ports late: bound anew, one port for two ends, refused and bound still, a listener at its
+/// address.
+const LATE_PORTS: (&str, &str) = (
+    "\
+     range 40000 40001\n\
+     script 1\n\
+     socket a noport\n\
+     bind a 10.0.0.1:0\n\
+     connect a from 10.0.0.2 to 10.0.0.3:80\n\
+     socket b noport\n\
+     bind b 10.0.0.2:0\n\
+     bind b 10.0.0.1:0\n\
+     connect a to 10.0.0.2:80\n\
+     connect b to 10.0.0.2:81\n\
+     bind b 10.0.0.1:0\n\
+     socket c noport\n\
+     bind c 10.0.0.9:0\n\
+     socket d\n\
+     bind d 0.0.0.0:40001\n\
+     socket e\n\
+     bind e 10.0.0.9:40000\n\
+     listen c\n\
+     connect c to 10.0.0.2:90\n\
+     bind c 10.0.0.9:40001\n\
+     drop d\n\
+     listen c\n\
+     look 10.0.0.2:5 10.0.0.9:40001\n\
+     look 10.0.0.2:5 10.0.0.7:40001\n\
+     socket f noport\n\
+     connect f to 10.0.0.2:80\n\
+     bind f 10.0.0.8:0\n\
+     close f\n\
+     connect f to 10.0.0.2:80\n",
+    "\
+     1 socket a ok\n\
+     1 bind a ok 0\n\
+     1 connect a EINVAL\n\
+     1 socket b ok\n\
+     1 bind b ok 0\n\
+     1 bind b ok 0\n\
+     1 connect a ok 10.0.0.1:40000\n\
+     1 connect b ok 10.0.0.1:40000\n\
+     1 bind b EINVAL\n\
+     1 socket c ok\n\
+     1 bind c ok 0\n\
+     1 socket d ok\n\
+     1 bind d ok 40001\n\
+     1 socket e ok\n\
+     1 bind e ok 40000\n\
+     1 listen c EADDRINUSE\n\
+     1 connect c EADDRNOTAVAIL\n\
+     1 bind c EADDRINUSE\n\
+     1 drop d ok\n\
+     1 listen c ok 40001\n\
+     1 look listen 1.c\n\
+     1 look none\n\
+     1 socket f ok\n\
+     1 connect f EINVAL\n\
+     1 bind f ok 0\n\
+     1 close f ok\n\
+     1 connect f EBADF\n",
+);
+
+/// Ports that searches pass by, and that `bind` may name.
+const RESERVED: (&str, &str) = (
+    "\
+     reserved 40001 40003\n\
+     range 40000 40003\n\
+     offset 0\n\
+     script 1\n\
+     socket a\n\
+     bind a 0.0.0.0:0\n\
+     socket b\n\
+     bind b 0.0.0.0:0\n\
+     socket c\n\
+     bind c 0.0.0.0:0\n\
+     listen c\n\
+     connect c from 10.0.0.1 to 10.0.0.2:80\n\
+     socket d\n\
+     bind d 0.0.0.0:40001\n\
+     listen d\n\
+     socket e noport\n\
+     bind e 10.0.0.1:40003\n",
+    "\
+     1 socket a ok\n\
+     1 bind a ok 40000\n\
+     1 socket b ok\n\
+     1 bind b ok 40002\n\
+     1 socket c ok\n\
+     1 bind c EADDRINUSE\n\
+     1 listen c EADDRINUSE\n\
+     1 connect c EADDRNOTAVAIL\n\
+     1 socket d ok\n\
+     1 bind d ok 40001\n\
+     1 listen d ok 40001\n\
+     1 socket e ok\n\
+     1 bind e ok 40003\n",
+);
+
 #[test]
 fn rules_decide_beside_each_other(rt: HostRuntime) -> Result<(), Fail> {
     let rows = [
@@ -542,6 +641,8 @@ fn rules_decide_beside_each_other(rt: HostRuntime) -> Result<(), Fail> {
         KEPT_MARK,
         DEVICES,
         NAMESPACES,
+        LATE_PORTS,
+        RESERVED,
     ];
     for (script, output) in rows {
         let input = script.as_bytes().to_vec(rt.alloc())?;

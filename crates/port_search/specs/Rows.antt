@@ -24,6 +24,7 @@ owner net name =
       uid = 0;
       reuseaddr = true;
       reuseport = true;
+      noport = false;
       state = states.Bound;
       by_connect = false;
     }

@@ -25,6 +25,7 @@ fn socket(name: u32, port: u16, uid: u32) -> Owner {
         uid,
         reuseaddr: false,
         reuseport: true,
+        noport: false,
         state: State::Bound,
         by_connect: false,
     }

@@ -1,17 +1,32 @@
 //! The ports of a range in the order of a search, one after the other.
 
-ghost use Rattle.std.specs.Prelude.{◌≡◌, ◌≤◌, ◌%◌, ◌^◌, ℕ, List};
+ghost use Rattle.std.specs.Prelude.{◌≡◌, ◌≤◌, ◌%◌, ◌^◌, ◌∷◌, [], ℕ, List, drop, IfSome, IfNone};
 ghost use Rattle.std.specs.Iterator.{YieldsFirst, item_count};
 ghost use Rattle.list_words.specs.Lists.{SameItems};
-ghost use Rattle.flat_list.specs.Ports.{port_order, ports_of, size};
+ghost use Rattle.flat_list.specs.Ports.{port_order, ports_of, size, unreserved, whole_order};
 ghost use Rattle.flat_list.specs.Ports as order;
 
 use flat_list::{First, Range, ports};
 use std::marker::Model;
 
+/// The first port that isn't reserved, of those from that number on in the order of a search, and the number after its.
+fn first_unreserved(range: &Range, offset: u16, first: First, from: u32) -> Option<(u32, u16)>
+    ensures some { IfSome result (λ found. unreserved range.now (drop from (whole_order range.now offset first))
+        ≡ found.1 ∷ unreserved range.now (drop found.0 (whole_order range.now offset first))) }
+    ensures none { IfNone result (unreserved range.now (drop from (whole_order range.now offset first)) ≡ []) }
+{
+    for number in from..ports::count(range) {
+        let port = ports::port_at(range, offset, first, number);
+        if !ports::is_reserved(range, port) {
+            return Some((number + 1, port));
+        }
+    }
+    None
+}
+
 /// The ports that a search has still to try, in their order.
 ///
-/// It is an iterator that takes no memory; each port costs a few divisions.
+/// It is an iterator that takes no memory; each port costs a few divisions, and a look at each reserved port.
 #[derive(Drop)]
 pub struct Ports {
     range: Range,
@@ -30,7 +45,7 @@ impl Model for Ports {
 }
 
 impl Ports {
-    /// All ports of a range of even size: one half, from the offset round to it, then the other.
+    /// All ports of a range of even size but the reserved ones: one half, from the offset round to it, then the other.
     ///
     /// The half of the ports at odd distances from the range's lowest, or that of those at even ones,
     /// is `first`.
@@ -57,11 +72,8 @@ impl Iterator for Ports {
     ghost remaining = { item_count (λ left. left) };
 
     fn next(&mut self) -> Option<u16> {
-        let number = self.tried;
-        if number >= ports::count(self.range) {
-            return None;
-        }
-        self.tried += 1;
-        Some(ports::port_at(self.range, self.offset, self.first, number))
+        let (next, port) = first_unreserved(&self.range, self.offset, self.first, self.tried)?;
+        self.tried = next;
+        Some(port)
     }
 }

@@ -8,7 +8,7 @@ use crate::ends::{Attempt, SearchEnd};
 use crate::ports::Ports;
 use crate::turning::{find_bind, find_connect};
 use bind_buckets::{Bucket, Sharing, turning};
-use flat_list::{First, Range};
+use flat_list::{First, NONE_RESERVED, Range};
 use sock_card::{Owner, State};
 use std::alloc::{AllocError, Global};
 use std::process::Abort;
@@ -33,6 +33,7 @@ fn socket(name: u32, net: u8) -> Owner
         uid: 0,
         reuseaddr: true,
         reuseport: true,
+        noport: false,
         state: State::Bound,
         by_connect: false,
     }
@@ -47,6 +48,7 @@ fn ports(four: bool, offset: u16, first: First) -> Ports
             Range {
                 low: 40000,
                 high: 40003,
+                reserved: NONE_RESERVED,
             },
             offset,
             first,
@@ -56,6 +58,7 @@ fn ports(four: bool, offset: u16, first: First) -> Ports
             Range {
                 low: 40000,
                 high: 40001,
+                reserved: NONE_RESERVED,
             },
             offset,
             first,
@@ -227,6 +230,7 @@ fn forty() -> Ports
         Range {
             low: 40000,
             high: 40039,
+            reserved: NONE_RESERVED,
         },
         0,
         First::Odd,

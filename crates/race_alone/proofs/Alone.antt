@@ -10,8 +10,8 @@ use Rattle.table_model.specs.Tables.{Tables}
 use Rattle.table_model.specs.Own.{Own}
 use Rattle.table_model.specs.Commands.{answers, plan}
 use Rattle.table_model.specs.Means.{Means, Refines, is_lookup}
-use Rattle.table_model.proofs.GroupsAll.{plans_refine}
-use Rattle.table_model.proofs.OwnersSections.{same_labels}
+use Rattle.table_model.proofs.commands.Laws.{plans_refine}
+use Rattle.table_model.proofs.parts.Sections.{same_labels}
 use Rattle.race_record.specs.Goes.{Goes}
 use Rattle.race_record.specs.Record.{Step}
 use Rattle.race_alone.specs.Plays.{Plays, StepRefines}

@@ -21,9 +21,9 @@ use Rattle.table_model.specs.Tables.{Tables, new_tables}
 use Rattle.table_model.specs.Own.{Own, new_own}
 use Rattle.table_model.specs.Commands.{answers, plan}
 use Rattle.table_model.specs.Means.{Means, TablesMean, IsShape, Refines, is_lookup}
-use Rattle.table_model.proofs.GroupsAll.{plans_refine}
-use Rattle.table_model.proofs.GroupsStart.{new_mean_empty, starts_meant}
-use Rattle.table_model.proofs.OwnersSections.{same_labels}
+use Rattle.table_model.proofs.commands.Laws.{plans_refine}
+use Rattle.table_model.proofs.parts.Start.{new_mean_empty, starts_meant}
+use Rattle.table_model.proofs.parts.Sections.{same_labels}
 use Rattle.race_book.specs.Among.{Among}
 use Rattle.chain_book.specs.declared.book.Change.{Change}
 use Rattle.race_record.specs.Deeds.{Deed}

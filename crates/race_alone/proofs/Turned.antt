@@ -15,8 +15,8 @@ use Rattle.table_model.specs.Tables.{Tables, new_tables}
 use Rattle.table_model.specs.Own.{Own, new_own}
 use Rattle.table_model.specs.Commands.{answers, plan}
 use Rattle.table_model.specs.Means.{Means, IsShape, is_lookup}
-use Rattle.table_model.proofs.GroupsStart.{new_mean_empty, starts_meant}
-use Rattle.table_model.proofs.OthersAll.{others_stay}
+use Rattle.table_model.proofs.parts.Start.{new_mean_empty, starts_meant}
+use Rattle.table_model.proofs.others.All.{others_stay}
 use Rattle.race_book.specs.Among.{Among}
 use Rattle.race_record.specs.Lawful.{Lawful, IsStepOf, AreStepsOf, AreSectionsOf, EachFrom}
 use Rattle.race_record.specs.Record.{Race, Step, deeds_of}

@@ -7,7 +7,7 @@ use Rattle.sock_card.specs.declared.owner.State.TheVariants as states
 use Rattle.sock_card.specs.declared.card.Card.{Card}
 use Rattle.bind_buckets.specs.declared.request.Request.{Request}
 use Rattle.bind_buckets.specs.declared.request.Request.TheVariants as requests
-use Rattle.flat_list.specs.Owned.{bound_at, is_no_accept, connected_at, connected_to, child_owner}
+use Rattle.flat_list.specs.Owned.{addressed, bound_at, is_no_accept, connected_at, connected_to, child_owner}
 use Rattle.bind_buckets.specs.declared.request.Answer.{Answer}
 use Rattle.bind_buckets.specs.declared.request.Answer.TheVariants as answers_
 use Rattle.chain_book.specs.declared.outcome.Place.{Place}
@@ -145,8 +145,12 @@ v_bind_answered a end answers_.GroupsFull = v_impossible 0 told_did
 v_bind_answered a end (answers_.Strange n) = v_impossible 0 told_did
 v_bind_answered a end (answers_.NotFree n) = v_impossible 0 told_did
 
-v_bind_by : (a : Owner) (end : End) (ports : List ℕ) (b : Bool) → Vains 0 told_did (if b then op.search_bind a end.addr (op.bound a end.addr) (ends (refused errors.NoPort)) ports else asks (bind_key end.port a.net) (requests.Bind (bound_at a end.addr end.port)) (op.bind_answered a end))
-v_bind_by a end ports true = v_search 0 told_did a end.addr _ _ (λ port. v_ends 0 told_did _ refl) (v_ends 0 told_did _ refl) ports
+v_bind_any : (a : Owner) (addr : ℕ) (ports : List ℕ) (late : Bool) → Vains 0 told_did (if late then ends (done (op.plain (addressed a addr))) else op.search_bind a addr (op.bound a addr) (ends (refused errors.NoPort)) ports)
+v_bind_any a addr ports true = v_ends 0 told_did _ refl
+v_bind_any a addr ports false = v_search 0 told_did a addr _ _ (λ port. v_ends 0 told_did _ refl) (v_ends 0 told_did _ refl) ports
+
+v_bind_by : (a : Owner) (end : End) (ports : List ℕ) (b : Bool) → Vains 0 told_did (if b then op.bind_any a end.addr ports else asks (bind_key end.port a.net) (requests.Bind (bound_at a end.addr end.port)) (op.bind_answered a end))
+v_bind_by a end ports true = v_bind_any a end.addr ports a.noport
 v_bind_by a end ports false = v_asks 0 told_did (bind_key end.port a.net) _ _ (λ answer. v_bind_answered a end answer)
 
 v_bind : (s : State) (m : Mine) (end : End) (ports : List ℕ) → Vains 0 told_did (op.bind_as s m end ports)
@@ -184,7 +188,7 @@ module _ (shape : Shape) (seed : ℕ) where
   v_listen_at took a = v_asks 0 told_did (owner_key a) _ (op.listen_answered shape seed took a) (v_listen_answered took a)
 
   v_listen : (s : State) (m : Mine) (ports : List ℕ) → Vains 0 told_did (op.listen_as shape seed s m ports)
-  v_listen states.Unbound m ports = v_search 0 told_did m.owner 0 (op.listen_found shape seed m.owner) (ends (refused errors.NoPort)) (λ port. v_listen_at true (bound_at m.owner 0 port)) (v_refused errors.NoPort refl) ports
+  v_listen states.Unbound m ports = v_search 0 told_did m.owner m.owner.addr (op.listen_found shape seed m.owner) (ends (refused errors.NoPort)) (λ port. v_listen_at true (bound_at m.owner m.owner.addr port)) (v_refused errors.NoPort refl) ports
   v_listen states.Bound m ports = v_listen_at false m.owner
   v_listen states.Listening m ports = v_ends 0 told_did (done m) refl
   v_listen states.Full m ports = v_refused errors.Inval refl

@@ -42,10 +42,11 @@ pub record Told : Type 0 where
 abbrev pub race_line : ℕ → ℕ → List ℕ
 race_line lookers passes = codes "race lookers " ++ decimal lookers ++ codes " passes " ++ decimal passes ++ codes "\n"
 
-abbrev pub shape_line : Shape → List ℕ
-shape_line shape =
+-- the shape of the tables, and the seed of their hashes
+abbrev pub shape_line : Shape → ℕ → List ℕ
+shape_line shape seed =
     codes "shape " ++ decimal shape.slots ++ codes " " ++ decimal shape.bind ++ codes " " ++ decimal shape.hash
-    ++ codes " " ++ decimal shape.listen ++ codes "\n"
+    ++ codes " " ++ decimal shape.listen ++ codes " seed " ++ decimal seed ++ codes "\n"
 
 abbrev pub clock_line : ℕ → List ℕ
 clock_line clock = codes "clock " ++ decimal clock ++ codes "\n"
@@ -110,7 +111,7 @@ module _ (label_of : ℕ → List ℕ) where
   abbrev pub answer_text : PacketAnswer → List ℕ
   answer_text (answers.Found card) = card_text card
   answer_text answers.None = codes "none"
-  answer_text (answers.Again bucket end) = codes "again " ++ pass_end_text end
+  answer_text (answers.Again bucket end) = codes "again " ++ pass_end_text end ++ codes " in " ++ decimal bucket
 
   abbrev pub looked_text : Looked → List ℕ
   looked_text (looks.Answered r) =
@@ -135,7 +136,7 @@ command_lines sections replies = lines_text sections 1 (events_from [] (issued_f
 -- the whole text of what is told of a race of these sections
 abbrev pub told_text : List (List Command) → Told → List ℕ
 told_text sections t =
-    race_line t.lookers t.passes ++ shape_line t.shape ++ command_lines sections t.replies ++ journal_lines 0 t.journals
+    race_line t.lookers t.passes ++ shape_line t.shape t.seed ++ command_lines sections t.replies ++ journal_lines 0 t.journals
     ++ flat_map (life_line (label_in sections)) (lives_of t.book) ++ looked_lines (label_in sections) 1 t.looked
     ++ cut_text t.cut ++ clock_line t.clock
 

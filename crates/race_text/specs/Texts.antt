@@ -5,7 +5,7 @@ use Rattle.std.specs.Prelude.{ℕ, List, ◌++◌, codes}
 abbrev pub first_text : List ℕ
 first_text =
     codes "race lookers 1 passes 1\n"
-    ++ codes "shape 2 1 1 1\n"
+    ++ codes "shape 2 1 1 1 seed 0\n"
     ++ codes "1 socket a ok\n"
     ++ codes "1 bind a ok 80\n"
     ++ codes "1 listen a ok 80\n"
@@ -17,7 +17,7 @@ first_text =
 abbrev pub second_text : List ℕ
 second_text =
     codes "race lookers 2 passes 1\n"
-    ++ codes "shape 4 1 1 1\n"
+    ++ codes "shape 4 1 1 1 seed 0\n"
     ++ codes "1 socket a ok\n"
     ++ codes "1 bind a ok 80\n"
     ++ codes "1 listen a ok 80\n"
@@ -45,7 +45,7 @@ second_text =
 abbrev pub refused_text : List ℕ
 refused_text =
     codes "race lookers 4 passes 1\n"
-    ++ codes "shape 2 1 1 1\n"
+    ++ codes "shape 2 1 1 1 seed 0\n"
     ++ codes "1 socket a ok\n"
     ++ codes "1 bind a ok 90\n"
     ++ codes "1 connect a ok 10.0.0.1:90\n"
@@ -62,9 +62,9 @@ refused_text =
     ++ codes "journal 0 7\n"
     ++ codes "life 0 0 full 1.a 10.0.0.1:90 10.0.0.2:80 dev 0 hash 0 1 unhash -\n"
     ++ codes "life 0 1 full 1.d 10.0.0.1:92 10.0.0.2:80 dev 0 hash 2 3 unhash 4 5\n"
-    ++ codes "packet 1 again dead 1 t0 4 t1 5 from 10.0.0.2:80 to 10.0.0.1:92 dev 0\n"
-    ++ codes "packet 2 again foreign 0 t0 1 t1 3 from 10.0.0.2:80 to 10.0.0.1:92 dev 0\n"
-    ++ codes "packet 3 again changed 1 t0 2 t1 5 from 10.0.0.2:80 to 10.0.0.1:92 dev 0\n"
-    ++ codes "packet 4 again long 3 t0 1 t1 3 from 10.0.0.2:80 to 10.0.0.1:92 dev 0\n"
+    ++ codes "packet 1 again dead 1 in 0 t0 4 t1 5 from 10.0.0.2:80 to 10.0.0.1:92 dev 0\n"
+    ++ codes "packet 2 again foreign 0 in 1 t0 1 t1 3 from 10.0.0.2:80 to 10.0.0.1:92 dev 0\n"
+    ++ codes "packet 3 again changed 1 in 0 t0 2 t1 5 from 10.0.0.2:80 to 10.0.0.1:92 dev 0\n"
+    ++ codes "packet 4 again long 3 in 0 t0 1 t1 3 from 10.0.0.2:80 to 10.0.0.1:92 dev 0\n"
     ++ codes "packet 5 short\n"
     ++ codes "clock 7\n"

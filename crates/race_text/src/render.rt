@@ -28,7 +28,7 @@ pub fn render(alloc: Global, script: &Script, told: &Record) -> Result<Vec<u8>, 
     let lives = lives(alloc, &told.book, told.shape.slots as usize)?;
     let mut out = Vec::new(alloc);
     put_race(&mut out, told.lookers, told.passes)?;
-    put_shape(&mut out, &told.shape)?;
+    put_shape(&mut out, &told.shape, told.seed)?;
     put(&mut out, &commands)?;
     put_journals(&mut out, &told.journals)?;
     put_lives(&mut out, &labels, &lives)?;

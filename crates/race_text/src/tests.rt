@@ -112,7 +112,7 @@ fn text_of(alloc: Global, net: u8, looked: Vec<Looked>) -> Result<Vec<u8>, Scrip
 #[test]
 fn one_listener(rt: HostRuntime) -> Result<(), Fail> {
     let wanted = b"race lookers 1 passes 1
-shape 2 1 1 1
+shape 2 1 1 1 seed 0
 1 socket a ok
 1 bind a ok 80
 1 listen a ok 80
@@ -128,13 +128,13 @@ clock 2
 #[test]
 fn a_namespace(rt: HostRuntime) -> Result<(), Fail> {
     let wanted = b"race lookers 1 passes 1
-shape 2 1 1 1
+shape 2 1 1 1 seed 0
 1 socket a ok
 1 bind a ok 80
 1 listen a ok 80
 journal 0 3
 life 1 0 listen 1.a 10.0.0.1:80 0.0.0.0:0 dev 0 net 3 hash 0 1 unhash -
-packet 1 again dead 0 t0 0 t1 1 from 10.0.0.2:1000 to 10.0.0.1:80 dev 0 net 3
+packet 1 again dead 0 in 1 t0 0 t1 1 from 10.0.0.2:1000 to 10.0.0.1:80 dev 0 net 3
 clock 2
 ";
     let mut looked = Vec::new(rt.alloc());

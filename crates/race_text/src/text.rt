@@ -26,9 +26,9 @@ pub fn put_race(out: &mut Vec<u8>, lookers: u32, passes: u32) -> Result<(), Allo
     put(out, b"\n")
 }
 
-/// Appends the line of the tables' shape.
-pub fn put_shape(out: &mut Vec<u8>, shape: &Shape) -> Result<(), AllocError>
-    ensures { OnOk result (out.new.items ≡ out.old.items ++ spec.shape_line shape.now) }
+/// Appends the line of the tables' shape and of the seed of their hashes.
+pub fn put_shape(out: &mut Vec<u8>, shape: &Shape, seed: u32) -> Result<(), AllocError>
+    ensures { OnOk result (out.new.items ≡ out.old.items ++ spec.shape_line shape.now seed) }
 {
     put(out, b"shape ")?;
     put_number(out, u64::from(shape.slots))?;
@@ -38,6 +38,8 @@ pub fn put_shape(out: &mut Vec<u8>, shape: &Shape) -> Result<(), AllocError>
     put_number(out, u64::from(shape.hash))?;
     put(out, b" ")?;
     put_number(out, u64::from(shape.listen))?;
+    put(out, b" seed ")?;
+    put_number(out, u64::from(seed))?;
     put(out, b"\n")
 }
 
@@ -203,9 +205,11 @@ fn put_packet_answer(
     match answer {
         PacketAnswer::Found(card) => put_card(out, labels, card),
         PacketAnswer::None => put(out, b"none"),
-        PacketAnswer::Again(_, end) => {
+        PacketAnswer::Again(bucket, end) => {
             put(out, b"again ")?;
-            put_pass_end(out, end)
+            put_pass_end(out, end)?;
+            put(out, b" in ")?;
+            put_number(out, u64::from(*bucket))
         }
     }
 }

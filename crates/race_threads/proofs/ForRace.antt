@@ -68,6 +68,7 @@ line_says old new words (lines.Range range) form f s = subst SaysRace (sym f.1) 
 line_says old new words (lines.Seed seed) form f s = subst SaysRace (sym f.1) (record { table = s.table; range = s.range; looks = s.looks })
 line_says old new words (lines.Offset offset) form f s = subst SaysRace (sym f.1) (record { table = s.table; range = s.range; looks = s.looks })
 line_says old new words (lines.TimeWaitReuse reuse) form f s = subst SaysRace (sym f.1) (record { table = s.table; range = s.range; looks = s.looks })
+line_says old new words (lines.Reserved reserved) form f s = subst SaysRace (sym f.1) (record { table = s.table; range = s.range; looks = s.looks })
 line_says old new words (lines.Section n) form f s =
     subst SaysRace (sym f.1) (record { table = s.table; range = s.range; looks = each_append LooksNothingUp old.sections ([] ∷ []) s.looks (tt, tt) })
 line_says old new words (lines.Capture dev net) form f s = subst SaysRace (sym f) (record { table = s.table; range = s.range; looks = s.looks })

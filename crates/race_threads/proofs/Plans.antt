@@ -25,7 +25,7 @@ use Rattle.flat_list.specs.declared.header.Header.{Header}
 use Rattle.flat_list.specs.declared.command.End.{End}
 use Rattle.flat_list.specs.declared.command.Reply.TheVariants as replies
 use Rattle.flat_list.specs.declared.owned.Options.{Options}
-use Rattle.flat_list.specs.Owned.{bound_at, is_no_accept, connected_at, connected_to, child_owner, new_owner}
+use Rattle.flat_list.specs.Owned.{addressed, bound_at, is_no_accept, connected_at, connected_to, child_owner, new_owner}
 use Rattle.table_model.specs.declared.operation.OpEnd.{OpEnd}
 use Rattle.table_model.specs.declared.operation.OpEnd.TheVariants as errors
 use Rattle.table_model.specs.Asking.{Asking, ends, asks, inserts, adds, unhashes, impossible, and_then}
@@ -35,7 +35,7 @@ use Rattle.table_model.specs.Operations as op
 use Rattle.table_model.specs.Operations.{Did, done, refused, Closed, gone, waiting, no_slot as closed_without}
 use Rattle.table_model.specs.Commands as command
 use Rattle.table_model.specs.Commands.{Replied, answers, plan}
-use Rattle.table_model.proofs.OwnersOwn.{own_names}
+use Rattle.table_model.proofs.parts.Own.{own_names}
 use Rattle.race_book.specs.Among.{Among}
 use Rattle.race_book.specs.Lives.{is_unhash}
 use Rattle.race_record.specs.Deeds.{Deed, hashed, kept_out, no_slot, entered, inserted, added, left, reaped, changes_in}
@@ -208,8 +208,12 @@ any_bind_answered a end answers_.GroupsFull = c_impossible Any
 any_bind_answered a end (answers_.Strange n) = c_impossible Any
 any_bind_answered a end (answers_.NotFree n) = c_impossible Any
 
-any_bind_by : (a : Owner) (end : End) (ports : List ℕ) (b : Bool) → Calms Any (if b then op.search_bind a end.addr (op.bound a end.addr) (ends (refused errors.NoPort)) ports else asks (bind_key end.port a.net) (requests.Bind (bound_at a end.addr end.port)) (op.bind_answered a end))
-any_bind_by a end ports true = c_search Any a end.addr _ _ (λ port. any_end _) (any_end _) ports
+any_bind_any : (a : Owner) (addr : ℕ) (ports : List ℕ) (late : Bool) → Calms Any (if late then ends (done (op.plain (addressed a addr))) else op.search_bind a addr (op.bound a addr) (ends (refused errors.NoPort)) ports)
+any_bind_any a addr ports true = any_end _
+any_bind_any a addr ports false = c_search Any a addr _ _ (λ port. any_end _) (any_end _) ports
+
+any_bind_by : (a : Owner) (end : End) (ports : List ℕ) (b : Bool) → Calms Any (if b then op.bind_any a end.addr ports else asks (bind_key end.port a.net) (requests.Bind (bound_at a end.addr end.port)) (op.bind_answered a end))
+any_bind_by a end ports true = any_bind_any a end.addr ports a.noport
 any_bind_by a end ports false = c_asks Any (bind_key end.port a.net) _ _ (λ answer. any_bind_answered a end answer)
 
 any_bind : (s : State) (m : Mine) (end : End) (ports : List ℕ) → Calms Any (op.bind_as s m end ports)
@@ -247,7 +251,7 @@ module _ (shape : Shape) (seed : ℕ) where
   any_listen_at took a = c_asks Any (owner_key a) _ (op.listen_answered shape seed took a) (any_listen_answered took a)
 
   any_listen : (s : State) (m : Mine) (ports : List ℕ) → Calms Any (op.listen_as shape seed s m ports)
-  any_listen states.Unbound m ports = c_search Any m.owner 0 (op.listen_found shape seed m.owner) (ends (refused errors.NoPort)) (λ port. any_listen_at true (bound_at m.owner 0 port)) (any_end _) ports
+  any_listen states.Unbound m ports = c_search Any m.owner m.owner.addr (op.listen_found shape seed m.owner) (ends (refused errors.NoPort)) (λ port. any_listen_at true (bound_at m.owner m.owner.addr port)) (any_end _) ports
   any_listen states.Bound m ports = any_listen_at false m.owner
   any_listen states.Listening m ports = any_end _
   any_listen states.Full m ports = any_end _

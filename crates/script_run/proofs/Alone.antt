@@ -18,8 +18,8 @@ use Rattle.table_model.specs.Goes.{tables_by}
 use Rattle.table_model.specs.Means.{is_lookup}
 use Rattle.table_model.specs.Own.{Own}
 use Rattle.table_model.specs.Tables.{run}
-use Rattle.table_model.proofs.GoesAlone.{goes_alone}
-use Rattle.table_model.proofs.GroupsAll.{plans_refine}
+use Rattle.table_model.proofs.commands.Alone.{goes_alone}
+use Rattle.table_model.proofs.commands.Laws.{plans_refine}
 use Rattle.race_record.specs.Deeds.{Deed, entered, inserted, added, left, reaped, entries_in}
 use Rattle.race_record.specs.Laws.{told_of}
 use Rattle.race_record.proofs.Leads.{goes_leads, tells_entries}

@@ -20,7 +20,7 @@ use Rattle.flat_list.specs.Owned.{card_as}
 use Rattle.flat_list.specs.Sockets.{kind_of}
 use Rattle.flat_list.specs.Sound.{IsSound, NamesDiffer, IsInOneGroup, IsGroupOf, is_sharing}
 use Rattle.shared_demux.specs.Chosen.{group_as, group_in}
-use Rattle.table_model.proofs.GroupsPlaces.{count_none, count_cons, one_only}
+use Rattle.table_model.proofs.parts.GroupPlaces.{count_none, count_cons, one_only}
 use Rattle.script_run.proofs.Items.{In, each_in, pairs_in, made_in, finds, finds_none, found_in}
 
 -- what a socket's card says of the socket

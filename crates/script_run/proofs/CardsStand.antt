@@ -9,8 +9,8 @@ use Rattle.chain_book.specs.Chains.{Chains, row_at, home_in}
 use Rattle.flat_list.specs.Flat.{Flat}
 use Rattle.flat_list.specs.Look.{cards_of}
 use Rattle.table_model.specs.Means.{ChainsMean, weigh_cards}
-use Rattle.table_model.proofs.ChainsWeigh.{Weighs, ind, any_weighs, same_answer}
-use Rattle.table_model.proofs.ChainsRows.{weigh}
+use Rattle.table_model.proofs.lists.Passing.{Weighs, ind, any_weighs, same_answer}
+use Rattle.table_model.proofs.lists.Rows.{weigh}
 use Rattle.script_run.proofs.Items.{In, each_in, any_in, any_item}
 use Rattle.script_run.proofs.CardsSame.{is_card, card_is, card_itself}
 

@@ -32,6 +32,7 @@ line_fits mode old new words (lines.Range range) form f s = subst SaysFit (sym f
 line_fits mode old new words (lines.Seed seed) form f s = subst SaysFit (sym f.1) (record { table = s.table; range = s.range })
 line_fits mode old new words (lines.Offset offset) form f s = subst SaysFit (sym f.1) (record { table = s.table; range = s.range })
 line_fits mode old new words (lines.TimeWaitReuse reuse) form f s = subst SaysFit (sym f.1) (record { table = s.table; range = s.range })
+line_fits mode old new words (lines.Reserved reserved) form f s = subst SaysFit (sym f.1) (record { table = s.table; range = s.range })
 line_fits mode old new words (lines.Section n) form f s = subst SaysFit (sym f.1) (record { table = s.table; range = s.range })
 line_fits mode old new words (lines.Capture dev net) form f s = subst SaysFit (sym f) (record { table = s.table; range = s.range })
 line_fits mode old new words (lines.Command c) form f s = subst SaysFit (sym f.1) (record { table = s.table; range = s.range })

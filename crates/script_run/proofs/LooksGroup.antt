@@ -36,9 +36,9 @@ use Rattle.flat_list.specs.Sound.{IsSound, IsGiven, IsGroupOf, GroupsAreOfMates,
 use Rattle.table_model.specs.Tables.{Tables}
 use Rattle.table_model.specs.Means.{TablesMean, IsShape, names_in, members_of, stands_in_some}
 use Rattle.table_model.specs.Means as means
-use Rattle.table_model.proofs.GroupsPlaces.{found_number}
-use Rattle.table_model.proofs.GroupsPlaces as places
-use Rattle.table_model.proofs.GroupsMeans.{read_map}
+use Rattle.table_model.proofs.parts.GroupPlaces.{found_number}
+use Rattle.table_model.proofs.parts.GroupPlaces as places
+use Rattle.table_model.proofs.parts.Groups.{read_map}
 use Rattle.script_run.proofs.Items.{In, each_in, in_each, pairs_in, found_in, finds, any_in, place_in}
 use Rattle.script_run.proofs.CardsOf.{cards, OfSocket, of_socket, HasNumber, same_name, grouped_shares}
 use Rattle.script_run.proofs.CardsBest.{named_group}

@@ -17,7 +17,7 @@ use Rattle.sock_script.proofs.RunTurns.{RanSoFar, ran_start, ran_more, ran_all, 
 use Rattle.table_model.specs.Tables.{Tables, new_tables}
 use Rattle.table_model.specs.Own.{new_own}
 use Rattle.table_model.specs.Means.{Means, IsShape}
-use Rattle.table_model.proofs.GroupsStart.{new_mean_empty, starts_meant}
+use Rattle.table_model.proofs.parts.Start.{new_mean_empty, starts_meant}
 use Rattle.script_run.specs.Fits.{FitsTables}
 use Rattle.section_machine.specs.Sections.{Kept, kept, KeepsHeader}
 use Rattle.script_run.specs.Steps.{AnswersAll, StartsAt, RunsAs, RunsOne, RunsEach}

@@ -32,7 +32,7 @@ use Rattle.shared_sockets.proofs.Rows.{row_at_is}
 use Rattle.flat_list.specs.Flat.{Flat}
 use Rattle.flat_list.specs.Look.{cards_of}
 use Rattle.table_model.specs.Means.{ChainsMean, IsShape}
-use Rattle.table_model.proofs.ChainsHold.{home_below}
+use Rattle.table_model.proofs.parts.Chains.{home_below}
 use Rattle.script_run.proofs.Items.{In}
 use Rattle.script_run.proofs.CardsStand.{stands_of, of_stands}
 

@@ -4,7 +4,7 @@ ghost use Rattle.std.specs.Prelude.{◌≡◌, length, IfOk};
 
 use crate::run;
 use capture_reader::Capture;
-use flat_list::{Command, End, Header, Query, Range, Reply, Script, Shape};
+use flat_list::{Command, End, Header, NONE_RESERVED, Query, Range, Reply, Script, Shape};
 use std::alloc::{AllocError, Global};
 use std::test::Fail;
 
@@ -18,6 +18,7 @@ const HEADER: Header = Header {
     range: Range {
         low: 40000,
         high: 40003,
+        reserved: NONE_RESERVED,
     },
     seed: 7,
     offset: None,

@@ -17,7 +17,7 @@ use Rattle.chain_book.specs.declared.outcome.Replace.{Replace}
 use Rattle.chain_book.specs.declared.shape.Shape.{Shape}
 use Rattle.chain_book.specs.Chains.{Outcome, put, taken, full}
 use Rattle.flat_list.specs.declared.command.End.{End}
-use Rattle.flat_list.specs.Owned.{bound_at, connected_at, connected_to, is_no_accept, child_owner}
+use Rattle.flat_list.specs.Owned.{addressed, bound_at, connected_at, connected_to, is_no_accept, child_owner}
 use Rattle.table_model.specs.declared.operation.OpEnd.{OpEnd}
 use Rattle.table_model.specs.declared.operation.OpEnd.TheVariants as errors
 use Rattle.table_model.specs.Asking.{Asking, ends, asks, inserts, adds, unhashes, reaps, impossible}
@@ -178,8 +178,12 @@ module _ (L : Type 0) (never : L → ⊥) where
   of_bind_unbound : (a : Owner) (end : End) (ports : List ℕ) → IsOf L a.name (plans.bind_unbound a end ports)
   of_bind_unbound a end ports =
       let given = asks (bind_key end.port a.net) (requests.Bind (bound_at a end.addr end.port)) (plans.bind_answered a end) in
-      all_if (IsAbout a.name) (HasName a.name) (Named L a.name) (end.port == 0) (search_bind a end.addr (plans.bound a end.addr) (ends (refused errors.NoPort)) ports) given
-      (of_search a end.addr (plans.bound a end.addr) (ends (refused errors.NoPort)) (λ port. it a.name (plans.plain (bound_at a end.addr port)) refl) tt ports) ((refl, refl), of_answered a end)
+      let searched = search_bind a end.addr (plans.bound a end.addr) (ends (refused errors.NoPort)) ports in
+      let late = plans.plain (addressed a end.addr) in
+      all_if (IsAbout a.name) (HasName a.name) (Named L a.name) (end.port == 0) (plans.bind_any a end.addr ports) given
+      (all_if (IsAbout a.name) (HasName a.name) (Named L a.name) a.noport (ends (done late)) searched (it a.name late refl)
+      (of_search a end.addr (plans.bound a end.addr) (ends (refused errors.NoPort)) (λ port. it a.name (plans.plain (bound_at a end.addr port)) refl) tt ports))
+      ((refl, refl), of_answered a end)
 
   module _ (shape : Shape) (seed : ℕ) where
     of_give_up : (took : Bool) (a : Owner) (end : OpEnd) → IsOf L a.name (plans.give_up took a end)
@@ -252,7 +256,7 @@ module _ (shape : Shape) (seed : ℕ) where
   of_listen_as m ports states.Unbound e =
       let L = m.owner.state ≡ states.Listening in
       let never : L → ⊥ = unbound m.owner.state e in
-      of_search L never m.owner 0 (plans.listen_found shape seed m.owner) (ends (refused errors.NoPort)) (λ port. (refl, of_listen_answered L never shape seed true (bound_at m.owner 0 port))) tt ports
+      of_search L never m.owner m.owner.addr (plans.listen_found shape seed m.owner) (ends (refused errors.NoPort)) (λ port. (refl, of_listen_answered L never shape seed true (bound_at m.owner m.owner.addr port))) tt ports
   of_listen_as m ports states.Bound e = (refl, of_listen_answered (m.owner.state ≡ states.Listening) (bound m.owner.state e) shape seed false m.owner)
   of_listen_as m ports states.Listening e = (refl, λ l. l)
   of_listen_as m ports states.Full e = tt

@@ -1,5 +1,5 @@
 -- The ports of a search, and plans in which none begins.
-use Rattle.std.proofs.Common.{◌≡◌, ◌==◌, ◌&&◌, ℕ, ◌+◌, ◌/◌, ◌%◌, ◌≤◌, ◌*◌, Bool, true, false, cond, List, ◌++◌, length, length-append, Option, Some, None, refl, ap, arith}
+use Rattle.std.proofs.Common.{◌≡◌, ◌==◌, ◌&&◌, ℕ, ◌+◌, ◌/◌, ◌%◌, ◌≤◌, ◌*◌, Bool, true, false, not, cond, List, [], ◌∷◌, ◌++◌, length, length-append, Option, Some, None, refl, ap, arith}
 use Rattle.std.proofs.lemmas.List.FromFn.{length-map-range_with_len}
 use Rattle.sock_card.specs.Conflict.{bind_key}
 use Rattle.sock_card.specs.declared.owner.Owner.{Owner}
@@ -11,15 +11,15 @@ use Rattle.flat_list.specs.declared.command.End.{End}
 use Rattle.flat_list.specs.declared.header.Range.{Range}
 use Rattle.flat_list.specs.declared.header.First.{First}
 use Rattle.flat_list.specs.declared.header.First.TheVariants as firsts
-use Rattle.flat_list.specs.Ports.{size, half_from, even, odd, port_order}
+use Rattle.flat_list.specs.Ports.{size, half_from, even, odd, whole_order, unreserved, port_order}
 use Rattle.bind_buckets.specs.declared.request.Request.TheVariants as requests
-use Rattle.flat_list.specs.Owned.{bound_at}
+use Rattle.flat_list.specs.Owned.{addressed, bound_at}
 use Rattle.table_model.specs.declared.operation.OpEnd.TheVariants as errors
-use Rattle.table_model.specs.Asking.{ends, asks}
+use Rattle.table_model.specs.Asking.{Asking, ends, asks}
 use Rattle.table_model.specs.Own.{Mine}
 use Rattle.table_model.specs.Operations as plans
-use Rattle.table_model.specs.Operations.{Did, refused, source_to}
-use Rattle.table_model.specs.Commands.{is_unbound, is_some}
+use Rattle.table_model.specs.Operations.{Did, done, refused, source_to}
+use Rattle.table_model.specs.Commands.{is_unbound, is_some, searches_port}
 
 half_long : (r : Range) (distance : ℕ) → length (half_from r distance) ≡ size r / 2
 half_long r distance = length-map-range_with_len (λ k. r.low + (distance + 2 * k) % size r) 0 (size r / 2)
@@ -27,27 +27,39 @@ half_long r distance = length-map-range_with_len (λ k. r.low + (distance + 2 * 
 two_halves : (r : Range) (a b : ℕ) → length (half_from r a ++ half_from r b) ≤ size r
 two_halves r a b = omega (arith, length-append (half_from r a) (half_from r b), half_long r a, half_long r b)
 
+whole_few : (r : Range) (offset : ℕ) (first : First) → length (whole_order r offset first) ≤ size r
+whole_few r offset firsts.Odd = two_halves r (odd offset) (even offset)
+whole_few r offset firsts.Even = two_halves r (even offset) (odd offset)
+
+fewer_unreserved : (r : Range) (ports : List ℕ) → length (unreserved r ports) ≤ length ports
+fewer_unreserved r [] = omega arith
+fewer_unreserved r (port ∷ ports) = grind (arith, fewer_unreserved r ports)
+
 -- there are no more ports than the range has
 pub order_few : (r : Range) (offset : ℕ) (first : First) → length (port_order r offset first) ≤ size r
-order_few r offset firsts.Odd = two_halves r (odd offset) (even offset)
-order_few r offset firsts.Even = two_halves r (even offset) (odd offset)
-
-if_begins : {A : Type 0} (f : List ℕ → A) (x : A) (b : Bool) (ports ours : List ℕ) → (b ≡ true → ports ≡ ours) → cond b (f ports) x ≡ cond b (f ours) x
-if_begins f x true ports ours same = ap f (same refl)
-if_begins f x false ports ours same = refl
+order_few r offset first = omega (arith, fewer_unreserved r (whole_order r offset first), whole_few r offset first)
 
 -- where no search begins, the ports are for nothing
-bind_as_same : (m : Mine) (end : End) (ports ours : List ℕ) (state : State) → ((is_unbound state && (end.port == 0)) ≡ true → ports ≡ ours) → plans.bind_as state m end ports ≡ plans.bind_as state m end ours
+any_same : (a : Owner) (addr : ℕ) (late : Bool) (ports ours : List ℕ) → (not late ≡ true → ports ≡ ours)
+    → cond late (ends (done (plans.plain (addressed a addr)))) (plans.search_bind a addr (plans.bound a addr) (ends (refused errors.NoPort)) ports)
+    ≡ cond late (ends (done (plans.plain (addressed a addr)))) (plans.search_bind a addr (plans.bound a addr) (ends (refused errors.NoPort)) ours)
+any_same a addr true ports ours same = refl
+any_same a addr false ports ours same = ap (plans.search_bind a addr (plans.bound a addr) (ends (refused errors.NoPort))) (same refl)
+
+if_any : (a : Owner) (end : End) (any : Bool) (ports ours : List ℕ) (x : Asking Did) → ((any && not a.noport) ≡ true → ports ≡ ours) → cond any (plans.bind_any a end.addr ports) x ≡ cond any (plans.bind_any a end.addr ours) x
+if_any a end true ports ours x same = any_same a end.addr a.noport ports ours same
+if_any a end false ports ours x same = refl
+
+bind_as_same : (m : Mine) (end : End) (ports ours : List ℕ) (state : State) → ((is_unbound state && (end.port == 0) && not m.owner.noport) ≡ true → ports ≡ ours) → plans.bind_as state m end ports ≡ plans.bind_as state m end ours
 bind_as_same m end ports ours states.Unbound same =
     let a = m.owner in
-    if_begins (λ ps. plans.search_bind a end.addr (plans.bound a end.addr) (ends (refused errors.NoPort)) ps)
-    (asks (bind_key end.port a.net) (requests.Bind (bound_at a end.addr end.port)) (plans.bind_answered a end)) (end.port == 0) ports ours same
+    if_any a end (end.port == 0) ports ours (asks (bind_key end.port a.net) (requests.Bind (bound_at a end.addr end.port)) (plans.bind_answered a end)) same
 bind_as_same m end ports ours states.Bound same = refl
 bind_as_same m end ports ours states.Listening same = refl
 bind_as_same m end ports ours states.Full same = refl
 bind_as_same m end ports ours states.TimeWait same = refl
 
-pub bind_same : (m : Mine) (end : End) (ports ours : List ℕ) → ((is_unbound m.owner.state && (end.port == 0)) ≡ true → ports ≡ ours) → plans.bind m end ports ≡ plans.bind m end ours
+pub bind_same : (m : Mine) (end : End) (ports ours : List ℕ) → (searches_port m.owner end ≡ true → ports ≡ ours) → plans.bind m end ports ≡ plans.bind m end ours
 bind_same m end ports ours same = bind_as_same m end ports ours m.owner.state same
 
 module _ (shape : Shape) (seed : ℕ) where

@@ -78,9 +78,9 @@ pub(crate) fn is_unbound(socket: &Sock) -> bool
 
 /// A search begins by `bind` of the socket to that end.
 fn searches_bind(socket: &Sock, end: End) -> bool
-    ensures { result ≡ (commands.is_unbound (mine_of socket.now).owner.state && (end.port == 0)) }
+    ensures { result ≡ commands.searches_port (mine_of socket.now).owner end }
 {
-    is_unbound(socket) && end.port == 0
+    is_unbound(socket) && end.port == 0 && !socket.owner().noport
 }
 
 impl Machine {

@@ -48,7 +48,8 @@ fn searches_connect(socket: &Sock, from: Option<u32>, to: End) -> bool
     ensures { result ≡ (commands.is_unbound (mine_of socket.now).owner.state
         && commands.is_some (plans.source_to (mine_of socket.now).owner from to)) }
 {
-    is_unbound(socket) && !owned::is_no_end(to) && owned::source_of(0, from).is_some()
+    let addr = socket.owner().addr;
+    is_unbound(socket) && !owned::is_no_end(to) && owned::source_of(addr, from).is_some()
 }
 
 impl Machine {

@@ -60,7 +60,7 @@ impl Offsets {
         ensures offset { result ≡ spec.offset_of self.old }
         ensures after { self.new ≡ spec.past_offset self.old }
     {
-        let size = ports::size(self.range);
+        let size = ports::size(&self.range);
         match self.offset {
             Some(offset) => (u32::from(offset) % size) as u16,
             None => (self.generator.next_word() % size) as u16,
@@ -75,7 +75,7 @@ impl Offsets {
     {
         let offset = if begins { self.draw() } else { 0 };
         let range = self.range;
-        let _size = ports::size(range);
+        let _size = ports::size(&range);
         Ports::new(range, offset, first)
     }
 }

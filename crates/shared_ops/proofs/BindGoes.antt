@@ -1,5 +1,6 @@
 -- How the plans of `bind` go on by the entries of a pass.
-use Rattle.std.proofs.Common.{◌≡◌, ℕ, ◌%◌, List, [], ◌∷◌, ◌++◌, None, Result, Ok, Err, IfOk, IfErr, OnErr, refl, sym, ap, subst, ◌∙◌, false, append-nil, if◌then◌else◌, eq-eqb, ne_eqb, ◌≢◌}
+use Rattle.std.proofs.Common.{◌≡◌, ℕ, ◌%◌, ◌==◌, ◌&&◌, Bool, true, List, [], ◌∷◌, ◌++◌, None, Result, Ok, Err, IfOk, IfErr, OnErr, refl, sym, ap, subst, ◌∙◌, false, append-nil, if◌then◌else◌, eq-eqb, ne_eqb, ◌≢◌}
+use Rattle.std.proofs.lemmas.Bool.{false≢true}
 use Rattle.sock_card.specs.declared.owner.Owner.{Owner}
 use Rattle.sock_card.specs.declared.owner.State.{State}
 use Rattle.sock_card.specs.declared.owner.State.TheVariants as states
@@ -15,7 +16,7 @@ use Rattle.bind_buckets.specs.Answers.{answer_of_bind}
 use Rattle.bind_buckets.specs.OwnTold.{StandsOwn}
 use Rattle.bind_buckets.specs.Turned.{View, Gave, OneAsked}
 use Rattle.flat_list.specs.declared.command.End.{End}
-use Rattle.flat_list.specs.Owned.{bound_at}
+use Rattle.flat_list.specs.Owned.{addressed, bound_at}
 use Rattle.port_search.specs.declared.ends.SearchEnd.{SearchEnd}
 use Rattle.port_search.specs.declared.ends.SearchEnd.TheVariants as searches
 use Rattle.port_search.specs.Search.{IsNotFull, at_port}
@@ -24,7 +25,7 @@ use Rattle.table_model.specs.declared.operation.OpEnd.{OpEnd}
 use Rattle.table_model.specs.declared.operation.OpEnd.TheVariants as errors
 use Rattle.table_model.specs.Asking.{Asking, ends, asks}
 use Rattle.table_model.specs.Own.{Mine}
-use Rattle.table_model.specs.Operations.{refused, search_bind, found_next, bound, bind_answered, bind_unbound, bind_as, bind}
+use Rattle.table_model.specs.Operations.{Did, done, refused, plain, search_bind, found_next, bound, bind_answered, bind_unbound, bind_as, bind}
 use Rattle.race_record.specs.Deeds.{Deed, entries_in}
 use Rattle.chain_deeds.specs.Sides.{Side}
 use Rattle.chain_deeds.specs.Made.{Does}
@@ -197,14 +198,41 @@ module _ (count : ℕ) (m : Mine) (end : End) (ports : List ℕ) (v w : View) (c
   bind_answers r state k =
       subst (λ (st : State). CarriedOut first_mine refused count m.owner.name (bind_as st m end ports) v w c c (without_socket (bound_answer s m.owner end.addr r))) (sym state) (answered r k)
 
--- by the end's port
-pub searched_plan : (a : Owner) (end : End) (ports : List ℕ) → end.port ≡ 0 → search_bind a end.addr (bound a end.addr) (ends (refused errors.NoPort)) ports ≡ bind_unbound a end ports
-searched_plan a end ports is =
-    sym (ap (λ t. if t then search_bind a end.addr (bound a end.addr) (ends (refused errors.NoPort)) ports else asks (bind_key end.port a.net) (requests.Bind (bound_at a end.addr end.port)) (bind_answered a end)) (eq-eqb end.port 0 is))
+-- the plan by the end's port, and by when it is taken
+plan_by : Owner → End → List ℕ → Bool → Bool → Asking Did
+plan_by a end ports any late =
+    if any then (if late then ends (done (plain (addressed a end.addr))) else search_bind a end.addr (bound a end.addr) (ends (refused errors.NoPort)) ports)
+    else asks (bind_key end.port a.net) (requests.Bind (bound_at a end.addr end.port)) (bind_answered a end)
+
+pub searched_plan : (a : Owner) (end : End) (ports : List ℕ) → end.port ≡ 0 → ((end.port == 0) && a.noport) ≡ false
+    → search_bind a end.addr (bound a end.addr) (ends (refused errors.NoPort)) ports ≡ bind_unbound a end ports
+unfolding plan_by
+searched_plan a end ports is now =
+    let any = eq-eqb end.port 0 is in
+    let late : a.noport ≡ false = rw any at now in
+    sym (ap (λ b. plan_by a end ports b a.noport) any ∙ ap (plan_by a end ports true) late)
+
+both : (x y : Bool) → (x && y) ≡ true → (x ≡ true) × (y ≡ true)
+both true y h = (refl, h)
+both false y h = absurd (false≢true h)
+
+-- a port that is taken late
+pub late_plan : (a : Owner) (end : End) (ports : List ℕ) → ((end.port == 0) && a.noport) ≡ true → bind_unbound a end ports ≡ ends (done (plain (addressed a end.addr)))
+unfolding plan_by
+late_plan a end ports is =
+    let parts = both (end.port == 0) a.noport is in
+    ap (λ b. plan_by a end ports b a.noport) parts.0 ∙ ap (plan_by a end ports true) parts.1
+
+pub late_goes : (count : ℕ) (m : Mine) (end : End) (ports : List ℕ) (v : View) (c : Side) → m.owner.state ≡ states.Unbound → ((end.port == 0) && m.owner.noport) ≡ true
+    → Went count (bind m end ports) v v c c (ends (done (plain (addressed m.owner end.addr))))
+late_goes count m end ports v c state is =
+    subst (λ (p : Asking Did). Went count p v v c c (ends (done (plain (addressed m.owner end.addr)))))
+    (sym (ap (λ (st : State). bind_as st m end ports) state ∙ late_plan m.owner end ports is)) (went_nowhere count (ends (done (plain (addressed m.owner end.addr)))) v c)
 
 pub given_plan : (a : Owner) (end : End) (ports : List ℕ) → end.port ≢ 0 → asks (bind_key end.port a.net) (requests.Bind (bound_at a end.addr end.port)) (bind_answered a end) ≡ bind_unbound a end ports
+unfolding plan_by
 given_plan a end ports not =
-    sym (ap (λ t. if t then search_bind a end.addr (bound a end.addr) (ends (refused errors.NoPort)) ports else asks (bind_key end.port a.net) (requests.Bind (bound_at a end.addr end.port)) (bind_answered a end)) (ne_eqb end.port 0 not))
+    sym (ap (λ t. plan_by a end ports t a.noport) (ne_eqb end.port 0 not))
 
 -- a socket that has a port
 pub has_port : (count : ℕ) (m : Mine) (end : End) (ports : List ℕ) (v : View) (c : Side) (state : State) → m.owner.state ≡ state → bind_as state m end ports ≡ ends (refused errors.Inval) → Went count (bind m end ports) v v c c (ends (refused errors.Inval))

@@ -22,7 +22,7 @@ use Rattle.table_model.specs.Asking.{Asking, ends, asks, inserts, adds, unhashes
 use Rattle.table_model.specs.Tables.{run, reaped}
 use Rattle.table_model.specs.Goes.{Told, AreChains, tables_by}
 use Rattle.table_model.specs.Goes as told
-use Rattle.table_model.proofs.GoesAlone.{goes_alone}
+use Rattle.table_model.proofs.commands.Alone.{goes_alone}
 use Rattle.list_words.specs.Lists.{Each}
 use Rattle.race_record.specs.Deeds.{Wish, Tried, Deed, entered, inserted, added, left, entry_of, entries_in}
 use Rattle.race_record.specs.Deeds as deeds

@@ -119,19 +119,19 @@ module _ (place : ℕ) (a : Owner) (v w : View) where
       there other ne = knows_on a.name other None v w xs (elsewhere other ne) (grows v w xs t.asked.gave) (all_else other (t.first ++ gone_if true a) xs ne t.asked.asked)
 
 -- an owner that a search bound, and that would listen
-module _ (count : ℕ) (a : Owner) (v u w : View) (ports : List ℕ) (port : ℕ) (away : IsAway a.name v) (at : BindsAt count (bound_at a 0 0) ports v u port) where
+module _ (count : ℕ) (a : Owner) (v u w : View) (ports : List ℕ) (port : ℕ) (away : IsAway a.name v) (at : BindsAt count (bound_at a a.addr 0) ports v u port) where
   abbrev taken : Owner
-  taken = bound_at a 0 port
+  taken = bound_at a a.addr port
 
   came : Came taken (bind_key port a.net % count) u
-  came = search_came count (bound_at a 0 0) v u ports port refl away at
+  came = search_came count (bound_at a a.addr 0) v u ports port refl away at
 
   pub search_stands : StandsOwn taken (bind_key port a.net % count) u
   search_stands = came_stands taken (bind_key port a.net % count) u came
 
   elsewhere : (other : ℕ) → other ≢ bind_key port a.net % count → Knows a.name None other u
   elsewhere other ne =
-      let b = bound_at a 0 0 in
+      let b = bound_at a a.addr 0 in
       let xs = at.refused ++ at.last ∷ [] in
       let quiet = all_pass other at.refused (refused_quiet count b at.before at.refused refl at.refusals) in
       let pass = each_append (Passes other) at.refused (at.last ∷ []) quiet (inl (λ here. ne (sym here ∙ at.taken.place_is)), tt) in

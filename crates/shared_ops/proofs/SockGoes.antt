@@ -9,7 +9,7 @@ use Rattle.sock_card.specs.declared.owner.State.{State}
 use Rattle.table_model.specs.declared.operation.OpEnd.{OpEnd}
 use Rattle.table_model.specs.Own.{Mine}
 use Rattle.table_model.specs.Asking.{Asking}
-use Rattle.table_model.specs.Operations.{Did, done, refused, connect, connect_from, bound_addr}
+use Rattle.table_model.specs.Operations.{Did, done, refused, connect, connect_from}
 use Rattle.chain_deeds.specs.Sides.{Side}
 use Rattle.shared_ops.specs.declared.sock.Sock.{Sock}
 use Rattle.shared_ops.specs.Connecting.{connect_answer}
@@ -24,8 +24,8 @@ connect_answered count name p v w c d s (Err end) k =
 
 module _ (shape : Shape) (seed : ℕ) (m : Mine) (from : Option ℕ) (to : End) (moment : ℕ) (rule : Replace) (ports : List ℕ) where
   -- the plan of `connect` of a socket in that state, by its source
-  pub plan_by : (state : State) (source : Option ℕ) → m.owner.state ≡ state → source_to (bound_addr state m.owner) from to ≡ source
+  pub plan_by : (state : State) (source : Option ℕ) → m.owner.state ≡ state → source_to m.owner.addr from to ≡ source
       → connect_from shape seed state m.owner source to moment rule ports ≡ connect shape seed m from to moment rule ports
   plan_by state source is from_is =
-      sym (ap (λ (st : State). connect_from shape seed st m.owner (if is_no_end to then None else source_of (bound_addr st m.owner) from) to moment rule ports) is
+      sym (ap (λ (st : State). connect_from shape seed st m.owner (if is_no_end to then None else source_of m.owner.addr from) to moment rule ports) is
       ∙ ap (λ (s : Option ℕ). connect_from shape seed state m.owner s to moment rule ports) from_is)

@@ -1,6 +1,6 @@
 //! `bind`.
 
-ghost use Rattle.std.specs.Prelude.{◌≡◌, ◌+◌, ◌%◌, ◌^◌, ◌<◌, ◌≤◌, length, IfOk, IfErr, OnErr};
+ghost use Rattle.std.specs.Prelude.{◌≡◌, ◌+◌, ◌%◌, ◌^◌, ◌<◌, ◌≤◌, ◌==◌, ◌&&◌, false, length, IfOk, IfErr, OnErr};
 ghost use Rattle.sock_card.specs.Conflict.{bind_key};
 ghost use Rattle.turn_table.specs.Passes as words;
 ghost use Rattle.turn_table.specs.Passes.{known};
@@ -121,7 +121,7 @@ fn bind_searched<R: Wait>(
     end_of_search(found)
 }
 
-/// Binds an owner without a port.
+/// Binds an owner without a port that isn't taken late.
 fn bind_unbound<R: Wait>(
     rt: &R,
     buckets: &Turns<Box<Bucket>>,
@@ -133,6 +133,7 @@ fn bind_unbound<R: Wait>(
     requires idle { IsIdle buckets.now pass.old }
     requires few { words.draws pass.old + (length ports + 1) ≤ 2 ^ 48 }
     requires may { MayName (words.caller pass.old) owner.name }
+    requires now { (end.port == 0 && owner.noport) ≡ false }
     ensures idle { IsIdle buckets.now pass.new }
     ensures caller { words.caller pass.new ≡ words.caller pass.old }
     ensures draws { words.draws pass.new ≤ words.draws pass.old + (length ports + 1) }
@@ -200,6 +201,9 @@ fn bind_shared<R: Wait>(
     let owner = *socket.owner();
     match socket {
         Sock::Unbound(unbound) => {
+            if end.port == 0 && owner.noport {
+                return Ok((Sock::Unbound(unbound.at_address(end.addr)), 0));
+            }
             let bound = bind_unbound(rt, &tables.buckets, &mut worker.turns, owner, end, ports);
             bound_answer(Sock::Unbound(unbound), owner, end.addr, bound)
         }
@@ -210,7 +214,7 @@ fn bind_shared<R: Wait>(
 }
 
 /// Binds a socket to an address and a port, or to the first port of a search where the end's port is 0; the port comes
-/// with the bound socket.
+/// with the bound socket. One with `noport` has the address alone then, and comes without a port and with 0.
 ///
 /// Its plan goes on so by the answers of the entries that this call gave, whoever else was at the tables. On a worker
 /// that was never split, the plan comes to that on the tables that its own entries make.

@@ -178,7 +178,7 @@ fn connect_shared<R: Wait>(
     let owner = *socket.owner();
     match socket {
         Sock::Unbound(unbound) => {
-            let Some(source) = source_to(0, from, to) else {
+            let Some(source) = source_to(owner.addr, from, to) else {
                 return Err((Sock::Unbound(unbound), OpEnd::Inval));
             };
             let full = search_connect(rt, tables, worker, owner, source, to, moment, rule, ports);
@@ -197,9 +197,9 @@ fn connect_shared<R: Wait>(
     }
 }
 
-/// Connects a socket from an address to another end, at a moment in seconds; its own end comes with it. A bound one
-/// keeps its port, and its address, unless that is 0.0.0.0; one without a port takes the first of a search. A TIME_WAIT
-/// of the four-tuple may give way by that rule.
+/// Connects a socket from an address to another end, at a moment in seconds; its own end comes with it. A socket keeps
+/// the address to which it is bound, unless that is 0.0.0.0, and its port; one without a port takes the first of a
+/// search. A TIME_WAIT of the four-tuple may give way by that rule.
 ///
 /// Its plan goes on so by the answers of the entries that this call gave and by the changes that it made, whoever else
 /// was at the tables. On a worker that was never split, the plan comes to that on the tables that its own entries and

@@ -259,7 +259,7 @@ fn start<R: Wait>(
     }
 }
 
-/// Lets an owner without a port listen, at 0.0.0.0 and the first port that it can have.
+/// Lets an owner without a port listen, at its address and the first port that it can have.
 fn start_unbound<R: Wait>(
     rt: &R,
     tables: &Tables,
@@ -277,7 +277,7 @@ fn start_unbound<R: Wait>(
     ensures entered { words.draws worker.new.turns ≤ words.draws worker.old.turns + (length ports + 2) }
     ensures drawn { Draws 2 worker.old worker.new }
     ensures carried { CarriedOut plans.done plans.refused (buckets_of tables.now) owner.name
-        (plans.search_bind owner 0
+        (plans.search_bind owner owner.addr
         (plans.listen_found tables.now.chains.layout.shape tables.now.chains.layout.seed owner)
         (ends (plans.refused OpEnd.NoPort)) ports)
         (turned worker.old) (turned worker.new)
@@ -290,10 +290,10 @@ fn start_unbound<R: Wait>(
     ensures kept { OnErr result (IsAway owner.name (turned worker.new)) }
     ensures stay { PlacesStay (chained tables.now worker.old).view (chained tables.now worker.new).view }
 {
-    let wanted = owned::bound_at(owner, 0, 0);
+    let wanted = owned::bound_at(owner, owner.addr, 0);
     match find_bind(rt, &tables.buckets, &mut worker.turns, ports, wanted) {
         Ok(port) => {
-            let bound = owned::bound_at(owner, 0, port);
+            let bound = owned::bound_at(owner, owner.addr, port);
             start(rt, tables, worker, &bound, true)
         }
         Err(SearchEnd::NoPort) => Err(OpEnd::NoPort),
@@ -362,7 +362,8 @@ fn listen_shared<R: Wait>(
     }
 }
 
-/// Lets a socket listen; its port comes with it. One without a port takes the first of a search, at 0.0.0.0. A listener
+/// Lets a socket listen; its port comes with it. One without a port takes the first of a search, at the
+/// address to which it is bound, or 0.0.0.0. A listener
 /// stays as it is.
 ///
 /// Its plan goes on so by the answers of the entries that this call gave and by the changes that it made, whoever else was

@@ -1,7 +1,7 @@
 //! Sockets, with a type for each state.
 
 ghost use Rattle.std.specs.Prelude.{◌≡◌};
-ghost use Rattle.flat_list.specs.Owned.{new_owner};
+ghost use Rattle.flat_list.specs.Owned.{addressed, new_owner};
 ghost use Rattle.table_model.specs.Operations.{plain};
 ghost use Rattle.shared_ops.specs.Socks.{mine_of, FitsState, full_at, listening_at, end_of};
 
@@ -10,7 +10,7 @@ use flat_list::{End, Options, owned};
 use sock_card::{Owner, State};
 use std::marker::Model;
 
-/// A socket without a port.
+/// A socket without a port; it may have an address.
 #[derive(Debug, Drop)]
 pub struct Unbound {
     pub(crate) owner: Owner,
@@ -36,6 +36,15 @@ impl Unbound {
     {
         Unbound {
             owner: owned::new_owner(name, options),
+        }
+    }
+
+    /// The socket, bound to that address, with its port still to be taken.
+    pub(crate) fn at_address(self, addr: u32) -> Self
+        ensures { result ≡ plain (addressed self.owner addr) }
+    {
+        Unbound {
+            owner: owned::addressed(self.owner, addr),
         }
     }
 }

@@ -13,7 +13,7 @@ use crate::tables::{Tables, Worker};
 use bind_buckets::{Sharing, turning};
 use chain_book::{Replace, Shape};
 use chain_deeds::ChainTable;
-use flat_list::{End, First, Options, Range};
+use flat_list::{End, First, NONE_RESERVED, Options, Range};
 use port_search::Ports;
 use reuseport_group::{GroupPasses, Groups, name_of};
 use std::alloc::{AllocError, Global};
@@ -26,6 +26,7 @@ const PLAIN: Options = Options {
     dev: None,
     reuseaddr: false,
     reuseport: false,
+    noport: false,
 };
 
 const WEB: End = End {
@@ -71,6 +72,7 @@ fn ports() -> Ports
     let range = Range {
         low: 40000,
         high: 40003,
+        reserved: NONE_RESERVED,
     };
     Ports::new(range, 0, First::Even)
 }

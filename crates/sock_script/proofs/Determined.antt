@@ -8,17 +8,15 @@ use Rattle.flat_list.specs.declared.command.Command.{Command}
 use Rattle.flat_list.specs.declared.command.Command.TheVariants as commands
 use Rattle.chain_book.specs.declared.shape.Shape.{Shape}
 use Rattle.flat_list.specs.declared.header.Range.{Range}
+use Rattle.flat_list.specs.declared.header.Reserved.{Reserved}
 use Rattle.sock_script.specs.declared.line.Line.{Line}
 use Rattle.sock_script.specs.declared.line.Line.TheVariants as lines
 use Rattle.sock_script.specs.Forms.{HasForm, command_words, option_words, CommandFits, EndFits, NamespaceFits, DeviceFits, ShapeFits, SourceFits, RangeFits, range_words, shape_words, UserFits, namespace_words, user_words, device_words, flag_words, source_words}
+use Rattle.sock_script.proofs.ReservedPorts.{one_reserved}
 use Rattle.sock_script.proofs.Verbs.{word_code, verb_code, never}
-use Rattle.sock_script.proofs.Words.{second_is, third_is, past_one, past_two, past_three, options_of, rest-lacks_net, rest-lacks_uid, flags-lack_dev, namespace-lacks_dev, reuseport-lacks_reuseaddr, flag-last, namespace-last, one_switch}
+use Rattle.sock_script.proofs.Words.{second_is, third_is, past_one, past_two, past_three, options_of, rest-lacks_net, rest-lacks_uid, flags-lack_dev, namespace-lacks_dev, reuseport-lacks_reuseaddr, noport-lacks_reuseport, Lacks, flag-last, namespace-last, one_switch}
 use Rattle.inet_io.specs.Texts.{end_text}
 use Rattle.inet_io.proofs.EndTexts.{addr_text_injective, end_text_injective}
-
--- the words don't begin with that one
-abbrev Lacks : List ℕ → List (List ℕ) → Type 0
-Lacks word words = slice_get words 0 ≡ Some word → ⊥
 
 -- an optional device is read in one way
 one_device : (d e : Option ℕ) (vs ws : List (List ℕ)) → DeviceFits d → DeviceFits e → Lacks (codes "dev") vs → Lacks (codes "dev") ws → device_words d ++ vs ≡ device_words e ++ ws → (d ≡ e) × (vs ≡ ws)
@@ -70,15 +68,16 @@ one_end e f x y h =
 one_options : (a b : Options) → NamespaceFits a.net × UserFits a.uid × DeviceFits a.dev → NamespaceFits b.net × UserFits b.uid × DeviceFits b.dev → option_words a ≡ option_words b → a ≡ b
 one_options a b x y h =
     let words = sym (options_of a) ∙ h ∙ options_of b in
-    let net = one_namespace a.net b.net _ _ x.0 y.0 (rest-lacks_net a.uid a.dev a.reuseaddr a.reuseport) (rest-lacks_net b.uid b.dev b.reuseaddr b.reuseport) words in
-    let uid = one_user a.uid b.uid _ _ x.1 y.1 (rest-lacks_uid a.dev a.reuseaddr a.reuseport) (rest-lacks_uid b.dev b.reuseaddr b.reuseport) net.1 in
-    let dev = one_device a.dev b.dev _ _ x.2 y.2 (flags-lack_dev a.reuseaddr a.reuseport) (flags-lack_dev b.reuseaddr b.reuseport) uid.1 in
-    let addr = one_flag _ a.reuseaddr b.reuseaddr _ _ (reuseport-lacks_reuseaddr a.reuseport) (reuseport-lacks_reuseaddr b.reuseport) dev.1 in
-    let port = one_flag _ a.reuseport b.reuseport [] [] (λ w. cc) (λ w. cc) (sym (flag-last _ a.reuseport) ∙ addr.1 ∙ flag-last _ b.reuseport) in
-    let P : Option ℕ → Option ℕ → Option ℕ → Bool → Bool → Options = λ n u d r s. record { net = n; uid = u; dev = d; reuseaddr = r; reuseport = s } in
-    ap (λ t. P t a.uid a.dev a.reuseaddr a.reuseport) net.0 ∙ ap (λ t. P b.net t a.dev a.reuseaddr a.reuseport) uid.0
-    ∙ ap (λ t. P b.net b.uid t a.reuseaddr a.reuseport) dev.0 ∙ ap (λ t. P b.net b.uid b.dev t a.reuseport) addr.0
-    ∙ ap (P b.net b.uid b.dev b.reuseaddr) port.0
+    let net = one_namespace a.net b.net _ _ x.0 y.0 (rest-lacks_net a) (rest-lacks_net b) words in
+    let uid = one_user a.uid b.uid _ _ x.1 y.1 (rest-lacks_uid a) (rest-lacks_uid b) net.1 in
+    let dev = one_device a.dev b.dev _ _ x.2 y.2 (flags-lack_dev a) (flags-lack_dev b) uid.1 in
+    let addr = one_flag _ a.reuseaddr b.reuseaddr _ _ (reuseport-lacks_reuseaddr a) (reuseport-lacks_reuseaddr b) dev.1 in
+    let port = one_flag _ a.reuseport b.reuseport _ _ (noport-lacks_reuseport a) (noport-lacks_reuseport b) addr.1 in
+    let late = one_flag _ a.noport b.noport [] [] (λ w. cc) (λ w. cc) (sym (flag-last _ a.noport) ∙ port.1 ∙ flag-last _ b.noport) in
+    let P : Option ℕ → Option ℕ → Option ℕ → Bool → Bool → Bool → Options = λ n u d r s l. record { net = n; uid = u; dev = d; reuseaddr = r; reuseport = s; noport = l } in
+    ap (λ t. P t a.uid a.dev a.reuseaddr a.reuseport a.noport) net.0 ∙ ap (λ t. P b.net t a.dev a.reuseaddr a.reuseport a.noport) uid.0
+    ∙ ap (λ t. P b.net b.uid t a.reuseaddr a.reuseport a.noport) dev.0 ∙ ap (λ t. P b.net b.uid b.dev t a.reuseport a.noport) addr.0
+    ∙ ap (λ t. P b.net b.uid b.dev b.reuseaddr t a.noport) port.0 ∙ ap (P b.net b.uid b.dev b.reuseaddr b.reuseport) late.0
 
 one_connect : (l m : List ℕ) (d e : Option ℕ) (a b : End) → CommandFits (commands.Connect l d a) → CommandFits (commands.Connect m e b) → command_words (commands.Connect l d a) ≡ command_words (commands.Connect m e b) → commands.Connect l d a ≡ commands.Connect m e b
 one_connect l m d e a b x y h =
@@ -150,11 +149,11 @@ one_range : (a b : Range) → RangeFits a → RangeFits b → range_words a ≡ 
 one_range a b x y h =
     let low = decimal_injective a.low b.low (omega (arith, x.order, x.high)) (omega (arith, y.order, y.high)) (second_is _ _ _ _ _ _ h) in
     let high = decimal_injective a.high b.high (omega (arith, x.high)) (omega (arith, y.high)) (third_is _ _ _ _ _ _ _ _ h) in
-    let P : ℕ → ℕ → Range = λ l h. record { low = l; high = h } in
-    ap (λ l. P l a.high) low ∙ ap (P b.low) high
+    let P : ℕ → ℕ → Reserved → Range = λ l h r. record { low = l; high = h; reserved = r } in
+    ap (λ l. P l a.high a.reserved) low ∙ ap (λ t. P b.low t a.reserved) high ∙ ap (P b.low b.high) (x.reserved ∙ sym y.reserved)
 
 -- the kind of line that a first word begins: 1 a table's, 2 a section's, 3 a range's, 4 a seed's, 5 an offset's, 6 a
--- switch's, 8 a capture's, 7 a command
+-- switch's, 8 a capture's, 9 reserved ports', 7 a command
 abbrev verb_kind : ℕ → ℕ
 verb_kind verb =
     cond (verb == word_code 0 (codes "table")) 1
@@ -163,7 +162,8 @@ verb_kind verb =
     (cond (verb == word_code 0 (codes "seed")) 4
     (cond (verb == word_code 0 (codes "offset")) 5
     (cond (verb == word_code 0 (codes "twreuse")) 6
-    (cond (verb == word_code 0 (codes "capture")) 8 7))))))
+    (cond (verb == word_code 0 (codes "reserved")) 9
+    (cond (verb == word_code 0 (codes "capture")) 8 7)))))))
 
 -- the kind of line that words are, where 0 is a line that is passed over
 abbrev words_kind : List (List ℕ) → ℕ
@@ -177,6 +177,7 @@ line_kind lines.PassedOver = 0
 line_kind (lines.Table shape) = 1
 line_kind (lines.Section number) = 2
 line_kind (lines.Range range) = 3
+line_kind (lines.Reserved reserved) = 9
 line_kind (lines.Seed seed) = 4
 line_kind (lines.Offset offset) = 5
 line_kind (lines.TimeWaitReuse reuse) = 6
@@ -196,6 +197,7 @@ has_kind ((b ∷ bs) ∷ ws) lines.PassedOver h = ap (λ x. words_kind ((x ∷ b
 has_kind w (lines.Table shape) h = ap words_kind h.0
 has_kind w (lines.Section number) h = ap words_kind h.0
 has_kind w (lines.Range range) h = ap words_kind h.0
+has_kind w (lines.Reserved reserved) h = ap words_kind h.0
 has_kind w (lines.Seed seed) h = ap words_kind h.0
 has_kind w (lines.Offset offset) h = ap words_kind h.0
 has_kind w (lines.TimeWaitReuse reuse) h = ap words_kind h
@@ -209,6 +211,7 @@ one_form w (lines.Table a) (lines.Table b) h k = ap lines.Table (one_shape a b h
 one_form w (lines.Section n) (lines.Section m) h k =
     ap lines.Section (decimal_injective n m (omega (arith, h.2)) (omega (arith, k.2)) (second_is _ _ _ _ _ _ (sym h.0 ∙ k.0)))
 one_form w (lines.Range a) (lines.Range b) h k = ap lines.Range (one_range a b h.1 k.1 (sym h.0 ∙ k.0))
+one_form w (lines.Reserved a) (lines.Reserved b) h k = ap lines.Reserved (one_reserved a b h.1 k.1 (sym h.0 ∙ k.0))
 one_form w (lines.Seed n) (lines.Seed m) h k =
     ap lines.Seed (decimal_injective n m (omega (arith, h.1)) (omega (arith, k.1)) (second_is _ _ _ _ _ _ (sym h.0 ∙ k.0)))
 one_form w (lines.Offset n) (lines.Offset m) h k =

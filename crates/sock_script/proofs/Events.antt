@@ -1,5 +1,5 @@
 -- What one command makes a run do, and what is replied to it.
-use Rattle.std.proofs.Common.{◌≡◌, ◌∙◌, ℕ, min, List, [], ◌∷◌, ◌++◌, map, take, drop, length, Bool, true, false, refl, sym, ap, ap₂, arith, append_assoc, append-nil}
+use Rattle.std.proofs.Common.{◌≡◌, ◌∙◌, ℕ, min, List, [], ◌∷◌, ◌++◌, map, take, drop, length, false, refl, sym, ap, ap₂, arith, append_assoc}
 use Rattle.std.proofs.lemmas.Grind.{common_steps}
 use Rattle.capture_reader.specs.declared.packet.Item.{Item}
 use Rattle.flat_list.specs.declared.command.Command.{Command}
@@ -9,7 +9,7 @@ use Rattle.flat_list.specs.Flat.{Flat}
 use Rattle.flat_list.specs.Run.{Issued}
 use Rattle.flat_list.specs.Step.{step}
 use Rattle.sock_script.specs.Output.{Event, asked, stored, events_at, events_from, left_by, replies_from, item_reply}
-use Rattle.sock_script.specs.Steps.{issue, takes_items, RunsCommand}
+use Rattle.sock_script.specs.Steps.{takes_items, RunsCommand}
 
 -- a command that isn't `packets` takes none
 pub takes_none : (command : Command) → ((count : ℕ) → command ≡ commands.Packets count → ⊥) → takes_items command ≡ false

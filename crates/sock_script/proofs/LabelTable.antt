@@ -1,6 +1,6 @@
 -- The table of a script's labels gives the label of each name.
-use Rattle.std.proofs.Common.{◌≡◌, ℕ, ◌+◌, ◌/◌, ◌%◌, ◌^◌, ◌<◌, zero, suc, List, [], ◌∷◌, ◌++◌, map, Option, Some, None, unwrap_or, slice_get, length, take, get_or, append-nil, refl, sym, ap, ap₂, ◌∙◌, arith}
-use Rattle.std.specs.List.{cons_option, filter_map, slice_index_or}
+use Rattle.std.proofs.Common.{◌≡◌, ℕ, ◌+◌, ◌/◌, ◌%◌, ◌^◌, ◌<◌, zero, suc, List, [], ◌∷◌, ◌++◌, map, Option, Some, None, unwrap_or, slice_get, length, take, get_or, append-nil, refl, sym, ap, ap₂, ◌∙◌}
+use Rattle.std.specs.List.{cons_option, slice_index_or}
 use Rattle.std.specs.Borrow.{Bor}
 use Rattle.std.specs.Option.{option_copied, option_map}
 use Rattle.std.proofs.lemmas.List.{take_more, map-append, get_or-map}

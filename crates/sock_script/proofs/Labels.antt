@@ -9,7 +9,7 @@ use Rattle.std.proofs.lemmas.List.Elements.{filter_map-append}
 use Rattle.std.proofs.lemmas.List.Folds.{list_any-append}
 use Rattle.flat_list.specs.declared.command.Command.{Command}
 use Rattle.flat_list.specs.declared.command.LabelKey.{LabelKey}
-use Rattle.flat_list.specs.Labels.{IsLabel, key_of, key_cmp, text_of}
+use Rattle.flat_list.specs.Labels.{key_of, key_cmp, text_of}
 use Rattle.flat_list.proofs.LabelKeys.{compared, same_key, label_told}
 use Rattle.sock_script.specs.Grammar.{given_label, labels_of}
 use Rattle.sock_script.specs.Steps.{IsSetOf, NotesLabel}

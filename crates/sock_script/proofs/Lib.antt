@@ -1,4 +1,5 @@
 pub mod Words
+pub mod ReservedPorts
 pub mod Powers
 pub mod Verbs
 pub mod Determined

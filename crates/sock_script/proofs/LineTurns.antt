@@ -1,6 +1,5 @@
 -- A turn of the loops that write lines: over items, over a section's commands, and over the sections.
-use Rattle.std.proofs.Common.{◌≡◌, ℕ, ◌+◌, ◌-◌, ◌≤◌, ◌<◌, ◌∙◌, zero, suc, min, Bool, false, List, [], ◌∷◌, ◌++◌, length, take, drop, get_or, map, sym, refl, ap, ap₂, subst, arith, append_assoc, append-nil, length-append, take_all}
-use Rattle.std.proofs.Math.Seq.{drop-cons}
+use Rattle.std.proofs.Common.{◌≡◌, ℕ, ◌+◌, ◌≤◌, ◌<◌, ◌∙◌, min, false, List, [], ◌∷◌, ◌++◌, length, take, drop, get_or, map, sym, refl, ap, ap₂, arith, append_assoc, append-nil, length-append, take_all}
 use Rattle.std.proofs.lemmas.Grind.{common_steps}
 use Rattle.std.proofs.lemmas.List.{length-take, length-drop, nil_from_length}
 use Rattle.capture_reader.specs.declared.packet.Item.{Item}
@@ -9,7 +8,7 @@ use Rattle.flat_list.specs.declared.command.Command.TheVariants as commands
 use Rattle.flat_list.specs.declared.command.Reply.{Reply}
 use Rattle.flat_list.specs.Run.{Issued}
 use Rattle.sock_script.specs.Output.{Event, asked, stored, events_at, events_from, left_by, issued_from, line_with, item_line}
-use Rattle.sock_script.specs.Steps.{issue, takes_items, found_at, lines_at, item_lines, Unwritten, NextOf, TakenOf, HasRoom, WritesItems, WritesSo, Writes}
+use Rattle.sock_script.specs.Steps.{issue, takes_items, found_at, lines_at, item_lines, Unwritten, NextOf, TakenOf, HasRoom, WritesItems, Writes}
 use Rattle.sock_script.proofs.Events.{asks_alone, leaves_all}
 use Rattle.sock_script.proofs.RunTurns.{next_drop}
 

@@ -64,6 +64,7 @@ follows_at : (old new : Draft) (line : Line) (n : ℕ) → begins_capture line �
 follows_at old new lines.PassedOver n plain h = ap (λ d. at_bytes d n) h
 follows_at old new (lines.Table shape) n plain h = (h.0, ap (λ d. at_bytes d n) h.1)
 follows_at old new (lines.Range range) n plain h = (h.0, ap (λ d. at_bytes d n) h.1)
+follows_at old new (lines.Reserved reserved) n plain h = (h.0, ap (λ d. at_bytes d n) h.1)
 follows_at old new (lines.Seed seed) n plain h = (h.0, ap (λ d. at_bytes d n) h.1)
 follows_at old new (lines.Offset offset) n plain h = (h.0, ap (λ d. at_bytes d n) h.1)
 follows_at old new (lines.TimeWaitReuse reuse) n plain h = (h.0, ap (λ d. at_bytes d n) h.1)
@@ -124,6 +125,7 @@ module _ (seed : ℕ) where
       record {
         table = Some (made_header seed).shape;
         range = None;
+        reserved = None;
         seed = Some seed;
         offset = None;
         twreuse = Some true;

@@ -1,5 +1,5 @@
 -- What the code learns of a line's words, as the grammar says it.
-use Rattle.std.proofs.Common.{◌≡◌, ℕ, List, subst, Bool, true, false, Option, None, Result, Ok, Err, IfOk}
+use Rattle.std.proofs.Common.{◌≡◌, ℕ, List, subst, Bool, true, false, None, Result, Ok, Err, IfOk}
 use Rattle.sock_script.specs.declared.parse.Mode.{Mode}
 use Rattle.sock_script.specs.declared.line.Line.{Line}
 use Rattle.sock_script.specs.Words.{words_of}

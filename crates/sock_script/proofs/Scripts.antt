@@ -18,6 +18,7 @@ module _ (mode : Mode) where
   one_follower old lines.PassedOver a b h k = h ∙ sym k
   one_follower old (lines.Table shape) a b h k = h.1 ∙ sym k.1
   one_follower old (lines.Range range) a b h k = h.1 ∙ sym k.1
+  one_follower old (lines.Reserved reserved) a b h k = h.1 ∙ sym k.1
   one_follower old (lines.Seed seed) a b h k = h.1 ∙ sym k.1
   one_follower old (lines.Offset offset) a b h k = h.1 ∙ sym k.1
   one_follower old (lines.TimeWaitReuse reuse) a b h k = h.1 ∙ sym k.1

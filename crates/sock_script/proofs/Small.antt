@@ -113,6 +113,7 @@ module _ (mode : Mode) where
   after_form old new text k lines.PassedOver form h w = still_within old new k _ (ap (λ d. d.sections) h) (omega arith) w
   after_form old new text k (lines.Table shape) form h w = still_within old new k _ (ap (λ d. d.sections) h.1) (omega arith) w
   after_form old new text k (lines.Range range) form h w = still_within old new k _ (ap (λ d. d.sections) h.1) (omega arith) w
+  after_form old new text k (lines.Reserved reserved) form h w = still_within old new k _ (ap (λ d. d.sections) h.1) (omega arith) w
   after_form old new text k (lines.Seed seed) form h w = still_within old new k _ (ap (λ d. d.sections) h.1) (omega arith) w
   after_form old new text k (lines.Offset offset) form h w = still_within old new k _ (ap (λ d. d.sections) h.1) (omega arith) w
   after_form old new text k (lines.TimeWaitReuse reuse) form h w = still_within old new k _ (ap (λ d. d.sections) h.1) (omega arith) w

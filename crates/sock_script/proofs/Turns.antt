@@ -39,6 +39,7 @@ module _ (mode : Mode) where
   form_bytes old new lines.PassedOver h = ap (λ d. d.bytes) h
   form_bytes old new (lines.Table shape) h = ap (λ d. d.bytes) h.1
   form_bytes old new (lines.Range range) h = ap (λ d. d.bytes) h.1
+  form_bytes old new (lines.Reserved reserved) h = ap (λ d. d.bytes) h.1
   form_bytes old new (lines.Seed seed) h = ap (λ d. d.bytes) h.1
   form_bytes old new (lines.Offset offset) h = ap (λ d. d.bytes) h.1
   form_bytes old new (lines.TimeWaitReuse reuse) h = ap (λ d. d.bytes) h.1

@@ -46,61 +46,104 @@ pub is_over : (words : List (Bor (List ℕ))) → [] ≡ texts words → false �
 is_over [] e some = false≢true some
 is_over (w ∷ ws) e some = cc
 
--- two words of different codes
+-- a word's code, where there is one
 first_code : Option (List ℕ) → ℕ
 first_code None = 0
 first_code (Some word) = word_code 0 word
 
-words_differ : (v w : List ℕ) → eqb (word_code 0 v) (word_code 0 w) ≡ false → Some v ≡ Some w → ⊥
+-- two words of different codes, which differ
+abbrev IsApart : List ℕ → List ℕ → Type 0
+IsApart v w = eqb (word_code 0 v) (word_code 0 w) ≡ false
+
+words_differ : (v w : List ℕ) → IsApart v w → Some v ≡ Some w → ⊥
 unfolding first_code
 words_differ v w apart e = never (word_code 0 v) (word_code 0 w) (ap first_code e) apart
 
--- the flags of a socket
-abbrev pub flags : Options → List (List ℕ)
-flags options = flag_words (codes "reuseaddr") options.reuseaddr ++ flag_words (codes "reuseport") options.reuseport
+-- the words don't begin with that one
+abbrev pub Lacks : List ℕ → List (List ℕ) → Type 0
+Lacks word words = slice_get words 0 ≡ Some word → ⊥
 
--- the words of its options past the namespace, and all of them, one after the other
-abbrev pub past_namespace : Options → List (List ℕ)
-past_namespace options = user_words options.uid ++ (device_words options.dev ++ flags options)
+-- an option and what follows it don't begin with a word that neither begins with
+module _ (word : List ℕ) (rest : List (List ℕ)) (lacks : Lacks word rest) where
+  flag-lacks : (flag : List ℕ) (set : Bool) → IsApart flag word → Lacks word (flag_words flag set ++ rest)
+  flag-lacks flag true apart = words_differ flag word apart
+  flag-lacks flag false apart = lacks
 
-pub options_of : (options : Options) → option_words options ≡ namespace_words options.net ++ past_namespace options
-options_of options =
-    append_assoc (namespace_words options.net ++ user_words options.uid ++ device_words options.dev) (flag_words (codes "reuseaddr") options.reuseaddr) (flag_words (codes "reuseport") options.reuseport)
-    ∙ append_assoc (namespace_words options.net ++ user_words options.uid) (device_words options.dev) _
-    ∙ append_assoc (namespace_words options.net) (user_words options.uid) _
+  device-lacks : (dev : Option ℕ) → IsApart (codes "dev") word → Lacks word (device_words dev ++ rest)
+  device-lacks (Some dev) apart = words_differ (codes "dev") word apart
+  device-lacks None apart = lacks
 
--- flags are no device's words
-pub flags-lack_dev : (r s : Bool) → slice_get (flag_words (codes "reuseaddr") r ++ flag_words (codes "reuseport") s) 0 ≡ Some (codes "dev") → ⊥
-flags-lack_dev true s e = cc
-flags-lack_dev false true e = cc
-flags-lack_dev false false e = cc
+  user-lacks : (uid : Option ℕ) → IsApart (codes "uid") word → Lacks word (user_words uid ++ rest)
+  user-lacks (Some uid) apart = words_differ (codes "uid") word apart
+  user-lacks None apart = lacks
 
--- and neither they nor a device's are a user's
-pub rest-lacks_uid : (dev : Option ℕ) (r s : Bool)
-    → slice_get (device_words dev ++ (flag_words (codes "reuseaddr") r ++ flag_words (codes "reuseport") s)) 0 ≡ Some (codes "uid") → ⊥
-rest-lacks_uid (Some dev) r s e = words_differ _ _ refl e
-rest-lacks_uid None true s e = words_differ _ _ refl e
-rest-lacks_uid None false true e = words_differ _ _ refl e
-rest-lacks_uid None false false e = cc
+-- a socket's options from each of them on
+abbrev pub from_noport : Options → List (List ℕ)
+from_noport o = flag_words (codes "noport") o.noport
 
--- and none of these is a namespace's
-pub rest-lacks_net : (uid dev : Option ℕ) (r s : Bool)
-    → slice_get (user_words uid ++ (device_words dev ++ (flag_words (codes "reuseaddr") r ++ flag_words (codes "reuseport") s))) 0 ≡ Some (codes "net") → ⊥
-rest-lacks_net (Some uid) dev r s e = words_differ _ _ refl e
-rest-lacks_net None (Some dev) r s e = words_differ _ _ refl e
-rest-lacks_net None None true s e = words_differ _ _ refl e
-rest-lacks_net None None false true e = words_differ _ _ refl e
-rest-lacks_net None None false false e = cc
+abbrev pub from_reuseport : Options → List (List ℕ)
+from_reuseport o = flag_words (codes "reuseport") o.reuseport ++ from_noport o
+
+abbrev pub from_reuseaddr : Options → List (List ℕ)
+from_reuseaddr o = flag_words (codes "reuseaddr") o.reuseaddr ++ from_reuseport o
+
+abbrev pub from_device : Options → List (List ℕ)
+from_device o = device_words o.dev ++ from_reuseaddr o
+
+abbrev pub from_user : Options → List (List ℕ)
+from_user o = user_words o.uid ++ from_device o
+
+-- all of them, one after the other
+pub options_of : (o : Options) → option_words o ≡ namespace_words o.net ++ from_user o
+options_of o =
+    let nets = namespace_words o.net in
+    let users = user_words o.uid in
+    let devices = device_words o.dev in
+    let addrs = flag_words (codes "reuseaddr") o.reuseaddr in
+    append_assoc (nets ++ users ++ devices ++ addrs) (flag_words (codes "reuseport") o.reuseport) (from_noport o)
+    ∙ append_assoc (nets ++ users ++ devices) addrs _ ∙ append_assoc (nets ++ users) devices _
+    ∙ append_assoc nets users _
+
+-- what follows an option doesn't begin as it does
+module _ (o : Options) where
+  noport-lacks : (word : List ℕ) → IsApart (codes "noport") word → Lacks word (from_noport o)
+  noport-lacks word apart =
+      elim o.noport as (λ set. Lacks word (flag_words (codes "noport") set)) [
+        | true ↦ words_differ (codes "noport") word apart
+        | false ↦ λ e. cc
+      ]
+
+  pub noport-lacks_reuseport : Lacks (codes "reuseport") (from_noport o)
+  noport-lacks_reuseport = noport-lacks (codes "reuseport") refl
+
+  reuseport-lacks : (word : List ℕ)
+      → IsApart (codes "noport") word → IsApart (codes "reuseport") word → Lacks word (from_reuseport o)
+  reuseport-lacks word late port = flag-lacks word _ (noport-lacks word late) (codes "reuseport") o.reuseport port
+
+  pub reuseport-lacks_reuseaddr : Lacks (codes "reuseaddr") (from_reuseport o)
+  reuseport-lacks_reuseaddr = reuseport-lacks (codes "reuseaddr") refl refl
+
+  flags-lack : (word : List ℕ)
+      → IsApart (codes "noport") word → IsApart (codes "reuseport") word → IsApart (codes "reuseaddr") word
+      → Lacks word (from_reuseaddr o)
+  flags-lack word late port addr =
+      flag-lacks word _ (reuseport-lacks word late port) (codes "reuseaddr") o.reuseaddr addr
+
+  pub flags-lack_dev : Lacks (codes "dev") (from_reuseaddr o)
+  flags-lack_dev = flags-lack (codes "dev") refl refl refl
+
+  pub rest-lacks_uid : Lacks (codes "uid") (from_device o)
+  rest-lacks_uid = device-lacks (codes "uid") _ (flags-lack (codes "uid") refl refl refl) o.dev refl
+
+  pub rest-lacks_net : Lacks (codes "net") (from_user o)
+  rest-lacks_net =
+      let devices = device-lacks (codes "net") _ (flags-lack (codes "net") refl refl refl) o.dev refl in
+      user-lacks (codes "net") _ devices o.uid refl
 
 -- nor is a namespace's a device's
 pub namespace-lacks_dev : (net : Option ℕ) → slice_get (namespace_words net) 0 ≡ Some (codes "dev") → ⊥
 namespace-lacks_dev (Some net) e = words_differ _ _ refl e
 namespace-lacks_dev None e = cc
-
--- the two flags differ
-pub reuseport-lacks_reuseaddr : (s : Bool) → slice_get (flag_words (codes "reuseport") s) 0 ≡ Some (codes "reuseaddr") → ⊥
-reuseport-lacks_reuseaddr true e = words_differ _ _ refl e
-reuseport-lacks_reuseaddr false e = cc
 
 -- a flag with nothing after it
 pub flag-last : (flag : List ℕ) (set : Bool) → flag_words flag set ≡ flag_words flag set ++ []

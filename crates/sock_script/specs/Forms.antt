@@ -1,15 +1,18 @@
 -- The forms of a script's lines: a grammar of our own.
 -- A line is passed over, or its words are the spelling of a value that is in range. Numbers are spelled in decimal digits without
 -- a leading zero, which is `decimal`, and addresses and ends as `addr_text` and `end_text` say.
-use Rattle.std.specs.Prelude.{◌≡◌, ℕ, ◌^◌, ◌%◌, ◌<◌, ◌≤◌, Bool, true, false, ◌==◌, ◌||◌, ◌&&◌, nat_le, IsTrue, List, [], ◌∷◌, ◌++◌, length, codes, decimal, Option, Some, None}
+use Rattle.std.specs.Prelude.{◌≡◌, ℕ, ◌-◌, ◌^◌, ◌%◌, ◌<◌, ◌≤◌, Bool, true, false, ◌==◌, ◌||◌, ◌&&◌, nat_le, IsTrue, List, [], ◌∷◌, ◌++◌, length, take, drop, map, replicate, codes, decimal, Option, Some, None}
 use Rattle.std.specs.Char.{is_ascii_alphanumeric}
 use Rattle.std.specs.List.{list_all}
+use Rattle.std.specs.List.Sorted.{IsStrictlyIncreasing}
 use Rattle.std.specs.Int.{IsPowerOfTwo}
+use Rattle.list_words.specs.Lists.{Each}
 use Rattle.inet_io.specs.Texts.{addr_text, end_text}
 use Rattle.flat_list.specs.declared.command.End.{End}
 use Rattle.chain_book.specs.declared.shape.Shape.{Shape}
 use Rattle.flat_list.specs.declared.header.Range.{Range}
-use Rattle.flat_list.specs.Ports.{size}
+use Rattle.flat_list.specs.declared.header.Reserved.{Reserved}
+use Rattle.flat_list.specs.Ports.{size, none_reserved}
 use Rattle.flat_list.specs.declared.owned.Options.{Options}
 use Rattle.flat_list.specs.declared.command.Command.{Command}
 use Rattle.flat_list.specs.declared.command.Command.TheVariants as commands
@@ -46,6 +49,7 @@ abbrev pub option_words : Options → List (List ℕ)
 option_words options =
     namespace_words options.net ++ user_words options.uid ++ device_words options.dev
     ++ flag_words (codes "reuseaddr") options.reuseaddr ++ flag_words (codes "reuseport") options.reuseport
+    ++ flag_words (codes "noport") options.noport
 
 -- how a command is spelled
 abbrev pub command_words : Command → List (List ℕ)
@@ -75,6 +79,14 @@ shape_words shape =
 -- how the range of ports is spelled
 abbrev pub range_words : Range → List (List ℕ)
 range_words range = codes "range" ∷ decimal range.low ∷ decimal range.high ∷ []
+
+-- the ports that are kept from searches
+abbrev pub reserved_ports : Reserved → List ℕ
+reserved_ports reserved = take reserved.count reserved.ports
+
+-- how they are spelled
+abbrev pub reserved_words : Reserved → List (List ℕ)
+reserved_words reserved = codes "reserved" ∷ map decimal (reserved_ports reserved)
 
 -- an ASCII letter or digit, `_` (byte 95) or `-` (byte 45)
 abbrev pub is_label_byte : ℕ → Bool
@@ -141,12 +153,25 @@ pub record ShapeFits (shape : Shape) : Type 0 where
   pub hash : IsPowerTo 65536 shape.hash
   pub listen : IsPowerTo 4096 shape.listen
 
--- ports from 1 to 65535, the lowest first, and of even number
+-- ports from 1 to 65535, the lowest first, and of even number; which are reserved another line says
 pub record RangeFits (range : Range) : Type 0 where
   pub low : 1 ≤ range.low
   pub order : range.low < range.high
   pub high : range.high < 2 ^ 16
   pub even : size range % 2 ≡ 0
+  pub reserved : range.reserved ≡ none_reserved
+
+-- a port from 1 to 65535
+abbrev pub IsPort : ℕ → Type 0
+IsPort port = (1 ≤ port) × (port < 2 ^ 16)
+
+-- 1 to 64 ports, each above the one before, and zeros behind them in an array of 64, so that one line tells one value
+pub record ReservedFits (reserved : Reserved) : Type 0 where
+  pub count : (1 ≤ reserved.count) × (reserved.count ≤ 64)
+  pub ports : Each IsPort (reserved_ports reserved)
+  pub ascending : IsStrictlyIncreasing (reserved_ports reserved)
+  pub room : length reserved.ports ≡ 64
+  pub rest : drop reserved.count reserved.ports ≡ replicate (64 - reserved.count) 0
 
 -- no word, or a first word that begins with `#`, which is byte 35
 abbrev pub IsPassedOver : List (List ℕ) → Type 0
@@ -159,6 +184,7 @@ abbrev pub HasForm : List (List ℕ) → Line → Type 0
 HasForm words lines.PassedOver = IsPassedOver words
 HasForm words (lines.Table shape) = (words ≡ shape_words shape) × ShapeFits shape
 HasForm words (lines.Range range) = (words ≡ range_words range) × RangeFits range
+HasForm words (lines.Reserved reserved) = (words ≡ reserved_words reserved) × ReservedFits reserved
 HasForm words (lines.Seed seed) = (words ≡ codes "seed" ∷ decimal seed ∷ []) × (seed < 2 ^ 32)
 HasForm words (lines.Offset offset) = (words ≡ codes "offset" ∷ decimal offset ∷ []) × (offset < 2 ^ 16)
 HasForm words (lines.TimeWaitReuse reuse) = words ≡ codes "twreuse" ∷ switch_word reuse ∷ []

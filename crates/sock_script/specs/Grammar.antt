@@ -5,6 +5,8 @@ use Rattle.std.specs.List.{list_any, filter_map}
 use Rattle.flat_list.specs.declared.header.Header.{Header}
 use Rattle.chain_book.specs.declared.shape.Shape.{Shape}
 use Rattle.flat_list.specs.declared.header.Range.{Range}
+use Rattle.flat_list.specs.declared.header.Reserved.{Reserved}
+use Rattle.flat_list.specs.Ports.{none_reserved}
 use Rattle.flat_list.specs.declared.command.Command.{Command}
 use Rattle.flat_list.specs.declared.command.Command.TheVariants as commands
 use Rattle.flat_list.specs.declared.script.CapturePlace.{CapturePlace}
@@ -58,6 +60,7 @@ with_command command (section ∷ next ∷ rest) = section ∷ with_command comm
 pub record Draft : Type 0 where
   pub table : Option Shape
   pub range : Option Range
+  pub reserved : Option Reserved
   pub seed : Option ℕ
   pub offset : Option ℕ
   pub twreuse : Option Bool
@@ -71,6 +74,7 @@ nothing_yet =
     record {
       table = None;
       range = None;
+      reserved = None;
       seed = None;
       offset = None;
       twreuse = None;
@@ -98,6 +102,8 @@ Follows mode old (lines.Table shape) new =
     IsHeaderTurn old.table old × (new ≡ record old { table = Some shape })
 Follows mode old (lines.Range range) new =
     IsHeaderTurn old.range old × (new ≡ record old { range = Some range })
+Follows mode old (lines.Reserved reserved) new =
+    IsHeaderTurn old.reserved old × (new ≡ record old { reserved = Some reserved })
 Follows mode old (lines.Seed seed) new =
     IsHeaderTurn old.seed old × (new ≡ record old { seed = Some seed })
 Follows mode old (lines.Offset offset) new =
@@ -139,14 +145,19 @@ default_shape = record { slots = 1024; bind = 16; hash = 256; listen = 32 }
 
 -- which ports are searched where no line says it
 abbrev pub default_range : Range
-default_range = record { low = 32768; high = 60999 }
+default_range = record { low = 32768; high = 60999; reserved = none_reserved }
+
+-- which ports are searched: those of the range but for the reserved ones
+abbrev pub range_of : Draft → Range
+range_of draft =
+    record (unwrap_or draft.range default_range) { reserved = unwrap_or draft.reserved none_reserved }
 
 -- what the header lines have said, with the defaults for what none said
 abbrev pub header_of : Draft → Header
 header_of draft =
     record {
       shape = unwrap_or draft.table default_shape;
-      range = unwrap_or draft.range default_range;
+      range = range_of draft;
       seed = unwrap_or draft.seed 0;
       offset = draft.offset;
       twreuse = unwrap_or draft.twreuse false;

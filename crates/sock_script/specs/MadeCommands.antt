@@ -17,11 +17,11 @@ end_at addr port = record { addr = addr; port = port }
 abbrev pub local_addr : ℕ → ℕ
 local_addr host = 10 * 2 ^ 24 + host
 
--- a socket without a network namespace, a user or a device
+-- a socket without a network namespace, a user or a device, which takes its port at once
 abbrev pub new_socket : ℕ → Bool → Bool → Command
 new_socket i reuseaddr reuseport =
     commands.Socket (step_label i)
-    (record { net = None; uid = None; dev = None; reuseaddr = reuseaddr; reuseport = reuseport })
+    (record { net = None; uid = None; dev = None; reuseaddr = reuseaddr; reuseport = reuseport; noport = false })
 
 -- a lookup without a device or a network namespace
 abbrev pub plain_look : End → End → Command

@@ -8,7 +8,9 @@ ghost use Rattle.sock_script.specs.Steps.{NotesLabel, Adds};
 use crate::label::given_label;
 use crate::line::Line;
 use crate::parse::Mode;
-use flat_list::{CapturePlace, Command, Header, Label, LabelKey, Range, Script, Shape};
+use flat_list::{
+    CapturePlace, Command, Header, Label, LabelKey, NONE_RESERVED, Range, Reserved, Script, Shape,
+};
 use std::alloc::{AllocError, Global};
 use std::collections::BTreeSet;
 use std::marker::Model;
@@ -129,6 +131,7 @@ const DEFAULT_SHAPE: Shape = Shape {
 pub const DEFAULT_RANGE: Range = Range {
     low: 32768,
     high: 60999,
+    reserved: NONE_RESERVED,
 };
 
 /// What the lines read so far have made.
@@ -136,6 +139,7 @@ pub const DEFAULT_RANGE: Range = Range {
 pub struct Draft {
     table: Option<Shape>,
     range: Option<Range>,
+    reserved: Option<Reserved>,
     seed: Option<u32>,
     offset: Option<u16>,
     twreuse: Option<bool>,
@@ -157,7 +161,7 @@ impl Model for Draft {
 
     ghost Value = { Made };
 
-    ghost view = { λ d. record { table = d.table; range = d.range; seed = d.seed; offset = d.offset; twreuse = d.twreuse; sections = map (λ v. v.items) d.finished.items ++ option_to_list d.last; capture = d.capture; bytes = d.bytes } };
+    ghost view = { λ d. record { table = d.table; range = d.range; reserved = d.reserved; seed = d.seed; offset = d.offset; twreuse = d.twreuse; sections = map (λ v. v.items) d.finished.items ++ option_to_list d.last; capture = d.capture; bytes = d.bytes } };
 
     ghost invariant = { λ d. IfNone d.last (d.finished.items ≡ []) };
 }
@@ -170,6 +174,7 @@ impl Draft {
         Draft {
             table: None,
             range: None,
+            reserved: None,
             seed: None,
             offset: None,
             twreuse: None,
@@ -230,6 +235,17 @@ impl Draft {
         let turn = self.is_header_turn(self.range);
         if turn {
             self.range = Some(range);
+        }
+        turn
+    }
+
+    /// Adds a line of reserved ports, where it may follow.
+    fn add_reserved(&mut self, reserved: Reserved) -> bool
+        ensures { (mode : AnyMode) → Adds mode self.old (Line.Reserved reserved) self.new result }
+    {
+        let turn = self.is_header_turn(self.reserved);
+        if turn {
+            self.reserved = Some(reserved);
         }
         turn
     }
@@ -314,6 +330,7 @@ impl Draft {
             Line::PassedOver => Ok(true),
             Line::Table(shape) => Ok(self.add_table(shape)),
             Line::Range(range) => Ok(self.add_range(range)),
+            Line::Reserved(reserved) => Ok(self.add_reserved(reserved)),
             Line::Seed(seed) => Ok(self.add_seed(seed)),
             Line::Offset(offset) => Ok(self.add_offset(offset)),
             Line::TimeWaitReuse(reuse) => Ok(self.add_twreuse(reuse)),
@@ -326,13 +343,23 @@ impl Draft {
         }
     }
 
+    /// Which ports are searched: those of the range but for the reserved ones.
+    fn range(&self) -> Range
+        ensures { result ≡ spec.range_of self.now }
+    {
+        Range {
+            reserved: self.reserved.unwrap_or(NONE_RESERVED),
+            ..self.range.unwrap_or(DEFAULT_RANGE)
+        }
+    }
+
     /// What the header lines have said, with the defaults for what none said.
     fn header(&self) -> Header
         ensures { result ≡ spec.header_of self.now }
     {
         Header {
             shape: self.table.unwrap_or(DEFAULT_SHAPE),
-            range: self.range.unwrap_or(DEFAULT_RANGE),
+            range: self.range(),
             seed: self.seed.unwrap_or(0),
             offset: self.offset,
             twreuse: self.twreuse.unwrap_or(false),

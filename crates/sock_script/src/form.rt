@@ -2,7 +2,7 @@
 //!
 //! A reader takes a word off the front and gives its value and the words after it. Each form is
 //! read by one pass over its words, and takes no memory.
-ghost use Rattle.std.specs.Prelude.{◌≡◌, ◌≢◌, ◌<◌, ◌≤◌, ◌+◌, ◌-◌, ◌%◌, ◌^◌, ◌∷◌, ◌++◌, ◌↔◌, [], Bool, ℕ, List, IfSome, IfNone, IsTrue, Option, slice_get, codes, decimal};
+ghost use Rattle.std.specs.Prelude.{◌≡◌, ◌≢◌, ◌<◌, ◌≤◌, ◌+◌, ◌-◌, ◌%◌, ◌^◌, ◌∷◌, ◌++◌, ◌↔◌, [], Bool, ℕ, List, length, IfSome, IfNone, IsTrue, Option, slice_get, codes, decimal};
 ghost use Rattle.std.specs.List.{list_all};
 ghost use Rattle.inet_io.specs.Texts.{addr_text, end_text};
 ghost use Rattle.sock_script.specs.Seen.{texts};
@@ -15,9 +15,12 @@ ghost use Rattle.flat_list.specs.declared.command.Command.TheVariants as command
 ghost use Rattle.flat_list.specs.declared.command.End.{End};
 ghost use Rattle.chain_book.specs.declared.shape.Shape.{Shape};
 ghost use Rattle.flat_list.specs.declared.header.Range.{Range};
+ghost use Rattle.flat_list.specs.declared.header.Reserved.{Reserved};
 
 use crate::line::Line;
-use flat_list::{Command, End, Label, Options, Query, Range, Shape};
+use flat_list::{
+    Command, End, Label, NONE_RESERVED, Options, Query, RESERVED_ROOM, Range, Reserved, Shape,
+};
 use inet_io::{get_addr, get_end, get_num};
 
 fn is_label_byte(b: u8) -> bool
@@ -222,6 +225,7 @@ fn socket_of(words: &[&[u8]]) -> Option<Command>
     let (dev, words) = device_first(words);
     let (reuseaddr, words) = flag_first(b"reuseaddr", words);
     let (reuseport, words) = flag_first(b"reuseport", words);
+    let (noport, words) = flag_first(b"noport", words);
     if !words.is_empty() {
         return None;
     }
@@ -232,6 +236,7 @@ fn socket_of(words: &[&[u8]]) -> Option<Command>
         dev,
         reuseaddr,
         reuseport,
+        noport,
     };
     Some(Command::Socket { label, options })
 }
@@ -450,7 +455,39 @@ fn range_of(words: &[&[u8]]) -> Option<Range>
     Some(Range {
         low: low as u16,
         high: high as u16,
+        reserved: NONE_RESERVED,
     })
+}
+
+/// The ports that the words after `reserved` are.
+fn ports_of(words: &[&[u8]]) -> Option<Reserved>
+    requires some { 1 ≤ length words.now }
+    requires few { length words.now ≤ 64 }
+    ensures some { IfSome result (λ r. HasForm (codes "reserved" ∷ texts words.now) (lines.Reserved r)) }
+    ensures none { IfNone result ((r : Reserved) → HasForm (codes "reserved" ∷ texts words.now) (lines.Reserved r) → ⊥) }
+{
+    let mut ports = [0; RESERVED_ROOM];
+    // One more than the port before, so that the ports ascend.
+    let mut least = 1;
+    for (i, word) in words.iter().enumerate() {
+        let port = get_num(word, least, 65535)?;
+        ports[i] = port as u16;
+        least = port + 1;
+    }
+    let count = words.len() as u8;
+    Some(Reserved { ports, count })
+}
+
+/// The ports that the words keep from searches, where they are few enough.
+fn reserved_of(words: &[&[u8]]) -> Option<Reserved>
+    ensures some { IfSome result (λ r. HasForm (texts words.now) (lines.Reserved r)) }
+    ensures none { IfNone result ((r : Reserved) → HasForm (texts words.now) (lines.Reserved r) → ⊥) }
+{
+    let words = after(b"reserved", words)?;
+    if !(1..=RESERVED_ROOM).contains(&words.len()) {
+        return None;
+    }
+    ports_of(words)
 }
 
 /// The number behind that word, up to `most`, where no other words follow.
@@ -538,6 +575,9 @@ pub fn line_of(words: &[&[u8]]) -> Option<Line>
     if let Some(range) = range_of(words) {
         return Some(Line::Range(range));
     }
+    if let Some(reserved) = reserved_of(words) {
+        return Some(Line::Reserved(reserved));
+    }
     if let Some(seed) = seed_of(words) {
         return Some(Line::Seed(seed));
     }
@@ -564,12 +604,13 @@ mod tests {
 
     #[test]
     fn a_line_of_each_form_is_read(rt: HostRuntime) -> Result<(), Fail> {
-        let lines: [&[&[u8]]; 22] = [
+        let lines: [&[&[u8]]; 23] = [
             &[b"#socket"],
             &[
                 b"table", b"slots", b"65536", b"bind", b"256", b"hash", b"1", b"listen", b"4096",
             ],
             &[b"range", b"32768", b"60999"],
+            &[b"reserved", b"1", b"65535"],
             &[b"seed", b"0"],
             &[b"offset", b"0"],
             &[b"twreuse", b"1"],
@@ -585,6 +626,7 @@ mod tests {
                 b"7",
                 b"reuseaddr",
                 b"reuseport",
+                b"noport",
             ],
             &[b"bind", b"a-1", b"10.0.0.1:80"],
             &[b"listen", b"a-1"],

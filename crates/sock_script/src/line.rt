@@ -1,4 +1,4 @@
-use flat_list::{Command, Range, Shape};
+use flat_list::{Command, Range, Reserved, Shape};
 
 /// A line of a script.
 #[derive(Debug, Drop)]
@@ -9,6 +9,8 @@ pub enum Line {
     Table(Shape),
     /// Which ports are searched where a command names none.
     Range(Range),
+    /// Ports that no search tries.
+    Reserved(Reserved),
     /// What the sections' generators of offsets begin with.
     Seed(u32),
     /// The offset of every search for a port.

@@ -117,6 +117,7 @@ impl Step {
             dev: None,
             reuseaddr,
             reuseport,
+            noport: false,
         };
         Command::Socket {
             label: self.label(),

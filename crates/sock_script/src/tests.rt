@@ -33,6 +33,15 @@ fn sections(alloc: Global, count: u32) -> Result<String, AllocError> {
     Ok(text)
 }
 
+/// A line of so many reserved ports, from 1 on.
+fn reserved(alloc: Global, count: u32) -> Result<String, AllocError> {
+    let mut text = String::from_str(alloc, "reserved")?;
+    for i in 0..count {
+        write!(text, " {}", i.wrapping_add(1))?;
+    }
+    Ok(text)
+}
+
 #[test]
 fn each_command_has_its_line(rt: HostRuntime) -> Result<(), Fail> {
     let text = b"script 1\nsocket a\nsocket b\nbind a 0.0.0.0:80\nbind b 10.0.0.1:80\n";
@@ -183,6 +192,120 @@ fn header_lines_come_once_and_first(rt: HostRuntime) -> Result<(), Fail> {
     for (text, line) in cases {
         assert_eq!(rt; bad_line(rt.alloc(), text, Mode::Run), line);
     }
+    Ok(())
+}
+
+#[test]
+fn reserved_ports_ascend(rt: HostRuntime) -> Result<(), Fail> {
+    let cases: [(&[u8], Option<u64>); 13] = [
+        (b"reserved 65535\nscript 1\n", None),
+        (b"reserved 1 2 65535\nrange 1 2\nscript 1\n", None),
+        (b"reserved\n", Some(1)),
+        (b"reserved 0\n", Some(1)),
+        (b"reserved 65536\n", Some(1)),
+        (b"reserved 65535 65536\n", Some(1)),
+        (b"reserved 80 80\n", Some(1)),
+        (b"reserved 79 81 80\n", Some(1)),
+        (b"reserved 080\n", Some(1)),
+        (b"reserved 80 http\n", Some(1)),
+        (b"reserved 80\nseed 1\nreserved 81\n", Some(3)),
+        (b"script 1\nreserved 80\n", Some(2)),
+        (b"Reserved 80\n", Some(1)),
+    ];
+    for (text, line) in cases {
+        assert_eq!(rt; bad_line(rt.alloc(), text, Mode::Run), line);
+    }
+    Ok(())
+}
+
+#[test]
+fn reserved_ports_are_sixty_four_at_most(rt: HostRuntime) -> Result<(), Fail> {
+    let most = reserved(rt.alloc(), 64)?;
+    assert_eq!(rt; bad_line(rt.alloc(), most.as_bytes(), Mode::Run), None);
+    let more = reserved(rt.alloc(), 65)?;
+    assert_eq!(rt; bad_line(rt.alloc(), more.as_bytes(), Mode::Run), Some(1));
+    Ok(())
+}
+
+#[test]
+fn a_search_passes_reserved_ports_by(rt: HostRuntime) -> Result<(), Fail> {
+    let text = b"range 40000 40003
+offset 0
+reserved 40001 40003
+script 1
+socket a
+bind a 0.0.0.0:0
+socket b
+bind b 0.0.0.0:0
+socket c
+bind c 0.0.0.0:0
+socket d
+bind d 0.0.0.0:40001
+";
+    let out = output_of(rt.alloc(), text)?;
+    let wanted = b"1 socket a ok
+1 bind a ok 40000
+1 socket b ok
+1 bind b ok 40002
+1 socket c ok
+1 bind c EADDRINUSE
+1 socket d ok
+1 bind d ok 40001
+";
+    assert!(rt; out.as_slice() == wanted.as_slice());
+    Ok(())
+}
+
+#[test]
+fn the_last_option_is_noport(rt: HostRuntime) -> Result<(), Fail> {
+    let cases: [(&[u8], Option<u64>); 7] = [
+        (b"script 1\nsocket a noport\n", None),
+        (
+            b"script 1\nsocket a net 1 uid 2 dev 3 reuseaddr reuseport noport\n",
+            None,
+        ),
+        (b"script 1\nsocket noport noport\n", None),
+        (b"script 1\nsocket a noport noport\n", Some(2)),
+        (b"script 1\nsocket a noport reuseport\n", Some(2)),
+        (b"script 1\nsocket a noport reuseaddr\n", Some(2)),
+        (b"script 1\nsocket a noport dev 1\n", Some(2)),
+    ];
+    for (text, line) in cases {
+        assert_eq!(rt; bad_line(rt.alloc(), text, Mode::Run), line);
+    }
+    Ok(())
+}
+
+#[test]
+fn late_ports_are_taken_by_connect_and_listen(rt: HostRuntime) -> Result<(), Fail> {
+    let text = b"range 40000 40001
+script 1
+socket a noport
+bind a 10.0.0.1:0
+socket b noport
+bind b 10.0.0.1:0
+connect a to 10.0.0.2:80
+connect b to 10.0.0.2:81
+socket c noport
+bind c 10.0.0.9:0
+listen c
+look 10.0.0.2:5 10.0.0.9:40001
+look 10.0.0.2:5 10.0.0.7:40001
+";
+    let out = output_of(rt.alloc(), text)?;
+    let wanted = b"1 socket a ok
+1 bind a ok 0
+1 socket b ok
+1 bind b ok 0
+1 connect a ok 10.0.0.1:40000
+1 connect b ok 10.0.0.1:40000
+1 socket c ok
+1 bind c ok 0
+1 listen c ok 40001
+1 look listen 1.c
+1 look none
+";
+    assert!(rt; out.as_slice() == wanted.as_slice());
     Ok(())
 }
 

@@ -1,6 +1,7 @@
 -- What each command of a section asks of the tables: an operation's plan, and what its result makes of the section's own
 -- and replies. Sources: errno(3), and those of the operations.
-use Rattle.std.specs.Prelude.{ℕ, Bool, true, false, ◌==◌, ◌&&◌, nat_lt, List, Option, None, Some, if◌then◌else◌}
+use Rattle.std.specs.Prelude.{ℕ, Bool, true, false, ◌==◌, ◌&&◌, not, nat_lt, List, Option, None, Some, if◌then◌else◌}
+use Rattle.sock_card.specs.declared.owner.Owner.{Owner}
 use Rattle.sock_card.specs.declared.owner.State.{State}
 use Rattle.sock_card.specs.declared.owner.State.TheVariants as states
 use Rattle.chain_book.specs.declared.outcome.Replace.{Replace}
@@ -82,10 +83,14 @@ after_search began own = if began then with_offsets own (past_offset own.offsets
 abbrev pub connect_rule : Header → Replace
 connect_rule header = if header.twreuse then rules.After else rules.Never
 
+-- `bind` of a socket to that end searches for a port
+abbrev pub searches_port : Owner → End → Bool
+searches_port a end = is_unbound a.state && (end.port == 0) && not a.noport
+
 abbrev pub bind_command : Own → Option Mine → End → Asking Replied
 bind_command own None end = replies_at_once own replies.Ebadf
 bind_command own (Some m) end =
-    let began = is_unbound m.owner.state && (end.port == 0) in
+    let began = searches_port m.owner end in
     and_then (bind m end (ports_of own.offsets firsts.Odd)) (λ did. ends (bind_reply (after_search began own) did))
 
 abbrev pub drop_command : Own → Option Mine → Asking Replied

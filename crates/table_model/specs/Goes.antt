@@ -1,5 +1,5 @@
 -- How a plan goes on by the answers that it got, whoever else is at the tables: our own form.
-use Rattle.std.specs.Prelude.{◌≡◌, ℕ, ◌%◌, ◌≤◌, Bool, List, [], ◌∷◌, ◌++◌, map, Result, Ok, Err}
+use Rattle.std.specs.Prelude.{◌≡◌, ℕ, ◌%◌, ◌≤◌, Bool, List, [], ◌∷◌, ◌++◌}
 use Rattle.sock_card.specs.declared.card.Card.{Card}
 use Rattle.turn_table.specs.declared.note.Placed.{Placed}
 use Rattle.bind_buckets.specs.declared.request.Entry.{Entry}
@@ -7,7 +7,7 @@ use Rattle.bind_buckets.specs.Turned.{View, Gave, IsAlone, KnowsAll, AreLawful, 
 use Rattle.chain_book.specs.declared.outcome.Place.{Place}
 use Rattle.chain_book.specs.declared.outcome.Replace.{Replace}
 use Rattle.chain_book.specs.Chains.{Chains, Outcome, insert_outcome, add_outcome, hashed, unhashed, waiting}
-use Rattle.table_model.specs.Asking.{Asking, ends, asks, inserts, adds, unhashes, reaps, impossible}
+use Rattle.table_model.specs.Asking.{Asking, asks, inserts, adds, unhashes, reaps}
 use Rattle.table_model.specs.Tables.{Tables, run, was_found, reaped}
 
 -- a question that was answered: a bind bucket's entry, or what a chain came to

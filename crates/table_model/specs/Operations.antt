@@ -23,7 +23,7 @@ use Rattle.chain_book.specs.declared.shape.Shape.{Shape}
 use Rattle.chain_book.specs.Chains.{Outcome, put, taken, full}
 use Rattle.chain_book.specs.Homes.{home}
 use Rattle.flat_list.specs.declared.command.End.{End}
-use Rattle.flat_list.specs.Owned.{bound_at, connected_to, connected_at, child_owner, source_of, is_no_end, is_no_accept}
+use Rattle.flat_list.specs.Owned.{addressed, bound_at, connected_to, connected_at, child_owner, source_of, is_no_end, is_no_accept}
 use Rattle.table_model.specs.declared.operation.OpEnd.{OpEnd}
 use Rattle.table_model.specs.declared.operation.OpEnd.TheVariants as errors
 use Rattle.table_model.specs.Asking.{Asking, ends, asks, inserts, adds, unhashes, reaps, impossible}
@@ -74,9 +74,15 @@ bind_answered a end answers.Done = bound a end.addr end.port
 bind_answered a end (answers.InUse name) = ends (refused (errors.InUse name))
 bind_answered a end _ = impossible
 
+-- to a port out of these, unless it is taken late
+abbrev pub bind_any : Owner → ℕ → List ℕ → Asking Did
+bind_any a addr ports =
+    if a.noport then ends (done (plain (addressed a addr)))
+    else search_bind a addr (bound a addr) (ends (refused errors.NoPort)) ports
+
 abbrev pub bind_unbound : Owner → End → List ℕ → Asking Did
 bind_unbound a end ports =
-    if end.port == 0 then search_bind a end.addr (bound a end.addr) (ends (refused errors.NoPort)) ports
+    if end.port == 0 then bind_any a end.addr ports
     else asks (bind_key end.port a.net) (requests.Bind (bound_at a end.addr end.port)) (bind_answered a end)
 
 -- `bind` of a socket in that state, to an end or to a port out of these
@@ -106,14 +112,9 @@ then_replaced (Some old) next =
 abbrev pub full_card : Owner → Card
 full_card a = card_of kinds.Full (plain a)
 
--- the address to which a socket of that state is bound: 0.0.0.0 as long as it has no port
-abbrev pub bound_addr : State → Owner → ℕ
-bound_addr states.Unbound a = 0
-bound_addr _ a = a.addr
-
 -- the source from which a socket is connected to that end
 abbrev pub source_to : Owner → Option ℕ → End → Option ℕ
-source_to a from to = if is_no_end to then None else source_of (bound_addr a.state a) from
+source_to a from to = if is_no_end to then None else source_of a.addr from
 
 -- the owner leaves its port
 abbrev pub leave : {R : Type 0} → Owner → R → Asking R
@@ -178,11 +179,12 @@ module _ (shape : Shape) (seed : ℕ) where
   listen_at took a = asks (owner_key a) (requests.MayListen a.name) (listen_answered took a)
 
   abbrev pub listen_found : Owner → ℕ → Asking Did
-  listen_found a port = listen_at true (bound_at a 0 port)
+  listen_found a port = listen_at true (bound_at a a.addr port)
 
   -- `listen` of a socket in that state; one without a port takes the first that it can have of these
   abbrev pub listen_as : State → Mine → List ℕ → Asking Did
-  listen_as states.Unbound m ports = search_bind m.owner 0 (listen_found m.owner) (ends (refused errors.NoPort)) ports
+  listen_as states.Unbound m ports =
+      search_bind m.owner m.owner.addr (listen_found m.owner) (ends (refused errors.NoPort)) ports
   listen_as states.Bound m ports = listen_at false m.owner
   listen_as states.Listening m ports = ends (done m)
   listen_as _ m ports = ends (refused errors.Inval)

@@ -1,6 +1,6 @@
 -- Worked examples, computed by the plans on new tables: each line is a command of section 1 with its reply, and the flat
 -- list has the same reply.
-use Rattle.std.specs.Prelude.{◌≡◌, ℕ, List, [], ◌∷◌, ◌++◌, ◌+◌, Option, None, Some, map, codes, false, true}
+use Rattle.std.specs.Prelude.{◌≡◌, ℕ, List, [], ◌∷◌, ◌++◌, ◌+◌, Option, None, Some, map, codes}
 use Rattle.std.specs.List.{range_with_len}
 use Rattle.sock_card.specs.Limits.{group_room}
 use Rattle.flat_list.specs.declared.header.Header.{Header}

@@ -1,6 +1,5 @@
-use Rattle.std.proofs.Common.{find, sym, subst, ap, ◌∙◌, eq-eqb}
+use Rattle.std.proofs.Common.{find, sym, subst, ◌∙◌}
 use Rattle.sock_card.specs.Conflict.{overlap}
-use Rattle.bind_buckets.specs.declared.request.Answer.{Answer}
 use Rattle.bind_buckets.specs.declared.request.Request.TheVariants as requests
 use Rattle.bind_buckets.specs.OwnerStep.{owner_step}
 use Rattle.bind_buckets.specs.Turned.{Asks}

@@ -1,8 +1,7 @@
-use Rattle.std.proofs.Common.{◌≡◌, find, refl, ◌∙◌, arith}
+use Rattle.std.proofs.Common.{find, refl, ◌∙◌, arith}
 use Rattle.sock_card.specs.Became.{connected}
-use Rattle.bind_buckets.specs.OwnerStep.{owner_step, After, has_name, changed}
-use Rattle.bind_buckets.specs.First.{change_first}
-use Rattle.bind_buckets.proofs.Told.{name_answers, spoken_ok, spoken_err, strange_by, same_groups}
+use Rattle.bind_buckets.specs.OwnerStep.{owner_step, has_name, changed}
+use Rattle.bind_buckets.proofs.Told.{name_answers, strange_by}
 use Rattle.bind_buckets.proofs.RoomToGo.{spoken_used, spoken_settled}
 use Rattle.bind_buckets.proofs.StaysGrouped.{length-change_first}
 use Rattle.bind_buckets.proofs.turning.connect_bound.Goals as goal

@@ -1,4 +1,4 @@
-use Rattle.std.proofs.Common.{◌≡◌, ◌+◌, ℕ, [], List, arith, ap, sym, subst, ◌∙◌, length, refl}
+use Rattle.std.proofs.Common.{◌≡◌, ◌+◌, ℕ, List, arith, ap, sym, subst, ◌∙◌, length}
 use Rattle.std.specs.Global.{Box}
 use Rattle.bind_buckets.specs.Bucket.{Bucket, new_bucket}
 use Rattle.bind_buckets.specs.Closed.{AreNew}

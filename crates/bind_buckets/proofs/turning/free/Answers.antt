@@ -1,4 +1,4 @@
-use Rattle.std.proofs.Common.{find, ◌∙◌, refl, sym, subst, arith}
+use Rattle.std.proofs.Common.{find, ◌∙◌, sym, subst, arith}
 use Rattle.bind_buckets.specs.declared.request.Request.TheVariants as requests
 use Rattle.sock_card.specs.Conflict.{holds}
 use Rattle.bind_buckets.specs.OwnerStep.{owner_step}

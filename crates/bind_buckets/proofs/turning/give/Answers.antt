@@ -1,4 +1,4 @@
-use Rattle.std.proofs.Common.{subst, sym}
+use Rattle.std.proofs.Common.{subst}
 use Rattle.bind_buckets.specs.Bucket.{IsSound}
 use Rattle.bind_buckets.proofs.TurnSteps.{given_idle, given_gave}
 use Rattle.bind_buckets.proofs.turning.give.Goals as goal

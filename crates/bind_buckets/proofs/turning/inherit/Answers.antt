@@ -1,7 +1,7 @@
-use Rattle.std.proofs.Common.{◌≡◌, find, refl, ◌∙◌, IfSome, arith}
+use Rattle.std.proofs.Common.{find, refl, ◌∙◌, arith}
 use Rattle.sock_card.specs.Became.{child}
-use Rattle.bind_buckets.specs.OwnerStep.{owner_step, After, has_name, with_last, with_owner}
-use Rattle.bind_buckets.proofs.Told.{name_answers, spoken_ok, spoken_err, strange_by}
+use Rattle.bind_buckets.specs.OwnerStep.{owner_step, has_name, with_owner}
+use Rattle.bind_buckets.proofs.Told.{name_answers, strange_by}
 use Rattle.bind_buckets.proofs.RoomToGo.{spoken_used, spoken_came, longer}
 use Rattle.bind_buckets.proofs.turning.inherit.Goals as goal
 use Rattle.std.proofs.Common.{sym, subst}

@@ -1,15 +1,13 @@
 use Rattle.std.proofs.Common.{find, arith}
 use Rattle.sock_card.specs.Became.{as_listener}
 use Rattle.bind_buckets.specs.OwnerStep.{owner_step, has_name, listening}
-use Rattle.bind_buckets.proofs.Told.{listens}
 use Rattle.bind_buckets.proofs.RoomToGo.{spoken_used, spoken_settled}
 use Rattle.bind_buckets.proofs.StaysGrouped.{length-change_first}
 use Rattle.bind_buckets.proofs.turning.listen.Goals as goal
-use Rattle.std.proofs.Common.{sym, subst}
+use Rattle.std.proofs.Common.{subst}
 use Rattle.bind_buckets.specs.declared.request.Request.TheVariants as requests
 use Rattle.bind_buckets.specs.Turned.{Asks}
-use Rattle.std.proofs.Common.{◌≡◌, refl, ◌∙◌}
-use Rattle.bind_buckets.specs.declared.request.Answer.TheVariants as answers
+use Rattle.std.proofs.Common.{◌∙◌}
 use Rattle.bind_buckets.proofs.Told.{listens_done}
 
 pub returns-clause-entries : goal.returns-clause-entries

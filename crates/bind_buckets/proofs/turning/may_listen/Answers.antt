@@ -1,7 +1,6 @@
 use Rattle.std.proofs.Common.{find, ◌∙◌, arith}
 use Rattle.bind_buckets.specs.OwnerStep.{owner_step, has_name, may_listen}
-use Rattle.bind_buckets.proofs.GroupNumber.{group_of_bucket}
-use Rattle.bind_buckets.proofs.Told.{listen_answers, asked_step, may_now, why}
+use Rattle.bind_buckets.proofs.Told.{listen_answers, may_now}
 use Rattle.bind_buckets.proofs.RoomToGo.{spoken_used, spoken_settled}
 use Rattle.bind_buckets.proofs.turning.may_listen.Goals as goal
 use Rattle.std.proofs.Common.{sym, subst}

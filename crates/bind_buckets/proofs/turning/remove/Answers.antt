@@ -1,8 +1,6 @@
-use Rattle.std.proofs.Common.{◌≡◌, find, refl, ◌∙◌, arith}
-use Rattle.bind_buckets.specs.OwnerStep.{owner_step, After, has_name, removed}
-use Rattle.bind_buckets.specs.First.{change_first, drop_first}
-use Rattle.bind_buckets.specs.Members.{has_member, left_by}
-use Rattle.bind_buckets.proofs.Told.{name_answers, spoken_ok, spoken_err, strange_by}
+use Rattle.std.proofs.Common.{find, refl, ◌∙◌, arith}
+use Rattle.bind_buckets.specs.OwnerStep.{owner_step, has_name, removed}
+use Rattle.bind_buckets.proofs.Told.{name_answers, strange_by}
 use Rattle.std.proofs.lemmas.Bool.{false≢true}
 use Rattle.bind_buckets.proofs.RoomToGo.{room_to_go, spoken_settled, gone, length-drop_first}
 use Rattle.bind_buckets.proofs.turning.remove.Goals as goal

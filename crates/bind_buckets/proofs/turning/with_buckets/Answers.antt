@@ -1,5 +1,4 @@
-use Rattle.std.proofs.Common.{◌≡◌, ◌≤◌, ℕ, sym, subst, ◌∙◌}
-use Rattle.turn_table.specs.Passes as words
+use Rattle.std.proofs.Common.{◌≤◌, ℕ, sym, subst, ◌∙◌}
 use Rattle.bind_buckets.specs.Closed.{AreNew}
 use Rattle.bind_buckets.proofs.Opened.{idle_first}
 use Rattle.bind_buckets.proofs.turning.with_buckets.Goals as goal

@@ -1,6 +1,6 @@
 use Rattle.std.proofs.Common.{◌≡◌, ℕ, ◌<◌, ap, sym, subst}
 use Rattle.chain_book.specs.Homes.{chain_count}
-use Rattle.table_model.proofs.ChainsHold.{home_below}
+use Rattle.table_model.proofs.parts.Chains.{home_below}
 use Rattle.table_rule.specs.Calls.{layout_of}
 use Rattle.table_rule.specs.Passes.{known}
 use Rattle.table_rule.specs.declared.view.Layout.{Layout}

@@ -1,22 +1,23 @@
-use Rattle.std.proofs.Common.{◌≡◌, refl, ap, sym, subst, ◌∙◌}
+use Rattle.std.proofs.Common.{◌≡◌, ℕ, ◌==◌, ◌&&◌, true, refl, ap, sym, subst, ◌∙◌, eq-eqb}
+use Rattle.std.proofs.lemmas.Bool.{and_from}
 use Rattle.turn_table.specs.Passes.{known}
 use Rattle.sock_card.specs.declared.owner.Owner.{Owner}
 use Rattle.sock_card.specs.declared.owner.State.TheVariants as states
 use Rattle.table_model.specs.Own.{Mine}
 use Rattle.table_model.specs.declared.operation.OpEnd.TheVariants as errors
 use Rattle.table_model.specs.Asking.{ends}
-use Rattle.table_model.specs.Operations.{refused, bind, bind_unbound}
+use Rattle.table_model.specs.Operations.{done, refused, bind, bind_unbound}
 use Rattle.shared_ops.specs.declared.sock.Sock.{Sock}
 use Rattle.shared_ops.specs.declared.sock.Sock.TheVariants as socks
 use Rattle.shared_ops.specs.Binding.{bound_to, bound_answer}
 use Rattle.shared_ops.specs.Goes.{Went, CarriedOut}
 use Rattle.shared_ops.specs.Socks.{FitsState, mine_of, first_mine, without_socket}
 use Rattle.shared_ops.specs.Stands.{buckets_of, chained, turned}
-use Rattle.shared_ops.proofs.BindGoes.{bind_answers, has_port}
+use Rattle.shared_ops.proofs.BindGoes.{bind_answers, late_goes, has_port}
 use Rattle.shared_ops.proofs.binding.bind_shared.Goals as goal
 
-pub returns-in-Unbound-clause-carried : goal.returns-in-Unbound-clause-carried
-returns-in-Unbound-clause-carried g c =
+pub returns-else-end-eq0-clause-carried : goal.returns-else-end-eq0-clause-carried
+returns-else-end-eq0-clause-carried g c =
     let t = c.args.tables.now in
     let n = buckets_of t in
     let v = turned c.args.worker.now in
@@ -58,3 +59,18 @@ returns-in-Full-clause-carried g c =
     let k = chained t c.args.worker.now in
     subst (λ (x : Sock). Went (buckets_of t) (bind (mine_of x) c.args.end c.args.ports) v v k k (ends (refused errors.Inval))) (sym c.in-Full.is)
     (has_port (buckets_of t) c.in-Full.full c.args.end c.args.ports v k states.Full (subst FitsState c.in-Full.is c.owner-owner.ensures.state) refl)
+
+pub returns-then-owner-clause-carried : goal.returns-then-owner-clause-carried
+returns-then-owner-clause-carried g c =
+    let t = c.args.tables.now in
+    let n = buckets_of t in
+    let v = turned c.args.worker.now in
+    let k = chained t c.args.worker.now in
+    let m : Mine = c.in-Unbound.unbound in
+    let end = c.args.end in
+    let owner : c.owner-owner.result.now ≡ m.owner = c.owner-owner.ensures.owner ∙ ap (λ (x : Sock). (mine_of x).owner) c.in-Unbound.is in
+    let state = subst FitsState c.in-Unbound.is c.owner-owner.ensures.state in
+    let late : ((end.port == 0) && m.owner.noport) ≡ true =
+    and_from (end.port == 0) m.owner.noport (eq-eqb end.port 0 c.if-end-eq0.true) (ap (λ (o : Owner). o.noport) (sym owner) ∙ c.if-owner.true) in
+    subst (λ (x : Sock). Went n (bind (mine_of x) end c.args.ports) v v k k (ends (first_mine {B = ℕ} (socks.Unbound c.at_address.result, 0)))) (sym c.in-Unbound.is)
+    (subst (λ (a : Mine). Went n (bind m end c.args.ports) v v k k (ends (done a))) (sym c.at_address.ensures) (late_goes n m end c.args.ports v k state late))

@@ -14,7 +14,7 @@ returns-then-end-eq0-clause-carried g c = λ s.
     let a = c.args.owner in
     let end = c.args.end in
     subst (λ (p : Asking Did). CarriedOut (bound_to a end.addr) refused (words.places c.args.buckets.now) a.name p (known c.args.pass.now) (known c.bind_searched.new.pass) s s c.bind_searched.result)
-    (searched_plan a end c.args.ports c.if-end-eq0.true) (c.bind_searched.ensures.carried s)
+    (searched_plan a end c.args.ports c.if-end-eq0.true c.requires.now) (c.bind_searched.ensures.carried s)
 
 pub returns-in-Ok-clause-carried : goal.returns-in-Ok-clause-carried
 returns-in-Ok-clause-carried g c = λ s.

@@ -44,8 +44,9 @@ returns-in_default-clause-carried g c =
     let m : Mine = c.in-Unbound.unbound in
     let from = c.args.from in
     let to = c.args.to in
+    let owner : c.owner.result.now ≡ m.owner = c.owner.ensures.owner ∙ ap (λ (s : Sock). (mine_of s).owner) c.in-Unbound.is in
     let state = subst FitsState c.in-Unbound.is c.owner.ensures.state in
-    let src : source_to 0 from to ≡ None = sym c.source_to.ensures ∙ c.in_default.is in
+    let src : source_to m.owner.addr from to ≡ None = ap (λ (o : Owner). source_to o.addr from to) (sym owner) ∙ sym c.source_to.ensures ∙ c.in_default.is in
     let planned = subst (λ (p : Asking Did). Went n p v v k k (ends (refused errors.Inval))) (plan_by shape seed m from to c.args.moment c.args.rule c.args.ports states.Unbound None state src) (went_nowhere n (ends (refused errors.Inval)) v k) in
     subst (λ (s : Sock). Went n (connect shape seed (mine_of s) from to c.args.moment c.args.rule c.args.ports) v v k k (ends (refused errors.Inval))) (sym c.in-Unbound.is) planned
 

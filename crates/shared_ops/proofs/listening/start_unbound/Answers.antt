@@ -43,8 +43,8 @@ returns-in-Ok-clause-carried g c =
     let found : ℕ → Asking Did = listen_found l.shape l.seed a in
     let none : Asking Did = ends (refused errors.NoPort) in
     let at = subst (λ (b : Owner). BindsAt n b c.args.ports v u c.in-Ok.port) c.bound_at-wanted.ensures c.in-Ok.ensures.bound in
-    carried_both {X = Mine} done refused n a.name (search_bind a 0 found none c.args.ports) (found c.in-Ok.port) v u w k k d
-    (search_finds n a v u 0 found none c.args.ports c.in-Ok.port k at) c.start.result
+    carried_both {X = Mine} done refused n a.name (search_bind a a.addr found none c.args.ports) (found c.in-Ok.port) v u w k k d
+    (search_finds n a v u a.addr found none c.args.ports c.in-Ok.port k at) c.start.result
     (subst (λ (b : Owner). CarriedOut {X = Mine} done refused n b.name (listen_at l.shape l.seed true b) u w k d c.start.result) c.bound_at-bound.ensures c.start.ensures.carried)
 
 pub returns-in-Ok-clause-stands : goal.returns-in-Ok-clause-stands
@@ -80,7 +80,7 @@ returns-in-Err-NoPort-clause-carried g c =
     let found : ℕ → Asking Did = listen_found l.shape l.seed a in
     let none : Asking Did = ends (refused errors.NoPort) in
     let at = subst (λ (b : Owner). BindsNowhere n b c.args.ports v u) c.bound_at-wanted.ensures (c.find_bind.ensures.no_port (c.in-Err-NoPort.is ∙ ap Err c.in-Err-NoPort.field-0-is)) in
-    search_fails n a v u 0 found none c.args.ports (chained t c.args.worker.now) at
+    search_fails n a v u a.addr found none c.args.ports (chained t c.args.worker.now) at
 
 pub returns-in-Err-NoPort-clause-kept : goal.returns-in-Err-NoPort-clause-kept
 returns-in-Err-NoPort-clause-kept g c =
@@ -89,7 +89,7 @@ returns-in-Err-NoPort-clause-kept g c =
     let v = turned c.args.worker.now in
     let u = known c.find_bind.new.pass in
     let at = subst (λ (b : Owner). BindsNowhere n b c.args.ports v u) c.bound_at-wanted.ensures (c.find_bind.ensures.no_port (c.in-Err-NoPort.is ∙ ap Err c.in-Err-NoPort.field-0-is)) in
-    search_away n (bound_at a 0 0) v u c.args.ports refl c.requires.away at
+    search_away n (bound_at a a.addr 0) v u c.args.ports refl c.requires.away at
 
 pub returns-in-Err-Memory-clause-carried : goal.returns-in-Err-Memory-clause-carried
 returns-in-Err-Memory-clause-carried g c =
@@ -102,7 +102,7 @@ returns-in-Err-Memory-clause-carried g c =
     let found : ℕ → Asking Did = listen_found l.shape l.seed a in
     let none : Asking Did = ends (refused errors.NoPort) in
     let at = subst (λ (b : Owner). BindsNotYet n b c.args.ports v u) c.bound_at-wanted.ensures (c.find_bind.ensures.memory (c.in-Err-Memory.is ∙ ap Err c.in-Err-Memory.field-0-is)) in
-    search_stops n a v u 0 found none c.args.ports (chained t c.args.worker.now) at
+    search_stops n a v u a.addr found none c.args.ports (chained t c.args.worker.now) at
 
 pub returns-in-Err-Memory-clause-kept : goal.returns-in-Err-Memory-clause-kept
 returns-in-Err-Memory-clause-kept g c =
@@ -111,7 +111,7 @@ returns-in-Err-Memory-clause-kept g c =
     let v = turned c.args.worker.now in
     let u = known c.find_bind.new.pass in
     let at = subst (λ (b : Owner). BindsNotYet n b c.args.ports v u) c.bound_at-wanted.ensures (c.find_bind.ensures.memory (c.in-Err-Memory.is ∙ ap Err c.in-Err-Memory.field-0-is)) in
-    stop_away n (bound_at a 0 0) v u c.args.ports refl c.requires.away at
+    stop_away n (bound_at a a.addr 0) v u c.args.ports refl c.requires.away at
 
 pub returns-in-Ok-clause-lists : goal.returns-in-Ok-clause-lists
 returns-in-Ok-clause-lists g c =

@@ -1,4 +1,4 @@
-use Rattle.std.proofs.Common.{◌≡◌, [], ◌∷◌, List, ℕ, codes, ap, ◌∙◌}
+use Rattle.std.proofs.Common.{[], ◌∷◌, List, ℕ, codes, ap, ◌∙◌}
 use Rattle.sock_script.proofs.Words.{switch_of, number_of_switch}
 use Rattle.sock_script.proofs.form.reuse_of.Goals as goal
 

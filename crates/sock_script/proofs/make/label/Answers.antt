@@ -1,4 +1,4 @@
-use Rattle.std.proofs.Common.{arith, ℕ, ◌<◌, ◌≤◌, Option, Some, None, IfNone, IsSome, length, refl}
+use Rattle.std.proofs.Common.{arith, ℕ, ◌<◌, ◌≤◌, Option, Some, None, IfNone, IsSome, refl}
 use Rattle.std.proofs.lemmas.Fmt.{length-decimal-le}
 use Rattle.std.proofs.lemmas.List.{length-take}
 use Rattle.sock_script.proofs.make.label.Goals as goal

@@ -1,6 +1,4 @@
-use Rattle.std.proofs.Common.{rules, ◌≡◌, arith}
-use Rattle.flat_list.specs.Script.{Script}
-use Rattle.sock_script.specs.MadeCommands.{made_script}
+use Rattle.std.proofs.Common.{rules, arith}
 use Rattle.sock_script.proofs.MadeTexts.{made_is_script}
 use Rattle.sock_script.proofs.StepTurns.{small_made}
 use Rattle.sock_script.proofs.make.script.Goals as goal

@@ -1,10 +1,10 @@
-use Rattle.std.proofs.Common.{◌≡◌, ◌∙◌, ◌++◌, ap, ap₂, length, arith, rules}
+use Rattle.std.proofs.Common.{◌∙◌, ◌++◌, ap, ap₂, length, arith}
 use Rattle.std.proofs.lemmas.List.{length-map}
 use Rattle.sock_script.specs.Output.{issued_from, events_from, cut_text}
 use Rattle.sock_script.specs.Seen.{tables}
 use Rattle.sock_script.specs.Steps.{Unwritten, lines_at}
 use Rattle.sock_script.proofs.LabelTable.{same_lines}
-use Rattle.sock_script.proofs.LineTurns.{sections_unwritten, wrote_section, wrote_sections}
+use Rattle.sock_script.proofs.LineTurns.{wrote_section, wrote_sections}
 use Rattle.sock_script.proofs.RunTurns.{commands_at}
 use Rattle.sock_script.proofs.output.text.Goals as goal
 

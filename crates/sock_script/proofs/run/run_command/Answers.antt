@@ -1,4 +1,4 @@
-use Rattle.std.proofs.Common.{rules, ◌≡◌, sym, subst, take, drop}
+use Rattle.std.proofs.Common.{rules, sym, subst}
 use Rattle.sock_script.specs.Steps.{RunsCommand}
 use Rattle.sock_script.proofs.Events.{ran_packets}
 use Rattle.sock_script.proofs.run.run_command.Goals as goal

@@ -1,4 +1,4 @@
-use Rattle.table_model.proofs.GoesAlone.{goes_alone, went_alone}
+use Rattle.table_model.proofs.commands.Alone.{goes_alone, went_alone}
 use Rattle.table_model.proofs.laws.alone.Goals as goal
 
 pub returns : goal.returns

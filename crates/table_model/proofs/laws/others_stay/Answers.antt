@@ -1,4 +1,4 @@
-use Rattle.table_model.proofs.OthersAll as others
+use Rattle.table_model.proofs.others.All as others
 use Rattle.table_model.proofs.laws.others_stay.Goals as goal
 
 pub returns : goal.returns

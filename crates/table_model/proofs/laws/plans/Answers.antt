@@ -1,4 +1,4 @@
-use Rattle.table_model.proofs.GroupsAll as all
+use Rattle.table_model.proofs.commands.Laws as all
 use Rattle.table_model.proofs.laws.plans.Goals as goal
 
 pub returns-clause-end : goal.returns-clause-end

@@ -1,4 +1,4 @@
-use Rattle.std.proofs.Common.{◌≡◌, ◌≤◌, true, false, length, refl, sym, ap, subst, ◌∙◌, Some, Option}
+use Rattle.std.proofs.Common.{◌≡◌, ◌≤◌, false, length, refl, sym, ap, subst, ◌∙◌, Some, Option}
 use Rattle.std.specs.Global.{Box}
 use Rattle.bind_buckets.specs.declared.held.Held.{Held as Inside}
 use Rattle.bind_buckets.specs.Fields.{shown_by, held_in, room_in}

@@ -4,12 +4,12 @@ use Rattle.bind_buckets.proofs.Tallied.{counts_here, more_counts, unshared_with}
 use Rattle.bind_buckets.proofs.tally.Tally.with.Goals as goal
 
 pub returns : goal.returns
-returns c = λ at owners here short k.
+returns c = λ at owners here k.
     let a = c.args.owner.now in
     record {
-      owners = more_counts at owners a _ _ true here short c.more.ensures k.owners;
-      exclusive = more_counts (λ b. at b && is_exclusive b) owners a _ _ _ (counts_here _ _ _ here c.is_exclusive.ensures) short c.more-2.ensures k.exclusive;
-      held = more_counts (λ b. at b && is_held b) owners a _ _ _ (counts_here _ _ _ here refl) short c.more-3.ensures k.held;
-      grouped = more_counts (λ b. at b && is_grouped b) owners a _ _ _ (counts_here _ _ _ here c.is_grouped.ensures) short c.more-4.ensures k.grouped;
-      unshared = more_counts (λ b. at b && is_unshared c.user_with-uid.result b) owners a _ _ _ (counts_here _ _ _ here c.is_unshared.ensures) short c.more-5.ensures (unshared_with at c.args.self owners a.uid _ c.user_with-uid.ensures k);
+      owners = more_counts at owners a _ _ true here c.more.ensures k.owners;
+      exclusive = more_counts (λ b. at b && is_exclusive b) owners a _ _ _ (counts_here _ _ _ here c.is_exclusive.ensures) c.more-2.ensures k.exclusive;
+      held = more_counts (λ b. at b && is_held b) owners a _ _ _ (counts_here _ _ _ here refl) c.more-3.ensures k.held;
+      grouped = more_counts (λ b. at b && is_grouped b) owners a _ _ _ (counts_here _ _ _ here c.is_grouped.ensures) c.more-4.ensures k.grouped;
+      unshared = more_counts (λ b. at b && is_unshared c.user_with-uid.result b) owners a _ _ _ (counts_here _ _ _ here c.is_unshared.ensures) c.more-5.ensures (unshared_with at c.args.self owners a.uid _ c.user_with-uid.ensures k);
     }

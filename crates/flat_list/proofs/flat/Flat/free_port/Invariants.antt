@@ -1,8 +1,9 @@
+use Rattle.std.proofs.Common.{◌&&◌, not}
 use Rattle.flat_list.specs.declared.header.First.TheVariants as firsts
-use Rattle.flat_list.specs.Ports.{port_order}
+use Rattle.flat_list.specs.Ports.{whole_order, is_reserved}
 use Rattle.flat_list.specs.Step.{suits_bind}
 use Rattle.flat_list.proofs.PortAt.{Searched}
 use Rattle.flat_list.proofs.flat.Flat.free_port.Given as goal
 
 abbrev pub invariant-loop-number : goal.invariant-loop-number
-invariant-loop-number l = Searched (suits_bind l.self l.socket l.addr) (port_order l.self.header.range l.offset firsts.Odd) l.number
+invariant-loop-number l = Searched (λ port. not (is_reserved l.self.header.range port) && suits_bind l.self l.socket l.addr port) (whole_order l.self.header.range l.offset firsts.Odd) l.number

@@ -6,7 +6,7 @@ use Rattle.table_model.specs.Asking.{Asking, ends}
 use Rattle.table_model.specs.Own.{with_socket, ports_of}
 use Rattle.table_model.specs.Operations as plan
 use Rattle.table_model.specs.Operations.{Did, done, refused}
-use Rattle.table_model.specs.Commands.{answers, bind_command, bind_reply, bind_error, is_unbound}
+use Rattle.table_model.specs.Commands.{answers, bind_command, bind_reply, bind_error, searches_port}
 use Rattle.shared_ops.specs.Goes.{Went}
 use Rattle.shared_ops.specs.Socks.{mine_of, first_mine}
 use Rattle.shared_ops.specs.Stands.{buckets_of, turned, chained}
@@ -51,7 +51,7 @@ returns-in-Ok-clause-carried g c =
     let s = c.in-Some.socket in
     let w = c.args.worker.now in
     let u = c.bind.new.worker in
-    let began = is_unbound (mine_of s).owner.state && (c.args.end.port == 0) in
+    let began = searches_port (mine_of s).owner c.args.end in
     let same = bind_same (mine_of s) c.args.end c.ports-ports.result (ports_of o firsts.Odd) (λ yes. c.ports-ports.ensures.ports (c.searches_bind-begins.ensures ∙ yes)) in
     let p = plan.bind (mine_of s) c.args.end (ports_of o firsts.Odd) in
     let rest = ends (done (mine_of c.in-Ok.socket)) in
@@ -73,7 +73,7 @@ returns-in_ok-refusal-in-Err-clause-carried g c =
     let s = c.in-Some.socket in
     let w = c.args.worker.now in
     let u = c.bind.new.worker in
-    let began = is_unbound (mine_of s).owner.state && (c.args.end.port == 0) in
+    let began = searches_port (mine_of s).owner c.args.end in
     let same = bind_same (mine_of s) c.args.end c.ports-ports.result (ports_of o firsts.Odd) (λ yes. c.ports-ports.ensures.ports (c.searches_bind-begins.ensures ∙ yes)) in
     let p = plan.bind (mine_of s) c.args.end (ports_of o firsts.Odd) in
     let rest = ends (refused c.in-Err.end) in

@@ -6,6 +6,9 @@ returns-in-Table c = rw c.in-Table.is (c.add_table.ensures c.args.mode)
 pub returns-in-Range : goal.returns-in-Range
 returns-in-Range c = rw c.in-Range.is (c.add_range.ensures c.args.mode)
 
+pub returns-in-Reserved : goal.returns-in-Reserved
+returns-in-Reserved c = rw c.in-Reserved.is (c.add_reserved.ensures c.args.mode)
+
 pub returns-in-Seed : goal.returns-in-Seed
 returns-in-Seed c = rw c.in-Seed.is (c.add_seed.ensures c.args.mode)
 

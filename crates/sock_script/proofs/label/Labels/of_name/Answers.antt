@@ -1,4 +1,4 @@
-use Rattle.std.proofs.Common.{◌∙◌, ◌/◌, ◌%◌, ◌^◌, [], ap, sym, subst, unwrap_or, slice_get}
+use Rattle.std.proofs.Common.{◌∙◌, ◌/◌, ◌%◌, ◌^◌, [], ap, sym, unwrap_or, slice_get}
 use Rattle.std.specs.List.{slice_index_or}
 use Rattle.sock_script.specs.Seen.{texts, tables}
 use Rattle.sock_script.proofs.LabelTable.{row_at}

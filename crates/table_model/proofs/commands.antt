@@ -1,0 +1,25 @@
+-- Each command, carried out on tables that mean a list.
+pub mod Comes
+pub mod ConnectTries
+pub mod Carried
+pub mod Bind
+pub mod SocketAndAt
+pub mod FirstPlans
+pub mod Reap
+pub mod ReapAll
+pub mod Gone
+pub mod Drop
+pub mod Close
+pub mod ListenBound
+pub mod ConnectOwner
+pub mod ConnectSearch
+pub mod Connect
+pub mod AcceptChild
+pub mod Accept
+pub mod Listen
+pub mod ListenPlan
+pub mod All
+pub mod ConnectPlans
+pub mod ListenEnds
+pub mod Laws
+pub mod Alone

@@ -1,0 +1,26 @@
+-- What each part of the tables, and what a section keeps, mean in the flat list, and how that changes.
+pub mod Slots
+pub mod Chains
+pub mod Cards
+pub mod Places
+pub mod Buckets
+pub mod FirstOfName
+pub mod Standing
+pub mod Fresh
+pub mod Start
+pub mod GroupPlaces
+pub mod Joining
+pub mod FreePlace
+pub mod Leaving
+pub mod Own
+pub mod MemberPlaces
+pub mod Sections
+pub mod OpenSocket
+pub mod GroupCards
+pub mod Groups
+pub mod OwnWaits
+pub mod Hashed
+pub mod NewSocket
+pub mod WaitNames
+pub mod OwnGoes
+pub mod OwnConnected
