@@ -102,6 +102,13 @@ fn race(
     }
 }
 
+/// Whether an audit of what a race wrote says yes.
+fn passes(rt: &(impl Threads + Wait + Sync + AllocGlobal), text: &str) -> Result<bool, AllocError> {
+    let text = text.as_bytes().to_vec(rt.alloc())?;
+    let (status, written) = call(rt, &["inet", "audit"], text, PLAIN)?;
+    Ok(status == Status::Done && written.starts_with(b"yes lives "))
+}
+
 #[test]
 fn sections_want_one_slot(rt: HostRuntime) -> Result<(), Fail> {
     for round in 0..40u32 {
@@ -112,6 +119,7 @@ fn sections_want_one_slot(rt: HostRuntime) -> Result<(), Fail> {
         let stays = ending(text.as_str(), " unhash -");
         let counts = is_counted(rt.alloc(), text.as_str())?;
         assert!(rt; counts && stays == 0, "{text}");
+        assert!(rt; passes(&rt, text.as_str())?, "{text}");
     }
     Ok(())
 }
@@ -128,7 +136,7 @@ fn sixty_four_sections_search_two_ports(rt: HostRuntime) -> Result<(), Fail> {
             ending(text, refused),
         ];
         assert_eq!(rt; got, [1, 1, 62]);
-        assert!(rt; is_counted(rt.alloc(), text)?);
+        assert!(rt; is_counted(rt.alloc(), text)? && passes(&rt, text)?);
     }
     Ok(())
 }

@@ -1,11 +1,11 @@
--- What clap finds in words that it takes: `run`, or `make` or `race` with two numbers in range.
-use Rattle.std.proofs.Common.{◌≡◌, ◌⊎◌, Bool, true, false, cond, List, [], ◌∷◌, Option, Some, None, refl, inl, inr, codes, drop}
+-- What clap finds in words that it takes: `run` or `audit`, or `make` or `race` with two numbers in range.
+use Rattle.std.proofs.Common.{◌≡◌, Bool, true, false, cond, List, [], ◌∷◌, Option, Some, None, refl, codes, drop}
 use Rattle.std.specs.Prelude.{find, is_some}
 use Rattle.clap.specs.Kinds.{Kinds, or_else}
 use Rattle.clap.specs.Walk.{Held, settled, Row, Text, answers_to, finished, nothing_held, rows_after, stop_after, walk}
 use Rattle.clap.specs.Simple.{App, Shape, built, built_leaf, entered, inherited, label_of, names_of, subcommand_of}
 use Rattle.clap.specs.Faults.{check_fault, defaults_fault, entered_fault, fault_of, settle_fault}
-use Rattle.inet_tool.specs.Words.{inet_app, run_app}
+use Rattle.inet_tool.specs.Words.{audit_app, inet_app, run_app}
 use Rattle.inet_tool.proofs.MakeWords.{Found, first_none, found_by, make, second_none, some_kind}
 use Rattle.inet_tool.proofs.RaceWords.{Found as RaceFound, found_by as race_found_by, race}
 
@@ -13,42 +13,48 @@ use Rattle.inet_tool.proofs.RaceWords.{Found as RaceFound, found_by as race_foun
 abbrev pub run : Shape
 run = built_leaf (inherited inet_app.top run_app.top)
 
--- a search of three finds none or one of the three
-find_three : {X : Type 0} (test : X → Bool) (x y z : X) → (find test (x ∷ y ∷ z ∷ []) ≡ None)
-    ⊎ ((find test (x ∷ y ∷ z ∷ []) ≡ Some x) ⊎ ((find test (x ∷ y ∷ z ∷ []) ≡ Some y) ⊎ (find test (x ∷ y ∷ z ∷ []) ≡ Some z)))
-find_three {X} test x y z = go (test x) (test y) (test z)
-  where
-    go : (a b c : Bool) → (cond a (Some x) (cond b (Some y) (cond c (Some z) None)) ≡ None)
-        ⊎ ((cond a (Some x) (cond b (Some y) (cond c (Some z) None)) ≡ Some x)
-        ⊎ ((cond a (Some x) (cond b (Some y) (cond c (Some z) None)) ≡ Some y)
-        ⊎ (cond a (Some x) (cond b (Some y) (cond c (Some z) None)) ≡ Some z)))
-    go true b c = inr (inl refl)
-    go false true c = inr (inr (inl refl))
-    go false false true = inr (inr (inr refl))
-    go false false false = inl refl
+-- `audit`
+abbrev pub audit : Shape
+audit = built_leaf (inherited inet_app.top audit_app.top)
 
--- the subcommand that is found: `run`, or `make` or `race` with its numbers
+-- a search of four finds none or one of the four
+data FoundOf {X : Type 0} (found : Option X) (w x y z : X) : Type 0 where
+  nothing : found ≡ None → FoundOf found w x y z
+  first : found ≡ Some w → FoundOf found w x y z
+  second : found ≡ Some x → FoundOf found w x y z
+  third : found ≡ Some y → FoundOf found w x y z
+  fourth : found ≡ Some z → FoundOf found w x y z
+
+find_four : {X : Type 0} (test : X → Bool) (w x y z : X) → FoundOf (find test (w ∷ x ∷ y ∷ z ∷ [])) w x y z
+find_four {X} test w x y z = go (test w) (test x) (test y) (test z)
+  where
+    go : (a b c d : Bool) → FoundOf (cond a (Some w) (cond b (Some x) (cond c (Some y) (cond d (Some z) None)))) w x y z
+    go true b c d = first refl
+    go false true c d = second refl
+    go false false true d = third refl
+    go false false false true = fourth refl
+    go false false false false = nothing refl
+
+-- the subcommand that is found: `run` or `audit`, or `make` or `race` with its numbers
 pub data Met (met : Option (Text × List Row)) : Type 0 where
   runs : (rows : List Row) → met ≡ Some (codes "run", rows) → Met met
   makes : (rows : List Row) → met ≡ Some (codes "make", rows) → Found rows → Met met
   races : (rows : List Row) → met ≡ Some (codes "race", rows) → RaceFound rows → Met met
+  audits : (rows : List Row) → met ≡ Some (codes "audit", rows) → Met met
 
--- where the walk stopped at a subcommand that takes the words after it, and at one of the three where one is wanted
+-- where the walk stopped at a subcommand that takes the words after it, and at one of the four where one is wanted
 met_at : (rows : List Row) (stop : Option (Text × List Text)) → entered_fault (built inet_app) stop ≡ []
     → check_fault (built inet_app).top rows (is_some (entered (built inet_app) stop)) ≡ [] → Met (entered (built inet_app) stop)
 met_at rows None below check = some_kind _ _ check
-met_at rows (Some p) below check = elim (find_three (λ s. answers_to p.0 (label_of s)) run make race) [
-  | inl none ↦ some_kind _ _ (rw none at check)
-  | inr one ↦ elim one [
-    | inl is ↦ runs (rows_after run.rules [] p.1) (rw is refl)
-    | inr other ↦ elim other [
-      | inl is ↦ makes (rows_after make.rules [] p.1) (rw is refl) (found_by p.1 (rw is at below))
-      | inr is ↦ races (rows_after race.rules [] p.1) (rw is refl) (race_found_by p.1 (rw is at below))
-    ]
-  ]
+met_at rows (Some p) below check = elim (find_four (λ s. answers_to p.0 (label_of s)) run make race audit) [
+  | nothing none ↦ some_kind _ _ (rw none at check)
+  | first is ↦ runs (rows_after run.rules [] p.1) (rw is refl)
+  | second is ↦ makes (rows_after make.rules [] p.1) (rw is refl) (found_by p.1 (rw is at below))
+  | third is ↦ races (rows_after race.rules [] p.1) (rw is refl) (race_found_by p.1 (rw is at below))
+  | fourth is ↦ audits (rows_after audit.rules [] p.1) (rw is refl)
 ]
 
--- words that clap takes name one of the three
+-- words that clap takes name one of the four
 pub met_by : (words : List Text) → fault_of inet_app words ≡ [] → Met (subcommand_of inet_app words)
 met_by words none =
     let app : App = built inet_app in

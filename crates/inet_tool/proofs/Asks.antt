@@ -4,10 +4,10 @@ use Rattle.std.specs.Str.Parse.{digits_value}
 use Rattle.clap.specs.Words.{Text, Row, one_of, subcommand_of, without_minus}
 use Rattle.sock_script.specs.declared.parse.Mode.{Mode}
 use Rattle.sock_script.specs.declared.parse.Mode.TheVariants as modes
-use Rattle.inet_tool.specs.Words.{inet_app, name_of, number_of, IsMake, IsRace, IsRefused, IsRun, MakesInRange, RacesInRange, Reads}
-use Rattle.inet_tool.proofs.Asked.{Met, makes, met_by, races, runs}
+use Rattle.inet_tool.specs.Words.{inet_app, name_of, number_of, IsAudit, IsMake, IsRace, IsRefused, IsRun, MakesInRange, RacesInRange, Reads}
+use Rattle.inet_tool.proofs.Asked.{Met, audits, makes, met_by, races, runs}
 use Rattle.inet_tool.proofs.MakeWords.{most_seed, most_count}
-use Rattle.inet_tool.proofs.Names.{make_isnt_race, race_isnt_make, run_isnt_make, run_isnt_race}
+use Rattle.inet_tool.proofs.Names.{audit_isnt_make, audit_isnt_race, make_isnt_race, race_isnt_audit, race_isnt_make, run_isnt_audit, run_isnt_make, run_isnt_race}
 use Rattle.inet_tool.proofs.Numbers.{digits, reads}
 
 -- what is the same
@@ -48,6 +48,7 @@ makes_in_range words seed count h = go (met_by words h.0)
     go : Met (subcommand_of inet_app words) → (seed < 2 ^ 32) × (count ≤ 100000)
     go (runs rows met) = not_named words (codes "run") rows met (codes "make") h.1 run_isnt_make
     go (races rows met found) = not_named words (codes "race") rows met (codes "make") h.1 race_isnt_make
+    go (audits rows met) = not_named words (codes "audit") rows met (codes "make") h.1 audit_isnt_make
     go (makes rows met found) =
         let s = one_value h.2 (number_is words (codes "make") rows met (codes "SEED") found.0 (rw found.2 refl)) in
         let n = one_value h.3 (number_is words (codes "make") rows met (codes "COUNT") found.1 (rw found.2 refl)) in
@@ -59,6 +60,7 @@ races_in_range words n p h = go (met_by words h.0)
     go : Met (subcommand_of inet_app words) → (1 ≤ n) × (n ≤ 16) × (1 ≤ p) × (p ≤ 64)
     go (runs rows met) = not_named words (codes "run") rows met (codes "race") h.1 run_isnt_race
     go (makes rows met found) = not_named words (codes "make") rows met (codes "race") h.1 make_isnt_race
+    go (audits rows met) = not_named words (codes "audit") rows met (codes "race") h.1 audit_isnt_race
     go (races rows met found) =
         let a = one_value h.2 (number_is words (codes "race") rows met (codes "lookers") found.lookers_text found.lookers_there.is) in
         let b = one_value h.3 (number_is words (codes "race") rows met (codes "passes") found.passes_text found.passes_there.is) in
@@ -77,6 +79,19 @@ module _ {P : Type 0} (words : List Text) where
   pub read_or_made : (mode : Mode) (seed count : ℕ) → Reads mode words → IsMake words seed count → P
   read_or_made modes.Run seed count h k = absurd (run_isnt_make (one_value h.1 k.1))
   read_or_made modes.Race seed count h k = race_or_make h.0 h.1 seed count h.2 k
+
+  pub run_or_audit : IsRun words → IsAudit words → P
+  run_or_audit h k = absurd (run_isnt_audit (one_value h.1 k.1))
+
+  pub race_or_audit : (n p : ℕ) → IsRace words n p → IsAudit words → P
+  race_or_audit n p h k = absurd (race_isnt_audit (one_value h.1 k.1))
+
+  pub audit_or_make : (seed count : ℕ) → IsAudit words → IsMake words seed count → P
+  audit_or_make seed count h k = absurd (audit_isnt_make (one_value h.1 k.1))
+
+  pub read_or_audited : (mode : Mode) → Reads mode words → IsAudit words → P
+  read_or_audited modes.Run h k = run_or_audit h k
+  read_or_audited modes.Race h k = race_or_audit h.0 h.1 h.2 k
 
   -- words that are refused ask for none
   pub refused_read : (mode : Mode) → Reads mode words → IsRefused words → P

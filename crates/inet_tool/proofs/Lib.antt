@@ -11,3 +11,4 @@ mod Told
 mod Faults
 mod Asks
 mod CountsTold
+mod Outcomes

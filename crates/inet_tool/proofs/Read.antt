@@ -10,13 +10,13 @@ use Rattle.clap.specs.Simple.{App, HasMatchesOf, subcommand_of, subcommand_rows_
 use Rattle.clap.specs.Faults.{fault_of, is_simple_and_free}
 use Rattle.clap.specs.declared.parser.matches.ArgMatches.{ArgMatches}
 use Rattle.clap.proofs.WalkLemmas.{one_text-rows}
-use Rattle.inet_tool.specs.Words.{Asks, IsTaken, inet_app, name_of, number_of}
+use Rattle.inet_tool.specs.Words.{Asks, IsTaken, NamesPlain, inet_app, name_of, number_of}
 use Rattle.inet_tool.specs.declared.words.Ask.{Ask}
-use Rattle.inet_tool.specs.declared.words.Ask.TheVariants.{Run, Make, Race}
-use Rattle.inet_tool.proofs.Asked.{Met, makes, met_by, races, runs}
+use Rattle.inet_tool.specs.declared.words.Ask.TheVariants.{Run, Make, Race, Audit}
+use Rattle.inet_tool.proofs.Asked.{Met, audits, makes, met_by, races, runs}
 use Rattle.inet_tool.proofs.MakeWords.{Found, Passes, most_count, most_seed}
 use Rattle.inet_tool.proofs.RaceWords.{Found as RaceFound}
-use Rattle.inet_tool.proofs.Names.{make_isnt_race, make_isnt_run, race_isnt_make, race_isnt_run, run_isnt_make, run_isnt_race}
+use Rattle.inet_tool.proofs.Names.{audit_isnt_make, audit_isnt_race, audit_isnt_run, make_isnt_audit, make_isnt_race, make_isnt_run, race_isnt_audit, race_isnt_make, race_isnt_run, run_isnt_audit, run_isnt_make, run_isnt_race}
 use Rattle.inet_tool.proofs.Numbers.{reads, u32_reads}
 
 -- two names are not one
@@ -88,6 +88,7 @@ module _ (words : List Text) (m : ArgMatches) (taken : IsTaken words) (met : sub
       go : Met (subcommand_of inet_app words) → (subcommand_of inet_app words ≡ Some (codes "make", rows_of (found_of n))) × Found (rows_of (found_of n))
       go (runs found is) = not_both (name_of words) (codes "run") (codes "make") (ap (option_map (λ p. p.0)) is) named_make run_isnt_make
       go (races found is numbers) = not_both (name_of words) (codes "race") (codes "make") (ap (option_map (λ p. p.0)) is) named_make race_isnt_make
+      go (audits found is) = not_both (name_of words) (codes "audit") (codes "make") (ap (option_map (λ p. p.0)) is) named_make audit_isnt_make
       go (makes found is numbers) =
           let same : found ≡ rows_of (found_of n) = rows_are n (codes "make") found is rows in
           (is ∙ ap (λ (r : List Row). Some (codes "make", r)) same, subst Found same numbers)
@@ -104,18 +105,29 @@ module _ (words : List Text) (m : ArgMatches) (taken : IsTaken words) (met : sub
       go : Met (subcommand_of inet_app words) → (subcommand_of inet_app words ≡ Some (codes "race", rows_of (found_of n))) × RaceFound (rows_of (found_of n))
       go (runs found is) = not_both (name_of words) (codes "run") (codes "race") (ap (option_map (λ p. p.0)) is) named_race run_isnt_race
       go (makes found is numbers) = not_both (name_of words) (codes "make") (codes "race") (ap (option_map (λ p. p.0)) is) named_race make_isnt_race
+      go (audits found is) = not_both (name_of words) (codes "audit") (codes "race") (ap (option_map (λ p. p.0)) is) named_race audit_isnt_race
       go (races found is numbers) =
           let same : found ≡ rows_of (found_of n) = rows_are n (codes "race") found is rows in
           (is ∙ ap (λ (r : List Row). Some (codes "race", r)) same, subst RaceFound same numbers)
 
-  -- what is neither `make` nor `race` is `run`
-  pub run_met : ¬ (subcommand_name_of m ≡ Some (codes "make")) → ¬ (subcommand_name_of m ≡ Some (codes "race")) → name_of words ≡ Some (codes "run")
-  run_met no_make no_race = go (met_by words taken)
+  -- what is neither `make`, `race` nor `audit` is `run`
+  run_met : ¬ (subcommand_name_of m ≡ Some (codes "make")) → ¬ (subcommand_name_of m ≡ Some (codes "race")) → ¬ (subcommand_name_of m ≡ Some (codes "audit"))
+      → name_of words ≡ Some (codes "run")
+  run_met no_make no_race no_audit = go (met_by words taken)
     where
       go : Met (subcommand_of inet_app words) → name_of words ≡ Some (codes "run")
       go (runs found is) = ap (option_map (λ p. p.0)) is
       go (makes found is numbers) = absurd (no_make (named m ∙ ap (option_map (λ p. p.0)) (met ∙ is)))
       go (races found is numbers) = absurd (no_race (named m ∙ ap (option_map (λ p. p.0)) (met ∙ is)))
+      go (audits found is) = absurd (no_audit (named m ∙ ap (option_map (λ p. p.0)) (met ∙ is)))
+
+  -- so a subcommand that is neither `make` nor `race` asks for what its name says
+  pub plain_met : ¬ (subcommand_name_of m ≡ Some (codes "make")) → ¬ (subcommand_name_of m ≡ Some (codes "race")) → (ask : Ask) → NamesPlain (subcommand_name_of m) ask
+      → Asks words ask
+  plain_met no_make no_race Run no_audit = (taken, run_met no_make no_race no_audit)
+  plain_met no_make no_race (Make seed count) named_so = absurd named_so
+  plain_met no_make no_race (Race n p) named_so = absurd named_so
+  plain_met no_make no_race Audit named_so = (taken, name_is (codes "audit") named_so)
 
 -- What a parse of the program's command gives is of its words.
 pub parsed : (app : App) (words : List Text) (m : ArgMatches) → app ≡ inet_app → (is_simple_and_free app ≡ true → fault_of app words ≡ [])
@@ -140,9 +152,16 @@ pub one_ask : (words : List Text) (ask other : Ask) → Asks words ask → Asks 
 one_ask words Run Run a b = refl
 one_ask words Run (Make s k) a b = not_both (name_of words) _ _ a.1 b.1 run_isnt_make
 one_ask words Run (Race s k) a b = not_both (name_of words) _ _ a.1 b.1 run_isnt_race
+one_ask words Run Audit a b = not_both (name_of words) _ _ a.1 b.1 run_isnt_audit
 one_ask words (Make s k) Run a b = not_both (name_of words) _ _ a.1 b.1 make_isnt_run
 one_ask words (Make s k) (Make t l) a b = cc
 one_ask words (Make s k) (Race t l) a b = not_both (name_of words) _ _ a.1 b.1 make_isnt_race
+one_ask words (Make s k) Audit a b = not_both (name_of words) _ _ a.1 b.1 make_isnt_audit
 one_ask words (Race s k) Run a b = not_both (name_of words) _ _ a.1 b.1 race_isnt_run
 one_ask words (Race s k) (Make t l) a b = not_both (name_of words) _ _ a.1 b.1 race_isnt_make
 one_ask words (Race s k) (Race t l) a b = cc
+one_ask words (Race s k) Audit a b = not_both (name_of words) _ _ a.1 b.1 race_isnt_audit
+one_ask words Audit Run a b = not_both (name_of words) _ _ a.1 b.1 audit_isnt_run
+one_ask words Audit (Make t l) a b = not_both (name_of words) _ _ a.1 b.1 audit_isnt_make
+one_ask words Audit (Race t l) a b = not_both (name_of words) _ _ a.1 b.1 audit_isnt_race
+one_ask words Audit Audit a b = refl

@@ -3,3 +3,4 @@ pub mod Words
 pub mod Status
 pub mod Table
 pub mod Verdict
+pub mod Audit

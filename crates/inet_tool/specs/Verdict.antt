@@ -4,7 +4,7 @@ use Rattle.sock_script.specs.declared.parse.Mode.{Mode}
 use Rattle.inet_tool.specs.declared.fault.Fault.{Fault}
 use Rattle.inet_tool.specs.declared.fault.Fault.TheVariants as faults
 use Rattle.inet_tool.specs.declared.status.Status.{Status}
-use Rattle.inet_tool.specs.declared.status.Status.TheVariants.{Done, Usage, BadScript, BadCapture, TooLong, ReadFault, WriteFault, Memory}
+use Rattle.inet_tool.specs.declared.status.Status.TheVariants.{Done, Usage, BadScript, BadCapture, TooLong, ReadFault, WriteFault, Memory, BadRecord, Refuted}
 use Rattle.inet_tool.specs.Table.{limit, HasFault, IsGood}
 
 -- the status of a fault
@@ -23,3 +23,5 @@ Answers mode bytes TooLong = limit < length bytes
 Answers mode bytes ReadFault = Unit {0}
 Answers mode bytes WriteFault = length bytes ≤ limit
 Answers mode bytes Memory = Unit {0}
+Answers mode bytes (BadRecord n) = ⊥
+Answers mode bytes (Refuted n) = ⊥

@@ -8,7 +8,7 @@ use Rattle.clap.specs.declared.builder.action.ArgAction.TheVariants.{Set}
 use Rattle.clap.specs.declared.builder.value_parser.ValueParser.{ValueParser}
 use Rattle.clap.specs.declared.builder.value_parser.ValueParser.TheVariants.{Signed}
 use Rattle.inet_tool.specs.declared.words.Ask.{Ask}
-use Rattle.inet_tool.specs.declared.words.Ask.TheVariants.{Run, Make, Race}
+use Rattle.inet_tool.specs.declared.words.Ask.TheVariants.{Run, Make, Race, Audit}
 use Rattle.sock_script.specs.declared.parse.Mode.{Mode}
 use Rattle.sock_script.specs.declared.parse.Mode.TheVariants as modes
 
@@ -36,7 +36,11 @@ race_app = with_rule
     (with_rule (new_app (codes "race")) (option_rule (codes "lookers") (Signed (pos 1) (pos 16))))
     (option_rule (codes "passes") (Signed (pos 1) (pos 64)))
 
--- The program: one of the three is required, and nothing else is declared, `help` neither.
+-- `audit`
+abbrev pub audit_app : App
+audit_app = new_app (codes "audit")
+
+-- The program: one of the four is required, and nothing else is declared, `help` neither.
 abbrev pub top_app : App
 top_app = on_top (λ s. record s {
   subcommand_required = true;
@@ -44,8 +48,12 @@ top_app = on_top (λ s. record s {
   disable_help_subcommand = true;
 }) (new_app (codes "inet"))
 
+-- with the three that are for scripts
+abbrev pub scripts_app : App
+scripts_app = with_subcommand (with_subcommand (with_subcommand top_app run_app.top) make_app.top) race_app.top
+
 abbrev pub inet_app : App
-inet_app = with_subcommand (with_subcommand (with_subcommand top_app run_app.top) make_app.top) race_app.top
+inet_app = with_subcommand scripts_app audit_app.top
 
 -- clap takes the words
 abbrev pub IsTaken : List Text → Type 0
@@ -78,6 +86,10 @@ abbrev pub IsRace : List Text → ℕ → ℕ → Type 0
 IsRace words lookers passes = IsTaken words × (name_of words ≡ Some (codes "race"))
     × (number_of (codes "lookers") words ≡ Some lookers) × (number_of (codes "passes") words ≡ Some passes)
 
+-- the words ask to audit the record of a race
+abbrev pub IsAudit : List Text → Type 0
+IsAudit words = IsTaken words × (name_of words ≡ Some (codes "audit"))
+
 -- the words ask to read a script, which is read for that
 abbrev pub Reads : Mode → List Text → Type 0
 Reads modes.Run words = IsRun words
@@ -88,10 +100,22 @@ abbrev pub Asks : List Text → Ask → Type 0
 Asks words Run = IsRun words
 Asks words (Make seed count) = IsMake words seed count
 Asks words (Race lookers passes) = IsRace words lookers passes
+Asks words Audit = IsAudit words
+
+-- what is asked for by a subcommand of that name, if it isn't `make` or `race`
+abbrev pub NamesPlain : Option Text → Ask → Type 0
+NamesPlain name Run = ¬ (name ≡ Some (codes "audit"))
+NamesPlain name (Make seed count) = ⊥
+NamesPlain name (Race lookers passes) = ⊥
+NamesPlain name Audit = name ≡ Some (codes "audit")
 
 -- `run` is taken, and asks to run a script
 abbrev pub RunAsks : Type 0
 RunAsks = (name : Text) → IsRun (name ∷ codes "run" ∷ [])
+
+-- `audit` is taken, and asks to audit a record
+abbrev pub AuditAsks : Type 0
+AuditAsks = (name : Text) → IsAudit (name ∷ codes "audit" ∷ [])
 
 -- `make` with a seed and a count in range is taken, and asks to make from these
 abbrev pub MakeAsks : Type 0

@@ -3,14 +3,15 @@
 //! `inet run` reads a script, with a capture at its end or without, runs its sections one after the other over the
 //! socket tables, and writes the reply of each command and what each packet finds. `inet race` reads one too, runs its
 //! sections and looks its packets up beside each other, and writes the record of that. `inet make` reads nothing, runs
-//! a generated script, and writes how many of its commands were done. The contract of [`inet`] has each status of
+//! a generated script, and writes how many of its commands were done. `inet audit` reads the record of a race, and writes
+//! whether it passes the tests of the judge, or where it fails which. The contract of [`inet`] has each status of
 //! the table below, when it comes and what was written then; `main` makes the real ends, calls it and ends with the
-//! status. It stands on `sock_script`, `script_run`, `race_threads`, `race_text` and `inet_io`, and on `clap` for the
-//! words.
+//! status. It stands on `sock_script`, `script_run`, `race_threads`, `race_text`, `record_reader` and `inet_io`, and on
+//! `clap` for the words.
 //!
 //! | Status | Exit | When | Written |
 //! |---|---|---|---|
-//! | `Done` | 0 | the input is a script; of `make`, whatever its numbers | a line for each command and packet; of `race`, a record; of `make`, counts |
+//! | `Done` | 0 | the input is a script; of `make`, whatever its numbers; of `audit`, a record that passes each test | a line for each command and packet; of `race`, a record; of `make`, counts; of `audit`, `yes lives N packets M clock C` |
 //! | `Usage` | 2 | clap refuses the words | nothing, and nothing was read |
 //! | `BadScript(n)` | 3 | line n is the first outside the grammar | `bad script line n` |
 //! | `BadCapture` | 4 | the script's capture isn't empty, and begins with a header of neither format | `bad capture` |
@@ -18,6 +19,8 @@
 //! | `ReadFault` | 6 | only where a read failed | nothing |
 //! | `WriteFault` | 7 | only where a write failed | a front of what was to be written |
 //! | `Memory` | 8 | in place of any other | nothing |
+//! | `BadRecord(n)` | 9 | line n is the first that keeps the text from being a record | `bad record line n` |
+//! | `Refuted(n)` | 10 | the record fails a test, first at line n | `no line n WHY` |
 //!
 //! ```text
 //! let status = inet(&rt, alloc, &words, &mut source, &mut sink, &Open);
@@ -31,10 +34,13 @@ ghost use Rattle.inet_tool.specs.declared.fault.Fault.{Fault as AnyFault};
 ghost use Rattle.inet_tool.specs.declared.fault.Fault.TheVariants as faults;
 ghost use Rattle.sock_script.specs.declared.parse.Mode.{Mode};
 ghost use Rattle.sock_script.specs.declared.parse.Mode.TheVariants as modes;
-ghost use Rattle.inet_tool.specs.Words.{IsRun, IsMake, IsRace, IsRefused, Reads};
+ghost use Rattle.inet_tool.specs.Words.{IsRun, IsMake, IsRace, IsRefused, IsAudit, Reads};
 ghost use Rattle.inet_tool.specs.Table.{limit, HasFault, IsGood, IsRaceOf, IsRunOf, WritesFlatOut, WritesRace, WritesFault, WritesFront, WritesCounts, WritesFrontOfCounts};
 ghost use Rattle.inet_tool.specs.Verdict.{Answers, fault_status};
+ghost use Rattle.inet_tool.specs.Audit.{AuditAnswers, IsEnd, IsOutcome, WritesFrontOfOutcome, WritesOutcome, outcome_status};
+ghost use Rattle.inet_tool.specs.declared.audit.Outcome.{Outcome as AnyOutcome};
 
+mod audit;
 mod fault;
 pub mod law;
 mod made;
@@ -56,8 +62,8 @@ use words::{Ask, AskEnd};
 /// The most bytes that an input may have.
 pub const LIMIT: usize = 16_777_216;
 
-/// Does what the words ask for: reads the source to its end and writes the reply to what it read, or the record of a
-/// race of it, or makes a script and writes its counts.
+/// Does what the words ask for: reads the source to its end and writes the reply to what it read, the record of a
+/// race of it, or the verdict on such a record, or makes a script and writes its counts.
 ///
 /// `words` has the program's name first. What is written is built whole before the first write, so that
 /// only a write that fails leaves a part of it. Each command waits by `rt` for the turns of bind buckets and the
@@ -65,8 +71,9 @@ pub const LIMIT: usize = 16_777_216;
 /// which its workers call before each command and packet, is for a race alone.
 ///
 /// Reading takes at most 16,777,217 reads. Where several causes stand, the earlier of usage, a failed
-/// read, too long an input, a bad line, a bad capture and a failed write is answered; want of memory may come in
-/// place of what a later test would give.
+/// read, too long an input, a bad line, a bad capture and a failed write is answered, and of an audit a bad line before
+/// a line that is refuted, but a failed write in place of both; want of memory may come in place of what a later test
+/// would give.
 pub fn inet<R: Threads + Wait + Sync, S: Source, K: Sink, G: Gate>(
     rt: &R,
     alloc: Global,
@@ -83,7 +90,8 @@ pub fn inet<R: Threads + Wait + Sync, S: Source, K: Sink, G: Gate>(
     // Other words ask to run a script, to race one or to make one, so what follows speaks of all of them.
     ensures asked { (result ≡ Status.Usage) ⊎ ((result ≡ Status.Memory) ⊎ (IsRun (map string_bytes words.now)
         ⊎ (((lookers : ℕ) × (passes : ℕ) × IsRace (map string_bytes words.now) lookers passes)
-        ⊎ ((seed : ℕ) × (count : ℕ) × IsMake (map string_bytes words.now) seed count)))) }
+        ⊎ (((seed : ℕ) × (count : ℕ) × IsMake (map string_bytes words.now) seed count)
+        ⊎ IsAudit (map string_bytes words.now))))) }
 
     // What stands after each status of `run` and of `race`, which have each their grammar.
     ensures done { IsRun (map string_bytes words.now) → result ≡ Status.Done → WritesFlatOut
@@ -139,6 +147,29 @@ pub fn inet<R: Threads + Wait + Sync, S: Source, K: Sink, G: Gate>(
     ensures make_reads { (seed count : ℕ) → IsMake (map string_bytes words.now) seed count → source.new ≡ source.old }
     ensures make_ends { (seed count : ℕ) → IsMake (map string_bytes words.now) seed count
         → (result ≡ Status.Done) ⊎ ((result ≡ Status.WriteFault) ⊎ (result ≡ Status.Memory)) }
+
+    // `audit` writes the line that tells what came of it: a verdict on the record, or the line that keeps it from being
+    // one. Which that is the bytes determine, and they get it, where neither end failed and memory was there.
+    ensures audited { IsAudit (map string_bytes words.now) → IsEnd result → WritesOutcome
+        (S.left source.old) (S.left source.new) (K.written sink.old) (K.written sink.new) result }
+    ensures audited_front { IsAudit (map string_bytes words.now) → result ≡ Status.WriteFault → WritesFrontOfOutcome
+        (S.left source.old) (S.left source.new) (K.written sink.old) (K.written sink.new) }
+    ensures audit_verdict { IsAudit (map string_bytes words.now)
+        → IfSome (S.left source.old) (λ bytes. AuditAnswers bytes result) }
+    ensures audit_over_limit { IsAudit (map string_bytes words.now)
+        → IfSome (S.left source.old) (λ bytes. limit < length bytes
+        → (result ≡ Status.TooLong) ⊎ ((result ≡ Status.ReadFault) ⊎ (result ≡ Status.Memory))) }
+    ensures audit_complete { IsAudit (map string_bytes words.now)
+        → IfSome (S.left source.old) (λ bytes. (outcome : AnyOutcome) → length bytes ≤ limit → IsOutcome bytes outcome
+        → ¬ (Rose (S.faults source.old) (S.faults source.new))
+        → ¬ (Rose (K.faults sink.old) (K.faults sink.new))
+        → (result ≡ outcome_status outcome) ⊎ (result ≡ Status.Memory)) }
+
+    // A script isn't told to be no record, nor a record to be no script.
+    ensures no_record { (mode : Mode) → Reads mode (map string_bytes words.now)
+        → (n : ℕ) → (result ≡ Status.BadRecord n → ⊥) × (result ≡ Status.Refuted n → ⊥) }
+    ensures no_script { IsAudit (map string_bytes words.now)
+        → (n : ℕ) → (result ≡ Status.BadScript n → ⊥) × (result ≡ Status.BadCapture → ⊥) }
 {
     match words::ask_of(alloc, words) {
         Ok(Ask::Run) => serve::run(rt, alloc, source, sink),
@@ -146,6 +177,7 @@ pub fn inet<R: Threads + Wait + Sync, S: Source, K: Sink, G: Gate>(
         Ok(Ask::Race { lookers, passes }) => {
             race::serve(rt, alloc, lookers, passes, source, sink, gate)
         }
+        Ok(Ask::Audit) => audit::serve(alloc, source, sink),
         Err(AskEnd::Usage) => Status::Usage,
         Err(AskEnd::Memory) => Status::Memory,
     }

@@ -36,6 +36,7 @@ pub fn serve<R: Threads + Wait + Sync, S: Source, K: Sink, G: Gate>(
     ensures done { result ≡ Status.Done → WritesRace lookers passes
         (S.left source.old) (S.left source.new) (K.written sink.old) (K.written sink.new) }
     ensures no_usage { result ≡ Status.Usage → ⊥ }
+    ensures no_record { (n : ℕ) → (result ≡ Status.BadRecord n → ⊥) × (result ≡ Status.Refuted n → ⊥) }
     ensures bad_script { (n : ℕ) → result ≡ Status.BadScript n → WritesFault modes.Race
         (S.left source.old) (S.left source.new) (K.written sink.old) (K.written sink.new) (faults.Line n) }
     ensures bad_capture { result ≡ Status.BadCapture → WritesFault modes.Race

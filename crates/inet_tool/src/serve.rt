@@ -23,6 +23,7 @@ pub fn run<R: Wait, S: Source, K: Sink>(
     ensures done { result ≡ Status.Done → WritesFlatOut
         (S.left source.old) (S.left source.new) (K.written sink.old) (K.written sink.new) }
     ensures no_usage { result ≡ Status.Usage → ⊥ }
+    ensures no_record { (n : ℕ) → (result ≡ Status.BadRecord n → ⊥) × (result ≡ Status.Refuted n → ⊥) }
     ensures bad_script { (n : ℕ) → result ≡ Status.BadScript n → WritesFault modes.Run
         (S.left source.old) (S.left source.new) (K.written sink.old) (K.written sink.new) (faults.Line n) }
     ensures bad_capture { result ≡ Status.BadCapture → WritesFault modes.Run

@@ -3,7 +3,8 @@
 /// How a call ended. The contract of `inet` says when each comes and what stands then.
 #[derive(Clone, Copy, Debug, PartialEq, Eq)]
 pub enum Status {
-    /// All was written: the reply to an input that was read to its end, or a generated script's counts.
+    /// All was written: the reply to an input that was read to its end, a generated script's counts, or that a race's
+    /// record passes each test.
     Done,
     /// The words ask for nothing that the program does.
     Usage,
@@ -19,6 +20,10 @@ pub enum Status {
     WriteFault,
     /// No memory was left.
     Memory,
+    /// The line of that number, from 1, is the first that keeps the text from being a race's record.
+    BadRecord(u64),
+    /// The record is refuted at the line of that number, from 1.
+    Refuted(u64),
 }
 
 impl Status {
@@ -38,6 +43,8 @@ impl Status {
             Status::ReadFault => 6,
             Status::WriteFault => 7,
             Status::Memory => 8,
+            Status::BadRecord(_) => 9,
+            Status::Refuted(_) => 10,
         }
     }
 }

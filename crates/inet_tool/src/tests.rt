@@ -5,8 +5,11 @@ use std::alloc::{AllocError, Global};
 use std::test::Fail;
 
 /// Command lines, the words parted by a space, and what each asks for.
-const ROWS: [(&str, Result<Ask, AskEnd>); 34] = [
+const ROWS: [(&str, Result<Ask, AskEnd>); 37] = [
     ("inet run", Ok(Ask::Run)),
+    ("inet audit", Ok(Ask::Audit)),
+    ("inet audit x", Err(AskEnd::Usage)),
+    ("inet audit --passes 1", Err(AskEnd::Usage)),
     ("inet make 1 0", Ok(Ask::Make { seed: 1, count: 0 })),
     (
         "inet make 4294967295 100000",

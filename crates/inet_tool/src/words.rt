@@ -5,11 +5,12 @@
 ghost use Rattle.std.specs.Prelude.{◌≡◌, ◌≤◌, ◌⊎◌, ℕ, map, string_bytes, IfOk, false};
 ghost use Rattle.clap.specs.Words.{app_of, rule_of};
 ghost use Rattle.clap.specs.declared.builder.command.Command.TheViews.{out-Command as fields_of};
-ghost use Rattle.inet_tool.specs.Words.{Asks, IsRefused, inet_app, make_app, number_rule, option_rule, race_app, top_app};
+ghost use Rattle.clap.specs.Matches.{subcommand_name_of};
+ghost use Rattle.inet_tool.specs.Words.{Asks, IsRefused, NamesPlain, inet_app, make_app, number_rule, option_rule, race_app, scripts_app, top_app};
 
 use clap::builder::ValueParser;
 use clap::error::ErrorKind;
-use clap::{Arg, ArgAction, Command, value_parser};
+use clap::{Arg, ArgAction, ArgMatches, Command, value_parser};
 use std::alloc::{AllocError, Global};
 
 /// What the words ask for.
@@ -21,6 +22,8 @@ pub enum Ask {
     Make { seed: u32, count: u32 },
     /// To race the script that the source gives, with so many lookers, and so many passes a lookup at most.
     Race { lookers: u32, passes: u32 },
+    /// To audit the record of a race that the source gives.
+    Audit,
 }
 
 /// Why the words ask for nothing.
@@ -70,11 +73,21 @@ pub fn ask_of(alloc: Global, words: &[String]) -> Result<Ask, AskEnd>
         return Ok(Ask::Race { lookers, passes });
     }
     let Some(numbers) = matches.subcommand_matches("make") else {
-        return Ok(Ask::Run);
+        return Ok(without_numbers(&matches));
     };
     let seed = numbers.get_one::<u32>("SEED").unwrap();
     let count = numbers.get_one::<u32>("COUNT").unwrap();
     Ok(Ask::Make { seed, count })
+}
+
+/// What a subcommand without numbers asks for.
+fn without_numbers(matches: &ArgMatches<'_>) -> Ask
+    ensures { NamesPlain (subcommand_name_of matches.now) result }
+{
+    match matches.subcommand_matches("audit") {
+        Some(_) => Ask::Audit,
+        None => Ask::Run,
+    }
 }
 
 /// How an error of `clap` ends the reading.
@@ -88,9 +101,18 @@ fn end_of(kind: ErrorKind) -> AskEnd
     }
 }
 
-/// The command: `run`, `make SEED COUNT`, or `race` with its two options, and no help.
+/// The command: `run`, `make SEED COUNT`, `race` with its two options, or `audit`, and no help.
 fn command<'a>(alloc: Global) -> Result<Command<'a>, AllocError>
     ensures { IfOk result (λ command. app_of command ≡ inet_app) }
+{
+    let audit = Command::new(alloc, "audit");
+    scripts_command(alloc)?.subcommand(audit)
+}
+
+/// The command with its subcommands for scripts alone.
+fn scripts_command<'a>(alloc: Global) -> Result<Command<'a>, AllocError>
+    ensures app { IfOk result (λ command. app_of command ≡ scripts_app) }
+    ensures local { IfOk result (λ command. (fields_of command).has_globals ≡ false) }
 {
     let run = Command::new(alloc, "run");
     let two = top(alloc)

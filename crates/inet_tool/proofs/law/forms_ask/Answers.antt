@@ -13,6 +13,10 @@ pub returns-clause-run : goal.returns-clause-run
 unfolding clap_on_literals
 returns-clause-run c = λ name. (refl, refl)
 
+pub returns-clause-audit : goal.returns-clause-audit
+unfolding clap_on_literals
+returns-clause-audit c = λ name. (refl, refl)
+
 pub returns-clause-make : goal.returns-clause-make
 returns-clause-make c = λ name seed count low high.
     let a = decimal_is_plain seed (omega arith) in

@@ -3,7 +3,7 @@ use Rattle.std.specs.Str.Parse.{ParsesUnsigned, ExplainsUnsignedError, HasUnsign
 use Rattle.clap.specs.Words.{Text}
 use Rattle.inet_tool.specs.Words.{IsMake, IsRace}
 use Rattle.inet_tool.proofs.Asks.{makes_in_range, races_in_range}
-use Rattle.inet_tool.proofs.Read.{count_given, given_number, lookers_given, make_met, not_true, one_ask, parsed, passes_given, race_met, read_given, run_met, seed_given}
+use Rattle.inet_tool.proofs.Read.{count_given, given_number, lookers_given, make_met, not_true, one_ask, parsed, passes_given, plain_met, race_met, read_given, seed_given}
 use Rattle.inet_tool.proofs.words.ask_of.Goals as goal
 
 pub unwrap-lookers-requires : goal.unwrap-lookers-requires
@@ -56,12 +56,15 @@ returns-in-Some-clause-found c = λ ask asks. inl (ap Ok (one_ask (map string_by
 pub returns-in_default-subcommand_matches-2-clause-asks : goal.returns-in_default-subcommand_matches-2-clause-asks
 returns-in_default-subcommand_matches-2-clause-asks c =
     let words : List Text = map string_bytes c.args.words.now in
-    let of_words = parsed _ words c.in-Ok-try_get_matches_from.matches c.in-Ok.ensures c.in-Ok-try_get_matches_from.ensures.kinds c.in-Ok-try_get_matches_from.ensures.matches in (
-      of_words.0,
-      run_met words c.in-Ok-try_get_matches_from.matches of_words.0 of_words.1
-          (λ is. not_true (c.in_default-subcommand_matches-2.ensures.found.1 is))
-          (λ is. not_true (c.in_default-subcommand_matches.ensures.found.1 is)),
-    )
+    let of_words = parsed _ words c.in-Ok-try_get_matches_from.matches c.in-Ok.ensures c.in-Ok-try_get_matches_from.ensures.kinds c.in-Ok-try_get_matches_from.ensures.matches in
+    plain_met words c.in-Ok-try_get_matches_from.matches of_words.0 of_words.1
+    (λ is. not_true (c.in_default-subcommand_matches-2.ensures.found.1 is))
+    (λ is. not_true (c.in_default-subcommand_matches.ensures.found.1 is))
+    c.without_numbers.result c.without_numbers.ensures
+
+pub returns-in_default-subcommand_matches-2-clause-found : goal.returns-in_default-subcommand_matches-2-clause-found
+returns-in_default-subcommand_matches-2-clause-found c =
+    λ ask asks. inl (ap Ok (one_ask (map string_bytes c.args.words.now) _ ask (returns-in_default-subcommand_matches-2-clause-asks c) asks))
 
 pub unwrap-seed-requires : goal.unwrap-seed-requires
 unwrap-seed-requires c =

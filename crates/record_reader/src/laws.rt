@@ -1,0 +1,21 @@
+//! What follows from the definitions of records.
+
+ghost use Rattle.record_reader.specs.Laws as law;
+
+/// A text has one answer: it is one record with one verdict, or one line is the first outside.
+pub fn one_answer()
+    ensures apart { law.ExcludesRecords }
+    ensures first { law.HasOneFirst }
+    ensures one { law.HasOneRecord }
+    ensures verdict { law.HasOneVerdict }
+{}
+
+/// The numbers of names tell which names are printed alike.
+pub fn numbers_tell_names()
+    ensures { law.NumbersTellNames }
+{}
+
+/// What a yes says of the race that a text tells.
+pub fn yes_is_sound()
+    ensures { law.YesIsSound }
+{}
