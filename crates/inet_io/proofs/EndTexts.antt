@@ -1,9 +1,9 @@
 -- An end's text is cut at its colon in one way, an address's at its dots; so the texts tell them apart.
-use Rattle.std.proofs.Common.{◌≡◌, ℕ, ◌+◌, ◌<◌, ◌^◌, List, ◌∷◌, ◌++◌, length, take, drop, decimal, codes, arith, subst, sym, ap, ◌∙◌, Some, None, position, lit≤, append_assoc, ◌-◌, ◌/◌, ◌%◌, length-drop}
+use Rattle.std.proofs.Common.{◌≡◌, ℕ, ◌<◌, ◌^◌, List, ◌∷◌, ◌++◌, length, take, drop, decimal, codes, arith, sym, ◌∙◌, lit≤, append_assoc, ◌-◌, ◌/◌, ◌%◌, length-drop}
 use Rattle.std.proofs.lemmas.Fmt.{decimal_injective}
 use Rattle.std.proofs.lemmas.List.{take_all}
-use Rattle.inet_io.specs.Texts.{addr_text, end_text, IsEndText, IsNumber}
-use Rattle.inet_io.proofs.Cuts.{Lacks, Lacks-append, decimal_lacks, one_cut, cut_at, is_found, is_byte}
+use Rattle.inet_io.specs.Texts.{addr_text, end_text}
+use Rattle.inet_io.proofs.Cuts.{Lacks, Lacks-append, decimal_lacks, one_cut}
 
 -- a dot is no colon
 dot_lacks : Lacks 58 (codes ".")
@@ -22,40 +22,9 @@ addr_text-lacks addr fits =
 pub end_text-cut : (addr port : ℕ) → end_text addr port ≡ addr_text addr ++ 58 ∷ decimal port
 end_text-cut addr port = append_assoc (addr_text addr) (codes ":") (decimal port)
 
--- what stands before and behind the colon of an end
-pub end-is_cut : (least : ℕ) (text : List ℕ) (addr port i : ℕ) → IsEndText least text addr port → position (is_byte 58) text ≡ Some i → (take i text ≡ addr_text addr) × (drop (i + 1) text ≡ decimal port)
-end-is_cut least text addr port i h place =
-    let cut = cut_at 58 i text place in
-    one_cut 58 _ _ _ _ cut.1 (addr_text-lacks addr h.addr_fits) (sym cut.0 ∙ h.spelled ∙ end_text-cut addr port)
-
--- an end has a colon
-pub end-has_colon : (least : ℕ) (text : List ℕ) (addr port : ℕ) → IsEndText least text addr port → position (is_byte 58) text ≡ None → ⊥
-end-has_colon least text addr port h none =
-    is_found 58 (addr_text addr) (decimal port) (subst (λ t. position (is_byte 58) t ≡ None) (h.spelled ∙ end_text-cut addr port) none)
-
--- an address before the colon and a port behind it make an end
-pub end-from_cut : (least : ℕ) (text : List ℕ) (addr port i : ℕ) → position (is_byte 58) text ≡ Some i → take i text ≡ addr_text addr → addr < 2 ^ 32 → IsNumber least 65535 (drop (i + 1) text) port → IsEndText least text addr port
-end-from_cut least text addr port i place front fits number =
-    let cut = cut_at 58 i text place in
-    record {
-      spelled = cut.0 ∙ ap (λ f. f ++ 58 ∷ drop (i + 1) text) front ∙ ap (λ b. addr_text addr ++ 58 ∷ b) number.spelled ∙ sym (end_text-cut addr port);
-      addr_fits = fits;
-      low = number.low;
-      high = omega (arith, number.high);
-    }
-
 -- the rest `&xs[k..]`
 pub tail_is : (k : ℕ) (xs : List ℕ) → take (length xs - k) (drop k xs) ≡ drop k xs
 tail_is k xs = take_all (length xs - k) (drop k xs) (omega (arith, length-drop k xs))
-
--- the port of an end as a number
-pub number_of : (least : ℕ) (text : List ℕ) (addr port i : ℕ) → IsEndText least text addr port → position (is_byte 58) text ≡ Some i → IsNumber least 65535 (drop (i + 1) text) port
-number_of least text addr port i h place = record {
-  spelled = (end-is_cut least text addr port i h place).1;
-  low = h.low;
-  high = omega (arith, h.high);
-  short = omega (arith, h.high);
-}
 
 -- four numbers with dots, the first in front of all the rest
 nested : ℕ → ℕ → ℕ → ℕ → List ℕ

@@ -1,4 +1,4 @@
-pub mod Numbers
 pub mod Pieces
 pub mod Cuts
 pub mod EndTexts
+pub mod Fronts

@@ -1,5 +1,5 @@
 //! The outside of the program: a source that is read, a sink that is written, a gate that workers
-//! pass, and the texts of numbers, addresses and ends.
+//! pass, and the texts of numbers, addresses, ends and labels.
 //!
 //! A `Source` and a `Sink` count their faults and, where they tell their bytes, have them in their
 //! contracts. So a caller proves what was read and written, and that a failure was a fault of the
@@ -27,5 +27,5 @@ pub use ends::{Failed, Sink, Source};
 pub use gate::{Gate, Open, Who};
 pub use memory::{MemSink, MemSource};
 pub use standard::{StdSink, StdSource};
-pub use text::{get_addr, get_end, get_num, put_addr, put_num, texts_differ};
+pub use text::{get_addr, get_end, get_num, is_label, put_addr, put_num, texts_differ};
 pub use transfer::{ReadEnd, read_all, write_all};

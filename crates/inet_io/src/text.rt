@@ -1,9 +1,11 @@
-//! Numbers, addresses and ends as text, into a buffer that has room for them and out of a word.
-ghost use Rattle.std.specs.Prelude.{◌≡◌, ℕ, ◌+◌, ◌^◌, ◌<◌, ◌≤◌, ◌==◌, length, decimal, position, IfSome, IfNone};
+//! Numbers, addresses and ends as text, into a buffer that has room for them and out of a word; and which words are labels.
+ghost use Rattle.std.specs.Prelude.{◌≡◌, ◌↔◌, ℕ, ◌+◌, ◌^◌, ◌<◌, ◌≤◌, ◌++◌, ◌∷◌, List, length, decimal, IsTrue, IfSome, IfNone};
+ghost use Rattle.std.specs.List.{list_all};
+ghost use Rattle.inet_io.specs.Labels as labels;
+ghost use Rattle.inet_io.specs.Fronts.{HasDigits, HasMany, IsPlain, BeginsWith, BeginsWithAddress};
 ghost use Rattle.inet_io.specs.Texts.{addr_text, IsNumber, IsEndText, PutsAt, AddrTextsDiffer, EndTextsDiffer};
 
 use itoa::Buffer;
-use std::net::Ipv4Addr;
 
 /// Puts a text, and answers the place after it.
 fn put(out: &mut [u8], at: usize, text: &[u8]) -> usize
@@ -42,26 +44,90 @@ pub fn put_addr(out: &mut [u8], at: usize, addr: u32) -> usize
     put_num(out, at, u64::from(addr) % 256)
 }
 
+/// The number that the digits at the front spell, and how many they are; none where they are more
+/// than ten.
+fn digits_first(text: &[u8]) -> Option<(u64, usize)>
+    ensures some { IfSome result (λ r. HasDigits text.now r.0 r.1) }
+    ensures none { IfNone result (HasMany text.now) }
+{
+    let mut n = 0;
+    for (count, b) in text.iter().enumerate() {
+        if !b.is_ascii_digit() {
+            return Some((n, count));
+        }
+        if count == 10 {
+            return None;
+        }
+        n = n * 10 + u64::from(*b - b'0');
+    }
+    Some((n, text.len()))
+}
+
+/// Whether digits are those of a number: at least one, and no zero before others.
+fn is_plain(digits: &[u8]) -> bool
+    ensures { IsTrue result ↔ IsPlain digits.now }
+{
+    match digits {
+        [] => false,
+        [b'0', rest @ ..] => rest.is_empty(),
+        _ => true,
+    }
+}
+
+/// Reads the number that a text begins with, to `most`, and gives what stands behind its digits.
+fn number_first(text: &[u8], most: u64) -> Option<(u64, &[u8])>
+    ensures some { IfSome result (λ r. BeginsWith most text.now r.0 r.1.now) }
+    ensures none { IfNone result ((n : ℕ) (rest : List ℕ) → BeginsWith most text.now n rest → ⊥) }
+{
+    let (n, count) = digits_first(text)?;
+    let (digits, rest) = text.split_at(count);
+    if !is_plain(digits) || n > most {
+        return None;
+    }
+    Some((n, rest))
+}
+
 /// Reads a number of one to ten digits, with no sign and no leading zero, from `least` to `most`.
 /// Any other text is none.
 pub fn get_num(text: &[u8], least: u64, most: u64) -> Option<u64>
     ensures some { IfSome result (λ n. IsNumber least most text.now n) }
     ensures none { IfNone result ((n : ℕ) → IsNumber least most text.now n → ⊥) }
 {
-    let Ok(word) = str::from_utf8(text) else {
-        return None;
-    };
-    let Ok(n) = word.parse::<u64>() else {
-        return None;
-    };
-    if n < least || n > most || n >= 10_000_000_000 {
+    let (n, rest) = number_first(text, most)?;
+    if !rest.is_empty() || n < least {
         return None;
     }
-    if Buffer::new().format(n) == word {
-        Some(n)
-    } else {
-        None
-    }
+    Some(n)
+}
+
+/// What stands behind that byte, where it comes first.
+fn behind(stop: u8, text: &[u8]) -> Option<&[u8]>
+    ensures some { IfSome result (λ rest. text.now ≡ stop ∷ rest.now) }
+    ensures none { IfNone result ((rest : List ℕ) → text.now ≡ stop ∷ rest → ⊥) }
+{
+    let (first, rest) = text.split_first()?;
+    (*first == stop).then_some(rest)
+}
+
+/// Reads a number to 255 with a dot behind it, and gives what stands behind the dot.
+fn octet_first(text: &[u8]) -> Option<(u32, &[u8])>
+    ensures some { IfSome result (λ r. (r.0 < 256) × (text.now ≡ decimal r.0 ++ 46 ∷ r.1.now)) }
+    ensures none { IfNone result ((n : ℕ) (rest : List ℕ) → n < 256 → text.now ≡ decimal n ++ 46 ∷ rest → ⊥) }
+{
+    let (n, rest) = number_first(text, 255)?;
+    Some((n as u32, behind(b'.', rest)?))
+}
+
+/// Reads the address that a text begins with, and gives what stands behind its digits.
+fn address_first(text: &[u8]) -> Option<(u32, &[u8])>
+    ensures some { IfSome result (λ r. BeginsWithAddress text.now r.0 r.1.now) }
+    ensures none { IfNone result ((addr : ℕ) (rest : List ℕ) → BeginsWithAddress text.now addr rest → ⊥) }
+{
+    let (a, text) = octet_first(text)?;
+    let (b, text) = octet_first(text)?;
+    let (c, text) = octet_first(text)?;
+    let (d, rest) = number_first(text, 255)?;
+    Some((a * 0x100_0000 + b * 0x1_0000 + c * 0x100 + d as u32, rest))
 }
 
 /// Reads an address: four numbers to 255, with no leading zeros, joined by dots. Any other text is
@@ -70,26 +136,8 @@ pub fn get_addr(text: &[u8]) -> Option<u32>
     ensures some { IfSome result (λ a. text.now ≡ addr_text a) }
     ensures none { IfNone result ((a : ℕ) → a < 2 ^ 32 → text.now ≡ addr_text a → ⊥) }
 {
-    match Ipv4Addr::parse_ascii(text) {
-        Ok(addr) => {
-            let [a, b, c, d] = addr.octets();
-            Some(
-                u32::from(a) * 0x100_0000
-                    + u32::from(b) * 0x1_0000
-                    + u32::from(c) * 0x100
-                    + u32::from(d),
-            )
-        }
-        Err(_) => None,
-    }
-}
-
-/// The place of the first colon.
-fn place_of_colon(text: &[u8]) -> Option<usize>
-    ensures place { result ≡ position (λ b. b == 58) text.now }
-    ensures bound { IfSome result (λ place. place < length text.now) }
-{
-    text.iter().position(|b| *b == b':')
+    let (addr, rest) = address_first(text)?;
+    rest.is_empty().then_some(addr)
 }
 
 /// Reads an end: an address, a colon and a port from `least` to 65535. Any other text is none.
@@ -97,16 +145,28 @@ pub fn get_end(text: &[u8], least: u16) -> Option<(u32, u16)>
     ensures some { IfSome result (λ end. IsEndText least text.now end.0 end.1) }
     ensures none { IfNone result ((addr port : ℕ) → IsEndText least text.now addr port → ⊥) }
 {
-    let Some(place) = place_of_colon(text) else {
-        return None;
-    };
-    let Some(addr) = get_addr(&text[..place]) else {
-        return None;
-    };
-    let Some(port) = get_num(&text[place + 1..], least as u64, u16::MAX as u64) else {
-        return None;
-    };
+    let (addr, rest) = address_first(text)?;
+    let port = get_num(behind(b':', rest)?, u64::from(least), u64::from(u16::MAX))?;
     Some((addr, port as u16))
+}
+
+fn is_label_byte(b: u8) -> bool
+    ensures { result ≡ labels.is_label_byte b }
+{
+    b.is_ascii_alphanumeric() || b == b'_' || b == b'-'
+}
+
+fn all_label_bytes(word: &[u8]) -> bool
+    ensures { result ≡ list_all labels.is_label_byte word.now }
+{
+    word.iter().all(|b| is_label_byte(*b))
+}
+
+/// Whether a word may name a socket: 1 to 16 letters, digits, `_` and `-`.
+pub fn is_label(word: &[u8]) -> bool
+    ensures { result ≡ labels.is_label word.now }
+{
+    (1..=16).contains(&word.len()) && all_label_bytes(word)
 }
 
 /// What the texts tell apart: two addresses that differ have different texts, and so have two ends

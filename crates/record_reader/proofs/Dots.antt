@@ -2,7 +2,8 @@
 use Rattle.std.proofs.Common.{◌≡◌, ℕ, ◌+◌, ◌≤◌, List, ◌∷◌, ◌++◌, take, drop, decimal, arith, subst, sym, ap, ◌∙◌, Some, None, position, lit≤, IsTrue}
 use Rattle.inet_io.proofs.Cuts.{decimal_lacks, one_cut, cut_at, is_found, is_byte}
 use Rattle.record_reader.specs.declared.line.Name.{Name}
-use Rattle.record_reader.specs.Names.{NameFits, is_label, label_of, name_of, name_text}
+use Rattle.inet_io.specs.Labels.{is_label}
+use Rattle.record_reader.specs.Names.{NameFits, label_of, name_of, name_text}
 use Rattle.record_reader.proofs.OneName.{name_text-cut}
 
 -- what stands before and behind the dot of a name

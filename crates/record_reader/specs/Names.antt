@@ -1,18 +1,9 @@
 -- How a socket is named in a record: by its section and its label, a format of our own; and by which number names are
 -- told apart.
-use Rattle.std.specs.Prelude.{◌≡◌, ℕ, ◌-◌, ◌≤◌, Bool, ◌==◌, ◌&&◌, ◌||◌, nat_le, IsTrue, List, ◌++◌, length, take, drop, codes, decimal, replicate, position, Option, unwrap_or}
-use Rattle.std.specs.Char.{is_ascii_alphanumeric}
+use Rattle.std.specs.Prelude.{◌≡◌, ℕ, ◌-◌, ◌≤◌, Bool, ◌==◌, ◌&&◌, IsTrue, List, ◌++◌, length, take, drop, codes, decimal, replicate, position, Option, unwrap_or}
 use Rattle.std.specs.Int.{w64, to_be_bytes, from_be_bytes}
-use Rattle.std.specs.List.{list_all}
+use Rattle.inet_io.specs.Labels.{is_label}
 use Rattle.record_reader.specs.declared.line.Name.{Name}
-
--- an ASCII letter or digit, `_` (byte 95) or `-` (byte 45)
-abbrev pub is_label_byte : ℕ → Bool
-is_label_byte b = is_ascii_alphanumeric b || (b == 95) || (b == 45)
-
--- 1 to 16 such bytes
-abbrev pub is_label : List ℕ → Bool
-is_label label = nat_le 1 (length label) && nat_le (length label) 16 && list_all is_label_byte label
 
 -- a label in a field of 16 bytes, with zeros behind it
 abbrev pub padded : List ℕ → List ℕ

@@ -2,31 +2,13 @@
 
 ghost use Rattle.std.specs.Prelude.{◌≡◌, ◌≤◌, ◌<◌, ◌+◌, ◌++◌, ◌==◌, ℕ, length, take, drop, decimal, codes, position, IsTrue, IfOk, IfSome, IfNone, OnOk, IfErr};
 ghost use Rattle.std.specs.Int.{w64, to_be_bytes, from_be_bytes};
-ghost use Rattle.std.specs.List.{list_all};
 ghost use Rattle.record_reader.specs.Names as spec;
 ghost use Rattle.record_reader.specs.Names.{NameFits, label_of, name_text};
 ghost use Rattle.record_reader.specs.declared.line.Name.{Name};
 
 use crate::line::Name;
 use crate::word::number_of;
-
-fn is_label_byte(b: u8) -> bool
-    ensures { result ≡ spec.is_label_byte b }
-{
-    b.is_ascii_alphanumeric() || b == b'_' || b == b'-'
-}
-
-fn all_label_bytes(word: &[u8]) -> bool
-    ensures { result ≡ list_all spec.is_label_byte word.now }
-{
-    word.iter().all(|b| is_label_byte(*b))
-}
-
-fn is_label(word: &[u8]) -> bool
-    ensures { result ≡ spec.is_label word.now }
-{
-    (1..=16).contains(&word.len()) && all_label_bytes(word)
-}
+use inet_io::is_label;
 
 /// The eight bytes from that place on as a number, the first of them highest.
 fn number_at(bytes: &[u8], place: usize) -> u64

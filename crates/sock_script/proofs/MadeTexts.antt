@@ -17,7 +17,8 @@ use Rattle.sock_script.specs.declared.line.Line.{Line}
 use Rattle.sock_script.specs.declared.line.Line.TheVariants as lines
 use Rattle.sock_script.specs.Words.{words_of}
 use Rattle.inet_io.specs.Texts.{addr_text, end_text}
-use Rattle.sock_script.specs.Forms.{HasForm, CommandFits, command_words, shape_words, ShapeFits, is_label}
+use Rattle.sock_script.specs.Forms.{HasForm, CommandFits, command_words, shape_words, ShapeFits}
+use Rattle.inet_io.specs.Labels.{is_label}
 use Rattle.sock_script.specs.Grammar.{Draft, Follows, ReadsLine, Reads, IsScript, given_label, labels_of, is_new, nothing_yet, past, script_of}
 use Rattle.sock_script.proofs.LineCases.{reads}
 use Rattle.sock_script.proofs.Scripts.{Reads-append}

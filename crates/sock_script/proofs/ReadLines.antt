@@ -1,11 +1,13 @@
 -- What the code learns of a line's words, as the grammar says it.
 use Rattle.std.proofs.Common.{◌≡◌, ℕ, List, subst, Bool, true, false, None, Result, Ok, Err, IfOk}
 use Rattle.sock_script.specs.declared.parse.Mode.{Mode}
+use Rattle.flat_list.specs.declared.command.Command.{Command}
 use Rattle.sock_script.specs.declared.line.Line.{Line}
+use Rattle.sock_script.specs.declared.line.Line.TheVariants as lines
 use Rattle.sock_script.specs.Words.{words_of}
 use Rattle.sock_script.specs.Forms.{HasForm}
 use Rattle.sock_script.specs.Grammar.{Draft, Follows, ReadsLine, past}
-use Rattle.sock_script.specs.Steps.{Adds, LineAnswer}
+use Rattle.sock_script.specs.Steps.{Adds, IsCommand, LineAnswer}
 use Rattle.sock_script.proofs.Determined.{one_form}
 use Rattle.sock_script.proofs.LineCases.{reads, is_read}
 
@@ -24,6 +26,12 @@ module _ (mode : Mode) (old mid new : Draft) (text : List ℕ) (words : List (Li
   answers (Ok b) h = answer_of b (subst (λ d. Adds mode d line new b) passed h)
   answers (Err e) h = tt
 
--- a line that no words spell is in no grammar
-pub no_line : (mode : Mode) (old : Draft) (text : List ℕ) → old.capture ≡ None → ((line : Line) → HasForm (words_of text) line → ⊥) → (next : Draft) → ReadsLine mode old text next → ⊥
-no_line mode old text none formless next k = let r = is_read mode old text next none k in formless r.0 r.1
+-- words that are no command, and no line of another kind, are no line
+formless : (words : List (List ℕ)) → ((command : Command) → HasForm words (lines.Command command) → ⊥) → ((line : Line) → HasForm words line → IsCommand line) → (line : Line) → HasForm words line → ⊥
+formless words no_command no_other (lines.Command command) form = no_command command form
+formless words no_command no_other line form = no_other line form
+
+-- and such a line is in no grammar
+pub no_line : (mode : Mode) (old : Draft) (text : List ℕ) → old.capture ≡ None → ((command : Command) → HasForm (words_of text) (lines.Command command) → ⊥) → ((line : Line) → HasForm (words_of text) line → IsCommand line) → (next : Draft) → ReadsLine mode old text next → ⊥
+no_line mode old text none no_command no_other next k =
+    let r = is_read mode old text next none k in formless (words_of text) no_command no_other r.0 r.1

@@ -7,7 +7,8 @@ use Rattle.std.proofs.lemmas.Fmt.{decimal_by_steps, decimal_nonempty, length-dec
 use Rattle.std.proofs.lemmas.List.Folds.{list_all-append}
 use Rattle.list_words.proofs.EachLemmas.{each_append, each_push}
 use Rattle.inet_io.specs.Texts.{addr_text, end_text}
-use Rattle.sock_script.specs.Forms.{command_words, is_label, is_label_byte}
+use Rattle.sock_script.specs.Forms.{command_words}
+use Rattle.inet_io.specs.Labels.{is_label, is_label_byte}
 use Rattle.sock_script.specs.Make.{step_label, last_number, step_port, chosen_step, remote_port, lines_by_remainder}
 use Rattle.sock_script.specs.MadeCommands.{local_addr, commands_by_remainder}
 use Rattle.sock_script.proofs.SpacedWords.{IsClear, IsClearWord}

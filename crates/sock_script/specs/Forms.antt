@@ -1,13 +1,12 @@
 -- The forms of a script's lines: a grammar of our own.
 -- A line is passed over, or its words are the spelling of a value that is in range. Numbers are spelled in decimal digits without
 -- a leading zero, which is `decimal`, and addresses and ends as `addr_text` and `end_text` say.
-use Rattle.std.specs.Prelude.{◌≡◌, ℕ, ◌-◌, ◌^◌, ◌%◌, ◌<◌, ◌≤◌, Bool, true, false, ◌==◌, ◌||◌, ◌&&◌, nat_le, IsTrue, List, [], ◌∷◌, ◌++◌, length, take, drop, map, replicate, codes, decimal, Option, Some, None}
-use Rattle.std.specs.Char.{is_ascii_alphanumeric}
-use Rattle.std.specs.List.{list_all}
+use Rattle.std.specs.Prelude.{◌≡◌, ℕ, ◌-◌, ◌^◌, ◌%◌, ◌<◌, ◌≤◌, Bool, true, false, IsTrue, List, [], ◌∷◌, ◌++◌, length, take, drop, map, replicate, codes, decimal, Option, Some, None}
 use Rattle.std.specs.List.Sorted.{IsStrictlyIncreasing}
 use Rattle.std.specs.Int.{IsPowerOfTwo}
 use Rattle.list_words.specs.Lists.{Each}
 use Rattle.inet_io.specs.Texts.{addr_text, end_text}
+use Rattle.inet_io.specs.Labels.{is_label}
 use Rattle.flat_list.specs.declared.command.End.{End}
 use Rattle.chain_book.specs.declared.shape.Shape.{Shape}
 use Rattle.flat_list.specs.declared.header.Range.{Range}
@@ -87,14 +86,6 @@ reserved_ports reserved = take reserved.count reserved.ports
 -- how they are spelled
 abbrev pub reserved_words : Reserved → List (List ℕ)
 reserved_words reserved = codes "reserved" ∷ map decimal (reserved_ports reserved)
-
--- an ASCII letter or digit, `_` (byte 95) or `-` (byte 45)
-abbrev pub is_label_byte : ℕ → Bool
-is_label_byte b = is_ascii_alphanumeric b || (b == 95) || (b == 45)
-
--- 1 to 16 such bytes
-abbrev pub is_label : List ℕ → Bool
-is_label label = nat_le 1 (length label) && nat_le (length label) 16 && list_all is_label_byte label
 
 -- any address of 32 bits, and any port of 16
 abbrev pub EndFits : End → Type 0

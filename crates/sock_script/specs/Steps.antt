@@ -17,6 +17,7 @@ use Rattle.sock_script.specs.declared.parse.Mode.{Mode}
 use Rattle.sock_script.specs.declared.parse.ScriptEnd.{ScriptEnd}
 use Rattle.sock_script.specs.declared.parse.ScriptEnd.TheVariants as ends
 use Rattle.sock_script.specs.declared.line.Line.{Line}
+use Rattle.sock_script.specs.declared.line.Line.TheVariants as lines
 use Rattle.sock_script.specs.Grammar.{Draft, Follows, ReadsLine, IsFirstOutside, labels_of}
 use Rattle.sock_script.specs.Output.{Event, asked, stored, events_from, replies_from, line_with, item_line}
 
@@ -29,6 +30,11 @@ IsSetOf set labels =
 abbrev pub NotesLabel : BTreeSet LabelKey → Command → BTreeSet LabelKey → Type 0
 NotesLabel old command new =
     (commands : List Command) → IsSetOf old (labels_of commands) → IsSetOf new (labels_of (commands ++ command ∷ []))
+
+-- the line is one of a command
+abbrev pub IsCommand : Line → Type 0
+IsCommand (lines.Command command) = Unit {0}
+IsCommand _ = ⊥
 
 -- what adding a line answers: whether it may follow, and what the lines have made then
 abbrev pub Adds : Mode → Draft → Line → Draft → Bool → Type 0

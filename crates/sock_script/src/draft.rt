@@ -309,7 +309,7 @@ impl Draft {
     }
 
     /// Adds a command to the last section, where it may stand there.
-    fn add_command(&mut self, mode: Mode, command: Command) -> Result<bool, AllocError>
+    pub fn add_command(&mut self, mode: Mode, command: Command) -> Result<bool, AllocError>
         ensures { IfOk result (λ follows. Adds mode self.old (Line.Command command) self.new follows) }
     {
         let Some(section) = &mut self.last else {

@@ -4,10 +4,11 @@
 //! read by one pass over its words, and takes no memory.
 ghost use Rattle.std.specs.Prelude.{◌≡◌, ◌≢◌, ◌<◌, ◌≤◌, ◌+◌, ◌-◌, ◌%◌, ◌^◌, ◌∷◌, ◌++◌, ◌↔◌, [], Bool, ℕ, List, length, IfSome, IfNone, IsTrue, Option, slice_get, codes, decimal};
 ghost use Rattle.std.specs.List.{list_all};
+ghost use Rattle.inet_io.specs.Labels.{is_label};
 ghost use Rattle.inet_io.specs.Texts.{addr_text, end_text};
 ghost use Rattle.sock_script.specs.Seen.{texts};
-ghost use Rattle.sock_script.specs.Forms as spec;
 ghost use Rattle.sock_script.specs.Forms.{HasForm, DeviceFits, EndFits, IsPowerTo, NamespaceFits, SourceFits, UserFits, device_words, flag_words, namespace_words, source_words, user_words};
+ghost use Rattle.sock_script.specs.Steps.{IsCommand};
 ghost use Rattle.sock_script.specs.declared.line.Line.{Line};
 ghost use Rattle.sock_script.specs.declared.line.Line.TheVariants as lines;
 ghost use Rattle.flat_list.specs.declared.command.Command.{Command};
@@ -21,25 +22,7 @@ use crate::line::Line;
 use flat_list::{
     Command, End, Label, NONE_RESERVED, Options, Query, RESERVED_ROOM, Range, Reserved, Shape,
 };
-use inet_io::{get_addr, get_end, get_num};
-
-fn is_label_byte(b: u8) -> bool
-    ensures { result ≡ spec.is_label_byte b }
-{
-    b.is_ascii_alphanumeric() || b == b'_' || b == b'-'
-}
-
-fn all_label_bytes(word: &[u8]) -> bool
-    ensures { result ≡ list_all spec.is_label_byte word.now }
-{
-    word.iter().all(|b| is_label_byte(*b))
-}
-
-fn is_label(word: &[u8]) -> bool
-    ensures { result ≡ spec.is_label word.now }
-{
-    (1..=16).contains(&word.len()) && all_label_bytes(word)
-}
+use inet_io::{get_addr, get_end, get_num, is_label};
 
 fn is_word(word: &[u8], other: &[u8]) -> bool
     ensures { IsTrue result ↔ (word.now ≡ other.now) }
@@ -58,7 +41,7 @@ fn after<'a>(first: &[u8], words: &'a [&'a [u8]]) -> Option<&'a [&'a [u8]]>
 
 /// The label that a word is.
 fn label_of(word: &[u8]) -> Label
-    requires { IsTrue (spec.is_label word.now) }
+    requires { IsTrue (is_label word.now) }
     ensures { result ≡ word.now }
 {
     Label::from_bytes(word).unwrap()
@@ -66,8 +49,8 @@ fn label_of(word: &[u8]) -> Label
 
 /// A label as the first word, and the words after it.
 fn label_first<'a>(words: &'a [&'a [u8]]) -> Option<(&'a [u8], &'a [&'a [u8]])>
-    ensures some { IfSome result (λ r. (texts words.now ≡ r.0.now ∷ texts r.1.now) × IsTrue (spec.is_label r.0.now)) }
-    ensures none { IfNone result ((label : List ℕ) (rest : List (List ℕ)) → texts words.now ≡ label ∷ rest → IsTrue (spec.is_label label) → ⊥) }
+    ensures some { IfSome result (λ r. (texts words.now ≡ r.0.now ∷ texts r.1.now) × IsTrue (is_label r.0.now)) }
+    ensures none { IfNone result ((label : List ℕ) (rest : List (List ℕ)) → texts words.now ≡ label ∷ rest → IsTrue (is_label label) → ⊥) }
 {
     let (label, rest) = words.split_first()?;
     is_label(label).then_some((label, rest))
@@ -75,8 +58,8 @@ fn label_first<'a>(words: &'a [&'a [u8]]) -> Option<(&'a [u8], &'a [&'a [u8]])>
 
 /// A label as the only word.
 fn label_alone<'a>(words: &'a [&'a [u8]]) -> Option<&'a [u8]>
-    ensures some { IfSome result (λ label. (texts words.now ≡ label.now ∷ []) × IsTrue (spec.is_label label.now)) }
-    ensures none { IfNone result ((label : List ℕ) → texts words.now ≡ label ∷ [] → IsTrue (spec.is_label label) → ⊥) }
+    ensures some { IfSome result (λ label. (texts words.now ≡ label.now ∷ []) × IsTrue (is_label label.now)) }
+    ensures none { IfNone result ((label : List ℕ) → texts words.now ≡ label ∷ [] → IsTrue (is_label label) → ⊥) }
 {
     let (label, rest) = label_first(words)?;
     rest.is_empty().then_some(label)
@@ -371,7 +354,9 @@ fn packets_of(words: &[&[u8]]) -> Option<Command>
 }
 
 /// The command that the words are.
-fn command_of(words: &[&[u8]]) -> Option<Command>
+///
+/// Takes no memory, and time for the bytes of the words.
+pub fn command_of(words: &[&[u8]]) -> Option<Command>
     ensures some { IfSome result (λ c. HasForm (texts words.now) (lines.Command c)) }
     ensures none { IfNone result ((c : Command) → HasForm (texts words.now) (lines.Command c) → ⊥) }
 {
@@ -559,12 +544,12 @@ fn is_passed_over(words: &[&[u8]]) -> bool
     }
 }
 
-/// The line that the words are.
+/// The line that the words are, where it is none of a command.
 ///
 /// Takes no memory, and time for the bytes of the words.
-pub fn line_of(words: &[&[u8]]) -> Option<Line>
+pub fn other_of(words: &[&[u8]]) -> Option<Line>
     ensures some { IfSome result (λ line. HasForm (texts words.now) line) }
-    ensures none { IfNone result ((line : Line) → HasForm (texts words.now) line → ⊥) }
+    ensures none { IfNone result ((line : Line) → HasForm (texts words.now) line → IsCommand line) }
 {
     if is_passed_over(words) {
         return Some(Line::PassedOver);
@@ -590,11 +575,8 @@ pub fn line_of(words: &[&[u8]]) -> Option<Line>
     if let Some(number) = section_of(words) {
         return Some(Line::Section(number));
     }
-    if let Some((dev, net)) = capture_of(words) {
-        return Some(Line::Capture { dev, net });
-    }
-    let command = command_of(words)?;
-    Some(Line::Command(command))
+    let (dev, net) = capture_of(words)?;
+    Some(Line::Capture { dev, net })
 }
 
 #[cfg(test)]
@@ -667,7 +649,7 @@ mod tests {
             &[b"capture", b"dev", b"65535", b"net", b"0"],
         ];
         for words in lines {
-            assert!(rt; line_of(words).is_some());
+            assert!(rt; command_of(words).is_some() || other_of(words).is_some());
         }
         Ok(())
     }
@@ -680,7 +662,8 @@ mod tests {
         for _ in 0..1_000_000 {
             words.push(b"reuseaddr")?;
         }
-        assert!(rt; line_of(&words).is_none());
+        assert!(rt; command_of(&words).is_none());
+        assert!(rt; other_of(&words).is_none());
         Ok(())
     }
 }

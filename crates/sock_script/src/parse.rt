@@ -56,7 +56,11 @@ fn read_line<'a>(
         return Ok(true);
     }
     word::read_words(line, words)?;
-    match form::line_of(words) {
+    // Most lines are commands, so no line of another kind is tried before them.
+    if let Some(command) = form::command_of(words) {
+        return draft.add_command(mode, command);
+    }
+    match form::other_of(words) {
         Some(line) => draft.add(mode, line),
         None => Ok(false),
     }

@@ -1,7 +1,7 @@
 use Rattle.std.proofs.Common.{◌+◌, sym, ap, ◌∙◌}
 use Rattle.std.proofs.lemmas.Bool.{false≢true}
 use Rattle.inet_io.proofs.EndTexts.{tail_is}
-use Rattle.record_reader.specs.Names.{is_label}
+use Rattle.inet_io.specs.Labels.{is_label}
 use Rattle.record_reader.proofs.Dots.{name-is_cut, name-has_dot, name-from_cut, name-fits, section_named}
 use Rattle.record_reader.proofs.name.name_from.Goals as goal
 

@@ -11,4 +11,8 @@ returns-then-is_passed_over c =
 
 pub returns-in-Some : goal.returns-in-Some
 returns-in-Some c =
-    answers c.args.mode c.args.draft.now c.pass.new.self _ c.args.line.now _ c.in-Some.line c.requires.no_capture c.pass.ensures (ap texts c.deref.ensures.value ∙ c.in_ok-read_words.ensures) c.in-Some.ensures.some _ c.add.ensures
+    answers c.args.mode c.args.draft.now c.pass.new.self _ c.args.line.now _ (lines.Command c.in-Some.command) c.requires.no_capture c.pass.ensures (ap texts c.deref.ensures.value ∙ c.in_ok-read_words.ensures) c.in-Some.ensures.some _ c.add_command.ensures
+
+pub returns-in-Some-other_of : goal.returns-in-Some-other_of
+returns-in-Some-other_of c =
+    answers c.args.mode c.args.draft.now c.pass.new.self _ c.args.line.now _ c.in-Some-other_of.line c.requires.no_capture c.pass.ensures (ap texts c.deref-2.ensures.value ∙ c.in_ok-read_words.ensures) c.in-Some-other_of.ensures.some _ c.add.ensures
