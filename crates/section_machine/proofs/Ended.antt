@@ -47,7 +47,7 @@ module _ {R : Type 0} (x : R) where
   leave_then (said.Strange n) = refl
   leave_then (said.NotFree n) = refl
 
-  drop_then : (m : Mine) (state : State) → and_then (plans.drop_as state m gone) next ≡ plans.drop_as state m x
+  pub drop_then : (m : Mine) (state : State) → and_then (plans.drop_as state m gone) next ≡ plans.drop_as state m x
   drop_then m states.Unbound = refl
   drop_then m states.Bound = λ i. asks (owner_key m.owner) (requests.Remove m.owner.name) (λ answer. leave_then answer i)
   drop_then m states.Listening = λ i. unhashes m.place (card_of kinds.Listen m) (asks (owner_key m.owner) (requests.Remove m.owner.name) (λ answer. leave_then answer i))

@@ -12,6 +12,7 @@ mod Owns
 mod Settled
 mod Ended
 mod Spent
+mod LeftOff
 mod Moments
 mod Published
 mod Reaps

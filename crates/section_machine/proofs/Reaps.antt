@@ -1,7 +1,8 @@
 -- The TIME_WAITs of a section, one after the other.
-use Rattle.std.proofs.Common.{◌≡◌, ℕ, ◌+◌, ◌*◌, ◌≤◌, Bool, true, false, not, cond, List, [], ◌∷◌, length, filter, drop, Some, None, refl, sym, ap, subst, ◌∙◌, arith}
+use Rattle.std.proofs.Common.{◌≡◌, ℕ, ◌+◌, ◌*◌, ◌≤◌, Bool, true, false, not, cond, List, [], ◌∷◌, ◌++◌, append_assoc, length, filter, drop, Some, None, refl, sym, ap, subst, ◌∙◌, arith}
 use Rattle.std.proofs.lemmas.Bool.Decides.{nat_tests}
 use Rattle.list_words.specs.Lists.{Each}
+use Rattle.list_words.proofs.EachLemmas.{each_push}
 use Rattle.turn_table.specs.Passes as words
 use Rattle.table_rule.specs.Calls.{HasShares}
 use Rattle.bind_buckets.specs.Turned.{Gave}
@@ -18,6 +19,7 @@ use Rattle.shared_ops.specs.Reaping.{ReapsOne, counted}
 use Rattle.shared_ops.specs.Spends.{Draws}
 use Rattle.shared_ops.specs.Stands.{IsReady, MayDraw, MayEnter, buckets_of, turned, chained}
 use Rattle.shared_ops.proofs.Goes.{does_none, went_both, went_nowhere}
+use Rattle.section_machine.specs.LeftOff.{StopsReaping}
 use Rattle.section_machine.specs.Waits.{AreBefore, AreInOrder, first_over}
 use Rattle.section_machine.proofs.Published.{rests_listed, goes_listed}
 
@@ -37,6 +39,9 @@ pub record Reaping (t : Tables) (old now : Worker) (all left : List Mine) (momen
   pub order : AreInOrder left
   pub before : AreBefore moment left
   pub listed : KeepsLists t old now
+  pub gone : List Mine
+  pub split : all ≡ gone ++ left
+  pub over : Each (λ (w : Mine). is_over moment w ≡ true) gone
 
 pub begins : (t : Tables) (w : Worker) (waits : List Mine) (moment : ℕ) → IsReady t w → AreInOrder waits → AreBefore moment waits → Reaping t w w waits waits moment 0
 begins t w waits moment ready order before =
@@ -51,6 +56,9 @@ begins t w waits moment ready order before =
       order = order;
       before = before;
       listed = rests_listed t w;
+      gone = [];
+      split = refl;
+      over = tt;
     }
 
 is_first_by : (b : Bool) (x w : Mine) → cond b (Some x) None ≡ Some w → (b ≡ true) × (x ≡ w)
@@ -119,6 +127,9 @@ module _ (t : Tables) (old now new : Worker) (all left rest : List Mine) (moment
         order = (subst AreInOrder split r.order).1;
         before = (subst (AreBefore moment) split r.before).1;
         listed = goes_listed t old now new r.listed listed;
+        gone = r.gone ++ w ∷ [];
+        split = r.split ∙ (ap (λ (xs : List Mine). r.gone ++ xs) split ∙ sym (append_assoc r.gone (w ∷ []) rest));
+        over = each_push (λ (x : Mine). is_over moment x ≡ true) r.gone w r.over is_last;
       }
 
 -- what the next one takes is there
@@ -190,4 +201,13 @@ stops t old now new all left moment count r ready caller gave same listed =
       order = r.order;
       before = r.before;
       listed = goes_listed t old now new r.listed listed;
+      gone = r.gone;
+      split = r.split;
+      over = r.over;
     }
+
+-- and that is how far the reaping went
+pub stopped : (t : Tables) (old now : Worker) (all left : List Mine) (moment count : ℕ) (w : Mine) → Reaping t old now all left moment count → first_over moment left ≡ Some w
+    → StopsReaping (buckets_of t) all moment (turned old) (turned now) (chained t old) (chained t now) left
+stopped t old now all left moment count w r first =
+    record { front = record { gone = r.gone; split = r.split; over = r.over; at = w; first = first }; reaped = count; went = r.went }

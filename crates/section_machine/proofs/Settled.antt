@@ -125,7 +125,8 @@ nobody t k header l l1 moment o waits label w b none section command is_none =
     (ap (command header own) (open_named l moment o waits label b.names ∙ none.none) ∙ is_none header own ∙ ap (λ (x : Own). ends (answers x replies.Ebadf)) (sym same))
     (subst (λ (x : Own). IsSection t (kept header x) w) (sym same) (subst (λ (x : Kept). IsSection t x w) (sym b.view) section)))
 
-began_as : (b : Bool) (l : Labelled) (moment : ℕ) (o : Offsets) (waits : List Mine) → after_search b (own_of l moment o waits) ≡ own_of l moment (searches.after_search b o) waits
+-- the offsets, where a search began or none did
+pub began_as : (b : Bool) (l : Labelled) (moment : ℕ) (o : Offsets) (waits : List Mine) → after_search b (own_of l moment o waits) ≡ own_of l moment (searches.after_search b o) waits
 began_as true l moment o waits = refl
 began_as false l moment o waits = refl
 

@@ -7,3 +7,4 @@ pub mod Standing
 pub mod Carried
 pub mod Searches
 pub mod Begins
+pub mod LeftOff

@@ -6,7 +6,8 @@
 //! the reply. It waits for the turn of one bucket and the lock of one chain at a time.
 //!
 //! Its contract says which entries and changes it made, whoever else is at the tables: those by which the command's
-//! plan goes to that reply and to what the section keeps then, and no others.
+//! plan goes to that reply and to what the section keeps then, and no others. For want of memory the plan is left off, and
+//! the contract says by which entries and changes it went so far, and what the section keeps.
 //!
 //! ```text
 //! let mut machine = Machine::new(alloc, &header, number);

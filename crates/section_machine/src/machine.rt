@@ -4,14 +4,17 @@
 ghost use Rattle.std.specs.Prelude.{◌≡◌, false, ◌≤◌, ◌<◌, ◌+◌, ◌^◌, ◌%◌, ◌==◌, ◌&&◌, length, IfOk, OnOk, OnErr};
 ghost use Rattle.turn_table.specs.Passes as words;
 ghost use Rattle.flat_list.specs.Ports.{size};
+ghost use Rattle.flat_list.specs.declared.command.Command.TheVariants as variants;
 ghost use Rattle.table_model.specs.Own as own;
 ghost use Rattle.table_model.specs.Own.{open_socket};
 ghost use Rattle.table_model.specs.Commands as commands;
 ghost use Rattle.table_model.specs.Means.{is_lookup};
+ghost use Rattle.table_model.specs.declared.operation.OpEnd.TheVariants as errors;
 ghost use Rattle.shared_ops.specs.Groups.{KeepsLists};
 ghost use Rattle.shared_ops.specs.Socks.{mine_of};
 ghost use Rattle.shared_ops.specs.Stands.{IsReady, turned, chained};
 ghost use Rattle.section_machine.specs.Carried.{Carries, HasEnough, Keeps, Spends};
+ghost use Rattle.section_machine.specs.LeftOff.{LeftOff, IsLeftOff};
 ghost use Rattle.section_machine.specs.Sections.{Did, KeepsHeader, kept};
 ghost use Rattle.section_machine.specs.Standing.{IsSection};
 
@@ -49,7 +52,8 @@ impl Model for Machine {
 
 /// A refusal, unless it is want of memory.
 pub(crate) fn refusal(end: OpEnd) -> Result<OpEnd, AllocError>
-    ensures { IfOk result (λ kept. Keeps end kept) }
+    ensures kept { IfOk result (λ kept. Keeps end kept) }
+    ensures wanted { OnErr result (end ≡ errors.Memory) }
 {
     match end {
         OpEnd::Memory => Err(AllocError),
@@ -127,6 +131,7 @@ impl Machine {
         requires room { length self.old.own.labels + 1 < 2 ^ 24 }
         ensures carried { IfOk result (Carries tables.now self.old (commands.socket_command self.old.own label options)
             self.new worker.now worker.now) }
+        ensures left { OnErr result (self.new ≡ self.old) }
         ensures err { OnErr result (self.new.own.sockets ≡ self.old.own.sockets) }
         ensures kept { KeepsHeader self.old self.new }
         ensures waits { self.new.own.waits ≡ self.old.own.waits }
@@ -157,6 +162,8 @@ impl Machine {
         ensures caller { words.caller worker.new.turns ≡ words.caller worker.old.turns }
         ensures spends { Spends self.old self.new worker.old worker.new }
         ensures listed { KeepsLists tables.now worker.old worker.new }
+        ensures left { OnErr result (IsLeftOff tables.now self.old (variants.Bind label.now end)
+            self.new worker.old worker.new) }
         ensures err { OnErr result (self.new.own.sockets ≡ self.old.own.sockets) }
         ensures kept { KeepsHeader self.old self.new }
     {
@@ -194,6 +201,8 @@ impl Machine {
         ensures caller { words.caller worker.new.turns ≡ words.caller worker.old.turns }
         ensures spends { Spends self.old self.new worker.old worker.new }
         ensures listed { KeepsLists tables.now worker.old worker.new }
+        ensures left { OnErr result (IsLeftOff tables.now self.old (variants.Listen label.now)
+            self.new worker.old worker.new) }
         ensures err { OnErr result (self.new.own.sockets ≡ self.old.own.sockets) }
         ensures kept { KeepsHeader self.old self.new }
     {
@@ -232,6 +241,7 @@ impl Machine {
         ensures caller { words.caller worker.new.turns ≡ words.caller worker.old.turns }
         ensures spends { Spends self.old self.new worker.old worker.new }
         ensures listed { KeepsLists tables.now worker.old worker.new }
+        ensures left { OnErr result (IsLeftOff tables.now self.old command.now self.new worker.old worker.new) }
         ensures err { OnErr result (self.new.own.sockets ≡ self.old.own.sockets) }
         ensures kept { KeepsHeader self.old self.new }
     {
@@ -260,10 +270,16 @@ impl Machine {
     ///
     /// The command's plan goes by the entries and changes that this call made, and by no others, to the reply and to
     /// what the section keeps then; and the section is the worker's still. A worker that was never split isn't split by
-    /// it, and leaves the lists of groups published as the bind buckets have them, if they were so before. An `Err`, for
-    /// want of memory, leaves the section's header, number and open sockets, and at most one label more; the worker is
-    /// ready, but what stands of the section is not told: the program ends there. It waits for the turn of one bucket and
-    /// the lock of one chain at a time.
+    /// it, and leaves the lists of groups published as the bind buckets have them, if they were so before. It waits for
+    /// the turn of one bucket and the lock of one chain at a time.
+    ///
+    /// # Errors
+    ///
+    /// Want of memory: the plan went some way by the entries and changes that this call made, and by no others, and a port
+    /// that it had taken is given up. The section has its header, number, moment and open sockets still; its offsets are
+    /// past one, where a search began; of a `reap` the first TIME_WAITs that are over are gone, and the others left; and
+    /// the label of an accepted child is given, unless nothing was done at all. The worker is ready. How far the plan went
+    /// is not told, nor that the section's sockets stand at the tables: the program ends there.
     pub fn step<R: Wait>(
         &mut self,
         rt: &R,
@@ -278,6 +294,8 @@ impl Machine {
         ensures section { OnOk result (IsSection tables.now self.new worker.new) }
         ensures did { IfOk result (Did self.old.header self.old.own command.now (turned worker.old) (turned worker.new)
             (chained tables.now worker.old) (chained tables.now worker.new) self.new.own) }
+        ensures left { OnErr result (LeftOff self.old.header self.old.own command.now (turned worker.old)
+            (turned worker.new) (chained tables.now worker.old) (chained tables.now worker.new) self.new.own) }
         ensures ready { IsReady tables.now worker.new }
         ensures caller { words.caller worker.new.turns ≡ words.caller worker.old.turns }
         ensures spends { Spends self.old self.new worker.old worker.new }

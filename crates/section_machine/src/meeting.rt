@@ -2,6 +2,7 @@
 
 ghost use Rattle.std.specs.Prelude.{◌≡◌, ◌<◌, ◌+◌, ◌^◌, ◌&&◌, length, IfOk, OnErr};
 ghost use Rattle.turn_table.specs.Passes as words;
+ghost use Rattle.flat_list.specs.declared.command.Command.TheVariants as variants;
 ghost use Rattle.table_model.specs.Own as own;
 ghost use Rattle.table_model.specs.Own.{open_socket};
 ghost use Rattle.table_model.specs.Commands as commands;
@@ -10,6 +11,7 @@ ghost use Rattle.shared_ops.specs.Groups.{KeepsLists};
 ghost use Rattle.shared_ops.specs.Socks.{mine_of};
 ghost use Rattle.shared_ops.specs.Stands.{IsReady};
 ghost use Rattle.section_machine.specs.Carried.{Carries, HasEnough, Spends};
+ghost use Rattle.section_machine.specs.LeftOff.{IsLeftOff};
 ghost use Rattle.section_machine.specs.Sections.{KeepsHeader};
 ghost use Rattle.section_machine.specs.Standing.{IsSection};
 
@@ -72,6 +74,8 @@ impl Machine {
         ensures caller { words.caller worker.new.turns ≡ words.caller worker.old.turns }
         ensures spends { Spends self.old self.new worker.old worker.new }
         ensures listed { KeepsLists tables.now worker.old worker.new }
+        ensures left { OnErr result (IsLeftOff tables.now self.old (variants.Connect label.now from to)
+            self.new worker.old worker.new) }
         ensures err { OnErr result (self.new.own.sockets ≡ self.old.own.sockets) }
         ensures kept { KeepsHeader self.old self.new }
     {
@@ -116,6 +120,8 @@ impl Machine {
         ensures caller { words.caller worker.new.turns ≡ words.caller worker.old.turns }
         ensures spends { Spends self.old self.new worker.old worker.new }
         ensures listed { KeepsLists tables.now worker.old worker.new }
+        ensures left { OnErr result (IsLeftOff tables.now self.old
+            (variants.Accept listener.now label from at) self.new worker.old worker.new) }
         ensures err { OnErr result (self.new.own.sockets ≡ self.old.own.sockets) }
         ensures kept { KeepsHeader self.old self.new }
     {

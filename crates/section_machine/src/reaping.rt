@@ -1,6 +1,6 @@
 //! The TIME_WAITs of a section that have lasted, one after the other.
 
-ghost use Rattle.std.specs.Prelude.{◌≡◌, ℕ, ◌+◌, ◌*◌, ◌^◌, ◌<◌, ◌≤◌, length, IfOk, OnOk};
+ghost use Rattle.std.specs.Prelude.{◌≡◌, ℕ, ◌+◌, ◌*◌, ◌^◌, ◌<◌, ◌≤◌, length, IfOk, OnOk, OnErr};
 ghost use Rattle.std.specs.Option.{option_copied};
 ghost use Rattle.turn_table.specs.Passes as words;
 ghost use Rattle.table_model.specs.Asking.{ends};
@@ -9,6 +9,7 @@ ghost use Rattle.shared_ops.specs.Goes.{Went};
 ghost use Rattle.shared_ops.specs.Groups.{KeepsLists};
 ghost use Rattle.shared_ops.specs.Reaping as spec;
 ghost use Rattle.shared_ops.specs.Stands.{IsReady, MayDraw, MayEnter, buckets_of, chained, turned};
+ghost use Rattle.section_machine.specs.LeftOff.{StopsReaping};
 ghost use Rattle.section_machine.specs.Waits as waits_spec;
 ghost use Rattle.section_machine.specs.Waits.{AreBefore, AreInOrder};
 
@@ -64,6 +65,9 @@ fn reap_first<R: Wait>(
         (turned worker.old) (turned worker.new)
         (chained tables.now worker.old) (chained tables.now worker.new) (ends count)) }
     ensures kept { OnOk result (items.new.items ≡ plans.kept_waits items.old.items moment) }
+    ensures stops { OnErr result (StopsReaping (buckets_of tables.now) items.old.items moment
+        (turned worker.old) (turned worker.new)
+        (chained tables.now worker.old) (chained tables.now worker.new) items.new.items) }
 {
     let mut count = 0;
     while let Some(waiting) = first_over(items, moment) {
@@ -100,6 +104,9 @@ impl Waits {
             (turned worker.old) (turned worker.new)
             (chained tables.now worker.old) (chained tables.now worker.new) (ends count)) }
         ensures kept { OnOk result (self.new ≡ plans.kept_waits self.old moment) }
+        ensures stops { OnErr result (StopsReaping (buckets_of tables.now) self.old moment
+            (turned worker.old) (turned worker.new)
+            (chained tables.now worker.old) (chained tables.now worker.new) self.new) }
     {
         reap_first(rt, tables, worker, &mut self.items, moment)
     }

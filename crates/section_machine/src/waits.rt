@@ -4,6 +4,7 @@ ghost use Rattle.std.specs.Prelude.{◌≡◌, ◌+◌, ◌≤◌, [], length, I
 ghost use Rattle.std.specs.VecDeque.{deque_len, deque_capacity};
 ghost use Rattle.turn_table.specs.Passes as words;
 ghost use Rattle.table_model.specs.Operations as plans;
+ghost use Rattle.shared_ops.specs.Goes.{LeftOff};
 ghost use Rattle.shared_ops.specs.Groups.{KeepsLists};
 ghost use Rattle.shared_ops.specs.Socks.{mine_of};
 ghost use Rattle.shared_ops.specs.Spends.{Draws};
@@ -93,6 +94,10 @@ impl Waits {
             (plans.close tables.now.chains.layout.shape tables.now.chains.layout.seed (mine_of socket) moment)
             (turned worker.old) (turned worker.new)
             (chained tables.now worker.old) (chained tables.now worker.new) self.old self.new) }
+        ensures left { OnErr result (LeftOff (buckets_of tables.now) (mine_of socket).owner.name
+            (plans.close tables.now.chains.layout.shape tables.now.chains.layout.seed (mine_of socket) moment)
+            (turned worker.old) (turned worker.new)
+            (chained tables.now worker.old) (chained tables.now worker.new)) }
         ensures same { OnErr result (self.new ≡ self.old) }
         ensures back { IfErr result (λ kept. kept ≡ socket) }
     {

@@ -1,6 +1,7 @@
 use Rattle.std.proofs.Common.{ℕ, sym, subst}
 use Rattle.section_machine.proofs.Published.{goes_listed}
-use Rattle.section_machine.proofs.Reaps.{Reaping, begins, enters_one, draws_one, goes_on, stops, reaps_all, keeps_rest}
+use Rattle.section_machine.proofs.Reaps.{Reaping, begins, enters_one, draws_one, goes_on, stops, stopped, reaps_all, keeps_rest}
+use Rattle.section_machine.proofs.Settled.{on_err}
 use Rattle.section_machine.proofs.reaping.reap_first.Goals as goal
 
 pub returns-in_err-found-clause-drawn : goal.returns-in_err-found-clause-drawn
@@ -39,3 +40,10 @@ returns-clause-reaps g c =
 pub returns-clause-kept : goal.returns-clause-kept
 returns-clause-kept g c =
     keeps_rest c.args.tables.now c.args.worker.now c.loop-waiting.worker c.args.items.now.items c.loop-waiting.items.items c.args.moment c.loop-waiting.count c.loop-waiting.invariant (sym c.in_default.ensures)
+
+pub returns-in_err-found-clause-stops : goal.returns-in_err-found-clause-stops
+returns-in_err-found-clause-stops g c =
+    on_err c.from_residual.result
+    (stopped c.args.tables.now c.args.worker.now c.reap_one.new.worker c.args.items.now.items c.loop-waiting.items.items c.args.moment c.loop-waiting.count c.in-Some.waiting.now
+    (stops c.args.tables.now c.args.worker.now c.loop-waiting.worker c.reap_one.new.worker c.args.items.now.items c.loop-waiting.items.items c.args.moment c.loop-waiting.count
+    c.loop-waiting.invariant c.reap_one.ensures.ready c.reap_one.ensures.caller c.in_err-found.ensures.none c.in_err-found.ensures.side c.reap_one.ensures.listed) (sym c.in-Some.ensures))

@@ -10,6 +10,7 @@ use Rattle.shared_ops.specs.There.{IsNew}
 use Rattle.section_machine.specs.Places.{Labelled, own_of, with_place}
 use Rattle.section_machine.specs.Sections.{Kept, kept}
 use Rattle.section_machine.proofs.Children.{child_named, its_plan, new_tells, is_new, parent_tells, parent_stands, accepts_none, accepts_refused, accepts}
+use Rattle.section_machine.proofs.LeftOff.{wanted_left, child_left, no_child}
 use Rattle.section_machine.proofs.Owns.{label_given, found_named}
 use Rattle.section_machine.proofs.Settled.{refused_went, on_err}
 use Rattle.section_machine.proofs.Spent.{spends_of}
@@ -87,8 +88,8 @@ returns-in_ok-refusal-in-Err-clause-carried g c =
     (sym (found_named l c.give.new.self c.args.label c.place_of-listener.result c.args.listener.now c.in_ok-give.ensures.given c.place_of-listener.ensures.place) ∙ sym c.in-Some.ensures.socket)
     c.in-Some.ensures.state u c.accept.ensures.ready c.accept.ensures.caller c.in-Err.end c.connect_error.result
     (its_plan t c.args.self.now h (own_of l c.self.inside.moment c.self.inside.offsets c.self.inside.waits) w c.self.view_is c.requires.section u m c.next_name-name.result c.args.from c.args.at (refused c.in-Err.end) c.next_name-name.ensures
-    (refused_went accepted (buckets_of t) c.next_name-name.result _ (turned w) (turned u) (chained t w) (chained t u) c.in-Err.end c.in_ok-refusal-in-Err.ensures.told c.in-Err.ensures.carried))
-    (c.connect_error.ensures ∙ ap connect_error c.in_ok-refusal-in-Err.ensures.same)
+    (refused_went accepted (buckets_of t) c.next_name-name.result _ (turned w) (turned u) (chained t w) (chained t u) c.in-Err.end c.in_ok-refusal-in-Err.ensures.kept.told c.in-Err.ensures.carried))
+    (c.connect_error.ensures ∙ ap connect_error c.in_ok-refusal-in-Err.ensures.kept.same)
 
 pub returns-in_err-refusal-in-Err-clause-err : goal.returns-in_err-refusal-in-Err-clause-err
 returns-in_err-refusal-in-Err-clause-err g c =
@@ -107,3 +108,23 @@ returns-in_err-refusal-in-Err-clause-spends g c =
 pub returns-in_ok-refusal-in-Err-clause-spends : goal.returns-in_ok-refusal-in-Err-clause-spends
 returns-in_ok-refusal-in-Err-clause-spends g c =
     spends_of c.args.self.now (kept c.self.inside.header (own_of c.give.new.self c.self.inside.moment c.self.inside.offsets c.self.inside.waits)) c.args.worker.now c.accept.new.worker c.self.inside.waits 4 2 0 (ap (λ (k : Kept). length k.own.waits) (sym c.self.view_is)) (omega arith) c.accept.ensures.entered (omega arith) (omega arith) c.accept.ensures.drawn
+
+pub returns-in_err-refusal-in-Err-clause-left : goal.returns-in_err-refusal-in-Err-clause-left
+returns-in_err-refusal-in-Err-clause-left g c =
+    let t = c.args.tables.now in
+    let h = c.self.inside.header in
+    let l = c.self.inside.labels in
+    let w = c.args.worker.now in
+    let u = c.accept.new.worker in
+    on_err c.from_residual-in_err-refusal-in-Err.result
+    (child_left t c.args.self.now h l c.give.new.self c.self.inside.moment c.self.inside.offsets c.self.inside.waits c.args.listener.now c.args.label c.args.from c.args.at w
+    (record { view = c.self.view_is; names = c.len-place.ensures.names }) (mine_of c.in-Some.socket.now) c.next_name-name.result u c.in_ok-give.ensures.given
+    (sym (found_named l c.give.new.self c.args.label c.place_of-listener.result c.args.listener.now c.in_ok-give.ensures.given c.place_of-listener.ensures.place) ∙ sym c.in-Some.ensures.socket)
+    c.requires.section.tables c.next_name-name.ensures
+    (wanted_left accepted refused (buckets_of t) c.next_name-name.result _ (turned w) (turned u) (chained t w) (chained t u) c.in-Err.end c.in_err-refusal-in-Err.ensures.wanted c.in-Err.ensures.carried))
+
+pub returns-in_err-give-clause-left : goal.returns-in_err-give-clause-left
+returns-in_err-give-clause-left g c =
+    on_err c.from_residual.result
+    (no_child c.args.tables.now c.args.self.now c.self.inside.header c.self.inside.labels c.give.new.self c.self.inside.moment c.self.inside.offsets c.self.inside.waits c.args.listener.now c.args.label c.args.from c.args.at c.args.worker.now
+    (record { view = c.self.view_is; names = c.len-place.ensures.names }) c.in_err-give.ensures.err)

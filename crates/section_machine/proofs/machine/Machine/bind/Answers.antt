@@ -1,19 +1,22 @@
-use Rattle.std.proofs.Common.{◌==◌, ◌&&◌, ℕ, Some, refl, sym, ap, ◌∙◌, subst}
+use Rattle.std.proofs.Common.{ℕ, Some, refl, sym, ap, ◌∙◌, subst}
 use Rattle.flat_list.specs.declared.header.First.TheVariants as firsts
+use Rattle.flat_list.specs.declared.command.Command.TheVariants as commands
 use Rattle.flat_list.specs.declared.command.Reply.TheVariants as replies
 use Rattle.flat_list.specs.Sections.{name_at}
 use Rattle.table_model.specs.Asking.{Asking, ends}
 use Rattle.table_model.specs.Own.{with_socket, ports_of}
 use Rattle.table_model.specs.Operations as plan
 use Rattle.table_model.specs.Operations.{Did, done, refused}
-use Rattle.table_model.specs.Commands.{answers, bind_command, bind_reply, bind_error, searches_port}
+use Rattle.table_model.specs.Commands.{answers, after_search, bind_command, bind_reply, bind_error, searches_port}
+use Rattle.shared_ops.specs.Goes as ops
 use Rattle.shared_ops.specs.Goes.{Went}
 use Rattle.shared_ops.specs.Socks.{mine_of, first_mine}
 use Rattle.shared_ops.specs.Stands.{buckets_of, turned, chained}
-use Rattle.section_machine.specs.Places.{Labelled, with_place}
+use Rattle.section_machine.specs.Places.{Labelled, own_of, with_place}
 use Rattle.section_machine.specs.Searches as searches
 use Rattle.section_machine.proofs.Asked.{of_bind, still_named}
 use Rattle.section_machine.proofs.Searches.{bind_same}
+use Rattle.section_machine.proofs.LeftOff.{left_by_header, wanted_left, socket_left, bind_plan, its_speaker, its_search}
 use Rattle.section_machine.proofs.Settled.{nobody, done_so, refused_then, refused_went, before, stands_before, tells_before, of_header, on_err, sockets_back}
 use Rattle.section_machine.proofs.machine.Machine.bind.Goals as goal
 
@@ -84,7 +87,28 @@ returns-in_ok-refusal-in-Err-clause-carried g c =
     c.in-Err.end c.bind_error.result c.put-in-Err.new.self
     (of_header h t (λ shape seed. p) (turned w) (turned u) (chained t w) (chained t u) rest sec.tables
     (subst (λ (q : Asking Did). Went (buckets_of t) q (turned w) (turned u) (chained t w) (chained t u) rest) same
-    (refused_went (first_mine {B = ℕ}) (buckets_of t) (mine_of s).owner.name _ (turned w) (turned u) (chained t w) (chained t u) c.in-Err.end c.in_ok-refusal-in-Err.ensures.told c.in-Err.ensures.carried)))
+    (refused_went (first_mine {B = ℕ}) (buckets_of t) (mine_of s).owner.name _ (turned w) (turned u) (chained t w) (chained t u) c.in-Err.end c.in_ok-refusal-in-Err.ensures.kept.told c.in-Err.ensures.carried)))
     c.in-Err.ensures.kept
     (c.put-in-Err.ensures.put ∙ ap (λ x. with_place c.take.new.self c.in-Some.place (Some (mine_of x))) c.in-Err.ensures.back)
-    (λ x. ap (answers x) (sym (c.bind_error.ensures ∙ ap bind_error c.in_ok-refusal-in-Err.ensures.same)))
+    (λ x. ap (answers x) (sym (c.bind_error.ensures ∙ ap bind_error c.in_ok-refusal-in-Err.ensures.kept.same)))
+
+pub returns-in_err-refusal-in-Err-clause-left : goal.returns-in_err-refusal-in-Err-clause-left
+returns-in_err-refusal-in-Err-clause-left g c =
+    let t = c.args.tables.now in
+    let h = c.self.inside.header in
+    let o = c.self.inside.offsets in
+    let s = c.in-Some.socket in
+    let w = c.args.worker.now in
+    let u = c.bind.new.worker in
+    let began = searches_port (mine_of s).owner c.args.end in
+    let own = own_of c.self.inside.labels c.self.inside.moment o c.self.inside.waits in
+    let same = bind_same (mine_of s) c.args.end c.ports-ports.result (ports_of o firsts.Odd) (λ yes. c.ports-ports.ensures.ports (c.searches_bind-begins.ensures ∙ yes)) in
+    let p = plan.bind (mine_of s) c.args.end (ports_of o firsts.Odd) in
+    let sec = before t c.args.self.now h c.self.inside.labels c.take.new.self c.self.inside.moment o c.self.inside.waits c.args.label.now c.in-Some.place s w (record { view = c.self.view_is; names = c.take.ensures.names }) c.in-Some.ensures.cases c.requires.section in
+    on_err c.from_residual.result
+    (socket_left t c.args.self.now h c.self.inside.labels c.take.new.self c.put-in-Err.new.self c.self.inside.moment o c.ports-ports.new.self c.self.inside.waits c.args.label.now c.in-Some.place s w u
+    (record { view = c.self.view_is; names = c.take.ensures.names }) c.in-Some.ensures.cases (c.put-in-Err.ensures.put ∙ ap (λ x. with_place c.take.new.self c.in-Some.place (Some (mine_of x))) c.in-Err.ensures.back) (commands.Bind c.args.label.now c.args.end) began (c.ports-ports.ensures.after ∙ ap (λ b. searches.after_search b o) c.searches_bind-begins.ensures)
+    p (λ did. ends (bind_reply (after_search began own) did)) (λ e. bind_plan h own c.args.label.now (mine_of s) e c.args.end) (λ e. its_speaker h own c.args.label.now (mine_of s) e) (λ e deeds back. its_search h own c.args.label.now (mine_of s) e (λ m. searches_port m.owner c.args.end))
+    (left_by_header h t (λ shape seed. p) (mine_of s).owner.name (turned w) (turned u) (chained t w) (chained t u) sec.tables
+    (subst (λ (q : Asking Did). ops.LeftOff (buckets_of t) (mine_of s).owner.name q (turned w) (turned u) (chained t w) (chained t u)) same
+    (wanted_left (first_mine {B = ℕ}) refused (buckets_of t) (mine_of s).owner.name _ (turned w) (turned u) (chained t w) (chained t u) c.in-Err.end c.in_err-refusal-in-Err.ensures.wanted c.in-Err.ensures.carried))))

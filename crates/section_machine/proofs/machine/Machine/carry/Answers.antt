@@ -1,4 +1,6 @@
 use Rattle.table_model.specs.Commands.{plan}
+use Rattle.std.proofs.lemmas.Result.{on_err_weaker}
+use Rattle.section_machine.proofs.LeftOff.{made_none}
 use Rattle.section_machine.proofs.Spent.{spends_none}
 use Rattle.section_machine.proofs.machine.Machine.carry.Goals as goal
 
@@ -43,3 +45,28 @@ returns-in-At-clause-spends g c = spends_none c.args.self.now c.at.new.self c.ar
 
 pub returns-in-Socket-clause-spends : goal.returns-in-Socket-clause-spends
 returns-in-Socket-clause-spends g c = spends_none c.args.self.now c.socket.new.self c.args.worker.now c.socket.ensures.waits
+
+pub returns-in-Bind-clause-left : goal.returns-in-Bind-clause-left
+returns-in-Bind-clause-left g c = rw c.in-Bind.is c.bind.ensures.left
+
+pub returns-in-Listen-clause-left : goal.returns-in-Listen-clause-left
+returns-in-Listen-clause-left g c = rw c.in-Listen.is c.listen.ensures.left
+
+pub returns-in-Connect-clause-left : goal.returns-in-Connect-clause-left
+returns-in-Connect-clause-left g c = rw c.in-Connect.is c.connect.ensures.left
+
+pub returns-in-Accept-clause-left : goal.returns-in-Accept-clause-left
+returns-in-Accept-clause-left g c = rw c.in-Accept.is c.accept.ensures.left
+
+pub returns-in-Close-clause-left : goal.returns-in-Close-clause-left
+returns-in-Close-clause-left g c = rw c.in-Close.is c.close.ensures.left
+
+pub returns-in-Drop-clause-left : goal.returns-in-Drop-clause-left
+returns-in-Drop-clause-left g c = rw c.in-Drop.is c.drop_labelled.ensures.left
+
+pub returns-in-Reap-clause-left : goal.returns-in-Reap-clause-left
+returns-in-Reap-clause-left g c = rw c.in-Reap.is c.reap.ensures.left
+
+pub returns-in-Socket-clause-left : goal.returns-in-Socket-clause-left
+returns-in-Socket-clause-left g c =
+    rw c.in-Socket.is (on_err_weaker c.socket.result (λ same. made_none c.args.tables.now c.args.self.now c.socket.new.self _ _ c.args.worker.now same) c.socket.ensures.left)

@@ -1,10 +1,17 @@
-use Rattle.std.proofs.Common.{length, arith, Some, refl, sym, ap, ◌∙◌}
-use Rattle.table_model.specs.Commands.{close_command}
+use Rattle.std.proofs.Common.{List, false, length, arith, Some, refl, sym, ap, subst, ◌∙◌}
+use Rattle.flat_list.specs.declared.command.Command.TheVariants as commands
+use Rattle.table_model.specs.Own.{Mine}
+use Rattle.table_model.specs.Operations as plan
+use Rattle.table_model.specs.Asking.{ends}
+use Rattle.shared_ops.specs.Stands.{turned, chained}
+use Rattle.table_model.specs.Commands.{close_command, close_reply}
 use Rattle.shared_ops.specs.Socks.{mine_of}
+use Rattle.section_machine.specs.LeftOff.{IsLeftOff}
 use Rattle.section_machine.specs.Places.{own_of, with_place}
 use Rattle.section_machine.specs.Sections.{Kept, kept}
 use Rattle.section_machine.proofs.Ended.{closed_so}
-use Rattle.section_machine.proofs.Settled.{nobody, stands_before, tells_before, sockets_back}
+use Rattle.section_machine.proofs.LeftOff.{left_by_header, socket_left, close_plan, its_speaker}
+use Rattle.section_machine.proofs.Settled.{nobody, before, stands_before, tells_before, sockets_back}
 use Rattle.section_machine.proofs.Spent.{spends_of}
 use Rattle.section_machine.proofs.machine.Machine.close.Goals as goal
 
@@ -40,3 +47,20 @@ returns-in-Ok-clause-spends g c =
 pub returns-in-Err-clause-spends : goal.returns-in-Err-clause-spends
 returns-in-Err-clause-spends g c =
     spends_of c.args.self.now (kept c.self.inside.header (own_of c.put.new.self c.self.inside.moment c.self.inside.offsets c.close.new.self)) c.args.worker.now c.close.new.worker c.self.inside.waits 4 (1) 1 (ap (λ (k : Kept). length k.own.waits) (sym c.self.view_is)) c.close.ensures.more c.close.ensures.entered (omega arith) (omega arith) c.close.ensures.drawn
+
+pub returns-in-Err-clause-left : goal.returns-in-Err-clause-left
+returns-in-Err-clause-left g c =
+    let t = c.args.tables.now in
+    let h = c.self.inside.header in
+    let o = c.self.inside.offsets in
+    let s = c.in-Some.socket in
+    let w = c.args.worker.now in
+    let u = c.close.new.worker in
+    let own = own_of c.self.inside.labels c.self.inside.moment o c.self.inside.waits in
+    let sec = before t c.args.self.now h c.self.inside.labels c.take.new.self c.self.inside.moment o c.self.inside.waits c.args.label.now c.in-Some.place s w (record { view = c.self.view_is; names = c.take.ensures.names }) c.in-Some.ensures.cases c.requires.section in
+    subst (λ (ws : List Mine). IsLeftOff t c.args.self.now (commands.Close c.args.label.now) (kept h (own_of c.put.new.self c.self.inside.moment o ws)) w u) (sym c.in-Err.ensures.same)
+    (socket_left t c.args.self.now h c.self.inside.labels c.take.new.self c.put.new.self c.self.inside.moment o o c.self.inside.waits c.args.label.now c.in-Some.place s w u
+    (record { view = c.self.view_is; names = c.take.ensures.names }) c.in-Some.ensures.cases (c.put.ensures.put ∙ ap (λ x. with_place c.take.new.self c.in-Some.place (Some (mine_of x))) c.in-Err.ensures.back) (commands.Close c.args.label.now) false refl
+    (plan.close h.shape h.seed (mine_of s) c.self.inside.moment) (λ closed. ends (close_reply own (mine_of s).owner.name closed)) (λ e. close_plan h own c.args.label.now (mine_of s) e) (λ e. its_speaker h own c.args.label.now (mine_of s) e) (λ e deeds back. refl)
+    (left_by_header h t (λ shape seed. plan.close shape seed (mine_of s) c.self.inside.moment) (mine_of s).owner.name (turned w) (turned u) (chained t w) (chained t u) sec.tables
+    c.in-Err.ensures.left))

@@ -1,10 +1,18 @@
-use Rattle.std.proofs.Common.{length, arith, Some, refl, sym, ap, ◌∙◌}
-use Rattle.table_model.specs.Commands.{drop_command}
+use Rattle.std.proofs.Common.{false, length, arith, Some, refl, sym, ap, ◌∙◌}
+use Rattle.flat_list.specs.declared.command.Command.TheVariants as commands
+use Rattle.table_model.specs.Operations as plan
+use Rattle.table_model.specs.Asking.{ends}
+use Rattle.shared_ops.specs.Stands.{buckets_of, turned, chained}
+use Rattle.flat_list.specs.declared.command.Reply.TheVariants as replies
+use Rattle.table_model.specs.Own.{without}
+use Rattle.shared_ops.specs.Closes.{is_gone}
+use Rattle.table_model.specs.Commands.{drop_command, answers}
 use Rattle.shared_ops.specs.Socks.{mine_of}
 use Rattle.section_machine.specs.Places.{own_of, with_place}
 use Rattle.section_machine.specs.Sections.{Kept, kept}
 use Rattle.section_machine.proofs.Ended.{dropped_so}
-use Rattle.section_machine.proofs.Settled.{nobody, stands_before, tells_before, sockets_back}
+use Rattle.section_machine.proofs.LeftOff.{left_by_header, unclosed_left, socket_left, drop_plan, its_speaker}
+use Rattle.section_machine.proofs.Settled.{nobody, before, stands_before, tells_before, sockets_back}
 use Rattle.section_machine.proofs.Spent.{spends_of}
 use Rattle.section_machine.proofs.machine.Machine.drop_labelled.Goals as goal
 
@@ -40,3 +48,19 @@ returns-in-Ok-clause-spends g c =
 pub returns-in-Err-clause-spends : goal.returns-in-Err-clause-spends
 returns-in-Err-clause-spends g c =
     spends_of c.args.self.now (kept c.self.inside.header (own_of c.put.new.self c.self.inside.moment c.self.inside.offsets c.self.inside.waits)) c.args.worker.now c.drop_sock.new.worker c.self.inside.waits 2 (1) 0 (ap (λ (k : Kept). length k.own.waits) (sym c.self.view_is)) (omega arith) c.drop_sock.ensures.entered (omega arith) (omega arith) c.drop_sock.ensures.drawn
+
+pub returns-in-Err-clause-left : goal.returns-in-Err-clause-left
+returns-in-Err-clause-left g c =
+    let t = c.args.tables.now in
+    let h = c.self.inside.header in
+    let o = c.self.inside.offsets in
+    let s = c.in-Some.socket in
+    let w = c.args.worker.now in
+    let u = c.drop_sock.new.worker in
+    let own = own_of c.self.inside.labels c.self.inside.moment o c.self.inside.waits in
+    let sec = before t c.args.self.now h c.self.inside.labels c.take.new.self c.self.inside.moment o c.self.inside.waits c.args.label.now c.in-Some.place s w (record { view = c.self.view_is; names = c.take.ensures.names }) c.in-Some.ensures.cases c.requires.section in
+    socket_left t c.args.self.now h c.self.inside.labels c.take.new.self c.put.new.self c.self.inside.moment o o c.self.inside.waits c.args.label.now c.in-Some.place s w u
+    (record { view = c.self.view_is; names = c.take.ensures.names }) c.in-Some.ensures.cases (c.put.ensures.put ∙ ap (λ x. with_place c.take.new.self c.in-Some.place (Some (mine_of x))) c.in-Err.ensures.back) (commands.Drop c.args.label.now) false refl
+    (plan.drop (mine_of s) plan.gone) (λ closed. ends (answers (without own (mine_of s).owner.name) replies.Ok)) (λ e. drop_plan h own c.args.label.now (mine_of s) e) (λ e. its_speaker h own c.args.label.now (mine_of s) e) (λ e deeds back. refl)
+    (left_by_header h t (λ shape seed. plan.drop (mine_of s) plan.gone) (mine_of s).owner.name (turned w) (turned u) (chained t w) (chained t u) sec.tables
+    (unclosed_left is_gone (buckets_of t) (mine_of s).owner.name (plan.drop (mine_of s) plan.gone) (turned w) (turned u) (chained t w) (chained t u) _ c.in-Err.ensures.carried))

@@ -1,6 +1,8 @@
 use Rattle.std.proofs.Common.{sym, ap, refl}
 use Rattle.section_machine.specs.Places.{own_of}
 use Rattle.section_machine.specs.Sections.{Kept, kept}
+use Rattle.section_machine.proofs.LeftOff.{reap_left}
+use Rattle.section_machine.proofs.Settled.{on_err}
 use Rattle.section_machine.proofs.Reaped.{reap_spends, reaped_so}
 use Rattle.section_machine.proofs.machine.Machine.reap.Goals as goal
 
@@ -18,3 +20,8 @@ pub returns-in_err-count-clause-spends : goal.returns-in_err-count-clause-spends
 returns-in_err-count-clause-spends g c =
     reap_spends c.args.self.now (kept c.self.inside.header (own_of c.self.inside.labels c.self.inside.moment c.self.inside.offsets c.reap.new.self)) c.args.worker.now c.reap.new.worker c.self.inside.waits c.reap.new.self
     (ap (λ (k : Kept). k.own.waits) (sym c.self.view_is)) refl c.reap.ensures.entered c.reap.ensures.drawn
+
+pub returns-in_err-count-clause-left : goal.returns-in_err-count-clause-left
+returns-in_err-count-clause-left g c =
+    on_err c.from_residual.result
+    (reap_left c.args.tables.now c.self.inside.header c.self.inside.labels c.self.inside.moment c.self.inside.offsets c.self.inside.waits c.reap.new.self c.args.worker.now c.reap.new.worker c.args.self.now c.self.view_is c.requires.section.tables c.in_err-count.ensures.stops)

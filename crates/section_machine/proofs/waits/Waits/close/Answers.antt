@@ -1,7 +1,10 @@
 use Rattle.std.proofs.Common.{List, sym, ap, subst, ◌∙◌}
 use Rattle.table_model.specs.Own.{Mine}
+use Rattle.table_model.specs.Operations as plans
 use Rattle.shared_ops.specs.Closes.{became}
 use Rattle.shared_ops.specs.Socks.{mine_of}
+use Rattle.shared_ops.specs.Stands.{buckets_of, turned, chained}
+use Rattle.shared_ops.proofs.Goes.{left_there, went_nowhere}
 use Rattle.section_machine.specs.Carried.{waits_by}
 use Rattle.section_machine.specs.Waits.{AreBefore, AreInOrder}
 use Rattle.section_machine.proofs.Closes.{since, stays_before, stays_in_order}
@@ -20,3 +23,12 @@ returns-in-Ok-close-clause-before g c =
     subst (AreBefore c.args.moment) (sym (c.keep.ensures.left ∙ ap (λ (ws : List Mine). waits_by ws closed) c.reserve.ensures.items))
     (stays_before c.args.moment c.self.inside.items.items closed (since _ _ _ (mine_of c.args.socket) c.args.moment _ _ _ _ closed c.in-Ok-close.ensures.carried)
     (subst (AreBefore c.args.moment) (sym c.self.view_is) c.requires.before))
+
+pub returns-in-Err-clause-left : goal.returns-in-Err-clause-left
+returns-in-Err-clause-left g c =
+    let t = c.args.tables.now in
+    let m = mine_of c.args.socket in
+    let p = plans.close t.chains.layout.shape t.chains.layout.seed m c.args.moment in
+    let v = turned c.args.worker.now in
+    let d = chained t c.args.worker.now in
+    left_there (buckets_of t) m.owner.name p p v v d d (went_nowhere (buckets_of t) p v d)

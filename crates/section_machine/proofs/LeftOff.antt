@@ -1,0 +1,237 @@
+-- What a command leaves that is left off for want of memory.
+use Rattle.std.proofs.Common.{◌≡◌, ◌&&◌, ℕ, Bool, false, List, filter, [], ◌∷◌, Option, Some, Err, inl, inr, refl, sym, ap, ◌∙◌, subst, append-nil}
+use Rattle.std.specs.Option.{option_map, option_map_or}
+use Rattle.turn_table.specs.declared.note.Placed.{Placed}
+use Rattle.bind_buckets.specs.declared.request.Entry.{Entry}
+use Rattle.bind_buckets.specs.Turned.{View, Gave}
+use Rattle.chain_book.specs.declared.shape.Shape.{Shape}
+use Rattle.chain_deeds.specs.Sides.{Side}
+use Rattle.flat_list.specs.declared.command.Command.{Command}
+use Rattle.flat_list.specs.declared.command.Command.TheVariants as commands
+use Rattle.flat_list.specs.declared.command.End.{End}
+use Rattle.flat_list.specs.declared.command.Reply.TheVariants as replies
+use Rattle.flat_list.specs.declared.owned.Options.{Options}
+use Rattle.flat_list.specs.declared.header.First.TheVariants as firsts
+use Rattle.flat_list.specs.declared.header.Header.{Header}
+use Rattle.port_search.proofs.TurnSearch.{gave_none}
+use Rattle.race_record.specs.Deeds.{Deed, entered, inserted, added, left, reaped, entries_in}
+use Rattle.table_model.specs.declared.operation.OpEnd.{OpEnd}
+use Rattle.table_model.specs.declared.operation.OpEnd.TheVariants as errors
+use Rattle.table_model.specs.Asking.{Asking, ends, asks, inserts, adds, unhashes, reaps, and_then}
+use Rattle.table_model.specs.Own.{Own, Mine, Offsets, open_socket, with_label, without, next_name, is_over, ports_of}
+use Rattle.table_model.specs.Operations as plans
+use Rattle.table_model.specs.Operations.{kept_waits}
+use Rattle.table_model.specs.Commands.{Replied, answers, plan, bind_command, bind_reply, listen_command, connect_command, connect_reply, connect_rule, accept_command, accept_reply, close_command, close_reply, drop_command, after_search, searches_port, is_unbound, is_some}
+use Rattle.shared_ops.specs.declared.sock.Sock.{Sock}
+use Rattle.shared_ops.specs.declared.tables.Tables.{Tables}
+use Rattle.shared_ops.specs.declared.tables.Worker.{Worker}
+use Rattle.shared_ops.specs.Closes.{ClosedBy}
+use Rattle.shared_ops.specs.Goes as ops
+use Rattle.shared_ops.specs.Goes.{CarriedOut}
+use Rattle.shared_ops.specs.Leads.{Leads}
+use Rattle.shared_ops.specs.Socks.{mine_of}
+use Rattle.shared_ops.specs.Stands.{buckets_of, turned, chained}
+use Rattle.shared_ops.proofs.Goes.{does_none}
+use Rattle.section_machine.specs.LeftOff.{IsLeftOff, Leaves, GivesBack, StopsReaping, speaker, socket_name, is_of_socket}
+use Rattle.section_machine.specs.Places.{Labelled, Takes, own_of, with_given, with_place, named_by}
+use Rattle.section_machine.specs.Searches as searches
+use Rattle.section_machine.specs.Sections.{Kept, kept}
+use Rattle.section_machine.specs.Standing.{AreOf}
+use Rattle.section_machine.proofs.Ended.{drop_then}
+use Rattle.section_machine.proofs.Owns.{label_given, put_same}
+use Rattle.section_machine.proofs.Places.{open_named}
+use Rattle.section_machine.proofs.Settled.{Before, began_as}
+
+-- a plan that goes on so goes on so where another follows it
+pub leads_then : {R S : Type 0} (next : R → Asking S) (p rest : Asking R) (deeds : List Deed) → Leads p deeds rest → Leads (and_then p next) deeds (and_then rest next)
+leads_then next p rest [] l = ap (λ q. and_then q next) l
+leads_then next (asks port request then_) rest (entered key note ∷ deeds) l =
+    (and_then l.0 next, (l.1.0, l.1.1, ap (λ q. and_then q next) l.1.2), leads_then next l.0 rest deeds l.2)
+leads_then next (inserts card moment rule then_) rest (inserted wish tried ∷ deeds) l =
+    (and_then l.0 next, (l.1.0, l.1.1, ap (λ q. and_then q next) l.1.2), leads_then next l.0 rest deeds l.2)
+leads_then next (adds card then_) rest (added c tried ∷ deeds) l =
+    (and_then l.0 next, (l.1.0, l.1.1, ap (λ q. and_then q next) l.1.2), leads_then next l.0 rest deeds l.2)
+leads_then next (unhashes place card then_) rest (left u ∷ deeds) l =
+    (and_then l.0 next, (l.1.0, ap (λ q. and_then q next) l.1.1), leads_then next l.0 rest deeds l.2)
+leads_then next (reaps card then_) rest (reaped c unhash ∷ deeds) l =
+    (and_then l.0 next, (l.1.0, l.1.1, ap (λ q. and_then q next) l.1.2), leads_then next l.0 rest deeds l.2)
+leads_then next p rest (deed ∷ deeds) l = absurd l.1
+
+-- an operation that memory kept from its end
+pub wanted_left : {X R : Type 0} (did : X → R) (not_done : OpEnd → R) (count name : ℕ) (p : Asking R) (v u : View) (c d : Side) (end : OpEnd) → end ≡ errors.Memory → CarriedOut did not_done count name p v u c d (Err end) → ops.LeftOff count name p v u c d
+wanted_left did not_done count name p v u c d end is h =
+    subst (λ (e : OpEnd). CarriedOut did not_done count name p v u c d (Err e)) is h
+
+-- nothing else keeps one from its end that lets a socket go
+pub unclosed_left : {X : Type 0} (did : X → plans.Closed) (count name : ℕ) (p : Asking plans.Closed) (v u : View) (c d : Side) (end : OpEnd) → ClosedBy did count name p v u c d (Err end) → ops.LeftOff count name p v u c d
+unclosed_left did count name p v u c d errors.Memory h = h
+unclosed_left did count name p v u c d (errors.InUse n) h = absurd h
+unclosed_left did count name p v u c d errors.NoPort h = absurd h
+unclosed_left did count name p v u c d (errors.Taken n) h = absurd h
+unclosed_left did count name p v u c d errors.Inval h = absurd h
+unclosed_left did count name p v u c d errors.IsConn h = absurd h
+unclosed_left did count name p v u c d errors.GroupFull h = absurd h
+unclosed_left did count name p v u c d errors.GroupsFull h = absurd h
+unclosed_left did count name p v u c d (errors.Full owned held) h = absurd h
+
+-- a plan by the shape, the seed and the buckets of tables that are the header's
+pub left_by_header : {R : Type 0} (header : Header) (t : Tables) (f : Shape → ℕ → Asking R) (name : ℕ) (v u : View) (c d : Side) → AreOf header t
+    → ops.LeftOff (buckets_of t) name (f t.chains.layout.shape t.chains.layout.seed) v u c d → ops.LeftOff header.shape.bind name (f header.shape header.seed) v u c d
+left_by_header header t f name v u c d are off =
+    subst (λ (n : ℕ). ops.LeftOff n name (f header.shape header.seed) v u c d) are.buckets
+    (subst (λ (n : ℕ). ops.LeftOff (buckets_of t) name (f header.shape n) v u c d) are.seed
+    (subst (λ (x : Shape). ops.LeftOff (buckets_of t) name (f x t.chains.layout.seed) v u c d) are.shape off))
+
+-- nothing was asked, and nothing done
+pub untouched : (t : Tables) (k new : Kept) (command : Command) (w : Worker) → ((n : ℕ) → GivesBack n (speaker k.own command) []) → Leaves k.own command [] [] new.own → IsLeftOff t k command new w w
+untouched t k new command w gives leaves =
+    record {
+      rest = plan k.header k.own command;
+      deeds = [];
+      leads = refl;
+      back = [];
+      gives = gives k.header.shape.bind;
+      gave = gave_none (turned w);
+      does = does_none (chained t w);
+      leaves = leaves;
+    }
+
+-- an operation's plan is left off, and so the command's
+pub op_left : {R : Type 0} (t : Tables) (header : Header) (own new : Own) (command : Command) (w u : Worker) (p : Asking R) (next : R → Asking Replied) (name : ℕ) → plan header own command ≡ and_then p next → speaker own command ≡ Some name
+    → ((deeds : List Deed) (back : List (Placed Entry)) → Leaves own command deeds back new) → ops.LeftOff header.shape.bind name p (turned w) (turned u) (chained t w) (chained t u) → IsLeftOff t (kept header own) command (kept header new) w u
+op_left t header own new command w u p next name is speaks leaves off =
+    record {
+      rest = and_then off.rest next;
+      deeds = off.deeds;
+      leads = subst (λ (q : Asking Replied). Leads q off.deeds (and_then off.rest next)) (sym is) (leads_then next p off.rest off.deeds off.leads);
+      back = off.back;
+      gives = subst (λ (o : Option ℕ). GivesBack header.shape.bind o off.back) (sym speaks) off.gives;
+      gave = off.gave;
+      does = off.does;
+      leaves = leaves off.deeds off.back;
+    }
+
+-- on the socket that a label names, which is put back
+module _ (t : Tables) (k : Kept) (header : Header) (l l1 l2 : Labelled) (moment : ℕ) (o o2 : Offsets) (waits : List Mine) (label : List ℕ) (i : ℕ) (s : Sock) (w u : Worker)
+    (b : Before k header l moment o waits) (takes : Takes l label l1 i s) (put : l2 ≡ with_place l1 i (Some (mine_of s))) (command : Command) (began : Bool) (drawn : o2 ≡ searches.after_search began o) where
+  abbrev own : Own
+  own = own_of l moment o waits
+
+  abbrev m : Mine
+  m = mine_of s
+
+  abbrev Named : Type 0
+  Named = open_socket own label ≡ Some m
+
+  own_then : after_search began own ≡ own_of l2 moment o2 waits
+  own_then =
+      began_as began l moment o waits
+      ∙ (ap (λ (x : Offsets). own_of l moment x waits) (sym drawn)
+      ∙ ap (λ (x : Labelled). own_of x moment o2 waits) (sym (put ∙ (ap (λ (x : Labelled). with_place x i (Some m)) takes.after ∙ put_same l i m takes.there))))
+
+  pub socket_left : {R : Type 0} (p : Asking R) (next : R → Asking Replied) → (Named → plan header own command ≡ and_then p next) → (Named → speaker own command ≡ Some m.owner.name)
+      → (Named → (deeds : List Deed) (back : List (Placed Entry)) → Leaves own command deeds back (after_search began own))
+      → ops.LeftOff header.shape.bind m.owner.name p (turned w) (turned u) (chained t w) (chained t u) → IsLeftOff t k command (kept header (own_of l2 moment o2 waits)) w u
+  socket_left p next is speaks leaves off =
+      let named : Named = open_named l moment o waits label b.names ∙ takes.named in
+      subst (λ (x : Own). IsLeftOff t k command (kept header x) w u) own_then
+      (subst (λ (x : Kept). IsLeftOff t x command (kept header (after_search began own)) w u) b.view
+      (op_left t header own (after_search began own) command w u p next m.owner.name (is named) (speaks named) (leaves named) off))
+
+-- what a command is by the socket that its label names
+module _ (header : Header) (own : Own) (label : List ℕ) (m : Mine) (named : open_socket own label ≡ Some m) where
+  pub bind_plan : (end : End) → plan header own (commands.Bind label end) ≡ and_then (plans.bind m end (ports_of own.offsets firsts.Odd)) (λ did. ends (bind_reply (after_search (searches_port m.owner end) own) did))
+  unfolding plan
+  bind_plan end = ap (λ (x : Option Mine). bind_command own x end) named
+
+  pub listen_plan : plan header own (commands.Listen label) ≡ and_then (plans.listen header.shape header.seed m (ports_of own.offsets firsts.Odd)) (λ did. ends (bind_reply (after_search (is_unbound m.owner.state) own) did))
+  unfolding plan
+  listen_plan = ap (λ (x : Option Mine). listen_command header own x) named
+
+  pub connect_plan : (from : Option ℕ) (to : End) → plan header own (commands.Connect label from to)
+      ≡ and_then (plans.connect header.shape header.seed m from to own.moment (connect_rule header) (ports_of own.offsets firsts.Even)) (λ did. ends (connect_reply (after_search (is_unbound m.owner.state && is_some (plans.source_to m.owner from to)) own) did))
+  unfolding plan
+  connect_plan from to = ap (λ (x : Option Mine). connect_command header own x from to) named
+
+  pub close_plan : plan header own (commands.Close label) ≡ and_then (plans.close header.shape header.seed m own.moment) (λ closed. ends (close_reply own m.owner.name closed))
+  unfolding plan
+  close_plan = ap (λ (x : Option Mine). close_command header own x) named
+
+  pub drop_plan : plan header own (commands.Drop label) ≡ and_then (plans.drop m plans.gone) (λ closed. ends (answers (without own m.owner.name) replies.Ok))
+  unfolding plan
+  drop_plan =
+      ap (λ (x : Option Mine). drop_command own x) named
+      ∙ sym (drop_then (answers (without own m.owner.name) replies.Ok) m m.owner.state)
+
+  pub its_speaker : socket_name own label ≡ Some m.owner.name
+  its_speaker = ap (option_map (λ (x : Mine). x.owner.name)) named
+
+  pub its_search : (test : Mine → Bool) → after_search (test m) own ≡ after_search (is_of_socket test own label) own
+  its_search test = ap (λ (x : Option Mine). after_search (option_map_or test x false) own) (sym named)
+
+-- a child's label is given, and then memory is wanting
+module _ (t : Tables) (k : Kept) (header : Header) (l l1 : Labelled) (moment : ℕ) (o : Offsets) (waits : List Mine) (listener label : List ℕ) (from at : End) (w : Worker) (b : Before k header l moment o waits) where
+  abbrev its_own : Own
+  its_own = own_of l moment o waits
+
+  abbrev it : Command
+  it = commands.Accept listener label from at
+
+  accept_plan : (x : Mine) → open_socket its_own listener ≡ Some x → plan header its_own it ≡ and_then (plans.accept header.shape header.seed x (next_name its_own) from at) (λ did. ends (accept_reply (with_label its_own label) did))
+  unfolding plan
+  accept_plan x named =
+      ap (λ (x : Option Mine). accept_command header (with_label its_own label) (next_name its_own) x from at) named
+
+  pub child_left : (m : Mine) (name : ℕ) (u : Worker) → l1 ≡ with_given l label → named_by l listener ≡ Some m → AreOf k.header t → name ≡ next_name its_own
+      → ops.LeftOff (buckets_of t) name (plans.accept t.chains.layout.shape t.chains.layout.seed m name from at) (turned w) (turned u) (chained t w) (chained t u) → IsLeftOff t k it (kept header (own_of l1 moment o waits)) w u
+  child_left m name u given named are is off =
+      subst (λ (x : Kept). IsLeftOff t x it (kept header (own_of l1 moment o waits)) w u) b.view
+      (op_left t header its_own (own_of l1 moment o waits) it w u (plans.accept header.shape header.seed m (next_name its_own) from at) (λ did. ends (accept_reply (with_label its_own label) did)) (next_name its_own)
+      (accept_plan m (open_named l moment o waits listener b.names ∙ named)) refl
+      (λ deeds back. inl (sym (label_given l l1 label moment o waits given)))
+      (subst (λ (n : ℕ). ops.LeftOff header.shape.bind n (plans.accept header.shape header.seed m n from at) (turned w) (turned u) (chained t w) (chained t u)) is
+      (left_by_header header t (λ (shape : Shape) (seed : ℕ). plans.accept shape seed m name from at) name (turned w) (turned u) (chained t w) (chained t u) (subst (λ (x : Kept). AreOf x.header t) (sym b.view) are) off)))
+
+  -- or it isn't given
+  pub no_child : l1 ≡ l → IsLeftOff t k it (kept header (own_of l1 moment o waits)) w w
+  no_child same =
+      subst (λ (x : Kept). IsLeftOff t x it (kept header (own_of l1 moment o waits)) w w) b.view
+      (untouched t (kept header its_own) (kept header (own_of l1 moment o waits)) it w (λ n. tt)
+      (inr (record { none = refl; nor_back = refl; same = ap (λ (x : Labelled). own_of x moment o waits) same })))
+
+-- TIME_WAITs are reaped up to one at which memory is wanting
+module _ (t : Tables) (header : Header) (l : Labelled) (moment : ℕ) (o : Offsets) (waits after : List Mine) (w u : Worker) where
+  abbrev the_own : Own
+  the_own = own_of l moment o waits
+
+  abbrev reaped_all : ℕ → Asking Replied
+  reaped_all n = ends (answers (record the_own { waits = kept_waits waits moment }) (replies.Count n))
+
+  reap_plan : plan header the_own commands.Reap ≡ and_then (plans.reap waits moment) reaped_all
+  unfolding plan
+  reap_plan = refl
+
+  reaps_left : StopsReaping header.shape.bind waits moment (turned w) (turned u) (chained t w) (chained t u) after → IsLeftOff t (kept header the_own) commands.Reap (kept header (own_of l moment o after)) w u
+  reaps_left s =
+      let rest = plans.reap_each (filter (is_over moment) after) s.reaped in
+      record {
+        rest = and_then rest reaped_all;
+        deeds = s.went.deeds;
+        leads = subst (λ (q : Asking Replied). Leads q s.went.deeds (and_then rest reaped_all)) (sym reap_plan) (leads_then reaped_all (plans.reap waits moment) rest s.went.deeds s.went.leads);
+        back = [];
+        gives = refl;
+        gave = subst (Gave (turned w) (turned u)) (sym (append-nil (entries_in header.shape.bind s.went.deeds))) s.went.gave;
+        does = s.went.does;
+        leaves = record { front = s.front; count = s.reaped; reaps = s.went.leads; rest = refl };
+      }
+
+  pub reap_left : (k : Kept) → kept header the_own ≡ k → AreOf k.header t → StopsReaping (buckets_of t) waits moment (turned w) (turned u) (chained t w) (chained t u) after → IsLeftOff t k commands.Reap (kept header (own_of l moment o after)) w u
+  reap_left k view are s =
+      let its : AreOf header t = subst (λ (x : Kept). AreOf x.header t) (sym view) are in
+      subst (λ (x : Kept). IsLeftOff t x commands.Reap (kept header (own_of l moment o after)) w u) view
+      (reaps_left (subst (λ (n : ℕ). StopsReaping n waits moment (turned w) (turned u) (chained t w) (chained t u) after) its.buckets s))
+
+-- a socket whose label isn't given
+pub made_none : (t : Tables) (old new : Kept) (label : List ℕ) (options : Options) (w : Worker) → new ≡ old → IsLeftOff t old (commands.Socket label options) new w w
+made_none t old new label options w same =
+    untouched t old new (commands.Socket label options) w (λ n. refl) (ap (λ (x : Kept). x.own) same)
