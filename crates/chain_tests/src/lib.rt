@@ -22,6 +22,8 @@ mod met;
 #[cfg(test)]
 mod pause;
 #[cfg(test)]
+mod rows;
+#[cfg(test)]
 mod sockets;
 #[cfg(test)]
 mod threads;

@@ -1,5 +1,6 @@
 -- What the contracts of this crate cite.
 pub mod Words
+pub mod WordRows
 pub mod Status
 pub mod Table
 pub mod Verdict

@@ -1,0 +1,236 @@
+-- Cards of a sound list: the member of a group that a hash chooses has a card, which matches as each of its mates does.
+use Rattle.std.proofs.Common.{◌≡◌, ℕ, ◌%◌, ◌^◌, ◌<◌, ◌≤◌, Bool, true, false, ◌&&◌, ◌==◌, cond, List, [], ◌∷◌, length, find, Option, Some, None, refl, sym, ap, ◌∙◌, subst, inl, inr, arith}
+use Rattle.std.specs.Prelude.{count_by}
+use Rattle.std.specs.List.{list_any}
+use Rattle.std.specs.Option.{option_map}
+use Rattle.std.proofs.Math.Nat.{div-lt_iff_lt-mul}
+use Rattle.std.proofs.lemmas.Bool.{and_parts, and_from, eqb-true, eq-eqb}
+use Rattle.list_words.proofs.EachLemmas.{some_same, found_passes}
+use Rattle.sock_card.specs.declared.card.Card.{Card}
+use Rattle.sock_card.specs.declared.card.Kind.{Kind}
+use Rattle.sock_card.specs.declared.card.Kind.TheVariants as kinds
+use Rattle.sock_card.specs.declared.card.Packet.{Packet}
+use Rattle.sock_card.specs.declared.owner.Owner.{Owner}
+use Rattle.sock_card.specs.declared.owner.State.{State}
+use Rattle.sock_card.specs.declared.owner.State.TheVariants as states
+use Rattle.sock_card.specs.Conflict.{same_port, is_listening, both_reuse_port}
+use Rattle.sock_card.specs.Rank.{rank, rank_as, listen_rank}
+use Rattle.jhash_words.specs.Jhash.{mixed, final_mix, started_mix, jhash_3words}
+use Rattle.jhash_words.specs.Places.{tuple_hash, scale}
+use Rattle.chain_book.specs.Homes.{packet_hash}
+use Rattle.flat_list.specs.declared.socket.Socket.{Socket}
+use Rattle.flat_list.specs.Flat.{Flat}
+use Rattle.flat_list.specs.Groups.{Group, has_member}
+use Rattle.flat_list.specs.Look.{card_of, cards_of, extra_as, chosen}
+use Rattle.flat_list.specs.Owned.{card_as}
+use Rattle.flat_list.specs.Sockets.{kind_of, has_name, is_mate}
+use Rattle.flat_list.specs.Sound.{IsSound, IsInOneGroup, IsGroupOf, GroupsAreOfMates, is_sharing, are_together}
+use Rattle.rule_laws.proofs.Items.{In, each_in, pairs_in, any_item, any_in, found_in, place_in, count_in, made_in, comes_in}
+
+rest_fits : (x : ℕ) → x % 2 ^ 32 < 2 ^ 32
+rest_fits x = omega arith
+
+mixed_fits : (x y by : ℕ) → mixed x y by < 2 ^ 32
+unfolding mixed
+mixed_fits x y by = rest_fits _
+
+final_fits : (a b c : ℕ) → final_mix a b c < 2 ^ 32
+unfolding final_mix
+final_fits a b c = mixed_fits _ _ 24
+
+started_fits : (a b c start : ℕ) → started_mix a b c start < 2 ^ 32
+unfolding started_mix
+started_fits a b c start = final_fits _ _ _
+
+words_fit : (a b c initial : ℕ) → jhash_3words a b c initial < 2 ^ 32
+unfolding jhash_3words
+words_fit a b c initial = started_fits _ _ _ _
+
+-- a hash has 32 bits
+pub hash_fits : (packet : Packet) (seed : ℕ) → packet_hash packet seed < 2 ^ 32
+unfolding tuple_hash
+hash_fits packet seed = words_fit _ _ _ _
+
+-- and so it is scaled to one of the places
+scale_below : (hash n : ℕ) → hash < 2 ^ 32 → 1 ≤ n → scale hash n < n
+scale_below hash n h some = grind (arith, div-lt_iff_lt-mul)
+
+-- what a socket's card says of the socket
+pub record Says (groups : List Group) (s : Socket) (c : Card) : Type 0 where
+  pub name : s.owner.name ≡ c.name
+  pub kind : kind_of s.owner.state ≡ Some c.kind
+  pub is : card_as c.kind s.owner (extra_as c.kind groups s) ≡ c
+
+says_at : (groups : List Group) (s : Socket) (c : Card) (o : Option Kind) → kind_of s.owner.state ≡ o → option_map (λ (k : Kind). card_as k s.owner (extra_as k groups s)) o ≡ Some c → Says groups s c
+says_at groups s c None e h = absurd (cc)
+says_at groups s c (Some k) e h =
+    let is : card_as k s.owner (extra_as k groups s) ≡ c = some_same (card_as k s.owner (extra_as k groups s)) c h in
+    record {
+      name = ap (λ (d : Card). d.name) is;
+      kind = e ∙ ap (λ (d : Card). Some d.kind) is;
+      is = subst (λ (d : Card). card_as d.kind s.owner (extra_as d.kind groups s) ≡ d) is refl;
+    }
+
+-- the socket of a card of the list
+pub record OfSocket (groups : List Group) (sockets : List Socket) (c : Card) : Type 0 where
+  pub socket : Socket
+  pub within : In socket sockets
+  pub card : card_of groups socket ≡ Some c
+  pub says : Says groups socket c
+
+pub of_socket : (groups : List Group) (sockets : List Socket) (c : Card) → In c (cards_of groups sockets) → OfSocket groups sockets c
+of_socket groups sockets c i =
+    let m = made_in (card_of groups) c sockets i in
+    record { socket = m.item; within = m.within; card = m.is; says = says_at groups m.item c (kind_of m.item.owner.state) refl m.is }
+
+listening_kind : (st : State) (k : Kind) → is_listening st ≡ true → kind_of st ≡ Some k → k ≡ kinds.Listen
+listening_kind states.Listening k h e = sym (some_same kinds.Listen k e)
+listening_kind states.Full k h e = absurd (cc)
+listening_kind states.TimeWait k h e = absurd (cc)
+listening_kind states.Bound k h e = absurd (cc)
+listening_kind states.Unbound k h e = absurd (cc)
+
+a_kind : (st : State) → is_listening st ≡ true → kind_of st ≡ Some kinds.Listen
+a_kind states.Listening h = refl
+a_kind states.Full h = absurd (cc)
+a_kind states.TimeWait h = absurd (cc)
+a_kind states.Bound h = absurd (cc)
+a_kind states.Unbound h = absurd (cc)
+
+sharing_at : (b : Bool) (n : ℕ) → n ≡ cond {A = ℕ} b 1 0 → 1 ≤ n → b ≡ true
+sharing_at true n h l = refl
+sharing_at false n h l = absurd (omega (arith, h, l))
+
+mate_parts : (a b c d e f : Bool) → (a && b && c && d && e && f) ≡ true → (c ≡ true) × (d ≡ true) × (f ≡ true)
+mate_parts a b c d e f h =
+    let last = and_parts (a && b && c && d && e) f h in
+    let user = and_parts (a && b && c && d) e last.0 in
+    let dev = and_parts (a && b && c) d user.0 in
+    let port = and_parts (a && b) c dev.0 in
+    (port.1, dev.1, last.1)
+
+-- two owners at one end and device of a namespace
+record AtOneEnd (a b : Owner) : Type 0 where
+  net : a.net ≡ b.net
+  addr : a.addr ≡ b.addr
+  port : a.port ≡ b.port
+  dev : a.dev ≡ b.dev
+
+by_mates : (a : Owner) (s : Socket) → is_mate a s ≡ true → AtOneEnd a s.owner
+by_mates a s h =
+    let p = mate_parts (is_listening s.owner.state) (both_reuse_port a s.owner) (same_port a s.owner) (a.dev == s.owner.dev) (a.uid == s.owner.uid) (a.addr == s.owner.addr) h in
+    let port = and_parts (a.net == s.owner.net) (a.port == s.owner.port) p.0 in
+    record { net = eqb-true _ _ port.0; addr = eqb-true _ _ p.2; port = eqb-true _ _ port.1; dev = eqb-true _ _ p.1 }
+
+-- a listener's rank hangs on its end and device alone
+rank_of : (a : Card) (packet : Packet) → a.kind ≡ kinds.Listen → rank a packet ≡ listen_rank a packet
+unfolding rank
+rank_of a packet h = ap (λ k. rank_as k a packet) h
+
+at_end : Owner → Card
+at_end a = card_as kinds.Listen a 0
+
+listens_as : (a b : Owner) (packet : Packet) → AtOneEnd a b → listen_rank (at_end a) packet ≡ listen_rank (at_end b) packet
+unfolding at_end
+listens_as a b packet e =
+    ap (λ n. listen_rank (record (at_end a) { local = n }) packet) e.addr
+    ∙ ap (λ n. listen_rank (record (at_end a) { local = b.addr; lport = n }) packet) e.port
+    ∙ ap (λ n. listen_rank (record (at_end a) { local = b.addr; lport = b.port; dev = n }) packet) e.dev
+    ∙ ap (λ n. listen_rank (record (at_end a) { local = b.addr; lport = b.port; dev = b.dev; net = n }) packet) e.net
+
+rank_by : (groups : List Group) (s : Socket) (c : Card) (packet : Packet) → Says groups s c → is_listening s.owner.state ≡ true → rank c packet ≡ listen_rank (at_end s.owner) packet
+unfolding at_end
+rank_by groups s c packet says h =
+    rank_of c packet (listening_kind s.owner.state c.kind h says.kind)
+    ∙ ap (λ (d : Card). listen_rank d packet) (sym says.is)
+
+-- the card that a hash chooses among a group's members
+pub record Chosen (cards : List Card) (packet : Packet) (name least : ℕ) : Type 0 where
+  pub card : Card
+  pub found : find (λ (c : Card). c.name == name) cards ≡ Some card
+  pub within : In card cards
+  pub alike : rank card packet ≡ least
+
+found_if : {A : Type 0} (p : A → Bool) (y : A) (ys : List A) (b : Bool) → ((z : A) × (find p ys ≡ Some z)) → (z : A) × (cond b (Some y) (find p ys) ≡ Some z)
+found_if p y ys true f = (y, refl)
+found_if p y ys false f = f
+
+-- where an item passes one is found
+found_or : {A : Type 0} (p : A → Bool) (x : A) (xs : List A) → In x xs → p x ≡ true → (y : A) × (find p xs ≡ Some y)
+found_or p x [] i h = absurd i
+found_or p x (y ∷ ys) (inl e) h = (y, ap (λ (b : Bool). cond b (Some y) (find p ys)) (ap p e ∙ h))
+found_or p x (y ∷ ys) (inr i) h = found_if p y ys (p y) (found_or p x ys i h)
+
+module _ (flat : Flat) (sound : IsSound flat) where
+  abbrev cards : List Card
+  cards = cards_of flat.groups flat.sockets
+
+  -- who is in a group shares its end, and listens
+  shares : (s : Socket) (g : Group) → In s flat.sockets → In g flat.groups → has_member s.owner.name g ≡ true → is_sharing s ≡ true
+  shares s g i j h =
+      sharing_at (is_sharing s) (count_by (has_member s.owner.name) flat.groups) (each_in (IsInOneGroup flat.groups) s flat.sockets sound.grouped.sharing i)
+      (count_in (has_member s.owner.name) g flat.groups j h)
+
+  listens : (s : Socket) → is_sharing s ≡ true → is_listening s.owner.state ≡ true
+  listens s h = (and_parts (is_listening s.owner.state) s.owner.reuseport h).0
+
+  -- the cards of two of a group match alike
+  mates_alike : (c d : Card) (g : Group) (packet : Packet) → In c cards → In d cards → In g flat.groups → has_member c.name g ≡ true → has_member d.name g ≡ true → rank d packet ≡ rank c packet
+  mates_alike c d g packet i j k h l =
+      let s = of_socket flat.groups flat.sockets c i in
+      let t = of_socket flat.groups flat.sockets d j in
+      let first : has_member s.socket.owner.name g ≡ true = ap (λ (n : ℕ). has_member n g) s.says.name ∙ h in
+      let second : has_member t.socket.owner.name g ≡ true = ap (λ (n : ℕ). has_member n g) t.says.name ∙ l in
+      let shared_s : is_sharing s.socket ≡ true = shares s.socket g s.within k first in
+      let shared_t : is_sharing t.socket ≡ true = shares t.socket g t.within k second in
+      let both : are_together flat.groups s.socket.owner.name t.socket.owner.name ≡ true =
+      any_in (λ g. has_member s.socket.owner.name g && has_member t.socket.owner.name g) g flat.groups k (and_from _ _ first second) in
+      let other : are_together flat.groups t.socket.owner.name s.socket.owner.name ≡ true =
+      any_in (λ g. has_member t.socket.owner.name g && has_member s.socket.owner.name g) g flat.groups k (and_from _ _ second first) in
+      let from_s = rank_by flat.groups s.socket c packet s.says (listens s.socket shared_s) in
+      let from_t = rank_by flat.groups t.socket d packet t.says (listens t.socket shared_t) in
+      elim (pairs_in (GroupsAreOfMates flat.groups) s.socket t.socket flat.sockets sound.grouped.mates s.within t.within) [
+        | inl e ↦ from_t ∙ ap (λ (u : Socket). listen_rank (at_end u.owner) packet) (sym e) ∙ sym from_s
+        | inr (inl r) ↦ from_t ∙ sym (listens_as s.socket.owner t.socket.owner packet (by_mates s.socket.owner t.socket (sym (r shared_s shared_t) ∙ both))) ∙ sym from_s
+        | inr (inr r) ↦ from_t ∙ listens_as t.socket.owner s.socket.owner packet (by_mates t.socket.owner s.socket (sym (r shared_t shared_s) ∙ other)) ∙ sym from_s
+      ]
+
+  -- the socket of a member's name
+  record Named (name : ℕ) : Type 0 where
+    socket : Socket
+    within : In socket flat.sockets
+    name_is : socket.owner.name ≡ name
+
+  named_in : (g : Group) (name : ℕ) → In g flat.groups → In name g.members → Named name
+  named_in g name j i =
+      let is : IsGroupOf flat.header.shape.bind flat.sockets g = each_in (IsGroupOf flat.header.shape.bind flat.sockets) g flat.groups sound.grouped.each j in
+      let some = any_item (has_name name) flat.sockets (each_in (λ (k : ℕ). list_any (has_name k) flat.sockets ≡ true) name g.members is.known i) in
+      record { socket = some.item; within = some.within; name_is = eqb-true some.item.owner.name name some.passes }
+
+  member_has : (g : Group) (name : ℕ) → In name g.members → has_member name g ≡ true
+  member_has g name i = any_in (λ (m : ℕ). m == name) name g.members i (eq-eqb name name refl)
+
+  card_named : (g : Group) (name : ℕ) → In g flat.groups → In name g.members → (d : Card) × (find (λ (c : Card). c.name == name) cards ≡ Some d)
+  card_named g name j i =
+      let s = named_in g name j i in
+      let member : has_member s.socket.owner.name g ≡ true = ap (λ (n : ℕ). has_member n g) s.name_is ∙ member_has g name i in
+      let kind : kind_of s.socket.owner.state ≡ Some kinds.Listen = a_kind s.socket.owner.state (listens s.socket (shares s.socket g s.within j member)) in
+      let made : Card = card_as kinds.Listen s.socket.owner (extra_as kinds.Listen flat.groups s.socket) in
+      let is : card_of flat.groups s.socket ≡ Some made =
+      ap (λ (o : Option Kind). option_map (λ (k : Kind). card_as k s.socket.owner (extra_as k flat.groups s.socket)) o) kind in
+      found_or (λ (c : Card). c.name == name) made cards (comes_in (card_of flat.groups) s.socket made flat.sockets s.within is) (eq-eqb made.name name s.name_is)
+
+  -- the member that a hash chooses has a card, which matches as that of each other member does
+  pub chosen_card : (c : Card) (g : Group) (hash : ℕ) (packet : Packet) → hash < 2 ^ 32 → In c cards → In g flat.groups → has_member c.name g ≡ true → Chosen cards packet (chosen hash g) (rank c packet)
+  chosen_card c g hash packet fits i j h =
+      let is : IsGroupOf flat.header.shape.bind flat.sockets g = each_in (IsGroupOf flat.header.shape.bind flat.sockets) g flat.groups sound.grouped.each j in
+      let at : In (chosen hash g) g.members = place_in g.members (scale hash (length g.members)) 0 (scale_below hash (length g.members) fits is.some) in
+      let f = card_named g (chosen hash g) j at in
+      let name : f.0.name ≡ chosen hash g = eqb-true f.0.name (chosen hash g) (found_passes (λ (c : Card). c.name == chosen hash g) cards f.0 f.1) in
+      let within : In f.0 cards = found_in (λ (c : Card). c.name == chosen hash g) cards f.0 f.1 in
+      record {
+        card = f.0;
+        found = f.1;
+        within = within;
+        alike = mates_alike c f.0 g packet i within j h (ap (λ (n : ℕ). has_member n g) name ∙ member_has g (chosen hash g) at);
+      }

@@ -1,0 +1,11 @@
+-- Lemmas of this crate alone.
+pub mod Walk
+pub mod Own
+pub mod Counted
+pub mod Items
+pub mod Cards
+pub mod Best
+pub mod TextsRead
+pub mod FormsRead
+pub mod Orderly
+pub mod Printed

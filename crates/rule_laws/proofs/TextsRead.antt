@@ -1,0 +1,70 @@
+-- Two short texts are read, and what is written for one of them.
+use Rattle.std.proofs.Common.{ℕ, List, [], ◌∷◌, refl, arith, codes, inl}
+use Rattle.std.specs.Fmt.{digits}
+use Rattle.sock_card.specs.Conflict.{overlap, refuses}
+use Rattle.flat_list.specs.Step.{step}
+use Rattle.flat_list.specs.declared.command.Command.{Command}
+use Rattle.flat_list.specs.declared.command.Command.TheVariants as commands
+use Rattle.capture_reader.specs.Grammar.{nothing}
+use Rattle.sock_script.specs.declared.line.Line.TheVariants as lines
+use Rattle.sock_script.specs.Words.{words_of, lines_of}
+use Rattle.sock_script.specs.Grammar.{Draft, nothing_yet, script_of}
+use Rattle.rule_laws.specs.TextRows.{IsUnsaid, IsWritten, no_options}
+
+pub unsaid : IsUnsaid
+unfolding words_of lines_of
+unsaid = (record nothing_yet { bytes = 1 }, (record nothing_yet { bytes = 1 }, (lines.PassedOver, tt, refl), refl), refl)
+
+abbrev made : List (List Command) → ℕ → Draft
+made sections bytes = record nothing_yet { sections = sections; bytes = bytes }
+
+abbrev socket_a : Command
+socket_a = commands.Socket (codes "a") no_options
+
+abbrev socket_b : Command
+socket_b = commands.Socket (codes "b") no_options
+
+abbrev bind_a : Command
+bind_a = commands.Bind (codes "a") (record { addr = 0; port = 80 })
+
+abbrev bind_b : Command
+bind_b = commands.Bind (codes "b") (record { addr = 0x0A000001; port = 80 })
+
+abbrev whole : Draft
+whole = made ((socket_a ∷ socket_b ∷ bind_a ∷ bind_b ∷ []) ∷ []) 65
+
+pub written : IsWritten
+unfolding digits words_of lines_of step overlap refuses
+written = (
+  script_of whole,
+  nothing,
+  record {
+    script_is = (
+      whole,
+      (
+        made ([] ∷ []) 9,
+        (lines.Section 1, (refl, omega arith, omega arith), (refl, refl)),
+        (
+          made ((socket_a ∷ []) ∷ []) 18,
+          (lines.Command socket_a, (refl, (refl, tt, tt, tt)), (refl, refl)),
+          (
+            made ((socket_a ∷ socket_b ∷ []) ∷ []) 27,
+            (lines.Command socket_b, (refl, (refl, tt, tt, tt)), (refl, refl)),
+            (
+              made ((socket_a ∷ socket_b ∷ bind_a ∷ []) ∷ []) 45,
+              (lines.Command bind_a, (refl, (refl, (omega arith, omega arith))), (refl, refl)),
+              (
+                made ((socket_a ∷ socket_b ∷ bind_a ∷ bind_b ∷ []) ∷ []) 64,
+                (lines.Command bind_b, (refl, (refl, (omega arith, omega arith))), (refl, refl)),
+                (whole, (lines.PassedOver, tt, refl), refl),
+              ),
+            ),
+          ),
+        ),
+      ),
+      refl,
+    );
+    capture_is = inl (refl, refl);
+  },
+  refl,
+)

@@ -1,0 +1,9 @@
+-- What the laws of this crate cite.
+pub mod Finds
+pub mod Leaves
+pub mod Events
+pub mod Waits
+pub mod Rows
+pub mod TextRows
+pub mod Scripts
+pub mod Lines
