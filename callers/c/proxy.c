@@ -1,0 +1,136 @@
+/* The socket tables of a toy proxy: two threads accept connections and close them, and two look packets up meanwhile.
+ * What it prints is the same whichever thread comes first. */
+#include <errno.h>
+#include <pthread.h>
+#include <stdio.h>
+#include <stdlib.h>
+
+#include "../inet_tables.h"
+
+enum { CONNECTIONS = 500, PROXY = 0x0A000001, CLIENTS = 0xC0000200 };
+
+static struct inet_tables tables;
+/* A handle is at one call at a time. */
+static pthread_mutex_t turn = PTHREAD_MUTEX_INITIALIZER;
+
+static void must(int error, const char *what) {
+    if (error != 0) {
+        fprintf(stderr, "%s: errno %d\n", what, error);
+        exit(1);
+    }
+}
+
+static uint16_t port_of(uint32_t worker) {
+    return (uint16_t)(8000 + worker);
+}
+
+static uint32_t open_listener(uint32_t worker) {
+    uint32_t socket;
+    uint16_t bound;
+    must(inet_tables_socket(&tables, worker, 0, 0, 0, INET_REUSEADDR, &socket), "socket");
+    must(inet_tables_bind(&tables, worker, socket, PROXY, port_of(worker), &bound), "bind");
+    must(inet_tables_listen(&tables, worker, socket, &bound), "listen");
+    return socket;
+}
+
+struct accepter { uint32_t worker, listener, closed, waiting; };
+
+static void *accept_all(void *given) {
+    struct accepter *me = given;
+    for (uint32_t i = 0; i < CONNECTIONS; i++) {
+        uint32_t socket;
+        bool waits;
+        pthread_mutex_lock(&turn);
+        must(inet_tables_accept(&tables, me->worker, me->listener, CLIENTS + me->worker, (uint16_t)(1024 + i), PROXY,
+                                port_of(me->worker), &socket),
+             "accept");
+        pthread_mutex_unlock(&turn);
+        pthread_mutex_lock(&turn);
+        must(inet_tables_close(&tables, me->worker, socket, &waits), "close");
+        pthread_mutex_unlock(&turn);
+        me->closed++;
+        me->waiting += waits;
+    }
+    return NULL;
+}
+
+struct looker { uint32_t worker, found; };
+
+/* Each packet finds its connection, the TIME_WAIT of that, or, before both, the listener: always one of that worker. */
+static void *look_all(void *given) {
+    struct looker *me = given;
+    for (uint32_t i = 0; i < CONNECTIONS; i++) {
+        struct inet_sight sight;
+        pthread_mutex_lock(&turn);
+        must(inet_tables_look(&tables, CLIENTS + me->worker, (uint16_t)(1024 + i), PROXY, port_of(me->worker), 0, 0, &sight),
+             "look");
+        pthread_mutex_unlock(&turn);
+        me->found += sight.kind != INET_NONE && sight.worker == me->worker;
+    }
+    return NULL;
+}
+
+static void refusals(void) {
+    uint32_t socket;
+    uint16_t bound;
+    bool waits;
+    must(inet_tables_socket(&tables, 3, 0, 0, 0, 0, &socket), "socket");
+    printf("a port that is taken: %s\n",
+           inet_tables_bind(&tables, 3, socket, 0, port_of(1), &bound) == EADDRINUSE ? "EADDRINUSE" : "another errno");
+    printf("another worker's socket: %s\n",
+           inet_tables_close(&tables, 2, socket, &waits) == EBADF ? "EBADF" : "another errno");
+    printf("worker 65: %s\n", inet_tables_at(&tables, 65, 1) == EINVAL ? "EINVAL" : "another errno");
+    must(inet_tables_drop(&tables, 3, socket), "drop");
+}
+
+static void connect_out(void) {
+    uint32_t socket, addr;
+    uint16_t port;
+    must(inet_tables_socket(&tables, 3, 0, 0, 0, 0, &socket), "socket");
+    must(inet_tables_connect(&tables, 3, socket, PROXY, CLIENTS + 9, 443, &addr, &port), "connect");
+    printf("a connection out, from %u.%u.%u.%u: %s\n", addr >> 24, addr >> 16 & 255, addr >> 8 & 255, addr & 255,
+           port >= 32768 && port <= 60999 ? "a port of the range" : "another port");
+    printf("the same again: %s\n",
+           inet_tables_connect(&tables, 3, socket, PROXY, CLIENTS + 9, 443, &addr, &port) == EISCONN ? "EISCONN"
+                                                                                                     : "another errno");
+    must(inet_tables_drop(&tables, 3, socket), "drop");
+}
+
+static void finish(uint32_t worker) {
+    uint64_t count;
+    must(inet_tables_at(&tables, worker, 60), "at");
+    must(inet_tables_reap(&tables, worker, &count), "reap");
+    printf("worker %u: %llu TIME_WAITs are over after a minute\n", worker, (unsigned long long)count);
+}
+
+int main(void) {
+    struct inet_sizes sizes = {4096, 16, 256, 32, 7, 32768, 60999, false};
+    must(inet_tables_new(&tables, &sizes), "new");
+    printf("tables in the same handle again: %s\n",
+           inet_tables_new(&tables, &sizes) == EBUSY ? "EBUSY" : "another errno");
+    struct accepter accepters[2];
+    struct looker lookers[2];
+    pthread_t threads[4];
+    for (uint32_t i = 0; i < 2; i++) {
+        accepters[i] = (struct accepter){i + 1, open_listener(i + 1), 0, 0};
+        lookers[i] = (struct looker){i + 1, 0};
+    }
+    for (uint32_t i = 0; i < 2; i++) {
+        must(pthread_create(&threads[i], NULL, accept_all, &accepters[i]), "thread");
+        must(pthread_create(&threads[i + 2], NULL, look_all, &lookers[i]), "thread");
+    }
+    for (uint32_t i = 0; i < 4; i++)
+        must(pthread_join(threads[i], NULL), "join");
+    for (uint32_t i = 0; i < 2; i++)
+        printf("worker %u: %u connections closed, %u in TIME_WAIT; %u of %d packets found a socket of its own\n", i + 1,
+               accepters[i].closed, accepters[i].waiting, lookers[i].found, CONNECTIONS);
+    refusals();
+    connect_out();
+    finish(1);
+    finish(2);
+    inet_tables_free(&tables);
+    struct inet_sight sight;
+    printf("a lookup when the tables are gone: %s\n",
+           inet_tables_look(&tables, 1, 1, 1, 1, 0, 0, &sight) == EBADF ? "EBADF" : "another errno");
+    return 0;
+}

@@ -1,0 +1,78 @@
+/* Linux's TCP socket tables for IPv4, as one list of sockets. docs/CALLERS.md has a table of the calls and their errnos.
+ *
+ * Proved of the library behind this header: each call answers, writes and leaves what the definitions in specs/ say, for
+ * every handle and all numbers; it is safe, and returns. Taken on trust: that this header says of each call what the
+ * library has, that malloc, realloc and free do their work, and that the caller keeps these rules:
+ *
+ * - A handle is all zero before inet_tables_new, is changed by these calls alone, and isn't copied.
+ * - A handle is at one call at a time. Threads that share one put a lock of their own round each call.
+ * - No pointer is null, and no two arguments of a call point to the same bytes.
+ * - No call is made from a signal handler, or in a forked child of a process with threads.
+ *
+ * Addresses and ports are numbers in the processor's own order: 10.0.0.1 is 0x0A000001. Each call but inet_tables_free
+ * answers 0 or a number of <errno.h>. What it writes says nothing where the answer isn't 0, but a found socket and the
+ * ports are then 0.
+ */
+#ifndef INET_TABLES_H
+#define INET_TABLES_H
+
+#include <stdbool.h>
+#include <stdint.h>
+
+#ifdef __cplusplus
+extern "C" {
+#endif
+
+struct inet_tables { void *at; };
+
+struct inet_sizes {
+    uint32_t slots;  /* 1 to 65536: hashed sockets at a time */
+    uint32_t bind;   /* bind buckets, a power of two to 256 */
+    uint32_t hash;   /* established buckets, a power of two to 65536 */
+    uint32_t listen; /* listening buckets, a power of two to 4096 */
+    uint32_t seed;   /* of searches and hashes */
+    uint16_t low;    /* ports of searches: from low, at least 1, */
+    uint16_t high;   /* to high, an even number of them */
+    bool twreuse;    /* tcp_tw_reuse */
+};
+
+enum { INET_REUSEADDR = 1, INET_REUSEPORT = 2, INET_BIND_ADDRESS_NO_PORT = 4 };
+
+enum { INET_NONE = 0, INET_CONNECTED = 1, INET_TIME_WAIT = 2, INET_LISTENER = 3 };
+
+struct inet_sight {
+    uint32_t kind;   /* INET_NONE and so on */
+    uint32_t worker; /* whose socket it is */
+    uint32_t socket; /* its number, also after it was closed */
+};
+
+/* Makes tables in a handle that has none, and gives them up. */
+int inet_tables_new(struct inet_tables *tables, const struct inet_sizes *sizes);
+void inet_tables_free(struct inet_tables *tables);
+
+/* Workers are 1 to 64: each has its own sockets, moment and searches. A socket's number is never given twice. */
+int inet_tables_socket(struct inet_tables *tables, uint32_t worker, uint8_t net, uint32_t uid, uint16_t dev,
+                       uint32_t flags, uint32_t *socket);
+int inet_tables_bind(struct inet_tables *tables, uint32_t worker, uint32_t socket, uint32_t addr, uint16_t port,
+                     uint16_t *bound);
+int inet_tables_listen(struct inet_tables *tables, uint32_t worker, uint32_t socket, uint16_t *bound);
+int inet_tables_connect(struct inet_tables *tables, uint32_t worker, uint32_t socket, uint32_t from, uint32_t to_addr,
+                        uint16_t to_port, uint32_t *addr, uint16_t *port);
+int inet_tables_accept(struct inet_tables *tables, uint32_t worker, uint32_t listener, uint32_t from_addr,
+                       uint16_t from_port, uint32_t at_addr, uint16_t at_port, uint32_t *socket);
+int inet_tables_close(struct inet_tables *tables, uint32_t worker, uint32_t socket, bool *waits);
+int inet_tables_drop(struct inet_tables *tables, uint32_t worker, uint32_t socket);
+
+/* The worker's moment in seconds, and the end of its TIME_WAITs that have lasted 60. */
+int inet_tables_at(struct inet_tables *tables, uint32_t worker, uint32_t moment);
+int inet_tables_reap(struct inet_tables *tables, uint32_t worker, uint64_t *count);
+
+/* Which socket takes a packet. Takes no memory, and changes nothing. */
+int inet_tables_look(struct inet_tables *tables, uint32_t src, uint16_t sport, uint32_t dst, uint16_t dport,
+                     uint16_t dev, uint8_t net, struct inet_sight *sight);
+
+#ifdef __cplusplus
+}
+#endif
+
+#endif

@@ -1,0 +1,36 @@
+//! What a lookup tells of the socket that it finds.
+
+ghost use Rattle.std.specs.Prelude.{◌≡◌, length};
+ghost use Rattle.flat_calls.specs.Numbers as numbers;
+ghost use Rattle.flat_calls.specs.Sights as spec;
+
+use sock_card::Kind;
+
+/// A socket that a packet finds: what it is (1 connected, 2 in TIME_WAIT, 3 a listener), and by which numbers it goes.
+#[derive(Clone, Copy, Debug, PartialEq, Eq)]
+pub struct Sight {
+    pub kind: u32,
+    pub worker: u32,
+    pub socket: u32,
+}
+
+/// What kind of socket it is, as a number.
+pub fn kind_of(kind: Kind) -> u32
+    ensures { result ≡ spec.kind_of kind }
+{
+    match kind {
+        Kind::Full => 1,
+        Kind::TimeWait => 2,
+        Kind::Listen => 3,
+    }
+}
+
+/// The number whose label that is; 0 where it is no number's.
+pub fn number_of(label: &[u8]) -> u32
+    ensures { length label.now ≡ 4 → numbers.label_of result ≡ label.now }
+{
+    match label {
+        [a, b, c, d] => u32::from_be_bytes([*a, *b, *c, *d]),
+        _ => 0,
+    }
+}

@@ -1,0 +1,99 @@
+//! The tables, whose sockets have numbers.
+
+ghost use Rattle.std.specs.Prelude.{◌≡◌, ◌-◌, ◌<◌, ◌≤◌, ◌^◌};
+ghost use Rattle.flat_list.specs.Flat as flats;
+ghost use Rattle.flat_calls.specs.Calls.{Called};
+ghost use Rattle.flat_calls.specs.Sights.{Sees, Finds};
+
+use crate::outcome::Outcome;
+use crate::sight::{Sight, kind_of, number_of};
+use flat_list::{Command, Flat, Header};
+use sock_card::{Card, Packet};
+use std::alloc::Global;
+use std::marker::Model;
+
+/// How many calls tables reply to.
+pub const LAST_CALL: u32 = 0xFF_FFFE;
+
+/// One list of sockets with numbers, and how many calls were replied to.
+#[derive(Drop)]
+pub struct Tables {
+    flat: Flat,
+    calls: u32,
+}
+
+impl Model for Tables {
+    ghost use Rattle.flat_calls.specs.Calls.{Numbered, AreCounted};
+
+    ghost Value = { Numbered };
+
+    ghost view = { λ t. record { flat = t.flat; calls = t.calls } };
+
+    ghost invariant = { λ t. AreCounted t.flat t.calls };
+}
+
+impl Tables {
+    /// No sockets yet, and no memory taken.
+    pub fn new(alloc: Global, header: &Header) -> Self
+        ensures { result ≡ record { flat = flats.new_flat header.now; calls = 0 } }
+    {
+        Tables {
+            flat: Flat::new(alloc, header),
+            calls: 0,
+        }
+    }
+
+    /// The number of the next socket: no socket had it before.
+    pub fn next_number(&self) -> u32
+        ensures { result ≡ self.now.calls }
+    {
+        self.calls
+    }
+
+    fn carry_out(&mut self, worker: u32, command: &Command) -> Outcome
+        requires worker { (1 ≤ worker) × (worker ≤ 64) }
+        requires left { self.old.calls < 2 ^ 24 - 2 }
+        ensures { Called self.old self.new worker command.now result }
+    {
+        match self.flat.apply(worker, command) {
+            Ok(reply) => {
+                self.calls += 1;
+                Outcome::Replied(reply)
+            }
+            Err(_) => Outcome::NoMemory,
+        }
+    }
+
+    /// Carries out a command of the worker of that number, and tells what comes of it.
+    ///
+    /// It goes through the whole list, and a search for a port does so for each port that it tries.
+    pub fn call(&mut self, worker: u32, command: &Command) -> Outcome
+        ensures { Called self.old self.new worker command.now result }
+    {
+        if worker == 0 || worker > 64 {
+            return Outcome::NoWorker;
+        }
+        if self.calls >= LAST_CALL {
+            return Outcome::NoNumber;
+        }
+        self.carry_out(worker, command)
+    }
+
+    fn sight_of(&self, card: &Card) -> Sight
+        ensures { Sees self.now card.now result }
+    {
+        Sight {
+            kind: kind_of(card.kind),
+            worker: card.name >> 24,
+            socket: number_of(self.flat.label_of(card.name)),
+        }
+    }
+
+    /// Which socket takes a packet. It goes through the whole list, and takes no memory.
+    pub fn look(&self, packet: &Packet) -> Option<Sight>
+        ensures { Finds self.now packet.now result }
+    {
+        let card = self.flat.look(packet)?;
+        Some(self.sight_of(&card))
+    }
+}

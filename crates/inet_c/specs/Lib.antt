@@ -1,0 +1,6 @@
+-- What the contracts of this crate cite.
+pub mod Owned
+pub mod Calls
+pub mod Made
+pub mod Seen
+pub mod Words
