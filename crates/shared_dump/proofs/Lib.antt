@@ -1,0 +1,4 @@
+pub mod Cards
+pub mod Seeings
+pub mod Lives
+pub mod Dumped

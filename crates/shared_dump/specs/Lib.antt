@@ -1,0 +1,4 @@
+pub mod Rows
+pub mod Sightings
+pub mod Books
+pub mod Dumps
