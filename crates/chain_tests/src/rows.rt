@@ -9,12 +9,13 @@ ghost use Rattle.table_rule.specs.Calls.{IsOf, view, layout_of};
 ghost use Rattle.table_rule.specs.Words.{bucket_count};
 ghost use Rattle.chain_tests.specs.Ready.{IsReady, CanLook, CanUnhash};
 
+use crate::sockets::{close, shut};
 use chain_book::{PacketAnswer, Replace, Shape, home};
 use null_reader::Still;
 use nulls_chain::Place;
 use reuseport_group::{GroupPasses, Groups, member_of};
 use shared_demux::{Lookups, look_packet};
-use shared_sockets::{InsertEnd, Newcomer, add, insert, remove, remove_tw, time_wait};
+use shared_sockets::{InsertEnd, Newcomer, add, insert, remove_tw};
 use sock_card::{Card, Kind, Packet};
 use std::sync::Wait;
 use std::test::Fail;
@@ -220,24 +221,6 @@ fn looker_of<'a>(
     }
 }
 
-/// A socket closes, and whether its TIME_WAIT found a slot.
-fn close<R: Wait>(
-    rt: &R,
-    chains: &Chains,
-    pass: &mut Pass,
-    place: Place,
-    card: &Card,
-    rest: u32,
-) -> bool
-    requires home { home (layout_of chains.now).shape (layout_of chains.now).seed card.now ≡ place.bucket }
-    requires waits { card.now.kind ≡ kinds.TimeWait }
-    requires place { CanUnhash chains.now pass.old place }
-    requires ready { IsReady chains.now pass.old (rest + 2) }
-    ensures ready { IsReady chains.now pass.new rest }
-{
-    time_wait(chains, rt, pass, place, 0, card).is_ok()
-}
-
 /// A TIME_WAIT is over, and whether it was there.
 fn reap<R: Wait>(
     rt: &R,
@@ -252,15 +235,6 @@ fn reap<R: Wait>(
     ensures ready { IsReady chains.now pass.new rest }
 {
     remove_tw(chains, rt, pass, bucket, name).is_some()
-}
-
-/// A listener goes.
-fn shut<R: Wait>(rt: &R, chains: &Chains, pass: &mut Pass, place: Place, rest: u32)
-    requires place { CanUnhash chains.now pass.old place }
-    requires ready { IsReady chains.now pass.old (rest + 1) }
-    ensures ready { IsReady chains.now pass.new rest }
-{
-    remove(chains, rt, pass, place);
 }
 
 /// What came of two newcomers, whom a packet found then, and whether a TIME_WAIT was left.

@@ -130,7 +130,7 @@ fn come<R: Wait>(
 }
 
 /// A socket closes: whether it leaves a TIME_WAIT, as it does where a slot is free.
-fn close<R: Wait>(
+pub fn close<R: Wait>(
     rt: &R,
     chains: &Chains,
     pass: &mut Pass,
@@ -183,7 +183,7 @@ fn open<R: Wait>(
 }
 
 /// And it goes.
-fn shut<R: Wait>(rt: &R, chains: &Chains, pass: &mut Pass, place: Place, rest: u32)
+pub fn shut<R: Wait>(rt: &R, chains: &Chains, pass: &mut Pass, place: Place, rest: u32)
     requires place { CanUnhash chains.now pass.old place }
     requires ready { IsReady chains.now pass.old (rest + 1) }
     ensures ready { IsReady chains.now pass.new rest }
