@@ -10,13 +10,14 @@
  * - No call is made from a signal handler, or in a forked child of a process with threads.
  *
  * Addresses and ports are numbers in the processor's own order: 10.0.0.1 is 0x0A000001. Each call but inet_tables_free
- * answers 0 or a number of <errno.h>. What it writes says nothing where the answer isn't 0, but a found socket and the
- * ports are then 0.
+ * answers 0 or a number of <errno.h>. What it writes says nothing where the answer isn't 0, but a found socket, the
+ * ports and the count of a list are then 0.
  */
 #ifndef INET_TABLES_H
 #define INET_TABLES_H
 
 #include <stdbool.h>
+#include <stddef.h>
 #include <stdint.h>
 
 #ifdef __cplusplus
@@ -46,6 +47,18 @@ struct inet_sight {
     uint32_t socket; /* its number, also after it was closed */
 };
 
+struct inet_item {
+    uint32_t kind;      /* INET_CONNECTED and so on */
+    uint32_t worker;    /* whose socket it is */
+    uint32_t socket;    /* its number, also after it was closed */
+    uint32_t addr;      /* its own end, with port */
+    uint32_t peer_addr; /* the other's, with peer_port: all 0 of a listener */
+    uint16_t port;
+    uint16_t peer_port;
+    uint16_t dev;       /* 0 where it names no device */
+    uint8_t net;
+};
+
 /* Makes tables in a handle that has none, and gives them up. */
 int inet_tables_new(struct inet_tables *tables, const struct inet_sizes *sizes);
 void inet_tables_free(struct inet_tables *tables);
@@ -70,6 +83,10 @@ int inet_tables_reap(struct inet_tables *tables, uint32_t worker, uint64_t *coun
 /* Which socket takes a packet. Takes no memory, and changes nothing. */
 int inet_tables_look(struct inet_tables *tables, uint32_t src, uint16_t sport, uint32_t dst, uint16_t dport,
                      uint16_t dev, uint8_t net, struct inet_sight *sight);
+
+/* All sockets that packets can find, by worker, and those of one worker in the order in which they were made. The first
+ * of them are written to items, as many as there is room for; the count is of all. Changes nothing. */
+int inet_tables_list(struct inet_tables *tables, struct inet_item *items, size_t room, uint64_t *count);
 
 #ifdef __cplusplus
 }

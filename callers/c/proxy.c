@@ -103,6 +103,18 @@ static void finish(uint32_t worker) {
     printf("worker %u: %llu TIME_WAITs are over after a minute\n", worker, (unsigned long long)count);
 }
 
+/* What is left are the two listeners. */
+static void list(void) {
+    struct inet_item items[2];
+    uint64_t count;
+    must(inet_tables_list(&tables, items, 2, &count), "list");
+    printf("%llu sockets are left\n", (unsigned long long)count);
+    for (uint64_t i = 0; i < count && i < 2; i++)
+        printf("worker %u: a %s at %u.%u.%u.%u:%u\n", items[i].worker,
+               items[i].kind == INET_LISTENER ? "listener" : "connection", items[i].addr >> 24,
+               items[i].addr >> 16 & 255, items[i].addr >> 8 & 255, items[i].addr & 255, items[i].port);
+}
+
 int main(void) {
     struct inet_sizes sizes = {4096, 16, 256, 32, 7, 32768, 60999, false};
     must(inet_tables_new(&tables, &sizes), "new");
@@ -128,6 +140,7 @@ int main(void) {
     connect_out();
     finish(1);
     finish(2);
+    list();
     inet_tables_free(&tables);
     struct inet_sight sight;
     printf("a lookup when the tables are gone: %s\n",

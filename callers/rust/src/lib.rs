@@ -43,6 +43,20 @@ struct RawSight {
     socket: u32,
 }
 
+#[repr(C)]
+#[derive(Clone, Copy, Default)]
+struct RawItem {
+    kind: u32,
+    worker: u32,
+    socket: u32,
+    addr: u32,
+    peer_addr: u32,
+    port: u16,
+    peer_port: u16,
+    dev: u16,
+    net: u8,
+}
+
 // These fit the exports of crates/inet_c/src; nothing compares them.
 unsafe extern "C" {
     fn inet_tables_new(tables: &mut Handle, sizes: &Sizes) -> i32;
@@ -84,6 +98,7 @@ unsafe extern "C" {
         net: u8,
         sight: &mut RawSight,
     ) -> i32;
+    fn inet_tables_list(t: &mut Handle, items: *mut RawItem, room: usize, count: &mut u64) -> i32;
 }
 
 /// A refusal: a number of errno(3).
@@ -126,6 +141,40 @@ pub enum Sight {
     Connected(Socket),
     TimeWait(Socket),
     Listener(Socket),
+}
+
+impl Sight {
+    fn of(kind: u32, worker: u32, number: u32) -> Option<Self> {
+        let socket = Socket { worker, number };
+        match kind {
+            1 => Some(Sight::Connected(socket)),
+            2 => Some(Sight::TimeWait(socket)),
+            3 => Some(Sight::Listener(socket)),
+            _ => None,
+        }
+    }
+}
+
+/// A socket of a list: its own end and the other's, 0.0.0.0:0 for a listener, its device (0 for none) and its namespace.
+#[derive(Clone, Copy, Debug, PartialEq, Eq)]
+pub struct Item {
+    pub sight: Sight,
+    pub own: SocketAddrV4,
+    pub peer: SocketAddrV4,
+    pub dev: u16,
+    pub net: u8,
+}
+
+impl Item {
+    fn of(raw: &RawItem) -> Option<Self> {
+        Some(Item {
+            sight: Sight::of(raw.kind, raw.worker, raw.socket)?,
+            own: SocketAddrV4::new(Ipv4Addr::from_bits(raw.addr), raw.port),
+            peer: SocketAddrV4::new(Ipv4Addr::from_bits(raw.peer_addr), raw.peer_port),
+            dev: raw.dev,
+            net: raw.net,
+        })
+    }
 }
 
 /// One list of sockets.
@@ -263,13 +312,22 @@ impl Tables {
             )
         };
         debug_assert_eq!(errno, 0, "the handle has tables");
-        let socket = Socket { worker: sight.worker, number: sight.socket };
-        match sight.kind {
-            1 => Some(Sight::Connected(socket)),
-            2 => Some(Sight::TimeWait(socket)),
-            3 => Some(Sight::Listener(socket)),
-            _ => None,
-        }
+        Sight::of(sight.kind, sight.worker, sight.socket)
+    }
+
+    fn list_into(&mut self, items: &mut [RawItem]) -> Result<usize, Errno> {
+        let mut count = 0;
+        // SAFETY: see above; the pointer and the room are of one slice.
+        done(unsafe { inet_tables_list(&mut self.0, items.as_mut_ptr(), items.len(), &mut count) })?;
+        Ok(count as usize)
+    }
+
+    /// All sockets that packets can find, by their workers, and those of one in the order in which they were made.
+    pub fn list(&mut self) -> Result<Vec<Item>, Errno> {
+        let count = self.list_into(&mut [])?;
+        let mut items = vec![RawItem::default(); count];
+        self.list_into(&mut items)?;
+        Ok(items.iter().filter_map(Item::of).collect())
     }
 }
 

@@ -69,6 +69,20 @@ fn connect_out(tables: &mut Tables) -> Result<(), Errno> {
     tables.drop_socket(socket)
 }
 
+/// What is left are the two listeners.
+fn list(tables: &mut Tables) -> Result<(), Errno> {
+    let items = tables.list()?;
+    println!("{} sockets are left", items.len());
+    for item in items {
+        let (kind, socket) = match item.sight {
+            Sight::Listener(socket) => ("listener", socket),
+            Sight::Connected(socket) | Sight::TimeWait(socket) => ("connection", socket),
+        };
+        println!("worker {}: a {kind} at {}", socket.worker, item.own);
+    }
+    Ok(())
+}
+
 fn main() -> Result<(), Errno> {
     let tables = Mutex::new(Tables::new(&Sizes { slots: 4096, seed: 7, ..Sizes::default() })?);
     let listeners = [open_listener(&tables, 1)?, open_listener(&tables, 2)?];
@@ -101,5 +115,5 @@ fn main() -> Result<(), Errno> {
         tables.at(worker, 60)?;
         println!("worker {worker}: {} TIME_WAITs are over after a minute", tables.reap(worker)?);
     }
-    Ok(())
+    list(&mut tables)
 }

@@ -10,7 +10,7 @@ use Rattle.capture_reader.specs.declared.block.Block.{Block}
 use Rattle.capture_reader.specs.declared.block.Block.TheVariants as blocks
 use Rattle.capture_reader.specs.Numbers.{number, AreBytes}
 use Rattle.capture_reader.specs.Header.{link_number, IsLinkNumber, IsWhole, section_type, BeginsWithSection}
-use Rattle.capture_reader.specs.Sections.{Section}
+use Rattle.capture_reader.specs.Sections.{BlockSection}
 use Rattle.capture_reader.specs.Blocks.{IsInterfaceBlock, IsPacketBlock, IsOtherBlock, interface_type, packet_type, stored_count, padded, item_on, IsBlock, after, BeginsWithBlock, HasBlock, EndsBlocks, AreBlocks}
 use Rattle.capture_reader.proofs.Heads.{one_link}
 use Rattle.capture_reader.proofs.Wholes.{number_in, fits_rest, one_whole, some_whole}
@@ -31,7 +31,7 @@ KindIs order bytes (blocks.Packet item) = number order 4 0 bytes ≡ packet_type
 KindIs order bytes blocks.Other =
     (number orders.Big 4 0 bytes ≢ section_type) × (number order 4 0 bytes ≢ interface_type) × (number order 4 0 bytes ≢ packet_type)
 
-module _ (dev net : ℕ) (section : Section) where
+module _ (dev net : ℕ) (section : BlockSection) where
   -- an interface is of one link type
   one_interface : (block : List ℕ) (a b : Option Link) → IsInterfaceBlock section.order block a → IsInterfaceBlock section.order block b → a ≡ b
   one_interface block a b h k = one_link_type (number section.order 2 8 block) a b h.link_type k.link_type
@@ -138,7 +138,7 @@ module _ (dev net : ℕ) (section : Section) where
   ends_as (b ∷ bytes) false e none = ((λ f. omega (arith, ap length f)), none)
 
 -- bytes are blocks of one list, and are cut or not
-pub one_reading : (dev net : ℕ) (section : Section) (bytes : List ℕ) (xs ys : List Block) (a b : Bool) → AreBytes bytes → AreBlocks dev net section bytes xs a → AreBlocks dev net section bytes ys b → (xs ≡ ys) × (a ≡ b)
+pub one_reading : (dev net : ℕ) (section : BlockSection) (bytes : List ℕ) (xs ys : List Block) (a b : Bool) → AreBytes bytes → AreBlocks dev net section bytes xs a → AreBlocks dev net section bytes ys b → (xs ≡ ys) × (a ≡ b)
 one_reading dev net section bytes [] [] a b fits h k = (refl, one_end dev net section bytes a b h k)
 one_reading dev net section bytes [] (y ∷ ys) a b fits h k = absurd (no_block dev net section bytes a h (y, k.0, k.1))
 one_reading dev net section bytes (x ∷ xs) [] a b fits h k = absurd (no_block dev net section bytes b k (x, h.0, h.1))
@@ -170,7 +170,7 @@ there_or_not : {A : Type 0} (o : Option A) → ((x : A) × (o ≡ Some x)) ⊎ (
 there_or_not None = inr refl
 there_or_not (Some x) = inl (x, refl)
 
-module _ (section : Section) (block : List ℕ) (whole : IsWhole section.order block) where
+module _ (section : BlockSection) (block : List ℕ) (whole : IsWhole section.order block) where
   -- whether a whole block tells of an interface
   is_interface : ((b : Option Link) × IsInterfaceBlock section.order block b) ⊎ ((b : Option Link) → IsInterfaceBlock section.order block b → ⊥)
   is_interface =
@@ -213,7 +213,7 @@ module _ (section : Section) (block : List ℕ) (whole : IsWhole section.order b
         ]
       ]
 
-module _ (dev net : ℕ) (section : Section) (bytes : List ℕ) (no_section : (o : Order) (rest : List ℕ) → BeginsWithSection bytes o rest → ⊥) where
+module _ (dev net : ℕ) (section : BlockSection) (bytes : List ℕ) (no_section : (o : Order) (rest : List ℕ) → BeginsWithSection bytes o rest → ⊥) where
   -- bytes that begin with no section, and with no whole block, begin with no valid one
   pub none_whole : ((whole rest : List ℕ) → bytes ≡ whole ++ rest → IsWhole section.order whole → ⊥) → HasBlock dev net section bytes → ⊥
   none_whole none (blocks.Section o, rest, h) = no_section o rest h
@@ -275,7 +275,7 @@ module _ (dev net : ℕ) (section : Section) (bytes : List ℕ) (no_section : (o
       ]
 
 -- bytes begin with a valid block, or with none
-some_block : (dev net : ℕ) (section : Section) (bytes : List ℕ) → HasBlock dev net section bytes ⊎ (HasBlock dev net section bytes → ⊥)
+some_block : (dev net : ℕ) (section : BlockSection) (bytes : List ℕ) → HasBlock dev net section bytes ⊎ (HasBlock dev net section bytes → ⊥)
 some_block dev net section bytes =
     elim (some_section bytes) [
       | inl s ↦ inl (blocks.Section s.0, s.1, s.2)
@@ -283,7 +283,7 @@ some_block dev net section bytes =
     ]
 
 -- bytes of which so many are left are some blocks, and an end
-some_reading : (fuel : ℕ) (dev net : ℕ) (section : Section) (bytes : List ℕ) → length bytes ≤ fuel → (blocks : List Block) × ((cut : Bool) × AreBlocks dev net section bytes blocks cut)
+some_reading : (fuel : ℕ) (dev net : ℕ) (section : BlockSection) (bytes : List ℕ) → length bytes ≤ fuel → (blocks : List Block) × ((cut : Bool) × AreBlocks dev net section bytes blocks cut)
 some_reading fuel dev net section [] h = ([], (false, refl))
 some_reading zero dev net section (b ∷ bytes) h = absurd (omega arith)
 some_reading (suc fuel) dev net section (b ∷ bytes) h =
@@ -297,5 +297,5 @@ some_reading (suc fuel) dev net section (b ∷ bytes) h =
     ]
 
 -- bytes are some blocks, and an end
-pub some_blocks : (dev net : ℕ) (section : Section) (bytes : List ℕ) → (blocks : List Block) × ((cut : Bool) × AreBlocks dev net section bytes blocks cut)
+pub some_blocks : (dev net : ℕ) (section : BlockSection) (bytes : List ℕ) → (blocks : List Block) × ((cut : Bool) × AreBlocks dev net section bytes blocks cut)
 some_blocks dev net section bytes = some_reading (length bytes) dev net section bytes (omega arith)

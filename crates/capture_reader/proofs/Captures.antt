@@ -7,7 +7,7 @@ use Rattle.capture_reader.specs.Header.{BeginsWithHeader, BeginsWithSection}
 use Rattle.capture_reader.specs.Sections.{begun}
 use Rattle.capture_reader.specs.Blocks.{AreBlocks, items_of}
 use Rattle.capture_reader.specs.Captures.{Capture}
-use Rattle.capture_reader.specs.Grammar.{AreRecords, IsOfRecords, IsOfBlocks, IsDetermined, TakesEach, TakesNoOther}
+use Rattle.capture_reader.specs.Grammar.{AreRecords, IsOfRecords, IsOfBlocks, IsOneCapture, TakesEach, TakesNoOther}
 use Rattle.capture_reader.proofs.Heads.{one_header}
 use Rattle.capture_reader.proofs.Sections.{front, no_magic, one_section}
 use Rattle.capture_reader.proofs.Records.{one_reading, same_capture, some_records}
@@ -46,7 +46,7 @@ module _ (dev net : ℕ) (bytes : List ℕ) where
       same_capture a b (h.5 ∙ ap items_of one.0 ∙ sym k.5) one.1
 
 -- a text of bytes is one capture at most
-pub one_capture : IsDetermined
+pub one_capture : IsOneCapture
 one_capture dev net bytes a b fits (inl h) (inl k) = h.1 ∙ sym k.1
 one_capture dev net bytes a b fits (inl h) (inr (inl k)) = absurd (no_header bytes k.0 h.0 k.1)
 one_capture dev net bytes a b fits (inl h) (inr (inr k)) = absurd (no_section bytes k.0 k.1 h.0 k.3)

@@ -10,7 +10,7 @@ use Rattle.capture_reader.specs.declared.packet.Item.TheVariants as items
 use Rattle.capture_reader.specs.Numbers.{number}
 use Rattle.capture_reader.specs.Header.{link_number, IsWhole, IsSectionBlock, BeginsWithSection, section_type}
 use Rattle.capture_reader.specs.Items.{ip_item, frame_item}
-use Rattle.capture_reader.specs.Sections.{Section}
+use Rattle.capture_reader.specs.Sections.{BlockSection}
 use Rattle.capture_reader.specs.Blocks.{IsInterfaceBlock, IsPacketBlock, IsOtherBlock, IsBlock, HasBlock, AreBlocks, items_of}
 use Rattle.capture_reader.specs.Grammar.{IsCapture}
 use Rattle.capture_reader.specs.Rows.{datagram, frame, tagged_frame, arp_frame, found, stored_record, of_records, section_block, interface_block, packet_block, simple_block, big_section_block, big_interface_block, big_packet_block, with_interface, cut_after, RowsHold}
@@ -19,10 +19,10 @@ use Rattle.capture_reader.proofs.Sections.{front}
 use Rattle.capture_reader.proofs.Blocks.{none_whole, none_valid}
 
 -- sections with the lowest byte first, and the highest
-abbrev little : List (Option Link) → Section
+abbrev little : List (Option Link) → BlockSection
 little links = record { order = orders.Little; links = links }
 
-abbrev big : List (Option Link) → Section
+abbrev big : List (Option Link) → BlockSection
 big links = record { order = orders.Big; links = links }
 
 abbrev ethernet : Option Link
@@ -108,7 +108,7 @@ no_section : (bytes : List ℕ) → number orders.Big 4 0 bytes ≢ section_type
 no_section bytes other o rest h = other (front bytes o rest h).kind
 
 -- a block of the type of packets that stores none isn't valid
-no_packet : (section : Section) (block : List ℕ) → number orders.Big 4 0 block ≢ section_type → number section.order 4 0 block ≡ 6
+no_packet : (section : BlockSection) (block : List ℕ) → number orders.Big 4 0 block ≢ section_type → number section.order 4 0 block ≡ 6
     → ((l : Option Link) (s : List ℕ) → IsPacketBlock section block l s → ⊥) → (b : Block) → IsBlock 3 2 section block b → ⊥
 no_packet section block other kind none (blocks.Section o) h = other h.kind
 no_packet section block other kind none (blocks.Interface l) h = omega (arith, kind, h.kind)

@@ -11,7 +11,7 @@ use Rattle.capture_reader.specs.declared.block.Block.TheVariants as blocks
 use Rattle.capture_reader.specs.Numbers.{number}
 use Rattle.capture_reader.specs.Header.{IsLinkNumber, IsWhole, section_type, IsSectionBlock}
 use Rattle.capture_reader.specs.Items.{item_of}
-use Rattle.capture_reader.specs.Sections.{Section, begun}
+use Rattle.capture_reader.specs.Sections.{BlockSection, begun}
 
 -- the type of a block that tells of an interface, and of one that stores a packet
 abbrev pub interface_type : ℕ
@@ -36,7 +36,7 @@ abbrev pub padded : ℕ → ℕ
 padded n = (n + 3) / 4 * 4
 
 -- The block stores a packet: the number of its interface is below the section's count, and there is room for its bytes.
-pub record IsPacketBlock (section : Section) (block : List ℕ) (link : Option Link) (stored : List ℕ) : Type 0 where
+pub record IsPacketBlock (section : BlockSection) (block : List ℕ) (link : Option Link) (stored : List ℕ) : Type 0 where
   pub whole : IsWhole section.order block
   pub least : 32 ≤ length block
   pub kind : number section.order 4 0 block ≡ packet_type
@@ -57,7 +57,7 @@ item_on (Some link) dev net stored = item_of link dev net stored
 item_on None dev net stored = items.Skip
 
 -- the bytes are a valid block in that section, and say this
-abbrev pub IsBlock : ℕ → ℕ → Section → List ℕ → Block → Type 0
+abbrev pub IsBlock : ℕ → ℕ → BlockSection → List ℕ → Block → Type 0
 IsBlock dev net section bytes (blocks.Section order) = IsSectionBlock order bytes
 IsBlock dev net section bytes (blocks.Interface link) = IsInterfaceBlock section.order bytes link
 IsBlock dev net section bytes (blocks.Packet item) =
@@ -65,28 +65,28 @@ IsBlock dev net section bytes (blocks.Packet item) =
 IsBlock dev net section bytes blocks.Other = IsOtherBlock section.order bytes
 
 -- the section that the next block is in: another one begins, or this one has one more interface
-abbrev pub after : Section → Block → Section
+abbrev pub after : BlockSection → Block → BlockSection
 after section (blocks.Section order) = begun order
 after section (blocks.Interface link) = record section { links = section.links ++ link ∷ [] }
 after section (blocks.Packet item) = section
 after section blocks.Other = section
 
 -- the bytes begin with a valid block that says this, and the rest follows
-abbrev pub BeginsWithBlock : ℕ → ℕ → Section → List ℕ → Block → List ℕ → Type 0
+abbrev pub BeginsWithBlock : ℕ → ℕ → BlockSection → List ℕ → Block → List ℕ → Type 0
 BeginsWithBlock dev net section bytes block rest =
     (whole : List ℕ) × (bytes ≡ whole ++ rest) × IsBlock dev net section whole block
 
 -- a valid block stands at the front
-abbrev pub HasBlock : ℕ → ℕ → Section → List ℕ → Type 0
+abbrev pub HasBlock : ℕ → ℕ → BlockSection → List ℕ → Type 0
 HasBlock dev net section bytes = (block : Block) × (rest : List ℕ) × BeginsWithBlock dev net section bytes block rest
 
 -- what is left after the last valid block, by whether the capture is cut there
-abbrev pub EndsBlocks : ℕ → ℕ → Section → List ℕ → Bool → Type 0
+abbrev pub EndsBlocks : ℕ → ℕ → BlockSection → List ℕ → Bool → Type 0
 EndsBlocks dev net section bytes false = bytes ≡ []
 EndsBlocks dev net section bytes true = (bytes ≢ []) × ¬ (HasBlock dev net section bytes)
 
 -- The bytes are valid blocks, one after the other, and the end.
-abbrev pub AreBlocks : ℕ → ℕ → Section → List ℕ → List Block → Bool → Type 0
+abbrev pub AreBlocks : ℕ → ℕ → BlockSection → List ℕ → List Block → Bool → Type 0
 AreBlocks dev net section bytes [] cut = EndsBlocks dev net section bytes cut
 AreBlocks dev net section bytes (block ∷ blocks) cut =
     (rest : List ℕ) × BeginsWithBlock dev net section bytes block rest

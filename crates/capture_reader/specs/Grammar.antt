@@ -63,8 +63,8 @@ IsCapture dev net bytes capture =
     ((bytes ≡ []) × (capture ≡ nothing)) ⊎ (IsOfRecords dev net bytes capture ⊎ IsOfBlocks dev net bytes capture)
 
 -- a text is one capture at most
-abbrev pub IsDetermined : Type 0
-IsDetermined =
+abbrev pub IsOneCapture : Type 0
+IsOneCapture =
     (dev net : ℕ) (bytes : List ℕ) (a b : Capture) → AreBytes bytes → IsCapture dev net bytes a → IsCapture dev net bytes b → a ≡ b
 
 -- a text without bytes is a capture, and so is each that begins with a header, whatever follows

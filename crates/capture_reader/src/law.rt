@@ -8,7 +8,7 @@ use crate::packet::Item;
 
 /// A text is one capture at most, for one device.
 pub fn one_capture()
-    ensures { law.IsDetermined }
+    ensures { law.IsOneCapture }
 {}
 
 /// A text is a capture exactly where it has no bytes or begins with a header.

@@ -1,5 +1,5 @@
 ghost use Rattle.std.specs.Prelude.{◌≡◌, ◌++◌, [], ◌∷◌, Some, slice_get, OnOk};
-ghost use Rattle.capture_reader.specs.Sections.{Section as State, begun};
+ghost use Rattle.capture_reader.specs.Sections.{BlockSection as State, begun};
 
 use crate::header::Link;
 use crate::number::Order;
@@ -14,7 +14,7 @@ pub struct Section {
 }
 
 impl Model for Section {
-    ghost use Rattle.capture_reader.specs.Sections.{Section as State};
+    ghost use Rattle.capture_reader.specs.Sections.{BlockSection as State};
 
     ghost Value = { State };
 

@@ -4,3 +4,4 @@ pub mod Commands
 pub mod Calls
 pub mod Errnos
 pub mod Sights
+pub mod Items

@@ -12,12 +12,14 @@
 #![tactic(auto)]
 
 pub mod commands;
+pub mod item;
 pub mod outcome;
 pub mod sight;
 pub mod tables;
 #[cfg(test)]
 mod tests;
 
+pub use item::Item;
 pub use outcome::Outcome;
 pub use sight::Sight;
 pub use tables::Tables;

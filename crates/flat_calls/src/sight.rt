@@ -27,7 +27,8 @@ pub fn kind_of(kind: Kind) -> u32
 
 /// The number whose label that is; 0 where it is no number's.
 pub fn number_of(label: &[u8]) -> u32
-    ensures { length label.now ≡ 4 → numbers.label_of result ≡ label.now }
+    ensures number { result ≡ numbers.number_of label.now }
+    ensures label { length label.now ≡ 4 → numbers.label_of result ≡ label.now }
 {
     match label {
         [a, b, c, d] => u32::from_be_bytes([*a, *b, *c, *d]),

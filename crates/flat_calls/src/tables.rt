@@ -1,15 +1,17 @@
 //! The tables, whose sockets have numbers.
 
-ghost use Rattle.std.specs.Prelude.{◌≡◌, ◌-◌, ◌<◌, ◌≤◌, ◌^◌};
+ghost use Rattle.std.specs.Prelude.{◌≡◌, ◌-◌, ◌<◌, ◌≤◌, ◌^◌, IfOk};
 ghost use Rattle.flat_list.specs.Flat as flats;
 ghost use Rattle.flat_calls.specs.Calls.{Called};
+ghost use Rattle.flat_calls.specs.Items as told;
 ghost use Rattle.flat_calls.specs.Sights.{Sees, Finds};
 
+use crate::item::Item;
 use crate::outcome::Outcome;
 use crate::sight::{Sight, kind_of, number_of};
 use flat_list::{Command, Flat, Header};
 use sock_card::{Card, Packet};
-use std::alloc::Global;
+use std::alloc::{AllocError, Global};
 use std::marker::Model;
 
 /// How many calls tables reply to.
@@ -95,5 +97,29 @@ impl Tables {
     {
         let card = self.flat.look(packet)?;
         Some(self.sight_of(&card))
+    }
+
+    fn item_of(&self, card: &Card) -> Item
+        ensures { result ≡ told.item_of self.now card.now }
+    {
+        Item {
+            kind: kind_of(card.kind),
+            worker: card.name >> 24,
+            socket: number_of(self.flat.label_of(card.name)),
+            addr: card.local,
+            peer_addr: card.remote,
+            port: card.lport,
+            peer_port: card.rport,
+            dev: card.dev,
+            net: card.net,
+        }
+    }
+
+    /// All sockets that lookups find, by their workers, and those of one in the order in which they were made.
+    pub fn list(&self, alloc: Global) -> Result<Vec<Item>, AllocError>
+        ensures { IfOk result (λ list. list.items ≡ told.items_of self.now) }
+    {
+        let cards = self.flat.list()?;
+        cards.iter().map(|c| self.item_of(c)).collect(alloc)
     }
 }

@@ -84,6 +84,13 @@ fn a_connection_is_found_by_its_numbers_closed_and_reaped(rt: HostRuntime) -> Re
     assert_eq!(rt; tables.look(&PACKET), Some(sight));
     let closed = tables.call(2, &commands::close(child));
     assert_eq!(rt; leaves_time_wait(closed), true);
+    let listed: Vec<(u32, u32)> = tables
+        .list(rt.alloc())?
+        .iter()
+        .map(|i| (i.kind, i.socket))
+        .collect(rt.alloc())?;
+    let wanted = [(3, listener), (2, child)];
+    assert_eq!(rt; listed.as_slice(), wanted.as_slice());
     tables.call(2, &Command::At { moment: 60 });
     assert_eq!(rt; count_of(tables.call(2, &Command::Reap)), 1);
     let sight = Sight {

@@ -18,7 +18,7 @@ use Rattle.flat_list.specs.Outcome.{added, removed, with_new_label, Outcome, unc
 use Rattle.flat_list.specs.Sections.{moment_of, at_moment, with_moment, with_given, with_drawn, past_word, next_name, GivesOneAtMost, KeepsOthers, Section, section_of, labels_of, new_section, put_section, has_number, with_label}
 use Rattle.flat_list.specs.Sockets.{is_refused, has_twin}
 use Rattle.flat_list.specs.Groups.{Group}
-use Rattle.flat_list.specs.Connect.{connected, end_of, replacing, is_taken_in, connect, connect_as, connect_from, connect_found, connect_search, connect_socket, connected_by_search, suits_connect, child_of, accept, accept_as}
+use Rattle.flat_list.specs.Connect.{connected_socket, end_of, replacing, is_taken_in, connect, connect_as, connect_from, connect_found, connect_search, connect_socket, connected_by_search, suits_connect, child_of, accept, accept_as}
 use Rattle.flat_list.specs.Owned.{source_of, is_no_end, is_no_accept}
 use Rattle.flat_list.specs.Step.{drop, step, at_end, at_port, at_address, bind, bind_any, bind_given, bind_found, bind_search, bind_socket, search_bind, listen, listens_in, listen_as, groups_with, listen_bound, listen_found, listen_socket, waiting, close, close_full, close_socket, at, reap}
 
@@ -192,7 +192,7 @@ listen_keeps_all flat n (Some s) = listen_keeps flat n s s.owner.state
 connect_from_keeps : (flat : Flat) (n : ℕ) (s : Socket) (to : End) (source : Option ℕ) → Keeps flat (connect_from flat n s to source)
 connect_from_keeps flat n s to None = λ m. refl
 connect_from_keeps flat n s to (Some source) =
-    let new : Socket = connected s source to in
+    let new : Socket = connected_socket s source to in
     cond_both (is_taken_in flat n new) (unchanged flat replies.Eaddrnotavail) (connect_as flat new) (Keeps flat) (λ _ m. refl) (λ _. connect_as_keeps flat flat new (λ m. refl))
 
 connect_search_keeps : (flat : Flat) (n : ℕ) (s : Socket) (to : End) (source : Option ℕ) → Keeps flat (connect_search flat n s to source)
@@ -273,6 +273,7 @@ gives_at_one flat n (commands.At moment) = gives_of n flat (at flat n moment) (a
 gives_at_one flat n commands.Reap = gives_of n flat (reap flat n) (λ m. refl)
 gives_at_one flat n (commands.Look query) = keeps_at n flat flat (λ m. refl)
 gives_at_one flat n (commands.Packets count) = keeps_at n flat flat (λ m. refl)
+gives_at_one flat n commands.Dump = keeps_at n flat flat (λ m. refl)
 
 -- what a command does to labels: one more at most in each section, and none in others than its own
 pub record LabelsStay (n : ℕ) (old new : List Section) : Type 0 where

@@ -17,7 +17,7 @@ use Rattle.flat_list.specs.declared.socket.Socket.{Socket}
 use Rattle.flat_list.specs.Groups.{Group}
 use Rattle.flat_list.specs.Look.{extra_as, card_of, cards_of, is_best, best_rank}
 use Rattle.flat_list.specs.Owned.{card_as}
-use Rattle.flat_list.specs.Sockets.{same_tuple, is_owner, kind_of}
+use Rattle.flat_list.specs.Sockets.{have_one_tuple, is_owner, kind_of}
 use Rattle.flat_list.specs.Sound.{NamesDiffer, AgreeAsOwners, TuplesDiffer, holds_tuple, IsItsOwn, GroupsAreOfMates, are_together, FindsOneOrOneGroup}
 
 -- a socket's card, with the socket's state
@@ -111,7 +111,7 @@ same_ends a b packet h g = grind (arith, nat_tests)
 
 never_have_one_tuple : (groups : List Group) (x y : Socket) (a b : Card) (packet : Packet) → Apart groups x y → HasCard x a → HasCard y b → HaveTuple a b packet → ⊥
 never_have_one_tuple groups x y a b packet apart mine other both =
-    both_ways (same_tuple x.owner y.owner) (apart.tuples (mine.holds both.first) (other.holds both.second))
+    both_ways (have_one_tuple x.owner y.owner) (apart.tuples (mine.holds both.first) (other.holds both.second))
     (rw (
       ap (λ (c : Card). c.net) mine.made,
       ap (λ (c : Card). c.net) other.made,

@@ -8,7 +8,7 @@ use Rattle.flat_list.specs.declared.socket.Socket.{Socket}
 use Rattle.flat_list.specs.declared.command.End.{End}
 use Rattle.flat_list.specs.declared.command.Command.TheVariants as commands
 use Rattle.flat_list.specs.declared.command.Reply.TheVariants as replies
-use Rattle.flat_list.specs.Connect.{connected, end_of, replacing, is_taken_in, connect, connect_as, connect_from, connect_found, connect_search, connect_socket, connected_by_search, suits_connect, child_of, accept, accept_as}
+use Rattle.flat_list.specs.Connect.{connected_socket, end_of, replacing, is_taken_in, connect, connect_as, connect_from, connect_found, connect_search, connect_socket, connected_by_search, suits_connect, child_of, accept, accept_as}
 use Rattle.flat_list.specs.Flat.{Flat}
 use Rattle.flat_list.specs.Groups.{Group}
 use Rattle.flat_list.specs.Outcome.{Outcome, unchanged, changed, added, removed, with_new_label, open_socket, has_slot, no_slot, draw, Found, search_port}
@@ -83,7 +83,7 @@ connect_as_keeps first flat new same =
 connect_from_keeps : (flat : Flat) (n : ℕ) (s : Socket) (to : End) (source : Option ℕ) → Keeps flat (connect_from flat n s to source)
 connect_from_keeps flat n s to None = λ _. itself flat
 connect_from_keeps flat n s to (Some source) =
-    let new : Socket = connected s source to in
+    let new : Socket = connected_socket s source to in
     cond_both (is_taken_in flat n new) (unchanged flat replies.Eaddrnotavail) (connect_as flat new) (Keeps flat) (λ _ _. itself flat) (λ _. connect_as_keeps flat flat new (itself flat))
 
 connect_found_keeps : (first : Flat) (found : Found) (s : Socket) (source : ℕ) (to : End) (o : Option ℕ) → SameSockets first found.flat → Keeps first (connect_found found s source to o)
@@ -156,3 +156,4 @@ refusal_keeps flat n (commands.At moment) h = at_keeps_all flat n moment h
 refusal_keeps flat n commands.Reap h = absurd (both_ways false refl h)
 refusal_keeps flat n (commands.Look query) h = itself flat
 refusal_keeps flat n (commands.Packets count) h = itself flat
+refusal_keeps flat n commands.Dump h = itself flat

@@ -14,7 +14,7 @@ use Rattle.flat_list.specs.Outcome.{added, removed, with_new_label, Outcome, unc
 use Rattle.flat_list.specs.Sections.{moment_of, at_moment, with_moment, past_word, next_name, Section, section_of, put_section, has_number, with_label}
 use Rattle.flat_list.specs.Sockets.{is_refused, has_twin}
 use Rattle.flat_list.specs.Groups.{Group}
-use Rattle.flat_list.specs.Connect.{connected, end_of, replacing, is_taken_in, connect, connect_as, connect_from, connect_found, connect_search, connect_socket, connected_by_search, suits_connect, child_of, accept, accept_as}
+use Rattle.flat_list.specs.Connect.{connected_socket, end_of, replacing, is_taken_in, connect, connect_as, connect_from, connect_found, connect_search, connect_socket, connected_by_search, suits_connect, child_of, accept, accept_as}
 use Rattle.flat_list.specs.Owned.{source_of, is_no_end, is_no_accept}
 use Rattle.flat_list.specs.Step.{drop, step, at_end, at_port, at_address, bind, bind_any, bind_given, bind_found, bind_search, bind_socket, search_bind, listen, listens_in, listen_as, groups_with, listen_bound, listen_found, listen_socket, waiting, close, close_socket, at}
 use Rattle.flat_list.proofs.LabelsGrow.{numbered}
@@ -107,7 +107,7 @@ module _ (n : ℕ) (flat : Flat) where
   connect_from_stays : (s : Socket) (to : End) (source : Option ℕ) → Stay n flat (connect_from flat n s to source)
   connect_from_stays s to None = same n flat
   connect_from_stays s to (Some source) =
-      let new : Socket = connected s source to in
+      let new : Socket = connected_socket s source to in
       cond_both (is_taken_in flat n new) (unchanged flat replies.Eaddrnotavail) (connect_as flat new) (Stay n flat) (λ _. same n flat) (λ _. connect_as_stays n flat flat new (same n flat))
 
   connect_search_stays : (s : Socket) (to : End) (source : Option ℕ) → Stay n flat (connect_search flat n s to source)
@@ -176,3 +176,4 @@ step_stays flat n (commands.At moment) = at_all n flat moment
 step_stays flat n commands.Reap = same n flat
 step_stays flat n (commands.Look query) = same n flat
 step_stays flat n (commands.Packets count) = same n flat
+step_stays flat n commands.Dump = same n flat

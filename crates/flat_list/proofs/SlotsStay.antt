@@ -12,7 +12,7 @@ use Rattle.flat_list.specs.declared.command.Command.TheVariants as commands
 use Rattle.flat_list.specs.declared.command.Reply.{Reply}
 use Rattle.flat_list.specs.declared.command.Reply.TheVariants as replies
 use Rattle.flat_list.specs.declared.owned.Options.{Options}
-use Rattle.flat_list.specs.Connect.{connected, end_of, replacing, is_taken_in, connect, connect_as, connect_from, connect_found, connect_search, connect_socket, connected_by_search, suits_connect, child_of, accept, accept_as}
+use Rattle.flat_list.specs.Connect.{connected_socket, end_of, replacing, is_taken_in, connect, connect_as, connect_from, connect_found, connect_search, connect_socket, connected_by_search, suits_connect, child_of, accept, accept_as}
 use Rattle.flat_list.specs.Flat.{Flat}
 use Rattle.flat_list.specs.Groups.{Group}
 use Rattle.flat_list.specs.Outcome.{Outcome, unchanged, changed, added, removed, with_new_label, open_socket, has_slot, no_slot, draw, Found, search_port}
@@ -191,7 +191,7 @@ connect_as_fits flat new is =
 connect_from_fits : (flat : Flat) (n : ℕ) (s : Socket) (to : End) (source : Option ℕ) → Fitting flat → Fits (connect_from flat n s to source)
 connect_from_fits flat n s to None is = is.fits
 connect_from_fits flat n s to (Some source) is =
-    let new : Socket = connected s source to in
+    let new : Socket = connected_socket s source to in
     cond_both (is_taken_in flat n new) (unchanged flat replies.Eaddrnotavail) (connect_as flat new) Fits (λ _. is.fits) (λ _. connect_as_fits flat new is)
 
 connect_found_fits : (found : Found) (s : Socket) (source : ℕ) (to : End) (o : Option ℕ) → Fitting found.flat → Fits (connect_found found s source to o)
@@ -297,3 +297,4 @@ slots_stay flat n (commands.At moment) sound fits = at_fits flat n moment (recor
 slots_stay flat n commands.Reap sound fits = reap_fits flat n (record { names = sound.names; fits = fits })
 slots_stay flat n (commands.Look query) sound fits = fits
 slots_stay flat n (commands.Packets count) sound fits = fits
+slots_stay flat n commands.Dump sound fits = fits

@@ -23,7 +23,7 @@ use Rattle.flat_list.specs.declared.command.Reply.TheVariants as replies
 use Rattle.flat_list.specs.declared.socket.Socket.{Socket}
 use Rattle.flat_list.specs.declared.owned.Options.{Options}
 use Rattle.flat_list.specs.Groups.{Group, has_member, bucket_of, is_used, free_number, is_full_group, join, join_group, with_group}
-use Rattle.flat_list.specs.Connect.{replacing, is_taken_in, connected, connected_by_search, end_of, connect_as, connect_from, connect_found, connect_search, suits_connect, connect_socket, connect, child_of, accept_as, accept}
+use Rattle.flat_list.specs.Connect.{replacing, is_taken_in, connected_socket, connected_by_search, end_of, connect_as, connect_from, connect_found, connect_search, suits_connect, connect_socket, connect, child_of, accept_as, accept}
 use Rattle.flat_list.specs.Flat.{Flat, new_flat}
 use Rattle.flat_list.specs.Outcome.{Outcome, unchanged, changed, added, removed, with_new_label, open_socket, has_slot, no_slot, Found, search_port}
 use Rattle.flat_list.specs.Owned.{source_of, is_no_end, is_no_accept}
@@ -31,7 +31,7 @@ use Rattle.sock_card.specs.Became.{as_listener}
 use Rattle.sock_card.specs.TimeWait.{expired}
 use Rattle.flat_list.specs.Run.{Issued, is_of, after}
 use Rattle.flat_list.specs.Sections.{Section, labels_of, name_in, next_name, with_given, moment_of, with_moment}
-use Rattle.flat_list.specs.Sockets.{same_tuple, waits_at, gives_way, without_waiting, is_full, has_twin, is_mate, mate_of, is_expired, put, is_owner, is_other_owner, is_refused, is_overlapped, is_claimed, has_name, open_named}
+use Rattle.flat_list.specs.Sockets.{have_one_tuple, waits_at, gives_way, without_waiting, is_full, has_twin, is_mate, mate_of, is_expired, put, is_owner, is_other_owner, is_refused, is_overlapped, is_claimed, has_name, open_named}
 use Rattle.flat_list.specs.Sound.{NamesDiffer, IsGiven, AgreeAsOwners, TuplesDiffer, holds_tuple, IsItsOwn, IsAwakeIfNamed, is_sharing, IsInOneGroup, AreGroupsOf, IsSound, StartsSound, StaysSound, RunsSound}
 use Rattle.flat_list.specs.Step.{step, socket, drop, close, close_socket, at, reap, waiting, groups_with, listens_in, listen_as, new_socket, at_end, at_port, suits_bind, search_bind, at_address, bind, bind_any, bind_given, bind_found, bind_search, bind_socket, listening, listen, listen_bound, listen_found, listen_socket}
 use Rattle.flat_list.proofs.GivenNames.{next_is_given, next_is_new, stay_given}
@@ -58,7 +58,7 @@ names_swap a b h e = h (sym e)
 owners_swap : (a b : Socket) → AgreeAsOwners a b → AgreeAsOwners b a
 owners_swap a b h p q = agrees_both_ways b.owner a.owner ∙ h q p
 
-tuples_either_way : (a b : Owner) → same_tuple a b ≡ same_tuple b a
+tuples_either_way : (a b : Owner) → have_one_tuple a b ≡ have_one_tuple b a
 tuples_either_way a b = rw (same_either_way a.net b.net, same_either_way a.addr b.addr, same_either_way a.port b.port, same_either_way a.remote b.remote, same_either_way a.rport b.rport) refl
 
 tuples_swap : (a b : Socket) → TuplesDiffer a b → TuplesDiffer b a
@@ -483,11 +483,11 @@ no_holder states.Listening same full waits holds = absurd (true≢false (sym hol
 -- once the TIME_WAITs of its four-tuple are gone, who has no twin shares its four-tuple with none
 tuple_is_new : (new : Socket) (flat : Flat) → has_twin new.owner flat.sockets ≡ false → Each (λ x. TuplesDiffer new x) (replacing flat new.owner).sockets
 tuple_is_new new flat free =
-    let twin : Socket → Bool = λ x. is_full x.owner.state && same_tuple new.owner x.owner in
+    let twin : Socket → Bool = λ x. is_full x.owner.state && have_one_tuple new.owner x.owner in
     let NoTwin : Socket → Type 0 = λ x. twin x ≡ false in
     each_filter_kept (λ x. TuplesDiffer new x) (λ x. not (waits_at new.owner x)) flat.sockets
     (each_weaken NoTwin (λ x. not (waits_at new.owner x) ≡ true → TuplesDiffer new x) flat.sockets
-    (λ x full kept p q. no_holder x.owner.state (same_tuple new.owner x.owner) full (not_true (waits_at new.owner x) kept) q)
+    (λ x full kept p q. no_holder x.owner.state (have_one_tuple new.owner x.owner) full (not_true (waits_at new.owner x) kept) q)
     (each_unless_any twin flat.sockets free))
 
 -- the sockets but the TIME_WAITs of a four-tuple
@@ -500,7 +500,7 @@ waiter_is_quiet states.TimeWait same shares h = refl
 
 replacing_sound : (flat : Flat) (a : Owner) → IsSound flat → IsSound (replacing flat a)
 replacing_sound flat a sound =
-    gone_sound flat (λ s. not (waits_at a s)) (λ x. waiter_is_quiet x.owner.state (same_tuple a x.owner) x.owner.reuseport) sound
+    gone_sound flat (λ s. not (waits_at a s)) (λ x. waiter_is_quiet x.owner.state (have_one_tuple a x.owner) x.owner.reuseport) sound
 
 -- each socket is the open one, or agrees with it
 with_open : (flat : Flat) (s : Socket) → IsSound flat → IsOpen flat s → Each (λ x. (x ≡ s) ⊎ AgreeAsOwners s x) flat.sockets
@@ -517,9 +517,9 @@ agrees_as_new : (flat : Flat) (s new : Socket) → Narrows new.owner s.owner →
 agrees_as_new flat s new narrow owns name x (inl e) differ p q = absurd (differ (name ∙ sym (ap (λ (y : Socket). y.owner.name) e)))
 agrees_as_new flat s new narrow owns name x (inr h) differ p q = agrees_where_narrowed new.owner s.owner x.owner narrow (h owns q)
 
-connect_fits : (flat : Flat) (s : Socket) (source : ℕ) (to : End) → s.owner.state ≡ states.Bound → ((s.owner.addr == 0) || (s.owner.addr == source)) ≡ true → IsSound flat → IsOpen flat s → Each (λ x. TuplesDiffer (connected s source to) x) flat.sockets → Fits flat (connected s source to)
+connect_fits : (flat : Flat) (s : Socket) (source : ℕ) (to : End) → s.owner.state ≡ states.Bound → ((s.owner.addr == 0) || (s.owner.addr == source)) ≡ true → IsSound flat → IsOpen flat s → Each (λ x. TuplesDiffer (connected_socket s source to) x) flat.sockets → Fits flat (connected_socket s source to)
 connect_fits flat s source to bound narrows sound at new_tuple =
-    let new : Socket = connected s source to in
+    let new : Socket = connected_socket s source to in
     let given : IsGiven flat.sections s = of_open (IsGiven flat.sections) flat s at sound.given in
     let narrow : Narrows new.owner s.owner = record {
       port = refl;
@@ -569,9 +569,9 @@ full_sound flat new sound connects =
     cond_both (not (has_slot flat)) (no_slot flat) (changed (replacing flat new.owner) new (replies.End (end_of new))) Sound (λ _. sound)
     (λ _. changed_sound (replacing flat new.owner) new (replies.End (end_of new)) (replacing_sound flat new.owner sound) connects.fits connects.quiet)
 
-bound_connects : (flat : Flat) (s : Socket) (source : ℕ) (to : End) → s.owner.state ≡ states.Bound → ((s.owner.addr == 0) || (s.owner.addr == source)) ≡ true → IsSound flat → IsOpen flat s → has_twin (connected s source to).owner flat.sockets ≡ false → Connects flat (connected s source to)
+bound_connects : (flat : Flat) (s : Socket) (source : ℕ) (to : End) → s.owner.state ≡ states.Bound → ((s.owner.addr == 0) || (s.owner.addr == source)) ≡ true → IsSound flat → IsOpen flat s → has_twin (connected_socket s source to).owner flat.sockets ≡ false → Connects flat (connected_socket s source to)
 bound_connects flat s source to bound narrows sound at free =
-    let new : Socket = connected s source to in
+    let new : Socket = connected_socket s source to in
     let cleared : Flat = replacing flat new.owner in
     let kept : IsSound cleared = replacing_sound flat new.owner sound in
     let still : IsOpen cleared s = replaced_open flat new.owner s (ap is_time_wait bound) at in
@@ -590,7 +590,7 @@ not_taken flat n s free =
 connect_from_sound : (flat : Flat) (n : ℕ) (s : Socket) (to : End) (source : Option ℕ) → s.owner.state ≡ states.Bound → ((k : ℕ) → source ≡ Some k → ((s.owner.addr == 0) || (s.owner.addr == k)) ≡ true) → IsSound flat → IsOpen flat s → Sound (connect_from flat n s to source)
 connect_from_sound flat n s to None bound narrows sound at = sound
 connect_from_sound flat n s to (Some source) bound narrows sound at =
-    let new : Socket = connected s source to in
+    let new : Socket = connected_socket s source to in
     cond_both (is_taken_in flat n new) (unchanged flat replies.Eaddrnotavail) (connect_as flat new) Sound
     (λ _. sound)
     (λ free. full_sound flat new sound (bound_connects flat s source to bound (narrows source refl) sound at (not_taken flat n new free)))
@@ -787,7 +787,7 @@ any_or_itself : (a : ℕ) → ((a == 0) || (a == a)) ≡ true
 any_or_itself a = grind (arith, nat_tests)
 
 -- another than the open socket keeps apart from it
-other_tuple : (s new x : Socket) → new.owner.name ≡ s.owner.name → same_tuple new.owner x.owner ≡ same_tuple s.owner x.owner → holds_tuple s.owner.state ≡ true → (x ≡ s) ⊎ TuplesDiffer s x → NamesDiffer new x → TuplesDiffer new x
+other_tuple : (s new x : Socket) → new.owner.name ≡ s.owner.name → have_one_tuple new.owner x.owner ≡ have_one_tuple s.owner x.owner → holds_tuple s.owner.state ≡ true → (x ≡ s) ⊎ TuplesDiffer s x → NamesDiffer new x → TuplesDiffer new x
 other_tuple s new x name same holds (inl e) differ p q = absurd (differ (name ∙ sym (ap (λ (y : Socket). y.owner.name) e)))
 other_tuple s new x name same holds (inr h) differ p q = same ∙ h holds q
 
@@ -868,6 +868,7 @@ stays flat n (commands.At moment) room sound = at_sound flat n moment sound
 stays flat n commands.Reap room sound = reap_sound flat n sound
 stays flat n (commands.Look query) room sound = sound
 stays flat n (commands.Packets count) room sound = sound
+stays flat n commands.Dump room sound = sound
 
 -- how many labels each section can still give
 abbrev HasRoom : Flat → List Issued → Type 0

@@ -18,8 +18,8 @@ use Rattle.flat_list.specs.Sections.{moment_of}
 use Rattle.flat_list.specs.Sockets.{has_twin, is_claimed, is_taken, without_waiting}
 
 -- the socket, connected from that source to that end
-abbrev pub connected : Socket → ℕ → End → Socket
-connected s source to = record s { owner = connected_to s.owner source to }
+abbrev pub connected_socket : Socket → ℕ → End → Socket
+connected_socket s source to = record s { owner = connected_to s.owner source to }
 
 -- a socket's own end
 abbrev pub end_of : Socket → End
@@ -43,7 +43,7 @@ is_taken_in flat n s =
 abbrev pub connect_from : Flat → ℕ → Socket → End → Option ℕ → Outcome
 connect_from flat n s to None = unchanged flat replies.Einval
 connect_from flat n s to (Some source) =
-    let new = connected s source to in
+    let new = connected_socket s source to in
     if is_taken_in flat n new then unchanged flat replies.Eaddrnotavail else connect_as flat new
 
 -- `connect` of a Bound socket

@@ -7,6 +7,7 @@ pub mod Owned
 pub mod Sockets
 pub mod Outcome
 pub mod Look
+pub mod Listed
 pub mod Connect
 pub mod Step
 pub mod Run

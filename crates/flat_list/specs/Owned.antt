@@ -89,8 +89,8 @@ card_as kind a extra =
     }
 
 -- the packet that the words of `look` tell of
-abbrev pub packet_of : Query → Packet
-packet_of q =
+abbrev pub packet_asked : Query → Packet
+packet_asked q =
     record {
       src = q.from.addr;
       sport = q.from.port;

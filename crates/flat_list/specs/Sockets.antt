@@ -67,20 +67,20 @@ is_full states.Full = true
 is_full _ = false
 
 -- an owner's four-tuple
-abbrev pub tuple_of : Owner → Tuple
-tuple_of a = record { net = a.net; local = a.addr; lport = a.port; remote = a.remote; rport = a.rport }
+abbrev pub owner_tuple : Owner → Tuple
+owner_tuple a = record { net = a.net; local = a.addr; lport = a.port; remote = a.remote; rport = a.rport }
 
 -- the four-tuple of one is that of the other
-abbrev pub same_tuple : Owner → Owner → Bool
-same_tuple a b = tuples.same_tuple (tuple_of a) (tuple_of b)
+abbrev pub have_one_tuple : Owner → Owner → Bool
+have_one_tuple a b = tuples.same_tuple (owner_tuple a) (owner_tuple b)
 
 -- some full socket has the owner's four-tuple
 abbrev pub has_twin : Owner → List Socket → Bool
-has_twin a sockets = list_any (λ s. is_full s.owner.state && same_tuple a s.owner) sockets
+has_twin a sockets = list_any (λ s. is_full s.owner.state && have_one_tuple a s.owner) sockets
 
 -- a TIME_WAIT of the owner's four-tuple
 abbrev pub waits_at : Owner → Socket → Bool
-waits_at a s = is_time_wait s.owner.state && same_tuple a s.owner
+waits_at a s = is_time_wait s.owner.state && have_one_tuple a s.owner
 
 -- `connect` may take the place of that TIME_WAIT at that moment: the switch is on, and it was closed earlier
 abbrev pub gives_way : Bool → ℕ → Socket → Bool

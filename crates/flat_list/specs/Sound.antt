@@ -17,7 +17,7 @@ use Rattle.flat_list.specs.Groups.{Group, has_member, bucket_of}
 use Rattle.flat_list.specs.Look.{is_best, cards_of}
 use Rattle.flat_list.specs.Run.{Issued, is_of, after}
 use Rattle.flat_list.specs.Sections.{Section, labels_of}
-use Rattle.flat_list.specs.Sockets.{is_owner, same_tuple, has_name, is_mate, slots_used}
+use Rattle.flat_list.specs.Sockets.{is_owner, have_one_tuple, has_name, is_mate, slots_used}
 use Rattle.flat_list.specs.Step.{step}
 
 -- two sockets have different names
@@ -42,7 +42,7 @@ holds_tuple _ = false
 -- where both hold a four-tuple, they hold two
 abbrev pub TuplesDiffer : Socket → Socket → Type 0
 TuplesDiffer a b =
-    holds_tuple a.owner.state ≡ true → holds_tuple b.owner.state ≡ true → same_tuple a.owner b.owner ≡ false
+    holds_tuple a.owner.state ≡ true → holds_tuple b.owner.state ≡ true → have_one_tuple a.owner b.owner ≡ false
 
 -- as long as it holds no four-tuple, its origin is its own name, and `connect` hasn't chosen its port
 abbrev pub IsItsOwn : Socket → Type 0

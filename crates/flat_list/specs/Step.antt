@@ -21,7 +21,7 @@ use Rattle.flat_list.specs.Flat.{Flat}
 use Rattle.flat_list.specs.Look.{look}
 use Rattle.flat_list.specs.Outcome.{Outcome, unchanged, changed, added, removed, with_new_label, open_socket, has_slot, no_slot, Found, search_port}
 use Rattle.flat_list.specs.Groups.{Group, bucket_of, join}
-use Rattle.flat_list.specs.Owned.{new_owner, addressed, bound_at, packet_of}
+use Rattle.flat_list.specs.Owned.{new_owner, addressed, bound_at, packet_asked}
 use Rattle.flat_list.specs.Sections.{next_name, moment_of, with_moment}
 use Rattle.flat_list.specs.Sockets.{is_refused, is_overlapped, mate_of, is_expired}
 
@@ -188,8 +188,9 @@ step flat n (commands.Drop label) = drop flat (open_socket flat n label)
 step flat n (commands.At moment) = at flat n moment
 step flat n commands.Reap = reap flat n
 step flat n (commands.Look query) =
-    unchanged flat (replies.Found (look (packet_of query) flat.header.seed flat.sockets flat.groups))
+    unchanged flat (replies.Found (look (packet_asked query) flat.header.seed flat.sockets flat.groups))
 step flat n (commands.Packets count) = unchanged flat replies.Ok
+step flat n commands.Dump = unchanged flat replies.Ok
 
 -- a command that gives a label
 abbrev pub gives_label : Command → Bool

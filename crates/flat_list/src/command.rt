@@ -175,6 +175,8 @@ pub enum Command {
     Packets {
         count: u32,
     },
+    /// Lists all sockets that lookups find.
+    Dump,
 }
 
 /// What a command answers. Refusals have the names of errno(3).

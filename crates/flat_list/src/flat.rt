@@ -8,6 +8,7 @@ ghost use Rattle.flat_list.specs.Connect as connect_spec;
 ghost use Rattle.flat_list.specs.Outcome as outcome_spec;
 ghost use Rattle.flat_list.specs.Step as spec;
 ghost use Rattle.flat_list.specs.Look as look_spec;
+ghost use Rattle.flat_list.specs.Listed.{listed};
 
 use crate::command::{Command, End, Label, Reply};
 use crate::group::Group;
@@ -20,6 +21,7 @@ use crate::socket::{
 };
 use crate::{group, ports, search};
 use sock_card::{Card, Packet, State};
+use socket_list::in_order;
 use std::alloc::{AllocError, Global};
 use std::marker::Model;
 
@@ -569,8 +571,8 @@ impl Flat {
         Reply::Count(count as u64)
     }
 
-    /// Carries out a command of the section of that number, 1 to 64, and answers its reply. `packets` does
-    /// nothing here: who runs a script looks the capture's packets up by [`Flat::look`].
+    /// Carries out a command of the section of that number, 1 to 64, and answers its reply. `packets` and `dump` do
+    /// nothing here: who runs a script looks the capture's packets up by [`Flat::look`], and lists by [`Flat::list`].
     ///
     /// A refusal leaves all sockets and groups as they were. An `Err`, for want of memory, changes
     /// nothing; only commands after which a label, a socket, a group or a moment may be kept that wasn't
@@ -603,7 +605,7 @@ impl Flat {
             Command::At { moment } => self.at(section, *moment),
             Command::Reap => Ok(self.reap(section)),
             Command::Look { query } => Ok(Reply::Found(self.look(&packet_of(*query)))),
-            Command::Packets { .. } => Ok(Reply::Ok),
+            Command::Packets { .. } | Command::Dump => Ok(Reply::Ok),
         }
     }
 
@@ -625,6 +627,16 @@ impl Flat {
         ensures { result ≡ look_spec.look packet.now self.now.header.seed self.now.sockets self.now.groups }
     {
         search::look(packet, self.header.seed, &self.sockets, &self.groups)
+    }
+
+    /// The cards of all hashed sockets, ascending by name.
+    ///
+    /// Takes memory for them, and time about in proportion to them and to the groups.
+    pub fn list(&self) -> Result<Vec<Card>, AllocError>
+        ensures { IfOk result (λ cards. cards.items ≡ listed self.now) }
+    {
+        let cards = search::cards_of(self.alloc, &self.groups, &self.sockets)?;
+        in_order(cards)
     }
 }
 
@@ -681,23 +693,24 @@ mod tests {
         Label::from_bytes(text).unwrap()
     }
 
-    /// Lets a socket of section 1 listen.
-    fn listen_here(flat: &mut Flat) -> Result<Reply, AllocError>
-        requires { flat.old.sections ≡ [] }
+    /// Lets a socket of that section listen.
+    fn listen_here(flat: &mut Flat, section: u32) -> Result<Reply, AllocError>
+        requires number { section ≤ 64 }
+        requires fresh { flat.old.sections ≡ [] }
         ensures { (m : ℕ) → length (sections_spec.labels_of m flat.new.sections) ≤ 3 }
     {
         let socket = Command::Socket {
             label: label(b"a"),
             options: PLAIN,
         };
-        flat.apply(1, &socket)?;
+        flat.apply(section, &socket)?;
         let bind = Command::Bind {
             label: label(b"a"),
             end: HERE,
         };
-        flat.apply(1, &bind)?;
+        flat.apply(section, &bind)?;
         let listen = Command::Listen { label: label(b"a") };
-        flat.apply(1, &listen)
+        flat.apply(section, &listen)
     }
 
     /// Closes section 1's socket c, and reaps a minute later.
@@ -716,7 +729,7 @@ mod tests {
     fn an_accepted_socket_is_found_closed_and_reaped(rt: HostRuntime) -> Result<(), Fail> {
         let alloc = rt.alloc();
         let mut flat = Flat::new(alloc, &HEADER);
-        assert_eq!(rt; listen_here(&mut flat)?, Reply::Port(80));
+        assert_eq!(rt; listen_here(&mut flat, 1)?, Reply::Port(80));
         let accept = Command::Accept {
             listener: label(b"a"),
             label: label(b"c"),
@@ -738,6 +751,51 @@ mod tests {
         assert_eq!(rt; reaped, Reply::Count(1));
         let card = flat.look(&packet).ok_or("none found")?;
         assert_eq!(rt; card.kind, Kind::Listen);
+        Ok(())
+    }
+
+    /// Closes section 2's socket c, which a has accepted, and connects section 1's socket b to a.
+    fn close_and_connect(flat: &mut Flat) -> Result<(Reply, Reply), AllocError>
+        requires { (m : ℕ) → length (sections_spec.labels_of m flat.old.sections) ≤ 3 }
+    {
+        let accept = Command::Accept {
+            listener: label(b"a"),
+            label: label(b"c"),
+            from: THERE,
+            at: HERE,
+        };
+        flat.apply(2, &accept)?;
+        let closed = flat.apply(2, &Command::Close { label: label(b"c") })?;
+        let socket = Command::Socket {
+            label: label(b"b"),
+            options: PLAIN,
+        };
+        flat.apply(1, &socket)?;
+        let connect = Command::Connect {
+            label: label(b"b"),
+            from: Some(THERE.addr),
+            to: HERE,
+        };
+        Ok((closed, flat.apply(1, &connect)?))
+    }
+
+    #[test]
+    fn all_hashed_sockets_are_listed_by_name(rt: HostRuntime) -> Result<(), Fail> {
+        let mut flat = Flat::new(rt.alloc(), &HEADER);
+        assert_eq!(rt; flat.list()?.len(), 0);
+        listen_here(&mut flat, 2)?;
+        close_and_connect(&mut flat)?;
+        let listed: Vec<(u32, Kind)> = flat
+            .list()?
+            .iter()
+            .map(|c| (c.name, c.kind))
+            .collect(rt.alloc())?;
+        let wanted = [
+            (0x100_0001, Kind::Full),
+            (0x200_0001, Kind::Listen),
+            (0x200_0002, Kind::TimeWait),
+        ];
+        assert_eq!(rt; listed.as_slice(), wanted.as_slice());
         Ok(())
     }
 }

@@ -12,9 +12,10 @@
 //! Listeners that share an end by SO_REUSEPORT stand in a [`Group`], of which a packet's hash chooses
 //! one. A closed connection leaves a TIME_WAIT for a minute of its section's own time.
 //!
-//! [`Flat::apply`] carries out one command of a section of a script, and [`Flat::look`] finds a
-//! packet's socket; both answer exactly what `specs/` says. It stands on the rules of `sock_card`, the hashes of
-//! `jhash_words`, the [`Shape`] of `chain_book`, and the generator of `rand_pcg`.
+//! [`Flat::apply`] carries out one command of a section of a script, [`Flat::look`] finds a packet's socket, and
+//! [`Flat::list`] lists all that lookups can find; all answer exactly what `specs/` says. It stands on the rules of
+//! `sock_card`, the hashes of `jhash_words`, the [`Shape`] of `chain_book`, the order of `socket_list`, and the generator
+//! of `rand_pcg`.
 //!
 //! ```text
 //! let mut flat = Flat::new(alloc, &header);

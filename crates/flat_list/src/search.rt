@@ -1,6 +1,6 @@
 //! Questions about a list of sockets, each answered by a scan of the whole list.
 
-ghost use Rattle.std.specs.Prelude.{◌≡◌, ◌≤◌, ◌==◌, ◌&&◌, length, not, filter, find, count_by, vec_len, vec_capacity};
+ghost use Rattle.std.specs.Prelude.{◌≡◌, ◌≤◌, ◌==◌, ◌&&◌, length, not, filter, find, count_by, vec_len, vec_capacity, IfOk};
 ghost use Rattle.std.specs.List.{list_any};
 ghost use Rattle.flat_list.specs.Sockets as spec;
 ghost use Rattle.flat_list.specs.Look as spec_look;
@@ -13,6 +13,7 @@ use sock_card::{
     Card, Kind, Owner, Packet, State, Tuple, bind_conflict, holds, is_mate, rank, strict_conflict,
     tw_expired,
 };
+use std::alloc::{AllocError, Global};
 
 /// Whether lookups find a socket of that state, and it takes a slot.
 pub fn is_hashed(state: State) -> bool
@@ -66,7 +67,7 @@ pub fn is_claimed(port: u16, net: u8, sockets: &[Socket]) -> bool
 }
 
 fn tuple_of(owner: &Owner) -> Tuple
-    ensures { result ≡ spec.tuple_of owner.now }
+    ensures { result ≡ spec.owner_tuple owner.now }
 {
     Tuple {
         net: owner.net,
@@ -78,7 +79,7 @@ fn tuple_of(owner: &Owner) -> Tuple
 }
 
 fn same_tuple(a: &Owner, b: &Owner) -> bool
-    ensures { result ≡ spec.same_tuple a.now b.now }
+    ensures { result ≡ spec.have_one_tuple a.now b.now }
 {
     sock_card::same_tuple(&tuple_of(a), &tuple_of(b))
 }
@@ -231,11 +232,25 @@ fn extra_as(kind: Kind, groups: &[Group], socket: &Socket) -> u32
 }
 
 /// The card under which a socket is looked up.
-fn card_of(groups: &[Group], socket: &Socket) -> Option<Card>
+pub fn card_of(groups: &[Group], socket: &Socket) -> Option<Card>
     ensures { result ≡ spec_look.card_of groups.now socket.now }
 {
     let kind = kind_of(socket.owner.state)?;
     Some(card_as(kind, &socket.owner, extra_as(kind, groups, socket)))
+}
+
+/// The cards of all hashed sockets.
+pub fn cards_of(
+    alloc: Global,
+    groups: &[Group],
+    sockets: &[Socket],
+) -> Result<Vec<Card>, AllocError>
+    ensures { IfOk result (λ cards. cards.items ≡ spec_look.cards_of groups.now sockets.now) }
+{
+    sockets
+        .iter()
+        .filter_map(|s| card_of(groups, s))
+        .collect(alloc)
 }
 
 fn best_rank(packet: &Packet, groups: &[Group], sockets: &[Socket]) -> u8

@@ -65,7 +65,7 @@ pub fn listening(socket: Socket) -> Socket
 
 /// The socket, connected from that source to that end.
 pub fn connected(socket: Socket, source: u32, to: End) -> Socket
-    ensures { result ≡ connect_spec.connected socket source to }
+    ensures { result ≡ connect_spec.connected_socket socket source to }
 {
     Socket {
         owner: owned::connected_to(socket.owner, source, to),

@@ -3,4 +3,5 @@ pub mod Owned
 pub mod Calls
 pub mod Made
 pub mod Seen
+pub mod Listed
 pub mod Words

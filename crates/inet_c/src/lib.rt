@@ -8,6 +8,7 @@
 
 pub mod calls;
 pub mod handle;
+pub mod listing;
 pub mod making;
 mod parts;
 pub mod seen;

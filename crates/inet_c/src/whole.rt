@@ -3,13 +3,17 @@
 ghost use Rattle.std.specs.Prelude.{◌≡◌, pos, None, Option};
 ghost use Rattle.flat_calls.specs.declared.sight.Sight.{Sight};
 ghost use Rattle.flat_list.specs.declared.header.Header.{Header};
+ghost use Rattle.inet_c.specs.Listed as listed;
 ghost use Rattle.inet_c.specs.Made as made;
 ghost use Rattle.inet_c.specs.Seen as seen;
+ghost use Rattle.inet_c.specs.declared.listing.Telling.{Telling};
 ghost use Rattle.inet_c.specs.declared.making.Making.{Making};
 
 use crate::handle::InetTables;
+use crate::listing;
 use crate::making::{errno_of, make};
 use crate::seen::{InetSight, look};
+use flat_calls::Item;
 use flat_list::header::NONE_RESERVED;
 use flat_list::{Header, Range, Shape};
 use sock_card::Packet;
@@ -98,4 +102,20 @@ pub extern "C" fn inet_tables_look(
         net,
     };
     look(tables, alloc, &packet, sight)
+}
+
+/// All sockets that packets can find, by their workers, and those of one in the order in which they were made: the first
+/// of them in `items`, as many as fit. `count` is how many there are.
+#[unsafe(no_mangle)]
+pub extern "C" fn inet_tables_list(
+    tables: &mut InetTables,
+    alloc: Global,
+    items: &mut [Item],
+    count: &mut u64,
+) -> i32
+    ensures same { tables.new.tables ≡ tables.old.tables }
+    ensures lists { (telling : Telling) × listed.ListsOn tables.old.tables items.old items.new count.new telling
+        × (result ≡ pos (listed.errno_of telling)) }
+{
+    listing::errno_of(listing::list(tables, alloc, items, count))
 }

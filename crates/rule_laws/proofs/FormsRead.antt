@@ -64,6 +64,9 @@ looking = commands.Look (record { from = (record { addr = 0x0A000002; port = 5 }
 abbrev taking : Command
 taking = commands.Packets 1000000
 
+abbrev listing : Command
+listing = commands.Dump
+
 -- what the header lines make, one after the other
 abbrev shape_said : Draft
 shape_said = record nothing_yet { table = Some largest; bytes = 50 }
@@ -91,7 +94,7 @@ abbrev made : List (List Command) → ℕ → Draft
 made sections bytes = record passed { sections = sections; bytes = bytes }
 
 abbrev whole : Draft
-whole = record (made ((first ∷ second ∷ bound ∷ listening ∷ connecting ∷ accepting ∷ closing ∷ dropping ∷ []) ∷ (second ∷ latest ∷ reaping ∷ looking ∷ taking ∷ []) ∷ []) 483) { capture = Some (record { dev = 65535; net = 15; first = 483 }) }
+whole = record (made ((first ∷ second ∷ bound ∷ listening ∷ connecting ∷ accepting ∷ closing ∷ dropping ∷ []) ∷ (second ∷ latest ∷ reaping ∷ looking ∷ taking ∷ listing ∷ []) ∷ []) 488) { capture = Some (record { dev = 65535; net = 15; first = 488 }) }
 
 pub each_form : IsEachForm
 unfolding digits words_of lines_of
@@ -164,9 +167,13 @@ each_form = (
                                               (made ((first ∷ second ∷ bound ∷ listening ∷ connecting ∷ accepting ∷ closing ∷ dropping ∷ []) ∷ (second ∷ latest ∷ reaping ∷ looking ∷ taking ∷ []) ∷ []) 458),
                                               (lines.Command taking, (refl, omega arith), (refl, refl)),
                                               (
-                                                whole,
-                                                (lines.Capture (Some 65535) (Some 15), (refl, (omega arith, omega arith), omega arith), refl),
-                                                (whole, refl, (whole, refl, refl)),
+                                                (made ((first ∷ second ∷ bound ∷ listening ∷ connecting ∷ accepting ∷ closing ∷ dropping ∷ []) ∷ (second ∷ latest ∷ reaping ∷ looking ∷ taking ∷ listing ∷ []) ∷ []) 463),
+                                                (lines.Command listing, (refl, tt), (refl, refl)),
+                                                (
+                                                  whole,
+                                                  (lines.Capture (Some 65535) (Some 15), (refl, (omega arith, omega arith), omega arith), refl),
+                                                  (whole, refl, (whole, refl, refl)),
+                                                ),
                                               ),
                                             ),
                                           ),

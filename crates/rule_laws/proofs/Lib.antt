@@ -5,7 +5,9 @@ pub mod Counted
 pub mod Items
 pub mod Cards
 pub mod Best
+pub mod Dumps
 pub mod TextsRead
 pub mod FormsRead
 pub mod Orderly
 pub mod Printed
+pub mod Reprinted

@@ -13,7 +13,7 @@ use Rattle.sock_script.specs.declared.line.Line.{Line}
 use Rattle.sock_script.specs.declared.line.Line.TheVariants as lines
 use Rattle.sock_script.specs.Words.{lines_of, words_of}
 use Rattle.sock_script.specs.Forms.{HasForm}
-use Rattle.sock_script.specs.Grammar.{Draft, Follows, ReadsLine, Reads, MayCome, past, with_command, nothing_yet, given_label, labels_of, is_new, is_allowed, may_stand}
+use Rattle.sock_script.specs.Grammar.{Draft, Follows, ReadsLine, Reads, MayCome, past, with_command, nothing_yet, given_label, given_labels, is_new, is_allowed, may_stand}
 use Rattle.sock_script.proofs.LineCases.{line_cases}
 use Rattle.rule_laws.specs.Scripts.{IsTaken, IsSection, IsOrderly, ScriptsAreOrderly}
 
@@ -34,9 +34,9 @@ newcomer label labels h =
     (each_unless_any (bytes_eq label) labels (not_true (list_any (bytes_eq label) labels) h))
 
 module _ (mode : Mode) where
-  more_labels : (section : List Command) (o : Option (List ℕ)) → is_new o section ≡ true → Pairs Differ (labels_of section) → Pairs Differ (labels_of section ++ cons_option o [])
-  more_labels section None new pairs = subst (Pairs Differ) (sym (append-nil (labels_of section))) pairs
-  more_labels section (Some label) new pairs = pairs_push Differ (labels_of section) label pairs (newcomer label (labels_of section) new)
+  more_labels : (section : List Command) (o : Option (List ℕ)) → is_new o section ≡ true → Pairs Differ (given_labels section) → Pairs Differ (given_labels section ++ cons_option o [])
+  more_labels section None new pairs = subst (Pairs Differ) (sym (append-nil (given_labels section))) pairs
+  more_labels section (Some label) new pairs = pairs_push Differ (given_labels section) label pairs (newcomer label (given_labels section) new)
 
   more : (section : List Command) (c : Command) → may_stand mode section c ≡ true → IsTaken mode c → IsSection mode section → IsSection mode (section ++ c ∷ [])
   more section c may taken is =

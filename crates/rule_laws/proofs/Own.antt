@@ -92,6 +92,7 @@ module _ (flat : Flat) (n : ℕ) where
   own_goes commands.Reap = goes flat.sections (inl refl)
   own_goes (commands.Look query) = goes flat.sections (inl refl)
   own_goes (commands.Packets count) = goes flat.sections (inl refl)
+  own_goes commands.Dump = goes flat.sections (inl refl)
 
   -- the section's moment after a command that is refused, and after one that is done
   record Moments (command : Command) (o : Outcome) : Type 0 where
@@ -134,6 +135,7 @@ module _ (flat : Flat) (n : ℕ) where
   moments commands.Reap = unmoved commands.Reap (step flat n commands.Reap) refl refl
   moments (commands.Look query) = unmoved (commands.Look query) (step flat n (commands.Look query)) refl refl
   moments (commands.Packets count) = unmoved (commands.Packets count) (step flat n (commands.Packets count)) refl refl
+  moments commands.Dump = unmoved commands.Dump (step flat n commands.Dump) refl refl
 
   same_header : (command : Command) → (step flat n command).flat.header ≡ flat.header
   same_header command = (step_stays flat n command).0

@@ -237,6 +237,7 @@ record Finished (start : ℕ) (done : List Line) (texts : List (List ℕ)) (new 
   all : List Line
   last : List Line
   head : List Line
+  front : List Line
   parts : texts ≡ read ++ rest
   forms : HaveForms read all
   order : done ++ filter is_said all ≡ head ++ (section_lines 1 new.sections ++ last)
@@ -248,6 +249,7 @@ record Finished (start : ℕ) (done : List Line) (texts : List (List ℕ)) (new 
   offset : Say offset_said head new.offset
   reuse : Say reuse_said head new.twreuse
   ends : EndsIn new.capture last (start + bytes_of read) rest
+  closes : all ≡ front ++ last
 
 ended : (start : ℕ) (done : List Line) (draft : Draft) → draft.capture ≡ None → Made done draft → Finished start done [] draft
 ended start done draft none m = record {
@@ -256,6 +258,7 @@ ended start done draft none m = record {
   all = [];
   last = [];
   head = m.head;
+  front = [];
   parts = refl;
   forms = tt;
   order = append-nil done ∙ m.split ∙ ap (λ xs. m.head ++ xs) (sym (append-nil (section_lines 1 draft.sections)));
@@ -267,6 +270,7 @@ ended start done draft none m = record {
   offset = m.offset;
   reuse = m.reuse;
   ends = subst (λ (c : Option CapturePlace). EndsIn c [] (start + bytes_of []) []) (sym none) (refl, refl);
+  closes = refl;
 }
 
 -- a capture's line is the last that is read
@@ -278,6 +282,7 @@ captured start done old text texts dev net e form m = record {
   all = lines.Capture dev net ∷ [];
   last = lines.Capture dev net ∷ [];
   head = m.head;
+  front = [];
   parts = refl;
   forms = (form, tt);
   order = ap (λ xs. xs ++ lines.Capture dev net ∷ []) m.split ∙ append_assoc m.head (section_lines 1 old.sections) (lines.Capture dev net ∷ []);
@@ -289,6 +294,7 @@ captured start done old text texts dev net e form m = record {
   offset = m.offset;
   reuse = m.reuse;
   ends = (dev, net, refl, ap (λ (n : ℕ). record { dev = unwrap_or dev 0; net = unwrap_or net 0; first = n }) (omega (arith, e)));
+  closes = refl;
 }
 
 -- another is read, and then those behind it
@@ -299,6 +305,7 @@ one_more start done text texts line new form f = record {
   all = line ∷ f.all;
   last = f.last;
   head = f.head;
+  front = line ∷ f.front;
   parts = ap (λ xs. text ∷ xs) f.parts;
   forms = (form, f.forms);
   order =
@@ -311,6 +318,7 @@ one_more start done text texts line new form f = record {
   offset = f.offset;
   reuse = f.reuse;
   ends = subst (λ (n : ℕ). EndsIn new.capture f.last n f.rest) (omega arith) f.ends;
+  closes = ap (λ xs. line ∷ xs) f.closes;
 }
 
 module _ (mode : Mode) where
@@ -341,6 +349,7 @@ from_finished mode text draft f sections = record {
   all = f.all;
   head = f.head;
   last = f.last;
+  front = f.front;
   parts = f.parts;
   forms = f.forms;
   order = f.order;
@@ -354,6 +363,7 @@ from_finished mode text draft f sections = record {
   };
   sections = sections;
   ends = subst (λ (n : ℕ). EndsIn draft.capture f.last n f.rest) (omega arith) f.ends;
+  closes = f.closes;
 }
 
 nothing_made : Made [] nothing_yet

@@ -9,7 +9,7 @@ use Rattle.capture_reader.specs.Grammar.{nothing}
 use Rattle.sock_script.specs.declared.line.Line.TheVariants as lines
 use Rattle.sock_script.specs.Words.{words_of, lines_of}
 use Rattle.sock_script.specs.Grammar.{Draft, nothing_yet, script_of}
-use Rattle.rule_laws.specs.TextRows.{IsUnsaid, IsWritten, no_options}
+use Rattle.rule_laws.specs.TextRows.{IsUnsaid, IsWritten, IsDumped, no_options}
 
 pub unsaid : IsUnsaid
 unfolding words_of lines_of
@@ -57,6 +57,51 @@ written = (
                 made ((socket_a ∷ socket_b ∷ bind_a ∷ bind_b ∷ []) ∷ []) 64,
                 (lines.Command bind_b, (refl, (refl, (omega arith, omega arith))), (refl, refl)),
                 (whole, (lines.PassedOver, tt, refl), refl),
+              ),
+            ),
+          ),
+        ),
+      ),
+      refl,
+    );
+    capture_is = inl (refl, refl);
+  },
+  refl,
+)
+
+abbrev bind_here : Command
+bind_here = commands.Bind (codes "a") (record { addr = 0x0A000001; port = 80 })
+
+abbrev listen_a : Command
+listen_a = commands.Listen (codes "a")
+
+abbrev all_said : Draft
+all_said = made ((socket_a ∷ bind_here ∷ listen_a ∷ commands.Dump ∷ []) ∷ []) 52
+
+pub dumped : IsDumped
+unfolding digits words_of lines_of step overlap refuses
+dumped = (
+  script_of all_said,
+  nothing,
+  record {
+    script_is = (
+      all_said,
+      (
+        made ([] ∷ []) 9,
+        (lines.Section 1, (refl, omega arith, omega arith), (refl, refl)),
+        (
+          made ((socket_a ∷ []) ∷ []) 18,
+          (lines.Command socket_a, (refl, (refl, tt, tt, tt)), (refl, refl)),
+          (
+            made ((socket_a ∷ bind_here ∷ []) ∷ []) 37,
+            (lines.Command bind_here, (refl, (refl, (omega arith, omega arith))), (refl, refl)),
+            (
+              made ((socket_a ∷ bind_here ∷ listen_a ∷ []) ∷ []) 46,
+              (lines.Command listen_a, (refl, refl), (refl, refl)),
+              (
+                made ((socket_a ∷ bind_here ∷ listen_a ∷ commands.Dump ∷ []) ∷ []) 51,
+                (lines.Command commands.Dump, (refl, tt), (refl, refl)),
+                (all_said, (lines.PassedOver, tt, refl), refl),
               ),
             ),
           ),

@@ -7,7 +7,7 @@ use Rattle.flat_list.specs.declared.header.First.TheVariants as firsts
 use Rattle.flat_list.specs.declared.socket.Socket.{Socket}
 use Rattle.flat_list.specs.declared.command.End.{End}
 use Rattle.flat_list.specs.declared.command.Reply.TheVariants as replies
-use Rattle.flat_list.specs.Connect.{connected, end_of, replacing, is_taken_in, connect, connect_as, connect_from, connect_found, connect_search, connect_socket, connected_by_search, suits_connect, child_of, accept, accept_as}
+use Rattle.flat_list.specs.Connect.{connected_socket, end_of, replacing, is_taken_in, connect, connect_as, connect_from, connect_found, connect_search, connect_socket, connected_by_search, suits_connect, child_of, accept, accept_as}
 use Rattle.flat_list.specs.Flat.{Flat}
 use Rattle.flat_list.specs.Groups.{Group}
 use Rattle.flat_list.specs.Outcome.{Outcome, added, removed, unchanged, changed, has_slot, no_slot, draw, Found, search_port}
@@ -97,7 +97,7 @@ module _ (P : List Section → Type 0) where
     connect_from_keeps : (s : Socket) (to : End) (source : Option ℕ) → Keeps (connect_from flat n s to source)
     connect_from_keeps s to None = p
     connect_from_keeps s to (Some source) =
-        let new : Socket = connected s source to in
+        let new : Socket = connected_socket s source to in
         cond_both (is_taken_in flat n new) (unchanged flat replies.Eaddrnotavail) (connect_as flat new) Keeps (λ _. p) (λ _. connect_as_keeps flat new p)
 
     connect_search_keeps : (s : Socket) (to : End) (source : Option ℕ) → Keeps (connect_search flat n s to source)

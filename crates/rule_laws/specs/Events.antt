@@ -1,12 +1,12 @@
--- Of what a run consists, and how many replies it has: our own laws.
-use Rattle.std.specs.Prelude.{◌≡◌, Bool, true, false, not, List, Option, Some, None, filter, length}
+-- Of what a run consists, and how many replies and listings it has: our own laws.
+use Rattle.std.specs.Prelude.{◌≡◌, Bool, true, false, not, List, Option, Some, None, filter, length, count_by}
 use Rattle.std.specs.List.{filter_map}
 use Rattle.capture_reader.specs.declared.packet.Item.{Item}
 use Rattle.flat_list.specs.declared.command.Command.{Command}
 use Rattle.flat_list.specs.declared.command.Command.TheVariants as commands
 use Rattle.flat_list.specs.Run.{Issued}
 use Rattle.flat_list.specs.Script.{Script}
-use Rattle.sock_script.specs.Output.{Event, asked, stored, events_from, flat_replies, issued}
+use Rattle.sock_script.specs.Output.{Event, asked, stored, events_from, flat_replies, flat_listings, is_dump, issued}
 
 -- the command of an event, if it is one
 abbrev pub asked_in : Event → Option Issued
@@ -38,3 +38,11 @@ EventsAreAll = (items : List Item) (commands : List Issued) → AreAll (events_f
 abbrev pub RepliesAreAll : Type 0
 RepliesAreAll =
     (script : Script) (items : List Item) → length (flat_replies script items) ≡ length (events_from items (issued script))
+
+abbrev pub asks_list : Issued → Bool
+asks_list c = is_dump c.command
+
+-- there are as many listings as dumps
+abbrev pub ListingsAreAll : Type 0
+ListingsAreAll =
+    (script : Script) (items : List Item) → length (flat_listings script items) ≡ count_by asks_list (issued script)

@@ -1,5 +1,6 @@
 -- What the laws of this crate cite.
 pub mod Finds
+pub mod Dumps
 pub mod Leaves
 pub mod Events
 pub mod Waits

@@ -102,13 +102,14 @@ EndsIn (Some place) last bytes behind =
     × (place ≡ record { dev = unwrap_or dev 0; net = unwrap_or net 0; first = bytes })
 
 -- but for lines that are passed over, the text's lines are header lines, each kind at most once, then the sections, one
--- after the other from number 1, and last the line of a capture, if there is one, behind which nothing is read
+-- after the other from number 1, and last the line of a capture, if there is one: the last of all that are read
 pub record IsPrinted (mode : Mode) (text : List ℕ) (script : Script) : Type 0 where
   pub read : List (List ℕ)
   pub behind : List (List ℕ)
   pub all : List Line
   pub head : List Line
   pub last : List Line
+  pub front : List Line
   pub parts : lines_of text ≡ read ++ behind
   pub forms : HaveForms read all
   pub order : filter is_said all ≡ head ++ (section_lines 1 script.sections ++ last)
@@ -116,6 +117,11 @@ pub record IsPrinted (mode : Mode) (text : List ℕ) (script : Script) : Type 0 
   pub says : SaysHeader head script.header
   pub sections : Each (IsSection mode) script.sections
   pub ends : EndsIn script.capture last (bytes_of read) behind
+  pub closes : all ≡ front ++ last
 
 abbrev pub ScriptsArePrinted : Type 0
 ScriptsArePrinted = (mode : Mode) (text : List ℕ) (script : Script) → IsScript mode text script → IsPrinted mode text script
+
+-- and a text that has the lines of a script is that script: so the two say the same
+abbrev pub PrintedAreScripts : Type 0
+PrintedAreScripts = (mode : Mode) (text : List ℕ) (script : Script) → IsPrinted mode text script → IsScript mode text script

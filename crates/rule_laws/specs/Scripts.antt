@@ -5,7 +5,7 @@ use Rattle.flat_list.specs.declared.command.Command.{Command}
 use Rattle.flat_list.specs.Script.{Script}
 use Rattle.sock_script.specs.declared.parse.Mode.{Mode}
 use Rattle.sock_script.specs.Forms.{CommandFits}
-use Rattle.sock_script.specs.Grammar.{IsScript, labels_of, is_allowed}
+use Rattle.sock_script.specs.Grammar.{IsScript, given_labels, is_allowed}
 
 -- what stands in the command is in range, and it is one of those that are run so
 abbrev pub IsTaken : Mode → Command → Type 0
@@ -13,7 +13,7 @@ IsTaken mode command = CommandFits command × (is_allowed mode command ≡ true)
 
 -- each label is given once, and each command is taken
 pub record IsSection (mode : Mode) (section : List Command) : Type 0 where
-  pub labels : Pairs (λ (a b : List ℕ). a ≢ b) (labels_of section)
+  pub labels : Pairs (λ (a b : List ℕ). a ≢ b) (given_labels section)
   pub commands : Each (IsTaken mode) section
 
 -- each script that a text is has 64 sections at most, and each of them is such a one

@@ -41,6 +41,17 @@ two_replies = codes "1 socket a ok\n1 socket b ok\n1 bind a ok 80\n1 bind b EADD
 abbrev pub IsWritten : Type 0
 IsWritten = FlatOut two_sockets two_replies
 
+-- one listener, and what is written where it is listed
+abbrev pub one_dumped : List ℕ
+one_dumped = codes "script 1\nsocket a\nbind a 10.0.0.1:80\nlisten a\ndump\n"
+
+abbrev pub one_listed : List ℕ
+one_listed =
+    codes "1 socket a ok\n1 bind a ok 80\n1 listen a ok 80\n1 dump 1\n1 item listen 1.a 10.0.0.1:80 0.0.0.0:0 dev 0\n"
+
+abbrev pub IsDumped : Type 0
+IsDumped = FlatOut one_dumped one_listed
+
 -- each header line, each command and a capture behind them, with the last numbers of their ranges
 abbrev pub every_form : List ℕ
 every_form =
@@ -66,6 +77,7 @@ every_form =
     ++ codes "reap\n"
     ++ codes "look 10.0.0.2:5 10.0.0.1:80 dev 1 net 0\n"
     ++ codes "packets 1000000\n"
+    ++ codes "dump\n"
     ++ codes "capture dev 65535 net 15\n"
     ++ codes "no line\n"
 
@@ -108,6 +120,7 @@ second_section =
     ∷ commands.Reap
     ∷ commands.Look (record { from = (record { addr = 0x0A000002; port = 5 }); to = (record { addr = 0x0A000001; port = 80 }); dev = Some 1; net = Some 0 })
     ∷ commands.Packets 1000000
+    ∷ commands.Dump
     ∷ []
 
 -- the script that it is: the capture's first byte is the one behind its line
@@ -122,7 +135,7 @@ every_value =
         twreuse = true;
       };
       sections = first_section ∷ second_section ∷ [];
-      capture = Some (record { dev = 65535; net = 15; first = 483 });
+      capture = Some (record { dev = 65535; net = 15; first = 488 });
     }
 
 abbrev pub IsEachForm : Type 0

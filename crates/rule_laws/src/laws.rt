@@ -2,10 +2,11 @@
 
 ghost use Rattle.std.specs.Prelude.{None, Some};
 ghost use Rattle.flat_list.specs.Rows.{Answer, with_slots, with_range};
-ghost use Rattle.rule_laws.specs.Events.{EventsAreAll, RepliesAreAll};
+ghost use Rattle.rule_laws.specs.Dumps.{DumpsListEach};
+ghost use Rattle.rule_laws.specs.Events.{EventsAreAll, ListingsAreAll, RepliesAreAll};
 ghost use Rattle.rule_laws.specs.Finds.{FindsTheBest};
 ghost use Rattle.rule_laws.specs.Leaves.{CommandsLeave, MomentsAreSet, RefusalsLeave};
-ghost use Rattle.rule_laws.specs.Lines.{ScriptsArePrinted};
+ghost use Rattle.rule_laws.specs.Lines.{PrintedAreScripts, ScriptsArePrinted};
 ghost use Rattle.rule_laws.specs.Rows as row;
 ghost use Rattle.rule_laws.specs.Scripts.{ScriptsAreOrderly};
 ghost use Rattle.rule_laws.specs.TextRows as text;
@@ -14,6 +15,11 @@ ghost use Rattle.rule_laws.specs.Waits.{GivesWayAsItsCard};
 /// What a packet finds in a sound list matches it, and no card matches it better; where it finds nothing, none matches.
 pub fn best_card()
     ensures { FindsTheBest }
+{}
+
+/// A dump of a sound list has each socket that lookups find exactly once, and no other, and their names ascend.
+pub fn dumps()
+    ensures { DumpsListEach }
 {}
 
 /// A command leaves the header and all sections but its own, which gives the command's label and draws one word at most;
@@ -25,10 +31,11 @@ pub fn sections_stay()
 {}
 
 /// A run comes to each command but `packets` and to each item of the capture, once and in their order, and there are as
-/// many replies.
+/// many replies; and as many listings as there are dumps.
 pub fn all_events()
     ensures events { EventsAreAll }
     ensures replies { RepliesAreAll }
+    ensures listings { ListingsAreAll }
 {}
 
 /// `connect` may take the place of a TIME_WAIT in the flat list where its card may be replaced in a table.
@@ -43,9 +50,11 @@ pub fn orderly_scripts()
 {}
 
 /// The lines of a text that is a script, but for those that are passed over, are header lines, each kind at most once,
-/// then its sections with their commands, and last the line of its capture, behind which nothing is read.
+/// then its sections with their commands, and last the line of its capture, behind which nothing is read; and a text with
+/// such lines is the script.
 pub fn printed_scripts()
-    ensures { ScriptsArePrinted }
+    ensures printed { ScriptsArePrinted }
+    ensures back { PrintedAreScripts }
 {}
 
 /// The definitions give worked examples of rules that no row of the flat list shows.
@@ -64,10 +73,11 @@ pub fn rows()
 {}
 
 /// They give the scripts of worked texts, one of which has each form with the last numbers of its ranges; what is
-/// written for another; and a generated script's far ports.
+/// written for two others, one of them with a list of its sockets; and a generated script's far ports.
 pub fn text_rows()
     ensures unsaid { text.IsUnsaid }
     ensures written { text.IsWritten }
+    ensures dumped { text.IsDumped }
     ensures forms { text.IsEachForm }
     ensures far_ports { text.GoesRound }
 {}

@@ -7,9 +7,9 @@ use Rattle.flat_list.specs.declared.command.Command.{Command}
 use Rattle.flat_list.specs.declared.command.Reply.{Reply}
 use Rattle.flat_list.specs.Run.{Issued}
 use Rattle.sock_script.specs.declared.counts.Counts.{Counts}
-use Rattle.sock_script.specs.Output.{issued_from, found_label, reply_with}
+use Rattle.sock_script.specs.Output.{issued_from, found_label, is_dump, reply_with}
 use Rattle.sock_script.specs.Steps.{issue}
-use Rattle.sock_script.specs.Counts.{Answered, answered, counts_of, is_look, begins_with_ok, is_counted, is_done, is_refused, is_found, is_missed}
+use Rattle.sock_script.specs.Counts.{Answered, answered, counts_of, is_look, begins_with_ok, is_counted, is_done, is_not_done, is_found, is_missed}
 use Rattle.sock_script.specs.CountSteps.{one_more, with_answered, weight}
 use Rattle.sock_script.proofs.RunTurns.{next_drop}
 
@@ -27,7 +27,8 @@ one_more_weighs counts command text =
     let P : Counts → Type 0 = λ c. weight c ≤ weight counts + 2 in
     cond_both (is_look command) _ _ P
     (λ look. cond_both (bytes_eq text (codes "none")) _ _ P (λ none. omega arith) (λ some. omega arith))
-    (λ other. cond_both (begins_with_ok text) _ _ P (λ ok. omega arith) (λ refused. omega arith))
+    (λ other. cond_both (is_dump command) _ _ P (λ dump. omega arith)
+    (λ counted. cond_both (begins_with_ok text) _ _ P (λ ok. omega arith) (λ refused. omega arith)))
 
 -- counts that are equal in all parts
 same_counts : (a b : Counts) → a.commands ≡ b.commands → a.ok ≡ b.ok → a.refused ≡ b.refused → a.found ≡ b.found → a.none ≡ b.none → a ≡ b
@@ -44,36 +45,38 @@ plus a b =
       none = a.none + b.none;
     }
 
--- one more of the kind that three tests tell, in front of others
-abbrev in_front : Bool → Bool → Bool → Counts → Counts
-in_front look missed done rest =
+-- one more of the kind that four tests tell, in front of others
+abbrev in_front : Bool → Bool → Bool → Bool → Counts → Counts
+in_front look dump missed done rest =
     record {
-      commands = cond (not look) 1 0 + rest.commands;
-      ok = cond (not look && done) 1 0 + rest.ok;
-      refused = cond (not look && not done) 1 0 + rest.refused;
+      commands = cond (not look && not dump) 1 0 + rest.commands;
+      ok = cond (not look && not dump && done) 1 0 + rest.ok;
+      refused = cond (not look && not dump && not done) 1 0 + rest.refused;
       found = cond (look && not missed) 1 0 + rest.found;
       none = cond (look && missed) 1 0 + rest.none;
     }
 
-abbrev by_tests : Bool → Bool → Bool → Counts → Counts
-by_tests look missed done counts =
+abbrev by_tests : Bool → Bool → Bool → Bool → Counts → Counts
+by_tests look dump missed done counts =
     cond look
     (cond missed (record counts { none = counts.none + 1 }) (record counts { found = counts.found + 1 }))
-    (cond done (record counts { commands = counts.commands + 1; ok = counts.ok + 1 }) (record counts { commands = counts.commands + 1; refused = counts.refused + 1 }))
+    (cond dump counts
+    (cond done (record counts { commands = counts.commands + 1; ok = counts.ok + 1 }) (record counts { commands = counts.commands + 1; refused = counts.refused + 1 })))
 
-moved : (look missed done : Bool) (a b : Counts) → plus (by_tests look missed done a) b ≡ plus a (in_front look missed done b)
-moved true true done a b = same_counts _ _ (omega arith) (omega arith) (omega arith) (omega arith) (omega arith)
-moved true false done a b = same_counts _ _ (omega arith) (omega arith) (omega arith) (omega arith) (omega arith)
-moved false missed true a b = same_counts _ _ (omega arith) (omega arith) (omega arith) (omega arith) (omega arith)
-moved false missed false a b = same_counts _ _ (omega arith) (omega arith) (omega arith) (omega arith) (omega arith)
+moved : (look dump missed done : Bool) (a b : Counts) → plus (by_tests look dump missed done a) b ≡ plus a (in_front look dump missed done b)
+moved true dump true done a b = same_counts _ _ (omega arith) (omega arith) (omega arith) (omega arith) (omega arith)
+moved true dump false done a b = same_counts _ _ (omega arith) (omega arith) (omega arith) (omega arith) (omega arith)
+moved false true missed done a b = same_counts _ _ (omega arith) (omega arith) (omega arith) (omega arith) (omega arith)
+moved false false missed true a b = same_counts _ _ (omega arith) (omega arith) (omega arith) (omega arith) (omega arith)
+moved false false missed false a b = same_counts _ _ (omega arith) (omega arith) (omega arith) (omega arith) (omega arith)
 
 -- the counts of a list with one in front
-counts_front : (a : Answered) (rest : List Answered) → counts_of (a ∷ rest) ≡ in_front (is_look a.command) (bytes_eq a.reply (codes "none")) (begins_with_ok a.reply) (counts_of rest)
+counts_front : (a : Answered) (rest : List Answered) → counts_of (a ∷ rest) ≡ in_front (is_look a.command) (is_dump a.command) (bytes_eq a.reply (codes "none")) (begins_with_ok a.reply) (counts_of rest)
 counts_front a rest =
     same_counts _ _
     (sum_by-cons (λ x. cond (is_counted x) 1 0) a rest)
     (sum_by-cons (λ x. cond (is_done x) 1 0) a rest)
-    (sum_by-cons (λ x. cond (is_refused x) 1 0) a rest)
+    (sum_by-cons (λ x. cond (is_not_done x) 1 0) a rest)
     (sum_by-cons (λ x. cond (is_found x) 1 0) a rest)
     (sum_by-cons (λ x. cond (is_missed x) 1 0) a rest)
 
@@ -82,7 +85,7 @@ all_at_once : (answers : List Answered) (counts : Counts) → with_answered coun
 all_at_once [] counts = same_counts _ _ (omega arith) (omega arith) (omega arith) (omega arith) (omega arith)
 all_at_once (a ∷ rest) counts =
     all_at_once rest (one_more counts a.command a.reply)
-    ∙ moved (is_look a.command) (bytes_eq a.reply (codes "none")) (begins_with_ok a.reply) counts (counts_of rest)
+    ∙ moved (is_look a.command) (is_dump a.command) (bytes_eq a.reply (codes "none")) (begins_with_ok a.reply) counts (counts_of rest)
     ∙ ap (plus counts) (sym (counts_front a rest))
 
 -- from nothing on
@@ -93,18 +96,20 @@ from_nothing : (answers : List Answered) → with_answered nothing answers ≡ c
 from_nothing answers =
     all_at_once answers nothing ∙ same_counts _ _ (omega arith) (omega arith) (omega arith) (omega arith) (omega arith)
 
--- a command that isn't a lookup is done or refused
-done_or_refused : (look missed done : Bool) (rest : Counts) → rest.commands ≡ rest.ok + rest.refused → (in_front look missed done rest).commands ≡ (in_front look missed done rest).ok + (in_front look missed done rest).refused
-done_or_refused true missed done rest h = omega arith
-done_or_refused false missed true rest h = omega arith
-done_or_refused false missed false rest h = omega arith
+-- a command that is counted is done or refused
+done_or_refused : (look dump missed done : Bool) (rest : Counts) → rest.commands ≡ rest.ok + rest.refused
+    → (in_front look dump missed done rest).commands ≡ (in_front look dump missed done rest).ok + (in_front look dump missed done rest).refused
+done_or_refused true dump missed done rest h = omega arith
+done_or_refused false true missed done rest h = omega arith
+done_or_refused false false missed true rest h = omega arith
+done_or_refused false false missed false rest h = omega arith
 
 pub whole : (answers : List Answered) → (counts_of answers).commands ≡ (counts_of answers).ok + (counts_of answers).refused
 whole [] = refl
 whole (a ∷ rest) =
     let front = counts_front a rest in
     ap (λ c. c.commands) front
-    ∙ done_or_refused (is_look a.command) (bytes_eq a.reply (codes "none")) (begins_with_ok a.reply) (counts_of rest) (whole rest)
+    ∙ done_or_refused (is_look a.command) (is_dump a.command) (bytes_eq a.reply (codes "none")) (begins_with_ok a.reply) (counts_of rest) (whole rest)
     ∙ sym (ap (λ c. c.ok + c.refused) front)
 
 -- some commands, and then others

@@ -11,7 +11,8 @@ use Rattle.flat_list.specs.declared.header.Range.{Range}
 use Rattle.flat_list.specs.declared.header.Reserved.{Reserved}
 use Rattle.sock_script.specs.declared.line.Line.{Line}
 use Rattle.sock_script.specs.declared.line.Line.TheVariants as lines
-use Rattle.sock_script.specs.Forms.{HasForm, command_words, option_words, CommandFits, EndFits, NamespaceFits, DeviceFits, ShapeFits, SourceFits, RangeFits, range_words, shape_words, UserFits, namespace_words, user_words, device_words, flag_words, source_words}
+use Rattle.chain_book.specs.Shapes.{ShapeFits}
+use Rattle.sock_script.specs.Forms.{HasForm, command_words, option_words, CommandFits, EndFits, NamespaceFits, DeviceFits, SourceFits, RangeFits, range_words, shape_words, UserFits, namespace_words, user_words, device_words, flag_words, source_words}
 use Rattle.sock_script.proofs.ReservedPorts.{one_reserved}
 use Rattle.sock_script.proofs.Verbs.{word_code, verb_code, never}
 use Rattle.sock_script.proofs.Words.{second_is, third_is, past_one, past_two, past_three, options_of, rest-lacks_net, rest-lacks_uid, flags-lack_dev, namespace-lacks_dev, reuseport-lacks_reuseaddr, noport-lacks_reuseport, Lacks, flag-last, namespace-last, one_switch}
@@ -125,6 +126,7 @@ one_command (commands.At m) (commands.At n) h x y = ap commands.At (decimal_inje
 one_command commands.Reap commands.Reap h x y = refl
 one_command (commands.Look a) (commands.Look b) h x y = ap commands.Look (one_look a b x y h)
 one_command (commands.Packets m) (commands.Packets n) h x y = ap commands.Packets (decimal_injective m n (omega arith) (omega arith) (second_is _ _ _ _ _ _ h))
+one_command commands.Dump commands.Dump h x y = refl
 one_command c k h x y = absurd (never (verb_code (command_words c)) (verb_code (command_words k)) (ap verb_code h) refl)
 
 -- the numbers of a table line

@@ -8,7 +8,7 @@ use Rattle.flat_list.specs.declared.command.Reply.{Reply}
 use Rattle.flat_list.specs.Flat.{Flat}
 use Rattle.flat_list.specs.Run.{Issued}
 use Rattle.flat_list.specs.Step.{step}
-use Rattle.sock_script.specs.Output.{Event, asked, stored, events_at, events_from, left_by, replies_from, item_reply}
+use Rattle.sock_script.specs.Output.{Replies, Event, asked, stored, events_at, events_from, items_after, replies_from, listings_from, listings_at, item_reply, is_dump}
 use Rattle.sock_script.specs.Steps.{takes_items, RunsCommand}
 
 -- a command that isn't `packets` takes none
@@ -16,13 +16,18 @@ pub takes_none : (command : Command) → ((count : ℕ) → command ≡ commands
 takes_none (commands.Packets count) h = absurd (h count refl)
 takes_none _ h = refl
 
+-- a command that isn't `dump` lists nothing
+pub lists_none : (command : Command) → (command ≡ commands.Dump → ⊥) → is_dump command ≡ false
+lists_none commands.Dump h = absurd (h refl)
+lists_none _ h = refl
+
 -- a command that takes no items comes to itself alone
 pub asks_alone : (c : Issued) (command : Command) (left : List Item) → takes_items command ≡ false → events_at c command left ≡ asked c ∷ []
 asks_alone c (commands.Packets count) left h = absurd (cc)
 asks_alone c _ left h = refl
 
 -- and leaves the items
-pub leaves_all : (command : Command) (left : List Item) → takes_items command ≡ false → left_by command left ≡ left
+pub leaves_all : (command : Command) (left : List Item) → takes_items command ≡ false → items_after command left ≡ left
 leaves_all (commands.Packets count) left h = absurd (cc)
 leaves_all _ left h = refl
 
@@ -43,30 +48,55 @@ pub last_replied : (flat : Flat) (xs : List Item) → replies_from flat (events_
 last_replied flat [] = refl
 last_replied flat (x ∷ xs) = ap (λ r. item_reply flat x ∷ r) (last_replied flat xs)
 
+-- and items list nothing
+pub items_listed : (flat : Flat) (xs : List Item) (rest : List Event) → listings_from flat (map stored xs ++ rest) ≡ listings_from flat rest
+items_listed flat [] rest = refl
+items_listed flat (x ∷ xs) rest = items_listed flat xs rest
+
+pub last_listed : (flat : Flat) (xs : List Item) → listings_from flat (events_from xs []) ≡ []
+last_listed flat [] = refl
+last_listed flat (x ∷ xs) = last_listed flat xs
+
+-- replies and listings that are the same
+pub same_replies : (r s : Replies) → r.each ≡ s.each → r.listings ≡ s.listings → r ≡ s
+same_replies r s e l = λ k. record { each = e k; listings = l k }
+
 -- `packets` was run: the next items were looked up
-pub ran_packets : (flat : Flat) (n count : ℕ) (items next left : List Item) (before out : List Reply)
-    → next ≡ take (min count (length items)) items → left ≡ drop (min count (length items)) items → out ≡ before ++ map (item_reply flat) next
+pub ran_packets : (flat : Flat) (n count : ℕ) (items next left : List Item) (before out : Replies)
+    → next ≡ take (min count (length items)) items → left ≡ drop (min count (length items)) items
+    → out ≡ record before { each = before.each ++ map (item_reply flat) next }
     → RunsCommand flat flat n (commands.Packets count) items left before out
 unfolding step
 ran_packets flat n count items next left before out front back is = record {
   replied = λ later.
-      ap (λ o. o ++ replies_from flat (events_from left later)) is
-      ∙ append_assoc before _ _
-      ∙ ap (λ r. before ++ r) (sym (items_replied flat next (events_from left later)))
-      ∙ ap₂ (λ x y. before ++ replies_from flat (map stored x ++ events_from y later)) (front ∙ take_least count items) (back ∙ drop_least count items);
+      ap (λ (o : Replies). o.each ++ replies_from flat (events_from left later)) is
+      ∙ append_assoc before.each _ _
+      ∙ ap (λ r. before.each ++ r) (sym (items_replied flat next (events_from left later)))
+      ∙ ap₂ (λ x y. before.each ++ replies_from flat (map stored x ++ events_from y later)) (front ∙ take_least count items) (back ∙ drop_least count items);
+  listed = λ later.
+      ap (λ (o : Replies). o.listings ++ listings_from flat (events_from left later)) is
+      ∙ ap (λ l. before.listings ++ l) (sym (items_listed flat next (events_from left later)))
+      ∙ ap₂ (λ x y. before.listings ++ listings_from flat (map stored x ++ events_from y later)) (front ∙ take_least count items) (back ∙ drop_least count items);
   flat = refl;
 }
 
--- any other command was run: its reply was appended
-pub ran_asked : (old new : Flat) (n : ℕ) (command : Command) (items : List Item) (reply : Reply) (before out : List Reply)
-    → takes_items command ≡ false → reply ≡ (step old n command).reply → new ≡ (step old n command).flat → out ≡ before ++ reply ∷ []
+-- any other command was run: its reply was appended, and what it lists
+pub ran_asked : (old new : Flat) (n : ℕ) (command : Command) (items : List Item) (reply : Reply) (before out : Replies)
+    → takes_items command ≡ false → reply ≡ (step old n command).reply → new ≡ (step old n command).flat
+    → out ≡ record { each = before.each ++ reply ∷ []; listings = before.listings ++ listings_at old command }
     → RunsCommand old new n command items items before out
 ran_asked old new n command items reply before out other replied flat is = record {
   replied = λ later.
       let c : Issued = record { section = n; command = command } in
-      ap (λ o. o ++ replies_from new (events_from items later)) is
-      ∙ append_assoc before (reply ∷ []) _
-      ∙ ap₂ (λ r f. before ++ r ∷ replies_from f (events_from items later)) replied flat
-      ∙ sym (ap₂ (λ e l. before ++ replies_from old (e ++ events_from l later)) (asks_alone c command items other) (leaves_all command items other));
+      ap (λ (o : Replies). o.each ++ replies_from new (events_from items later)) is
+      ∙ append_assoc before.each (reply ∷ []) _
+      ∙ ap₂ (λ r f. before.each ++ r ∷ replies_from f (events_from items later)) replied flat
+      ∙ sym (ap₂ (λ e l. before.each ++ replies_from old (e ++ events_from l later)) (asks_alone c command items other) (leaves_all command items other));
+  listed = λ later.
+      let c : Issued = record { section = n; command = command } in
+      ap (λ (o : Replies). o.listings ++ listings_from new (events_from items later)) is
+      ∙ append_assoc before.listings (listings_at old command) _
+      ∙ ap (λ f. before.listings ++ (listings_at old command ++ listings_from f (events_from items later))) flat
+      ∙ sym (ap₂ (λ e l. before.listings ++ listings_from old (e ++ events_from l later)) (asks_alone c command items other) (leaves_all command items other));
   flat = flat;
 }

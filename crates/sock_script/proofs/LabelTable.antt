@@ -1,6 +1,6 @@
 -- The table of a script's labels gives the label of each name.
-use Rattle.std.proofs.Common.{◌≡◌, ℕ, ◌+◌, ◌/◌, ◌%◌, ◌^◌, ◌<◌, zero, suc, List, [], ◌∷◌, ◌++◌, map, Option, Some, None, unwrap_or, slice_get, length, take, get_or, append-nil, refl, sym, ap, ap₂, ◌∙◌}
-use Rattle.std.specs.List.{cons_option, slice_index_or}
+use Rattle.std.proofs.Common.{◌≡◌, ℕ, ◌+◌, ◌/◌, ◌%◌, ◌^◌, ◌<◌, zero, suc, cond, List, [], ◌∷◌, ◌++◌, map, Option, Some, None, unwrap_or, slice_get, length, take, get_or, append-nil, refl, sym, ap, ap₂, ◌∙◌}
+use Rattle.std.specs.List.{cons_option, flat_map, slice_index_or}
 use Rattle.std.specs.Borrow.{Bor}
 use Rattle.std.specs.Option.{option_copied, option_map}
 use Rattle.std.proofs.lemmas.List.{take_more, map-append, get_or-map}
@@ -12,14 +12,16 @@ use Rattle.sock_card.specs.declared.card.Card.{Card}
 use Rattle.flat_list.specs.declared.command.Command.{Command}
 use Rattle.flat_list.specs.declared.command.Reply.{Reply}
 use Rattle.flat_list.specs.declared.command.Reply.TheVariants as replies
-use Rattle.sock_script.specs.Grammar.{given_label, labels_of}
-use Rattle.sock_script.specs.Output.{Event, asked, stored, label_in, found_label, line_with, item_line, lines_text}
-use Rattle.sock_script.specs.Steps.{label_table, label_at, found_at, lines_at}
+use Rattle.sock_script.specs.Grammar.{given_label, given_labels}
+use Rattle.flat_list.specs.Run.{Issued}
+use Rattle.socket_list.specs.Listing.{Listing}
+use Rattle.sock_script.specs.Output.{Event, asked, stored, label_in, found_label, is_dump, listing_text, listings_after, line_with, item_line, command_text, lines_text}
+use Rattle.sock_script.specs.Steps.{label_table, label_at, found_at, command_at, lines_at}
 
 -- a section's row in the table; where there is none, no label is found
 row_of : (name : ℕ) (sections : List (List Command)) (n : ℕ)
-    → unwrap_or (slice_get (slice_index_or (map (λ section. [] ∷ labels_of section) sections) n []) name) []
-    ≡ unwrap_or (slice_get ([] ∷ labels_of (slice_index_or sections n [])) name) []
+    → unwrap_or (slice_get (slice_index_or (map (λ section. [] ∷ given_labels section) sections) n []) name) []
+    ≡ unwrap_or (slice_get ([] ∷ given_labels (slice_index_or sections n [])) name) []
 row_of zero [] n = refl
 row_of (suc name) [] n = refl
 row_of name (s ∷ sections) zero = refl
@@ -37,36 +39,41 @@ label_of_reply sections (replies.Found answer) = label_of_found sections answer
 label_of_reply sections reply = refl
 
 -- so the lines are those of the script's own labels
-pub same_lines : (sections : List (List Command)) (number : ℕ) (events : List Event) (rs : List Reply) → lines_at (label_table sections) number events rs ≡ lines_text sections number events rs
-same_lines sections number [] [] = refl
-same_lines sections number [] (r ∷ rs) = refl
-same_lines sections number (asked c ∷ events) [] = refl
-same_lines sections number (stored item ∷ events) [] = refl
-same_lines sections number (asked c ∷ events) (r ∷ rs) =
-    ap₂ ◌++◌ (ap (λ label. line_with c.section c.command label r) (label_of_reply sections r)) (same_lines sections number events rs)
-same_lines sections number (stored item ∷ events) (r ∷ rs) =
-    ap₂ ◌++◌ (ap (λ label. item_line number label r) (label_of_reply sections r)) (same_lines sections (number + 1) events rs)
+same_command : (sections : List (List Command)) (c : Issued) (r : Reply) (ls : List Listing) → command_at (label_table sections) c r ls ≡ command_text sections c r ls
+same_command sections c r ls =
+    ap₂ (λ (label_of : ℕ → List ℕ) (label : List ℕ). cond (is_dump c.command) (flat_map (listing_text label_of c.section) (take 1 ls)) (line_with c.section c.command label r))
+    (λ k name. label_of_name sections name k) (label_of_reply sections r)
+
+pub same_lines : (sections : List (List Command)) (number : ℕ) (events : List Event) (rs : List Reply) (ls : List Listing) → lines_at (label_table sections) number events rs ls ≡ lines_text sections number events rs ls
+same_lines sections number [] [] ls = refl
+same_lines sections number [] (r ∷ rs) ls = refl
+same_lines sections number (asked c ∷ events) [] ls = refl
+same_lines sections number (stored item ∷ events) [] ls = refl
+same_lines sections number (asked c ∷ events) (r ∷ rs) ls =
+    ap₂ ◌++◌ (same_command sections c r ls) (same_lines sections number events rs (listings_after c.command ls))
+same_lines sections number (stored item ∷ events) (r ∷ rs) ls =
+    ap₂ ◌++◌ (ap (λ label. item_line number label r) (label_of_reply sections r)) (same_lines sections (number + 1) events rs ls)
 
 -- the labels of one command more
 one_more : (commands : List Command) (i : ℕ) (c : Command) → i < length commands → c ≡ get_or commands i c
-    → labels_of (take (i + 1) commands) ≡ labels_of (take i commands) ++ cons_option (given_label c) []
+    → given_labels (take (i + 1) commands) ≡ given_labels (take i commands) ++ cons_option (given_label c) []
 one_more commands i c lt here =
-    ap labels_of (take_more commands i c lt ∙ ap (λ t. take i commands ++ t ∷ []) (sym here)) ∙ filter_map-append given_label (take i commands) (c ∷ [])
+    ap given_labels (take_more commands i c lt ∙ ap (λ t. take i commands ++ t ∷ []) (sym here)) ∙ filter_map-append given_label (take i commands) (c ∷ [])
 
 -- what the code has put in a section's row
 abbrev pub RowSoFar : List (Bor (List ℕ)) → List Command → ℕ → Type 0
-RowSoFar row commands i = texts row ≡ [] ∷ labels_of (take i commands)
+RowSoFar row commands i = texts row ≡ [] ∷ given_labels (take i commands)
 
 pub label_more : (row new : List (Bor (List ℕ))) (label : Bor (List ℕ)) (commands : List Command) (i : ℕ) (c : Command) → i < length commands → c ≡ get_or commands i c
     → given_label c ≡ Some label.now → new ≡ row ++ label ∷ [] → RowSoFar row commands i → RowSoFar new commands (i + 1)
 label_more row new label commands i c lt here gives is h =
     ap texts is ∙ map-append (λ w. w.now) row (label ∷ []) ∙ ap (λ t. t ++ label.now ∷ []) h
-    ∙ sym (ap (λ t. [] ∷ t) (one_more commands i c lt here ∙ ap (λ o. labels_of (take i commands) ++ cons_option o []) gives))
+    ∙ sym (ap (λ t. [] ∷ t) (one_more commands i c lt here ∙ ap (λ o. given_labels (take i commands) ++ cons_option o []) gives))
 
 pub none_more : (row new : List (Bor (List ℕ))) (commands : List Command) (i : ℕ) (c : Command) → i < length commands → c ≡ get_or commands i c
     → given_label c ≡ None → new ≡ row → RowSoFar row commands i → RowSoFar new commands (i + 1)
 none_more row new commands i c lt here gives is h =
-    ap texts is ∙ h ∙ ap (λ t. [] ∷ t) (sym (one_more commands i c lt here ∙ ap (λ o. labels_of (take i commands) ++ cons_option o []) gives ∙ append-nil _))
+    ap texts is ∙ h ∙ ap (λ t. [] ∷ t) (sym (one_more commands i c lt here ∙ ap (λ o. given_labels (take i commands) ++ cons_option o []) gives ∙ append-nil _))
 
 -- a label in a row
 in_place : (row : List (Bor (List ℕ))) (number : ℕ) (none : Bor (List ℕ)) → (get_or row number none).now ≡ unwrap_or (slice_get (texts row) number) none.now

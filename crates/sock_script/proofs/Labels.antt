@@ -11,7 +11,7 @@ use Rattle.flat_list.specs.declared.command.Command.{Command}
 use Rattle.flat_list.specs.declared.command.LabelKey.{LabelKey}
 use Rattle.flat_list.specs.Labels.{key_of, key_cmp, text_of}
 use Rattle.flat_list.proofs.LabelKeys.{compared, same_key, label_told}
-use Rattle.sock_script.specs.Grammar.{given_label, labels_of}
+use Rattle.sock_script.specs.Grammar.{given_label, given_labels}
 use Rattle.sock_script.specs.Steps.{IsSetOf, NotesLabel}
 
 -- a key is that label's
@@ -58,12 +58,12 @@ pub noted : (old new : BTreeSet LabelKey) (command : Command) (label : List ℕ)
 noted old new command label k gives is tells more commands h text told =
     ap (list_any (has_label text)) more ∙ more_keys text k old.keys
     ∙ ap₂ ◌||◌ (h text told) (ap (has_label text) is ∙ compared text label told (label_told label k is tells) ∙ sym (last_label text (given_label command) label gives))
-    ∙ sym (ap (list_any (bytes_eq text)) (filter_map-append given_label commands (command ∷ [])) ∙ list_any-append (bytes_eq text) (labels_of commands) (labels_of (command ∷ [])))
+    ∙ sym (ap (list_any (bytes_eq text)) (filter_map-append given_label commands (command ∷ [])) ∙ list_any-append (bytes_eq text) (given_labels commands) (given_labels (command ∷ [])))
 
 -- a command that gives none
 pub none_noted : (old : BTreeSet LabelKey) (command : Command) → given_label command ≡ None → NotesLabel old command old
 none_noted old command none commands h text told =
-    h text told ∙ ap (list_any (bytes_eq text)) (sym (filter_map-append given_label commands (command ∷ []) ∙ ap (λ o. labels_of commands ++ cons_option o []) none ∙ append-nil (labels_of commands)))
+    h text told ∙ ap (list_any (bytes_eq text)) (sym (filter_map-append given_label commands (command ∷ []) ∙ ap (λ o. given_labels commands ++ cons_option o []) none ∙ append-nil (given_labels commands)))
 
 -- whether a label is among those of a set
 pub found_in : (set : BTreeSet LabelKey) (labels : List (List ℕ)) (label : List ℕ) (k : LabelKey) → IsSetOf set labels → k ≡ key_of label → text_of k ≡ label

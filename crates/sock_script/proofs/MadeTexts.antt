@@ -17,9 +17,10 @@ use Rattle.sock_script.specs.declared.line.Line.{Line}
 use Rattle.sock_script.specs.declared.line.Line.TheVariants as lines
 use Rattle.sock_script.specs.Words.{words_of}
 use Rattle.inet_io.specs.Texts.{addr_text, end_text}
-use Rattle.sock_script.specs.Forms.{HasForm, CommandFits, command_words, shape_words, ShapeFits}
+use Rattle.chain_book.specs.Shapes.{ShapeFits}
+use Rattle.sock_script.specs.Forms.{HasForm, CommandFits, command_words, shape_words}
 use Rattle.inet_io.specs.Labels.{is_label}
-use Rattle.sock_script.specs.Grammar.{Draft, Follows, ReadsLine, Reads, IsScript, given_label, labels_of, is_new, nothing_yet, past, script_of}
+use Rattle.sock_script.specs.Grammar.{Draft, Follows, ReadsLine, Reads, IsScript, given_label, given_labels, is_new, nothing_yet, past, script_of}
 use Rattle.sock_script.proofs.LineCases.{reads}
 use Rattle.sock_script.proofs.Scripts.{Reads-append}
 use Rattle.sock_script.specs.Make.{TextsAreScripts, made_text, step_label, chosen_step, last_number, step_port, remote_port, step_words, step_generator, step_lines, lines_from, first_lines, line_bytes}
@@ -91,7 +92,7 @@ IsRead-line old mid new words texts line none plain clear form follows rest = re
 
 -- the label isn't one that those commands give
 abbrev IsFresh : ℕ → List Command → Type 0
-IsFresh i section = list_any (bytes_eq (step_label i)) (labels_of section) ≡ false
+IsFresh i section = list_any (bytes_eq (step_label i)) (given_labels section) ≡ false
 
 -- two steps' labels differ
 labels_differ : (i j : ℕ) → i < j → j < 2 ^ 64 → bytes_eq (step_label j) (step_label i) ≡ false
@@ -230,7 +231,7 @@ module _ (i w : ℕ) (few : i ≤ 100000) (positive : 1 ≤ i) where
   may_follow section fresh (suc (suc (suc (suc (suc (suc (suc (suc k)))))))) lt = absurd (omega arith)
 
   -- a step gives no label, or its own
-  gives : (k : ℕ) → k < 8 → (labels_of (slice_index_or (commands_by_remainder i w) k []) ≡ []) ⊎ (labels_of (slice_index_or (commands_by_remainder i w) k []) ≡ step_label i ∷ [])
+  gives : (k : ℕ) → k < 8 → (given_labels (slice_index_or (commands_by_remainder i w) k []) ≡ []) ⊎ (given_labels (slice_index_or (commands_by_remainder i w) k []) ≡ step_label i ∷ [])
   gives zero lt = inr refl
   gives (suc zero) lt = inr refl
   gives (suc (suc zero)) lt = inr refl
@@ -242,10 +243,10 @@ module _ (i w : ℕ) (few : i ≤ 100000) (positive : 1 ≤ i) where
   gives (suc (suc (suc (suc (suc (suc (suc (suc k)))))))) lt = absurd (omega arith)
 
 -- a label that none of some commands gives
-fresh_past : (j i : ℕ) (section cs : List Command) → i < j → j < 2 ^ 64 → IsFresh j section → (labels_of cs ≡ []) ⊎ (labels_of cs ≡ step_label i ∷ []) → IsFresh j (section ++ cs)
+fresh_past : (j i : ℕ) (section cs : List Command) → i < j → j < 2 ^ 64 → IsFresh j section → (given_labels cs ≡ []) ⊎ (given_labels cs ≡ step_label i ∷ []) → IsFresh j (section ++ cs)
 fresh_past j i section cs lt fits fresh given =
     ap (list_any (bytes_eq (step_label j))) (filter_map-append given_label section cs)
-    ∙ list_any-append (bytes_eq (step_label j)) (labels_of section) (labels_of cs)
+    ∙ list_any-append (bytes_eq (step_label j)) (given_labels section) (given_labels cs)
     ∙ or_from _ _ fresh (elim given [
       | inl none ↦ ap (list_any (bytes_eq (step_label j))) none
       | inr own ↦ ap (list_any (bytes_eq (step_label j))) own ∙ or_from _ false (labels_differ i j lt fits) refl

@@ -64,6 +64,7 @@ has_words (commands.At moment) e = cc
 has_words commands.Reap e = cc
 has_words (commands.Look query) e = cc
 has_words (commands.Packets count) e = cc
+has_words commands.Dump e = cc
 
 not_empty : (text : List ℕ) (c : Command) → HasForm (words_of text) (lines.Command c) → 1 ≤ length text
 unfolding words_of

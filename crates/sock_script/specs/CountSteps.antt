@@ -2,6 +2,7 @@
 use Rattle.std.specs.Prelude.{ℕ, ◌+◌, if◌then◌else◌, bytes_eq, List, [], ◌∷◌, codes}
 use Rattle.flat_list.specs.declared.command.Command.{Command}
 use Rattle.sock_script.specs.declared.counts.Counts.{Counts}
+use Rattle.sock_script.specs.Output.{is_dump}
 use Rattle.sock_script.specs.Counts.{Answered, is_look, begins_with_ok}
 
 -- the counts after one command more, whose reply has that text
@@ -11,9 +12,11 @@ one_more counts command reply =
     then (if bytes_eq reply (codes "none")
     then record counts { none = counts.none + 1 }
     else record counts { found = counts.found + 1 })
+    else (if is_dump command
+    then counts
     else (if begins_with_ok reply
     then record counts { commands = counts.commands + 1; ok = counts.ok + 1 }
-    else record counts { commands = counts.commands + 1; refused = counts.refused + 1 })
+    else record counts { commands = counts.commands + 1; refused = counts.refused + 1 }))
 
 -- the counts after some commands more
 abbrev pub with_answered : Counts → List Answered → Counts

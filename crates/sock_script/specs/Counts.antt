@@ -7,7 +7,7 @@ use Rattle.flat_list.specs.declared.command.Reply.{Reply}
 use Rattle.flat_list.specs.Run.{Issued}
 use Rattle.flat_list.specs.Script.{Script}
 use Rattle.sock_script.specs.declared.counts.Counts.{Counts}
-use Rattle.sock_script.specs.Output.{issued, found_label, reply_with}
+use Rattle.sock_script.specs.Output.{issued, found_label, is_dump, reply_with}
 
 -- a command, and the text of its reply
 pub record Answered : Type 0 where
@@ -29,17 +29,17 @@ is_look _ = false
 abbrev pub begins_with_ok : List ℕ → Bool
 begins_with_ok text = starts_with nat_eq text (codes "ok")
 
--- any other command
+-- any other command, but for `dump`, which isn't counted
 abbrev pub is_counted : Answered → Bool
-is_counted a = not (is_look a.command)
+is_counted a = not (is_look a.command) && not (is_dump a.command)
 
--- any other command, done
+-- such a command, done
 abbrev pub is_done : Answered → Bool
-is_done a = not (is_look a.command) && begins_with_ok a.reply
+is_done a = is_counted a && begins_with_ok a.reply
 
--- any other command, not done
-abbrev pub is_refused : Answered → Bool
-is_refused a = not (is_look a.command) && not (begins_with_ok a.reply)
+-- such a command, not done
+abbrev pub is_not_done : Answered → Bool
+is_not_done a = is_counted a && not (begins_with_ok a.reply)
 
 -- a lookup that found a socket
 abbrev pub is_found : Answered → Bool
@@ -55,7 +55,7 @@ counts_of answers =
     record {
       commands = count_by is_counted answers;
       ok = count_by is_done answers;
-      refused = count_by is_refused answers;
+      refused = count_by is_not_done answers;
       found = count_by is_found answers;
       none = count_by is_missed answers;
     }

@@ -3,12 +3,12 @@
 -- a leading zero, which is `decimal`, and addresses and ends as `addr_text` and `end_text` say.
 use Rattle.std.specs.Prelude.{◌≡◌, ℕ, ◌-◌, ◌^◌, ◌%◌, ◌<◌, ◌≤◌, Bool, true, false, IsTrue, List, [], ◌∷◌, ◌++◌, length, take, drop, map, replicate, codes, decimal, Option, Some, None}
 use Rattle.std.specs.List.Sorted.{IsStrictlyIncreasing}
-use Rattle.std.specs.Int.{IsPowerOfTwo}
 use Rattle.list_words.specs.Lists.{Each}
 use Rattle.inet_io.specs.Texts.{addr_text, end_text}
 use Rattle.inet_io.specs.Labels.{is_label}
 use Rattle.flat_list.specs.declared.command.End.{End}
 use Rattle.chain_book.specs.declared.shape.Shape.{Shape}
+use Rattle.chain_book.specs.Shapes.{ShapeFits}
 use Rattle.flat_list.specs.declared.header.Range.{Range}
 use Rattle.flat_list.specs.declared.header.Reserved.{Reserved}
 use Rattle.flat_list.specs.Ports.{size, none_reserved}
@@ -68,6 +68,7 @@ command_words (commands.Look query) =
     codes "look" ∷ end_text query.from.addr query.from.port ∷ end_text query.to.addr query.to.port
     ∷ (device_words query.dev ++ namespace_words query.net)
 command_words (commands.Packets count) = codes "packets" ∷ decimal count ∷ []
+command_words commands.Dump = codes "dump" ∷ []
 
 -- how the tables' shape is spelled
 abbrev pub shape_words : Shape → List (List ℕ)
@@ -127,22 +128,12 @@ CommandFits commands.Reap = Unit {0}
 CommandFits (commands.Look query) =
     EndFits query.from × EndFits query.to × DeviceFits query.dev × NamespaceFits query.net
 CommandFits (commands.Packets count) = count ≤ 1000000
+CommandFits commands.Dump = Unit {0}
 
 -- how a switch is spelled
 abbrev pub switch_word : Bool → List ℕ
 switch_word false = codes "0"
 switch_word true = codes "1"
-
--- a power of two, from 1 to `most`
-abbrev pub IsPowerTo : ℕ → ℕ → Type 0
-IsPowerTo most n = IsPowerOfTwo n × (n ≤ most)
-
--- how many slots and buckets there may be
-pub record ShapeFits (shape : Shape) : Type 0 where
-  pub slots : (1 ≤ shape.slots) × (shape.slots ≤ 65536)
-  pub bind : IsPowerTo 256 shape.bind
-  pub hash : IsPowerTo 65536 shape.hash
-  pub listen : IsPowerTo 4096 shape.listen
 
 -- ports from 1 to 65535, the lowest first, and of even number; which are reserved another line says
 pub record RangeFits (range : Range) : Type 0 where

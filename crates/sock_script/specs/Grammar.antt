@@ -25,13 +25,13 @@ given_label (commands.Accept listener label from at) = Some label
 given_label _ = None
 
 -- the labels that some commands have given
-abbrev pub labels_of : List Command → List (List ℕ)
-labels_of section = filter_map given_label section
+abbrev pub given_labels : List Command → List (List ℕ)
+given_labels section = filter_map given_label section
 
 -- no label, or one that those commands haven't given
 abbrev pub is_new : Option (List ℕ) → List Command → Bool
 is_new None section = true
-is_new (Some label) section = not (list_any (bytes_eq label) (labels_of section))
+is_new (Some label) section = not (list_any (bytes_eq label) (given_labels section))
 
 -- lookups are asked for only where sections run one after the other
 abbrev pub is_allowed : Mode → Command → Bool
@@ -188,8 +188,8 @@ capture_namespace None = 0
 capture_namespace (Some place) = place.net
 
 -- a text is one script at most
-abbrev pub IsDetermined : Type 0
-IsDetermined =
+abbrev pub IsOneScript : Type 0
+IsOneScript =
     (mode : Mode) (text : List ℕ) (a b : Script) → IsScript mode text a → IsScript mode text b → a ≡ b
 
 -- lines of which one is the first outside are not in the grammar

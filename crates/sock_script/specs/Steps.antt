@@ -1,6 +1,6 @@
 -- What the steps of reading, of running and of writing a script answer. No public contract cites this file.
-use Rattle.std.specs.Prelude.{◌≡◌, ℕ, ◌+◌, ◌/◌, ◌%◌, ◌^◌, Bool, true, false, Some, unwrap_or, slice_get, List, [], ◌∷◌, ◌++◌, ◌≤◌, map, take, drop, min, length, bytes_eq}
-use Rattle.std.specs.List.{list_any, slice_index_or}
+use Rattle.std.specs.Prelude.{◌≡◌, ℕ, ◌+◌, ◌/◌, ◌%◌, ◌^◌, Bool, true, false, Some, if◌then◌else◌, unwrap_or, slice_get, List, [], ◌∷◌, ◌++◌, ◌≤◌, map, take, drop, min, length, bytes_eq}
+use Rattle.std.specs.List.{flat_map, list_any, slice_index_or}
 use Rattle.std.specs.BTreeSet.{BTreeSet, contains_by}
 use Rattle.capture_reader.specs.declared.packet.Item.{Item}
 use Rattle.flat_list.specs.declared.command.Command.{Command}
@@ -13,13 +13,14 @@ use Rattle.flat_list.specs.Labels.{IsLabel, key_of, key_cmp}
 use Rattle.flat_list.specs.Run.{Issued, after}
 use Rattle.flat_list.specs.Sections.{KeepsOthers}
 use Rattle.flat_list.specs.Step.{step}
+use Rattle.socket_list.specs.Listing.{Listing}
 use Rattle.sock_script.specs.declared.parse.Mode.{Mode}
 use Rattle.sock_script.specs.declared.parse.ScriptEnd.{ScriptEnd}
 use Rattle.sock_script.specs.declared.parse.ScriptEnd.TheVariants as ends
 use Rattle.sock_script.specs.declared.line.Line.{Line}
 use Rattle.sock_script.specs.declared.line.Line.TheVariants as lines
-use Rattle.sock_script.specs.Grammar.{Draft, Follows, ReadsLine, IsFirstOutside, labels_of}
-use Rattle.sock_script.specs.Output.{Event, asked, stored, events_from, replies_from, line_with, item_line}
+use Rattle.sock_script.specs.Grammar.{Draft, Follows, ReadsLine, IsFirstOutside, given_labels}
+use Rattle.sock_script.specs.Output.{Replies, Event, asked, stored, events_from, replies_from, listings_from, line_with, item_line, is_dump, listing_text, listings_after}
 
 -- the set has the keys of these labels, and no others
 abbrev pub IsSetOf : BTreeSet LabelKey → List (List ℕ) → Type 0
@@ -29,7 +30,7 @@ IsSetOf set labels =
 -- the set has the label that one command more gives, if it gives one
 abbrev pub NotesLabel : BTreeSet LabelKey → Command → BTreeSet LabelKey → Type 0
 NotesLabel old command new =
-    (commands : List Command) → IsSetOf old (labels_of commands) → IsSetOf new (labels_of (commands ++ command ∷ []))
+    (commands : List Command) → IsSetOf old (given_labels commands) → IsSetOf new (given_labels (commands ++ command ∷ []))
 
 -- the line is one of a command
 abbrev pub IsCommand : Line → Type 0
@@ -67,20 +68,28 @@ RepliesSo old new commands items left before out =
     (later : List Issued)
     → out ++ replies_from new (events_from left later) ≡ before ++ replies_from old (events_from items (commands ++ later))
 
+-- the same of what they list
+abbrev pub ListsSo : Flat → Flat → List Issued → List Item → List Item → List Listing → List Listing → Type 0
+ListsSo old new commands items left before out =
+    (later : List Issued)
+    → out ++ listings_from new (events_from left later) ≡ before ++ listings_from old (events_from items (commands ++ later))
+
 -- one command more was run, and the list is as the step leaves it
-pub record RunsCommand (old new : Flat) (n : ℕ) (command : Command) (items left : List Item) (before out : List Reply) : Type 0 where
-  pub replied : RepliesSo old new (issue n (command ∷ [])) items left before out
+pub record RunsCommand (old new : Flat) (n : ℕ) (command : Command) (items left : List Item) (before out : Replies) : Type 0 where
+  pub replied : RepliesSo old new (issue n (command ∷ [])) items left before.each out.each
+  pub listed : ListsSo old new (issue n (command ∷ [])) items left before.listings out.listings
   pub flat : new ≡ (step old n command).flat
 
 -- a section was run, which gave no labels in others
-pub record RunsSection (old new : Flat) (n : ℕ) (commands : List Command) (items left : List Item) (before out : List Reply) : Type 0 where
-  pub replied : RepliesSo old new (issue n commands) items left before out
+pub record RunsSection (old new : Flat) (n : ℕ) (commands : List Command) (items left : List Item) (before out : Replies) : Type 0 where
+  pub replied : RepliesSo old new (issue n commands) items left before.each out.each
+  pub listed : ListsSo old new (issue n commands) items left before.listings out.listings
   pub flat : new ≡ after old (issue n commands)
   pub others : KeepsOthers n old.sections new.sections
 
 -- the labels of some sections, by the numbers of the section and of the label in it, both from 1
 abbrev pub label_table : List (List Command) → List (List (List ℕ))
-label_table sections = map (λ section. [] ∷ labels_of section) ([] ∷ sections)
+label_table sections = map (λ section. [] ∷ given_labels section) ([] ∷ sections)
 
 -- the label of a name in such a table, or none
 abbrev pub label_at : List (List (List ℕ)) → ℕ → List ℕ
@@ -91,13 +100,19 @@ abbrev pub found_at : List (List (List ℕ)) → Reply → List ℕ
 found_at table (replies.Found (Some card)) = label_at table card.name
 found_at table _ = []
 
--- the lines of events and their replies, where the table has the labels, and the next item has that number
-abbrev pub lines_at : List (List (List ℕ)) → ℕ → List Event → List Reply → List ℕ
-lines_at table number (asked c ∷ events) (reply ∷ rest) =
-    line_with c.section c.command (found_at table reply) reply ++ lines_at table number events rest
-lines_at table number (stored item ∷ events) (reply ∷ rest) =
-    item_line number (found_at table reply) reply ++ lines_at table (number + 1) events rest
-lines_at table number _ _ = []
+-- the lines of a command, where the table has the labels
+abbrev pub command_at : List (List (List ℕ)) → Issued → Reply → List Listing → List ℕ
+command_at table c reply listings =
+    if is_dump c.command then flat_map (listing_text (label_at table) c.section) (take 1 listings)
+    else line_with c.section c.command (found_at table reply) reply
+
+-- the lines of events, with their replies and listings, where the table has the labels, and the next item has that number
+abbrev pub lines_at : List (List (List ℕ)) → ℕ → List Event → List Reply → List Listing → List ℕ
+lines_at table number (asked c ∷ events) (reply ∷ rest) listings =
+    command_at table c reply listings ++ lines_at table number events rest (listings_after c.command listings)
+lines_at table number (stored item ∷ events) (reply ∷ rest) listings =
+    item_line number (found_at table reply) reply ++ lines_at table (number + 1) events rest listings
+lines_at table number _ _ listings = []
 
 -- the lines of replies to items alone
 abbrev pub item_lines : List (List (List ℕ)) → ℕ → List Reply → List ℕ
@@ -105,17 +120,26 @@ item_lines table number [] = []
 item_lines table number (reply ∷ rest) =
     item_line number (found_at table reply) reply ++ item_lines table (number + 1) rest
 
--- what isn't written yet: the number of the next item, the items that are left, and the replies
+-- what isn't written yet: the number of the next item, the items that are left, the replies, and the listings
 pub record Unwritten : Type 0 where
   pub number : ℕ
   pub items : List Item
   pub replies : List Reply
+  pub listings : List Listing
 
 -- the next reply was taken
 pub record NextOf (old : Unwritten) (reply : Reply) (new : Unwritten) : Type 0 where
   pub replies : old.replies ≡ reply ∷ new.replies
   pub number : new.number ≡ old.number
   pub items : new.items ≡ old.items
+  pub listings : new.listings ≡ old.listings
+
+-- the next listing was taken
+pub record NextListingOf (old : Unwritten) (listing : Listing) (new : Unwritten) : Type 0 where
+  pub listings : old.listings ≡ listing ∷ new.listings
+  pub number : new.number ≡ old.number
+  pub items : new.items ≡ old.items
+  pub replies : new.replies ≡ old.replies
 
 -- so many items were taken, or those that were left, and the replies to them, as far as there are any
 pub record TakenOf (old : Unwritten) (count : ℕ) (here : List Reply) (new : Unwritten) : Type 0 where
@@ -123,16 +147,25 @@ pub record TakenOf (old : Unwritten) (count : ℕ) (here : List Reply) (new : Un
   pub most : length here ≡ min (min count (length old.items)) (length old.replies)
   pub number : new.number ≡ old.number + min count (length old.items)
   pub items : new.items ≡ drop count old.items
+  pub listings : new.listings ≡ old.listings
 
 -- the number of an item never passes that of the last by more than one
 abbrev pub HasRoom : Unwritten → Unwritten → Type 0
 HasRoom old new = new.number + length new.items ≤ old.number + length old.items
 
+-- the lines of events, with what isn't written yet
+abbrev pub lines_left : List (List (List ℕ)) → List Event → Unwritten → List ℕ
+lines_left table events left = lines_at table left.number events left.replies left.listings
+
+-- the lines of what the next `dump` of section n lists were written, if a listing is left
+pub record WritesDump (table : List (List (List ℕ))) (n : ℕ) (old : Unwritten) (before out : List ℕ) (new : Unwritten) : Type 0 where
+  pub lines : out ≡ before ++ flat_map (listing_text (label_at table) n) (take 1 old.listings)
+  pub left : new ≡ record old { listings = drop 1 old.listings }
+
 -- the lines of the next items were written, as many as that or as were left
 pub record WritesItems (table : List (List (List ℕ))) (count : ℕ) (old : Unwritten) (before out : List ℕ) (new : Unwritten) : Type 0 where
   pub lines : (events : List Event)
-      → out ++ lines_at table new.number events new.replies
-      ≡ before ++ lines_at table old.number (map stored (take count old.items) ++ events) old.replies
+      → out ++ lines_left table events new ≡ before ++ lines_left table (map stored (take count old.items) ++ events) old
   pub items : new.items ≡ drop count old.items
   pub room : HasRoom old new
 
@@ -140,8 +173,8 @@ pub record WritesItems (table : List (List (List ℕ))) (count : ℕ) (old : Unw
 abbrev pub WritesSo : List (List (List ℕ)) → List Issued → Unwritten → Unwritten → List ℕ → List ℕ → Type 0
 WritesSo table commands old new before out =
     (later : List Issued)
-    → out ++ lines_at table new.number (events_from new.items later) new.replies
-    ≡ before ++ lines_at table old.number (events_from old.items (commands ++ later)) old.replies
+    → out ++ lines_left table (events_from new.items later) new
+    ≡ before ++ lines_left table (events_from old.items (commands ++ later)) old
 
 -- and the items keep room for their numbers
 pub record Writes (table : List (List (List ℕ))) (commands : List Issued) (old : Unwritten) (before out : List ℕ) (new : Unwritten) : Type 0 where

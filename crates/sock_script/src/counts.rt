@@ -5,6 +5,7 @@ ghost use Rattle.sock_script.specs.Counts.{script_counts, counts_text};
 ghost use Rattle.sock_script.specs.CountSteps.{one_more, weight, with_answered};
 ghost use Rattle.sock_script.specs.Steps.{issue};
 ghost use Rattle.flat_list.specs.declared.command.Command.{Command as AnyCommand};
+ghost use Rattle.sock_script.specs.Output as output;
 ghost use Rattle.sock_script.specs.Output.{reply_with};
 
 use flat_list::{Command, Reply, Script};
@@ -14,7 +15,7 @@ use std::alloc::{AllocError, Global};
 /// What is counted of a script and its replies.
 #[derive(Clone, Copy, Debug, PartialEq, Eq)]
 pub struct Counts {
-    /// The commands other than `look`.
+    /// The commands other than `look` and `dump`.
     pub commands: u64,
     /// Those of them that were done.
     pub ok: u64,
@@ -38,6 +39,12 @@ fn is_look(command: &Command) -> bool
     ensures { result ≡ spec.is_look command.now }
 {
     matches!(command, Command::Look { .. })
+}
+
+fn is_dump(command: &Command) -> bool
+    ensures { result ≡ output.is_dump command.now }
+{
+    matches!(command, Command::Dump)
 }
 
 /// Whether a command was done, by its reply.
@@ -86,7 +93,7 @@ impl Counts {
             } else {
                 self.found += 1;
             }
-        } else {
+        } else if !is_dump(command) {
             self.commands += 1;
             if is_done(reply) {
                 self.ok += 1;
@@ -150,7 +157,7 @@ mod tests {
     {
         let script = make::script(alloc, seed, count)?;
         let replies = run::replies(alloc, &script, &[])?;
-        Counts::of(&script, &replies).text(alloc)
+        Counts::of(&script, &replies.each).text(alloc)
     }
 
     #[test]

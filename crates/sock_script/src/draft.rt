@@ -46,14 +46,14 @@ struct OpenSection {
 impl Model for OpenSection {
     ghost use Rattle.std.specs.Prelude.{List};
     ghost use Rattle.flat_list.specs.declared.command.Command.{Command as AnyCommand};
-    ghost use Rattle.sock_script.specs.Grammar.{labels_of};
+    ghost use Rattle.sock_script.specs.Grammar.{given_labels};
     ghost use Rattle.sock_script.specs.Steps.{IsSetOf};
 
     ghost Value = { List AnyCommand };
 
     ghost view = { λ s. s.commands.items };
 
-    ghost invariant = { λ s. IsSetOf s.labels (labels_of s.commands.items) };
+    ghost invariant = { λ s. IsSetOf s.labels (given_labels s.commands.items) };
 }
 
 impl OpenSection {
@@ -67,7 +67,7 @@ impl OpenSection {
     }
 
     fn has_given(&self, label: &Label) -> bool
-        ensures { result ≡ list_any (bytes_eq label.now) (spec.labels_of self.now) }
+        ensures { result ≡ list_any (bytes_eq label.now) (spec.given_labels self.now) }
     {
         self.labels.contains(&label.key())
     }

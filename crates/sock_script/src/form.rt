@@ -7,7 +7,8 @@ ghost use Rattle.std.specs.List.{list_all};
 ghost use Rattle.inet_io.specs.Labels.{is_label};
 ghost use Rattle.inet_io.specs.Texts.{addr_text, end_text};
 ghost use Rattle.sock_script.specs.Seen.{texts};
-ghost use Rattle.sock_script.specs.Forms.{HasForm, DeviceFits, EndFits, IsPowerTo, NamespaceFits, SourceFits, UserFits, device_words, flag_words, namespace_words, source_words, user_words};
+ghost use Rattle.chain_book.specs.Shapes.{IsPowerTo};
+ghost use Rattle.sock_script.specs.Forms.{HasForm, DeviceFits, EndFits, NamespaceFits, SourceFits, UserFits, device_words, flag_words, namespace_words, source_words, user_words};
 ghost use Rattle.sock_script.specs.Steps.{IsCommand};
 ghost use Rattle.sock_script.specs.declared.line.Line.{Line};
 ghost use Rattle.sock_script.specs.declared.line.Line.TheVariants as lines;
@@ -353,6 +354,17 @@ fn packets_of(words: &[&[u8]]) -> Option<Command>
     Some(Command::Packets { count })
 }
 
+/// The command of the words after `dump`.
+fn dump_of(words: &[&[u8]]) -> Option<Command>
+    ensures some { IfSome result (λ c. HasForm (codes "dump" ∷ texts words.now) (lines.Command c)) }
+    ensures none { IfNone result ((c : Command) → HasForm (codes "dump" ∷ texts words.now) (lines.Command c) → ⊥) }
+{
+    if !words.is_empty() {
+        return None;
+    }
+    Some(Command::Dump)
+}
+
 /// The command that the words are.
 ///
 /// Takes no memory, and time for the bytes of the words.
@@ -392,6 +404,9 @@ pub fn command_of(words: &[&[u8]]) -> Option<Command>
     }
     if let Some(words) = after(b"packets", words) {
         return packets_of(words);
+    }
+    if let Some(words) = after(b"dump", words) {
+        return dump_of(words);
     }
     None
 }
@@ -586,7 +601,7 @@ mod tests {
 
     #[test]
     fn a_line_of_each_form_is_read(rt: HostRuntime) -> Result<(), Fail> {
-        let lines: [&[&[u8]]; 23] = [
+        let lines: [&[&[u8]]; 24] = [
             &[b"#socket"],
             &[
                 b"table", b"slots", b"65536", b"bind", b"256", b"hash", b"1", b"listen", b"4096",
@@ -644,6 +659,7 @@ mod tests {
                 b"15",
             ],
             &[b"packets", b"1000000"],
+            &[b"dump"],
             &[b"capture"],
             &[b"capture", b"net", b"15"],
             &[b"capture", b"dev", b"65535", b"net", b"0"],

@@ -19,7 +19,7 @@ pub fn given_label(command: &Command) -> Option<&Label>
 
 /// The labels that a section's commands give, each at its number in the section, which is 1 or more.
 fn labels_of(alloc: Global, commands: &[Command]) -> Result<Vec<&[u8]>, AllocError>
-    ensures { IfOk result (λ labels. texts labels.items ≡ [] ∷ spec.labels_of commands.now) }
+    ensures { IfOk result (λ labels. texts labels.items ≡ [] ∷ spec.given_labels commands.now) }
 {
     let mut labels: Vec<&[u8]> = Vec::new(alloc);
     labels.push(&[])?;

@@ -7,7 +7,7 @@ ghost use Rattle.sock_script.specs.Output.{ListsSound, TextsSound};
 
 /// A text is one script at most.
 pub fn one_script()
-    ensures { law.IsDetermined }
+    ensures { law.IsOneScript }
 {}
 
 /// Lines have one first line outside the grammar at most, and where they have one they are no script,

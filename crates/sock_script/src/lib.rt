@@ -8,8 +8,8 @@
 //! Both answers are exact: `specs/Grammar.antt` says which script a text is, and the laws in [`law`]
 //! that it is one at most. A script may end in a capture, which [`capture::read`] reads.
 //! [`run::replies`] runs a script on `flat_list`, the plain engine, and gives the reply to each command
-//! and to each item of its capture; [`output::text`] writes them with their replies, one line for each,
-//! as `specs/Output.antt` says. [`make::script`] makes a script from a seed, and [`Counts`] tells how many of its
+//! and to each item of its capture, and what each `dump` lists; [`output::text`] writes them, a line for each reply
+//! and for each socket listed, as `specs/Output.antt` says. [`make::script`] makes a script from a seed, and [`Counts`] tells how many of its
 //! commands were done. It stands on `flat_list`, `capture_reader`, and the texts of `inet_io`.
 //!
 //! ```text
@@ -17,7 +17,7 @@
 //! let script = parse::parse(alloc, text, Mode::Run)?;
 //! let capture = capture::read(alloc, &script, text)?;
 //! let replies = run::replies(alloc, &script, capture.items())?;
-//! let lines = output::text(alloc, &script, &capture, &replies)?;
+//! let lines = output::text(alloc, &script, &capture, &replies.each, &replies.listings)?;
 //! // 1 socket a ok
 //! // 1 bind a ok 80
 //! ```
@@ -33,6 +33,7 @@ pub mod line;
 pub mod make;
 pub mod output;
 pub mod parse;
+pub mod replies;
 pub mod run;
 #[cfg(test)]
 mod tests;
@@ -42,3 +43,4 @@ mod word;
 pub use counts::Counts;
 pub use line::Line;
 pub use parse::{Mode, ScriptEnd};
+pub use replies::Replies;

@@ -297,7 +297,13 @@ mod tests {
         let script = script(rt.alloc(), 7, 16)?;
         let capture = Capture::new(rt.alloc());
         let replies = run::replies(rt.alloc(), &script, &[])?;
-        let out = output::text(rt.alloc(), &script, &capture, &replies)?;
+        let out = output::text(
+            rt.alloc(),
+            &script,
+            &capture,
+            &replies.each,
+            &replies.listings,
+        )?;
         let wanted = b"1 socket s1 ok
 1 bind s1 ok 38651
 1 listen s1 ok 38651

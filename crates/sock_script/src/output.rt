@@ -1,9 +1,10 @@
 ghost use Rattle.std.specs.Prelude.{◌≡◌, ◌+◌, ◌<◌, ◌≤◌, ◌^◌, ◌∷◌, ◌++◌, [], ℕ, length, IfOk, OnOk, decimal, codes, map, Some, None, slice_get, unwrap_or};
+ghost use Rattle.std.specs.List.{flat_map};
 ghost use Rattle.inet_io.specs.Texts.{end_text};
 ghost use Rattle.sock_script.specs.Output as spec;
 ghost use Rattle.sock_script.specs.Output.{script_text};
 ghost use Rattle.sock_script.specs.Seen.{tables};
-ghost use Rattle.sock_script.specs.Steps.{issue, item_lines, Writes, WritesItems};
+ghost use Rattle.sock_script.specs.Steps.{issue, item_lines, label_at, Writes, WritesDump, WritesItems};
 
 use crate::label::Labels;
 use crate::unwritten::Unwritten;
@@ -11,6 +12,7 @@ use capture_reader::Capture;
 use flat_list::{Command, End, Label, Reply, Script};
 use inet_io::{put_addr, put_num};
 use sock_card::{Card, Kind};
+use socket_list::{Listing, Span};
 use std::alloc::{AllocError, Global};
 
 /// Appends a text.
@@ -62,6 +64,101 @@ pub fn put_answer(out: &mut Vec<u8>, answer: Option<Card>, label: &[u8]) -> Resu
     put_number(out, (card.name >> 24) as u64)?;
     put(out, b".")?;
     put(out, label)
+}
+
+/// Appends a device, and the namespace if it isn't the first one.
+pub fn put_dev(out: &mut Vec<u8>, dev: u16, net: u8) -> Result<(), AllocError>
+    ensures { OnOk result (out.new.items ≡ out.old.items ++ spec.dev_text dev net) }
+{
+    put(out, b" dev ")?;
+    put_number(out, u64::from(dev))?;
+    if net == 0 {
+        return Ok(());
+    }
+    put(out, b" net ")?;
+    put_number(out, u64::from(net))
+}
+
+/// Appends a card with its ends, its device and its namespace; the label is that of its name.
+pub fn put_whole_card(out: &mut Vec<u8>, card: &Card, label: &[u8]) -> Result<(), AllocError>
+    ensures { OnOk result (out.new.items ≡ out.old.items ++ spec.whole_card_with label.now card.now) }
+{
+    put_answer(out, Some(*card), label)?;
+    put(out, b" ")?;
+    put_end(
+        out,
+        End {
+            addr: card.local,
+            port: card.lport,
+        },
+    )?;
+    put(out, b" ")?;
+    put_end(
+        out,
+        End {
+            addr: card.remote,
+            port: card.rport,
+        },
+    )?;
+    put_dev(out, card.dev, card.net)
+}
+
+/// Appends the loads of the clock between which sockets were listed, where others might be at the tables.
+fn put_span(out: &mut Vec<u8>, span: Option<Span>) -> Result<(), AllocError>
+    ensures { OnOk result (out.new.items ≡ out.old.items ++ spec.span_text span) }
+{
+    let Some(span) = span else {
+        return Ok(());
+    };
+    put(out, b" t0 ")?;
+    put_number(out, span.t0)?;
+    put(out, b" t1 ")?;
+    put_number(out, span.t1)
+}
+
+/// Appends the line of one socket that section `n` lists; the label is that of its name.
+fn put_socket(out: &mut Vec<u8>, n: u64, card: &Card, label: &[u8]) -> Result<(), AllocError>
+    ensures { OnOk result (out.new.items ≡ out.old.items
+        ++ (decimal n ++ codes " item " ++ spec.whole_card_with label.now card.now ++ codes "\n")) }
+{
+    put_number(out, n)?;
+    put(out, b" item ")?;
+    put_whole_card(out, card, label)?;
+    put(out, b"\n")
+}
+
+/// Appends the lines of the sockets that section `n` lists.
+fn put_sockets(
+    out: &mut Vec<u8>,
+    labels: &Labels<'_>,
+    n: u64,
+    cards: &[Card],
+) -> Result<(), AllocError>
+    ensures { OnOk result (out.new.items ≡ out.old.items
+        ++ flat_map (spec.socket_line (label_at (tables labels.now.by_section.items)) n) cards.now) }
+{
+    for card in cards {
+        put_socket(out, n, card, labels.of_name(card.name))?;
+    }
+    Ok(())
+}
+
+/// Appends the lines of what section `n` lists: how many sockets, and each of them.
+pub fn put_listing(
+    out: &mut Vec<u8>,
+    labels: &Labels<'_>,
+    n: u64,
+    listing: &Listing,
+) -> Result<(), AllocError>
+    ensures { OnOk result (out.new.items ≡ out.old.items
+        ++ spec.listing_text (label_at (tables labels.now.by_section.items)) n listing.now) }
+{
+    put_number(out, n)?;
+    put(out, b" dump ")?;
+    put_number(out, listing.cards.len() as u64)?;
+    put_span(out, listing.span)?;
+    put(out, b"\n")?;
+    put_sockets(out, labels, n, &listing.cards)
 }
 
 /// Appends two numbers, with a space before each.
@@ -132,6 +229,7 @@ fn put_subject(out: &mut Vec<u8>, command: &Command) -> Result<(), AllocError>
         Command::Reap => put(out, b"reap"),
         Command::Look { .. } => put(out, b"look"),
         Command::Packets { .. } => put(out, b"packets"),
+        Command::Dump => put(out, b"dump"),
     }
 }
 
@@ -202,7 +300,23 @@ fn put_packets<'a>(
     Ok(left)
 }
 
-/// Appends the line of a command of section `n`, or the lines of the items that it comes to.
+/// Appends the lines of what the next `dump` of section `n` lists, if a listing is left.
+fn put_dump<'a>(
+    out: &mut Vec<u8>,
+    labels: &Labels<'_>,
+    n: u64,
+    unwritten: Unwritten<'a>,
+) -> Result<Unwritten<'a>, AllocError>
+    ensures { IfOk result (WritesDump (tables labels.now.by_section.items) n unwritten.entry out.old.items out.new.items) }
+{
+    let Some((listing, left)) = unwritten.next_listing() else {
+        return Ok(unwritten);
+    };
+    put_listing(out, labels, n, listing)?;
+    Ok(left)
+}
+
+/// Appends the lines of a command of section `n`, or of the items that it comes to.
 fn put_command<'a>(
     out: &mut Vec<u8>,
     labels: &Labels<'_>,
@@ -219,6 +333,9 @@ fn put_command<'a>(
     let Some((reply, left)) = unwritten.next() else {
         return Ok(unwritten);
     };
+    if let Command::Dump = command {
+        return put_dump(out, labels, n, left);
+    }
     put_line(out, n, command, reply, labels.found(reply))?;
     Ok(left)
 }
@@ -252,23 +369,24 @@ fn put_cut(out: &mut Vec<u8>, is_cut: bool) -> Result<(), AllocError>
 }
 
 /// The lines of a script's commands and of its capture's items, in the order in which they are come to, each
-/// with its reply.
+/// with its reply; a `dump` has the lines of the next listing.
 ///
-/// Whoever ran the script hands in the replies. Takes memory for the lines and for a reference to
+/// Whoever ran the script hands in the replies and the listings. Takes memory for the lines and for a reference to
 /// each label that the script gives, and time in proportion to the script and the lines: the label of
 /// a socket that a packet found is found by its name, without a search. Where there are fewer replies
-/// than commands and items, or more, those that have no partner are left out.
+/// than commands and items, or more, or fewer listings than dumps, those that have no partner are left out.
 pub fn text(
     alloc: Global,
     script: &Script,
     capture: &Capture,
     replies: &[Reply],
+    listings: &[Listing],
 ) -> Result<Vec<u8>, AllocError>
-    ensures { IfOk result (λ text. text.items ≡ script_text script.now capture.now replies.now) }
+    ensures { IfOk result (λ text. text.items ≡ script_text script.now capture.now replies.now listings.now) }
 {
     let labels = Labels::of_script(alloc, script)?;
     let mut out = Vec::new(alloc);
-    let mut left = Unwritten::new(capture.items(), replies);
+    let mut left = Unwritten::new(capture.items(), replies, listings);
     for (i, commands) in script.sections().iter().enumerate() {
         left = put_section(&mut out, &labels, i as u64 + 1, commands, left)?;
     }

@@ -1,13 +1,15 @@
-ghost use Rattle.std.specs.Prelude.{◌≡◌, ◌+◌, ◌++◌, map, ◌<◌, ◌≤◌, ◌^◌, length, IfOk, OnOk};
+ghost use Rattle.std.specs.Prelude.{◌≡◌, ◌+◌, ◌++◌, [], map, ◌<◌, ◌≤◌, ◌^◌, length, IfOk, OnOk};
 ghost use Rattle.flat_list.specs.Sections.{labels_of, GivesOneAtMost, KeepsOthers};
 ghost use Rattle.flat_list.specs.Script.{IsSmall};
 ghost use Rattle.flat_list.specs.Sound.{IsSound};
 ghost use Rattle.list_words.specs.Lists.{Each};
-ghost use Rattle.sock_script.specs.Output.{flat_replies, item_reply, lists_of};
+ghost use Rattle.sock_script.specs.Output.{flat_listings, flat_replies, item_reply, listings_at, lists_of};
 ghost use Rattle.sock_script.specs.Steps.{RunsCommand, RunsSection};
 
+use crate::replies::Replies;
 use capture_reader::Item;
 use flat_list::{Command, Flat, Reply, Script};
+use socket_list::Listing;
 use std::alloc::{AllocError, Global};
 
 /// What is replied to an item of a capture: what its packet finds, if it is one.
@@ -31,41 +33,53 @@ fn look_up(flat: &Flat, replies: &mut Vec<Reply>, items: &[Item]) -> Result<(), 
     Ok(())
 }
 
-/// Runs one command of section `n`, appends what is replied, and tells the items that are left then.
+/// Appends what a command lists: a `dump` all hashed sockets, any other command nothing.
+fn list(flat: &Flat, listings: &mut Vec<Listing>, command: &Command) -> Result<(), AllocError>
+    ensures { OnOk result (listings.new.items ≡ listings.old.items ++ listings_at flat.now command.now) }
+{
+    if let Command::Dump = command {
+        let cards = flat.list()?;
+        listings.push(Listing { cards, span: None })?;
+    }
+    Ok(())
+}
+
+/// Runs one command of section `n`, appends what is replied and listed, and tells the items that are left then.
 fn run_command<'a>(
     flat: &mut Flat,
-    replies: &mut Vec<Reply>,
+    replies: &mut Replies,
     n: u32,
     command: &Command,
     items: &'a [Item],
 ) -> Result<&'a [Item], AllocError>
     requires number { n ≤ 64 }
     requires room { length (labels_of n flat.old.sections) + 1 < 2 ^ 24 }
-    ensures runs { IfOk result (λ left. RunsCommand flat.old flat.new n command.now items.now left.now replies.old.items replies.new.items) }
+    ensures runs { IfOk result (λ left. RunsCommand flat.old flat.new n command.now items.now left.now replies.old replies.new) }
     ensures labels { GivesOneAtMost flat.old.sections flat.new.sections }
     ensures others { KeepsOthers n flat.old.sections flat.new.sections }
 {
     if let Command::Packets { count } = command {
         let (next, left) = items.split_at((*count as usize).min(items.len()));
-        look_up(flat, replies, next)?;
+        look_up(flat, &mut replies.each, next)?;
         return Ok(left);
     }
+    list(flat, &mut replies.listings, command)?;
     let reply = flat.apply(n, command)?;
-    replies.push(reply)?;
+    replies.each.push(reply)?;
     Ok(items)
 }
 
-/// Runs the commands of section `n`, appends what is replied, and tells the items that are left then.
+/// Runs the commands of section `n`, appends what is replied and listed, and tells the items that are left then.
 fn run_section<'a>(
     flat: &mut Flat,
-    replies: &mut Vec<Reply>,
+    replies: &mut Replies,
     n: u32,
     commands: &[Command],
     items: &'a [Item],
 ) -> Result<&'a [Item], AllocError>
     requires number { n ≤ 64 }
     requires room { length (labels_of n flat.old.sections) + length commands.now < 2 ^ 24 }
-    ensures { IfOk result (λ left. RunsSection flat.old flat.new n commands.now items.now left.now replies.old.items replies.new.items) }
+    ensures { IfOk result (λ left. RunsSection flat.old flat.new n commands.now items.now left.now replies.old replies.new) }
 {
     let mut left = items;
     for command in commands {
@@ -74,23 +88,24 @@ fn run_section<'a>(
     Ok(left)
 }
 
-/// What the flat list replies to a script whose capture has these items: the sections are run one after the
-/// other on an empty list of sockets, and the items that no command took are looked up last.
+/// What the flat list replies to a script whose capture has these items, and what it lists: the sections are run
+/// one after the other on an empty list of sockets, and the items that no command took are looked up last.
 ///
-/// Takes memory for the sockets and the replies. What `parse` gives for a text of 16 MiB at most is
+/// Takes memory for the sockets, the replies and the listings. What `parse` gives for a text of 16 MiB at most is
 /// small enough to be run.
-pub fn replies(alloc: Global, script: &Script, items: &[Item]) -> Result<Vec<Reply>, AllocError>
+pub fn replies(alloc: Global, script: &Script, items: &[Item]) -> Result<Replies, AllocError>
     requires { IsSmall script.now }
-    ensures replied { IfOk result (λ replies. replies.items ≡ flat_replies script.now items.now) }
+    ensures replied { IfOk result (λ replies. replies.each ≡ flat_replies script.now items.now) }
+    ensures listed { IfOk result (λ replies. replies.listings ≡ flat_listings script.now items.now) }
     // Whatever list the script runs through is sound.
     ensures sound { Each IsSound (lists_of script.now) }
 {
     let mut flat = Flat::new(alloc, script.header());
-    let mut replies = Vec::new(alloc);
+    let mut replies = Replies::new(alloc);
     let mut left = items;
     for (i, commands) in script.sections().iter().enumerate() {
         left = run_section(&mut flat, &mut replies, i as u32 + 1, commands, left)?;
     }
-    look_up(&flat, &mut replies, left)?;
+    look_up(&flat, &mut replies.each, left)?;
     Ok(replies)
 }

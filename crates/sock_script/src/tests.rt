@@ -2,6 +2,8 @@ ghost use Rattle.std.specs.Prelude.{◌≤◌, ◌^◌, length};
 
 use crate::parse::{Mode, ScriptEnd, parse};
 use crate::{capture, output, run};
+use capture_reader::Capture;
+use flat_list::Reply;
 use std::alloc::{AllocError, Global};
 use std::test::Fail;
 
@@ -21,7 +23,7 @@ fn output_of(alloc: Global, text: &[u8]) -> Result<Vec<u8>, ScriptEnd>
     let script = parse(alloc, text, Mode::Run)?;
     let capture = capture::read(alloc, &script, text).map_err(|_| ScriptEnd::Memory)?;
     let replies = run::replies(alloc, &script, capture.items())?;
-    Ok(output::text(alloc, &script, &capture, &replies)?)
+    Ok(output::text(alloc, &script, &capture, &replies.each, &replies.listings)?)
 }
 
 /// So many section lines.
@@ -404,6 +406,112 @@ connect d to 10.0.0.2:80
 1 connect d ok 10.0.0.1:90
 ";
     assert!(rt; out.as_slice() == wanted.as_slice());
+    Ok(())
+}
+
+#[test]
+fn a_dump_has_a_line_for_each_socket(rt: HostRuntime) -> Result<(), Fail> {
+    let cases: [(&[u8], &[u8]); 2] = [
+        (b"script 1\ndump\n", b"1 dump 0\n"),
+        (
+            b"script 1\nsocket a\nbind a 10.0.0.1:80\nlisten a\ndump\n",
+            b"1 socket a ok
+1 bind a ok 80
+1 listen a ok 80
+1 dump 1
+1 item listen 1.a 10.0.0.1:80 0.0.0.0:0 dev 0
+",
+        ),
+    ];
+    for (text, wanted) in cases {
+        let out = output_of(rt.alloc(), text)?;
+        assert!(rt; out.as_slice() == wanted);
+    }
+    Ok(())
+}
+
+#[test]
+fn a_dump_lists_sections_namespaces_and_waits(rt: HostRuntime) -> Result<(), Fail> {
+    let text = b"script 1
+socket late
+socket a
+bind a 10.0.0.1:80
+listen a
+accept a c from 10.0.0.2:1000 at 10.0.0.1:80
+dump
+script 2
+socket b net 15 dev 3
+bind b 0.0.0.0:80
+dump
+listen b
+dump
+script 3
+socket k
+bind k 10.0.0.3:90
+connect k to 10.0.0.2:80
+close k
+bind k 10.0.0.3:90
+drop k
+dump
+";
+    let out = output_of(rt.alloc(), text)?;
+    let wanted = b"1 socket late ok
+1 socket a ok
+1 bind a ok 80
+1 listen a ok 80
+1 accept c ok
+1 dump 2
+1 item listen 1.a 10.0.0.1:80 0.0.0.0:0 dev 0
+1 item full 1.c 10.0.0.1:80 10.0.0.2:1000 dev 0
+2 socket b ok
+2 bind b ok 80
+2 dump 2
+2 item listen 1.a 10.0.0.1:80 0.0.0.0:0 dev 0
+2 item full 1.c 10.0.0.1:80 10.0.0.2:1000 dev 0
+2 listen b ok 80
+2 dump 3
+2 item listen 1.a 10.0.0.1:80 0.0.0.0:0 dev 0
+2 item full 1.c 10.0.0.1:80 10.0.0.2:1000 dev 0
+2 item listen 2.b 0.0.0.0:80 0.0.0.0:0 dev 3 net 15
+3 socket k ok
+3 bind k ok 90
+3 connect k ok 10.0.0.3:90
+3 close k ok time-wait
+3 bind k EBADF
+3 drop k EBADF
+3 dump 4
+3 item listen 1.a 10.0.0.1:80 0.0.0.0:0 dev 0
+3 item full 1.c 10.0.0.1:80 10.0.0.2:1000 dev 0
+3 item listen 2.b 0.0.0.0:80 0.0.0.0:0 dev 3 net 15
+3 item time-wait 3.k 10.0.0.3:90 10.0.0.2:80 dev 0
+";
+    assert!(rt; out.as_slice() == wanted.as_slice());
+    Ok(())
+}
+
+#[test]
+fn a_dump_has_no_words(rt: HostRuntime) -> Result<(), Fail> {
+    let cases: [(&[u8], Option<u64>); 4] = [
+        (b"script 1\ndump\n", None),
+        (b"script 1\n dump\t\r\ndump\n", None),
+        (b"script 1\ndump all\n", Some(2)),
+        (b"dump\nscript 1\n", Some(1)),
+    ];
+    for (text, line) in cases {
+        assert_eq!(rt; bad_line(rt.alloc(), text, Mode::Run), line);
+        assert_eq!(rt; bad_line(rt.alloc(), text, Mode::Race), line);
+    }
+    Ok(())
+}
+
+#[test]
+fn a_dump_without_a_listing_has_no_line(rt: HostRuntime) -> Result<(), Fail> {
+    let alloc = rt.alloc();
+    let script = parse(alloc, b"script 1\ndump\nreap\n", Mode::Run)?;
+    let capture = Capture::new(alloc);
+    let replies = [Reply::Ok, Reply::Count(0)];
+    let out = output::text(alloc, &script, &capture, &replies, &[])?;
+    assert!(rt; out.as_slice() == b"1 reap ok 0\n".as_slice());
     Ok(())
 }
 

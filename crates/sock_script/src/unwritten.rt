@@ -1,18 +1,20 @@
 //! What isn't written yet of a run.
 
 ghost use Rattle.std.specs.Prelude.{◌≡◌, ◌+◌, ◌<◌, ◌≤◌, ◌^◌, length, [], MatchOption};
-ghost use Rattle.sock_script.specs.Steps.{NextOf, TakenOf};
+ghost use Rattle.sock_script.specs.Steps.{NextListingOf, NextOf, TakenOf};
 
 use capture_reader::Item;
 use flat_list::Reply;
+use socket_list::Listing;
 use std::marker::Model;
 
-/// The number of the capture's next item, the items that are left, and the replies to what follows.
+/// The number of the capture's next item, the items that are left, and the replies to what follows and what it lists.
 #[derive(Drop)]
 pub struct Unwritten<'a> {
     number: u64,
     items: &'a [Item],
     replies: &'a [Reply],
+    listings: &'a [Listing],
 }
 
 impl<'a> Model for Unwritten<'a> {
@@ -20,18 +22,19 @@ impl<'a> Model for Unwritten<'a> {
 
     ghost Value = { Left };
 
-    ghost view = { λ u. record { number = u.number; items = u.items.now; replies = u.replies.now } };
+    ghost view = { λ u. record { number = u.number; items = u.items.now; replies = u.replies.now; listings = u.listings.now } };
 }
 
 impl<'a> Unwritten<'a> {
     /// Before the first line.
-    pub fn new(items: &'a [Item], replies: &'a [Reply]) -> Self
-        ensures { result ≡ record { number = 1; items = items.now; replies = replies.now } }
+    pub fn new(items: &'a [Item], replies: &'a [Reply], listings: &'a [Listing]) -> Self
+        ensures { result ≡ record { number = 1; items = items.now; replies = replies.now; listings = listings.now } }
     {
         Unwritten {
             number: 1,
             items,
             replies,
+            listings,
         }
     }
 
@@ -58,8 +61,23 @@ impl<'a> Unwritten<'a> {
             number: self.number,
             items: self.items,
             replies,
+            listings: self.listings,
         };
         Some((reply, left))
+    }
+
+    /// The next listing, and what is left after it.
+    pub fn next_listing(&self) -> Option<(&'a Listing, Self)>
+        ensures { MatchOption result (self.now.listings ≡ []) (λ r. NextListingOf self.now r.0.now r.1) }
+    {
+        let (listing, listings) = self.listings.split_first()?;
+        let left = Unwritten {
+            number: self.number,
+            items: self.items,
+            replies: self.replies,
+            listings,
+        };
+        Some((listing, left))
     }
 
     /// The replies to the next items, as many as that or as are left, and what is left after them.
@@ -73,6 +91,7 @@ impl<'a> Unwritten<'a> {
             number: self.number + taken as u64,
             items: &self.items[taken..],
             replies: rest,
+            listings: self.listings,
         };
         (replies, left)
     }

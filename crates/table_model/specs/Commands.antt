@@ -153,3 +153,4 @@ module _ (header : Header) where
   plan own commands.Reap = reap_command own
   plan own (commands.Look query) = impossible
   plan own (commands.Packets count) = impossible
+  plan own commands.Dump = replies_at_once own replies.Ok

@@ -11,7 +11,7 @@ use Rattle.table_model.specs.Commands.{Replied, plan, close_command, drop_comman
 use Rattle.table_model.specs.Means.{Means, PlansRefine, PlansEnd}
 use Rattle.table_model.proofs.parts.OpenSocket.{OpenThere, open_both, open_there}
 use Rattle.table_model.proofs.commands.Carried.{Carried}
-use Rattle.table_model.proofs.commands.FirstPlans.{Ends, ends_so, AllCarried, plans_refine, bind_carried, bind_ends, at_carried, at_ends, socket_carried, socket_ends}
+use Rattle.table_model.proofs.commands.FirstPlans.{Ends, ends_so, AllCarried, plans_refine, bind_carried, bind_ends, at_carried, at_ends, socket_carried, socket_ends, dump_carried, dump_ends}
 use Rattle.table_model.proofs.commands.ReapAll.{reap_mine}
 use Rattle.table_model.proofs.commands.ConnectPlans.{connect_carried, connect_ends, accept_carried, accept_ends}
 use Rattle.table_model.proofs.commands.Drop.{drop_both, drop_open, drop_none}
@@ -73,6 +73,7 @@ all_carried listens n own t flat (commands.At moment) near few looks h = at_carr
 all_carried listens n own t flat commands.Reap near few looks h = reap_carried n own t flat h near
 all_carried listens n own t flat (commands.Look query) near few looks h = absurd (cc)
 all_carried listens n own t flat (commands.Packets count) near few looks h = absurd (cc)
+all_carried listens n own t flat commands.Dump near few looks h = dump_carried n own t flat h
 
 -- each refines the list's
 pub all_refine : ListenCarried → StaysSound → PlansRefine
@@ -91,3 +92,4 @@ all_end listens n own t flat (commands.At moment) near looks h = at_ends n own t
 all_end listens n own t flat commands.Reap near looks h = ends_so n own t flat commands.Reap (step flat n commands.Reap) (reap_carried n own t flat h near)
 all_end listens n own t flat (commands.Look query) near looks h = absurd (cc)
 all_end listens n own t flat (commands.Packets count) near looks h = absurd (cc)
+all_end listens n own t flat commands.Dump near looks h = dump_ends n own t flat h

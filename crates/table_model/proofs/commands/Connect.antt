@@ -63,7 +63,7 @@ module _ (n : ℕ) (own : Own) (t : Tables) (flat : Flat) (h : Means n own t fla
   -- from the bound port
   module _ (bound : s.owner.state ≡ states.Bound) (source : ℕ) where
     abbrev new : Socket
-    new = flat_connect.connected s source to
+    new = flat_connect.connected_socket s source to
 
     abbrev out_as : Bool → Bool → Outcome
     out_as taken room =
@@ -198,7 +198,7 @@ module _ (n : ℕ) (own : Own) (t : Tables) (flat : Flat) (h : Means n own t fla
     bound_by e None = refused_good (bound_out None) (do_reply own (refused errors.Inval)) refl (connect_reply own (refused errors.Inval)) refl refl refl
     bound_by e (Some source) =
         let p : Asking Did = connect_bound flat.header.shape flat.header.seed (connected_to s.owner source to) moment (connect_rule flat.header) in
-        let new : Socket = flat_connect.connected s source to in
+        let new : Socket = flat_connect.connected_socket s source to in
         subst (λ (time : ℕ). Carried n t (and_then p (do_reply own)) (cond (is_taken switch time new.owner flat.sockets) (unchanged flat replies.Eaddrnotavail) (flat_connect.connect_as flat new))) (sym (same_moment n own t flat h.own_is))
         (replied n own t p (cond (is_taken switch moment new.owner flat.sockets) (unchanged flat replies.Eaddrnotavail) (flat_connect.connect_as flat new)) (bound_comes e source))
 

@@ -18,7 +18,7 @@ use Rattle.flat_list.specs.Flat.{Flat}
 use Rattle.flat_list.specs.Look.{extra_as}
 use Rattle.flat_list.specs.Outcome.{has_slot as has_room}
 use Rattle.flat_list.specs.Owned.{card_as}
-use Rattle.flat_list.specs.Sockets.{kind_of, has_name, waits_at, same_tuple, put as put_socket, without_waiting}
+use Rattle.flat_list.specs.Sockets.{kind_of, has_name, waits_at, have_one_tuple, put as put_socket, without_waiting}
 use Rattle.flat_list.specs.Sound.{IsSound}
 use Rattle.table_model.specs.Asking.{Asking, asks, inserts}
 use Rattle.table_model.specs.Tables.{Tables, Ended, with_chains}
@@ -75,7 +75,7 @@ module _ (n : ℕ) (own : Own) (t : Tables) (flat : Flat) (mean : TablesMean t f
   one = only_named (has_name s.owner.name) flat.sockets s new.owner.name at (sym same_name) sound.names
 
   kept : not (waits_at a s) ≡ true
-  kept = ap (λ (b : Bool). not (b && same_tuple a s.owner)) awake
+  kept = ap (λ (b : Bool). not (b && have_one_tuple a s.owner)) awake
 
   more : (f : Card → ℕ) → total (card_weight flat.groups f) connected_list ≡ total (card_weight flat.groups f) (without_waiting a flat.sockets) + f (full_card a)
   more f =

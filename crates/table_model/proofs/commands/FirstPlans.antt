@@ -1,16 +1,17 @@
--- The plans of `socket`, `bind` and `at` beside the list's step, and the laws of plans from what each comes to.
+-- The plans of `socket`, `bind`, `at` and `dump` beside the list's step, and the laws of plans from what each comes to.
 use Rattle.std.proofs.Common.{◌≡◌, ℕ, ◌+◌, ◌^◌, ◌<◌, ◌≤◌, false, List, length, Option, None, Some, refl, sym, subst}
 use Rattle.flat_list.specs.declared.owned.Options.{Options}
 use Rattle.flat_list.specs.declared.command.Command.{Command}
 use Rattle.flat_list.specs.declared.command.Command.TheVariants as commands
 use Rattle.flat_list.specs.declared.command.End.{End}
+use Rattle.flat_list.specs.declared.command.Reply.TheVariants as replies
 use Rattle.flat_list.specs.Flat.{Flat}
 use Rattle.flat_list.specs.Outcome as outcome
 use Rattle.flat_list.specs.Sound.{StaysSound}
 use Rattle.flat_list.specs.Step.{step}
 use Rattle.table_model.specs.Tables.{Tables, Ended, run}
 use Rattle.table_model.specs.Own.{Own, Mine, open_socket}
-use Rattle.table_model.specs.Commands.{Replied, plan, bind_command}
+use Rattle.table_model.specs.Commands.{Replied, plan, answers, bind_command}
 use Rattle.table_model.specs.Means.{Means, PlansRefine, is_lookup}
 use Rattle.table_model.proofs.parts.OpenSocket.{OpenThere, open_both, open_there}
 use Rattle.table_model.proofs.parts.Sections.{same_labels}
@@ -60,6 +61,16 @@ module _ (n : ℕ) (own : Own) (t : Tables) (flat : Flat) (h : Means n own t fla
   pub socket_ends : (label : List ℕ) (options : Options) → Ends t own flat (commands.Socket label options)
   unfolding plan
   socket_ends label options = (_, refl)
+
+  -- `dump` beside the list's
+  pub dump_carried : Carried n t (plan flat.header own commands.Dump) (step flat n commands.Dump)
+  unfolding plan step
+  dump_carried = record { ended = record { tables = t; result = answers own replies.Ok }; runs = refl; reply = refl; means = λ sound. h }
+
+  -- it comes to an end
+  pub dump_ends : Ends t own flat commands.Dump
+  unfolding plan
+  dump_ends = (_, refl)
 
 -- what each command comes to, beside the list
 abbrev pub AllCarried : Type 0

@@ -258,3 +258,4 @@ module _ (w : Mine) (card : Card) where
     plan_spares d commands.Reap = spares_then (reap own.waits own.moment) _ (reap_spares _ 0) (λ count. tt)
     plan_spares d (commands.Look query) = tt
     plan_spares d (commands.Packets count) = tt
+    plan_spares d commands.Dump = tt

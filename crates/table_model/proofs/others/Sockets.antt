@@ -10,7 +10,7 @@ use Rattle.sock_card.specs.declared.owner.Owner.{Owner}
 use Rattle.sock_card.specs.Conflict.{is_time_wait}
 use Rattle.flat_list.specs.declared.socket.Socket.{Socket}
 use Rattle.flat_list.specs.Flat.{Flat}
-use Rattle.flat_list.specs.Sockets.{has_name, put, without, without_waiting, waits_at, same_tuple}
+use Rattle.flat_list.specs.Sockets.{has_name, put, without, without_waiting, waits_at, have_one_tuple}
 use Rattle.flat_list.specs.Sound.{IsSound, IsAwakeIfNamed}
 use Rattle.table_model.specs.Tables.{Tables}
 use Rattle.table_model.specs.Own.{Own, Mine}
@@ -158,7 +158,7 @@ module _ (n m : ℕ) (apart : m ≢ n) where
           subst R (sym (kept_all (waits_at a) flat.sockets ((found_weighs (waits_at a) flat.sockets).1 (ap is_some e)))) (rest_of m other t flat own_is)
       waits_gone a (Some s) e =
           let passes : waits_at a s ≡ true = found_passes (waits_at a) flat.sockets s e in
-          let there : is_time_wait s.owner.state ≡ true = (and_parts (is_time_wait s.owner.state) (same_tuple a s.owner) passes).0 in
+          let there : is_time_wait s.owner.state ≡ true = (and_parts (is_time_wait s.owner.state) (have_one_tuple a s.owner) passes).0 in
           let one : Only (waits_at a) s flat.sockets = only_found (waits_at a) (waits_at a) flat.sockets s e passes (wait_once a flat.sockets sound.tuples) in
           let named : Only (has_name s.owner.name) s flat.sockets = only_named (waits_at a) flat.sockets s s.owner.name e refl sound.names in
           let dropped : without_waiting a flat.sockets ≡ without s.owner.name flat.sockets =

@@ -21,7 +21,7 @@ use Rattle.flat_list.specs.Outcome.{added, removed, with_new_label, Outcome, unc
 use Rattle.flat_list.specs.Sections.{moment_of, next_name, name_at, labels_of, with_moment}
 use Rattle.flat_list.specs.Sockets.{is_refused, has_twin, has_name, open_named, without, without_waiting, is_expired}
 use Rattle.flat_list.specs.Sound.{IsSound}
-use Rattle.flat_list.specs.Connect.{connected, end_of, replacing, is_taken_in, connect, connect_as, connect_from, connect_found, connect_search, connect_socket, connected_by_search, suits_connect, child_of, accept, accept_as}
+use Rattle.flat_list.specs.Connect.{connected_socket, end_of, replacing, is_taken_in, connect, connect_as, connect_from, connect_found, connect_search, connect_socket, connected_by_search, suits_connect, child_of, accept, accept_as}
 use Rattle.flat_list.specs.Owned.{source_of, is_no_end, is_no_accept}
 use Rattle.flat_list.specs.Step.{drop, step, new_socket, at_end, at_port, bind, at_address, bind_any, bind_given, bind_found, bind_search, bind_socket, search_bind, listening, listen, listens_in, listen_as, groups_with, listen_bound, listen_found, listen_socket, waiting, close, close_socket, at, reap}
 use Rattle.table_model.specs.Tables.{Tables}
@@ -155,7 +155,7 @@ module _ (n m : ℕ) (apart : m ≢ n) (other : Own) (t : Tables) (flat : Flat) 
   connect_from_rest : (s : Socket) (to : End) (source : Option ℕ) → IsOf n s.owner.name → Stay (connect_from flat n s to source)
   connect_from_rest s to None is = here
   connect_from_rest s to (Some source) is =
-      let new : Socket = connected s source to in
+      let new : Socket = connected_socket s source to in
       cond_both (is_taken_in flat n new) (unchanged flat replies.Eaddrnotavail) (connect_as flat new) Stay (λ _. here) (λ _. connect_as_rest flat refl new is)
 
   connect_search_rest : (s : Socket) (to : End) (source : Option ℕ) → IsOf n s.owner.name → Stay (connect_search flat n s to source)
@@ -234,3 +234,4 @@ module _ (n m : ℕ) (apart : m ≢ n) (other : Own) (t : Tables) (flat : Flat) 
   step_rest commands.Reap few = reap_rest
   step_rest (commands.Look query) few = here
   step_rest (commands.Packets count) few = here
+  step_rest commands.Dump few = here

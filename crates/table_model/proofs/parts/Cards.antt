@@ -12,7 +12,7 @@ use Rattle.flat_list.specs.declared.socket.Socket.{Socket}
 use Rattle.flat_list.specs.Groups.{Group}
 use Rattle.flat_list.specs.Look.{cards_of, extra_as}
 use Rattle.flat_list.specs.Owned.{card_as}
-use Rattle.flat_list.specs.Sockets.{kind_of, has_name, put, without, waits_at, tuple_of, same_tuple}
+use Rattle.flat_list.specs.Sockets.{kind_of, has_name, put, without, waits_at, owner_tuple, have_one_tuple}
 use Rattle.flat_list.specs.Sound.{NamesDiffer, TuplesDiffer, holds_tuple}
 use Rattle.sock_card.proofs.Tuples.{PartsAgree, parts_agree}
 use Rattle.sock_card.specs.Conflict.{is_time_wait}
@@ -52,10 +52,10 @@ pub only_named : (q : Socket → Bool) (xs : List Socket) (s : Socket) (n : ℕ)
 only_named q xs s n found is h = only_found (has_name n) q xs s found (eq-eqb s.owner.name n is) (name_once n xs h)
 
 -- two that have the four-tuple of one have one four-tuple
-tuples_meet : (a b c : Owner) → same_tuple a b ≡ true → same_tuple a c ≡ true → same_tuple b c ≡ true
+tuples_meet : (a b c : Owner) → have_one_tuple a b ≡ true → have_one_tuple a c ≡ true → have_one_tuple b c ≡ true
 tuples_meet a b c x y =
-    let p : PartsAgree (tuple_of a) (tuple_of b) = parts_agree (tuple_of a) (tuple_of b) x in
-    let q : PartsAgree (tuple_of a) (tuple_of c) = parts_agree (tuple_of a) (tuple_of c) y in
+    let p : PartsAgree (owner_tuple a) (owner_tuple b) = parts_agree (owner_tuple a) (owner_tuple b) x in
+    let q : PartsAgree (owner_tuple a) (owner_tuple c) = parts_agree (owner_tuple a) (owner_tuple c) y in
     rw (eq-eqb b.net c.net (sym p.net ∙ q.net), eq-eqb b.addr c.addr (sym p.local ∙ q.local), eq-eqb b.port c.port (sym p.lport ∙ q.lport), eq-eqb b.remote c.remote (sym p.remote ∙ q.remote), eq-eqb b.rport c.rport (sym p.rport ∙ q.rport)) refl
 
 waits_hold : (st : State) → is_time_wait st ≡ true → holds_tuple st ≡ true
@@ -67,10 +67,10 @@ waits_hold states.Full h = absurd (cc)
 
 two_wait : (a : Owner) (x y : Socket) → TuplesDiffer x y → waits_at a x ≡ true → waits_at a y ≡ true → ⊥
 two_wait a x y q wx wy =
-    let p = and_parts (is_time_wait x.owner.state) (same_tuple a x.owner) wx in
-    let r = and_parts (is_time_wait y.owner.state) (same_tuple a y.owner) wy in
+    let p = and_parts (is_time_wait x.owner.state) (have_one_tuple a x.owner) wx in
+    let r = and_parts (is_time_wait y.owner.state) (have_one_tuple a y.owner) wy in
     let differ = q (waits_hold x.owner.state p.0) (waits_hold y.owner.state r.0) in
-    let meet : same_tuple x.owner y.owner ≡ true = tuples_meet a x.owner y.owner p.1 r.1 in
+    let meet : have_one_tuple x.owner y.owner ≡ true = tuples_meet a x.owner y.owner p.1 r.1 in
     absurd (cc)
 
 -- a four-tuple has one TIME_WAIT at most

@@ -16,7 +16,7 @@ use Rattle.chain_book.specs.Slots.{free_slot}
 use Rattle.flat_list.specs.declared.socket.Socket.{Socket}
 use Rattle.flat_list.specs.Flat.{Flat}
 use Rattle.flat_list.specs.Groups.{Group, has_member}
-use Rattle.flat_list.specs.Sockets.{has_name, same_tuple, waits_at, without, without_waiting}
+use Rattle.flat_list.specs.Sockets.{has_name, have_one_tuple, waits_at, without, without_waiting}
 use Rattle.flat_list.specs.Sound.{IsSound, IsInOneGroup, IsAwakeIfNamed}
 use Rattle.table_model.specs.Tables.{Tables}
 use Rattle.table_model.specs.Own.{Mine}
@@ -56,7 +56,7 @@ old_listed flat a x s r = sym (find_same (waits_at a) (has_name x.card.name) fla
 pub other_name : (flat : Flat) (a : Owner) (x : Hashed) (s : Socket) (q : Socket → Bool) (y : Socket) → Replaces flat a x s → find q flat.sockets ≡ Some y → is_time_wait y.owner.state ≡ false → x.card.name ≢ y.owner.name
 other_name flat a x s q y r found awake = λ e.
     let same : waits_at a y ≡ has_name x.card.name y = each_found (λ (z : Socket). waits_at a z ≡ has_name x.card.name z) q flat.sockets y r.same found in
-    let no : waits_at a y ≡ false = ap (λ (b : Bool). b && same_tuple a y.owner) awake in
+    let no : waits_at a y ≡ false = ap (λ (b : Bool). b && have_one_tuple a y.owner) awake in
     let yes : has_name x.card.name y ≡ true = eq-eqb y.owner.name x.card.name (sym e) in
     absurd (cc)
 

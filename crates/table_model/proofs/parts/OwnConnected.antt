@@ -9,7 +9,7 @@ use Rattle.sock_card.specs.declared.owner.Owner.{Owner}
 use Rattle.sock_card.specs.Conflict.{is_time_wait}
 use Rattle.flat_list.specs.declared.socket.Socket.{Socket}
 use Rattle.flat_list.specs.Flat.{Flat}
-use Rattle.flat_list.specs.Sockets.{kind_of, has_name, waits_at, same_tuple, put as put_socket, without, without_waiting}
+use Rattle.flat_list.specs.Sockets.{kind_of, has_name, waits_at, have_one_tuple, put as put_socket, without, without_waiting}
 use Rattle.flat_list.specs.Sound.{NamesDiffer, TuplesDiffer, IsAwakeIfNamed}
 use Rattle.table_model.specs.Tables.{Tables}
 use Rattle.table_model.specs.Own.{Own, Mine, with_socket}
@@ -47,7 +47,7 @@ module _ (n : ℕ) (own : Own) (t t' : Tables) (flat : Flat) (h : OwnMeans n own
       subst (λ (xs : List Socket). OwnMeans n own t' (with_sockets flat xs)) (sym (kept_all (waits_at a) flat.sockets ((found_weighs (waits_at a) flat.sockets).1 (ap is_some e)))) (own_there n own t t' flat h stands)
   gone_by (Some s) e =
       let passes : waits_at a s ≡ true = found_passes (waits_at a) flat.sockets s e in
-      let waits : is_time_wait s.owner.state ≡ true = (and_parts (is_time_wait s.owner.state) (same_tuple a s.owner) passes).0 in
+      let waits : is_time_wait s.owner.state ≡ true = (and_parts (is_time_wait s.owner.state) (have_one_tuple a s.owner) passes).0 in
       let named : Only (has_name s.owner.name) s flat.sockets = only_named (waits_at a) flat.sockets s s.owner.name e refl names in
       let one : Only (waits_at a) s flat.sockets = only_found (waits_at a) (waits_at a) flat.sockets s e passes (wait_once a flat.sockets tuples) in
       let same : without_waiting a flat.sockets ≡ without s.owner.name flat.sockets =
@@ -67,5 +67,5 @@ own_connected n own t t' flat new s m h names tuples awake stands at mine same w
     own_put n own t' t' (with_sockets flat (without_waiting new.owner flat.sockets)) new s m
     (own_replaced n own t t' flat h names tuples awake stands new.owner)
     (pairs_filter NamesDiffer (λ y. not (waits_at new.owner y)) flat.sockets names)
-    (listed_kept new.owner.name (λ y. not (waits_at new.owner y)) flat.sockets s at (ap (λ (b : Bool). not (b && same_tuple new.owner s.owner)) was))
+    (listed_kept new.owner.name (λ y. not (waits_at new.owner y)) flat.sockets s at (ap (λ (b : Bool). not (b && have_one_tuple new.owner s.owner)) was))
     mine same was is there stands

@@ -17,7 +17,7 @@ use Rattle.flat_list.specs.declared.socket.Socket.{Socket}
 use Rattle.flat_list.specs.Flat.{Flat}
 use Rattle.flat_list.specs.Look.{extra_as}
 use Rattle.flat_list.specs.Owned.{card_as}
-use Rattle.flat_list.specs.Sockets.{kind_of, has_name, same_tuple, waits_at, without, without_waiting}
+use Rattle.flat_list.specs.Sockets.{kind_of, has_name, have_one_tuple, waits_at, without, without_waiting}
 use Rattle.flat_list.specs.Sound.{IsSound}
 use Rattle.table_model.specs.Means.{ChainsMean}
 use Rattle.table_model.specs.Operations.{full_card}
@@ -107,7 +107,7 @@ module _ (c : Chains) (flat : Flat) (a : Owner) (m : ChainsMean c flat) (sound :
   replaces_this : (x : Hashed) (s : Socket) → find test row ≡ Some x → find (waits_at a) flat.sockets ≡ Some s → Replaces flat a x s
   replaces_this x s fx fs =
       let passes : waits_at a s ≡ true = found_passes (waits_at a) flat.sockets s fs in
-      let there : is_time_wait s.owner.state ≡ true = (and_parts (is_time_wait s.owner.state) (same_tuple a s.owner) passes).0 in
+      let there : is_time_wait s.owner.state ≡ true = (and_parts (is_time_wait s.owner.state) (have_one_tuple a s.owner) passes).0 in
       let one : Only (waits_at a) s flat.sockets = only_found (waits_at a) (waits_at a) flat.sockets s fs passes (wait_once a flat.sockets sound.tuples) in
       let in_row : Only test x row = only_found test test row x fx (found_passes test row x fx) once_there in
       let card : (f : Card → ℕ) → f x.card ≡ f (card_as kinds.TimeWait s.owner s.stamp) = λ f.

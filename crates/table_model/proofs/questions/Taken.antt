@@ -25,7 +25,7 @@ use Rattle.flat_list.specs.declared.socket.Socket.{Socket}
 use Rattle.flat_list.specs.Flat.{Flat}
 use Rattle.flat_list.specs.Look.{cards_of, extra_as}
 use Rattle.flat_list.specs.Owned.{card_as}
-use Rattle.flat_list.specs.Sockets.{kind_of, is_full, same_tuple, has_twin, waits_at, gives_way, is_taken}
+use Rattle.flat_list.specs.Sockets.{kind_of, is_full, have_one_tuple, has_twin, waits_at, gives_way, is_taken}
 use Rattle.table_model.specs.Means.{ChainsMean}
 use Rattle.table_model.specs.Operations.{full_card}
 use Rattle.table_model.proofs.lists.Passing.{same_answer, only, ind, any_weighs, found_weighs, total_same}
@@ -106,25 +106,25 @@ rule_of switch = if switch then rules.After else rules.Never
 
 -- a socket of the list keeps the four-tuple from `connect`
 abbrev keeps_as : Bool → ℕ → Owner → Socket → Bool
-keeps_as switch moment a s = (is_full s.owner.state && same_tuple a s.owner) || (waits_at a s && not (gives_way switch moment s))
+keeps_as switch moment a s = (is_full s.owner.state && have_one_tuple a s.owner) || (waits_at a s && not (gives_way switch moment s))
 
 keeps_at : (switch : Bool) (moment : ℕ) (a o : Owner) (st : State) (extra : Kind → ℕ)
     → weigh_as (ind (keeps_from (full_card a) moment (rule_of switch))) (kind_of st) o extra
-    ≡ cond ((is_full st && same_tuple a o) || (is_time_wait st && same_tuple a o && not (switch && nat_lt (extra kinds.TimeWait) moment))) 1 0
+    ≡ cond ((is_full st && have_one_tuple a o) || (is_time_wait st && have_one_tuple a o && not (switch && nat_lt (extra kinds.TimeWait) moment))) 1 0
 keeps_at switch moment a o states.Unbound extra = refl
 keeps_at switch moment a o states.Bound extra = refl
-keeps_at switch moment a o states.Listening extra = none_of (same_tuple a o)
-keeps_at switch moment a o states.Full extra = full_of (same_tuple a o)
+keeps_at switch moment a o states.Listening extra = none_of (have_one_tuple a o)
+keeps_at switch moment a o states.Full extra = full_of (have_one_tuple a o)
 keeps_at true moment a o states.TimeWait extra = refl
 keeps_at false moment a o states.TimeWait extra = refl
 
 twin_at : (moment : ℕ) (a o : Owner) (st : State) (extra : Kind → ℕ)
-    → weigh_as (ind (keeps_from (full_card a) moment rules.Always)) (kind_of st) o extra ≡ cond (is_full st && same_tuple a o) 1 0
+    → weigh_as (ind (keeps_from (full_card a) moment rules.Always)) (kind_of st) o extra ≡ cond (is_full st && have_one_tuple a o) 1 0
 twin_at moment a o states.Unbound extra = refl
 twin_at moment a o states.Bound extra = refl
-twin_at moment a o states.Listening extra = none_of (same_tuple a o)
-twin_at moment a o states.Full extra = all_of (same_tuple a o)
-twin_at moment a o states.TimeWait extra = none_of (same_tuple a o)
+twin_at moment a o states.Listening extra = none_of (have_one_tuple a o)
+twin_at moment a o states.Full extra = all_of (have_one_tuple a o)
+twin_at moment a o states.TimeWait extra = none_of (have_one_tuple a o)
 
 none_weighs : (t : Bool) (n : ℕ) → cond {A = ℕ} (t && false) n 0 ≡ 0
 none_weighs true n = refl
@@ -135,12 +135,12 @@ all_weigh true n = refl
 all_weigh false n = refl
 
 waits_weigh : (f : Card → ℕ) (a o : Owner) (st : State) (extra : Kind → ℕ)
-    → weigh_as (only (card_waits_at (full_card a)) f) (kind_of st) o extra ≡ cond (is_time_wait st && same_tuple a o) (weigh_as f (kind_of st) o extra) 0
+    → weigh_as (only (card_waits_at (full_card a)) f) (kind_of st) o extra ≡ cond (is_time_wait st && have_one_tuple a o) (weigh_as f (kind_of st) o extra) 0
 waits_weigh f a o states.Unbound extra = refl
 waits_weigh f a o states.Bound extra = refl
-waits_weigh f a o states.Listening extra = none_weighs (same_tuple a o) (f (card_as kinds.Listen o (extra kinds.Listen)))
-waits_weigh f a o states.Full extra = none_weighs (same_tuple a o) (f (card_as kinds.Full o (extra kinds.Full)))
-waits_weigh f a o states.TimeWait extra = all_weigh (same_tuple a o) (f (card_as kinds.TimeWait o (extra kinds.TimeWait)))
+waits_weigh f a o states.Listening extra = none_weighs (have_one_tuple a o) (f (card_as kinds.Listen o (extra kinds.Listen)))
+waits_weigh f a o states.Full extra = none_weighs (have_one_tuple a o) (f (card_as kinds.Full o (extra kinds.Full)))
+waits_weigh f a o states.TimeWait extra = all_weigh (have_one_tuple a o) (f (card_as kinds.TimeWait o (extra kinds.TimeWait)))
 
 or_both : (p q ps qs both : Bool) → both ≡ (ps || qs) → ((p || q) || both) ≡ ((p || ps) || (q || qs))
 or_both true q ps qs both h = refl
@@ -162,14 +162,14 @@ taken_same c flat switch moment a m =
     (found_weighs (keeps (full_card a) moment (rule_of switch)) row) (any_weighs (keeps_as switch moment a) flat.sockets)
     (tested_weigh c flat (full_card a) q (λ (x : Card). 1) m (keepers_home c a moment (rule_of switch))
     ∙ total_same (card_weight flat.groups (ind q)) (ind (keeps_as switch moment a)) flat.sockets (λ s. keeps_at switch moment a s.owner s.owner.state (λ kind. extra_as kind flat.groups s)))
-    ∙ any_or (λ (s : Socket). is_full s.owner.state && same_tuple a s.owner) (λ (s : Socket). waits_at a s && not (gives_way switch moment s)) flat.sockets
+    ∙ any_or (λ (s : Socket). is_full s.owner.state && have_one_tuple a s.owner) (λ (s : Socket). waits_at a s && not (gives_way switch moment s)) flat.sockets
 
 -- and so is `accept`
 pub twin_same : (c : Chains) (flat : Flat) (moment : ℕ) (a : Owner) → ChainsMean c flat
     → is_some (find (keeps (full_card a) moment rules.Always) (row_at c (home_in c (full_card a)))) ≡ has_twin a flat.sockets
 twin_same c flat moment a m =
     let q : Card → Bool = keeps_from (full_card a) moment rules.Always in
-    let p : Socket → Bool = λ s. is_full s.owner.state && same_tuple a s.owner in
+    let p : Socket → Bool = λ s. is_full s.owner.state && have_one_tuple a s.owner in
     let row : List Hashed = row_at c (home_in c (full_card a)) in
     same_answer (is_some (find (keeps (full_card a) moment rules.Always) row)) (list_any p flat.sockets) (total (ind (keeps (full_card a) moment rules.Always)) row) (total (ind p) flat.sockets)
     (found_weighs (keeps (full_card a) moment rules.Always) row) (any_weighs p flat.sockets)
@@ -194,4 +194,4 @@ one_waits states.TimeWait t o extra = refl
 pub waiting_count : (c : Chains) (flat : Flat) (a : Owner) → ChainsMean c flat → total (ind (waits (full_card a))) (row_at c (home_in c (full_card a))) ≡ total (ind (waits_at a)) flat.sockets
 waiting_count c flat a m =
     waiting_weigh c flat a (λ (x : Card). 1) m
-    ∙ total_same (only (waits_at a) (card_weight flat.groups (λ (x : Card). 1))) (ind (waits_at a)) flat.sockets (λ s. one_waits s.owner.state (same_tuple a s.owner) s.owner (λ kind. extra_as kind flat.groups s))
+    ∙ total_same (only (waits_at a) (card_weight flat.groups (λ (x : Card). 1))) (ind (waits_at a)) flat.sockets (λ s. one_waits s.owner.state (have_one_tuple a s.owner) s.owner (λ kind. extra_as kind flat.groups s))

@@ -5,19 +5,19 @@ use Rattle.capture_reader.specs.declared.header.Link.{Link}
 use Rattle.capture_reader.specs.declared.packet.Item.{Item}
 use Rattle.capture_reader.specs.declared.block.Block.{Block}
 use Rattle.capture_reader.specs.declared.block.Block.TheVariants as blocks
-use Rattle.capture_reader.specs.Sections.{Section}
+use Rattle.capture_reader.specs.Sections.{BlockSection}
 use Rattle.capture_reader.specs.Blocks.{BeginsWithBlock, AreBlocks, after, items_of}
 use Rattle.capture_reader.proofs.Blocks.{ends_as}
 use Rattle.capture_reader.proofs.capture.read_blocks.Goals as goal
 
 -- the block that was found, and what it is
-found_as : (dev net : ℕ) (section : Section) (bytes : List ℕ) (a b : Block) (rest : List ℕ) → a ≡ b → BeginsWithBlock dev net section bytes a rest → BeginsWithBlock dev net section bytes b rest
+found_as : (dev net : ℕ) (section : BlockSection) (bytes : List ℕ) (a b : Block) (rest : List ℕ) → a ≡ b → BeginsWithBlock dev net section bytes a rest → BeginsWithBlock dev net section bytes b rest
 found_as dev net section bytes a b rest e h = subst (λ (x : Block). BeginsWithBlock dev net section bytes x rest) e h
 
 -- a section with one more interface is the one after that interface's block
-grown : (old new : Section) (link : Option Link) → new.order ≡ old.order → new.links ≡ old.links ++ link ∷ [] → new ≡ after old (blocks.Interface link)
+grown : (old new : BlockSection) (link : Option Link) → new.order ≡ old.order → new.links ≡ old.links ++ link ∷ [] → new ≡ after old (blocks.Interface link)
 grown old new link e f =
-    let made : (o p : Order) (xs ys : List (Option Link)) → o ≡ p → xs ≡ ys → (let a : Section = record { order = o; links = xs } in let b : Section = record { order = p; links = ys } in a ≡ b) = λ o p xs ys s t. cc in
+    let made : (o p : Order) (xs ys : List (Option Link)) → o ≡ p → xs ≡ ys → (let a : BlockSection = record { order = o; links = xs } in let b : BlockSection = record { order = p; links = ys } in a ≡ b) = λ o p xs ys s t. cc in
     made new.order old.order new.links (old.links ++ link ∷ []) e f
 
 pub loop-block-preserved-in-Section : goal.loop-block-preserved-in-Section
@@ -26,7 +26,7 @@ loop-block-preserved-in-Section c = λ more cut h.
     let rest = c.in-Some.after.now in
     let block = blocks.Section c.in-Section.order in
     let begins = found_as c.args.dev c.args.net s c.loop-block.rest.now c.in-Some.block block rest c.in-Section.is c.in-Some.ensures.some in
-    c.loop-block.invariant (block ∷ more) cut (rest, begins, subst (λ (t : Section). AreBlocks c.args.dev c.args.net t rest more cut) c.begin.ensures h)
+    c.loop-block.invariant (block ∷ more) cut (rest, begins, subst (λ (t : BlockSection). AreBlocks c.args.dev c.args.net t rest more cut) c.begin.ensures h)
 
 pub loop-block-preserved-in_ok-add-in-Interface : goal.loop-block-preserved-in_ok-add-in-Interface
 loop-block-preserved-in_ok-add-in-Interface c = λ more cut h.
@@ -35,7 +35,7 @@ loop-block-preserved-in_ok-add-in-Interface c = λ more cut h.
     let block = blocks.Interface c.in-Interface.link in
     let begins = found_as c.args.dev c.args.net s c.loop-block.rest.now c.in-Some.block block rest c.in-Interface.is c.in-Some.ensures.some in
     let more_links = grown s c.add.new.self c.in-Interface.link c.in_ok-add-in-Interface.ensures.order c.in_ok-add-in-Interface.ensures.links in
-    c.loop-block.invariant (block ∷ more) cut (rest, begins, subst (λ (t : Section). AreBlocks c.args.dev c.args.net t rest more cut) more_links h)
+    c.loop-block.invariant (block ∷ more) cut (rest, begins, subst (λ (t : BlockSection). AreBlocks c.args.dev c.args.net t rest more cut) more_links h)
 
 pub loop-block-preserved-in_ok-push-in-Packet : goal.loop-block-preserved-in_ok-push-in-Packet
 loop-block-preserved-in_ok-push-in-Packet c = λ more cut h.

@@ -1,6 +1,6 @@
 use Rattle.std.proofs.Common.{refl}
 use Rattle.rule_laws.proofs.FormsRead.{each_form}
-use Rattle.rule_laws.proofs.TextsRead.{unsaid, written}
+use Rattle.rule_laws.proofs.TextsRead.{unsaid, written, dumped}
 use Rattle.rule_laws.proofs.laws.text_rows.Goals as goal
 
 pub returns-clause-unsaid : goal.returns-clause-unsaid
@@ -8,6 +8,9 @@ returns-clause-unsaid c = unsaid
 
 pub returns-clause-written : goal.returns-clause-written
 returns-clause-written c = written
+
+pub returns-clause-dumped : goal.returns-clause-dumped
+returns-clause-dumped c = dumped
 
 pub returns-clause-forms : goal.returns-clause-forms
 returns-clause-forms c = each_form
