@@ -63,7 +63,8 @@ total_one : {A : Type 0} (xs : List A) → total one xs ≡ length xs
 total_one [] = refl
 total_one (x ∷ xs) = omega (arith, total_one xs)
 
-same_length : {A : Type 0} (xs ys : List A) → SameItems xs ys → length xs ≡ length ys
+-- as many items
+pub same_length : {A : Type 0} (xs ys : List A) → SameItems xs ys → length xs ≡ length ys
 same_length xs ys s = sym (total_one xs) ∙ s one ∙ total_one ys
 
 journals_short : (most i : ℕ) (journals : List (List (Note Entry))) → length (all_placed itself i journals) ≤ most → Each (λ (journal : List (Note Entry)). length journal ≤ most) journals

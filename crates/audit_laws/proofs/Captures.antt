@@ -10,7 +10,7 @@ use Rattle.capture_reader.specs.declared.block.Block.{Block}
 use Rattle.capture_reader.specs.declared.block.Block.TheVariants as blocks
 use Rattle.capture_reader.specs.Numbers.{number, AreBytes}
 use Rattle.capture_reader.specs.Items.{header_length, fragment_offset, protocol, version, packet_of, ip_item, carried_item, frame_item, is_tagged, item_of, network_number}
-use Rattle.capture_reader.specs.Sections.{Section, begun}
+use Rattle.capture_reader.specs.Sections.{BlockSection, begun}
 use Rattle.capture_reader.specs.Blocks.{AreBlocks, after, item_on, items_of, stored_count}
 use Rattle.capture_reader.specs.Captures.{Capture}
 use Rattle.capture_reader.specs.Grammar.{AreRecords, IsCapture}
@@ -99,7 +99,7 @@ module _ (dev net : ℕ) (from : dev < 2 ^ 16) (within : net < 16) where
         records_in header r.1 all cut (each_back _ r.0 r.1 body) r.4,
       )
 
-  blocks_in : (section : Section) (bytes : List ℕ) (all : List Block) (cut : Bool) → Bytes bytes → AreBlocks dev net section bytes all cut → Each ItemIn (items_of all)
+  blocks_in : (section : BlockSection) (bytes : List ℕ) (all : List Block) (cut : Bool) → Bytes bytes → AreBlocks dev net section bytes all cut → Each ItemIn (items_of all)
   blocks_in section bytes [] cut h r = tt
   blocks_in section bytes (blocks.Packet item ∷ all) cut h r =
       let whole : Bytes (r.1.0 ++ r.0) = subst Bytes r.1.1 h in
@@ -133,7 +133,7 @@ module _ (dev net : ℕ) (from : dev < 2 ^ 16) (within : net < 16) where
     length-append r.0 r.1,
   )
 
-  blocks_few : (section : Section) (bytes : List ℕ) (all : List Block) (cut : Bool) → AreBlocks dev net section bytes all cut → length (items_of all) ≤ length bytes
+  blocks_few : (section : BlockSection) (bytes : List ℕ) (all : List Block) (cut : Bool) → AreBlocks dev net section bytes all cut → length (items_of all) ≤ length bytes
   blocks_few section bytes [] cut r = omega arith
   blocks_few section bytes (blocks.Packet item ∷ all) cut r = omega (
     arith,

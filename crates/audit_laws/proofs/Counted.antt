@@ -38,10 +38,10 @@ fewer (x ∷ xs) ys p h =
     let r : Without ys x = without ys x (h x (inl refl)) in
     omega (arith, r.shorter, fewer xs r.rest p.1 (λ n a. r.others n (λ e. each_of (λ (b : ℕ). x ≢ b) xs p.0 n a (sym e)) (h n (inr a))))
 
-abbrev begin_of : Change → ℕ
+abbrev pub begin_of : Change → ℕ
 begin_of c = c.begin
 
-no_more : (xs ys : List Change) → BeginApart xs → ((n : ℕ) → Among (map begin_of xs) n → Among (map begin_of ys) n) → length xs ≤ length ys
+pub no_more : (xs ys : List Change) → BeginApart xs → ((n : ℕ) → Among (map begin_of xs) n → Among (map begin_of ys) n) → length xs ≤ length ys
 no_more xs ys p h = omega (arith, fewer (map begin_of xs) (map begin_of ys) (pairs_map (λ (a b : ℕ). a ≢ b) begin_of xs p) h, mapped_length begin_of xs, mapped_length begin_of ys)
 
 pub as_many : (number : ℕ → ℕ) (book : List Change) → BeginApart book → EachEndsOne (Among book) → BeginApart (book_of (told_lives number book)) → length (book_of (told_lives number book)) ≡ length book

@@ -318,3 +318,4 @@ plan_few header ranged number count given waits own f (commands.At moment) = f_i
 plan_few header ranged number count given waits own f commands.Reap = f_reap_command header ranged number count given waits own f
 plan_few header ranged number count given waits own f (commands.Look query) = f_impossible (131080 + 2 * waits)
 plan_few header ranged number count given waits own f (commands.Packets n) = f_impossible (131080 + 2 * waits)
+plan_few header ranged number count given waits own f commands.Dump = f_ends (131080 + 2 * waits) _

@@ -1,6 +1,6 @@
 -- The words of lines whose numbers are in range are plain, and these lines'.
-use Rattle.std.proofs.Common.{◌≡◌, ℕ, ◌<◌, ◌^◌, ◌==◌, Bool, true, false, List, [], ◌∷◌, ◌++◌, map, codes, decimal, Option, None, Some, if◌then◌else◌, refl, ◌∙◌, arith}
-use Rattle.std.specs.List.{list_all}
+use Rattle.std.proofs.Common.{◌≡◌, ℕ, ◌<◌, ◌≤◌, ◌^◌, ◌==◌, Bool, true, false, List, [], ◌∷◌, ◌++◌, map, bytes_eq, codes, decimal, Option, None, Some, if◌then◌else◌, refl, ◌∙◌, arith}
+use Rattle.std.specs.List.{list_all, list_any}
 use Rattle.std.proofs.lemmas.List.Folds.{list_all-append}
 use Rattle.list_words.specs.Lists.{Each}
 use Rattle.inet_io.specs.Texts.{end_text}
@@ -23,7 +23,8 @@ use Rattle.record_reader.specs.declared.line.LifeLine.{LifeLine}
 use Rattle.record_reader.specs.declared.line.Line.{Line}
 use Rattle.record_reader.specs.declared.line.Line.TheVariants as lines
 use Rattle.record_reader.specs.Names.{NameFits, name_text, label_of}
-use Rattle.record_reader.specs.Forms.{AnswerFits, CardFits, EndFits, ItemFits, LifeFits, LineFits, LookFits, PacketFits, ShapeFits, SpanFits, UnhashFits, answer_words, card_words, dev_words, end_words, is_plain, item_words, kind_word, life_words, look_words, net_words, packet_words, shape_words, span_words, unhash_words}
+use Rattle.chain_book.specs.Shapes.{ShapeFits}
+use Rattle.record_reader.specs.Forms.{AnswerFits, CardFits, EndFits, ItemFits, LifeFits, LineFits, LookFits, PacketFits, SpanFits, UnhashFits, answer_words, card_words, dev_words, end_words, is_plain, item_words, kind_word, life_words, look_words, net_words, packet_words, shape_words, span_words, tells_vain, unhash_words, verbs}
 use Rattle.audit_laws.proofs.Plain.{plain_front, plain_clear, decimal_plain, end_plain, label_plain}
 use Rattle.audit_laws.proofs.Rows.{IsRow, EachIsRow}
 use Rattle.audit_laws.proofs.Lines.{row}
@@ -65,6 +66,19 @@ card_plain name c n f =
     and_words (kind_word c.kind) _ (kind_plain c.kind) (and_words (name_text name) _ (name_is_plain name n)
     (and_words (end_text c.local c.lport) _ (end_plain c.local c.lport f.local f.lport) (and_words (end_text c.remote c.rport) _ (end_plain c.remote c.rport f.remote f.rport) (dev_plain c.dev c.net f.dev f.net))))
 
+-- a section's number, a verb and a word, and what came of it
+pub reply_row : (n : ℕ) (verb word : List ℕ) (rest : List (List ℕ)) (vain : Bool) → 1 ≤ n → n ≤ 64 → list_any (bytes_eq verb) verbs ≡ true → is_plain verb ≡ true → list_all is_plain (word ∷ rest) ≡ true → vain ≡ tells_vain rest
+    → IsRow (record { words = decimal n ∷ verb ∷ word ∷ rest; line = lines.Reply vain })
+reply_row n verb word rest vain low high known clear plain told = record {
+  some = omega arith;
+  plain = and_both (is_plain (decimal n)) (list_all is_plain (verb ∷ word ∷ rest)) (decimal_plain n (omega (arith, high))) (and_both (is_plain verb) (list_all is_plain (word ∷ rest)) clear plain);
+  form = record { section = n; verb = verb; word = word; rest = rest; spelled = refl; in_range = (low, high); known = known; plain = plain; told = told };
+}
+
+-- a card's own words
+pub words_plain : (name : Name) (c : Card) → NameFits name → CardFits c → list_all is_plain (card_words name c) ≡ true
+words_plain name c n f = (card_plain name c n f).each
+
 unhash_plain : (u : Option Span) → UnhashFits u → ArePlain (unhash_words u)
 unhash_plain None f = record { each = refl }
 unhash_plain (Some s) f = and_words (codes "unhash") _ refl (and_number s.begin (decimal s.end ∷ []) f.0 (and_number s.end [] f.1 none_plain))
@@ -105,7 +119,7 @@ item_plain (items.Looked l) f = look_plain l f
 
 shape_plain : (s : Shape) (seed : ℕ) → ShapeFits s → seed < 2 ^ 32 → ArePlain (shape_words s seed)
 shape_plain s seed f l =
-    and_words (codes "shape") _ refl (and_number s.slots _ (omega (arith, f.slots.1)) (and_number s.bind _ (omega (arith, f.bind.2)) (and_number s.hash _ (omega (arith, f.hash.2)) (and_number s.listen _ (omega (arith, f.listen.2))
+    and_words (codes "shape") _ refl (and_number s.slots _ (omega (arith, f.slots.1)) (and_number s.bind _ (omega (arith, f.bind.1)) (and_number s.hash _ (omega (arith, f.hash.1)) (and_number s.listen _ (omega (arith, f.listen.1))
     (and_words (codes "seed") _ refl (and_number seed [] (omega (arith, l)) none_plain))))))
 
 -- a line that isn't a command's

@@ -16,6 +16,8 @@ pub mod Scripts
 pub mod Lines
 pub mod Trees
 pub mod Texts
+pub mod Dumps
+pub mod DumpRows
 pub mod Replies
 pub mod Forms
 pub mod Ranges

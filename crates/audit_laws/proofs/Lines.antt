@@ -1,6 +1,7 @@
 -- The lines of a race's text, and their words.
-use Rattle.std.proofs.Common.{ℕ, ◌+◌, ◌/◌, ◌^◌, ◌==◌, Bool, true, false, List, [], ◌∷◌, ◌++◌, length, map, codes, decimal, if◌then◌else◌}
+use Rattle.std.proofs.Common.{ℕ, ◌+◌, ◌/◌, ◌^◌, ◌==◌, Bool, true, false, List, [], ◌∷◌, ◌++◌, length, map, codes, decimal, Option, None, Some, if◌then◌else◌}
 use Rattle.std.specs.Option.{option_map}
+use Rattle.std.specs.List.{flat_map}
 use Rattle.inet_io.specs.Texts.{end_text}
 use Rattle.sock_card.specs.declared.card.Card.{Card}
 use Rattle.chain_book.specs.declared.book.PacketAnswer.{PacketAnswer}
@@ -10,6 +11,8 @@ use Rattle.flat_list.specs.declared.command.Command.{Command}
 use Rattle.flat_list.specs.declared.command.Command.TheVariants as commands
 use Rattle.flat_list.specs.declared.command.Reply.{Reply}
 use Rattle.flat_list.specs.declared.command.Reply.TheVariants as replies
+use Rattle.socket_list.specs.Listing.{Listing}
+use Rattle.socket_list.specs.declared.listing.Span.{Span}
 use Rattle.sock_script.specs.Output.{label_in}
 use Rattle.race_book.specs.declared.lives.Life.{Life}
 use Rattle.race_book.specs.Listed.{lives_of}
@@ -27,7 +30,7 @@ use Rattle.record_reader.specs.declared.line.LifeLine.{LifeLine}
 use Rattle.record_reader.specs.declared.line.Line.{Line}
 use Rattle.record_reader.specs.declared.line.Line.TheVariants as lines
 use Rattle.record_reader.specs.Names.{name_of}
-use Rattle.record_reader.specs.Forms.{line_words}
+use Rattle.record_reader.specs.Forms.{card_words, line_words}
 use Rattle.audit_laws.proofs.Printed.{span_of, told_end}
 use Rattle.audit_laws.proofs.Rows.{Row}
 
@@ -48,6 +51,7 @@ subject_words (commands.At moment) = codes "at" ∷ decimal moment ∷ []
 subject_words commands.Reap = codes "reap" ∷ []
 subject_words (commands.Look query) = codes "look" ∷ []
 subject_words (commands.Packets count) = codes "packets" ∷ []
+subject_words commands.Dump = codes "dump" ∷ []
 
 -- and of a reply
 abbrev pub reply_words : Reply → List (List ℕ)
@@ -68,21 +72,32 @@ reply_words replies.Eaddrnotavail = codes "EADDRNOTAVAIL" ∷ []
 reply_words replies.Emfile = codes "EMFILE" ∷ []
 reply_words (replies.Enfile owned held) = codes "ENFILE" ∷ decimal owned ∷ decimal held ∷ []
 
-abbrev pub step_row : ℕ → Step → Row
-step_row n s =
-    record { words = decimal n ∷ (subject_words s.command ++ reply_words s.reply); line = lines.Reply (drew_for s.reply) }
+-- and of the clock round a list
+abbrev pub loads_words : Option Span → List (List ℕ)
+loads_words None = []
+loads_words (Some span) = codes "t0" ∷ decimal span.t0 ∷ codes "t1" ∷ decimal span.t1 ∷ []
 
--- the replies of sections, where the first has that number
-abbrev pub reply_rows : ℕ → List (List Step) → List Row
-reply_rows n [] = []
-reply_rows n (steps ∷ rest) = map (step_row n) steps ++ reply_rows (n + 1) rest
+-- the sockets that a step lists
+abbrev pub listed_cards : Step → List Card
+listed_cards s = flat_map (λ (l : Listing). l.cards) s.listings
 
-abbrev pub step_line : Step → Line
-step_line s = lines.Reply (drew_for s.reply)
+-- what came of a command: how many sockets a `dump` lists, or a reply
+abbrev pub outcome_words : Command → Step → List (List ℕ)
+outcome_words commands.Dump s = decimal (length (listed_cards s)) ∷ flat_map (λ (l : Listing). loads_words l.span) s.listings
+outcome_words _ s = reply_words s.reply
+
+-- a step's own line
+abbrev pub row_as : Command → ℕ → Step → Row
+row_as c n s =
+    record { words = decimal n ∷ (subject_words c ++ outcome_words c s); line = lines.Reply (drew_for s.reply) }
+
+-- that line, and one for each socket that the step lists
+abbrev pub step_lines : Step → List Line
+step_lines s = lines.Reply (drew_for s.reply) ∷ map (λ (c : Card). lines.Reply false) (listed_cards s)
 
 abbrev pub reply_lines : List (List Step) → List Line
 reply_lines [] = []
-reply_lines (steps ∷ rest) = map step_line steps ++ reply_lines rest
+reply_lines (steps ∷ rest) = flat_map step_lines steps ++ reply_lines rest
 
 -- the lines of journals, where the first is that of this bucket
 abbrev pub journals_from : ℕ → List ℕ → List Line
@@ -97,6 +112,23 @@ cut_lines true = lines.Cut ∷ []
 module _ (sections : List (List Command)) where
   abbrev pub told_name : ℕ → Name
   told_name name = name_of (name / 2 ^ 24) (label_in sections name)
+
+  -- a socket that section n lists
+  abbrev pub item_row : ℕ → Card → Row
+  item_row n c =
+      record { words = decimal n ∷ codes "item" ∷ card_words (told_name c.name) c; line = lines.Reply false }
+
+  -- a step of section n: its own row, and that of each socket that it lists
+  abbrev pub step_rows : Command → ℕ → Step → List Row
+  step_rows c n s = row_as c n s ∷ map (item_row n) (listed_cards s)
+
+  abbrev pub steps_rows : ℕ → List Step → List Row
+  steps_rows n steps = flat_map (λ (s : Step). step_rows s.command n s) steps
+
+  -- the steps of sections, where the first has that number
+  abbrev pub reply_rows : ℕ → List (List Step) → List Row
+  reply_rows n [] = []
+  reply_rows n (steps ∷ rest) = steps_rows n steps ++ reply_rows (n + 1) rest
 
   abbrev pub card_line : Card → Card
   card_line c = record c { name = 0; extra = 0 }

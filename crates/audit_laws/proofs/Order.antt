@@ -1,19 +1,22 @@
 -- The lines of a race are in their order, and the clock's is the last.
 use Rattle.std.proofs.Common.{◌≡◌, ℕ, ◌+◌, ◌<◌, ◌≤◌, ◌==◌, ◌||◌, nat_lt, nat_le, Bool, true, false, List, [], ◌∷◌, ◌++◌, append_assoc, length, map, Option, None, Some, if◌then◌else◌, IsTrue, refl, sym, subst, arith}
 use Rattle.std.proofs.lemmas.Bool.{lt-ltb, le-leb, eq-eqb}
+use Rattle.std.specs.List.{flat_map}
 use Rattle.list_words.specs.Lists.{Each, Pairs}
+use Rattle.sock_card.specs.declared.card.Card.{Card}
 use Rattle.list_words.proofs.EachLemmas.{each_weaken, each_of_all}
 use Rattle.flat_list.specs.declared.command.Command.{Command}
 use Rattle.race_book.specs.declared.lives.Life.{Life}
 use Rattle.race_book.specs.Listed.{lives_of}
 use Rattle.race_record.specs.declared.record.Looked.{Looked}
+use Rattle.race_record.specs.Laws.{drew_for}
 use Rattle.race_record.specs.Record.{Race, Step}
 use Rattle.record_reader.specs.declared.line.Line.{Line}
 use Rattle.record_reader.specs.declared.line.Line.TheVariants as lines
 use Rattle.record_reader.specs.declared.line.ItemLine.{ItemLine}
 use Rattle.record_reader.specs.Record.{AreInOrder, may_follow, rank}
 use Rattle.record_reader.proofs.Reading.{last_from}
-use Rattle.audit_laws.proofs.Lines.{cut_lines, item_line, journals_from, later_lines, life_line, life_lines, packets_from, race_lines, reply_lines, step_line}
+use Rattle.audit_laws.proofs.Lines.{cut_lines, item_line, journals_from, later_lines, life_line, life_lines, listed_cards, packets_from, race_lines, reply_lines, step_lines}
 
 -- behind `race`, and of a kind before that one
 record Before (k : ℕ) (b : Line) : Type 0 where
@@ -38,14 +41,23 @@ reply_may (lines.Packet n i) vain h = absurd (omega (arith, h.earlier))
 reply_may lines.Cut vain h = absurd (omega (arith, h.earlier))
 reply_may (lines.Clock c) vain h = absurd (omega (arith, h.earlier))
 
-steps_order : (steps : List Step) (rest : List Line) → GoesOn (Before 3) rest → GoesOn (Before 3) (map step_line steps ++ rest)
+items_order : (cards : List Card) (rest : List Line) → GoesOn (Before 3) rest → GoesOn (Before 3) (map (λ (c : Card). lines.Reply false) cards ++ rest)
+items_order [] rest k b h = k b h
+items_order (c ∷ cards) rest k b h = (reply_may b false h, items_order cards rest k (lines.Reply false) (record { later = omega arith; earlier = omega arith }))
+
+step_order : (s : Step) (rest : List Line) → GoesOn (Before 3) rest → GoesOn (Before 3) (step_lines s ++ rest)
+step_order s rest k b h =
+    (reply_may b _ h, items_order (listed_cards s) rest k (lines.Reply (drew_for s.reply)) (record { later = omega arith; earlier = omega arith }))
+
+steps_order : (steps : List Step) (rest : List Line) → GoesOn (Before 3) rest → GoesOn (Before 3) (flat_map step_lines steps ++ rest)
 steps_order [] rest k b h = k b h
-steps_order (s ∷ steps) rest k b h = (reply_may b _ h, steps_order steps rest k (step_line s) (record { later = omega arith; earlier = omega arith }))
+steps_order (s ∷ steps) rest k b h =
+    subst (AreInOrder (Some b)) (sym (append_assoc (step_lines s) (flat_map step_lines steps) rest)) (step_order s (flat_map step_lines steps ++ rest) (steps_order steps rest k) b h)
 
 replies_order : (sections : List (List Step)) (rest : List Line) → GoesOn (Before 3) rest → GoesOn (Before 3) (reply_lines sections ++ rest)
 replies_order [] rest k = k
 replies_order (steps ∷ more) rest k = λ b h.
-    subst (AreInOrder (Some b)) (sym (append_assoc (map step_line steps) (reply_lines more) rest)) (steps_order steps (reply_lines more ++ rest) (replies_order more rest k) b h)
+    subst (AreInOrder (Some b)) (sym (append_assoc (flat_map step_lines steps) (reply_lines more) rest)) (steps_order steps (reply_lines more ++ rest) (replies_order more rest k) b h)
 
 -- behind that line the journal of the bucket may come
 abbrev JournalMay : ℕ → Line → Type 0

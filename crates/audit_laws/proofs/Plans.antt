@@ -44,6 +44,7 @@ IsCount _ = ⊥
 -- a command's reply
 abbrev pub IsReplyTo : Command → Reply → Type 0
 IsReplyTo commands.Reap reply = IsCount reply
+IsReplyTo commands.Dump reply = reply ≡ replies.Ok
 IsReplyTo _ reply = ReplyFits reply
 
 -- how many labels a command gives
@@ -312,3 +313,4 @@ module _ (header : Header) (ranged : RangeFits header.range) (number count : ℕ
   plan_fits given left own commands.Reap f c l m = reap_plan given left own f m
   plan_fits given left own (commands.Look query) f c l m = tt
   plan_fits given left own (commands.Packets n) f c l m = tt
+  plan_fits given left own commands.Dump f c l m = (longer given left own f, refl)

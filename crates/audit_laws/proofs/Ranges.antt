@@ -32,7 +32,9 @@ use Rattle.race_record.specs.declared.record.Looked.TheVariants as looks
 use Rattle.race_record.specs.Lawful.{AreAnswered, IsReceiptOf}
 use Rattle.record_reader.specs.declared.line.Line.{Line}
 use Rattle.record_reader.specs.declared.line.Line.TheVariants as lines
-use Rattle.record_reader.specs.Forms.{AnswerFits, EndFits, ItemFits, LifeFits, PacketFits, ShapeFits, UnhashFits}
+use Rattle.chain_book.specs.Shapes.{ShapeFits}
+use Rattle.record_reader.specs.Forms.{AnswerFits, EndFits, ItemFits, LifeFits, PacketFits, UnhashFits}
+use Rattle.record_reader.proofs.Powers.{power_positive}
 use Rattle.audit_laws.proofs.Printed.{span_of, told_end}
 use Rattle.audit_laws.proofs.Ascending.{IsOfBook, life_back}
 use Rattle.audit_laws.proofs.Captures.{ItemIn}
@@ -57,10 +59,10 @@ cut_in false = tt
 
 module _ (shape : Shape) (f : ShapeFits shape) where
   hash_below : (n : ℕ) → n % shape.hash < 2 ^ 32
-  hash_below n = let b : n % shape.hash < shape.hash = mod_below n shape.hash (omega (arith, f.hash.1)) in omega (arith, b, f.hash.2)
+  hash_below n = let b : n % shape.hash < shape.hash = mod_below n shape.hash (omega (arith, power_positive shape.hash f.hash.0)) in omega (arith, b, f.hash.1)
 
   listen_below : (n : ℕ) → shape.hash + n % shape.listen < 2 ^ 32
-  listen_below n = let b : n % shape.listen < shape.listen = mod_below n shape.listen (omega (arith, f.listen.1)) in omega (arith, b, f.hash.2, f.listen.2)
+  listen_below n = let b : n % shape.listen < shape.listen = mod_below n shape.listen (omega (arith, power_positive shape.listen f.listen.0)) in omega (arith, b, f.hash.1, f.listen.1)
 
   home_by : (k : Kind) (seed : ℕ) (c : Card) → home_as k shape seed c < 2 ^ 32
   home_by kinds.Full seed c = hash_below (tuple_hash c.local c.lport c.remote c.rport seed c.net)

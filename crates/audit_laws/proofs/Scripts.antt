@@ -1,6 +1,5 @@
 -- What stands in a script for a race is in range.
 use Rattle.std.proofs.Common.{◌≡◌, ℕ, ◌<◌, ◌≤◌, ◌^◌, true, List, [], ◌∷◌, length, Option, None, Some, unwrap_or, refl, sym, subst, arith, inl, inr}
-use Rattle.std.proofs.lemmas.Nat.{pow_pos}
 use Rattle.list_words.specs.Lists.{Each}
 use Rattle.list_words.proofs.EachLemmas.{each_append}
 use Rattle.chain_book.specs.declared.shape.Shape.{Shape}
@@ -13,13 +12,11 @@ use Rattle.sock_script.specs.declared.parse.Mode.TheVariants as modes
 use Rattle.sock_script.specs.declared.line.Line.{Line}
 use Rattle.sock_script.specs.declared.line.Line.TheVariants as lines
 use Rattle.sock_script.specs.Words.{lines_of, words_of}
-use Rattle.sock_script.specs.Forms as forms
 use Rattle.sock_script.specs.Forms.{CommandFits, HasForm, DeviceFits, NamespaceFits}
 use Rattle.sock_script.specs.Grammar.{Draft, Follows, MayCome, ReadsLine, Reads, IsScript, capture_device, capture_namespace, default_range, default_shape, given_label, header_of, is_allowed, is_new, nothing_yet, past, script_of, with_command}
 use Rattle.sock_script.proofs.LineCases.{line_cases}
-use Rattle.sock_script.proofs.Powers.{test-from_power}
 use Rattle.sock_script.proofs.Small.{small_script}
-use Rattle.record_reader.specs.Forms.{ShapeFits, IsPowerTo}
+use Rattle.chain_book.specs.Shapes.{ShapeFits}
 use Rattle.audit_laws.proofs.Owners.{RangeFits}
 
 -- a fact of what is there, if it is
@@ -36,7 +33,7 @@ pub record RaceCommand (c : Command) : Type 0 where
   pub allowed : is_allowed modes.Race c ≡ true
 
 record DraftFits (d : Draft) : Type 0 where
-  table : OfSome forms.ShapeFits d.table
+  table : OfSome ShapeFits d.table
   range : OfSome RangeFits d.range
   seed : OfSome (λ (seed : ℕ). seed < 2 ^ 32) d.seed
   sections : Each (Each RaceCommand) d.sections
@@ -101,15 +98,9 @@ after_lines : (old new : Draft) (texts : List (List ℕ)) → Reads modes.Race o
 after_lines old new [] h w = subst DraftFits (sym h) w
 after_lines old new (text ∷ texts) h w = after_lines h.0 new texts h.2 (after_line old h.0 text h.1 w)
 
-power_to : (most n : ℕ) → forms.IsPowerTo most n → IsPowerTo most n
-power_to most n p = (test-from_power n p.0, omega (arith, p.0.1, pow_pos p.0.0), p.1)
-
-shape_of : (s : Shape) → forms.ShapeFits s → ShapeFits s
-shape_of s f = record { slots = f.slots; bind = power_to 256 s.bind f.bind; hash = power_to 65536 s.hash f.hash; listen = power_to 4096 s.listen f.listen }
-
-shape_told : (o : Option Shape) (d : Shape) → OfSome forms.ShapeFits o → forms.ShapeFits d → ShapeFits (unwrap_or o d)
-shape_told None d f g = shape_of d g
-shape_told (Some s) d f g = shape_of s f
+shape_told : (o : Option Shape) (d : Shape) → OfSome ShapeFits o → ShapeFits d → ShapeFits (unwrap_or o d)
+shape_told None d f g = g
+shape_told (Some s) d f g = f
 
 range_told : (o : Option Range) (d : Range) → OfSome RangeFits o → RangeFits d → RangeFits (unwrap_or o d)
 range_told None d f g = g

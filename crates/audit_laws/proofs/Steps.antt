@@ -14,13 +14,13 @@ use Rattle.flat_list.specs.declared.command.Command.{Command}
 use Rattle.flat_list.specs.declared.command.Command.TheVariants as commands
 use Rattle.flat_list.specs.Sections.{name_at}
 use Rattle.sock_script.specs.Forms.{CommandFits}
-use Rattle.sock_script.specs.Grammar.{given_label, labels_of}
+use Rattle.sock_script.specs.Grammar.{given_label, given_labels}
 use Rattle.sock_script.specs.Output.{label_in}
 use Rattle.table_model.specs.Own.{Own, new_own}
 use Rattle.table_model.specs.Commands.{answers, plan}
 use Rattle.race_book.specs.Among.{Among}
 use Rattle.race_book.specs.Lives.{is_hash}
-use Rattle.race_book.proofs.Endings.{each_of}
+use Rattle.race_book.proofs.Endings.{each_of, to_each}
 use Rattle.race_book.proofs.Checks.{and_left, and_right, and_both, hash_is}
 use Rattle.book_audit.proofs.Prefixes.{each_front, each_back}
 use Rattle.race_record.specs.Deeds.{Vain, changes_of, changes_in, vain_in}
@@ -43,7 +43,7 @@ few_given (commands.Socket label options ∷ cs) = omega (arith, few_given cs)
 few_given (commands.Accept listener label from at ∷ cs) = omega (arith, few_given cs)
 few_given (c ∷ cs) = omega (arith, few_given cs)
 
-pub labels_given : (cs : List Command) → length (labels_of cs) ≡ given_by cs
+pub labels_given : (cs : List Command) → length (given_labels cs) ≡ given_by cs
 labels_given [] = refl
 labels_given (commands.Socket label options ∷ cs) = omega (arith, labels_given cs)
 labels_given (commands.Accept listener label from at ∷ cs) = omega (arith, labels_given cs)
@@ -54,7 +54,7 @@ label_given (commands.Socket l options) label e f = subst (λ x. is_label x ≡ 
 label_given (commands.Accept listener l from at) label e f = subst (λ x. is_label x ≡ true) (some_same l label e) f.1
 label_given c label e f = absurd (cc)
 
-labels_are : (cs : List Command) → Each CommandFits cs → Each (λ l. is_label l ≡ true) (labels_of cs)
+labels_are : (cs : List Command) → Each CommandFits cs → Each (λ l. is_label l ≡ true) (given_labels cs)
 labels_are cs f = each_filter_map CommandFits (λ l. is_label l ≡ true) given_label cs label_given f
 
 got : (P : List ℕ → Type 0) (xs : List (List ℕ)) (k : ℕ) → Each P xs → k < length xs → P (unwrap_or (slice_get xs k) [])
@@ -85,9 +85,9 @@ card_told sections number cs c low high at fits few g =
     let small : n.place + 1 < 2 ^ 24 = omega (arith, n.below, few_given cs, few) in
     let s : c.name / 2 ^ 24 ≡ number = section_is number n.place c.name small n.is in
     let p : c.name % 2 ^ 24 ≡ suc n.place = place_is number n.place c.name small n.is in
-    let labels : labels_of (slice_index_or ([] ∷ sections) (c.name / 2 ^ 24) []) ≡ labels_of cs =
-    ap (λ k. labels_of (slice_index_or ([] ∷ sections) k [])) s ∙ ap labels_of at in
-    let told : label_in sections c.name ≡ unwrap_or (slice_get (labels_of cs) n.place) [] = λ i. unwrap_or (slice_get ([] ∷ labels i) (p i)) [] in record {
+    let labels : given_labels (slice_index_or ([] ∷ sections) (c.name / 2 ^ 24) []) ≡ given_labels cs =
+    ap (λ k. given_labels (slice_index_or ([] ∷ sections) k [])) s ∙ ap given_labels at in
+    let told : label_in sections c.name ≡ unwrap_or (slice_get (given_labels cs) n.place) [] = λ i. unwrap_or (slice_get ([] ∷ labels i) (p i)) [] in record {
       local = g.local;
       remote = g.remote;
       dev = g.dev;
@@ -95,7 +95,7 @@ card_told sections number cs c low high at fits few g =
       least = omega (arith, s, low);
       most = omega (arith, s, high);
       label = subst (λ l. is_label l ≡ true) (sym told)
-          (got (λ l. is_label l ≡ true) (labels_of cs) n.place (labels_are cs fits) (omega (arith, n.below, labels_given cs)));
+          (got (λ l. is_label l ≡ true) (given_labels cs) n.place (labels_are cs fits) (omega (arith, n.below, labels_given cs)));
     }
 
 -- a step whose reply can be written, and the cards that it hashed; and that it did so much at most
@@ -153,7 +153,7 @@ module _ (header : Header) (ranged : RangeFits header.range) (In : Change → Ty
 vain_fits : {In : Change → Type 0} {from to slots counts : ℕ} {sightings : List Sighting} (v : Vain) → slots ≤ 65536 → NoneWasFree In from to slots counts sightings v → VainFits v
 vain_fits v l n = (omega (arith, l, n.all, n.owned_count), omega (arith, l, n.all, n.held_count))
 
-each_flat : {A : Type 0} (P : A → Type 0) (xss : List (List A)) → Each P (flat_map (λ xs. xs) xss) → Each (Each P) xss
+pub each_flat : {A : Type 0} (P : A → Type 0) (xss : List (List A)) → Each P (flat_map (λ xs. xs) xss) → Each (Each P) xss
 each_flat P [] h = tt
 each_flat P (xs ∷ xss) h = (each_front P xs (flat_map (λ ys. ys) xss) h, each_flat P xss (each_back P xs (flat_map (λ ys. ys) xss) h))
 
@@ -172,35 +172,33 @@ changes_told sections (s ∷ steps) h =
     subst (Each (HashesGood (CardTold sections))) (sym (flat_map-append changes_of s.deeds (deeds_of steps)))
     (each_append (HashesGood (CardTold sections)) (changes_in s.deeds) (changes_in (deeds_of steps)) h.0.changes (changes_told sections steps h.1))
 
--- the hash of such a card
-abbrev similar : Card → Change → Bool
-similar k c =
-    is_hash c.act && ((c.card.local == k.local) && ((c.card.lport == k.lport) && ((c.card.remote == k.remote) && ((c.card.rport == k.rport) && ((c.card.dev == k.dev) && ((c.card.net == k.net) && (c.card.name == k.name)))))))
+-- cards with the same ends, device, namespace and name
+abbrev alike : Card → Card → Bool
+alike k c =
+    (c.local == k.local) && ((c.lport == k.lport) && ((c.remote == k.remote) && ((c.rport == k.rport) && ((c.dev == k.dev) && ((c.net == k.net) && (c.name == k.name))))))
 
-similar_itself : (c : Change) → c.act ≡ acts.Hash → similar c.card c ≡ true
-similar_itself c e = let k = c.card in
-    and_both (is_hash c.act) _ (ap is_hash e) (and_both (k.local == k.local) _ (eq-eqb k.local k.local refl)
+alike_itself : (k : Card) → alike k k ≡ true
+alike_itself k =
+    and_both (k.local == k.local) _ (eq-eqb k.local k.local refl)
     (and_both (k.lport == k.lport) _ (eq-eqb k.lport k.lport refl) (and_both (k.remote == k.remote) _ (eq-eqb k.remote k.remote refl)
     (and_both (k.rport == k.rport) _ (eq-eqb k.rport k.rport refl) (and_both (k.dev == k.dev) _ (eq-eqb k.dev k.dev refl)
-    (and_both (k.net == k.net) _ (eq-eqb k.net k.net refl) (eq-eqb k.name k.name refl)))))))
+    (and_both (k.net == k.net) _ (eq-eqb k.net k.net refl) (eq-eqb k.name k.name refl))))))
 
-similar_told : (sections : List (List Command)) (k : Card) (c : Change) → similar k c ≡ true → HashesGood (CardTold sections) c → CardTold sections k
-similar_told sections k c t g =
-    let t1 = and_right (is_hash c.act) _ t in
-    let t2 = and_right (c.card.local == k.local) _ t1 in
-    let t3 = and_right (c.card.lport == k.lport) _ t2 in
-    let t4 = and_right (c.card.remote == k.remote) _ t3 in
-    let t5 = and_right (c.card.rport == k.rport) _ t4 in
-    let t6 = and_right (c.card.dev == k.dev) _ t5 in
-    let t7 = and_right (c.card.net == k.net) _ t6 in
-    let local : c.card.local ≡ k.local = eqb-true _ _ (and_left (c.card.local == k.local) _ t1) in
-    let lport : c.card.lport ≡ k.lport = eqb-true _ _ (and_left (c.card.lport == k.lport) _ t2) in
-    let remote : c.card.remote ≡ k.remote = eqb-true _ _ (and_left (c.card.remote == k.remote) _ t3) in
-    let rport : c.card.rport ≡ k.rport = eqb-true _ _ (and_left (c.card.rport == k.rport) _ t4) in
-    let dev : c.card.dev ≡ k.dev = eqb-true _ _ (and_left (c.card.dev == k.dev) _ t5) in
-    let net : c.card.net ≡ k.net = eqb-true _ _ (and_left (c.card.net == k.net) _ t6) in
-    let name : c.card.name ≡ k.name = eqb-true _ _ t7 in
-    let f : CardTold sections c.card = g (hash_is c.act (and_left (is_hash c.act) _ t)) in record {
+alike_told : (sections : List (List Command)) (k c : Card) → alike k c ≡ true → CardTold sections c → CardTold sections k
+alike_told sections k c t1 f =
+    let t2 = and_right (c.local == k.local) _ t1 in
+    let t3 = and_right (c.lport == k.lport) _ t2 in
+    let t4 = and_right (c.remote == k.remote) _ t3 in
+    let t5 = and_right (c.rport == k.rport) _ t4 in
+    let t6 = and_right (c.dev == k.dev) _ t5 in
+    let t7 = and_right (c.net == k.net) _ t6 in
+    let local : c.local ≡ k.local = eqb-true _ _ (and_left (c.local == k.local) _ t1) in
+    let lport : c.lport ≡ k.lport = eqb-true _ _ (and_left (c.lport == k.lport) _ t2) in
+    let remote : c.remote ≡ k.remote = eqb-true _ _ (and_left (c.remote == k.remote) _ t3) in
+    let rport : c.rport ≡ k.rport = eqb-true _ _ (and_left (c.rport == k.rport) _ t4) in
+    let dev : c.dev ≡ k.dev = eqb-true _ _ (and_left (c.dev == k.dev) _ t5) in
+    let net : c.net ≡ k.net = eqb-true _ _ (and_left (c.net == k.net) _ t6) in
+    let name : c.name ≡ k.name = eqb-true _ _ t7 in record {
       local = record { addr = omega (arith, local, f.local.addr); port = omega (arith, lport, f.local.port) };
       remote = record { addr = omega (arith, remote, f.remote.addr); port = omega (arith, rport, f.remote.port) };
       dev = omega (arith, dev, f.dev);
@@ -209,6 +207,17 @@ similar_told sections k c t g =
       most = subst (λ n. n / 2 ^ 24 ≤ 64) name f.most;
       label = subst (λ n. is_label (label_in sections n) ≡ true) name f.label;
     }
+
+-- the hash of such a card
+abbrev similar : Card → Change → Bool
+similar k c = is_hash c.act && alike k c.card
+
+similar_itself : (c : Change) → c.act ≡ acts.Hash → similar c.card c ≡ true
+similar_itself c e = and_both (is_hash c.act) (alike c.card c.card) (ap is_hash e) (alike_itself c.card)
+
+similar_told : (sections : List (List Command)) (k : Card) (c : Change) → similar k c ≡ true → HashesGood (CardTold sections) c → CardTold sections k
+similar_told sections k c t g =
+    alike_told sections k c.card (and_right (is_hash c.act) (alike k c.card) t) (g (hash_is c.act (and_left (is_hash c.act) (alike k c.card) t)))
 
 -- an item that passes a test, where some do
 record Found {A : Type 0} (test : A → Bool) (xs : List A) : Type 0 where
@@ -243,3 +252,10 @@ book_told sections book changes same told c a e =
 
 pub all_told : (sections : List (List Command)) (race : Race) → Each (Each (StepTold sections)) race.sections → Each (HashesGood (CardTold sections)) (changes_in (all_deeds race))
 all_told sections race h = changes_told sections (steps_of race) (flat_each (StepTold sections) race.sections h)
+
+-- cards that are others, each as often, are told as these are
+pub cards_told : (sections : List (List Command)) (cards others : List Card) → SameItems cards others → Each (CardTold sections) others → Each (CardTold sections) cards
+cards_told sections cards others same told = to_each (CardTold sections) cards (λ c a.
+    let many : 1 ≤ total (counts (alike c)) others = subst (λ n. 1 ≤ n) (same (counts (alike c))) (counted (alike c) cards c a (alike_itself c)) in
+    let f : Found (alike c) others = found (alike c) others many in
+    alike_told sections c f.which f.passes (each_of (CardTold sections) others told f.which f.there))

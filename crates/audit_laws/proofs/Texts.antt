@@ -7,6 +7,7 @@ use Rattle.list_words.specs.Lists.{Each}
 use Rattle.inet_io.specs.Texts.{end_text}
 use Rattle.sock_card.specs.declared.card.Kind.{Kind}
 use Rattle.sock_card.specs.declared.card.Kind.TheVariants as kinds
+use Rattle.sock_card.specs.declared.card.Card.{Card}
 use Rattle.sock_card.specs.declared.card.Packet.{Packet}
 use Rattle.chain_book.specs.declared.book.Change.{Change}
 use Rattle.chain_book.specs.declared.book.PassEnd.{PassEnd}
@@ -29,7 +30,7 @@ use Rattle.audit_laws.proofs.Printed.{span_of, told_end}
 use Rattle.audit_laws.proofs.Names.{name_text_is}
 use Rattle.audit_laws.proofs.Rows.{Row, row_text, rows_text, spaced}
 use Rattle.audit_laws.proofs.Trees.{Tree, leaf, node, ◌⊕◌, text_is}
-use Rattle.audit_laws.proofs.Lines.{row, journals_from, cut_lines, life_line, item_line, packets_from}
+use Rattle.audit_laws.proofs.Lines.{row, journals_from, cut_lines, item_row, life_line, item_line, packets_from}
 
 pub race_text : (lookers passes : ℕ) → race_line lookers passes ≡ row_text (row (lines.Race lookers passes))
 race_text lookers passes =
@@ -124,6 +125,31 @@ life_by bucket slot kind section label local remote dev net from to false (Some 
     text_is (life_tree bucket slot kind section label local remote dev net from to false (Some u)) (life_told bucket slot kind (section ++ codes "." ++ label) local remote dev net from to false (Some u)) (codes "\n")
     (ap (λ t. codes "life " ++ (bucket ++ 32 ∷ (slot ++ 32 ∷ (kind ++ 32 ∷ t)))) (name_then section label _))
 
+-- the first line of a dump
+pub dump_text : (n count t0 t1 : ℕ)
+    → decimal n ++ codes " dump " ++ decimal count ++ (codes " t0 " ++ decimal t0 ++ codes " t1 " ++ decimal t1) ++ codes "\n"
+    ≡ spaced (decimal n ∷ codes "dump" ∷ decimal count ∷ codes "t0" ∷ decimal t0 ∷ codes "t1" ∷ decimal t1 ∷ []) ++ codes "\n"
+dump_text n count t0 t1 =
+    text_is (node (leaf (decimal n) ⊕ codes " dump " ⊕ decimal count) (leaf (codes " t0 ") ⊕ decimal t0 ⊕ codes " t1 " ⊕ decimal t1) ⊕ codes "\n")
+    (decimal n ∷ codes "dump" ∷ decimal count ∷ codes "t0" ∷ decimal t0 ∷ codes "t1" ∷ decimal t1 ∷ []) (codes "\n") refl
+
+-- and that of a socket that it lists
+item_tree : List ℕ → List ℕ → List ℕ → List ℕ → List ℕ → List ℕ → List ℕ → List ℕ → Bool → Tree
+item_tree n kind section label local remote dev net b =
+    node (leaf n ⊕ codes " item ")
+    (node (card_tree kind section label ⊕ codes " " ⊕ local ⊕ codes " " ⊕ remote) (node (leaf (codes " dev ") ⊕ dev) (net_tree b net))) ⊕ codes "\n"
+
+item_by : (n kind section label local remote dev net : List ℕ) (b : Bool)
+    → n ++ codes " item " ++ ((kind ++ codes " " ++ section ++ codes "." ++ label) ++ codes " " ++ local ++ codes " " ++ remote ++ (codes " dev " ++ dev ++ net_text b net)) ++ codes "\n"
+    ≡ spaced (n ∷ codes "item" ∷ kind ∷ (section ++ codes "." ++ label) ∷ local ∷ remote ∷ codes "dev" ∷ dev ∷ net_told b net) ++ codes "\n"
+unfolding item_tree card_tree net_tree
+item_by n kind section label local remote dev net true =
+    text_is (item_tree n kind section label local remote dev net true) (n ∷ codes "item" ∷ kind ∷ (section ++ codes "." ++ label) ∷ local ∷ remote ∷ codes "dev" ∷ dev ∷ net_told true net) (codes "\n")
+    (ap (λ t. n ++ (codes " item " ++ (kind ++ 32 ∷ t))) (name_then section label _))
+item_by n kind section label local remote dev net false =
+    text_is (item_tree n kind section label local remote dev net false) (n ∷ codes "item" ∷ kind ∷ (section ++ codes "." ++ label) ∷ local ∷ remote ∷ codes "dev" ∷ dev ∷ net_told false net) (codes "\n")
+    (ap (λ t. n ++ (codes " item " ++ (kind ++ 32 ∷ t))) (name_then section label _))
+
 -- a packet's line, what came of it as it comes
 packet_tree : List ℕ → Tree → List ℕ → List ℕ → List ℕ → List ℕ → List ℕ → List ℕ → Bool → Tree
 packet_tree number answer t0 t1 src dst dev net b =
@@ -197,6 +223,17 @@ module _ (sections : List (List Command)) where
       ∙ life_by (decimal l.hash.bucket) (decimal l.hash.slot) (kind_word c.kind) (decimal (c.name / 2 ^ 24)) label (end_text c.local c.lport) (end_text c.remote c.rport) (decimal c.dev) (decimal c.net) (decimal l.hash.begin) (decimal l.hash.end) (c.net == 0) l.unhash
       ∙ ap (λ name. spaced (codes "life" ∷ decimal l.hash.bucket ∷ decimal l.hash.slot ∷ ((kind_word c.kind ∷ name ∷ end_text c.local c.lport ∷ end_text c.remote c.rport ∷ codes "dev" ∷ decimal c.dev ∷ net_told (c.net == 0) (decimal c.net)) ++ (codes "hash" ∷ decimal l.hash.begin ∷ decimal l.hash.end ∷ unhash_words (option_map span_of l.unhash)))) ++ codes "\n")
       (sym (name_text_is (c.name / 2 ^ 24) label h))
+
+  item_text : (n : ℕ) (c : Card) → Labelled c.name → output.socket_line (label_in sections) n c ≡ row_text (item_row sections n c)
+  item_text n c h =
+      let label = label_in sections c.name in
+      ap (λ k. decimal n ++ codes " item " ++ ((k ++ codes " " ++ decimal (c.name / 2 ^ 24) ++ codes "." ++ label) ++ codes " " ++ end_text c.local c.lport ++ codes " " ++ end_text c.remote c.rport ++ (codes " dev " ++ decimal c.dev ++ net_text (c.net == 0) (decimal c.net))) ++ codes "\n") (kind_is c.kind)
+      ∙ item_by (decimal n) (kind_word c.kind) (decimal (c.name / 2 ^ 24)) label (end_text c.local c.lport) (end_text c.remote c.rport) (decimal c.dev) (decimal c.net) (c.net == 0)
+      ∙ ap (λ name. spaced (decimal n ∷ codes "item" ∷ kind_word c.kind ∷ name ∷ end_text c.local c.lport ∷ end_text c.remote c.rport ∷ codes "dev" ∷ decimal c.dev ∷ net_told (c.net == 0) (decimal c.net)) ++ codes "\n") (sym (name_text_is (c.name / 2 ^ 24) label h))
+
+  pub items_text : (n : ℕ) (cards : List Card) → Each (λ (c : Card). Labelled c.name) cards → flat_map (output.socket_line (label_in sections) n) cards ≡ rows_text (map (item_row sections n) cards)
+  items_text n [] h = refl
+  items_text n (c ∷ rest) h = λ i. item_text n c h.0 i ++ items_text n rest h.1 i
 
   pub lives_text : (lives : List Life) → Each (λ (l : Life). Labelled l.hash.card.name) lives → flat_map (render.life_line (label_in sections)) lives ≡ rows_text (map row (map (λ l. lines.Life (life_line sections l)) lives))
   lives_text [] h = refl

@@ -5,6 +5,7 @@ use Rattle.std.proofs.lemmas.List.Elements.{filter_map-append}
 use Rattle.std.proofs.lemmas.List.Sums.{length-filter}
 use Rattle.list_words.specs.Lists.{Each}
 use Rattle.list_words.proofs.EachLemmas.{each_append}
+use Rattle.sock_card.specs.declared.card.Card.{Card}
 use Rattle.chain_book.specs.declared.book.PacketAnswer.{PacketAnswer}
 use Rattle.chain_book.specs.declared.book.PacketAnswer.TheVariants as answers
 use Rattle.flat_list.specs.declared.command.Command.{Command}
@@ -21,19 +22,28 @@ use Rattle.record_reader.specs.declared.line.Line.TheVariants as lines
 use Rattle.record_reader.specs.Record.{rank}
 use Rattle.record_reader.specs.Told.{answer_told, is_vain, item_told, life_in, packet_in}
 use Rattle.audit_laws.proofs.Printed.{told_answer, told_life, told_lives, told_item}
-use Rattle.audit_laws.proofs.Lines.{answer_line, cut_lines, item_line, journals_from, later_lines, life_lines, packets_from, race_lines, reply_lines, step_line, told_name}
+use Rattle.audit_laws.proofs.Lines.{answer_line, cut_lines, item_line, journals_from, later_lines, life_lines, listed_cards, packets_from, race_lines, reply_lines, step_lines, told_name}
 
 -- all lines are of that kind
 abbrev AreOf : ℕ → List Line → Type 0
 AreOf k all = Each (λ line. rank line ≡ k) all
 
-steps_are : (steps : List Step) → AreOf 2 (map step_line steps)
+-- the lines of listed sockets
+abbrev items_of : List Card → List Line
+items_of cards = map (λ (c : Card). lines.Reply false) cards
+
+items_are : (cards : List Card) → AreOf 2 (items_of cards)
+items_are [] = tt
+items_are (c ∷ cards) = (refl, items_are cards)
+
+steps_are : (steps : List Step) → AreOf 2 (flat_map step_lines steps)
 steps_are [] = tt
-steps_are (s ∷ steps) = (refl, steps_are steps)
+steps_are (s ∷ steps) =
+    (refl, each_append (λ line. rank line ≡ 2) (items_of (listed_cards s)) (flat_map step_lines steps) (items_are (listed_cards s)) (steps_are steps))
 
 replies_are : (sections : List (List Step)) → AreOf 2 (reply_lines sections)
 replies_are [] = tt
-replies_are (steps ∷ rest) = each_append (λ line. rank line ≡ 2) (map step_line steps) (reply_lines rest) (steps_are steps) (replies_are rest)
+replies_are (steps ∷ rest) = each_append (λ line. rank line ≡ 2) (flat_map step_lines steps) (reply_lines rest) (steps_are steps) (replies_are rest)
 
 journals_by : (b : Bool) (bucket count : ℕ) (rest : List Line) → AreOf 3 rest → AreOf 3 (if b then rest else lines.Journal bucket count ∷ rest)
 journals_by true bucket count rest h = h
@@ -174,9 +184,17 @@ step_by : (b : Bool) (line : Line) (s : Step) (xs : List Line) (ys : List Step) 
 step_by true line s xs ys e = omega (arith, e)
 step_by false line s xs ys e = e
 
-steps_vain : (steps : List Step) → length (filter is_vain (map step_line steps)) ≡ length (filter drew_in_vain steps)
+items_vain : (cards : List Card) → length (filter is_vain (items_of cards)) ≡ 0
+items_vain [] = refl
+items_vain (c ∷ cards) = items_vain cards
+
+steps_vain : (steps : List Step) → length (filter is_vain (flat_map step_lines steps)) ≡ length (filter drew_in_vain steps)
 steps_vain [] = refl
-steps_vain (s ∷ steps) = step_by (drew_for s.reply) (step_line s) s (filter is_vain (map step_line steps)) (filter drew_in_vain steps) (steps_vain steps)
+steps_vain (s ∷ steps) =
+    let items = items_of (listed_cards s) in
+    let behind = flat_map step_lines steps in
+    step_by (drew_for s.reply) (lines.Reply (drew_for s.reply)) s (filter is_vain (items ++ behind)) (filter drew_in_vain steps)
+    (omega (arith, filter-append is_vain items behind, items_vain (listed_cards s), steps_vain steps))
 
 steps-kept_by : (b : Bool) (x : Step) (xs ys zs : List Step) → length zs ≡ length xs + length ys → length (cond b (x ∷ zs) zs) ≡ length (cond b (x ∷ xs) xs) + length ys
 steps-kept_by true x xs ys zs e = omega (arith, e)
@@ -190,7 +208,7 @@ replies_vain : (sections : List (List Step)) → length (filter is_vain (reply_l
 replies_vain [] = refl
 replies_vain (steps ∷ rest) = omega (
   arith,
-  filter-append is_vain (map step_line steps) (reply_lines rest),
+  filter-append is_vain (flat_map step_lines steps) (reply_lines rest),
   steps-append steps (flat_map (λ ss. ss) rest),
   steps_vain steps,
   replies_vain rest,

@@ -1,5 +1,5 @@
 -- The text of a lawful race is a record of its lines, and each verdict on it is yes.
-use Rattle.std.proofs.Common.{◌≡◌, ℕ, suc, ◌+◌, ◌-◌, ◌<◌, ◌≤◌, ◌^◌, List, [], ◌∷◌, ◌++◌, append_assoc, append-nil, length, length-drop, map, slice_get, Option, None, Some, Result, Ok, Err, refl, sym, ap, ◌∙◌, subst, arith}
+use Rattle.std.proofs.Common.{◌≡◌, ℕ, suc, ◌+◌, ◌-◌, ◌<◌, ◌≤◌, ◌^◌, false, List, [], ◌∷◌, ◌++◌, append_assoc, append-nil, length, length-drop, map, slice_get, Option, None, Some, Result, Ok, Err, refl, sym, ap, ◌∙◌, subst, arith}
 use Rattle.std.specs.List.{flat_map, slice_index_or}
 use Rattle.std.proofs.lemmas.Grind.{flat_map-append}
 use Rattle.std.proofs.lemmas.List.{map-append}
@@ -7,6 +7,7 @@ use Rattle.list_words.specs.Lists.{Each}
 use Rattle.list_words.proofs.EachLemmas.{each_append, each_weaken, each_map}
 use Rattle.turn_table.specs.declared.note.Note.{Note}
 use Rattle.bind_buckets.specs.declared.request.Entry.{Entry}
+use Rattle.sock_card.specs.declared.card.Card.{Card}
 use Rattle.capture_reader.specs.Captures.{Capture}
 use Rattle.capture_reader.specs.declared.packet.Item.{Item}
 use Rattle.capture_reader.proofs.Wholes.{fits_drop}
@@ -14,7 +15,7 @@ use Rattle.flat_list.specs.declared.script.CapturePlace.{CapturePlace}
 use Rattle.sock_script.specs.Forms.{CommandFits}
 use Rattle.sock_script.specs.Grammar.{capture_bytes}
 use Rattle.sock_script.specs.Output.{events_from, issued_from, cut_text, label_in, lines_text}
-use Rattle.record_reader.specs.Forms.{ShapeFits}
+use Rattle.chain_book.specs.Shapes.{ShapeFits}
 use Rattle.list_words.proofs.EachLemmas.{each_both}
 use Rattle.capture_reader.specs.Numbers.{AreBytes}
 use Rattle.chain_book.specs.declared.book.Act.TheVariants as acts
@@ -25,12 +26,14 @@ use Rattle.flat_list.specs.declared.command.Command.{Command}
 use Rattle.flat_list.specs.Script.{Script}
 use Rattle.table_model.specs.Own.{Own, new_own}
 use Rattle.race_book.specs.Among.{Among}
+use Rattle.race_book.specs.Laws.{BeginApart}
 use Rattle.race_book.specs.Listed.{lives_of}
 use Rattle.race_book.proofs.Listing.{begin_apart}
 use Rattle.race_record.specs.declared.record.Looked.{Looked}
 use Rattle.race_record.specs.Headline.{NumbersTell}
 use Rattle.race_record.specs.Record.{Race, Step, steps_of, command_of, commands_of}
-use Rattle.race_record.specs.Lawful.{AreAnswered, AreSectionsOf, AreStepsOf, Lawful}
+use Rattle.race_record.specs.Laws.{drew_for}
+use Rattle.race_record.specs.Lawful.{AreAnswered, AreSectionsOf, AreStepsOf, Lawful, Lists}
 use Rattle.race_record.proofs.Drawn.{numbers_tell}
 use Rattle.race_text.specs.Render.{clock_line, command_lines, journal_lines, life_line, looked_lines, race_line, render, shape_line, told, told_text}
 use Rattle.book_audit.specs.declared.printed.Printed.{Printed}
@@ -57,16 +60,17 @@ use Rattle.audit_laws.specs.Laws.{IsAnswer, IsLawfulOf, IsYesOrMemory, LawfulIsR
 use Rattle.audit_laws.proofs.Ascending.{up_lives}
 use Rattle.audit_laws.proofs.Bounds.{DoesFew, IsShort, clock_below, journals_below}
 use Rattle.audit_laws.proofs.Captures.{capture_few, capture_in}
+use Rattle.audit_laws.proofs.Dumps.{ListsTold, sections_list}
 use Rattle.audit_laws.proofs.Forms.{IsInRange, line_row, line_rows}
 use Rattle.audit_laws.proofs.Judged.{Tells, passes_each}
-use Rattle.audit_laws.proofs.Lines.{cut_lines, item_line, journals_from, later_lines, life_lines, packets_from, race_lines, race_rows, reply_lines, reply_rows, row, step_line, step_row}
+use Rattle.audit_laws.proofs.Lines.{cut_lines, item_line, item_row, journals_from, later_lines, life_lines, listed_cards, packets_from, race_lines, race_rows, reply_lines, reply_rows, row, step_lines, step_rows, steps_rows}
 use Rattle.audit_laws.proofs.Lists.{mapped_length}
 use Rattle.audit_laws.proofs.Order.{lines_end, lines_order}
 use Rattle.audit_laws.proofs.Ranges.{LookedFits, cut_in, journals_in, lives_in, lives_labelled, looked_in, packets_in}
 use Rattle.audit_laws.proofs.Replies.{IsFine, are_reply_rows, commands_text, rows_append}
 use Rattle.audit_laws.proofs.Rows.{EachIsRow, is_record, line_of, row_text, rows_text}
 use Rattle.audit_laws.proofs.Scripts.{RaceCommand, ScriptTold, script_told}
-use Rattle.audit_laws.proofs.Steps.{CardTold, StepTold, all_told, book_told, flat_each, sections_told, vains_fit}
+use Rattle.audit_laws.proofs.Steps.{CardTold, StepTold, all_told, book_told, each_flat, flat_each, sections_told, vains_fit}
 use Rattle.audit_laws.proofs.Texts.{LookedLabelled, clock_text, cut_is, journals_text, lives_text, looked_text, race_text, shape_text}
 use Rattle.audit_laws.proofs.Told.{lives_told, numbered, packets_told, vain_told}
 
@@ -116,32 +120,46 @@ module _ (header : Header) (In : Change → Type 0) where
   all_each P n [] (s ∷ sections) a h = absurd a
   all_each P n (cs ∷ scripts) [] a h = absurd a
 
-fine_steps : (sections : List (List Command)) (steps : List Step) → Each (StepTold sections) steps → Each (λ (s : Step). RaceCommand s.command) steps → Each (IsFine sections) steps
-fine_steps sections [] t r = tt
-fine_steps sections (s ∷ steps) t r = (record { told = t.0; allowed = r.0.allowed }, fine_steps sections steps t.1 r.1)
+abbrev IsStepOfRace : Step → Type 0
+IsStepOfRace s = RaceCommand s.command
 
-all_fine : (sections : List (List Command)) (all : List (List Step)) → Each (Each (StepTold sections)) all → Each (Each (λ (s : Step). RaceCommand s.command)) all → Each (Each (IsFine sections)) all
-all_fine sections [] t r = tt
-all_fine sections (steps ∷ rest) t r = (fine_steps sections steps t.0 r.0, all_fine sections rest t.1 r.1)
+abbrev StepLists : List (List Command) → Step → Type 0
+StepLists sections s = ListsTold sections s.command s
+
+fine_steps : (sections : List (List Command)) (steps : List Step) → Each (StepTold sections) steps → Each IsStepOfRace steps → Each (StepLists sections) steps → Each (IsFine sections) steps
+fine_steps sections [] t r l = tt
+fine_steps sections (s ∷ steps) t r l =
+    (record { told = t.0; allowed = r.0.allowed; lists = l.0 }, fine_steps sections steps t.1 r.1 l.1)
+
+all_fine : (sections : List (List Command)) (all : List (List Step)) → Each (Each (StepTold sections)) all → Each (Each IsStepOfRace) all → Each (Each (StepLists sections)) all → Each (Each (IsFine sections)) all
+all_fine sections [] t r l = tt
+all_fine sections (steps ∷ rest) t r l = (fine_steps sections steps t.0 r.0 l.0, all_fine sections rest t.1 r.1 l.1)
 
 -- the rows of a race are of its lines
 rows_lines : (all : List Line) → map line_of (map row all) ≡ all
 rows_lines [] = refl
 rows_lines (line ∷ rest) = ap (λ ls. line ∷ ls) (rows_lines rest)
 
-steps_lines : (n : ℕ) (steps : List Step) → map line_of (map (step_row n) steps) ≡ map step_line steps
-steps_lines n [] = refl
-steps_lines n (s ∷ steps) = ap (λ ls. step_line s ∷ ls) (steps_lines n steps)
+module _ (sections : List (List Command)) where
+  items_lines : (n : ℕ) (cards : List Card) → map line_of (map (item_row sections n) cards) ≡ map (λ (c : Card). lines.Reply false) cards
+  items_lines n [] = refl
+  items_lines n (c ∷ cards) = ap (λ ls. lines.Reply false ∷ ls) (items_lines n cards)
 
-replies_lines : (n : ℕ) (all : List (List Step)) → map line_of (reply_rows n all) ≡ reply_lines all
-replies_lines n [] = refl
-replies_lines n (steps ∷ rest) =
-    map-append line_of (map (step_row n) steps) (reply_rows (n + 1) rest) ∙ λ i. steps_lines n steps i ++ replies_lines (n + 1) rest i
+  steps_lines : (n : ℕ) (steps : List Step) → map line_of (steps_rows sections n steps) ≡ flat_map step_lines steps
+  steps_lines n [] = refl
+  steps_lines n (s ∷ steps) =
+      map-append line_of (step_rows sections s.command n s) (steps_rows sections n steps)
+      ∙ λ i. lines.Reply (drew_for s.reply) ∷ (items_lines n (listed_cards s) i ++ steps_lines n steps i)
+
+  replies_lines : (n : ℕ) (all : List (List Step)) → map line_of (reply_rows sections n all) ≡ reply_lines all
+  replies_lines n [] = refl
+  replies_lines n (steps ∷ rest) =
+      map-append line_of (steps_rows sections n steps) (reply_rows sections (n + 1) rest) ∙ λ i. steps_lines n steps i ++ replies_lines (n + 1) rest i
 
 all_lines : (sections : List (List Command)) (race : Race) → map line_of (race_rows sections race) ≡ race_lines sections race
 all_lines sections race =
     ap (λ ls. lines.Race race.lookers race.passes ∷ lines.Shape race.shape race.seed ∷ ls)
-    (map-append line_of (reply_rows 1 race.sections) (map row (later_lines sections race)) ∙ λ i. replies_lines 1 race.sections i ++ rows_lines (later_lines sections race) i)
+    (map-append line_of (reply_rows sections 1 race.sections) (map row (later_lines sections race)) ∙ λ i. replies_lines sections 1 race.sections i ++ rows_lines (later_lines sections race) i)
 
 rows_both : (xs ys : List Line) → rows_text (map row (xs ++ ys)) ≡ rows_text (map row xs) ++ rows_text (map row ys)
 rows_both xs ys = ap rows_text (map-append row xs ys) ∙ flat_map-append row_text (map row xs) (map row ys)
@@ -191,9 +209,6 @@ module _ (input : List ℕ) (script : Script) (capture : Capture) (race : Race) 
   steps_are_told = sections_told script.header st.range In sections 1 sections race.sections l.sections (omega arith) (omega (arith, st.small.sections))
       (λ i. let e : suc i ≡ 1 + i = omega arith in ap (λ k. slice_index_or ([] ∷ sections) k []) e) scripts_fit (vains_fit race (omega (arith, shape_fits.slots.1)) l.slots)
 
-  fine : Each (Each (IsFine sections)) race.sections
-  fine = all_fine sections race.sections steps_are_told (all_each script.header In RaceCommand 1 sections race.sections l.sections st.commands)
-
   cards : (c : Change) → In c → c.act ≡ acts.Hash → CardTold sections c.card
   cards = book_told sections race.book _ l.book.each_once (all_told sections race steps_are_told)
 
@@ -212,6 +227,15 @@ module _ (input : List ℕ) (script : Script) (capture : Capture) (race : Race) 
   clock_fits : race.clock < 2 ^ 64
   clock_fits = clock_below race few_each short few_sections l.book numbers
 
+  distinct : BeginApart race.book
+  distinct = begin_apart race.book numbers.distinct
+
+  lists_told : Each (Each (StepLists sections)) race.sections
+  lists_told = sections_list sections race clock_fits distinct (omega (arith, clock_fits, numbers.count)) cards race.sections l.spans (each_flat (Lists race) race.sections l.dumps)
+
+  fine : Each (Each (IsFine sections)) race.sections
+  fine = all_fine sections race.sections steps_are_told (all_each script.header In RaceCommand 1 sections race.sections l.sections st.commands) lists_told
+
   few_looked : length race.looked ≤ 2 ^ 24
   few_looked = omega (
     arith,
@@ -228,7 +252,7 @@ module _ (input : List ℕ) (script : Script) (capture : Capture) (race : Race) 
   later_in : Each IsInRange (later_lines sections race)
   later_in =
       each_append IsInRange (journals_from 0 (map length race.journals)) _
-      (journals_in 0 (map length race.journals) (omega (arith, mapped_length count_of race.journals, l.journals.count, shape_fits.bind.2)) (each_map (λ (n : ℕ). n < 2 ^ 64) length race.journals (each_weaken (λ (journal : List (Note Entry)). length journal ≤ 2 ^ 56) (λ (journal : List (Note Entry)). length journal < 2 ^ 64) race.journals (λ journal le. omega (arith, le)) (journals_below race few_each short few_sections l.journals))))
+      (journals_in 0 (map length race.journals) (omega (arith, mapped_length count_of race.journals, l.journals.count, shape_fits.bind.1)) (each_map (λ (n : ℕ). n < 2 ^ 64) length race.journals (each_weaken (λ (journal : List (Note Entry)). length journal ≤ 2 ^ 56) (λ (journal : List (Note Entry)). length journal < 2 ^ 64) race.journals (λ journal le. omega (arith, le)) (journals_below race few_each short few_sections l.journals))))
       (each_append IsInRange (life_lines sections (lives_of race.book)) _
       (lives_in race.shape shape_fits race.seed race.clock sections race.book clock_fits l.serial.homes l.book.slots numbers.below cards)
       (each_append IsInRange (packets_from sections 1 race.looked) _
@@ -240,7 +264,7 @@ module _ (input : List ℕ) (script : Script) (capture : Capture) (race : Race) 
     line_row (lines.Race race.lookers race.passes) tt (w.lookers, w.passes),
     (
       line_row (lines.Shape race.shape race.seed) tt (shape_fits, subst (λ n. n < 2 ^ 32) (sym l.seed) st.seed),
-      rows_append sections (reply_rows 1 race.sections) (map row (later_lines sections race))
+      rows_append sections (reply_rows sections 1 race.sections) (map row (later_lines sections race))
           (are_reply_rows sections 1 race.sections (omega arith) (omega (arith, same_count script.header In 1 sections race.sections l.sections, st.small.sections)) fine)
           (line_rows (later_lines sections race) later_in),
     ),
@@ -249,13 +273,13 @@ module _ (input : List ℕ) (script : Script) (capture : Capture) (race : Race) 
   commands_are : commands_of race ≡ sections
   commands_are = all_commands script.header In 1 sections race.sections l.sections
 
-  replies_are : lines_text sections 1 (events_from [] (issued_from 1 sections)) (told race).replies ≡ rows_text (reply_rows 1 race.sections)
+  replies_are : lines_text sections 1 (events_from [] (issued_from 1 sections)) (told race).replies (told race).listings ≡ rows_text (reply_rows sections 1 race.sections)
   replies_are =
-      ap (λ cs. lines_text sections 1 (events_from [] (issued_from 1 cs)) (told race).replies) (sym commands_are)
+      ap (λ cs. lines_text sections 1 (events_from [] (issued_from 1 cs)) (told race).replies (told race).listings) (sym commands_are)
       ∙ commands_text sections 1 race.sections fine
 
   rows_apart : rows_text (race_rows sections race)
-      ≡ row_text (row (lines.Race race.lookers race.passes)) ++ (row_text (row (lines.Shape race.shape race.seed)) ++ (rows_text (reply_rows 1 race.sections) ++ (rows_text (map row (journals_from 0 (map length race.journals)))
+      ≡ row_text (row (lines.Race race.lookers race.passes)) ++ (row_text (row (lines.Shape race.shape race.seed)) ++ (rows_text (reply_rows sections 1 race.sections) ++ (rows_text (map row (journals_from 0 (map length race.journals)))
       ++ (rows_text (map row (life_lines sections (lives_of race.book))) ++ (rows_text (map row (packets_from sections 1 race.looked)) ++ (rows_text (map row (cut_lines race.cut)) ++ row_text (row (lines.Clock race.clock))))))))
   rows_apart =
       let a = row_text (row (lines.Race race.lookers race.passes)) in
@@ -265,8 +289,8 @@ module _ (input : List ℕ) (script : Script) (capture : Capture) (race : Race) 
       let packets = packets_from sections 1 race.looked in
       let lives = life_lines sections (lives_of race.book) in
       let counts = journals_from 0 (map length race.journals) in
-      ap (λ t. a ++ (b ++ t)) (flat_map-append row_text (reply_rows 1 race.sections) (map row (later_lines sections race))
-      ∙ ap (λ t. rows_text (reply_rows 1 race.sections) ++ t) (rows_both counts (lives ++ (packets ++ (cut ++ clock)))
+      ap (λ t. a ++ (b ++ t)) (flat_map-append row_text (reply_rows sections 1 race.sections) (map row (later_lines sections race))
+      ∙ ap (λ t. rows_text (reply_rows sections 1 race.sections) ++ t) (rows_both counts (lives ++ (packets ++ (cut ++ clock)))
       ∙ ap (λ t. rows_text (map row counts) ++ t) (rows_both lives (packets ++ (cut ++ clock))
       ∙ ap (λ t. rows_text (map row lives) ++ t) (rows_both packets (cut ++ clock)
       ∙ ap (λ t. rows_text (map row packets) ++ t) (rows_both cut clock
@@ -274,7 +298,7 @@ module _ (input : List ℕ) (script : Script) (capture : Capture) (race : Race) 
 
   told_is : told_text sections (told race) ≡ rows_text (race_rows sections race)
   told_is =
-      regrouped (race_line race.lookers race.passes) (shape_line race.shape race.seed) (command_lines sections (told race).replies) (journal_lines 0 (told race).journals)
+      regrouped (race_line race.lookers race.passes) (shape_line race.shape race.seed) (command_lines sections (told race).replies (told race).listings) (journal_lines 0 (told race).journals)
       (flat_map (life_line (label_in sections)) (lives_of race.book)) (looked_lines (label_in sections) 1 race.looked) (cut_text race.cut) (clock_line race.clock)
       ∙ (λ i. race_text race.lookers race.passes i ++ (shape_text race.shape race.seed i ++ (replies_are i ++ (journals_text 0 (map length race.journals) i
       ++ (lives_text sections (lives_of race.book) (lives_labelled race.shape shape_fits race.seed race.clock sections race.book clock_fits l.serial.homes l.book.slots numbers.below cards) i
@@ -297,7 +321,7 @@ module _ (input : List ℕ) (script : Script) (capture : Capture) (race : Race) 
       let same : map line_of (race_rows sections race) ≡ all = all_lines sections race in
       subst (λ t. IsRecord t all) (sym text_is) (subst (IsRecord (rows_text (race_rows sections race))) same
       (is_record (race_rows sections race) race.clock rows_are
-      (subst (AreInOrder None) (sym same) (lines_order sections race (up_lives race.book (begin_apart race.book numbers.distinct))))
+      (subst (AreInOrder None) (sym same) (lines_order sections race (up_lives race.book distinct)))
       (subst (λ ls. slice_get ls (length ls - 1) ≡ Some (lines.Clock race.clock)) (sym same) last_line)))
 
   abbrev number : Name → ℕ

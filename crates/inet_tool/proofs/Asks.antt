@@ -4,7 +4,7 @@ use Rattle.std.specs.Str.Parse.{digits_value}
 use Rattle.clap.specs.Words.{Text, Row, one_of, subcommand_of, without_minus}
 use Rattle.sock_script.specs.declared.parse.Mode.{Mode}
 use Rattle.sock_script.specs.declared.parse.Mode.TheVariants as modes
-use Rattle.inet_tool.specs.Words.{inet_app, name_of, number_of, IsAudit, IsMake, IsRace, IsRefused, IsRun, MakesInRange, RacesInRange, Reads}
+use Rattle.inet_tool.specs.Words.{inet_app, name_of, number_of, IsAudit, IsMake, IsRace, IsRefused, IsRun, MakesInRange, RacesInRange, AsksToRead}
 use Rattle.inet_tool.proofs.Asked.{Met, audits, makes, met_by, races, runs}
 use Rattle.inet_tool.proofs.MakeWords.{most_seed, most_count}
 use Rattle.inet_tool.proofs.Names.{audit_isnt_make, audit_isnt_race, make_isnt_race, race_isnt_audit, race_isnt_make, run_isnt_audit, run_isnt_make, run_isnt_race}
@@ -24,14 +24,14 @@ module _ (words : List Text) where
   one_race a b c d h k = (one_value h.2 k.2, one_value h.3 k.3)
 
   -- a script is read for one thing
-  pub one_mode : (m n : Mode) → Reads m words → Reads n words → m ≡ n
+  pub one_mode : (m n : Mode) → AsksToRead m words → AsksToRead n words → m ≡ n
   one_mode modes.Run modes.Run h k = refl
   one_mode modes.Run modes.Race h k = absurd (run_isnt_race (one_value h.1 k.2.1))
   one_mode modes.Race modes.Run h k = absurd (run_isnt_race (one_value k.1 h.2.1))
   one_mode modes.Race modes.Race h k = refl
 
   -- so what holds of that holds of whatever it is read for
-  pub by_mode : (P : Mode → Type 0) (m : Mode) → Reads m words → P m → (n : Mode) → Reads n words → P n
+  pub by_mode : (P : Mode → Type 0) (m : Mode) → AsksToRead m words → P m → (n : Mode) → AsksToRead n words → P n
   by_mode P m h p n k = subst P (one_mode m n h k) p
 
 -- the number of an argument is what its text says, and no more than its parser allows
@@ -76,7 +76,7 @@ module _ {P : Type 0} (words : List Text) where
   pub race_or_make : (n p seed count : ℕ) → IsRace words n p → IsMake words seed count → P
   race_or_make n p seed count h k = absurd (race_isnt_make (one_value h.1 k.1))
 
-  pub read_or_made : (mode : Mode) (seed count : ℕ) → Reads mode words → IsMake words seed count → P
+  pub read_or_made : (mode : Mode) (seed count : ℕ) → AsksToRead mode words → IsMake words seed count → P
   read_or_made modes.Run seed count h k = absurd (run_isnt_make (one_value h.1 k.1))
   read_or_made modes.Race seed count h k = race_or_make h.0 h.1 seed count h.2 k
 
@@ -89,11 +89,11 @@ module _ {P : Type 0} (words : List Text) where
   pub audit_or_make : (seed count : ℕ) → IsAudit words → IsMake words seed count → P
   audit_or_make seed count h k = absurd (audit_isnt_make (one_value h.1 k.1))
 
-  pub read_or_audited : (mode : Mode) → Reads mode words → IsAudit words → P
+  pub read_or_audited : (mode : Mode) → AsksToRead mode words → IsAudit words → P
   read_or_audited modes.Run h k = run_or_audit h k
   read_or_audited modes.Race h k = race_or_audit h.0 h.1 h.2 k
 
   -- words that are refused ask for none
-  pub refused_read : (mode : Mode) → Reads mode words → IsRefused words → P
+  pub refused_read : (mode : Mode) → AsksToRead mode words → IsRefused words → P
   refused_read modes.Run h refused = absurd (refused h.0)
   refused_read modes.Race h refused = absurd (refused h.2.0)

@@ -56,13 +56,13 @@ IsGood mode bytes =
 -- Whatever script these bytes are, each list that it runs through is sound: no two bound sockets of different origin
 -- conflict, but for those whose ports `connect` chose, and no two sockets that are full or in TIME_WAIT have one
 -- four-tuple.
-abbrev pub RunsSound : List ℕ → Type 0
-RunsSound bytes =
+abbrev pub InputRunsSound : List ℕ → Type 0
+InputRunsSound bytes =
     (script : Script) → IsScript modes.Run bytes script → Each IsSound (lists_of script)
 
 -- what a run writes for a script: the flat list's output
 abbrev pub IsRunOf : List ℕ → List ℕ → Type 0
-IsRunOf bytes out = FlatOut bytes out × RunsSound bytes
+IsRunOf bytes out = FlatOut bytes out × InputRunsSound bytes
 
 -- Whatever lawful record of a race of these bytes: no two full sockets ever have one four-tuple, no two bound sockets of
 -- different origin ever conflict, and each packet's answer has its cause.

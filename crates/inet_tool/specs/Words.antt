@@ -91,9 +91,9 @@ abbrev pub IsAudit : List Text → Type 0
 IsAudit words = IsTaken words × (name_of words ≡ Some (codes "audit"))
 
 -- the words ask to read a script, which is read for that
-abbrev pub Reads : Mode → List Text → Type 0
-Reads modes.Run words = IsRun words
-Reads modes.Race words = (lookers passes : ℕ) × IsRace words lookers passes
+abbrev pub AsksToRead : Mode → List Text → Type 0
+AsksToRead modes.Run words = IsRun words
+AsksToRead modes.Race words = (lookers passes : ℕ) × IsRace words lookers passes
 
 -- the words ask for it
 abbrev pub Asks : List Text → Ask → Type 0

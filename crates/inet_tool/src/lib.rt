@@ -34,7 +34,7 @@ ghost use Rattle.inet_tool.specs.declared.fault.Fault.{Fault as AnyFault};
 ghost use Rattle.inet_tool.specs.declared.fault.Fault.TheVariants as faults;
 ghost use Rattle.sock_script.specs.declared.parse.Mode.{Mode};
 ghost use Rattle.sock_script.specs.declared.parse.Mode.TheVariants as modes;
-ghost use Rattle.inet_tool.specs.Words.{IsRun, IsMake, IsRace, IsRefused, IsAudit, Reads};
+ghost use Rattle.inet_tool.specs.Words.{IsRun, IsMake, IsRace, IsRefused, IsAudit, AsksToRead};
 ghost use Rattle.inet_tool.specs.Table.{limit, HasFault, IsGood, IsRaceOf, IsRunOf, WritesFlatOut, WritesRace, WritesFault, WritesFront, WritesCounts, WritesFrontOfCounts};
 ghost use Rattle.inet_tool.specs.Verdict.{Answers, fault_status};
 ghost use Rattle.inet_tool.specs.Audit.{AuditAnswers, IsEnd, IsOutcome, WritesFrontOfOutcome, WritesOutcome, outcome_status};
@@ -99,10 +99,10 @@ pub fn inet<R: Threads + Wait + Sync, S: Source, K: Sink, G: Gate>(
     ensures raced { (lookers passes : ℕ) → IsRace (map string_bytes words.now) lookers passes → result ≡ Status.Done
         → WritesRace lookers passes
         (S.left source.old) (S.left source.new) (K.written sink.old) (K.written sink.new) }
-    ensures bad_script { (mode : Mode) → Reads mode (map string_bytes words.now)
+    ensures bad_script { (mode : Mode) → AsksToRead mode (map string_bytes words.now)
         → (n : ℕ) → result ≡ Status.BadScript n → WritesFault mode
         (S.left source.old) (S.left source.new) (K.written sink.old) (K.written sink.new) (faults.Line n) }
-    ensures bad_capture { (mode : Mode) → Reads mode (map string_bytes words.now)
+    ensures bad_capture { (mode : Mode) → AsksToRead mode (map string_bytes words.now)
         → result ≡ Status.BadCapture → WritesFault mode
         (S.left source.old) (S.left source.new) (K.written sink.old) (K.written sink.new) faults.Capture }
     ensures too_long { result ≡ Status.TooLong
@@ -121,19 +121,19 @@ pub fn inet<R: Threads + Wait + Sync, S: Source, K: Sink, G: Gate>(
     ensures reads { S.calls source.new ≤ S.calls source.old + limit + 1 }
 
     // Which status the input of `run` or `race` gets, where the source tells it.
-    ensures verdict { (mode : Mode) → Reads mode (map string_bytes words.now)
+    ensures verdict { (mode : Mode) → AsksToRead mode (map string_bytes words.now)
         → IfSome (S.left source.old) (λ bytes. Answers mode bytes result) }
-    ensures over_limit { (mode : Mode) → Reads mode (map string_bytes words.now)
+    ensures over_limit { (mode : Mode) → AsksToRead mode (map string_bytes words.now)
         → IfSome (S.left source.old) (λ bytes. limit < length bytes
         → (result ≡ Status.TooLong) ⊎ ((result ≡ Status.ReadFault) ⊎ (result ≡ Status.Memory))) }
-    ensures broken { (mode : Mode) → Reads mode (map string_bytes words.now)
+    ensures broken { (mode : Mode) → AsksToRead mode (map string_bytes words.now)
         → IfSome (S.left source.old) (λ bytes. (fault : AnyFault)
         → length bytes ≤ limit → HasFault mode bytes fault
         → (result ≡ fault_status fault) ⊎ ((result ≡ Status.ReadFault)
         ⊎ ((result ≡ Status.WriteFault) ⊎ (result ≡ Status.Memory)))) }
 
     // A script within the limit is served, where neither end failed and memory was there.
-    ensures complete { (mode : Mode) → Reads mode (map string_bytes words.now)
+    ensures complete { (mode : Mode) → AsksToRead mode (map string_bytes words.now)
         → IfSome (S.left source.old) (λ bytes. length bytes ≤ limit → IsGood mode bytes
         → ¬ (Rose (S.faults source.old) (S.faults source.new))
         → ¬ (Rose (K.faults sink.old) (K.faults sink.new))
@@ -166,7 +166,7 @@ pub fn inet<R: Threads + Wait + Sync, S: Source, K: Sink, G: Gate>(
         → (result ≡ outcome_status outcome) ⊎ (result ≡ Status.Memory)) }
 
     // A script isn't told to be no record, nor a record to be no script.
-    ensures no_record { (mode : Mode) → Reads mode (map string_bytes words.now)
+    ensures no_record { (mode : Mode) → AsksToRead mode (map string_bytes words.now)
         → (n : ℕ) → (result ≡ Status.BadRecord n → ⊥) × (result ≡ Status.Refuted n → ⊥) }
     ensures no_script { IsAudit (map string_bytes words.now)
         → (n : ℕ) → (result ≡ Status.BadScript n → ⊥) × (result ≡ Status.BadCapture → ⊥) }

@@ -20,5 +20,5 @@ pub fn counts_text<R: Wait>(
 {
     let script = make::script(alloc, seed, count)?;
     let replies = run(rt, alloc, &script, &Capture::new(alloc))?;
-    Counts::of(&script, &replies).text(alloc)
+    Counts::of(&script, &replies.each).text(alloc)
 }

@@ -34,7 +34,7 @@ pub fn reply_to<R: Wait>(rt: &R, alloc: Global, bytes: &[u8]) -> Result<Reply, A
         Err(CaptureEnd::Memory) => return Err(AllocError),
     };
     let replies = run(rt, alloc, &script, &capture)?;
-    let text = output::text(alloc, &script, &capture, &replies)?;
+    let text = output::text(alloc, &script, &capture, &replies.each, &replies.listings)?;
     Ok(Reply { text, fault: None })
 }
 

@@ -95,6 +95,7 @@ one_event n (commands.At moment) rest e = refl
 one_event n commands.Reap rest e = refl
 one_event n (commands.Look query) rest e = refl
 one_event n (commands.Packets count) rest e = absurd (true≢false e)
+one_event n commands.Dump rest e = refl
 
 section_replies : (n : ℕ) (flat : Flat) (cs : List Command) (later : List Issued) → AsksNone cs
     → replies_from flat (events_from [] (issue n cs ++ later)) ≡ replies_to flat n cs ++ replies_from (after flat (issue n cs)) (events_from [] later)

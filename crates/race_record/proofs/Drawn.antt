@@ -1,9 +1,9 @@
 -- What the numbers that were drawn tell of a book.
 use Rattle.std.proofs.Common.{◌≡◌, ◌≢◌, ℕ, zero, suc, ◌+◌, ◌*◌, ◌<◌, ◌≤◌, ◌==◌, Bool, true, false, cond, nat_lt, List, [], ◌∷◌, ◌++◌, length, filter, None, Some, refl, sym, ap, ◌∙◌, subst, arith, inl, inr}
 use Rattle.std.specs.List.{flat_map}
-use Rattle.std.proofs.lemmas.Bool.{ltb-true, ltb-false, lt-ltb, eqb-true, eqb-false, eq-eqb}
+use Rattle.std.proofs.lemmas.Bool.{ltb-true, ltb-false, lt-ltb, eqb-true, eq-eqb}
 use Rattle.std.proofs.lemmas.Grind.{flat_map-append}
-use Rattle.list_words.specs.Lists.{Each, Pairs, SameItems, total}
+use Rattle.list_words.specs.Lists.{Each, Pairs, total}
 use Rattle.list_words.proofs.TotalLemmas.{total-append}
 use Rattle.turn_table.specs.Journals.{numbers_below}
 use Rattle.capture_reader.specs.Captures.{Capture}
@@ -14,10 +14,10 @@ use Rattle.flat_list.specs.Script.{Script}
 use Rattle.table_model.specs.Own.{Own, new_own}
 use Rattle.race_book.specs.Among.{Among}
 use Rattle.race_book.specs.Laws.{EndAfter}
-use Rattle.race_book.specs.Listed.{stamps_of, StampsDiffer}
+use Rattle.race_book.specs.Listed.{stamps_of}
 use Rattle.race_record.specs.Deeds.{Deed, Vain, hashed, kept_out, no_slot, entered, inserted, added, left, reaped, changes_of, changes_in, vain_of, vain_in, drawn_of, drawn_in}
 use Rattle.race_record.specs.Record.{Race, Step, deeds_of, steps_of}
-use Rattle.race_record.specs.Laws.{drew_for, drew_in_vain}
+use Rattle.race_record.specs.Laws.{drew_in_vain}
 use Rattle.race_record.specs.Lawful.{Lawful, AreInOrder, IsSpanned, AreStepsOf, AreSectionsOf}
 use Rattle.race_record.specs.Headline.{NumbersTell}
 use Rattle.race_record.proofs.Vain.{replies_tell}

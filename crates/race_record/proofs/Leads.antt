@@ -1,6 +1,5 @@
 -- What deeds tell leads a plan where the deeds do.
 use Rattle.std.proofs.Common.{◌≡◌, ℕ, ◌%◌, List, [], ◌∷◌, map, refl, sym, ap}
-use Rattle.chain_book.specs.declared.outcome.Place.{Place}
 use Rattle.turn_table.specs.Journals.{placed}
 use Rattle.table_model.specs.Asking.{Asking, ends, asks, inserts, adds, unhashes, reaps}
 use Rattle.table_model.specs.Goes as goes

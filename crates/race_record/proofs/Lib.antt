@@ -7,3 +7,5 @@ pub mod Ports
 pub mod Homes
 pub mod Drawn
 pub mod Leads
+pub mod Listener
+pub mod Dumps

@@ -1,9 +1,6 @@
 -- What a lawful record says.
-use Rattle.std.proofs.Common.{◌≡◌, ℕ, zero, suc, ◌+◌, ◌<◌, ◌≤◌, inl, inr, Bool, true, false, cond, nat_lt, List, [], ◌∷◌, ◌++◌, map, take, refl, sym, ap, ◌∙◌, subst, arith}
-use Rattle.std.specs.List.{flat_map}
-use Rattle.std.proofs.lemmas.Bool.{ltb-true, lt-ltb}
-use Rattle.std.proofs.lemmas.Grind.{flat_map-append}
-use Rattle.list_words.specs.Lists.{Each, total}
+use Rattle.std.proofs.Common.{◌≡◌, ℕ, zero, suc, ◌+◌, List, [], ◌∷◌, map, take, refl, sym, subst}
+use Rattle.list_words.specs.Lists.{Each}
 use Rattle.turn_table.specs.declared.note.Note.{Note}
 use Rattle.bind_buckets.specs.declared.request.Entry.{Entry}
 use Rattle.bind_buckets.specs.OwnerStep.{Held, owner_step, empty}
@@ -17,7 +14,6 @@ use Rattle.chain_book.specs.declared.shape.Shape.{Shape}
 use Rattle.flat_list.specs.Script.{Script}
 use Rattle.race_book.specs.Among.{Among}
 use Rattle.race_book.specs.Explained.{MayAnswer, anywhere, at_home, IsAtHome}
-use Rattle.race_book.specs.Laws.{EndAfter}
 use Rattle.race_book.specs.Serial.{IsSerial}
 use Rattle.race_book.proofs.Listing.{begin_apart}
 use Rattle.race_book.proofs.Spans.{answer_of_fewer}
@@ -25,11 +21,11 @@ use Rattle.race_book.proofs.Twins.{serial_has_none}
 use Rattle.race_record.proofs.Homes.{ports_of}
 use Rattle.race_record.specs.declared.record.Looked.{Looked}
 use Rattle.race_record.specs.declared.record.Looked.TheVariants as looks
-use Rattle.race_record.specs.Deeds.{changes_of, changes_in}
-use Rattle.race_record.specs.Record.{Race, Step, deeds_of}
-use Rattle.race_record.specs.Lawful.{Lawful, AreInOrder, IsSpanned, Answers, AreAnswered, EachFrom, IsLegalJournal, entry_in}
+use Rattle.race_record.specs.Record.{Race, steps_of}
+use Rattle.race_record.specs.Lawful.{Lawful, Answers, AreAnswered, EachFrom, IsLegalJournal, entry_in}
 use Rattle.race_record.specs.Headline.{Headline, AlwaysAgree, HasCause, NumbersTell}
 use Rattle.race_record.proofs.Drawn.{numbers_tell}
+use Rattle.race_record.proofs.Dumps.{dumps_say}
 
 -- at each place of a legal journal the owners agree
 agree_from : (number : ℕ) (h : Held) (entries : List Entry) → OwnersAgree h.owners → IsLegalFrom number h entries → (k : ℕ) → OwnersAgree (replayed_from number h (take k entries)).owners
@@ -65,4 +61,5 @@ lawful_says script capture race l =
       owners = agree_all 0 race.journals l.journals.legal;
       keys = ports_of script.header (Among race.book) race.shape.bind script.sections race.sections race.journals l.sections l.journals.each_once;
       packets = causes race.book race.shape race.seed race.clock l.serial capture.items race.looked l.items;
+      dumps = dumps_say race (steps_of race) l.dumps;
     }

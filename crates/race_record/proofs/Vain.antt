@@ -380,6 +380,7 @@ module _ (header : Header) where
   v_plan own commands.Reap = v_then told_count _ _ (v_reap _ 0) (λ count. refl)
   v_plan own (commands.Look query) = v_impossible 0 told_reply
   v_plan own (commands.Packets count) = v_impossible 0 told_reply
+  v_plan own commands.Dump = v_ends 0 told_reply _ refl
 
   pub replies_tell : (own next : Own) (c : Command) (reply : Reply) (deeds : List Deed) → Goes (plan header own c) deeds (answers next reply) → length (vain_in deeds) ≡ cond (drew_for reply) 1 0
   replies_tell own next c reply deeds g = omega (arith, v_plan own c deeds (answers next reply) g)

@@ -1,8 +1,10 @@
 -- What a lawful record says of its race: our own.
-use Rattle.std.specs.Prelude.{◌≡◌, ◌+◌, ◌*◌, ◌%◌, ◌<◌, ℕ, List, length, filter, map, take}
+use Rattle.std.specs.Prelude.{◌≡◌, ◌+◌, ◌*◌, ◌%◌, ◌<◌, ℕ, List, length, filter, map, take, Some}
 use Rattle.sock_card.specs.Conflict.{owner_key}
-use Rattle.list_words.specs.Lists.{Each}
+use Rattle.list_words.specs.Lists.{Each, Pairs, SameItems}
 use Rattle.sock_card.specs.declared.owner.Owner.{Owner}
+use Rattle.socket_list.specs.Listing.{Listing}
+use Rattle.socket_list.specs.declared.listing.Span.{Span}
 use Rattle.turn_table.specs.declared.note.Note.{Note}
 use Rattle.bind_buckets.specs.declared.request.Entry.{Entry}
 use Rattle.bind_buckets.specs.Journal.{OwnersAgree, replayed}
@@ -13,12 +15,13 @@ use Rattle.flat_list.specs.Script.{Script}
 use Rattle.race_book.specs.Among.{Among}
 use Rattle.race_book.specs.Explained.{MayAnswer, anywhere}
 use Rattle.race_book.specs.Laws.{EndAfter, NoTwinsStand}
+use Rattle.race_book.specs.Lives.{IsLife, Stood, Throughout}
 use Rattle.race_book.specs.Listed.{stamps_of, StampsDiffer}
 use Rattle.race_record.specs.declared.record.Looked.{Looked}
 use Rattle.race_record.specs.declared.record.Looked.TheVariants as looks
-use Rattle.race_record.specs.Record.{Race, steps_of}
+use Rattle.race_record.specs.Record.{Race, steps_of, listings_of}
 use Rattle.race_record.specs.Laws.{drew_in_vain}
-use Rattle.race_record.specs.Lawful.{Lawful, EachFrom, entry_in}
+use Rattle.race_record.specs.Lawful.{Lawful, EachFrom, HaveOnePlace, entry_in}
 
 -- whatever was entered so far, the owners of the bucket of that number agree
 abbrev pub AlwaysAgree : ℕ → List (Note Entry) → Type 0
@@ -36,6 +39,17 @@ HasCause In shape (looks.Answered r) = MayAnswer In anywhere shape.slots r.packe
 HasCause In shape looks.Skip = Unit {0}
 HasCause In shape looks.Short = Unit {0}
 
+-- What a dump lists between two loads of the clock: the sockets of some lives, each of which stood hashed at some time
+-- meanwhile, and no two in one place; and each socket that stood hashed throughout.
+pub record ListsWhatStood (In : Change → Type 0) (listing : Listing) : Type 0 where
+  pub span : Span
+  pub span_is : listing.span ≡ Some span
+  pub lives : List Change
+  pub cards_are : SameItems listing.cards (map (λ (h : Change). h.card) lives)
+  pub stood : Each (λ h. IsLife In h × Stood In h span.t0 span.t1) lives
+  pub apart : Pairs (λ g h. ¬ (HaveOnePlace g h)) lives
+  pub all : (h : Change) → IsLife In h → Throughout In h span.t0 span.t1 → Among listing.cards h.card
+
 pub record Headline (race : Race) : Type 0 where
   -- no two full sockets ever have one four-tuple
   pub tuples : NoTwinsStand race.book
@@ -46,6 +60,8 @@ pub record Headline (race : Race) : Type 0 where
   -- each packet's socket stood hashed with matching keys while no better one stood hashed throughout; nothing was found,
   -- or a lookup given up, only with its cause
   pub packets : Each (HasCause (Among race.book) race.shape) race.looked
+  -- each dump lists what stood hashed throughout, nothing that stood at no time meanwhile, and nothing twice
+  pub dumps : Each (ListsWhatStood (Among race.book)) (listings_of race)
 
 -- what the numbers of the clock tell: none stands twice in the book, all are below the clock, each change begins before
 -- it ends; and there are two for each change and one for each command that sought a slot in vain

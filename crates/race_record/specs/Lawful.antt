@@ -1,5 +1,5 @@
 -- Which records of a race are lawful: our own. Each field of `Lawful` is one fact of a record.
-use Rattle.std.specs.Prelude.{◌≡◌, ◌≢◌, ℕ, ◌+◌, ◌/◌, ◌^◌, ◌<◌, ◌≤◌, true, IsTrue, List, [], ◌∷◌, ◌++◌, length, map}
+use Rattle.std.specs.Prelude.{◌≡◌, ◌≢◌, ℕ, ◌+◌, ◌/◌, ◌^◌, ◌<◌, ◌≤◌, true, IsTrue, List, [], ◌∷◌, ◌++◌, length, map, Some}
 use Rattle.std.specs.List.{flat_map, slice_index_or}
 use Rattle.list_words.specs.Lists.{Each, Pairs, SameItems}
 use Rattle.sock_card.specs.declared.card.Kind.TheVariants as kinds
@@ -16,7 +16,10 @@ use Rattle.capture_reader.specs.Captures.{Capture}
 use Rattle.chain_book.specs.declared.book.Change.{Change}
 use Rattle.chain_book.specs.declared.book.Receipt.{Receipt}
 use Rattle.chain_book.specs.declared.shape.Shape.{Shape}
+use Rattle.sock_card.specs.declared.card.Card.{Card}
 use Rattle.sock_card.specs.declared.card.Packet.{Packet}
+use Rattle.socket_list.specs.Order.{ascending}
+use Rattle.socket_list.specs.declared.listing.Span.{Span}
 use Rattle.chain_book.specs.Tuples.{keeps_from}
 use Rattle.flat_list.specs.declared.command.Command.{Command}
 use Rattle.flat_list.specs.declared.command.Command.TheVariants as commands
@@ -25,7 +28,7 @@ use Rattle.flat_list.specs.Script.{Script}
 use Rattle.table_model.specs.Own.{Own, new_own}
 use Rattle.table_model.specs.Commands.{answers, plan}
 use Rattle.race_book.specs.Among.{Among}
-use Rattle.race_book.specs.Lives.{IsLife, Stood, Leaves}
+use Rattle.race_book.specs.Lives.{IsLife, Stood, Throughout, Leaves}
 use Rattle.race_book.specs.Listed.{FitSlots}
 use Rattle.race_book.specs.Explained.{IsExplained, NamesItsBucket}
 use Rattle.race_book.specs.Serial.{IsSerial}
@@ -171,6 +174,33 @@ abbrev pub SlotsWereUsed : Race → Step → Type 0
 SlotsWereUsed race s =
     Each (NoneWasFree (Among race.book) s.from s.to race.shape.slots race.counts race.sightings) (vain_in s.deeds)
 
+-- in one slot of one bucket's chain
+abbrev pub HaveOnePlace : Change → Change → Type 0
+HaveOnePlace g h = (g.bucket ≡ h.bucket) × (g.slot ≡ h.slot)
+
+-- What was listed between two numbers of a step: each card is that of a life that stood at some time between the two loads
+-- of the clock, no two of them of lives in one place, and of each life that was there throughout the card is among them.
+pub record IsListed (In : Change → Type 0) (from to : ℕ) (cards : List Card) (span : Span) : Type 0 where
+  pub begins : from ≤ span.t0
+  pub order : span.t0 ≤ span.t1
+  pub ends : span.t1 ≤ to
+  pub sorted : cards ≡ ascending cards
+  pub lives : List Change
+  pub cards_are : SameItems cards (map (λ (h : Change). h.card) lives)
+  pub stood : Each (λ h. IsLife In h × Stood In h span.t0 span.t1) lives
+  pub apart : Pairs (λ g h. ¬ (HaveOnePlace g h)) lives
+  pub all : (h : Change) → IsLife In h → Throughout In h span.t0 span.t1 → Among cards h.card
+
+-- what a step of that command listed: a `dump` one listing, between two loads of the clock, any other command nothing
+abbrev pub ListsAs : Race → Command → Step → Type 0
+ListsAs race commands.Dump s =
+    (cards : List Card) × (span : Span) × (s.listings ≡ record { cards = cards; span = Some span } ∷ [])
+    × IsListed (Among race.book) s.from s.to cards span
+ListsAs race _ s = s.listings ≡ []
+
+abbrev pub Lists : Race → Step → Type 0
+Lists race s = ListsAs race s.command s
+
 -- a packet's receipt: by the seed, between two loads of the clock, explained by the changes; and where it was given up, it
 -- names the bucket
 pub record IsReceiptOf (In : Change → Type 0) (shape : Shape) (seed clock : ℕ) (packet : Packet) (r : Receipt) : Type 0 where
@@ -232,6 +262,8 @@ pub record Lawful (script : Script) (capture : Capture) (race : Race) : Type 0 w
   pub taken : Each (TakenWereKept race) (steps_of race)
   -- no slot was free where none was told to be
   pub slots : Each (SlotsWereUsed race) (steps_of race)
+  -- each dump lists what was there throughout, and nothing that wasn't there
+  pub dumps : Each (Lists race) (steps_of race)
   -- each item of the capture has its answer, which the book explains
   pub items : AreAnswered (Among race.book) race.shape race.seed race.clock capture.items race.looked
   pub shares : AreSharesOf race

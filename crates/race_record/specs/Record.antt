@@ -7,15 +7,17 @@ use Rattle.chain_book.specs.declared.book.Change.{Change}
 use Rattle.chain_book.specs.declared.shape.Shape.{Shape}
 use Rattle.flat_list.specs.declared.command.Command.{Command}
 use Rattle.flat_list.specs.declared.command.Reply.{Reply}
+use Rattle.socket_list.specs.Listing.{Listing}
 use Rattle.race_record.specs.declared.record.Looked.{Looked}
 use Rattle.race_record.specs.Deeds.{Deed}
 
--- one command: its reply, what it did, what its worker had seen of the clock as it began (a number below which it knows
--- all to be drawn), and the number that its worker drew next, or else the last one
+-- one command: its reply, what it did, what it listed, what its worker had seen of the clock as it began (a number below
+-- which it knows all to be drawn), and the number that its worker drew next, or else the last one
 pub record Step : Type 0 where
   pub command : Command
   pub reply : Reply
   pub deeds : List Deed
+  pub listings : List Listing
   pub from : ℕ
   pub to : ℕ
 
@@ -68,3 +70,7 @@ commands_of race = map (λ steps. map command_of steps) race.sections
 -- the replies of each section
 abbrev pub replies_of : Race → List (List Reply)
 replies_of race = map (λ steps. map reply_of steps) race.sections
+
+-- what all sections listed, one section after the other
+abbrev pub listings_of : Race → List Listing
+listings_of race = flat_map (λ (s : Step). s.listings) (steps_of race)

@@ -1,6 +1,6 @@
 -- A worked record of refusals: two sections want one four-tuple; a slot is sought while a lookup holds the last one; and
 -- lookups that were never answered.
-use Rattle.std.specs.Prelude.{ℕ, false, true, List, [], ◌∷◌, None}
+use Rattle.std.specs.Prelude.{ℕ, false, true, [], ◌∷◌, None}
 use Rattle.sock_card.specs.declared.owner.Owner.{Owner}
 use Rattle.sock_card.specs.declared.card.Card.{Card}
 use Rattle.sock_card.specs.declared.card.Kind.TheVariants as kinds

@@ -1,4 +1,4 @@
--- Worked records: one listener by itself, and two sections beside each other.
+-- Worked records: one listener by itself, the same with a dump, and two sections beside each other.
 use Rattle.std.specs.Prelude.{ℕ, false, true, List, [], ◌∷◌, None, Some}
 use Rattle.sock_card.specs.declared.owner.Owner.{Owner}
 use Rattle.sock_card.specs.declared.card.Card.{Card}
@@ -42,7 +42,7 @@ change bucket slot card act begin end =
 
 abbrev pub step : Command → Reply → List Deed → ℕ → ℕ → Step
 step command reply deeds from to =
-    record { command = command; reply = reply; deeds = deeds; from = from; to = to }
+    record { command = command; reply = reply; deeds = deeds; listings = []; from = from; to = to }
 
 -- the owner that a socket of that name is once it is bound to that end
 abbrev pub bound : ℕ → ℕ → ℕ → Owner
@@ -103,6 +103,41 @@ first_race =
       sightings = [];
       clock = 2;
     }
+
+-- The same listener, and then a dump.
+abbrev pub dump_script : Script
+dump_script =
+    record {
+      header = with_slots 2;
+      sections = (socket a ∷ commands.Bind a (one 80) ∷ commands.Listen a ∷ commands.Dump ∷ []) ∷ [];
+      capture = None;
+    }
+
+-- the steps of the listener, and one more
+abbrev pub and_then : Step → List (List Step)
+and_then last =
+    (step (socket a) replies.Ok [] 0 0
+    ∷ step (commands.Bind a (one 80)) (replies.Port 80) (entered 80 first_bind ∷ []) 0 0
+    ∷ step (commands.Listen a) (replies.Port 80)
+    (entered 80 first_may ∷ added card_a (hashed hash_a None) ∷ entered 80 first_listen ∷ []) 0 2
+    ∷ last
+    ∷ [])
+    ∷ []
+
+-- a dump after the listener came, that lists these cards between two loads of the clock
+abbrev pub listing : List Card → ℕ → ℕ → Step
+listing cards t0 t1 =
+    record {
+      command = commands.Dump;
+      reply = replies.Ok;
+      deeds = [];
+      listings = record { cards = cards; span = Some (record { t0 = t0; t1 = t1 }) } ∷ [];
+      from = 2;
+      to = 2;
+    }
+
+abbrev pub dump_race : Race
+dump_race = record first_race { sections = and_then (listing (card_a ∷ []) 2 2) }
 
 -- Two sections beside each other: the first accepts a connection, closes it, and accepts one of the same four-tuple, which
 -- replaces the TIME_WAIT, so that none is left to be reaped; the other listens meanwhile. Of two packets one goes to the

@@ -1,5 +1,5 @@
 -- Records that aren't lawful, each but for one thing like one that is.
-use Rattle.std.specs.Prelude.{ℕ, List, [], ◌∷◌, ◌++◌, false, None}
+use Rattle.std.specs.Prelude.{ℕ, [], ◌∷◌, ◌++◌, false, None}
 use Rattle.capture_reader.specs.declared.packet.Item.TheVariants as items
 use Rattle.capture_reader.specs.Captures.{Capture}
 use Rattle.bind_buckets.specs.declared.request.Entry.{Entry}
@@ -19,9 +19,9 @@ use Rattle.flat_list.specs.Sections.{name_at}
 use Rattle.race_record.specs.declared.record.Looked.{Looked}
 use Rattle.race_record.specs.declared.record.Looked.TheVariants as looks
 use Rattle.race_record.specs.Deeds.{hashed, entered, inserted, added, left}
-use Rattle.race_record.specs.Record.{Race, Step}
+use Rattle.race_record.specs.Record.{Race}
 use Rattle.race_record.specs.Lawful.{Lawful}
-use Rattle.race_record.specs.Worked.{note, change, step, packet, receipt, first_script, no_capture, first_race, first_bind, first_may, first_listen, owner_a, card_a, hash_a, owner_e, card_e}
+use Rattle.race_record.specs.Worked.{note, change, step, and_then, listing, packet, receipt, first_script, dump_script, no_capture, first_race, first_bind, first_may, first_listen, owner_a, card_a, hash_a, owner_e, card_e}
 use Rattle.race_record.specs.Refused as refused
 
 -- a number of the clock that belongs to nothing
@@ -187,17 +187,6 @@ unhash_other = change 1 0 card_e acts.Unhash 2 3
 abbrev pub remove_a : Note Entry
 remove_a = note 3 1 (requests.Remove (name_at 1 0)) answers.Done
 
--- the steps of the listener, and one more
-abbrev pub and_then : Step → List (List Step)
-and_then last =
-    (step (socket a) replies.Ok [] 0 0
-    ∷ step (commands.Bind a (one 80)) (replies.Port 80) (entered 80 first_bind ∷ []) 0 0
-    ∷ step (commands.Listen a) (replies.Port 80)
-    (entered 80 first_may ∷ added card_a (hashed hash_a None) ∷ entered 80 first_listen ∷ []) 0 2
-    ∷ last
-    ∷ [])
-    ∷ []
-
 abbrev pub drop_race : Race
 drop_race =
     record first_race {
@@ -222,3 +211,11 @@ at_script =
 abbrev pub BeganBefore : Type 0
 BeganBefore =
     ¬ (Lawful at_script no_capture (record first_race { sections = and_then (step (commands.At 5) replies.Ok [] 0 2) }))
+
+-- a dump that lists nothing while the listener stood
+abbrev pub ListsNothing : Type 0
+ListsNothing = ¬ (Lawful dump_script no_capture (record first_race { sections = and_then (listing [] 2 2) }))
+
+-- one that claims to have listed from before its command began
+abbrev pub ListsBefore : Type 0
+ListsBefore = ¬ (Lawful dump_script no_capture (record first_race { sections = and_then (listing (card_a ∷ []) 1 2) }))

@@ -2,12 +2,17 @@
 
 ghost use Rattle.race_record.specs.Lawful.{Lawful};
 ghost use Rattle.race_record.specs.Refused.{refused_capture, refused_race, refused_script};
-ghost use Rattle.race_record.specs.Worked.{first_race, first_script, no_capture, second_capture, second_race, second_script};
+ghost use Rattle.race_record.specs.Worked.{dump_race, dump_script, first_race, first_script, no_capture, second_capture, second_race, second_script};
 ghost use Rattle.race_record.specs.Wrong as wrong;
 
 /// The record of one listener by itself is lawful.
 pub fn one_listener()
     ensures { Lawful first_script no_capture first_race }
+{}
+
+/// So is that of the same listener with a dump, which lists it.
+pub fn one_dump()
+    ensures { Lawful dump_script no_capture dump_race }
 {}
 
 /// So is that of two sections beside each other: a TIME_WAIT is replaced; a packet that came meanwhile finds the newcomer;
@@ -43,4 +48,10 @@ pub fn wrong_lookups()
     ensures start { wrong.FromTheStart }
     ensures cause { wrong.CauseNeverWas }
     ensures bucket { wrong.AnotherBucket }
+{}
+
+/// So are those in which a dump lists nothing while a listener stands, or claims to have begun before its command did.
+pub fn wrong_dumps()
+    ensures nothing { wrong.ListsNothing }
+    ensures before { wrong.ListsBefore }
 {}

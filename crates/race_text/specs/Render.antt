@@ -15,24 +15,26 @@ use Rattle.chain_book.specs.declared.shape.Shape.{Shape}
 use Rattle.flat_list.specs.declared.command.Command.{Command}
 use Rattle.flat_list.specs.declared.command.Reply.{Reply}
 use Rattle.flat_list.specs.Script.{Script}
+use Rattle.socket_list.specs.Listing.{Listing}
 use Rattle.sock_script.specs.declared.parse.Mode.TheVariants as modes
 use Rattle.sock_script.specs.Grammar.{IsScript, capture_bytes, capture_device, capture_namespace}
-use Rattle.sock_script.specs.Output.{answer_with, label_in, lines_text, events_from, issued_from, cut_text}
+use Rattle.sock_script.specs.Output.{answer_with, dev_text, whole_card_with, label_in, lines_text, events_from, issued_from, cut_text}
 use Rattle.race_book.specs.declared.lives.Life.{Life}
 use Rattle.race_book.specs.Listed.{lives_of}
 use Rattle.race_record.specs.declared.record.Looked.{Looked}
 use Rattle.race_record.specs.declared.record.Looked.TheVariants as looks
-use Rattle.race_record.specs.Record.{Race, commands_of, replies_of}
+use Rattle.race_record.specs.Record.{Race, commands_of, replies_of, listings_of}
 use Rattle.race_record.specs.Lawful.{Lawful}
 
--- what is written of a race: the replies of all sections, one section after the other, how many entries each journal has,
--- the changes, and what came of each item
+-- what is written of a race: the replies of all sections, one section after the other, what they listed, how many entries
+-- each journal has, the changes, and what came of each item
 pub record Told : Type 0 where
   pub lookers : ℕ
   pub passes : ℕ
   pub shape : Shape
   pub seed : ℕ
   pub replies : List Reply
+  pub listings : List Listing
   pub journals : List ℕ
   pub book : List Change
   pub looked : List Looked
@@ -79,14 +81,6 @@ pass_end_text (ends.Dead slot) = codes "dead " ++ decimal slot
 pass_end_text (ends.Changed slot) = codes "changed " ++ decimal slot
 pass_end_text (ends.Long n) = codes "long " ++ decimal n
 
--- the namespace of what isn't in the first one, 0
-abbrev pub net_text : ℕ → List ℕ
-net_text net = if net == 0 then [] else codes " net " ++ decimal net
-
--- a device, and the namespace
-abbrev pub dev_text : ℕ → ℕ → List ℕ
-dev_text dev net = codes " dev " ++ decimal dev ++ net_text net
-
 abbrev pub packet_text : Packet → List ℕ
 packet_text p =
     codes "from " ++ end_text p.src p.sport ++ codes " to " ++ end_text p.dst p.dport ++ dev_text p.dev p.net
@@ -99,9 +93,7 @@ module _ (label_of : ℕ → List ℕ) where
 
   -- a card with its ends, its device and its namespace
   abbrev pub whole_card_text : Card → List ℕ
-  whole_card_text card =
-      card_text card ++ codes " " ++ end_text card.local card.lport ++ codes " " ++ end_text card.remote card.rport
-      ++ dev_text card.dev card.net
+  whole_card_text card = whole_card_with (label_of card.name) card
 
   abbrev pub life_line : Life → List ℕ
   life_line l =
@@ -129,14 +121,14 @@ module _ (label_of : ℕ → List ℕ) where
   looked_lines number [] = []
   looked_lines number (looked ∷ rest) = looked_line number looked ++ looked_lines (number + 1) rest
 
--- the lines that `run` writes for the commands of these sections, with these replies
-abbrev pub command_lines : List (List Command) → List Reply → List ℕ
-command_lines sections replies = lines_text sections 1 (events_from [] (issued_from 1 sections)) replies
+-- the lines that `run` writes for the commands of these sections, with these replies and listings
+abbrev pub command_lines : List (List Command) → List Reply → List Listing → List ℕ
+command_lines sections replies listings = lines_text sections 1 (events_from [] (issued_from 1 sections)) replies listings
 
 -- the whole text of what is told of a race of these sections
 abbrev pub told_text : List (List Command) → Told → List ℕ
 told_text sections t =
-    race_line t.lookers t.passes ++ shape_line t.shape t.seed ++ command_lines sections t.replies ++ journal_lines 0 t.journals
+    race_line t.lookers t.passes ++ shape_line t.shape t.seed ++ command_lines sections t.replies t.listings ++ journal_lines 0 t.journals
     ++ flat_map (life_line (label_in sections)) (lives_of t.book) ++ looked_lines (label_in sections) 1 t.looked
     ++ cut_text t.cut ++ clock_line t.clock
 
@@ -149,6 +141,7 @@ told race =
       shape = race.shape;
       seed = race.seed;
       replies = flat_map (λ replies. replies) (replies_of race);
+      listings = listings_of race;
       journals = map length race.journals;
       book = race.book;
       looked = race.looked;

@@ -13,6 +13,20 @@ first_text =
     ++ codes "life 1 0 listen 1.a 10.0.0.1:80 0.0.0.0:0 dev 0 hash 0 1 unhash -\n"
     ++ codes "clock 2\n"
 
+-- the same listener, and then a dump
+abbrev pub dump_text : List ℕ
+dump_text =
+    codes "race lookers 1 passes 1\n"
+    ++ codes "shape 2 1 1 1 seed 0\n"
+    ++ codes "1 socket a ok\n"
+    ++ codes "1 bind a ok 80\n"
+    ++ codes "1 listen a ok 80\n"
+    ++ codes "1 dump 1 t0 2 t1 2\n"
+    ++ codes "1 item listen 1.a 10.0.0.1:80 0.0.0.0:0 dev 0\n"
+    ++ codes "journal 0 3\n"
+    ++ codes "life 1 0 listen 1.a 10.0.0.1:80 0.0.0.0:0 dev 0 hash 0 1 unhash -\n"
+    ++ codes "clock 2\n"
+
 -- two sections beside each other
 abbrev pub second_text : List ℕ
 second_text =

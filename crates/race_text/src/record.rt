@@ -3,6 +3,7 @@
 use chain_book::{Change, Shape};
 use flat_list::Reply;
 use race_record::Looked;
+use socket_list::Listing;
 use std::marker::Model;
 
 /// What is written of a race, beside its script's commands.
@@ -15,6 +16,8 @@ pub struct Record {
     pub seed: u32,
     /// The replies of all sections, one section after the other.
     pub replies: Vec<Reply>,
+    /// What they listed.
+    pub listings: Vec<Listing>,
     /// How many entries the journal of each bind bucket has.
     pub journals: Vec<u64>,
     /// All changes of chains.
@@ -37,6 +40,7 @@ impl Model for Record {
       shape = r.shape;
       seed = r.seed;
       replies = r.replies.items;
+      listings = r.listings.items;
       journals = r.journals.items;
       book = r.book.items;
       looked = r.looked.items;

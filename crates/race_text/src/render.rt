@@ -24,7 +24,13 @@ pub fn render(alloc: Global, script: &Script, told: &Record) -> Result<Vec<u8>, 
     ensures { IfOk result (λ text. text.items ≡ told_text script.now.sections told.now) }
 {
     let labels = Labels::of_script(alloc, script)?;
-    let commands = text(alloc, script, &Capture::new(alloc), &told.replies)?;
+    let commands = text(
+        alloc,
+        script,
+        &Capture::new(alloc),
+        &told.replies,
+        &told.listings,
+    )?;
     let lives = lives(alloc, &told.book, told.shape.slots as usize)?;
     let mut out = Vec::new(alloc);
     put_race(&mut out, told.lookers, told.passes)?;

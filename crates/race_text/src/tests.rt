@@ -10,6 +10,7 @@ use flat_list::Reply;
 use race_record::Looked;
 use sock_card::{Card, Kind, Packet};
 use sock_script::parse::{Mode, ScriptEnd, parse};
+use socket_list::{Listing, Span};
 use std::alloc::{AllocError, Global};
 use std::test::Fail;
 
@@ -18,6 +19,15 @@ script 1
 socket a
 bind a 10.0.0.1:80
 listen a
+";
+
+/// The same, and then a dump.
+const DUMP_SCRIPT: &[u8] = b"table slots 2 bind 1 hash 1 listen 1
+script 1
+socket a
+bind a 10.0.0.1:80
+listen a
+dump
 ";
 
 const SHAPE: Shape = Shape {
@@ -94,6 +104,7 @@ fn told(alloc: Global, net: u8, looked: Vec<Looked>) -> Result<Record, AllocErro
         shape: SHAPE,
         seed: 0,
         replies,
+        listings: Vec::new(alloc),
         journals,
         book,
         looked,
@@ -140,6 +151,33 @@ clock 2
     let mut looked = Vec::new(rt.alloc());
     looked.push(LOOKED)?;
     let text = text_of(rt.alloc(), 3, looked)?;
+    assert!(rt; text.as_slice() == wanted.as_slice());
+    Ok(())
+}
+
+#[test]
+fn a_dump(rt: HostRuntime) -> Result<(), Fail> {
+    let wanted = b"race lookers 1 passes 1
+shape 2 1 1 1 seed 0
+1 socket a ok
+1 bind a ok 80
+1 listen a ok 80
+1 dump 1 t0 2 t1 2
+1 item listen 1.a 10.0.0.1:80 0.0.0.0:0 dev 0 net 3
+journal 0 3
+life 1 0 listen 1.a 10.0.0.1:80 0.0.0.0:0 dev 0 net 3 hash 0 1 unhash -
+clock 2
+";
+    let script = parse(rt.alloc(), DUMP_SCRIPT, Mode::Race)?;
+    let mut told = told(rt.alloc(), 3, Vec::new(rt.alloc()))?;
+    told.replies.push(Reply::Ok)?;
+    let mut cards = Vec::new(rt.alloc());
+    cards.push(listener(3))?;
+    told.listings.push(Listing {
+        cards,
+        span: Some(Span { t0: 2, t1: 2 }),
+    })?;
+    let text = render(rt.alloc(), &script, &told)?;
     assert!(rt; text.as_slice() == wanted.as_slice());
     Ok(())
 }

@@ -12,7 +12,7 @@ use race_book::Life;
 use race_record::Looked;
 use sock_card::{Card, Packet};
 use sock_script::label::Labels;
-use sock_script::output::{put, put_answer, put_end, put_number};
+use sock_script::output::{put, put_answer, put_dev, put_end, put_number, put_whole_card};
 use std::alloc::AllocError;
 
 /// Appends the first line.
@@ -108,43 +108,6 @@ fn put_span(out: &mut Vec<u8>, life: &Life) -> Result<(), AllocError>
     put_unhash(out, &life.unhash)
 }
 
-/// Appends a device, and the namespace if it isn't the first one.
-fn put_dev(out: &mut Vec<u8>, dev: u16, net: u8) -> Result<(), AllocError>
-    ensures { OnOk result (out.new.items ≡ out.old.items ++ spec.dev_text dev net) }
-{
-    put(out, b" dev ")?;
-    put_number(out, u64::from(dev))?;
-    if net == 0 {
-        return Ok(());
-    }
-    put(out, b" net ")?;
-    put_number(out, u64::from(net))
-}
-
-/// Appends a card with its ends, its device and its namespace.
-fn put_whole_card(out: &mut Vec<u8>, labels: &Labels<'_>, card: &Card) -> Result<(), AllocError>
-    ensures { OnOk result (out.new.items ≡ out.old.items ++ spec.whole_card_text (label_of labels.now) card.now) }
-{
-    put_card(out, labels, card)?;
-    put(out, b" ")?;
-    put_end(
-        out,
-        End {
-            addr: card.local,
-            port: card.lport,
-        },
-    )?;
-    put(out, b" ")?;
-    put_end(
-        out,
-        End {
-            addr: card.remote,
-            port: card.rport,
-        },
-    )?;
-    put_dev(out, card.dev, card.net)
-}
-
 /// Appends the line of a life.
 fn put_life(out: &mut Vec<u8>, labels: &Labels<'_>, life: &Life) -> Result<(), AllocError>
     ensures { OnOk result (out.new.items ≡ out.old.items ++ spec.life_line (label_of labels.now) life.now) }
@@ -154,7 +117,8 @@ fn put_life(out: &mut Vec<u8>, labels: &Labels<'_>, life: &Life) -> Result<(), A
     put(out, b" ")?;
     put_number(out, u64::from(life.hash.slot))?;
     put(out, b" ")?;
-    put_whole_card(out, labels, &life.hash.card)?;
+    let card = &life.hash.card;
+    put_whole_card(out, card, labels.of_name(card.name))?;
     put(out, b" ")?;
     put_span(out, life)?;
     put(out, b"\n")

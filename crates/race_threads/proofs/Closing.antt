@@ -19,7 +19,6 @@ use Rattle.bind_buckets.specs.Turned.{View as BindView}
 use Rattle.chain_book.specs.declared.book.Change.{Change}
 use Rattle.flat_list.specs.declared.header.Header.{Header}
 use Rattle.flat_list.specs.declared.command.Command.{Command}
-use Rattle.flat_list.specs.declared.command.Reply.{Reply}
 use Rattle.table_rule.specs.Book.{open-end}
 use Rattle.table_rule.specs.Plays.{seeing, settled}
 use Rattle.table_rule.specs.declared.view.View.{View}
@@ -31,8 +30,8 @@ use Rattle.race_book.specs.Among.{Among}
 use Rattle.race_book.proofs.Endings.{each_of}
 use Rattle.race_record.specs.Deeds.{Vain, changes_of, vain_of, entries_in, changes_in, taken_in, vain_in, drawn_in}
 use Rattle.race_record.specs.Gathered.{numbered, GaveItsOwn, IsInOrderOf, WereGathered}
-use Rattle.race_record.specs.Record.{Race, Step, steps_of, deeds_of, all_deeds, replies_of}
-use Rattle.race_record.specs.Lawful.{EachFrom, AreStepsOf, AreSectionsOf, AreInOrder, IsSpanned, IsLegalJournal, IsCalledBy, AreJournalsOf, IsBookOf, itself, WasKept, TakenWereKept, NoneWasFree, SlotsWereUsed}
+use Rattle.race_record.specs.Record.{Race, Step, steps_of, deeds_of, all_deeds}
+use Rattle.race_record.specs.Lawful.{EachFrom, AreStepsOf, AreSectionsOf, AreInOrder, IsSpanned, IsLegalJournal, IsCalledBy, AreJournalsOf, IsBookOf, itself, WasKept, TakenWereKept, NoneWasFree, SlotsWereUsed, Lists}
 use Rattle.race_record.proofs.Drawn.{weigh, drawn_weighs}
 use Rattle.race_record.proofs.Gather.{gathered_journals}
 use Rattle.chain_deeds.specs.Sides.{change_of}
@@ -40,12 +39,15 @@ use Rattle.chain_deeds.specs.Made.{IsHomeIfHash, HasWords, number_of}
 use Rattle.chain_deeds.proofs.Seen.{are_settled}
 use Rattle.race_threads.specs.Joins.{Part}
 use Rattle.race_threads.specs.Made.{SawKeeper, SawNone, IsBy, SawNoWait, missed_in}
-use Rattle.race_threads.specs.Races.{SectionDone, AllDone, steps_by, HasEnded, AreReaped, AllReaped, Looks, book_of, race_by, IsLawfulBut}
+use Rattle.race_threads.specs.Races.{SectionDone, AllDone, steps_by, HasEnded, AreReaped, AllReaped, Looks, book_of, race_by, IsLawfulBut, SaysSo}
+use Rattle.race_threads.specs.Said.{Said}
 use Rattle.race_threads.specs.Sections.{Makes, IsShown, layout_in}
+use Rattle.race_threads.proofs.Dumping.{saw_as_moves}
 use Rattle.race_threads.proofs.FromRaw.{AreGood, serial, fits, stamps}
+use Rattle.race_threads.proofs.Listings.{lists}
 use Rattle.race_threads.proofs.Refusals.{was_kept, none_was_free}
-use Rattle.race_threads.proofs.Sightings.{keeper_moves, none_moves, no_wait_moves, ended_sees, Moves}
-use Rattle.race_threads.proofs.Sums.{sum_sections, each_number, each_section, many_sections, replies_are, weigh_all, sum_numbers, weigh_filter, flat_filter, flat_same}
+use Rattle.race_threads.proofs.Sightings.{keeper_moves, none_moves, no_wait_moves, ended_sees, same_sees, Moves}
+use Rattle.race_threads.proofs.Sums.{sum_sections, each_number, each_section, many_sections, replies_are, listings_are, weigh_all, sum_numbers, weigh_filter, flat_filter, flat_same}
 use Rattle.race_threads.proofs.Weights.{total_flat, each_flat, map_flat, among_flat, same_each, same_among, flipped, weigh_map, same_each_of}
 
 -- what a number weighs that was drawn in vain
@@ -60,12 +62,12 @@ steps_are header In own last (c ∷ cs) (s ∷ ss) m r = (m.0, record { command_
 steps_are header In own last [] (s ∷ ss) m r = absurd m
 steps_are header In own last (c ∷ cs) [] m r = absurd m
 
-sections_are : (header : Header) (In : Change → Type 0) (part : ℕ → Part) (n : ℕ) (scripts : List (List Command)) (replies : List (List Reply)) (d : AllDone header part n scripts replies)
-    → AllReaped header In n scripts (steps_by header part n scripts replies d) → AreSectionsOf header In n scripts (steps_by header part n scripts replies d)
+sections_are : (header : Header) (In : Change → Type 0) (part : ℕ → Part) (n : ℕ) (scripts : List (List Command)) (says : List Said) (d : AllDone header part n scripts says)
+    → AllReaped header In n scripts (steps_by header part n scripts says d) → AreSectionsOf header In n scripts (steps_by header part n scripts says d)
 sections_are header In part n [] [] d r = tt
-sections_are header In part n (cs ∷ scripts) (rs ∷ replies) d r =
-    (steps_are header In (new_own header n) d.0.own cs d.0.done.steps d.0.done.makes r.0, sections_are header In part (n + 1) scripts replies d.1 r.1)
-sections_are header In part n [] (rs ∷ replies) d r = absurd d
+sections_are header In part n (cs ∷ scripts) (said ∷ says) d r =
+    (steps_are header In (new_own header n) d.0.own cs d.0.done.steps d.0.done.makes r.0, sections_are header In part (n + 1) scripts says d.1 r.1)
+sections_are header In part n [] (said ∷ says) d r = absurd d
 sections_are header In part n (cs ∷ scripts) [] d r = absurd d
 
 later_order : (a b : ℕ) → a ≤ b → (ss : List Step) → AreInOrder a ss → AreInOrder b ss
@@ -90,68 +92,68 @@ each_value P i (b ∷ bs) h = (
 
 -- what a section's worker gave, and nobody else
 module _ (header : Header) (part : ℕ → Part) where
-  given_at : (n : ℕ) (scripts : List (List Command)) (replies : List (List Reply)) → AllDone header part n scripts replies → ℕ → List (Placed Entry)
+  given_at : (n : ℕ) (scripts : List (List Command)) (says : List Said) → AllDone header part n scripts says → ℕ → List (Placed Entry)
   given_at n [] [] d m = []
-  given_at n (cs ∷ scripts) (rs ∷ replies) d m = cond (m == n) (part n).turns.mine (given_at (n + 1) scripts replies d.1 m)
-  given_at n [] (rs ∷ replies) d m = []
+  given_at n (cs ∷ scripts) (said ∷ says) d m = cond (m == n) (part n).turns.mine (given_at (n + 1) scripts says d.1 m)
+  given_at n [] (said ∷ says) d m = []
   given_at n (cs ∷ scripts) [] d m = []
 
   by_called : (m n : ℕ) (xs ys : List (Placed Entry)) (b : Bool) → (m == n) ≡ b → Each (IsCalledBy n) xs → Each (IsCalledBy m) ys → Each (IsCalledBy m) (cond b xs ys)
   by_called m n xs ys true e h k = each_weaken (IsCalledBy n) (IsCalledBy m) xs (λ p q. q ∙ sym (eqb-true m n e)) h
   by_called m n xs ys false e h k = k
 
-  given_called : (n : ℕ) (scripts : List (List Command)) (replies : List (List Reply)) (d : AllDone header part n scripts replies) (m : ℕ) → Each (IsCalledBy m) (given_at n scripts replies d m)
+  given_called : (n : ℕ) (scripts : List (List Command)) (says : List Said) (d : AllDone header part n scripts says) (m : ℕ) → Each (IsCalledBy m) (given_at n scripts says d m)
   unfolding given_at
   given_called n [] [] d m = tt
-  given_called n (cs ∷ scripts) (rs ∷ replies) d m = by_called m n (part n).turns.mine (given_at (n + 1) scripts replies d.1 m) (m == n) refl d.0.done.callers (given_called (n + 1) scripts replies d.1 m)
-  given_called n [] (rs ∷ replies) d m = absurd d
+  given_called n (cs ∷ scripts) (said ∷ says) d m = by_called m n (part n).turns.mine (given_at (n + 1) scripts says d.1 m) (m == n) refl d.0.done.callers (given_called (n + 1) scripts says d.1 m)
+  given_called n [] (said ∷ says) d m = absurd d
   given_called n (cs ∷ scripts) [] d m = absurd d
 
-  given_here : (n : ℕ) (cs : List Command) (scripts : List (List Command)) (rs : List Reply) (replies : List (List Reply)) (d : AllDone header part n (cs ∷ scripts) (rs ∷ replies)) → given_at n (cs ∷ scripts) (rs ∷ replies) d n ≡ (part n).turns.mine
+  given_here : (n : ℕ) (cs : List Command) (scripts : List (List Command)) (said : Said) (says : List Said) (d : AllDone header part n (cs ∷ scripts) (said ∷ says)) → given_at n (cs ∷ scripts) (said ∷ says) d n ≡ (part n).turns.mine
   unfolding given_at
-  given_here n cs scripts rs replies d = ap (λ b. cond b (part n).turns.mine (given_at (n + 1) scripts replies d.1 n)) (eq-eqb n n refl)
+  given_here n cs scripts said says d = ap (λ b. cond b (part n).turns.mine (given_at (n + 1) scripts says d.1 n)) (eq-eqb n n refl)
 
-  given_else : (n : ℕ) (cs : List Command) (scripts : List (List Command)) (rs : List Reply) (replies : List (List Reply)) (d : AllDone header part n (cs ∷ scripts) (rs ∷ replies)) (m : ℕ) → m ≢ n
-      → given_at n (cs ∷ scripts) (rs ∷ replies) d m ≡ given_at (n + 1) scripts replies d.1 m
+  given_else : (n : ℕ) (cs : List Command) (scripts : List (List Command)) (said : Said) (says : List Said) (d : AllDone header part n (cs ∷ scripts) (said ∷ says)) (m : ℕ) → m ≢ n
+      → given_at n (cs ∷ scripts) (said ∷ says) d m ≡ given_at (n + 1) scripts says d.1 m
   unfolding given_at
-  given_else n cs scripts rs replies d m ne = ap (λ b. cond b (part n).turns.mine (given_at (n + 1) scripts replies d.1 m)) (ne_eqb m n ne)
+  given_else n cs scripts said says d m ne = ap (λ b. cond b (part n).turns.mine (given_at (n + 1) scripts says d.1 m)) (ne_eqb m n ne)
 
-  given_none : (n : ℕ) (scripts : List (List Command)) (replies : List (List Reply)) (d : AllDone header part n scripts replies) (m : ℕ) → n + length scripts ≤ m → given_at n scripts replies d m ≡ []
+  given_none : (n : ℕ) (scripts : List (List Command)) (says : List Said) (d : AllDone header part n scripts says) (m : ℕ) → n + length scripts ≤ m → given_at n scripts says d m ≡ []
   unfolding given_at
   given_none n [] [] d m l = refl
-  given_none n (cs ∷ scripts) (rs ∷ replies) d m l = given_else n cs scripts rs replies d m (λ e. absurd (omega (arith, e, l))) ∙ given_none (n + 1) scripts replies d.1 m (omega (arith, l))
-  given_none n [] (rs ∷ replies) d m l = absurd d
+  given_none n (cs ∷ scripts) (said ∷ says) d m l = given_else n cs scripts said says d m (λ e. absurd (omega (arith, e, l))) ∙ given_none (n + 1) scripts says d.1 m (omega (arith, l))
+  given_none n [] (said ∷ says) d m l = absurd d
   given_none n (cs ∷ scripts) [] d m l = absurd d
 
   -- each section's entries are what its worker gave
-  own_from : (buckets : ℕ) → header.shape.bind ≡ buckets → (given : ℕ → List (Placed Entry)) (n : ℕ) (scripts : List (List Command)) (replies : List (List Reply)) (d : AllDone header part n scripts replies)
-      → ((m : ℕ) → n ≤ m → m < n + length scripts → given m ≡ (part m).turns.mine) → EachFrom (GaveItsOwn buckets given) n (steps_by header part n scripts replies d)
+  own_from : (buckets : ℕ) → header.shape.bind ≡ buckets → (given : ℕ → List (Placed Entry)) (n : ℕ) (scripts : List (List Command)) (says : List Said) (d : AllDone header part n scripts says)
+      → ((m : ℕ) → n ≤ m → m < n + length scripts → given m ≡ (part m).turns.mine) → EachFrom (GaveItsOwn buckets given) n (steps_by header part n scripts says d)
   own_from buckets b given n [] [] d h = tt
-  own_from buckets b given n (cs ∷ scripts) (rs ∷ replies) d h = (
+  own_from buckets b given n (cs ∷ scripts) (said ∷ says) d h = (
     h n (omega arith) (omega arith) ∙ d.0.done.entries ∙ ap (λ k. entries_in k (deeds_of d.0.done.steps)) b,
-    own_from buckets b given (n + 1) scripts replies d.1 (λ m l u. h m (omega (arith, l)) (omega (arith, u))),
+    own_from buckets b given (n + 1) scripts says d.1 (λ m l u. h m (omega (arith, l)) (omega (arith, u))),
   )
-  own_from buckets b given n [] (rs ∷ replies) d h = absurd d
+  own_from buckets b given n [] (said ∷ says) d h = absurd d
   own_from buckets b given n (cs ∷ scripts) [] d h = absurd d
 
-  given_mine : (n : ℕ) (scripts : List (List Command)) (replies : List (List Reply)) (d : AllDone header part n scripts replies) (m : ℕ) → n ≤ m → m < n + length scripts → given_at n scripts replies d m ≡ (part m).turns.mine
+  given_mine : (n : ℕ) (scripts : List (List Command)) (says : List Said) (d : AllDone header part n scripts says) (m : ℕ) → n ≤ m → m < n + length scripts → given_at n scripts says d m ≡ (part m).turns.mine
   unfolding given_at
   given_mine n [] [] d m l u = absurd (omega (arith, l, u))
-  given_mine n (cs ∷ scripts) (rs ∷ replies) d m l u = mathlib.Core.Logic.dite (native.Mathlib.Decide.ℕ_discrete m n)
-      (λ e. subst (λ k. given_at n (cs ∷ scripts) (rs ∷ replies) d k ≡ (part k).turns.mine) (sym e) (given_here n cs scripts rs replies d))
-      (λ ne. given_else n cs scripts rs replies d m ne ∙ given_mine (n + 1) scripts replies d.1 m (omega (arith, l, ne)) (omega (arith, u)))
-  given_mine n [] (rs ∷ replies) d m l u = absurd d
+  given_mine n (cs ∷ scripts) (said ∷ says) d m l u = mathlib.Core.Logic.dite (native.Mathlib.Decide.ℕ_discrete m n)
+      (λ e. subst (λ k. given_at n (cs ∷ scripts) (said ∷ says) d k ≡ (part k).turns.mine) (sym e) (given_here n cs scripts said says d))
+      (λ ne. given_else n cs scripts said says d m ne ∙ given_mine (n + 1) scripts says d.1 m (omega (arith, l, ne)) (omega (arith, u)))
+  given_mine n [] (said ∷ says) d m l u = absurd d
   given_mine n (cs ∷ scripts) [] d m l u = absurd d
 
 -- The record
 
-module _ (header : Header) (scripts : List (List Command)) (part : ℕ → Part) (lookers : ℕ) (v : BindView) (x : View) (values : List (Box Bucket)) (replies : List (List Reply)) (clock : ℕ) (looks : Looks)
-    (e : HasEnded header scripts part lookers v x values replies clock) where
+module _ (header : Header) (scripts : List (List Command)) (part : ℕ → Part) (lookers : ℕ) (v : BindView) (x : View) (values : List (Box Bucket)) (says : List Said) (clock : ℕ) (looks : Looks)
+    (e : HasEnded header scripts part lookers v x values says clock) where
   abbrev pub y : View
   y = seeing x clock
 
   abbrev pub sections : List (List Step)
-  sections = steps_by header part 1 scripts replies e.done
+  sections = steps_by header part 1 scripts says e.done
 
   abbrev pub race : Race
   race = race_by header looks sections values y clock
@@ -160,13 +162,13 @@ module _ (header : Header) (scripts : List (List Command)) (part : ℕ → Part)
   numbers = range_with_len 1 (length scripts + lookers)
 
   -- a fact of each worker is one of each that was joined
-  each_joined : (R : ℕ → Type 0) → ((m : ℕ) (cs : List Command) (rs : List Reply) → SectionDone header m cs (part m) rs → R m) → ((m : ℕ) → length scripts < m → R m) → Each R e.order
-  each_joined R one none = same_each R e.order numbers e.each_once (each_number header part R 1 scripts replies e.done lookers one (λ m l. none m (omega (arith, l))))
+  each_joined : (R : ℕ → Type 0) → ((m : ℕ) (cs : List Command) (said : Said) → SectionDone header m cs (part m) said → R m) → ((m : ℕ) → length scripts < m → R m) → Each R e.order
+  each_joined R one none = same_each R e.order numbers e.each_once (each_number header part R 1 scripts says e.done lookers one (λ m l. none m (omega (arith, l))))
 
   -- what was joined weighs what the sections did
-  sum_joined : (g : ℕ → ℕ) (weight : List Step → ℕ) → ((m : ℕ) (cs : List Command) (rs : List Reply) (s : SectionDone header m cs (part m) rs) → g m ≡ weight s.done.steps) → ((m : ℕ) → length scripts < m → g m ≡ 0)
+  sum_joined : (g : ℕ → ℕ) (weight : List Step → ℕ) → ((m : ℕ) (cs : List Command) (said : Said) (s : SectionDone header m cs (part m) said) → g m ≡ weight s.done.steps) → ((m : ℕ) → length scripts < m → g m ≡ 0)
       → total g e.order ≡ total weight sections
-  sum_joined g weight one none = e.each_once g ∙ sum_sections header part 1 scripts replies e.done lookers g weight one (λ m l. none m (omega (arith, l)))
+  sum_joined g weight one none = e.each_once g ∙ sum_sections header part 1 scripts says e.done lookers g weight one (λ m l. none m (omega (arith, l)))
 
   -- Changes
 
@@ -179,13 +181,13 @@ module _ (header : Header) (scripts : List (List Command)) (part : ℕ → Part)
   pub homes : Each (IsHomeIfHash (layout_in header)) (book_of y)
   homes = subst (Each (IsHomeIfHash (layout_in header))) (sym book_is)
       (each_flat (IsHomeIfHash (layout_in header)) closed_of e.order (each_joined (λ m. Each (IsHomeIfHash (layout_in header)) (closed_of m))
-      (λ m cs rs s. subst (Each (IsHomeIfHash (layout_in header))) (sym s.done.changes) s.done.homes)
+      (λ m cs said s. subst (Each (IsHomeIfHash (layout_in header))) (sym s.done.changes) s.done.homes)
       (λ m l. subst (λ (k : List Raw). Each (IsHomeIfHash (layout_in header)) (map change_of k)) (sym (e.others m l).closed) tt)))
 
   words : Each HasWords y.book.closed
   words = subst (Each HasWords) (sym e.joined.closed)
       (each_flat HasWords (λ m. (part m).chain.book.closed) e.order (each_joined (λ m. Each HasWords (part m).chain.book.closed)
-      (λ m cs rs s. same_each_of HasWords (part m).chain.book.closed s.done.words)
+      (λ m cs said s. same_each_of HasWords (part m).chain.book.closed s.done.words)
       (λ m l. subst (λ (k : List Raw). Each HasWords k) (sym (e.others m l).closed) tt)))
 
   pub good : AreGood header y
@@ -194,13 +196,13 @@ module _ (header : Header) (scripts : List (List Command)) (part : ℕ → Part)
   once : SameItems (book_of y) (changes_in (all_deeds race))
   once f =
       ap (total f) book_is ∙ total_flat f closed_of e.order
-      ∙ sum_joined (λ m. total f (closed_of m)) (λ steps. total f (changes_in (deeds_of steps))) (λ m cs rs s. ap (total f) s.done.changes) (λ m l. ap (λ (k : List Raw). total f (map change_of k)) (e.others m l).closed)
+      ∙ sum_joined (λ m. total f (closed_of m)) (λ steps. total f (changes_in (deeds_of steps))) (λ m cs said s. ap (total f) s.done.changes) (λ m l. ap (λ (k : List Raw). total f (map change_of k)) (e.others m l).closed)
       ∙ sym (weigh_all changes_of f sections)
 
   lost_once : (f : ℕ → ℕ) → total f y.book.lost ≡ total (in_vain f) (vain_in (all_deeds race))
   lost_once f =
       ap (total f) e.joined.lost ∙ total_flat f (λ m. (part m).chain.book.lost) e.order
-      ∙ sum_joined (λ m. total f (part m).chain.book.lost) (λ steps. total (in_vain f) (vain_in (deeds_of steps))) (λ m cs rs s. s.done.lost f ∙ weigh_map f number_of (vain_in (deeds_of s.done.steps))) (λ m l. ap (total f) (e.others m l).lost)
+      ∙ sum_joined (λ m. total f (part m).chain.book.lost) (λ steps. total (in_vain f) (vain_in (deeds_of steps))) (λ m cs said s. s.done.lost f ∙ weigh_map f number_of (vain_in (deeds_of s.done.steps))) (λ m l. ap (total f) (e.others m l).lost)
       ∙ sym (weigh_all vain_of (in_vain f) sections)
 
   drawn_once : SameItems (drawn_in (all_deeds race)) (numbers_below clock)
@@ -215,8 +217,8 @@ module _ (header : Header) (scripts : List (List Command)) (part : ℕ → Part)
   seen_all = same_each (λ m. (part m).chain.seen ≤ x.seen) numbers e.order (flipped e.order numbers e.each_once) e.joined.seen
 
   spans : Each (AreInOrder clock) sections
-  spans = each_section header part (AreInOrder clock) (λ m. (part m).chain.seen ≤ x.seen) 1 scripts replies e.done lookers seen_all
-      (λ m cs rs s l. later_order (part m).chain.seen clock (omega (arith, l, e.later)) s.done.steps s.done.order)
+  spans = each_section header part (AreInOrder clock) (λ m. (part m).chain.seen ≤ x.seen) 1 scripts says e.done lookers seen_all
+      (λ m cs said s l. later_order (part m).chain.seen clock (omega (arith, l, e.later)) s.done.steps s.done.order)
 
   -- Refusals
 
@@ -242,6 +244,10 @@ module _ (header : Header) (scripts : List (List Command)) (part : ℕ → Part)
   moves : (m : ℕ) → IsThere m → (to : ℕ) → to < open-end → Moves (part m).chain.sights (IsBy to) y.sights (IsBy to)
   moves m there to few s a i = ended_sees to few x y sees_load s (subst (λ (l : List Sight). Among l s) (sym e.joined.sights) (among_flat (λ n. (part n).chain.sights) e.order m s there a)) i
 
+  -- what it saw and had ended stands
+  stays : (m : ℕ) → IsThere m → (s : Sight) → Among (part m).chain.sights s → s.until < open-end → Among y.sights s
+  stays m there s a few = same_sees x y sees_load s (subst (λ (l : List Sight). Among l s) (sym e.joined.sights) (among_flat (λ n. (part n).chain.sights) e.order m s there a)) few
+
   shown_at : (m : ℕ) → IsThere m → (s : Step) → s.to < open-end → IsShown (layout_in header) (part m).chain.sights s → IsShown (layout_in header) y.sights s
   shown_at m there s few h = record {
     keepers = each_weaken (SawKeeper (part m).chain.sights s.from (IsBy s.to)) (SawKeeper y.sights s.from (IsBy s.to)) (taken_in s.deeds)
@@ -250,18 +256,19 @@ module _ (header : Header) (scripts : List (List Command)) (part : ℕ → Part)
         (none_moves (part m).chain.sights y.sights s.from s.from (IsBy s.to) (IsBy s.to) (omega arith) (moves m there s.to few) header.shape.slots) h.nones;
     waits = each_weaken (SawNoWait (part m).chain.sights s.from (IsBy s.to) (layout_in header)) (SawNoWait y.sights s.from (IsBy s.to) (layout_in header)) (missed_in s.deeds)
         (no_wait_moves (part m).chain.sights y.sights s.from s.from (IsBy s.to) (IsBy s.to) (omega arith) (moves m there s.to few) (layout_in header)) h.waits;
+    dumps = saw_as_moves (layout_in header) (part m).chain.sights y.sights s (λ a there_a u. stays m there a there_a (omega (arith, u, few))) s.command h.dumps;
   }
 
   -- each step of a section that was joined
-  pub section_shown : (m : ℕ) (cs : List Command) (rs : List Reply) (s : SectionDone header m cs (part m) rs) → IsThere m → Each (IsShown (layout_in header) y.sights) s.done.steps
-  section_shown m cs rs s there =
+  pub section_shown : (m : ℕ) (cs : List Command) (said : Said) (s : SectionDone header m cs (part m) said) → IsThere m → Each (IsShown (layout_in header) y.sights) s.done.steps
+  section_shown m cs said s there =
       each_weaken (λ (t : Step). IsShown (layout_in header) (part m).chain.sights t × IsSpanned (part m).chain.seen t) (IsShown (layout_in header) y.sights) s.done.steps
       (λ t z. shown_at m there t (omega (arith, z.1.most, s.done.few)) z.0)
       (each_both (IsShown (layout_in header) (part m).chain.sights) (IsSpanned (part m).chain.seen) s.done.steps s.done.shown s.done.order.each)
 
   shown : Each (IsShown (layout_in header) y.sights) (steps_of race)
   shown = each_flat (IsShown (layout_in header) y.sights) (λ (steps : List Step). steps) sections
-      (each_section header part (λ steps. Each (IsShown (layout_in header) y.sights) steps) IsThere 1 scripts replies e.done lookers there_all section_shown)
+      (each_section header part (λ steps. Each (IsShown (layout_in header) y.sights) steps) IsThere 1 scripts says e.done lookers there_all section_shown)
 
   taken : Each (TakenWereKept race) (steps_of race)
   taken = each_weaken (IsShown (layout_in header) y.sights) (TakenWereKept race) (steps_of race)
@@ -272,10 +279,14 @@ module _ (header : Header) (scripts : List (List Command)) (part : ℕ → Part)
       (λ s h. each_weaken (SawNone y.sights s.from (IsBy s.to) header.shape.slots) (NoneWasFree (Among race.book) s.from s.to race.shape.slots race.counts race.sightings) (vain_in s.deeds)
       (none_was_free header y clock e.whole good s.from s.to) h.nones) shown
 
+  dumps : Each (Lists race) (steps_of race)
+  dumps = each_weaken (IsShown (layout_in header) y.sights) (Lists race) (steps_of race)
+      (λ s h. lists header y clock e.whole good e.sized race refl s s.command h.dumps) shown
+
   -- Journals
 
   given : ℕ → List (Placed Entry)
-  given m = given_at header part 1 scripts replies e.done m
+  given m = given_at header part 1 scripts says e.done m
 
   abbrev keep : ℕ → Bool
   keep m = nat_le m (length scripts)
@@ -288,11 +299,11 @@ module _ (header : Header) (scripts : List (List Command)) (part : ℕ → Part)
 
   beyond : (m : ℕ) → length scripts < m → given m ≡ []
   unfolding given
-  beyond m l = given_none header part 1 scripts replies e.done m (omega (arith, l))
+  beyond m l = given_none header part 1 scripts says e.done m (omega (arith, l))
 
   within : (m : ℕ) → 1 ≤ m → m ≤ length scripts → given m ≡ (part m).turns.mine
   unfolding given
-  within m l u = given_mine header part 1 scripts replies e.done m l (omega (arith, u))
+  within m l u = given_mine header part 1 scripts says e.done m l (omega (arith, u))
 
   each_given : Each (λ m. (part m).turns.mine ≡ given m) e.order
   each_given = same_each (λ m. (part m).turns.mine ≡ given m) e.order numbers e.each_once
@@ -315,21 +326,21 @@ module _ (header : Header) (scripts : List (List Command)) (part : ℕ → Part)
 
   joined_once : SameItems order (numbered 1 sections)
   joined_once f =
-      let many = many_sections header part 1 scripts replies e.done in
+      let many = many_sections header part 1 scripts says e.done in
       weigh_filter f keep e.order ∙ e.each_once (λ m. cond (keep m) (f m) 0)
       ∙ ap (λ k. total (λ m. cond (keep m) (f m) 0) (range_with_len 1 (k + lookers))) (sym many)
       ∙ sum_numbers 1 sections lookers f (λ m. cond (keep m) (f m) 0) (λ m l u. kept_one f m (omega (arith, u, many))) (λ m l. kept_none f m (omega (arith, l, many)))
 
   called : (m : ℕ) → Each (IsCalledBy m) (given m)
   unfolding given
-  called m = given_called header part 1 scripts replies e.done m
+  called m = given_called header part 1 scripts says e.done m
 
   gathered : WereGathered race
   gathered = record {
     given = given;
     order = order;
     callers = called;
-    own = own_from header part header.shape.bind refl given 1 scripts replies e.done (λ m l u. within m l (omega (arith, u)));
+    own = own_from header part header.shape.bind refl given 1 scripts says e.done (λ m l u. within m l (omega (arith, u)));
     joined = joined_once;
     each_once = λ f. ap (total f) (all_same 0 values) ∙ e.given f ∙ ap (total f) mine_is;
     in_order = each_value (IsInOrderOf (flat_map given order)) 0 values
@@ -339,18 +350,19 @@ module _ (header : Header) (scripts : List (List Command)) (part : ℕ → Part)
   journals : AreJournalsOf race
   journals = gathered_journals race (length-map values notes_in ∙ e.count) (legal_all 0 header.shape.bind values e.left) gathered
 
-  pub closes : AllReaped header (Among race.book) 1 scripts race.sections → IsLawfulBut header scripts race × (replies_of race ≡ replies)
+  pub closes : AllReaped header (Among race.book) 1 scripts race.sections → IsLawfulBut header scripts race × SaysSo race says
   closes reaped = (
     record {
       shape = refl;
       seed = refl;
-      sections = sections_are header (Among race.book) part 1 scripts replies e.done reaped;
+      sections = sections_are header (Among race.book) part 1 scripts says e.done reaped;
       spans = spans;
       journals = journals;
       book = book_ok;
       serial = serial header y clock e.whole good;
       taken = taken;
       slots = used;
+      dumps = dumps;
     },
-    replies_are header part 1 scripts replies e.done,
+    record { replies = replies_are header part 1 scripts says e.done; listings = listings_are header part 1 scripts says e.done },
   )

@@ -22,6 +22,7 @@ use Rattle.flat_list.proofs.script.Script.TheSendSync as scripts
 use Rattle.capture_reader.specs.contracts.capture.Capture as Capture
 use Rattle.capture_reader.proofs.capture.Capture.TheSendSync as captures
 use Rattle.race_record.proofs.record.Looked.TheSendSync as looks
+use Rattle.socket_list.proofs.listing.Listing.TheSendSync as listings
 use Rattle.tickets.specs.contracts.pass.Tickets as TicketTable
 use Rattle.race_threads.specs.contracts.jobs.Job as Job
 
@@ -35,7 +36,7 @@ worker_send : IsSend Worker.the_row
 worker_send = search (seat.the_send, bucket_send, crosses, knot.crosses, sendable) depth 60 fits 200000
 
 pub job_send : IsSend Job.the_row
-job_send = search (seat.the_send, bucket_send, replies.the_send, looks.the_send, crosses, knot.crosses, sendable) depth 60 fits 400000
+job_send = search (seat.the_send, bucket_send, replies.the_send, listings.the_send, looks.the_send, crosses, knot.crosses, sendable) depth 60 fits 400000
 
 pub tables_sync : IsSync Tables.the_row
 tables_sync = search (shared.the_sync, lease.the_sync, bucket_send, crosses, knot.crosses, sendable) depth 60 fits 400000

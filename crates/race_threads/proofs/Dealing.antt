@@ -27,6 +27,6 @@ ready_push header t q jobs all j n ready len r is i x lt e =
 
 -- of whatever header the tables are
 pub dealt : (t : Tables) (q : Tickets) (jobs all : List Job) (j : Job) (n m : ℕ) → ((header : Header) → AreTables header t → AllReady header t q jobs) → length jobs ≡ n → ((header : Header) → AreTables header t → IsFresh header t m j.worker) → m ≡ n + 1
-    → HasDrawnNothing q j.draws → j.number ≡ n → j.replies.items ≡ [] → j.told.items ≡ [] → all ≡ jobs ++ j ∷ [] → (header : Header) → AreTables header t → AllReady header t q all
-dealt t q jobs all j n m ready len fresh me draws number replies told is header tables =
-    ready_push header t q jobs all j n (ready header tables) len (record { fresh = subst (λ k. IsFresh header t k j.worker) me (fresh header tables); draws = draws; number = number; replies = replies; told = told }) is
+    → HasDrawnNothing q j.draws → j.number ≡ n → j.replies.items ≡ [] → j.listings.items ≡ [] → j.told.items ≡ [] → all ≡ jobs ++ j ∷ [] → (header : Header) → AreTables header t → AllReady header t q all
+dealt t q jobs all j n m ready len fresh me draws number replies listings told is header tables =
+    ready_push header t q jobs all j n (ready header tables) len (record { fresh = subst (λ k. IsFresh header t k j.worker) me (fresh header tables); draws = draws; number = number; replies = replies; listings = listings; told = told }) is

@@ -23,13 +23,17 @@ use Rattle.list_words.specs.Lists.{SameItems, total}
 use Rattle.table_rule.specs.Passes as chain_words
 use Rattle.table_rule.specs.Plays.{seeing}
 use Rattle.table_rule.specs.Sole.{WholeBook}
+use Rattle.table_rule.specs.declared.view.Layout.{Layout}
 use Rattle.table_rule.specs.declared.view.View.{View}
+use Rattle.chain_deeds.specs.Sizes.{IsSized}
+use Rattle.socket_list.specs.Listing.{Listing}
 use Rattle.race_threads.specs.declared.finish.Ended.{Ended}
 use Rattle.race_threads.specs.declared.jobs.Job.{Job}
 use Rattle.race_threads.specs.declared.jobs.Outcome.{Outcome}
 use Rattle.race_threads.specs.declared.looker.Look.{Look}
-use Rattle.race_threads.specs.Finished.{HasFinished, replies_in, told_in}
-use Rattle.race_threads.specs.Jobs.{AllOver, HasAllParts, IsGathered, IsOver, outcomes_in, part_or, part_in}
+use Rattle.race_threads.specs.Finished.{HasFinished, listings_in, replies_in, told_in}
+use Rattle.race_threads.specs.Jobs.{AllOver, HasAllParts, IsGathered, IsOver, outcomes_in, part_or, part_in, said_by}
+use Rattle.race_threads.specs.Said.{replied_in, listed_in}
 use Rattle.race_threads.specs.Joins.{Part}
 use Rattle.race_threads.specs.Lookers.{HasLooked, AllLooked, item_of}
 use Rattle.race_threads.specs.Races.{AllDone, HasOnlyLooked, SectionDone}
@@ -87,10 +91,13 @@ flat_back f (suc n) (x ∷ xs) h = ap (λ l. l ++ flat_map f xs) (h 0 x (omega a
 -- Jobs
 
 abbrev pub outcome : Job → Outcome
-outcome j = record { replies = j.replies; told = j.told }
+outcome j = record { replies = j.replies; listings = j.listings; told = j.told }
 
 abbrev pub replied : Job → List Reply
 replied j = j.replies.items
+
+abbrev pub listed : Job → List Listing
+listed j = j.listings.items
 
 abbrev pub tells : Job → List Look
 tells j = j.told.items
@@ -122,15 +129,15 @@ all_over script all t q done w i d l = over (get_or done i d) (w i d l)
 module _ (header : Header) (part : ℕ → Part) where
   sections_done : (n : ℕ) (scripts : List (List Command)) (js : List Job) → length scripts ≤ length js
       → ((i : ℕ) (j : Job) → i < length scripts → get_or js i j ≡ j → HasRun header (n + i) (get_or scripts i []) j × (part (n + i) ≡ part_of j.worker))
-      → AllDone header part n scripts (map replied (take (length scripts) js))
+      → AllDone header part n scripts (map said_by (take (length scripts) js))
   sections_done n [] [] l h = tt
   sections_done n [] (j ∷ js) l h = tt
   sections_done n (cs ∷ scripts) [] l h = absurd (omega (arith, l))
   sections_done n (cs ∷ scripts) (j ∷ js) l h =
       let here = h 0 j (omega arith) refl in
       let at : n + 0 ≡ n = omega arith in (
-        subst (λ (p : Part). SectionDone header n cs p j.replies.items) (sym (ap part (sym at) ∙ here.1))
-            (subst (λ (k : ℕ). SectionDone header k cs (part_of j.worker) j.replies.items) at here.0.done),
+        subst (λ (p : Part). SectionDone header n cs p (said_by j)) (sym (ap part (sym at) ∙ here.1))
+            (subst (λ (k : ℕ). SectionDone header k cs (part_of j.worker) (said_by j)) at here.0.done),
         sections_done (n + 1) scripts js (omega (arith, l)) (λ i x k is.
             let next : n + suc i ≡ n + 1 + i = omega arith in
             subst (λ (m : ℕ). HasRun header m (get_or scripts i []) x × (part m ≡ part_of x.worker)) next (h (suc i) x (omega (arith, k)) is)),
@@ -174,7 +181,7 @@ module _ (script : Script) (all : List Item) (lookers : ℕ) (t : Tables) (q : T
       ap (λ k. part_or other (get_or (map Ok js) k (Err alloc_error))) (let q : m - 1 ≡ i = omega (arith, e) in q)
       ∙ ap (part_or other) (ok_at i j (Err alloc_error) l is)
 
-  pub done_all : AllDone script.header part 1 script.sections (map replied (take sections js))
+  pub done_all : AllDone script.header part 1 script.sections (map said_by (take sections js))
   done_all = sections_done script.header part 1 script.sections js (omega (arith, count)) (λ i j l is.
       let w = (worked_at i j (omega (arith, l, count)) is).section l in
       let e : i + 1 ≡ 1 + i = omega arith in
@@ -211,11 +218,17 @@ module _ (script : Script) (all : List Item) (lookers : ℕ) (t : Tables) (q : T
       subst HasOnlyLooked (sym (part_at m (m - 1) s.0 (omega (arith, l)) (omega (arith, l, le)) (s.1 s.0))) w.looked.only)
       (λ gt. subst HasOnlyLooked (sym (ap (part_or other) (past_end (map Ok js) (m - 1) (Err alloc_error) (let e = len_map {B = Result Job AllocError} Ok js in omega (arith, e, gt))))) only)
 
-  pub all_replied : flat_map replies_in (map outcome js) ≡ flat_map (λ (r : List Reply). r) (map replied (take sections js))
+  pub all_replied : flat_map replies_in (map outcome js) ≡ flat_map replied_in (map said_by (take sections js))
   all_replied =
       flat_of_map replies_in outcome js
       ∙ flat_front replied sections js (λ i j a l is. ((worked_at i j l is).looker a).replies)
-      ∙ sym (flat_of_map (λ (r : List Reply). r) replied (take sections js))
+      ∙ sym (flat_of_map replied_in said_by (take sections js))
+
+  pub all_listed : flat_map listings_in (map outcome js) ≡ flat_map listed_in (map said_by (take sections js))
+  all_listed =
+      flat_of_map listings_in outcome js
+      ∙ flat_front listed sections js (λ i j a l is. ((worked_at i j l is).looker a).listings)
+      ∙ sym (flat_of_map listed_in said_by (take sections js))
 
   pub all_tells : flat_map told_in (map outcome js) ≡ flat_map (λ (took : List Look). took) (map tells last)
   all_tells =
@@ -256,7 +269,7 @@ finished script all lookers t q first w p done given e some count tables fresh w
       part = part;
       turns = (part_of w).turns;
       chain = x;
-      replies = map replied (take (length script.sections) js);
+      says = map said_by (take (length script.sections) js);
       tooks = tooks;
       sees = sees;
       ended = record {
@@ -266,6 +279,7 @@ finished script all lookers t q first w p done given e some count tables fresh w
         done = done_all script all lookers t q other only some js len worked;
         others = others script all lookers t q other only some js len worked;
         layout = rest.rests.table.1 ∙ sym t.chains.laid ∙ tables.layout;
+        sized = subst (λ (y : Layout). IsSized y.shape) tables.layout t.chains.sized;
         later = later;
         whole = record { parts = whole.chain_parts; opened = rest.rests.opened; book = subst (λ (y : View). WholeBook y e.clock) sees book };
         count = long ∙ tables.buckets;
@@ -277,5 +291,6 @@ finished script all lookers t q first w p done given e some count tables fresh w
       lookers_are = told_last script all lookers t q other only some js len worked;
       once = each_once script all lookers t q other only some js len worked p (numbers_below (length all)) (subst (λ (l : List Outcome). SameItems (drawn p) (flat_map items_in l)) given_is drew.drawn) once;
       replied = ap (flat_map replies_in) outs ∙ all_replied script all lookers t q other only some js len worked;
+      listed = ap (flat_map listings_in) outs ∙ all_listed script all lookers t q other only some js len worked;
       tells = ap (flat_map told_in) outs ∙ all_tells script all lookers t q other only some js len worked;
     }

@@ -15,7 +15,8 @@ use Rattle.sock_script.specs.declared.parse.Mode.TheVariants as modes
 use Rattle.sock_script.specs.declared.line.Line.{Line}
 use Rattle.sock_script.specs.declared.line.Line.TheVariants as lines
 use Rattle.sock_script.specs.Words.{words_of, lines_of}
-use Rattle.sock_script.specs.Forms.{HasForm, ShapeFits, RangeFits}
+use Rattle.chain_book.specs.Shapes.{ShapeFits}
+use Rattle.sock_script.specs.Forms.{HasForm, RangeFits}
 use Rattle.sock_script.specs.Grammar.{Draft, Follows, ReadsLine, Reads, MayCome, past, nothing_yet, default_shape, default_range, with_command, is_allowed}
 use Rattle.sock_script.proofs.LineCases.{line_cases}
 use Rattle.table_model.specs.Means.{is_lookup}
@@ -40,6 +41,7 @@ allowed other (commands.At moment) h = refl
 allowed other commands.Reap h = refl
 allowed other (commands.Look query) h = never h
 allowed other (commands.Packets count) h = never h
+allowed other commands.Dump h = refl
 
 -- so it is of sections with one more command that may come
 with_one : (c : Command) (sections : List (List Command)) → MayCome modes.Race sections c → Each LooksNothingUp sections

@@ -438,7 +438,7 @@ module _ (header : Header) (v : View) (clock : ℕ) (w : IsWhole v clock) (good 
   rank_is : (key : Packet) (ws : List ℕ) → rank_of key ws ≡ rank (Rattle.table_rule.specs.Words.card_from ws) key
   rank_is key ws = two_words (record { ends = Rattle.std.proofs.Common.slice_index ws 0; ports = Rattle.std.proofs.Common.slice_index ws 1; name = Rattle.std.proofs.Common.slice_index ws 2; extra = Rattle.std.proofs.Common.slice_index ws 3 }) key
 
-  raw_throughout : (d : Change) (r : RawOf d) (t0 t1 : ℕ) → Throughout (Among book) d t0 t1 → lookups.Throughout (mine v) r.change t0 t1
+  pub raw_throughout : (d : Change) (r : RawOf d) (t0 t1 : ℕ) → Throughout (Among book) d t0 t1 → lookups.Throughout (mine v) r.change t0 t1
   raw_throughout d r t0 t1 o =
       let o' = subst (λ (c : Change). Throughout (Among book) c t0 t1) r.is o in
       (o'.before, λ u e. o'.still (change_of u) (among u e.unhash) (raw_after r.change u e.is-unhash e.slot e.after))

@@ -1,10 +1,12 @@
 pub mod Sightings
 pub mod Leaving
+pub mod Dumping
 pub mod Sectioned
 pub mod Weights
 pub mod Joining
 pub mod CardsTold
 pub mod FromRaw
+pub mod Listings
 pub mod Refusals
 pub mod Sums
 pub mod Plans

@@ -18,7 +18,6 @@ use Rattle.capture_reader.specs.declared.packet.Item.{Item}
 use Rattle.capture_reader.specs.declared.packet.Item.TheVariants as items
 use Rattle.capture_reader.specs.Captures.{Capture}
 use Rattle.flat_list.specs.declared.header.Header.{Header}
-use Rattle.flat_list.specs.declared.command.Reply.{Reply}
 use Rattle.flat_list.specs.Script.{Script}
 use Rattle.table_rule.specs.Alone.{mine}
 use Rattle.table_rule.specs.Explained.{IsWholeExplained}
@@ -28,14 +27,15 @@ use Rattle.table_rule.specs.declared.view.View.{View}
 use Rattle.table_rule.specs.declared.view.Whole.{Whole}
 use Rattle.race_book.specs.Among.{Among}
 use Rattle.race_book.proofs.Endings.{each_of}
-use Rattle.race_record.specs.Record.{Race, replies_of}
+use Rattle.race_record.specs.Record.{Race}
 use Rattle.race_record.specs.Lawful.{Lawful, IsReceiptOf, Answers, AreAnswered, Follows, looked_at, AreTakenInTurn, AreSharesOf}
 use Rattle.race_record.specs.declared.record.Looked.{Looked}
 use Rattle.race_record.specs.declared.record.Looked.TheVariants as looks
 use Rattle.race_threads.specs.declared.looker.Look.{Look}
 use Rattle.race_threads.specs.Joins.{Part}
 use Rattle.race_threads.specs.Lookers.{IsLookup, IsLooked, item_at, item_of, Before, AllLooked, AreTold, looks_by, whole_for}
-use Rattle.race_threads.specs.Races.{HasEnded, race_by, steps_by, AreFew}
+use Rattle.race_threads.specs.Races.{HasEnded, SaysSo, race_by, steps_by, AreFew}
+use Rattle.race_threads.specs.Said.{Said}
 use Rattle.race_threads.specs.Sections.{layout_in}
 use Rattle.race_threads.proofs.Closing.{closes, good, each_there}
 use Rattle.race_threads.proofs.FromRaw.{explained, place_of}
@@ -58,8 +58,8 @@ module _ (In : Change → Type 0) (shape : Rattle.chain_book.specs.declared.shap
   each_answer [] (y ∷ ys) e h = absurd (omega (arith, e))
   each_answer (x ∷ xs) [] e h = absurd (omega (arith, e))
 
-module _ (script : Script) (capture : Capture) (part : ℕ → Part) (tooks : List (List Look)) (looked : List Looked) (passes : ℕ) (v : BindView) (x : View) (values : List (Box Bucket)) (replies : List (List Reply)) (clock : ℕ)
-    (e : HasEnded script.header script.sections part (length tooks) v x values replies clock) (told : AreTold capture.items tooks looked) where
+module _ (script : Script) (capture : Capture) (part : ℕ → Part) (tooks : List (List Look)) (looked : List Looked) (passes : ℕ) (v : BindView) (x : View) (values : List (Box Bucket)) (says : List Said) (clock : ℕ)
+    (e : HasEnded script.header script.sections part (length tooks) v x values says clock) (told : AreTold capture.items tooks looked) where
   abbrev header : Header
   header = script.header
 
@@ -67,7 +67,7 @@ module _ (script : Script) (capture : Capture) (part : ℕ → Part) (tooks : Li
   y = seeing x clock
 
   abbrev race : Race
-  race = race_by header (looks_by passes tooks looked capture) (steps_by header part 1 script.sections replies e.done) values y clock
+  race = race_by header (looks_by passes tooks looked capture) (steps_by header part 1 script.sections says e.done) values y clock
 
   abbrev In : Change → Type 0
   In c = Among race.book c
@@ -84,7 +84,7 @@ module _ (script : Script) (capture : Capture) (part : ℕ → Part) (tooks : Li
         seed_is = h.seed_is;
         order = h.order;
         most = omega (arith, h.most, seen, e.later);
-        explained = explained header y clock e.whole (good header script.sections part (length tooks) v x values replies clock (looks_by passes tooks looked capture) e) r h.seed_is h.told w;
+        explained = explained header y clock e.whole (good header script.sections part (length tooks) v x values says clock (looks_by passes tooks looked capture) e) r h.seed_is h.told w;
         bucket = h.bucket;
       }
 
@@ -132,7 +132,7 @@ module _ (script : Script) (capture : Capture) (part : ℕ → Part) (tooks : Li
 
   module _ (all : AllLooked header capture.items part (length script.sections + 1) tooks) where
     there_all : Each (λ m. Among e.order m × ((part m).chain.seen ≤ x.seen)) (range_with_len (length script.sections + 1) (length tooks))
-    there_all = each_there header script.sections part (length tooks) v x values replies clock (looks_by passes tooks looked capture) e
+    there_all = each_there header script.sections part (length tooks) v x values says clock (looks_by passes tooks looked capture) e
 
     right_each : (i : ℕ) → i < length capture.items → IsRight i
     right_each i l = each_of IsRight (numbers_below (length capture.items))
@@ -154,10 +154,10 @@ module _ (script : Script) (capture : Capture) (part : ℕ → Part) (tooks : Li
         shares_once : (f : ℕ → ℕ) → total f (flat_map (λ (mine : List ℕ). mine) (map (λ took. map item_of took) tooks)) ≡ total f (numbers_below (length looked))
         shares_once f = ap (total f) (flat_shares tooks) ∙ told.once f ∙ ap (λ n. total f (numbers_below n)) (sym told.count)
 
-    pub looks_too : Each AreFew script.sections → Lawful script capture race × (replies_of race ≡ replies)
+    pub looks_too : Each AreFew script.sections → Lawful script capture race × SaysSo race says
     looks_too few =
-        let reaped = reaped_all header script.sections part (length tooks) v x values replies clock (looks_by passes tooks looked capture) e few in
-        let c = closes header script.sections part (length tooks) v x values replies clock (looks_by passes tooks looked capture) e reaped in
+        let reaped = reaped_all header script.sections part (length tooks) v x values says clock (looks_by passes tooks looked capture) e few in
+        let c = closes header script.sections part (length tooks) v x values says clock (looks_by passes tooks looked capture) e reaped in
         let l = c.0 in (
           record {
             shape = l.shape;
@@ -169,6 +169,7 @@ module _ (script : Script) (capture : Capture) (part : ℕ → Part) (tooks : Li
             serial = l.serial;
             taken = l.taken;
             slots = l.slots;
+            dumps = l.dumps;
             items = each_answer In header.shape header.seed clock capture.items looked told.count right_each;
             shares = shares;
             cut = refl;

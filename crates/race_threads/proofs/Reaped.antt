@@ -9,7 +9,6 @@ use Rattle.bind_buckets.specs.Turned.{View as BindView}
 use Rattle.chain_book.specs.declared.book.Change.{Change}
 use Rattle.flat_list.specs.declared.header.Header.{Header}
 use Rattle.flat_list.specs.declared.command.Command.{Command}
-use Rattle.flat_list.specs.declared.command.Reply.{Reply}
 use Rattle.table_rule.specs.declared.view.View.{View}
 use Rattle.table_rule.specs.declared.view.Change.{Change as Raw}
 use Rattle.table_model.specs.Own.{new_own}
@@ -19,6 +18,7 @@ use Rattle.race_record.specs.Deeds.{changes_in}
 use Rattle.race_record.specs.Record.{Step, deeds_of}
 use Rattle.chain_deeds.specs.Sides.{change_of}
 use Rattle.race_threads.specs.Joins.{Part}
+use Rattle.race_threads.specs.Said.{Said}
 use Rattle.race_threads.specs.Races.{SectionDone, AllDone, steps_by, HasEnded, AreReaped, AllReaped, AreFew, Looks, book_of}
 use Rattle.race_threads.proofs.Closing as closing
 use Rattle.race_threads.proofs.FromRaw.{serial}
@@ -43,10 +43,10 @@ in_part g (x ∷ xs) a h = ⊎_elim
 inside_new : (header : Header) (n : ℕ) → Inside (new_own header n)
 inside_new header n name o = absurd o
 
-module _ (header : Header) (scripts : List (List Command)) (part : ℕ → Part) (lookers : ℕ) (v : BindView) (x : View) (values : List (Box Bucket)) (replies : List (List Reply)) (clock : ℕ) (looks : Looks)
-    (e : HasEnded header scripts part lookers v x values replies clock) (few : Each AreFew scripts) where
+module _ (header : Header) (scripts : List (List Command)) (part : ℕ → Part) (lookers : ℕ) (v : BindView) (x : View) (values : List (Box Bucket)) (says : List Said) (clock : ℕ) (looks : Looks)
+    (e : HasEnded header scripts part lookers v x values says clock) (few : Each AreFew scripts) where
   abbrev y : View
-  y = closing.y header scripts part lookers v x values replies clock looks e
+  y = closing.y header scripts part lookers v x values says clock looks e
 
   abbrev In : Change → Type 0
   In c = Among (book_of y) c
@@ -58,20 +58,20 @@ module _ (header : Header) (scripts : List (List Command)) (part : ℕ → Part)
   closed_of m = map change_of (part m).chain.book.closed
 
   book_is : book_of y ≡ flat_map closed_of e.order
-  book_is = closing.book_is header scripts part lookers v x values replies clock looks e
+  book_is = closing.book_is header scripts part lookers v x values says clock looks e
 
   good : Rattle.race_threads.proofs.FromRaw.AreGood header y
-  good = closing.good header scripts part lookers v x values replies clock looks e
+  good = closing.good header scripts part lookers v x values says clock looks e
 
   there_all : Each IsThere (range_with_len 1 (length scripts + lookers))
-  there_all = closing.there_all header scripts part lookers v x values replies clock looks e
+  there_all = closing.there_all header scripts part lookers v x values says clock looks e
 
   -- the TIME_WAITs that a worker hashed have the names of its section
   abbrev AreNamed : ℕ → Type 0
   AreNamed m = (h : Change) → Among (closed_of m) h → IsWait h → h.card.name / 2 ^ 24 ≡ m
 
-  section_named : (m : ℕ) (cs : List Command) (rs : List Reply) → SectionDone header m cs (part m) rs → AreFew cs → AreNamed m
-  section_named m cs rs s few_here h a w =
+  section_named : (m : ℕ) (cs : List Command) (said : Said) → SectionDone header m cs (part m) said → AreFew cs → AreNamed m
+  section_named m cs said s few_here h a w =
       (fresh header (new_own header m) s.own cs s.done.steps s.done.makes (inside_new header m) (omega (arith, few_here)) h (subst (λ l. Among l h) s.done.changes a) w).section
 
   looker_named : (m : ℕ) → 1 + length scripts ≤ m → AreNamed m
@@ -79,9 +79,9 @@ module _ (header : Header) (scripts : List (List Command)) (part : ℕ → Part)
 
   named : Each AreNamed e.order
   named = same_each AreNamed e.order (range_with_len 1 (length scripts + lookers)) e.each_once
-      (each_number_if header part AreFew AreNamed 1 scripts replies e.done few lookers section_named looker_named)
+      (each_number_if header part AreFew AreNamed 1 scripts says e.done few lookers section_named looker_named)
 
-  module _ (n : ℕ) (cs : List Command) (rs : List Reply) (s : SectionDone header n cs (part n) rs) (few_here : AreFew cs) (there : IsThere n) where
+  module _ (n : ℕ) (cs : List Command) (said : Said) (s : SectionDone header n cs (part n) said) (few_here : AreFew cs) (there : IsThere n) where
     abbrev Here : Change → Type 0
     Here h = Among (changes_in (deeds_of s.done.steps)) h
 
@@ -108,17 +108,17 @@ module _ (header : Header) (scripts : List (List Command)) (part : ℕ → Part)
         0 (new_own header n) s.own cs s.done.steps s.done.makes (inside_new header n) refl small
         (each_of_all (λ (t : Step). 0 ≤ t.from) s.done.steps (λ t. omega arith))
         s.done.order.each s.done.turns
-        (closing.section_shown header scripts part lookers v x values replies clock looks e n cs rs s there)
+        (closing.section_shown header scripts part lookers v x values says clock looks e n cs said s there)
         into (λ h o. inl (back h o))
 
-  all_reaped : (n : ℕ) (rest : List (List Command)) (rss : List (List Reply)) (d : AllDone header part n rest rss) → Each AreFew rest → (more : ℕ) → Each IsThere (range_with_len n (length rest + more))
+  all_reaped : (n : ℕ) (rest : List (List Command)) (rss : List Said) (d : AllDone header part n rest rss) → Each AreFew rest → (more : ℕ) → Each IsThere (range_with_len n (length rest + more))
       → AllReaped header In n rest (steps_by header part n rest rss d)
   all_reaped n [] [] d few_rest more h = tt
-  all_reaped n (cs ∷ rest) (rs ∷ rss) d few_rest more h =
+  all_reaped n (cs ∷ rest) (said ∷ rss) d few_rest more h =
       let k = subst (λ k. Each IsThere (range_with_len n k)) (let q : length (cs ∷ rest) + more ≡ suc (length rest + more) = omega arith in q) h in
-      (reaped_here n cs rs d.0 few_rest.0 k.0, all_reaped (n + 1) rest rss d.1 few_rest.1 more k.1)
-  all_reaped n [] (rs ∷ rss) d few_rest more h = absurd d
+      (reaped_here n cs said d.0 few_rest.0 k.0, all_reaped (n + 1) rest rss d.1 few_rest.1 more k.1)
+  all_reaped n [] (said ∷ rss) d few_rest more h = absurd d
   all_reaped n (cs ∷ rest) [] d few_rest more h = absurd d
 
-  pub reaped : AllReaped header In 1 scripts (closing.sections header scripts part lookers v x values replies clock looks e)
-  reaped = all_reaped 1 scripts replies e.done few lookers there_all
+  pub reaped : AllReaped header In 1 scripts (closing.sections header scripts part lookers v x values says clock looks e)
+  reaped = all_reaped 1 scripts says e.done few lookers there_all

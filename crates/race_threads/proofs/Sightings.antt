@@ -164,6 +164,35 @@ ended_settled least to few (x ∷ xs) (y ∷ ys) h s a i = ⊎_elim
 pub ended_sees : (to : ℕ) → to < open-end → (v w : View) → Sees v w → Moves v.sights (IsBy to) w.sights (IsBy to)
 ended_sees to few v w h s a i = wider h.0 h.1 w.sights (IsBy to) h.3 s (ended_settled v.seen to few v.sights h.0 h.2 s a i)
 
+-- and that very one stands
+same_settled : (least : ℕ) (xs ys : List Sight) → AreSettled least xs ys → (s : Sight) → Among xs s → s.until < open-end → Among ys s
+same_settled least [] ys h s a few = absurd a
+same_settled least (x ∷ xs) [] h s a few = absurd h
+same_settled least (x ∷ xs) (y ∷ ys) h s a few = ⊎_elim
+    (λ e. ⊎_elim
+    (λ same. inl (e ∙ sym same))
+    (λ z. let still : s.until ≡ open-end = ap (λ (w : Sight). w.until) e ∙ z.0 in absurd (omega (arith, still, few))) h.0)
+    (λ b. inr (same_settled least xs ys h.1 s b few)) a
+
+pub same_sees : (v w : View) → Sees v w → (s : Sight) → Among v.sights s → s.until < open-end → Among w.sights s
+same_sees v w h s a few = subst (λ l. Among l s) (sym h.3) (among_left s h.0 h.1 (same_settled v.seen v.sights h.0 h.2 s a few))
+
+-- one way on after another
+pub moves_both : (xs ys zs : List Sight) (P Q R : Sight → Type 0) → Moves xs P ys Q → Moves ys Q zs R → Moves xs P zs R
+moves_both xs ys zs P Q R f g s a p =
+    let m = f s a p in
+    let n = g m.sight m.there m.is in
+    record {
+      sight = n.sight;
+      there = n.there;
+      listed = n.listed ∙ m.listed;
+      held = n.held ∙ m.held;
+      bucket = n.bucket ∙ m.bucket;
+      whole = n.whole ∙ m.whole;
+      since = n.since ∙ m.since;
+      is = n.is;
+    }
+
 -- by a load of the clock, each of which the fact is then known
 pub all_loaded : (Is : Sight → Type 0) (r : ℕ) (xs : List Sight) → Each Is (settled xs r) → Moves xs IsAny (settled xs r) Is
 all_loaded Is r [] h s a i = absurd a

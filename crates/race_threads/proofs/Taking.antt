@@ -47,9 +47,9 @@ missed_by v w b is (inl l) = omega (arith, l, ap (λ (x : TicketView). length x.
 missed_by v w b is (inr l) = omega (arith, l, ap (λ (x : TicketView). length x.vain) is, length-append v.vain w.vain)
 
 -- the items of one outcome more
-pub drawn_more : (given all : List Outcome) (j : Job) (drawn more : List ℕ) → drawn ≡ flat_map items_in given → all ≡ given ++ record { replies = j.replies; told = j.told } ∷ [] → more ≡ items_in (record { replies = j.replies; told = j.told }) → drawn ++ more ≡ flat_map items_in all
+pub drawn_more : (given all : List Outcome) (j : Job) (drawn more : List ℕ) → drawn ≡ flat_map items_in given → all ≡ given ++ record { replies = j.replies; listings = j.listings; told = j.told } ∷ [] → more ≡ items_in (record { replies = j.replies; listings = j.listings; told = j.told }) → drawn ++ more ≡ flat_map items_in all
 drawn_more given all j drawn more are is one =
-    let o : Outcome = record { replies = j.replies; told = j.told } in
+    let o : Outcome = record { replies = j.replies; listings = j.listings; told = j.told } in
     ap (λ l. l ++ more) are ∙ ap (λ l. flat_map items_in given ++ l) one ∙ sym (ap (flat_map items_in) is ∙ flat_push items_in given o)
 
 -- once all were joined
@@ -77,10 +77,10 @@ module _ (done left new : List (Result Job AllocError)) (x : Result Job AllocErr
     over t q h = let P : Result Job AllocError → Type 0 = λ r. IfOk r (IsOver t q) in
         let o : P (Ok j) = subst P (it_is x ∙ ok) (h n x (omega (arith, few, less))) in o
 
-    pub outcomes : (given all : List Outcome) → reverse given ≡ outcomes_in (drop k done) → all ≡ given ++ record { replies = j.replies; told = j.told } ∷ [] → reverse all ≡ outcomes_in (drop n done)
+    pub outcomes : (given all : List Outcome) → reverse given ≡ outcomes_in (drop k done) → all ≡ given ++ record { replies = j.replies; listings = j.listings; told = j.told } ∷ [] → reverse all ≡ outcomes_in (drop n done)
     outcomes given all e is =
-        ap reverse is ∙ reverse-append given (record { replies = j.replies; told = j.told } ∷ [])
-        ∙ ap (λ l. record { replies = j.replies; told = j.told } ∷ l) (e ∙ ap (λ i. outcomes_in (drop i done)) (let q : k ≡ suc n = omega (arith, less) in q))
+        ap reverse is ∙ reverse-append given (record { replies = j.replies; listings = j.listings; told = j.told } ∷ [])
+        ∙ ap (λ l. record { replies = j.replies; listings = j.listings; told = j.told } ∷ l) (e ∙ ap (λ i. outcomes_in (drop i done)) (let q : k ≡ suc n = omega (arith, less) in q))
         ∙ ap (λ r. outcome_of r ++ outcomes_in (drop (suc n) done)) (sym (it_is x ∙ ok))
         ∙ ap outcomes_in (sym (drop-cons done n x (omega (arith, few, less))))
 

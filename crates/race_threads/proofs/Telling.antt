@@ -1,5 +1,5 @@
 -- What is told of a race that has ended is what a lawful record tells.
-use Rattle.std.proofs.Common.{◌≡◌, ℕ, Bool, List, [], ◌∷◌, length, map, refl, sym, ap, ◌∙◌, subst}
+use Rattle.std.proofs.Common.{◌≡◌, ℕ, Bool, List, [], ◌∷◌, ◌++◌, length, map, refl, sym, ap, ◌∙◌, subst}
 use Rattle.std.specs.List.{flat_map}
 use Rattle.std.specs.Global.{Box}
 use Rattle.bind_buckets.specs.Bucket.{Bucket}
@@ -10,20 +10,22 @@ use Rattle.chain_deeds.specs.Sides.{change_of}
 use Rattle.flat_list.specs.Script.{Script}
 use Rattle.flat_list.specs.declared.header.Header.{Header}
 use Rattle.flat_list.specs.declared.command.Reply.{Reply}
+use Rattle.socket_list.specs.Listing.{Listing}
 use Rattle.list_words.specs.Lists.{Each, SameItems, total}
 use Rattle.turn_table.specs.Journals.{numbers_below}
 use Rattle.race_record.specs.Lawful.{Lawful, looked_at}
-use Rattle.race_record.specs.Record.{Race, replies_of}
+use Rattle.race_record.specs.Record.{Race}
 use Rattle.race_record.specs.declared.record.Looked.{Looked}
 use Rattle.table_rule.specs.Closes as closes
 use Rattle.table_rule.specs.Plays.{seeing}
 use Rattle.table_rule.specs.declared.view.View.{View}
 use Rattle.race_threads.specs.declared.finish.Ended.{Ended}
-use Rattle.race_threads.specs.Finished.{HasFinished, as_known, replies_in, told_in}
+use Rattle.race_threads.specs.Finished.{HasFinished, as_known, listings_in, replies_in, told_in}
 use Rattle.race_threads.specs.declared.looker.Look.{Look}
 use Rattle.race_threads.specs.Lookers.{AreTold, item_of, looks_by}
 use Rattle.race_threads.specs.Shares.{items_in}
-use Rattle.race_threads.specs.Races.{race_by, steps_by}
+use Rattle.race_threads.specs.Races.{SaysSo, race_by, steps_by}
+use Rattle.race_threads.specs.Said.{Said, replied_in}
 use Rattle.race_threads.specs.Scripts.{IsForRace}
 use Rattle.race_threads.specs.Told.{IsToldOf}
 use Rattle.race_threads.proofs.Looking.{looks_too}
@@ -37,6 +39,10 @@ as_known_all : (cs : List Change) → map as_known cs ≡ map change_of (map clo
 as_known_all [] = refl
 as_known_all (c ∷ cs) = ap (λ l. as_known c ∷ l) (as_known_all cs)
 
+flat_of_all : (says : List Said) → flat_map (λ (x : List Reply). x) (map replied_in says) ≡ flat_map replied_in says
+flat_of_all [] = refl
+flat_of_all (s ∷ says) = ap (λ l. s.replies ++ l) (flat_of_all says)
+
 -- the items of which the outcomes tell are those of the capture, each once
 pub items_once : (script : Script) (capture : Capture) (lookers : ℕ) (e : Ended) → HasFinished script capture.items lookers e → SameItems (flat_map items_in e.outcomes.items) (numbers_below (length capture.items))
 items_once script capture lookers e h f =
@@ -45,7 +51,7 @@ items_once script capture lookers e h f =
 module _ (script : Script) (capture : Capture) (lookers passes : ℕ) (e : Ended) (looked : List Looked) (fits : IsForRace script) (h : HasFinished script capture.items lookers e)
     (many : length looked ≡ length capture.items) (there : Each (λ k. looked_at looked k.item ≡ k.looked) (flat_map told_in e.outcomes.items)) where
   abbrev race : Race
-  race = race_by script.header (looks_by passes h.tooks looked capture) (steps_by script.header h.part 1 script.sections h.replies h.ended.done) e.buckets.items (seeing h.chain e.clock) e.clock
+  race = race_by script.header (looks_by passes h.tooks looked capture) (steps_by script.header h.part 1 script.sections h.says h.ended.done) e.buckets.items (seeing h.chain e.clock) e.clock
 
   abbrev IsThere : Look → Type 0
   IsThere k = looked_at looked k.item ≡ k.looked
@@ -53,25 +59,27 @@ module _ (script : Script) (capture : Capture) (lookers passes : ℕ) (e : Ended
   told : AreTold capture.items h.tooks looked
   told = record { count = many; once = h.once; told = each_unflat IsThere (λ (took : List Look). took) h.tooks (subst (Each IsThere) h.tells there) }
 
-  lawful : Lawful script capture race × (replies_of race ≡ h.replies)
-  lawful = looks_too script capture h.part h.tooks looked passes h.turns h.chain e.buckets.items h.replies e.clock h.ended told h.looked fits.small.commands
+  lawful : Lawful script capture race × SaysSo race h.says
+  lawful = looks_too script capture h.part h.tooks looked passes h.turns h.chain e.buckets.items h.says e.clock h.ended told h.looked fits.small.commands
 
-  pub tells_race : (header : Header) (cut : Bool) (replies : List Reply) (journals : List ℕ) (book : List Change)
-      → header ≡ script.header → cut ≡ capture.cut → replies ≡ flat_map replies_in e.outcomes.items → journals ≡ map count_in e.buckets.items → book ≡ e.chain.pass.changes.items → map as_known book ≡ book
+  pub tells_race : (header : Header) (cut : Bool) (replies : List Reply) (listings : List Listing) (journals : List ℕ) (book : List Change)
+      → header ≡ script.header → cut ≡ capture.cut → replies ≡ flat_map replies_in e.outcomes.items → listings ≡ flat_map listings_in e.outcomes.items → journals ≡ map count_in e.buckets.items → book ≡ e.chain.pass.changes.items → map as_known book ≡ book
       → IsToldOf script capture lookers passes (record {
         lookers = lookers;
         passes = passes;
         shape = header.shape;
         seed = header.seed;
         replies = replies;
+        listings = listings;
         journals = journals;
         book = book;
         looked = looked;
         cut = cut;
         clock = e.clock;
       })
-  tells_race header cut replies journals book of ends p q r known =
-      let replies_are = p ∙ h.replied ∙ ap (flat_map (λ (l : List Reply). l)) (sym lawful.1) in
+  tells_race header cut replies listings journals book of ends p l q r known =
+      let replies_are = p ∙ h.replied ∙ sym (ap (flat_map (λ (x : List Reply). x)) lawful.1.replies ∙ flat_of_all h.says) in
+      let listings_are = l ∙ h.listed ∙ sym lawful.1.listings in
       let journals_are = q ∙ counts_are e.buckets.items in
       let closed = ap (λ l. map closes.change_of l) r ∙ e.chain.pass.kept ∙ ap (λ (y : View). y.book.closed) h.sees in
       let book_is = sym known ∙ as_known_all book ∙ ap (map change_of) closed in
@@ -86,6 +94,7 @@ module _ (script : Script) (capture : Capture) (lookers passes : ℕ) (e : Ended
           shape = (of i).shape;
           seed = (of i).seed;
           replies = replies_are i;
+          listings = listings_are i;
           journals = journals_are i;
           book = book_is i;
           looked = looked;

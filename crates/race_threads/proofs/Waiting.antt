@@ -263,3 +263,4 @@ module _ (header : Header) (own next : Own) (deeds : List Deed) (reply : Reply) 
   turn commands.Reap g = reap_turn own next deeds reply g
   turn (commands.Look query) g = absurd g
   turn (commands.Packets count) g = absurd g
+  turn commands.Dump g = calmly (ends (answers own replies.Ok)) (Plans.c_ends (Plans.CalmBy own) (answers own replies.Ok) (Plans.calm_self own)) g

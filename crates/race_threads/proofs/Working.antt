@@ -9,7 +9,7 @@ use Rattle.tickets.specs.declared.pass.TicketPass.{TicketPass}
 use Rattle.tickets.specs.declared.pass.Tickets.{Tickets}
 use Rattle.race_threads.specs.declared.looker.Look.{Look}
 use Rattle.race_threads.specs.declared.jobs.Job.{Job}
-use Rattle.race_threads.specs.Jobs.{IsOver}
+use Rattle.race_threads.specs.Jobs.{IsOver, said_by}
 use Rattle.race_threads.specs.Lookers.{item_of}
 use Rattle.race_threads.specs.Shares.{HasDrawnNothing, HasTold}
 use Rattle.race_threads.specs.Races.{SectionDone}
@@ -51,6 +51,6 @@ module _ (script : Script) (all : List Item) (t : Tables) (q : Tickets) (n : ℕ
 pub told_none : (q : Tickets) (p : TicketPass) (told : List Look) → HasDrawnNothing q p → told ≡ [] → HasTold q p told
 told_none q p told h e = record { table = h.table; part = h.part; drawn = h.drawn ∙ ap (map item_of) (sym e) }
 
-pub ran : (given header : Header) (n : ℕ) (commands all : List Command) (j : Job) → given ≡ header → commands ≡ all → SectionDone given n commands (part_of j.worker) j.replies.items → j.told.items ≡ [] → HasRun header n all j
+pub ran : (given header : Header) (n : ℕ) (commands all : List Command) (j : Job) → given ≡ header → commands ≡ all → SectionDone given n commands (part_of j.worker) (said_by j) → j.told.items ≡ [] → HasRun header n all j
 ran given header n commands all j is same done told =
-    record { done = subst (λ (h : Header). SectionDone h n all (part_of j.worker) j.replies.items) is (subst (λ (l : List Command). SectionDone given n l (part_of j.worker) j.replies.items) same done); told = told }
+    record { done = subst (λ (h : Header). SectionDone h n all (part_of j.worker) (said_by j)) is (subst (λ (l : List Command). SectionDone given n l (part_of j.worker) (said_by j)) same done); told = told }

@@ -9,6 +9,7 @@ use Rattle.chain_book.specs.declared.book.Change.{Change}
 use Rattle.chain_deeds.specs.Sides.{change_of}
 use Rattle.flat_list.specs.Script.{Script}
 use Rattle.flat_list.specs.declared.command.Reply.{Reply}
+use Rattle.socket_list.specs.Listing.{Listing}
 use Rattle.table_rule.specs.Closes as closes
 use Rattle.table_rule.specs.Passes.{known}
 use Rattle.table_rule.specs.Plays.{seeing}
@@ -19,9 +20,13 @@ use Rattle.race_threads.specs.declared.looker.Look.{Look}
 use Rattle.race_threads.specs.Joins.{Part}
 use Rattle.race_threads.specs.Lookers.{AllLooked, item_of}
 use Rattle.race_threads.specs.Races.{HasEnded}
+use Rattle.race_threads.specs.Said.{Said, replied_in, listed_in}
 
 abbrev pub replies_in : Outcome → List Reply
 replies_in o = o.replies.items
+
+abbrev pub listings_in : Outcome → List Listing
+listings_in o = o.listings.items
 
 abbrev pub told_in : Outcome → List Look
 told_in o = o.told.items
@@ -32,14 +37,15 @@ pub record HasFinished (script : Script) (all : List Item) (lookers : ℕ) (e : 
   pub part : ℕ → Part
   pub turns : BindView
   pub chain : View
-  pub replies : List (List Reply)
+  pub says : List Said
   pub tooks : List (List Look)
   pub sees : known e.chain.pass ≡ seeing chain e.clock
-  pub ended : HasEnded script.header script.sections part (length tooks) turns chain e.buckets.items replies e.clock
+  pub ended : HasEnded script.header script.sections part (length tooks) turns chain e.buckets.items says e.clock
   pub looked : AllLooked script.header all part (length script.sections + 1) tooks
   pub lookers_are : length tooks ≡ lookers
   pub once : SameItems (flat_map (λ took. map item_of took) tooks) (numbers_below (length all))
-  pub replied : flat_map replies_in e.outcomes.items ≡ flat_map (λ (r : List Reply). r) replies
+  pub replied : flat_map replies_in e.outcomes.items ≡ flat_map replied_in says
+  pub listed : flat_map listings_in e.outcomes.items ≡ flat_map listed_in says
   pub tells : flat_map told_in e.outcomes.items ≡ flat_map (λ (took : List Look). took) tooks
 
 -- a change that lies in memory is the one that its pass knows

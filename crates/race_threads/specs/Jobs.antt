@@ -11,6 +11,7 @@ use Rattle.tickets.specs.declared.pass.Tickets.{Tickets}
 use Rattle.race_threads.specs.declared.jobs.Job.{Job}
 use Rattle.race_threads.specs.declared.jobs.Outcome.{Outcome}
 use Rattle.race_threads.specs.Joins.{Part, Joined}
+use Rattle.race_threads.specs.Said.{Said, said_as}
 use Rattle.race_threads.specs.Shares.{HasDrawnNothing, HasTold}
 use Rattle.race_threads.specs.Workers.{IsAtRest, IsFresh, part_of}
 
@@ -20,7 +21,12 @@ pub record IsReady (header : Header) (t : Tables) (q : Tickets) (n : ℕ) (j : J
   pub draws : HasDrawnNothing q j.draws
   pub number : j.number ≡ n
   pub replies : j.replies.items ≡ []
+  pub listings : j.listings.items ≡ []
   pub told : j.told.items ≡ []
+
+-- what a section's job said
+abbrev pub said_by : Job → Said
+said_by j = said_as j.replies.items j.listings.items
 
 -- each job is that of its place
 abbrev pub AllReady : Header → Tables → Tickets → List Job → Type 0
@@ -57,7 +63,7 @@ pub record IsGathered (part : ℕ → Part) (n count : ℕ) (p : Part) : Type 0 
   pub joined : Joined part order p.turns p.chain
 
 abbrev pub outcome_of : Result Job AllocError → List Outcome
-outcome_of (Ok j) = record { replies = j.replies; told = j.told } ∷ []
+outcome_of (Ok j) = record { replies = j.replies; listings = j.listings; told = j.told } ∷ []
 outcome_of (Err e) = []
 
 abbrev pub outcomes_in : List (Result Job AllocError) → List Outcome

@@ -15,6 +15,7 @@ use Rattle.flat_list.specs.Script.{Script}
 use Rattle.flat_list.specs.declared.header.Header.{Header}
 use Rattle.flat_list.specs.declared.command.Command.{Command}
 use Rattle.flat_list.specs.declared.command.Reply.{Reply}
+use Rattle.socket_list.specs.Listing.{Listing}
 use Rattle.table_model.specs.Own.{Own, new_own}
 use Rattle.table_rule.specs.Plays.{Sat, both, seeing}
 use Rattle.table_rule.specs.declared.view.Layout.{Layout}
@@ -25,7 +26,6 @@ use Rattle.shared_demux.specs.Concludes.{ByOrder}
 use Rattle.race_book.specs.Among.{Among}
 use Rattle.race_book.specs.Explained.{NamesItsBucket}
 use Rattle.race_record.specs.Deeds.{Deed}
-use Rattle.race_record.specs.Record.{replies_of}
 use Rattle.race_record.specs.Lawful.{Lawful}
 use Rattle.race_record.specs.declared.record.Looked.{Looked}
 use Rattle.race_record.specs.declared.record.Looked.TheVariants as looks
@@ -33,10 +33,12 @@ use Rattle.chain_deeds.specs.Sides.{Side}
 use Rattle.chain_deeds.specs.Made.{AllLeave}
 use Rattle.section_machine.specs.Sections.{Did}
 use Rattle.race_threads.specs.declared.looker.Look.{Look}
+use Rattle.race_threads.specs.Dumped.{Listed}
 use Rattle.race_threads.specs.Joins.{Part, Joined, IsBlank}
 use Rattle.race_threads.specs.Lookers.{item_at, HasLooked, LookedUp, looking, AllBefore, IsPassedOver, AllLooked, AreTold, looks_by}
 use Rattle.race_threads.specs.Made.{MadeAll, Loads, loaded}
-use Rattle.race_threads.specs.Races.{HasEnded, HasOnlyLooked, Looks, AreFew, AllReaped, IsLawfulBut, race_by, steps_by}
+use Rattle.race_threads.specs.Races.{HasEnded, HasOnlyLooked, Looks, AreFew, AllReaped, IsLawfulBut, SaysSo, race_by, steps_by}
+use Rattle.race_threads.specs.Said.{Said, said_as, saying}
 use Rattle.race_threads.specs.Sections.{HasDone, HasNothing}
 
 -- deeds one after the other leave what all of them make
@@ -45,15 +47,16 @@ AllMade = (deeds : List Deed) (c d : Side) → AllLeave deeds c d → MadeAll de
 
 -- a section begins
 abbrev pub Begins : Type 0
-Begins = (header : Header) (n : ℕ) (v : BindView) (c : Side) → HasNothing header n v c → HasDone header n [] (new_own header n) v c []
+Begins = (header : Header) (n : ℕ) (v : BindView) (c : Side) → HasNothing header n v c → HasDone header n [] (new_own header n) v c (said_as [] [])
 
--- one command more, and a load of the clock
+-- one command more, what it listed, and a load of the clock
 abbrev pub OneMore : Type 0
 OneMore =
-    (header : Header) (n : ℕ) (commands : List Command) (own next : Own) (v w : BindView) (c d : Side) (number : ℕ)
-    (replies : List Reply) (command : Command) (reply : Reply)
-    → HasDone header n commands own v c replies → Did header own command v w c d next reply → Loads d number
-    → HasDone header n (commands ++ command ∷ []) next w (loaded d number) (replies ++ reply ∷ [])
+    (header : Header) (n : ℕ) (commands : List Command) (own next : Own) (v w : BindView) (c d e : Side) (number : ℕ)
+    (said : Said) (command : Command) (reply : Reply) (listings : List Listing)
+    → HasDone header n commands own v c said → Did header own command v w c d next reply
+    → Listed command d e listings → Loads e number
+    → HasDone header n (commands ++ command ∷ []) next w (loaded e number) (saying said reply listings)
 
 -- the first worker, before any other is joined to it
 abbrev pub JoinsNone : Type 0
@@ -70,30 +73,30 @@ JoinsMore =
 abbrev pub ReapsToTheEnd : Type 0
 ReapsToTheEnd =
     (header : Header) (scripts : List (List Command)) (part : ℕ → Part) (lookers : ℕ) (v : BindView) (x : View)
-    (values : List (Box Bucket)) (replies : List (List Reply)) (clock : ℕ) (looks : Looks)
-    → (e : HasEnded header scripts part lookers v x values replies clock) → Each AreFew scripts
-    → let race = race_by header looks (steps_by header part 1 scripts replies e.done) values (seeing x clock) clock in
+    (values : List (Box Bucket)) (says : List Said) (clock : ℕ) (looks : Looks)
+    → (e : HasEnded header scripts part lookers v x values says clock) → Each AreFew scripts
+    → let race = race_by header looks (steps_by header part 1 scripts says e.done) values (seeing x clock) clock in
     AllReaped header (Among race.book) 1 scripts race.sections
 
 -- the record of a race that has ended is lawful, but for what is said of lookups
 abbrev pub Closes : Type 0
 Closes =
     (header : Header) (scripts : List (List Command)) (part : ℕ → Part) (lookers : ℕ) (v : BindView) (x : View)
-    (values : List (Box Bucket)) (replies : List (List Reply)) (clock : ℕ) (looks : Looks)
-    → (e : HasEnded header scripts part lookers v x values replies clock) → Each AreFew scripts
-    → let race = race_by header looks (steps_by header part 1 scripts replies e.done) values (seeing x clock) clock in
-    IsLawfulBut header scripts race × (replies_of race ≡ replies)
+    (values : List (Box Bucket)) (says : List Said) (clock : ℕ) (looks : Looks)
+    → (e : HasEnded header scripts part lookers v x values says clock) → Each AreFew scripts
+    → let race = race_by header looks (steps_by header part 1 scripts says e.done) values (seeing x clock) clock in
+    IsLawfulBut header scripts race × SaysSo race says
 
 -- a pass's receipts are what came of the items, and with what the sections did that is a whole record
 abbrev pub LooksToo : Type 0
 LooksToo =
     (script : Script) (capture : Capture) (part : ℕ → Part) (tooks : List (List Look)) (looked : List Looked) (passes : ℕ)
-    (v : BindView) (x : View) (values : List (Box Bucket)) (replies : List (List Reply)) (clock : ℕ)
-    → (e : HasEnded script.header script.sections part (length tooks) v x values replies clock)
+    (v : BindView) (x : View) (values : List (Box Bucket)) (says : List Said) (clock : ℕ)
+    → (e : HasEnded script.header script.sections part (length tooks) v x values says clock)
     → AllLooked script.header capture.items part (length script.sections + 1) tooks → AreTold capture.items tooks looked
     → Each AreFew script.sections
-    → let race = race_by script.header (looks_by passes tooks looked capture) (steps_by script.header part 1 script.sections replies e.done) values (seeing x clock) clock in
-    Lawful script capture race × (replies_of race ≡ replies)
+    → let race = race_by script.header (looks_by passes tooks looked capture) (steps_by script.header part 1 script.sections says e.done) values (seeing x clock) clock in
+    Lawful script capture race × SaysSo race says
 
 -- a looker begins
 abbrev pub LooksNone : Type 0

@@ -1,5 +1,7 @@
 -- What the contracts of this crate cite.
 pub mod Made
+pub mod Said
+pub mod Dumped
 pub mod Sections
 pub mod Joins
 pub mod Races

@@ -10,7 +10,6 @@ use Rattle.bind_buckets.specs.Turned.{View as BindView}
 use Rattle.chain_book.specs.declared.book.Change.{Change}
 use Rattle.flat_list.specs.declared.header.Header.{Header}
 use Rattle.flat_list.specs.declared.command.Command.{Command}
-use Rattle.flat_list.specs.declared.command.Reply.{Reply}
 use Rattle.table_rule.specs.Plays.{seeing}
 use Rattle.table_rule.specs.Sole.{WholeBook}
 use Rattle.table_rule.specs.declared.view.Sight.{Sight}
@@ -20,11 +19,13 @@ use Rattle.table_model.specs.Commands.{answers, plan}
 use Rattle.race_book.specs.Among.{Among}
 use Rattle.race_book.specs.Serial.{IsSerial}
 use Rattle.race_record.specs.Goes.{Goes}
-use Rattle.race_record.specs.Record.{Race, Step, Sighting, steps_of}
-use Rattle.race_record.specs.Lawful.{AreSectionsOf, AreInOrder, AreJournalsOf, IsBookOf, ReapsAll, TakenWereKept, SlotsWereUsed}
+use Rattle.race_record.specs.Record.{Race, Step, Sighting, steps_of, replies_of, listings_of}
+use Rattle.race_record.specs.Lawful.{AreSectionsOf, AreInOrder, AreJournalsOf, IsBookOf, ReapsAll, TakenWereKept, SlotsWereUsed, Lists}
 use Rattle.race_record.specs.declared.record.Looked.{Looked}
 use Rattle.chain_deeds.specs.Sides.{change_of}
+use Rattle.chain_deeds.specs.Sizes.{IsSized}
 use Rattle.race_threads.specs.Joins.{Part, Joined}
+use Rattle.race_threads.specs.Said.{Said, replied_in, listed_in}
 use Rattle.race_threads.specs.Sections.{HasDone, layout_in}
 
 -- The clock was loaded by a pass that has all parts and nothing under way: what it knows then.
@@ -34,23 +35,23 @@ pub record IsWhole (y : View) (clock : ℕ) : Type 0 where
   pub book : WholeBook y clock
 
 -- a section was done from its first command to its last
-pub record SectionDone (header : Header) (n : ℕ) (commands : List Command) (p : Part) (replies : List Reply) : Type 0 where
+pub record SectionDone (header : Header) (n : ℕ) (commands : List Command) (p : Part) (s : Said) : Type 0 where
   pub own : Own
   pub next : ℕ
-  pub done : HasDone header n commands own p.turns (record { layout = layout_in header; view = p.chain; next = next }) replies
+  pub done : HasDone header n commands own p.turns (record { layout = layout_in header; view = p.chain; next = next }) s
 
 -- so were all sections, of which the first has that number
-abbrev pub AllDone : Header → (ℕ → Part) → ℕ → List (List Command) → List (List Reply) → Type 0
+abbrev pub AllDone : Header → (ℕ → Part) → ℕ → List (List Command) → List Said → Type 0
 AllDone header part n [] [] = Unit {0}
-AllDone header part n (cs ∷ scripts) (rs ∷ replies) =
-    SectionDone header n cs (part n) rs × AllDone header part (n + 1) scripts replies
+AllDone header part n (cs ∷ scripts) (said ∷ says) =
+    SectionDone header n cs (part n) said × AllDone header part (n + 1) scripts says
 AllDone header part n _ _ = ⊥
 
 -- their steps
-abbrev pub steps_by : (header : Header) (part : ℕ → Part) (n : ℕ) (scripts : List (List Command)) (replies : List (List Reply)) → AllDone header part n scripts replies → List (List Step)
+abbrev pub steps_by : (header : Header) (part : ℕ → Part) (n : ℕ) (scripts : List (List Command)) (says : List Said) → AllDone header part n scripts says → List (List Step)
 steps_by header part n [] [] d = []
-steps_by header part n (cs ∷ scripts) (rs ∷ replies) d = d.0.done.steps ∷ steps_by header part (n + 1) scripts replies d.1
-steps_by header part n [] (rs ∷ replies) d = []
+steps_by header part n (cs ∷ scripts) (said ∷ says) d = d.0.done.steps ∷ steps_by header part (n + 1) scripts says d.1
+steps_by header part n [] (said ∷ says) d = []
 steps_by header part n (cs ∷ scripts) [] d = []
 
 -- a worker that asked no bind bucket anything, and changed no chain
@@ -61,13 +62,14 @@ pub record HasOnlyLooked (p : Part) : Type 0 where
 
 -- each section and so many lookers were joined to the first worker, each once, whose passes then came to an end: by the
 -- one the clock was loaded, and by the other the bind buckets were taken
-pub record HasEnded (header : Header) (scripts : List (List Command)) (part : ℕ → Part) (lookers : ℕ) (v : BindView) (x : View) (values : List (Box Bucket)) (replies : List (List Reply)) (clock : ℕ) : Type 0 where
+pub record HasEnded (header : Header) (scripts : List (List Command)) (part : ℕ → Part) (lookers : ℕ) (v : BindView) (x : View) (values : List (Box Bucket)) (says : List Said) (clock : ℕ) : Type 0 where
   pub order : List ℕ
   pub each_once : SameItems order (range_with_len 1 (length scripts + lookers))
   pub joined : Joined part order v x
-  pub done : AllDone header part 1 scripts replies
+  pub done : AllDone header part 1 scripts says
   pub others : (m : ℕ) → length scripts < m → HasOnlyLooked (part m)
   pub layout : x.layout ≡ layout_in header
+  pub sized : IsSized header.shape
   pub later : x.seen ≤ clock
   pub whole : IsWhole (seeing x clock) clock
   pub count : length values ≡ header.shape.bind
@@ -137,3 +139,9 @@ pub record IsLawfulBut (header : Header) (scripts : List (List Command)) (race :
   pub serial : IsSerial (Among race.book) race.shape race.seed
   pub taken : Each (TakenWereKept race) (steps_of race)
   pub slots : Each (SlotsWereUsed race) (steps_of race)
+  pub dumps : Each (Lists race) (steps_of race)
+
+-- its sections said that
+pub record SaysSo (race : Race) (says : List Said) : Type 0 where
+  pub replies : replies_of race ≡ map replied_in says
+  pub listings : listings_of race ≡ flat_map listed_in says

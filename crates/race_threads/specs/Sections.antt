@@ -1,10 +1,11 @@
 -- What a section's worker did from its first command on: our own.
 use Rattle.std.specs.Prelude.{◌≡◌, ℕ, ◌<◌, List, [], ◌∷◌, map, ◌≤◌}
+use Rattle.std.specs.List.{flat_map}
 use Rattle.list_words.specs.Lists.{Each, SameItems, Pairs}
 use Rattle.bind_buckets.specs.Turned.{View as BindView}
 use Rattle.flat_list.specs.declared.header.Header.{Header}
 use Rattle.flat_list.specs.declared.command.Command.{Command}
-use Rattle.flat_list.specs.declared.command.Reply.{Reply}
+use Rattle.socket_list.specs.Listing.{Listing}
 use Rattle.table_rule.specs.Book.{open-end}
 use Rattle.table_rule.specs.declared.view.Layout.{Layout}
 use Rattle.table_rule.specs.declared.view.Sight.{Sight}
@@ -16,7 +17,9 @@ use Rattle.race_record.specs.Record.{Step, deeds_of, reply_of}
 use Rattle.race_record.specs.Lawful.{AreInOrder, IsCalledBy}
 use Rattle.chain_deeds.specs.Sides.{Side, changes_by}
 use Rattle.chain_deeds.specs.Made.{IsHomeIfHash, AllHaveWords, number_of}
+use Rattle.race_threads.specs.Dumped.{SawAs}
 use Rattle.race_threads.specs.Made.{SawKeeper, SawNone, IsBy, SawNoWait, missed_in}
+use Rattle.race_threads.specs.Said.{Said}
 
 -- what a script's chains are laid out for
 abbrev pub layout_in : Header → Layout
@@ -29,23 +32,28 @@ Makes header own (c ∷ cs) (s ∷ ss) last =
     (next : Own) × (s.command ≡ c) × Goes (plan header own c) s.deeds (answers next s.reply) × Makes header next cs ss last
 Makes header own _ _ last = ⊥
 
--- what refused a step was seen between its numbers, and so was that what it sought was gone
+-- what refused a step was seen between its numbers, and so was that what it sought was gone, and what it listed
 pub record IsShown (layout : Layout) (sights : List Sight) (s : Step) : Type 0 where
   pub keepers : Each (SawKeeper sights s.from (IsBy s.to)) (taken_in s.deeds)
   pub nones : Each (SawNone sights s.from (IsBy s.to) layout.shape.slots) (vain_in s.deeds)
   pub waits : Each (SawNoWait sights s.from (IsBy s.to) layout) (missed_in s.deeds)
+  pub dumps : SawAs layout sights s.command s
+
+abbrev pub listings_in : Step → List Listing
+listings_in s = s.listings
 
 -- a later step began with what the one before had ended with, or more
 abbrev pub EndsBefore : Step → Step → Type 0
 EndsBefore s later = s.to ≤ later.from
 
 -- a worker did these commands of section n from its beginning, and nothing else
-pub record HasDone (header : Header) (n : ℕ) (commands : List Command) (own : Own) (v : BindView) (c : Side) (replies : List Reply) : Type 0 where
+pub record HasDone (header : Header) (n : ℕ) (commands : List Command) (own : Own) (v : BindView) (c : Side) (s : Said) : Type 0 where
   pub layout : c.layout ≡ layout_in header
   pub few : c.view.seen < open-end
   pub steps : List Step
   pub makes : Makes header (new_own header n) commands steps own
-  pub replied : map reply_of steps ≡ replies
+  pub replied : map reply_of steps ≡ s.replies
+  pub listed : flat_map listings_in steps ≡ s.listings
   pub order : AreInOrder c.view.seen steps
   pub turns : Pairs EndsBefore steps
   pub entries : v.mine ≡ entries_in header.shape.bind (deeds_of steps)

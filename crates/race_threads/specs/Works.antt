@@ -9,14 +9,14 @@ use Rattle.shared_ops.specs.declared.tables.Tables.{Tables}
 use Rattle.tickets.specs.Passes.{HasMissed}
 use Rattle.tickets.specs.declared.pass.Tickets.{Tickets}
 use Rattle.race_threads.specs.declared.jobs.Job.{Job}
-use Rattle.race_threads.specs.Jobs.{IsOver}
+use Rattle.race_threads.specs.Jobs.{IsOver, said_by}
 use Rattle.race_threads.specs.Lookers.{HasLooked}
 use Rattle.race_threads.specs.Races.{SectionDone}
 use Rattle.race_threads.specs.Workers.{part_of}
 
 -- the section was done, and told of no item
 pub record HasRun (header : Header) (n : ℕ) (commands : List Command) (j : Job) : Type 0 where
-  pub done : SectionDone header n commands (part_of j.worker) j.replies.items
+  pub done : SectionDone header n commands (part_of j.worker) (said_by j)
   pub told : j.told.items ≡ []
 
 -- items were looked up until none was left to be drawn, and nothing else was done
@@ -24,6 +24,7 @@ pub record HasShared (header : Header) (all : List Item) (j : Job) : Type 0 wher
   pub looked : HasLooked header all (part_of j.worker) j.told.items
   pub missed : HasMissed j.draws
   pub replies : j.replies.items ≡ []
+  pub listings : j.listings.items ≡ []
 
 -- the job of that number was done: the sections come first
 pub record IsWorked (script : Script) (all : List Item) (t : Tables) (q : Tickets) (n : ℕ) (j : Job) : Type 0 where

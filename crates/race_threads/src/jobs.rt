@@ -12,6 +12,7 @@ use crate::looker::Look;
 use crate::worker::{join, split};
 use flat_list::Reply;
 use shared_ops::{Tables, Worker};
+use socket_list::Listing;
 use std::alloc::{AllocError, Global};
 use tickets::{TicketPass, Tickets};
 
@@ -23,6 +24,7 @@ pub struct Job {
     pub draws: TicketPass,
     pub number: usize,
     pub replies: Vec<Reply>,
+    pub listings: Vec<Listing>,
     pub told: Vec<Look>,
 }
 
@@ -56,16 +58,18 @@ pub fn deal(
             draws: draws.split(tickets),
             number,
             replies: Vec::new(alloc),
+            listings: Vec::new(alloc),
             told: Vec::new(alloc),
         });
     }
     Ok(jobs)
 }
 
-/// What came of a job: of a section its replies, and of a looker what it tells.
+/// What came of a job: of a section its replies and what it listed, and of a looker what it tells.
 #[derive(Drop)]
 pub struct Outcome {
     pub replies: Vec<Reply>,
+    pub listings: Vec<Listing>,
     pub told: Vec<Look>,
 }
 
@@ -101,12 +105,17 @@ pub fn gather(
             worker,
             draws: drawn,
             replies,
+            listings,
             told,
             ..
         } = result?;
         join(tables, first, worker)?;
         draws.join(tickets, drawn);
-        given.push(Outcome { replies, told })?;
+        given.push(Outcome {
+            replies,
+            listings,
+            told,
+        })?;
     }
     Ok(backwards(given))
 }

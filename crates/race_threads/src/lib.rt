@@ -8,10 +8,10 @@
 //! Lookers draw the capture's items by `tickets`: whoever is free takes the next. Once all passes of tickets are
 //! joined, each item was drawn once (`specs/Shares`), and its answer is put at its place.
 //!
-//! [`laws`] says what follows from what workers did: a section's deeds, command by command, with a load of the clock
-//! behind each (`specs/Made`, `specs/Sections`); the first worker, as others are joined to it in whatever order
-//! (`specs/Joins`); and, once all are joined, the clock is loaded and the bind buckets are taken, that the record is lawful
-//! (`specs/Races`, `specs/Lookers`).
+//! [`laws`] says what follows from what workers did: a section's deeds, command by command, with what a `dump` listed
+//! (`specs/Dumped`), and a load of the clock behind each (`specs/Made`, `specs/Sections`); the first worker, as others are
+//! joined to it in whatever order (`specs/Joins`); and, once all are joined, the clock is loaded and the bind buckets are
+//! taken, that the record is lawful (`specs/Races`, `specs/Lookers`).
 //!
 //! ```text
 //! let record = race(&rt, alloc, &script, &capture, lookers, passes, &Open)?;

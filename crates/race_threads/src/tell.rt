@@ -4,7 +4,7 @@ ghost use Rattle.std.specs.Prelude.{◌≡◌, ◌<◌, ◌++◌, length, map, I
 ghost use Rattle.std.specs.List.{flat_map};
 ghost use Rattle.bind_buckets.specs.Closed.{count_in};
 ghost use Rattle.list_words.specs.Lists.{Each, SameItems};
-ghost use Rattle.race_threads.specs.Finished.{HasFinished, as_known, replies_in, told_in};
+ghost use Rattle.race_threads.specs.Finished.{HasFinished, as_known, listings_in, replies_in, told_in};
 ghost use Rattle.race_threads.specs.Lookers.{item_of};
 ghost use Rattle.race_threads.specs.Scripts.{IsForRace};
 ghost use Rattle.race_threads.specs.Shares.{items_in, put_all};
@@ -23,6 +23,7 @@ use flat_list::{Reply, Script};
 use race_record::Looked;
 use race_text::Record;
 use sock_card::pack;
+use socket_list::Listing;
 use std::alloc::{AllocError, Global};
 use table_rule::Pass;
 
@@ -45,6 +46,21 @@ fn all_replies(alloc: Global, outcomes: &[Outcome]) -> Result<Vec<Reply>, AllocE
         put_replies(&mut replies, &outcome.replies)?;
     }
     Ok(replies)
+}
+
+/// What all sections listed, one section after the other.
+fn all_listings(alloc: Global, outcomes: Vec<Outcome>) -> Result<Vec<Listing>, AllocError>
+    ensures { IfOk result (λ listings. listings.items ≡ flat_map listings_in outcomes.items) }
+{
+    let mut listings = Vec::new(alloc);
+    for outcome in outcomes {
+        let Outcome {
+            listings: mut more,
+            ..
+        } = outcome;
+        listings.append(&mut more)?;
+    }
+    Ok(listings)
 }
 
 /// Puts what came of some items at their places.
@@ -121,12 +137,14 @@ pub fn tell(
     let looked = all_told(alloc, capture.items().len(), &outcomes)?;
     let journals = counts_of(alloc, &buckets)?;
     know_changes(&changes);
+    let listings = all_listings(alloc, outcomes)?;
     Ok(Record {
         lookers,
         passes,
         shape: header.shape,
         seed: header.seed,
         replies,
+        listings,
         journals,
         book: changes,
         looked,

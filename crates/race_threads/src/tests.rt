@@ -1,4 +1,4 @@
-//! Races of one section, whose replies are those that it gets alone.
+//! Races of one section, whose replies are those that it gets alone; and lists of all sockets.
 
 ghost use Rattle.std.specs.Prelude.{◌≤◌, ◌^◌, length};
 
@@ -7,7 +7,10 @@ use crate::race;
 use capture_reader::Capture;
 use flat_list::{End, Reply};
 use inet_io::Open;
+use race_text::Record;
+use sock_card::{Card, Kind};
 use sock_script::parse::{Mode, ScriptEnd, parse};
+use socket_list::{Listing, Span};
 use std::alloc::Global;
 use std::sync::Wait;
 use std::test::Fail;
@@ -72,6 +75,44 @@ drop c
 drop d
 ";
 
+/// A listener, and a list of all sockets.
+const ONE_DUMP: &[u8] = b"script 1
+socket a
+bind a 10.0.0.1:80
+listen a
+dump
+";
+
+/// Two sections whose sockets come and go, and one that lists all sockets meanwhile, its own among them.
+const MANY_DUMPS: &[u8] = b"script 1
+socket a
+bind a 10.0.0.2:80
+listen a
+drop a
+script 2
+socket b
+bind b 10.0.0.3:80
+connect b to 10.0.0.4:80
+close b
+script 3
+socket k
+bind k 10.0.0.1:80
+listen k
+dump
+dump
+dump
+";
+
+/// A race of the text with one looker.
+fn raced<R: Threads + Wait + Sync>(rt: &R, alloc: Global, text: &[u8]) -> Result<Record, ScriptEnd>
+    requires { length text.now ≤ 2 ^ 24 }
+{
+    for_race();
+    let script = parse(alloc, text, Mode::Race)?;
+    let record = race(rt, alloc, &script, &Capture::new(alloc), 1, 1, &Open)?;
+    Ok(record)
+}
+
 /// Whether a race of the text with one looker gets these replies.
 fn gets<R: Threads + Wait + Sync>(
     rt: &R,
@@ -81,10 +122,35 @@ fn gets<R: Threads + Wait + Sync>(
 ) -> Result<bool, ScriptEnd>
     requires { length text.now ≤ 2 ^ 24 }
 {
-    for_race();
-    let script = parse(alloc, text, Mode::Race)?;
-    let record = race(rt, alloc, &script, &Capture::new(alloc), 1, 1, &Open)?;
+    let record = raced(rt, alloc, text)?;
     Ok(record.replies.as_slice() == wanted)
+}
+
+/// The listener at 10.0.0.1:80, where its section has that number.
+const fn listener(section: u32) -> Card
+    requires { section ≤ 64 }
+{
+    Card {
+        local: 0x0A00_0001,
+        lport: 80,
+        remote: 0,
+        rport: 0,
+        dev: 0,
+        net: 0,
+        kind: Kind::Listen,
+        name: section * 0x0100_0000 + 1,
+        extra: 0,
+    }
+}
+
+/// Whether each list has that socket.
+fn all_have(listings: &[Listing], card: &Card) -> bool {
+    for listing in listings {
+        if !listing.cards.as_slice().contains(card) {
+            return false;
+        }
+    }
+    true
 }
 
 /// The reply that tells an end of 10.0.0.1.
@@ -163,5 +229,45 @@ fn children_outlive_their_listener(rt: HostRuntime) -> Result<(), Fail> {
         Reply::Ebadf,
     ];
     assert!(rt; gets(&rt, rt.alloc(), CHILDREN, &wanted)?);
+    Ok(())
+}
+
+#[test]
+fn a_dump_lists_the_listener(rt: HostRuntime) -> Result<(), Fail> {
+    let record = raced(&rt, rt.alloc(), ONE_DUMP)?;
+    let [listing] = record.listings.as_slice() else {
+        return Err("not one list".into());
+    };
+    assert_eq!(rt; listing.cards.as_slice(), [listener(1)].as_slice());
+    assert_eq!(rt; listing.span, Some(Span { t0: 2, t1: 2 }));
+    assert_eq!(rt; record.clock, 2);
+    Ok(())
+}
+
+#[test]
+fn dumps_list_what_stays(rt: HostRuntime) -> Result<(), Fail> {
+    let record = raced(&rt, rt.alloc(), MANY_DUMPS)?;
+    let wanted = [
+        Reply::Ok,
+        Reply::Port(80),
+        Reply::Port(80),
+        Reply::Ok,
+        Reply::Ok,
+        Reply::Port(80),
+        Reply::End(End {
+            addr: 0x0A00_0003,
+            port: 80,
+        }),
+        Reply::TimeWait,
+        Reply::Ok,
+        Reply::Port(80),
+        Reply::Port(80),
+        Reply::Ok,
+        Reply::Ok,
+        Reply::Ok,
+    ];
+    assert!(rt; record.replies.as_slice() == wanted.as_slice());
+    assert_eq!(rt; record.listings.len(), 3);
+    assert!(rt; all_have(record.listings.as_slice(), &listener(3)));
     Ok(())
 }

@@ -8,7 +8,7 @@ ghost use Rattle.race_threads.specs.Works.{IsWorked};
 ghost use Rattle.tickets.specs.Passes.{tickets as tickets_of};
 
 use crate::jobs::Job;
-use crate::section::run_section;
+use crate::section::{Said, run_section};
 use crate::share::look_share;
 use capture_reader::Capture;
 use flat_list::Script;
@@ -47,12 +47,13 @@ pub fn work<R: Wait, G: Gate>(
         mut draws,
         number,
         replies,
+        listings,
         told,
     } = job;
     let sections = script.sections();
     if number < sections.len() {
         let commands = &sections[number];
-        let replies = run_section(
+        let Said { replies, listings } = run_section(
             rt,
             alloc,
             tables,
@@ -67,6 +68,7 @@ pub fn work<R: Wait, G: Gate>(
             draws,
             number,
             replies,
+            listings,
             told,
         });
     }
@@ -86,6 +88,7 @@ pub fn work<R: Wait, G: Gate>(
         draws,
         number,
         replies,
+        listings,
         told,
     })
 }

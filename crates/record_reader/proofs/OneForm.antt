@@ -21,7 +21,8 @@ use Rattle.record_reader.specs.declared.line.LifeLine.{LifeLine}
 use Rattle.record_reader.specs.declared.line.Line.{Line}
 use Rattle.record_reader.specs.declared.line.Line.TheVariants as lines
 use Rattle.record_reader.specs.Names.{NameFits, name_text}
-use Rattle.record_reader.specs.Forms.{Fits, HasForm, IsReply, line_words, race_words, shape_words, life_words, item_words, look_words, answer_words, end_words, packet_words, card_words, span_words, unhash_words, kind_word, net_words, ShapeFits, LifeFits, CardFits, SpanFits, UnhashFits, ItemFits, LookFits, AnswerFits, EndFits, PacketFits, tells_vain}
+use Rattle.chain_book.specs.Shapes.{ShapeFits}
+use Rattle.record_reader.specs.Forms.{Fits, HasForm, IsReply, line_words, race_words, shape_words, life_words, item_words, look_words, answer_words, end_words, packet_words, card_words, span_words, unhash_words, kind_word, net_words, LifeFits, CardFits, SpanFits, UnhashFits, ItemFits, LookFits, AnswerFits, EndFits, PacketFits, tells_vain}
 use Rattle.record_reader.proofs.Heads.{head_word, all_digits, apart, heads_apart}
 use Rattle.record_reader.proofs.Nets.{LacksNet, net_told}
 use Rattle.record_reader.proofs.OneName.{one_name}
@@ -59,9 +60,9 @@ shape_told s t m n fs ft fm fn e =
     let el : decimal s.listen ≡ decimal t.listen = cc in
     let em : decimal m ≡ decimal n = cc in
     let slots = number s.slots t.slots (omega (arith, fs.slots.1)) (omega (arith, ft.slots.1)) es in
-    let bind = number s.bind t.bind (omega (arith, fs.bind.2)) (omega (arith, ft.bind.2)) eb in
-    let hash = number s.hash t.hash (omega (arith, fs.hash.2)) (omega (arith, ft.hash.2)) eh in
-    let listen = number s.listen t.listen (omega (arith, fs.listen.2)) (omega (arith, ft.listen.2)) el in
+    let bind = number s.bind t.bind (omega (arith, fs.bind.1)) (omega (arith, ft.bind.1)) eb in
+    let hash = number s.hash t.hash (omega (arith, fs.hash.1)) (omega (arith, ft.hash.1)) eh in
+    let listen = number s.listen t.listen (omega (arith, fs.listen.1)) (omega (arith, ft.listen.1)) el in
     ((λ i. record { slots = slots i; bind = bind i; hash = hash i; listen = listen i }), number m n (omega arith) (omega arith) em)
 
 span_told : (s t : Span) → SpanFits s → SpanFits t → decimal s.begin ≡ decimal t.begin → decimal s.end ≡ decimal t.end → s ≡ t

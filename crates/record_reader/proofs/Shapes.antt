@@ -4,7 +4,8 @@ use Rattle.record_reader.specs.declared.line.Line.{Line}
 use Rattle.record_reader.specs.declared.line.Line.TheVariants as lines
 use Rattle.book_audit.specs.declared.printed.Printed.{Printed}
 use Rattle.record_reader.specs.Words.{words_of}
-use Rattle.record_reader.specs.Forms.{HasForm, ShapeFits}
+use Rattle.chain_book.specs.Shapes.{ShapeFits}
+use Rattle.record_reader.specs.Forms.{HasForm}
 use Rattle.record_reader.specs.Record.{AreInOrder, HaveForms, IsRecord, may_follow}
 use Rattle.record_reader.specs.Told.{Tells}
 use Rattle.record_reader.specs.Steps.{EndsWell, TellsShape}

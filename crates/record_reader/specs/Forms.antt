@@ -2,13 +2,13 @@
 -- leading zero, which is `decimal`, and ends as `end_text` says.
 use Rattle.std.specs.Prelude.{◌≡◌, ℕ, ◌^◌, ◌<◌, ◌≤◌, ◌==◌, ◌&&◌, ◌||◌, nat_lt, Bool, false, bytes_eq, IsTrue, List, [], ◌∷◌, ◌++◌, length, codes, decimal, Option, Some, None, if◌then◌else◌}
 use Rattle.std.specs.List.{list_all, list_any}
-use Rattle.std.specs.Int.{is_power_of_two}
 use Rattle.inet_io.specs.Texts.{end_text}
 use Rattle.sock_card.specs.declared.card.Card.{Card}
 use Rattle.sock_card.specs.declared.card.Kind.{Kind}
 use Rattle.sock_card.specs.declared.card.Kind.TheVariants as kinds
 use Rattle.sock_card.specs.declared.card.Packet.{Packet}
 use Rattle.chain_book.specs.declared.shape.Shape.{Shape}
+use Rattle.chain_book.specs.Shapes.{ShapeFits}
 use Rattle.book_audit.specs.declared.printed.Span.{Span}
 use Rattle.book_audit.specs.declared.printed.PrintedEnd.{PrintedEnd}
 use Rattle.book_audit.specs.declared.printed.PrintedEnd.TheVariants as ends
@@ -36,22 +36,12 @@ shape_words shape seed =
     codes "shape" ∷ decimal shape.slots ∷ decimal shape.bind ∷ decimal shape.hash ∷ decimal shape.listen
     ∷ codes "seed" ∷ decimal seed ∷ []
 
--- a power of two, from 1 to `most`
-abbrev pub IsPowerTo : ℕ → ℕ → Type 0
-IsPowerTo most n = IsTrue (is_power_of_two n) × (1 ≤ n) × (n ≤ most)
-
--- how many slots and buckets there may be
-pub record ShapeFits (shape : Shape) : Type 0 where
-  pub slots : (1 ≤ shape.slots) × (shape.slots ≤ 65536)
-  pub bind : IsPowerTo 256 shape.bind
-  pub hash : IsPowerTo 65536 shape.hash
-  pub listen : IsPowerTo 4096 shape.listen
-
--- the verbs of a script's commands, and `item`
+-- the verbs of a script's commands, and `item`, which stands before each socket that a `dump` lists
 abbrev pub verbs : List (List ℕ)
 verbs =
     codes "socket" ∷ codes "bind" ∷ codes "listen" ∷ codes "connect" ∷ codes "accept" ∷ codes "close"
-    ∷ codes "drop" ∷ codes "at" ∷ codes "reap" ∷ codes "look" ∷ codes "packets" ∷ codes "item" ∷ []
+    ∷ codes "drop" ∷ codes "at" ∷ codes "reap" ∷ codes "look" ∷ codes "packets" ∷ codes "dump"
+    ∷ codes "item" ∷ []
 
 -- one byte or more, each above the space
 abbrev pub is_plain : List ℕ → Bool

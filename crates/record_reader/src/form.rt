@@ -14,7 +14,8 @@ ghost use Rattle.book_audit.specs.declared.printed.Span.{Span};
 ghost use Rattle.record_reader.specs.Words.{texts};
 ghost use Rattle.record_reader.specs.Names.{NameFits, name_text};
 ghost use Rattle.record_reader.specs.Forms as spec;
-ghost use Rattle.record_reader.specs.Forms.{AnswerFits, CardFits, Fits, HasForm, IsPowerTo, IsReply, LifeFits, LookFits, PacketFits, ShapeFits, SpanFits, UnhashFits, answer_words, card_words, kind_word, net_words};
+ghost use Rattle.chain_book.specs.Shapes.{IsPowerTo, ShapeFits};
+ghost use Rattle.record_reader.specs.Forms.{AnswerFits, CardFits, Fits, HasForm, IsReply, LifeFits, LookFits, PacketFits, SpanFits, UnhashFits, answer_words, card_words, kind_word, net_words};
 ghost use Rattle.record_reader.specs.declared.line.Name.{Name};
 ghost use Rattle.record_reader.specs.declared.line.Answer.{Answer};
 ghost use Rattle.record_reader.specs.declared.line.LookLine.{LookLine};
@@ -497,6 +498,7 @@ fn is_verb(word: &[u8]) -> bool
         || is_word(word, b"reap")
         || is_word(word, b"look")
         || is_word(word, b"packets")
+        || is_word(word, b"dump")
         || is_word(word, b"item")
 }
 

@@ -2,7 +2,7 @@
 
 ghost use Rattle.std.specs.Prelude.{◌≡◌, ◌↔◌, ◌+◌, [], ℕ, Err, length, IsTrue, IfOk, IfErr};
 ghost use Rattle.record_reader.specs.Words.{texts};
-ghost use Rattle.record_reader.specs.Forms.{ShapeFits};
+ghost use Rattle.chain_book.specs.Shapes.{ShapeFits};
 ghost use Rattle.record_reader.specs.Record.{IsFirstOutside, IsRecord};
 ghost use Rattle.record_reader.specs.Steps.{EndAnswer, EndsWell, Turns};
 ghost use Rattle.record_reader.specs.Verdicts.{Reads};

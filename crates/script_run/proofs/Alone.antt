@@ -1,5 +1,5 @@
 -- A command of a worker that is alone: its reply is the list's, and the worker is alone still.
-use Rattle.std.proofs.Common.{◌≡◌, ℕ, ◌+◌, ◌<◌, ◌≤◌, ◌^◌, false, List, [], ◌∷◌, ◌++◌, length, map, Option, Some, Result, Ok, Err, IfOk, OnOk, refl, sym, ap, ◌∙◌, subst}
+use Rattle.std.proofs.Common.{◌≡◌, ℕ, ◌+◌, ◌<◌, ◌≤◌, ◌^◌, false, List, [], ◌∷◌, ◌++◌, length, map, Some, Result, Ok, Err, IfOk, OnOk, refl, sym, ap, ◌∙◌, subst}
 use Rattle.std.specs.declared.alloc.AllocError.{AllocError}
 use Rattle.turn_table.specs.declared.note.Placed.{Placed}
 use Rattle.bind_buckets.specs.declared.request.Entry.{Entry}
@@ -126,6 +126,7 @@ no_lookup (commands.At moment) none other = refl
 no_lookup commands.Reap none other = refl
 no_lookup (commands.Look query) none other = absurd (other query refl)
 no_lookup (commands.Packets n) none other = none
+no_lookup commands.Dump none other = refl
 
 module _ (t : Tables) (k l : Kept) (w u : Worker) (command : Command) (running : IsRunning t k w) (ready : IsReady t u) where
   abbrev Does : Reply → Type 0

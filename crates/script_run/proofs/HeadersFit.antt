@@ -10,7 +10,8 @@ use Rattle.sock_script.specs.declared.parse.Mode.{Mode}
 use Rattle.sock_script.specs.declared.line.Line.{Line}
 use Rattle.sock_script.specs.declared.line.Line.TheVariants as lines
 use Rattle.sock_script.specs.Words.{words_of, lines_of}
-use Rattle.sock_script.specs.Forms.{HasForm, ShapeFits, RangeFits}
+use Rattle.chain_book.specs.Shapes.{ShapeFits}
+use Rattle.sock_script.specs.Forms.{HasForm, RangeFits}
 use Rattle.sock_script.specs.Grammar.{Draft, Follows, ReadsLine, Reads, past, nothing_yet, default_shape, default_range}
 use Rattle.sock_script.proofs.LineCases.{line_cases}
 use Rattle.script_run.specs.Fits.{FitsTables, ScriptsFit}

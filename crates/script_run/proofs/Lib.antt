@@ -8,6 +8,7 @@ mod Standing
 mod LooksGroup
 mod LooksSame
 mod SeesNow
+pub mod Listings
 pub mod CommandRuns
 pub mod SectionTurns
 pub mod Alone

@@ -9,13 +9,13 @@ use Rattle.sock_card.specs.declared.card.Kind.{Kind}
 use Rattle.sock_card.specs.declared.card.Card.{Card}
 use Rattle.sock_card.specs.declared.card.Packet.{Packet}
 use Rattle.capture_reader.specs.declared.packet.Item.{Item}
-use Rattle.flat_list.specs.Owned.{packet_of}
+use Rattle.flat_list.specs.Owned.{packet_asked}
 use Rattle.flat_list.specs.Step.{step}
 use Rattle.flat_list.specs.declared.command.Command.TheVariants as commands
 use Rattle.flat_list.specs.declared.command.Query.{Query}
 use Rattle.flat_list.specs.declared.command.Reply.{Reply}
 use Rattle.flat_list.specs.declared.command.Reply.TheVariants as replies
-use Rattle.sock_script.specs.Output.{item_reply}
+use Rattle.sock_script.specs.Output.{Replies, item_reply}
 use Rattle.table_model.specs.Means.{Means}
 use Rattle.table_model.specs.Tables.{Tables as Plain}
 use Rattle.turn_table.specs.Passes as words
@@ -26,13 +26,13 @@ use Rattle.table_model.specs.Own.{Mine}
 use Rattle.table_model.specs.Goes.{tables_by}
 use Rattle.chain_deeds.specs.Sides.{chains_by}
 use Rattle.shared_sockets.specs.Alone.{chains_of}
-use Rattle.section_machine.specs.Carried.{Spends}
+use Rattle.section_machine.specs.Carried.{HasEnough, Spends}
 use Rattle.section_machine.specs.Sections.{Kept}
 use Rattle.section_machine.specs.Standing.{IsOpen, IsSection, Roll, StandsIn, roll_of}
 use Rattle.shared_ops.specs.declared.tables.Tables.{Tables}
 use Rattle.shared_ops.specs.declared.tables.Worker.{Worker}
 use Rattle.shared_ops.specs.Stands.{IsHashed, IsReady, MayDraw, buckets_of, chained, place_in, turned}
-use Rattle.script_run.specs.Looks.{Answers, Finds, Looked}
+use Rattle.script_run.specs.Looks.{AnswersItem, Finds, Looked}
 use Rattle.script_run.specs.Sole.{IsSole, tables_of}
 use Rattle.script_run.specs.Steps.{AnswersAll, IsRunning, RefinesEach, RunsEach}
 use Rattle.script_run.proofs.CommandRuns.{packets_run}
@@ -95,8 +95,21 @@ module _ (t : Tables) (w u : Worker) (l : Looked t w u) where
     drawn = λ more may. may_draw (more + 2 * length k.own.waits) (omega (arith, may));
   }
 
+  -- a worker that has looked or listed has enough still, and what it spends then is all that it spends
+  pub enough_still : (k : Kept) → HasEnough k w → HasEnough k u
+  enough_still k enough =
+      let e = ap words.draws l.turns in
+      let enters = enough.enters in
+      record { enters = omega (arith, enters, e); draws = may_draw (6 + 2 * length k.own.waits) enough.draws }
+
+  pub spends_behind : (k m : Kept) (y : Worker) → Spends k m u y → Spends k m w y
+  spends_behind k m y s = record {
+    entered = let e = ap words.draws l.turns in omega (arith, s.entered, e);
+    drawn = λ more may. s.drawn more (may_draw (more + 6 + 2 * length k.own.waits) may);
+  }
+
   -- a lookup answers as the list does, and leaves all as it was
-  pub look_refines : (k : Kept) (query : Query) (packet : Packet) (card : Option Card) → packet ≡ packet_of query → Finds (tables_of t w) packet card
+  pub look_refines : (k : Kept) (query : Query) (packet : Packet) (card : Option Card) → packet ≡ packet_asked query → Finds (tables_of t w) packet card
       → RefinesEach k (tables_of t w) (commands.Look query) (tables_of t u) k.own (replies.Found card)
   unfolding step
   look_refines k query packet card is finds flat header means = record {
@@ -105,11 +118,11 @@ module _ (t : Tables) (w u : Worker) (l : Looked t w u) where
   }
 
   -- and so do lookups of a capture's next items
-  pub packets_look : (k : Kept) (count : ℕ) (xs next left : List Item) (before out : List Reply)
-      → next ≡ take (min count (length xs)) xs → left ≡ drop (min count (length xs)) xs → AnswersAll (tables_of t w) next before out
-      → RunsEach k (tables_of t w) (commands.Packets count) xs left before out k.own (tables_of t u)
+  pub packets_look : (k : Kept) (count : ℕ) (xs next left : List Item) (before : Replies) (out : List Reply)
+      → next ≡ take (min count (length xs)) xs → left ≡ drop (min count (length xs)) xs → AnswersAll (tables_of t w) next before.each out
+      → RunsEach k (tables_of t w) (commands.Packets count) xs left before (record before { each = out }) k.own (tables_of t u)
   packets_look k count xs next left before out front back answers =
-      subst (RunsEach k (tables_of t w) (commands.Packets count) xs left before out k.own) (sym tables_same)
+      subst (RunsEach k (tables_of t w) (commands.Packets count) xs left before (record before { each = out }) k.own) (sym tables_same)
       (packets_run k (tables_of t w) count xs next left before out front back answers)
 
 -- Items
@@ -119,7 +132,7 @@ pub answers_none : (t : Plain) (items : List Item) (out : List Reply) → items 
 answers_none t items out none flat shape sound mean = sym (append-nil out) ∙ ap (λ (l : List Item). out ++ map (item_reply flat) l) (sym none)
 
 -- and one more
-pub answers_more : (t : Plain) (items more : List Item) (item : Item) (before out new : List Reply) (reply : Reply) → AnswersAll t items before out → Answers t item reply
+pub answers_more : (t : Plain) (items more : List Item) (item : Item) (before out new : List Reply) (reply : Reply) → AnswersAll t items before out → AnswersItem t item reply
     → more ≡ items ++ item ∷ [] → new ≡ out ++ reply ∷ [] → AnswersAll t more before new
 answers_more t items more item before out new reply all one is pushed flat shape sound mean =
     pushed

@@ -1,5 +1,5 @@
 -- A turn of the loops over a section's commands, and over the sections, on tables that mean a list.
-use Rattle.std.proofs.Common.{◌≡◌, ℕ, ◌+◌, ◌<◌, ◌≤◌, List, [], length, drop, get_or, find, None, unwrap_or, refl, sym, ap, ◌∙◌, subst, arith}
+use Rattle.std.proofs.Common.{◌≡◌, ℕ, ◌+◌, ◌<◌, ◌≤◌, List, [], ◌++◌, map, length, drop, get_or, find, None, unwrap_or, refl, sym, ap, ◌∙◌, subst, arith}
 use Rattle.std.proofs.lemmas.Grind.{common_steps}
 use Rattle.capture_reader.specs.declared.packet.Item.{Item}
 use Rattle.flat_list.specs.declared.header.Header.{Header}
@@ -12,8 +12,8 @@ use Rattle.flat_list.specs.Step.{step}
 use Rattle.flat_list.proofs.LabelsGrow.{gives_at_one, labels_stay}
 use Rattle.flat_list.proofs.Soundness.{starts as starts_sound}
 use Rattle.sock_script.specs.Steps.{issue, RunsCommand, RunsSection}
-use Rattle.sock_script.specs.Output.{issued_from, events_from, replies_from}
-use Rattle.sock_script.proofs.RunTurns.{RanSoFar, ran_start, ran_more, ran_all, RanSections, sections_start, sections_next, sections_end}
+use Rattle.sock_script.specs.Output.{Replies, issued_from, events_from, item_reply, listings_from, replies_from}
+use Rattle.sock_script.proofs.RunTurns.{RanSoFar, ran_start, ran_more, ran_all, RanSections, sections_start, sections_next, sections_replied, sections_listed}
 use Rattle.table_model.specs.Tables.{Tables, new_tables}
 use Rattle.table_model.specs.Own.{new_own}
 use Rattle.table_model.specs.Means.{Means, IsShape}
@@ -24,7 +24,7 @@ use Rattle.script_run.specs.Steps.{AnswersAll, StartsAt, RunsAs, RunsOne, RunsEa
 use Rattle.flat_list.proofs.SectionsStay.{step_stays}
 
 -- what stands after some commands of a section that began at the first list
-pub record SoFar (header : Header) (n : ℕ) (first : Flat) (all : List Command) (items left : List Item) (before out : List Reply) (i : ℕ) (m : Kept) (t : Tables) : Type 0 where
+pub record SoFar (header : Header) (n : ℕ) (first : Flat) (all : List Command) (items left : List Item) (before out : Replies) (i : ℕ) (m : Kept) (t : Tables) : Type 0 where
   pub flat : Flat
   pub ran : RanSoFar n first flat (drop i all) all items left before out i
   pub number : m.own.number ≡ n
@@ -35,7 +35,7 @@ pub record SoFar (header : Header) (n : ℕ) (first : Flat) (all : List Command)
   pub later : (k : ℕ) → n + 1 ≤ k → find (has_number k) flat.sections ≡ None
 
 -- so from whatever list the tables meant
-abbrev pub Turns : Header → ℕ → Tables → List Command → List Item → List Item → List Reply → List Reply → ℕ → Kept → Tables → Type 0
+abbrev pub Turns : Header → ℕ → Tables → List Command → List Item → List Item → Replies → Replies → ℕ → Kept → Tables → Type 0
 Turns header n old all items left before out i m t =
     (first : Flat) → StartsAt header n old first → SoFar header n first all items left before out i m t
 
@@ -48,7 +48,7 @@ begins header n t first some s =
     subst (λ h. Means n (new_own h n) t first) s.header_is
     (starts_meant n t first some (subst IsShape (sym s.header_is) s.shape) s.sound s.tables (not_begun first.header n first.sections (s.fresh n (omega arith))))
 
-pub turns_start : (header : Header) (n : ℕ) (t : Tables) (all : List Command) (items : List Item) (out : List Reply) (m : Kept) → 1 ≤ n → m ≡ kept header (new_own header n) → Turns header n t all items items out out 0 m t
+pub turns_start : (header : Header) (n : ℕ) (t : Tables) (all : List Command) (items : List Item) (out : Replies) (m : Kept) → 1 ≤ n → m ≡ kept header (new_own header n) → Turns header n t all items items out out 0 m t
 turns_start header n t all items out m some is first s =
     subst (λ (m : Kept). SoFar header n first all items items out out 0 m t) (sym is) (record {
       flat = first;
@@ -61,7 +61,7 @@ turns_start header n t all items out m some is first s =
       later = λ k above. s.fresh k (omega arith);
     })
 
-module _ (header : Header) (n : ℕ) (old : Tables) (all : List Command) (items left : List Item) (before out : List Reply) (i : ℕ) (m : Kept) (t : Tables) where
+module _ (header : Header) (n : ℕ) (old : Tables) (all : List Command) (items left : List Item) (before out : Replies) (i : ℕ) (m : Kept) (t : Tables) where
   same_header : (first : Flat) (s : SoFar header n first all items left before out i m t) → s.flat.header ≡ m.header
   same_header first s = s.header_is ∙ sym s.machine_is
 
@@ -69,7 +69,7 @@ module _ (header : Header) (n : ℕ) (old : Tables) (all : List Command) (items 
   own_means first s = subst (λ k. Means k m.own t s.flat) (sym s.number) s.means
 
   -- one command more
-  pub turns_next : (left_after : List Item) (new : List Reply) (m_after : Kept) (t_after : Tables) (command : Command)
+  pub turns_next : (left_after : List Item) (new : Replies) (m_after : Kept) (t_after : Tables) (command : Command)
       → i < length all → command ≡ get_or all i command → KeepsHeader m m_after → RunsEach m t command left left_after out new m_after.own t_after
       → Turns header n old all items left before out i m t → Turns header n old all items left_after before new (i + 1) m_after t_after
   turns_next left_after new m_after t_after command below here keeps runs turns first starts =
@@ -92,7 +92,7 @@ module _ (header : Header) (n : ℕ) (old : Tables) (all : List Command) (items 
       }
 
 -- all commands of the section
-pub turns_end : (header : Header) (n : ℕ) (old : Tables) (all : List Command) (items left : List Item) (before out : List Reply) (i : ℕ) (m : Kept) (t : Tables) → length all ≤ i → Turns header n old all items left before out i m t → RunsAs header n old t all items left before out
+pub turns_end : (header : Header) (n : ℕ) (old : Tables) (all : List Command) (items left : List Item) (before out : Replies) (i : ℕ) (m : Kept) (t : Tables) → length all ≤ i → Turns header n old all items left before out i m t → RunsAs header n old t all items left before out
 turns_end header n old all items left before out i m t past turns first starts =
     let s = turns first starts in
     let none : drop i all ≡ [] = grind (arith, common_steps) in
@@ -104,7 +104,7 @@ turns_end header n old all items left before out i m t past turns first starts =
     }
 
 -- what stands after some sections
-pub record Ran (header : Header) (all : List (List Command)) (items left : List Item) (out : List Reply) (i : ℕ) (t : Tables) : Type 0 where
+pub record Ran (header : Header) (all : List (List Command)) (items left : List Item) (out : Replies) (i : ℕ) (t : Tables) : Type 0 where
   pub flat : Flat
   pub ran : RanSections (new_flat header) flat all items left out i
   pub starts : StartsAt header (i + 1) t flat
@@ -112,7 +112,7 @@ pub record Ran (header : Header) (all : List (List Command)) (items left : List 
 shape_of : (header : Header) → FitsTables header → IsShape header
 shape_of header fits = record { bind = fits.bind; hash = fits.hash; listen = fits.listen }
 
-pub ran_none : (header : Header) (all : List (List Command)) (items : List Item) (t : Tables) → FitsTables header → t ≡ new_tables header.shape header.seed → Ran header all items items [] 0 t
+pub ran_none : (header : Header) (all : List (List Command)) (items : List Item) (t : Tables) → FitsTables header → t ≡ new_tables header.shape header.seed → Ran header all items items (record { each = []; listings = [] }) 0 t
 ran_none header all items t fits is = record {
   flat = new_flat header;
   ran = sections_start header all items;
@@ -121,7 +121,7 @@ ran_none header all items t fits is = record {
 }
 
 -- one section more
-pub ran_next : (header : Header) (all : List (List Command)) (items left left_after : List Item) (out new : List Reply) (i : ℕ) (t t_after : Tables) (commands : List Command) → i < length all → commands ≡ get_or all i commands
+pub ran_next : (header : Header) (all : List (List Command)) (items left left_after : List Item) (out new : Replies) (i : ℕ) (t t_after : Tables) (commands : List Command) → i < length all → commands ≡ get_or all i commands
     → RunsAs header (i + 1) t t_after commands left left_after out new → Ran header all items left out i t → Ran header all items left_after new (i + 1) t_after
 ran_next header all items left left_after out new i t t_after commands below here runs r =
     let s = runs r.flat r.starts in
@@ -129,8 +129,15 @@ ran_next header all items left left_after out new i t t_after commands below her
     record { flat = next; ran = sections_next (new_flat header) r.flat next all items left left_after out new i commands below here r.ran s.runs; starts = s.starts }
 
 -- all sections, and the items that were left
-pub ran_every : (header : Header) (all : List (List Command)) (items left : List Item) (out new : List Reply) (i : ℕ) (t : Tables) → length all ≤ i → Ran header all items left out i t
-    → AnswersAll t left out new → new ≡ replies_from (new_flat header) (events_from items (issued_from 1 all))
-ran_every header all items left out new i t past r answers =
-    sections_end (new_flat header) r.flat all items left out new i past r.ran
-    (answers r.flat (subst IsShape (sym r.starts.header_is) r.starts.shape) r.starts.sound r.starts.tables)
+module _ (header : Header) (all : List (List Command)) (items left : List Item) (out : Replies) (new : List Reply) (i : ℕ) (t : Tables) (past : length all ≤ i)
+    (r : Ran header all items left out i t) (answers : AnswersAll t left out.each new)
+  where
+    last : record out { each = new } ≡ record out { each = out.each ++ map (item_reply r.flat) left }
+    last = ap (λ (l : List Reply). record out { each = l })
+        (answers r.flat (subst IsShape (sym r.starts.header_is) r.starts.shape) r.starts.sound r.starts.tables)
+
+    pub every_replied : new ≡ replies_from (new_flat header) (events_from items (issued_from 1 all))
+    every_replied = sections_replied (new_flat header) r.flat all items left out (record out { each = new }) i past r.ran last
+
+    pub every_listed : out.listings ≡ listings_from (new_flat header) (events_from items (issued_from 1 all))
+    every_listed = sections_listed (new_flat header) r.flat all items left out (record out { each = new }) i past r.ran last

@@ -24,8 +24,8 @@ Finds t packet found =
     → found ≡ look packet flat.header.seed flat.sockets flat.groups
 
 -- and so the reply to an item is the list's
-abbrev pub Answers : Tables → Item → Reply → Type 0
-Answers t item reply =
+abbrev pub AnswersItem : Tables → Item → Reply → Type 0
+AnswersItem t item reply =
     (flat : Flat) → IsShape flat.header → IsSound flat → TablesMean t flat → reply ≡ item_reply flat item
 
 -- what a lookup leaves of a worker: all that it did and may do, and all places of the chains

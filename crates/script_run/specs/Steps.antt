@@ -11,10 +11,11 @@ use Rattle.flat_list.specs.Sound.{IsSound}
 use Rattle.flat_list.specs.Step.{step}
 use Rattle.section_machine.specs.Sections.{Kept}
 use Rattle.section_machine.specs.Standing.{IsSection, IsUnspoken}
+use Rattle.socket_list.specs.Listing.{Listing}
 use Rattle.shared_ops.specs.declared.tables.Tables.{Tables as Shared}
 use Rattle.shared_ops.specs.declared.tables.Worker.{Worker}
 use Rattle.shared_ops.specs.Stands.{MayEnter, MayDraw, turned}
-use Rattle.sock_script.specs.Output.{item_reply}
+use Rattle.sock_script.specs.Output.{Replies, item_reply, listings_at}
 use Rattle.sock_script.specs.Steps.{issue, RunsCommand, RunsSection}
 use Rattle.table_model.specs.Commands.{answers}
 use Rattle.table_model.specs.Means.{IsShape, Means, Refines, TablesMean}
@@ -61,13 +62,19 @@ AnswersAll t items before out =
     (flat : Flat) → IsShape flat.header → IsSound flat → TablesMean t flat
     → out ≡ before ++ map (item_reply flat) items
 
--- From whatever list the tables and the section's own meant, the command was run: what is replied to it, and to the items
--- that it comes to, is the list's, and what the list leaves is meant now.
-pub record RunsOne (number : ℕ) (flat : Flat) (command : Command) (items left : List Item) (before out : List Reply) (own : Own) (new : Tables) : Type 0 where
+-- and so was what the command lists
+abbrev pub ListsFor : Tables → Command → List Listing → List Listing → Type 0
+ListsFor t command before out =
+    (flat : Flat) → IsShape flat.header → IsSound flat → TablesMean t flat
+    → out ≡ before ++ listings_at flat command
+
+-- From whatever list the tables and the section's own meant, the command was run: what is replied to it and to the items
+-- that it comes to, and what it lists, is the list's, and what the list leaves is meant now.
+pub record RunsOne (number : ℕ) (flat : Flat) (command : Command) (items left : List Item) (before out : Replies) (own : Own) (new : Tables) : Type 0 where
   pub runs : RunsCommand flat (step flat number command).flat number command items left before out
   pub means : Means number own new (step flat number command).flat
 
-abbrev pub RunsEach : Kept → Tables → Command → List Item → List Item → List Reply → List Reply → Own → Tables → Type 0
+abbrev pub RunsEach : Kept → Tables → Command → List Item → List Item → Replies → Replies → Own → Tables → Type 0
 RunsEach kept old command items left before out own new =
     (flat : Flat) → flat.header ≡ kept.header → Means kept.own.number kept.own old flat
     → RunsOne kept.own.number flat command items left before out own new
@@ -80,12 +87,12 @@ pub record StartsAt (header : Header) (n : ℕ) (t : Tables) (flat : Flat) : Typ
   pub tables : TablesMean t flat
   pub fresh : (m : ℕ) → n ≤ m → find (has_number m) flat.sections ≡ None
 
--- section n was run from that list on: what was replied is the list's, and the tables mean what the list has become
-pub record RanSection (header : Header) (n : ℕ) (t : Tables) (first : Flat) (commands : List Command) (items left : List Item) (before out : List Reply) : Type 0 where
+-- section n was run from that list on: what was replied and listed is the list's, and the tables mean what the list has become
+pub record RanSection (header : Header) (n : ℕ) (t : Tables) (first : Flat) (commands : List Command) (items left : List Item) (before out : Replies) : Type 0 where
   pub runs : RunsSection first (after first (issue n commands)) n commands items left before out
   pub starts : StartsAt header (n + 1) t (after first (issue n commands))
 
 -- so from whatever list the tables meant
-abbrev pub RunsAs : Header → ℕ → Tables → Tables → List Command → List Item → List Item → List Reply → List Reply → Type 0
+abbrev pub RunsAs : Header → ℕ → Tables → Tables → List Command → List Item → List Item → Replies → Replies → Type 0
 RunsAs header n old new commands items left before out =
     (first : Flat) → StartsAt header n old first → RanSection header n new first commands items left before out

@@ -1,9 +1,10 @@
 //! The run of a script by one worker.
 //!
 //! [`run`] replies to a script's commands, and to the packets of its capture, what the flat list replies to
-//! them. It runs over the tables that threads can share, by one worker that is never split off another;
+//! them, and lists what it lists. It runs over the tables that threads can share, by one worker that is never split off another;
 //! [`headers_fit`] says that it can be asked of each script that a text is.
-//! It stands on `section_machine`, whose machines run the sections, and on `shared_demux`, which looks packets up.
+//! It stands on `section_machine`, whose machines run the sections, on `shared_demux`, which looks packets up, and on
+//! `table_dump`.
 //!
 //! ```text
 //! let replies = run(&rt, alloc, &script, &capture)?;
@@ -11,6 +12,7 @@
 #![tactic(auto)]
 
 pub mod laws;
+mod listing;
 mod look;
 pub mod running;
 mod start;

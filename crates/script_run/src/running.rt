@@ -3,15 +3,16 @@
 ghost use Rattle.std.specs.Prelude.{◌≡◌, ◌<◌, ◌+◌, ◌-◌, ◌≤◌, ◌^◌, false, length, IfOk, OnOk};
 ghost use Rattle.flat_list.specs.Script.{IsSmall};
 ghost use Rattle.script_run.specs.Fits.{FitsTables};
-ghost use Rattle.script_run.specs.Looks.{Answers, Looked};
+ghost use Rattle.script_run.specs.Looks.{AnswersItem, Looked};
 ghost use Rattle.script_run.specs.Sole.{IsSole, tables_of};
 ghost use Rattle.script_run.specs.Steps.{AnswersAll, AreUnspoken, IsRunning, MayCarry, RefinesEach, RunsAs, RunsEach, commands_after};
 ghost use Rattle.section_machine.specs.Carried.{HasEnough, Spends};
 ghost use Rattle.section_machine.specs.Sections.{KeepsHeader};
 ghost use Rattle.section_machine.specs.Standing.{AreOf};
-ghost use Rattle.sock_script.specs.Output.{flat_replies};
+ghost use Rattle.sock_script.specs.Output.{flat_listings, flat_replies};
 ghost use Rattle.sock_script.specs.Steps.{takes_items};
 
+use crate::listing::list;
 use crate::look::look;
 use crate::start::start;
 use capture_reader::{Capture, Item};
@@ -19,6 +20,7 @@ use flat_list::owned::packet_of;
 use flat_list::{Command, Header, Reply, Script};
 use section_machine::{Machine, laws};
 use shared_ops::{Tables, Worker};
+use sock_script::Replies;
 use std::alloc::{AllocError, Global};
 use std::sync::Wait;
 
@@ -27,7 +29,7 @@ fn reply_to(tables: &Tables, worker: &mut Worker, item: &Item) -> Reply
     requires sole { IsSole tables.now worker.old }
     ensures sole { IsSole tables.now worker.new }
     ensures looked { Looked tables.now worker.old worker.new }
-    ensures answers { Answers (tables_of tables.now worker.old) item.now result }
+    ensures answers { AnswersItem (tables_of tables.now worker.old) item.now result }
 {
     match item {
         Item::Packet(packet) => Reply::Found(look(tables, worker, packet)),
@@ -82,13 +84,15 @@ fn step<R: Wait>(
     }
 }
 
-/// Runs one command of a machine's section, appends what is replied, and tells the items that are left then.
+/// Runs one command of a machine's section, appends what is replied and listed, and tells the items that are left
+/// then.
 fn run_command<'a, R: Wait>(
     rt: &R,
+    alloc: Global,
     tables: &Tables,
     worker: &mut Worker,
     machine: &mut Machine,
-    replies: &mut Vec<Reply>,
+    replies: &mut Replies,
     command: &Command,
     items: &'a [Item],
 ) -> Result<&'a [Item], AllocError>
@@ -99,28 +103,29 @@ fn run_command<'a, R: Wait>(
     ensures kept { KeepsHeader machine.old machine.new }
     ensures spends { OnOk result (Spends machine.old machine.new worker.old worker.new) }
     ensures runs { IfOk result (λ left. RunsEach machine.old (tables_of tables.now worker.old) command.now
-        items.now left.now replies.old.items replies.new.items
+        items.now left.now replies.old replies.new
         machine.new.own (tables_of tables.now worker.new)) }
 {
     if let Command::Packets { count } = command {
         let (next, left) = items.split_at((*count as usize).min(items.len()));
-        look_up(tables, worker, replies, next)?;
+        look_up(tables, worker, &mut replies.each, next)?;
         return Ok(left);
     }
+    list(rt, alloc, tables, worker, &mut replies.listings, command)?;
     let reply = step(rt, tables, worker, machine, command)?;
-    replies.push(reply)?;
+    replies.each.push(reply)?;
     Ok(items)
 }
 
-/// Runs the commands of section `n` on a machine of its own, appends what is replied, and tells the items that
-/// are left then.
+/// Runs the commands of section `n` on a machine of its own, appends what is replied and listed, and tells the
+/// items that are left then.
 fn run_section<'a, R: Wait>(
     rt: &R,
     alloc: Global,
     header: &Header,
     tables: &Tables,
     worker: &mut Worker,
-    replies: &mut Vec<Reply>,
+    replies: &mut Replies,
     n: u32,
     commands: &[Command],
     items: &'a [Item],
@@ -138,21 +143,30 @@ fn run_section<'a, R: Wait>(
     ensures may { OnOk result (MayCarry (commands_after n) worker.new) }
     ensures runs { IfOk result (λ left. RunsAs header.now n
         (tables_of tables.now worker.old) (tables_of tables.now worker.new) commands.now
-        items.now left.now replies.old.items replies.new.items) }
+        items.now left.now replies.old replies.new) }
 {
     laws::section_comes_next();
     let mut machine = Machine::new(alloc, header, n);
     let mut left = items;
     for command in commands {
-        left = run_command(rt, tables, worker, &mut machine, replies, command, left)?;
+        left = run_command(
+            rt,
+            alloc,
+            tables,
+            worker,
+            &mut machine,
+            replies,
+            command,
+            left,
+        )?;
     }
     Ok(left)
 }
 
 /// Runs a script's sections one after the other over new tables, looks up the packets of its capture that no
-/// command took, and gives what is replied to each command and each item.
+/// command took, and gives what is replied to each command and each item, and what each `dump` lists.
 ///
-/// Takes memory for the tables, the sockets and the replies.
+/// Takes memory for the tables, the sockets, the replies and the listings.
 ///
 /// # Errors
 ///
@@ -162,14 +176,15 @@ pub fn run<R: Wait>(
     alloc: Global,
     script: &Script,
     capture: &Capture,
-) -> Result<Vec<Reply>, AllocError>
+) -> Result<Replies, AllocError>
     requires small { IsSmall script.now }
     requires header { FitsTables script.now.header }
-    ensures { IfOk result (λ replies. replies.items ≡ flat_replies script.now capture.now.items) }
+    ensures replied { IfOk result (λ replies. replies.each ≡ flat_replies script.now capture.now.items) }
+    ensures listed { IfOk result (λ replies. replies.listings ≡ flat_listings script.now capture.now.items) }
 {
     let header = script.header();
     let (tables, mut worker) = start(alloc, header)?;
-    let mut replies = Vec::new(alloc);
+    let mut replies = Replies::new(alloc);
     let mut left = capture.items();
     for (i, commands) in script.sections().iter().enumerate() {
         left = run_section(
@@ -184,6 +199,6 @@ pub fn run<R: Wait>(
             left,
         )?;
     }
-    look_up(&tables, &mut worker, &mut replies, left)?;
+    look_up(&tables, &mut worker, &mut replies.each, left)?;
     Ok(replies)
 }

@@ -1,10 +1,13 @@
-//! A script of lookups alone, which needs no machine.
+//! A script of lookups alone, which needs no machine, and one that lists a listener.
 
 ghost use Rattle.std.specs.Prelude.{◌≡◌, length, IfOk};
 
 use crate::run;
 use capture_reader::Capture;
-use flat_list::{Command, End, Header, NONE_RESERVED, Query, Range, Reply, Script, Shape};
+use flat_list::{
+    Command, End, Header, Label, NONE_RESERVED, Options, Query, Range, Reply, Script, Shape,
+};
+use sock_card::{Card, Kind};
 use std::alloc::{AllocError, Global};
 use std::test::Fail;
 
@@ -51,6 +54,27 @@ fn looking(alloc: Global) -> Result<Vec<Command>, AllocError>
     Ok(section)
 }
 
+/// A section in which a socket listens, and all are listed.
+fn listening(alloc: Global) -> Result<Vec<Command>, AllocError>
+    ensures { IfOk result (λ section. length section.items ≡ 4) }
+{
+    let label = Label::from_bytes(b"a").unwrap();
+    let options = Options {
+        net: None,
+        uid: None,
+        dev: None,
+        reuseaddr: false,
+        reuseport: false,
+        noport: false,
+    };
+    let mut section = Vec::new(alloc);
+    section.push(Command::Socket { label, options })?;
+    section.push(Command::Bind { label, end: HERE })?;
+    section.push(Command::Listen { label })?;
+    section.push(Command::Dump)?;
+    Ok(section)
+}
+
 #[test]
 fn nothing_is_found_in_new_tables(rt: HostRuntime) -> Result<(), Fail> {
     let alloc = rt.alloc();
@@ -58,6 +82,33 @@ fn nothing_is_found_in_new_tables(rt: HostRuntime) -> Result<(), Fail> {
     sections.push(looking(alloc)?)?;
     let script = Script::new(HEADER, sections, None);
     let replies = run(&rt, alloc, &script, &Capture::new(alloc))?;
-    assert_eq!(rt; replies.as_slice(), [Reply::Found(None)].as_slice());
+    assert_eq!(rt; replies.each.as_slice(), [Reply::Found(None)].as_slice());
+    Ok(())
+}
+
+#[test]
+fn a_listener_is_listed(rt: HostRuntime) -> Result<(), Fail> {
+    let alloc = rt.alloc();
+    let mut sections = Vec::new(alloc);
+    sections.push(listening(alloc)?)?;
+    let script = Script::new(HEADER, sections, None);
+    let replies = run(&rt, alloc, &script, &Capture::new(alloc))?;
+    let card = Card {
+        local: HERE.addr,
+        lport: HERE.port,
+        remote: 0,
+        rport: 0,
+        dev: 0,
+        net: 0,
+        kind: Kind::Listen,
+        name: 0x0100_0001,
+        extra: 0,
+    };
+    let told = replies
+        .listings
+        .first()
+        .map(|l| (l.cards.len(), l.cards.first().copied(), l.span));
+    assert_eq!(rt; told, Some((1, Some(card), None)));
+    assert_eq!(rt; replies.each.last().copied(), Some(Reply::Ok));
     Ok(())
 }

@@ -76,12 +76,13 @@ pub record ReapsSome (own : Own) (deeds : List Deed) (next : Own) : Type 0 where
   pub rest : next ≡ record own { waits = next.waits }
 
 -- What the section keeps, by what was asked and done: what it had, past the offset of a search that began. The label of an
--- accepted child is given before anything is asked or done. `at` is never left off.
+-- accepted child is given before anything is asked or done. `at` and `dump` are never left off.
 abbrev pub Leaves : Own → Command → List Deed → List (Placed Entry) → Own → Type 0
 Leaves own (commands.Accept listener label from at) deeds back next =
     (next ≡ with_label own label) ⊎ IsUntouched own deeds back next
 Leaves own commands.Reap deeds back next = ReapsSome own deeds next
 Leaves own (commands.At moment) deeds back next = ⊥
+Leaves own commands.Dump deeds back next = ⊥
 Leaves own command deeds back next = next ≡ after_search (searches own command) own
 
 -- The command's plan went so far by these deeds, and was left off; a port that it had taken was given up. The pass of the

@@ -263,10 +263,12 @@ impl Machine {
             Command::At { moment } => Ok(self.at(tables, worker, *moment)),
             Command::Reap => self.reap(rt, tables, worker),
             Command::Look { .. } | Command::Packets { .. } => Ok(Reply::Einval),
+            Command::Dump => Ok(Reply::Ok),
         }
     }
 
-    /// Carries a command out, any but `look` and `packets`, whoever else is at the tables.
+    /// Carries a command out, any but `look` and `packets`, whoever else is at the tables. A `dump` does nothing here:
+    /// who carries a section's commands out makes the list.
     ///
     /// The command's plan goes by the entries and changes that this call made, and by no others, to the reply and to
     /// what the section keeps then; and the section is the worker's still. A worker that was never split isn't split by

@@ -13,7 +13,7 @@ use Rattle.table_rule.specs.Words.{bucket_count}
 use Rattle.table_rule.specs.declared.view.Layout.{Layout}
 use Rattle.table_rule.specs.declared.view.Sight.{Sight}
 use Rattle.table_rule.specs.declared.view.View.{View}
-use Rattle.shared_dump.specs.Books.{IsTrue}
+use Rattle.shared_dump.specs.Books.{AreTold}
 use Rattle.shared_dump.specs.Dumps.{Keeps, ListsAll, Saw}
 use Rattle.shared_dump.specs.Rows.{all_cards}
 use Rattle.shared_dump.specs.Sightings.{sightings}
@@ -58,7 +58,7 @@ module _ (v u w x : View) (t0 t1 : ℕ) (first : u ≡ seeing v t0) (last : x �
   each-of P (x ∷ xs) ys f = each-of P xs ys (λ n z. f (suc n) z)
 
   -- where the pass has all parts, its own book is the whole one
-  pub own_book : (layout : Layout) (dump : Dump) → dump.t1 ≡ t1 → WholeBook x t1 → Saw layout dump v x → Keeps v x → v.book.opened ≡ [] → v.slot.parts ≡ 16384 → IsTrue (mine x) (bucket_count layout) dump.t0 dump.t1 dump.items.items
+  pub own_book : (layout : Layout) (dump : Dump) → dump.t1 ≡ t1 → WholeBook x t1 → Saw layout dump v x → Keeps v x → v.book.opened ≡ [] → v.slot.parts ≡ 16384 → AreTold (mine x) (bucket_count layout) dump.t0 dump.t1 dump.items.items
   own_book layout dump b whole saw k idle parts =
       let truth = (whole (ap (λ y. y.parts) k.slot ∙ parts) (ap (λ y. y.opened) k.book ∙ idle)).2 in
       saw.told (mine x) (each-of (SightTrue (mine x)) (settled (settled v.sights dump.t0) dump.t1) (sightings dump.t0 dump.t1 0 saw.rows)

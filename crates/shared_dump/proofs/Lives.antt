@@ -16,7 +16,7 @@ use Rattle.table_rule.specs.declared.view.Sight.{Sight}
 use Rattle.table_rule.proofs.Lists.{each-append, times-here, times-else}
 use Rattle.shared_dump.specs.Rows.{cards_of, all_cards, IsChain}
 use Rattle.shared_dump.specs.Sightings.{sighting, sightings}
-use Rattle.shared_dump.specs.Books.{life_card, HaveOnePlace, AreApart, IsAmong, IsLife, IsTrue}
+use Rattle.shared_dump.specs.Books.{life_card, HaveOnePlace, AreApart, IsAmong, IsLife, AreTold}
 use Rattle.shared_dump.proofs.Cards.{card_told, map-both}
 
 abbrev AllStood : List Part → Sight → List Seen → Type 0
@@ -160,7 +160,7 @@ module _ (views : List Part) (t0 t1 : ℕ) where
       (λ ne. among_right h (lives_of views t0 t1 b xs xs k.0.listed) (all_lives (b + 1) rows k.1)
       (all_among (b + 1) rows k.1 chains.1 h in-book kind (omega (arith, low, ne)) (omega (arith, high)) there))
 
-  pub is_true : (buckets : ℕ) (rows : List (List Seen)) (items : List Card) → length rows ≡ buckets → items ≡ all_cards rows → Each IsChain rows → Each (SightTrue views) (sightings t0 t1 0 rows) → IsTrue views buckets t0 t1 items
+  pub is_true : (buckets : ℕ) (rows : List (List Seen)) (items : List Card) → length rows ≡ buckets → items ≡ all_cards rows → Each IsChain rows → Each (SightTrue views) (sightings t0 t1 0 rows) → AreTold views buckets t0 t1 items
   is_true buckets rows items each are chains k = record {
     lives = all_lives 0 rows k;
     cards = are ∙ all_told 0 rows k chains;

@@ -31,7 +31,7 @@ IsLife views t0 t1 h = InBook views h × (h.kind ≡ 1) × Stood views h t0 t1
 
 -- each item is the card of a life that stood at some time, no two of one life, and each life that was there throughout
 -- has its card listed
-pub record IsTrue (views : List Part) (buckets t0 t1 : ℕ) (items : List Card) : Type 0 where
+pub record AreTold (views : List Part) (buckets t0 t1 : ℕ) (items : List Card) : Type 0 where
   pub lives : List Change
   pub cards : items ≡ map life_card lives
   pub stood : Each (IsLife views t0 t1) lives

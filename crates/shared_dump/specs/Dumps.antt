@@ -3,7 +3,7 @@
 use Rattle.std.specs.Prelude.{◌≡◌, ℕ, List, ◌++◌, map, length}
 use Rattle.std.specs.List.{range_with_len}
 use Rattle.sock_card.specs.declared.card.Card.{Card}
-use Rattle.shared_dump.specs.Books.{IsTrue}
+use Rattle.shared_dump.specs.Books.{AreTold}
 use Rattle.shared_dump.specs.Rows.{all_cards, IsChain}
 use Rattle.shared_dump.specs.Sightings.{sightings}
 use Rattle.shared_dump.specs.declared.dumping.Dump.{Dump}
@@ -50,4 +50,4 @@ pub record Saw (layout : Layout) (dump : Dump) (v w : View) : Type 0 where
   pub each : length rows ≡ bucket_count layout
   pub items : dump.items.items ≡ all_cards rows
   pub sights : w.sights ≡ settled (settled v.sights dump.t0) dump.t1 ++ sightings dump.t0 dump.t1 0 rows
-  pub told : (views : List Part) → Each (SightTrue views) (sightings dump.t0 dump.t1 0 rows) → IsTrue views (bucket_count layout) dump.t0 dump.t1 dump.items.items
+  pub told : (views : List Part) → Each (SightTrue views) (sightings dump.t0 dump.t1 0 rows) → AreTold views (bucket_count layout) dump.t0 dump.t1 dump.items.items

@@ -1,7 +1,7 @@
 //! The sockets of all buckets.
 
 ghost use Rattle.std.specs.Prelude.{◌≡◌, ◌<◌, ◌≤◌, ◌^◌, [], IfOk};
-ghost use Rattle.shared_dump.specs.Books.{IsTrue};
+ghost use Rattle.shared_dump.specs.Books.{AreTold};
 ghost use Rattle.shared_dump.specs.Dumps.{Keeps, ListsAll, Saw, cards_from};
 ghost use Rattle.table_rule.specs.Alone.{mine};
 ghost use Rattle.table_rule.specs.Calls.{IsOf, IsIdle, view, layout_of};
@@ -78,7 +78,7 @@ pub fn dump_sockets<R: Wait>(
     ensures span { IfOk result (λ d. d.t0 ≤ d.t1) }
     ensures ends { IfOk result (λ d. (known pass.new).seen ≡ d.t1) }
     ensures saw { IfOk result (λ d. Saw (layout_of chains.now) d (known pass.old) (known pass.new)) }
-    ensures own { IfOk result (λ d. (known pass.old).slot.parts ≡ 16384 → IsTrue (mine (known pass.new)) (bucket_count (layout_of chains.now)) d.t0 d.t1 d.items.items) }
+    ensures own { IfOk result (λ d. (known pass.old).slot.parts ≡ 16384 → AreTold (mine (known pass.new)) (bucket_count (layout_of chains.now)) d.t0 d.t1 d.items.items) }
     ensures sole { IfOk result (λ d. IsSole (known pass.old) → d.items.items ≡ cards_from (layout_of chains.now) (known pass.old).book.closed) }
 {
     let t0 = chains.step_clock(&mut pass.steps);

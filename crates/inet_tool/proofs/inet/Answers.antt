@@ -7,13 +7,13 @@ use Rattle.inet_tool.specs.declared.fault.Fault.TheVariants as faults
 use Rattle.inet_tool.specs.declared.status.Status.TheVariants as statuses
 use Rattle.inet_tool.specs.Table.{limit, HasFault, IsGood, IsRaceOf, WritesCounts, WritesFault, WritesFront, WritesFrontOfCounts, WritesRace}
 use Rattle.inet_tool.specs.Verdict.{Answers, fault_status}
-use Rattle.inet_tool.specs.Words.{Asks, IsRace, Reads}
+use Rattle.inet_tool.specs.Words.{Asks, IsRace, AsksToRead}
 use Rattle.inet_tool.proofs.Asks.{by_mode, one_make, one_race, read_or_made, refused_read}
 use Rattle.inet_tool.proofs.inet.Goals as goal
 
 pub returns-in-Ok-Run-clause-bad_script : goal.returns-in-Ok-Run-clause-bad_script
 returns-in-Ok-Run-clause-bad_script g c =
-    let reads : Reads modes.Run (map string_bytes c.args.words.now) = subst (Asks (map string_bytes c.args.words.now)) c.in-Ok-Run.field-0-is c.in-Ok-Run.ensures.asks in
+    let reads : AsksToRead modes.Run (map string_bytes c.args.words.now) = subst (Asks (map string_bytes c.args.words.now)) c.in-Ok-Run.field-0-is c.in-Ok-Run.ensures.asks in
     let left = g.S.Source.left c.args.source.now in
     let left_new = g.S.Source.left c.run.new.source in
     let written = g.K.Sink.written c.args.sink.now in
@@ -22,7 +22,7 @@ returns-in-Ok-Run-clause-bad_script g c =
 
 pub returns-in-Ok-Run-clause-bad_capture : goal.returns-in-Ok-Run-clause-bad_capture
 returns-in-Ok-Run-clause-bad_capture g c =
-    let reads : Reads modes.Run (map string_bytes c.args.words.now) = subst (Asks (map string_bytes c.args.words.now)) c.in-Ok-Run.field-0-is c.in-Ok-Run.ensures.asks in
+    let reads : AsksToRead modes.Run (map string_bytes c.args.words.now) = subst (Asks (map string_bytes c.args.words.now)) c.in-Ok-Run.field-0-is c.in-Ok-Run.ensures.asks in
     let left = g.S.Source.left c.args.source.now in
     let left_new = g.S.Source.left c.run.new.source in
     let written = g.K.Sink.written c.args.sink.now in
@@ -31,7 +31,7 @@ returns-in-Ok-Run-clause-bad_capture g c =
 
 pub returns-in-Ok-Run-clause-verdict : goal.returns-in-Ok-Run-clause-verdict
 returns-in-Ok-Run-clause-verdict g c =
-    let reads : Reads modes.Run (map string_bytes c.args.words.now) = subst (Asks (map string_bytes c.args.words.now)) c.in-Ok-Run.field-0-is c.in-Ok-Run.ensures.asks in
+    let reads : AsksToRead modes.Run (map string_bytes c.args.words.now) = subst (Asks (map string_bytes c.args.words.now)) c.in-Ok-Run.field-0-is c.in-Ok-Run.ensures.asks in
     let left = g.S.Source.left c.args.source.now in
     let left_new = g.S.Source.left c.run.new.source in
     let written = g.K.Sink.written c.args.sink.now in
@@ -40,7 +40,7 @@ returns-in-Ok-Run-clause-verdict g c =
 
 pub returns-in-Ok-Run-clause-over_limit : goal.returns-in-Ok-Run-clause-over_limit
 returns-in-Ok-Run-clause-over_limit g c =
-    let reads : Reads modes.Run (map string_bytes c.args.words.now) = subst (Asks (map string_bytes c.args.words.now)) c.in-Ok-Run.field-0-is c.in-Ok-Run.ensures.asks in
+    let reads : AsksToRead modes.Run (map string_bytes c.args.words.now) = subst (Asks (map string_bytes c.args.words.now)) c.in-Ok-Run.field-0-is c.in-Ok-Run.ensures.asks in
     let left = g.S.Source.left c.args.source.now in
     let left_new = g.S.Source.left c.run.new.source in
     let written = g.K.Sink.written c.args.sink.now in
@@ -49,7 +49,7 @@ returns-in-Ok-Run-clause-over_limit g c =
 
 pub returns-in-Ok-Run-clause-broken : goal.returns-in-Ok-Run-clause-broken
 returns-in-Ok-Run-clause-broken g c =
-    let reads : Reads modes.Run (map string_bytes c.args.words.now) = subst (Asks (map string_bytes c.args.words.now)) c.in-Ok-Run.field-0-is c.in-Ok-Run.ensures.asks in
+    let reads : AsksToRead modes.Run (map string_bytes c.args.words.now) = subst (Asks (map string_bytes c.args.words.now)) c.in-Ok-Run.field-0-is c.in-Ok-Run.ensures.asks in
     let left = g.S.Source.left c.args.source.now in
     let left_new = g.S.Source.left c.run.new.source in
     let written = g.K.Sink.written c.args.sink.now in
@@ -58,7 +58,7 @@ returns-in-Ok-Run-clause-broken g c =
 
 pub returns-in-Ok-Run-clause-complete : goal.returns-in-Ok-Run-clause-complete
 returns-in-Ok-Run-clause-complete g c =
-    let reads : Reads modes.Run (map string_bytes c.args.words.now) = subst (Asks (map string_bytes c.args.words.now)) c.in-Ok-Run.field-0-is c.in-Ok-Run.ensures.asks in
+    let reads : AsksToRead modes.Run (map string_bytes c.args.words.now) = subst (Asks (map string_bytes c.args.words.now)) c.in-Ok-Run.field-0-is c.in-Ok-Run.ensures.asks in
     let left = g.S.Source.left c.args.source.now in
     let left_new = g.S.Source.left c.run.new.source in
     let written = g.K.Sink.written c.args.sink.now in
@@ -69,7 +69,7 @@ returns-in-Ok-Run-clause-complete g c =
 pub returns-in-Ok-Race-clause-bad_script : goal.returns-in-Ok-Race-clause-bad_script
 returns-in-Ok-Race-clause-bad_script g c =
     let asks : IsRace (map string_bytes c.args.words.now) c.in-Ok-Race.lookers c.in-Ok-Race.passes = subst (Asks (map string_bytes c.args.words.now)) c.in-Ok-Race.field-0-is c.in-Ok-Race.ensures.asks in
-    let reads : Reads modes.Race (map string_bytes c.args.words.now) = (c.in-Ok-Race.lookers, c.in-Ok-Race.passes, asks) in
+    let reads : AsksToRead modes.Race (map string_bytes c.args.words.now) = (c.in-Ok-Race.lookers, c.in-Ok-Race.passes, asks) in
     let left = g.S.Source.left c.args.source.now in
     let left_new = g.S.Source.left c.serve.new.source in
     let written = g.K.Sink.written c.args.sink.now in
@@ -79,7 +79,7 @@ returns-in-Ok-Race-clause-bad_script g c =
 pub returns-in-Ok-Race-clause-bad_capture : goal.returns-in-Ok-Race-clause-bad_capture
 returns-in-Ok-Race-clause-bad_capture g c =
     let asks : IsRace (map string_bytes c.args.words.now) c.in-Ok-Race.lookers c.in-Ok-Race.passes = subst (Asks (map string_bytes c.args.words.now)) c.in-Ok-Race.field-0-is c.in-Ok-Race.ensures.asks in
-    let reads : Reads modes.Race (map string_bytes c.args.words.now) = (c.in-Ok-Race.lookers, c.in-Ok-Race.passes, asks) in
+    let reads : AsksToRead modes.Race (map string_bytes c.args.words.now) = (c.in-Ok-Race.lookers, c.in-Ok-Race.passes, asks) in
     let left = g.S.Source.left c.args.source.now in
     let left_new = g.S.Source.left c.serve.new.source in
     let written = g.K.Sink.written c.args.sink.now in
@@ -89,7 +89,7 @@ returns-in-Ok-Race-clause-bad_capture g c =
 pub returns-in-Ok-Race-clause-verdict : goal.returns-in-Ok-Race-clause-verdict
 returns-in-Ok-Race-clause-verdict g c =
     let asks : IsRace (map string_bytes c.args.words.now) c.in-Ok-Race.lookers c.in-Ok-Race.passes = subst (Asks (map string_bytes c.args.words.now)) c.in-Ok-Race.field-0-is c.in-Ok-Race.ensures.asks in
-    let reads : Reads modes.Race (map string_bytes c.args.words.now) = (c.in-Ok-Race.lookers, c.in-Ok-Race.passes, asks) in
+    let reads : AsksToRead modes.Race (map string_bytes c.args.words.now) = (c.in-Ok-Race.lookers, c.in-Ok-Race.passes, asks) in
     let left = g.S.Source.left c.args.source.now in
     let left_new = g.S.Source.left c.serve.new.source in
     let written = g.K.Sink.written c.args.sink.now in
@@ -99,7 +99,7 @@ returns-in-Ok-Race-clause-verdict g c =
 pub returns-in-Ok-Race-clause-over_limit : goal.returns-in-Ok-Race-clause-over_limit
 returns-in-Ok-Race-clause-over_limit g c =
     let asks : IsRace (map string_bytes c.args.words.now) c.in-Ok-Race.lookers c.in-Ok-Race.passes = subst (Asks (map string_bytes c.args.words.now)) c.in-Ok-Race.field-0-is c.in-Ok-Race.ensures.asks in
-    let reads : Reads modes.Race (map string_bytes c.args.words.now) = (c.in-Ok-Race.lookers, c.in-Ok-Race.passes, asks) in
+    let reads : AsksToRead modes.Race (map string_bytes c.args.words.now) = (c.in-Ok-Race.lookers, c.in-Ok-Race.passes, asks) in
     let left = g.S.Source.left c.args.source.now in
     let left_new = g.S.Source.left c.serve.new.source in
     let written = g.K.Sink.written c.args.sink.now in
@@ -109,7 +109,7 @@ returns-in-Ok-Race-clause-over_limit g c =
 pub returns-in-Ok-Race-clause-broken : goal.returns-in-Ok-Race-clause-broken
 returns-in-Ok-Race-clause-broken g c =
     let asks : IsRace (map string_bytes c.args.words.now) c.in-Ok-Race.lookers c.in-Ok-Race.passes = subst (Asks (map string_bytes c.args.words.now)) c.in-Ok-Race.field-0-is c.in-Ok-Race.ensures.asks in
-    let reads : Reads modes.Race (map string_bytes c.args.words.now) = (c.in-Ok-Race.lookers, c.in-Ok-Race.passes, asks) in
+    let reads : AsksToRead modes.Race (map string_bytes c.args.words.now) = (c.in-Ok-Race.lookers, c.in-Ok-Race.passes, asks) in
     let left = g.S.Source.left c.args.source.now in
     let left_new = g.S.Source.left c.serve.new.source in
     let written = g.K.Sink.written c.args.sink.now in
@@ -119,7 +119,7 @@ returns-in-Ok-Race-clause-broken g c =
 pub returns-in-Ok-Race-clause-complete : goal.returns-in-Ok-Race-clause-complete
 returns-in-Ok-Race-clause-complete g c =
     let asks : IsRace (map string_bytes c.args.words.now) c.in-Ok-Race.lookers c.in-Ok-Race.passes = subst (Asks (map string_bytes c.args.words.now)) c.in-Ok-Race.field-0-is c.in-Ok-Race.ensures.asks in
-    let reads : Reads modes.Race (map string_bytes c.args.words.now) = (c.in-Ok-Race.lookers, c.in-Ok-Race.passes, asks) in
+    let reads : AsksToRead modes.Race (map string_bytes c.args.words.now) = (c.in-Ok-Race.lookers, c.in-Ok-Race.passes, asks) in
     let left = g.S.Source.left c.args.source.now in
     let left_new = g.S.Source.left c.serve.new.source in
     let written = g.K.Sink.written c.args.sink.now in

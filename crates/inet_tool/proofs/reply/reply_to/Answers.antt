@@ -1,11 +1,11 @@
-use Rattle.std.proofs.Common.{rules, ◌≡◌, ◌∙◌, ap}
+use Rattle.std.proofs.Common.{rules, ap, ◌≡◌, ◌∙◌}
 use Rattle.std.specs.Prelude.{Err}
 use Rattle.capture_reader.specs.declared.capture.CaptureEnd.TheVariants as ends
 use Rattle.inet_tool.specs.declared.fault.Fault.TheVariants as faults
 use Rattle.inet_tool.specs.Table.{IsRunOf}
 use Rattle.inet_tool.proofs.Faults.{bad_reply}
 use Rattle.sock_script.specs.declared.parse.Mode.TheVariants as modes
-use Rattle.sock_script.specs.Output.{script_text}
+use Rattle.sock_script.specs.Output.{Replies, script_text}
 use Rattle.sock_script.proofs.SoundLists.{texts_sound}
 use Rattle.script_run.proofs.HeadersFit.{scripts_fit}
 use Rattle.inet_tool.proofs.reply.reply_to.Goals as goal
@@ -19,7 +19,10 @@ returns g c = (
     c.in-Ok.script,
     c.in-Ok-read.capture,
     record { script_is = c.in-Ok.ensures.script; capture_is = c.in-Ok-read.ensures.capture },
-    c.in_ok-text.ensures ∙ ap (script_text c.in-Ok.script c.in-Ok-read.capture) (c.deref.ensures.value ∙ c.in_ok-replies.ensures),
+    c.in_ok-text.ensures
+        ∙ λ i. script_text c.in-Ok.script c.in-Ok-read.capture
+        ((c.deref.ensures.value ∙ ap (λ (r : Replies). r.each) c.replies.view_is ∙ c.in_ok-replies.ensures.replied) i)
+        ((c.deref-2.ensures.value ∙ ap (λ (r : Replies). r.listings) c.replies.view_is ∙ c.in_ok-replies.ensures.listed) i),
   ),
   λ script is. texts_sound modes.Run c.args.bytes.now script c.requires is,
 )

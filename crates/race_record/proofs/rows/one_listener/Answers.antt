@@ -1,4 +1,4 @@
-use Rattle.std.proofs.Common.{◌≡◌, [], ◌∷◌, refl, arith}
+use Rattle.std.proofs.Common.{refl, arith}
 use Rattle.list_words.specs.Lists.{Each}
 use Rattle.sock_card.specs.Conflict.{overlap, refuses, agree}
 use Rattle.jhash_words.specs.Jhash.{jhash_1word, jhash_3words, started_mix, final_mix, mixed}
@@ -64,6 +64,7 @@ returns c = record {
   serial = serial;
   taken = (tt, (tt, (tt, tt)));
   slots = (tt, (tt, (tt, tt)));
+  dumps = (refl, (refl, (refl, tt)));
   items = tt;
   shares = record { count = refl; each_once = λ f. refl; turns = (record { ascend = tt; turns = tt }, tt) };
   cut = refl;

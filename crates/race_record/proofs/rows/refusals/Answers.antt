@@ -125,6 +125,7 @@ returns c = record {
   serial = serial;
   taken = (tt, (tt, (tt, (tt, (tt, (tt, (tt, (tt, (tt, ((kept, tt), (tt, (tt, (tt, tt)))))))))))));
   slots = (tt, (tt, (tt, (tt, (tt, (tt, (tt, (tt, (tt, (tt, (tt, (tt, ((used, tt), tt)))))))))))));
+  dumps = (refl, (refl, (refl, (refl, (refl, (refl, (refl, (refl, (refl, (refl, (refl, (refl, (refl, tt)))))))))))));
   items = items;
   shares = shares;
   cut = refl;

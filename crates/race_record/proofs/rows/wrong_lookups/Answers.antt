@@ -1,5 +1,4 @@
-use Rattle.std.proofs.Common.{◌≡◌, ℕ, ◌≤◌, ◌<◌, List, [], ◌∷◌, refl, sym, ap, ◌∙◌, subst, arith, inl, inr}
-use Rattle.std.proofs.lemmas.Bool.{true≢false}
+use Rattle.std.proofs.Common.{◌≡◌, ℕ, List, [], ◌∷◌, refl, ap, subst, arith, inl, inr}
 use Rattle.jhash_words.specs.Jhash.{jhash_1word, jhash_3words, started_mix, final_mix, mixed}
 use Rattle.jhash_words.specs.Places.{tuple_hash, listen_hash}
 use Rattle.sock_card.specs.Rank.{rank}
@@ -7,8 +6,8 @@ use Rattle.chain_book.specs.declared.book.Change.{Change}
 use Rattle.chain_book.specs.Homes.{home}
 use Rattle.race_book.specs.Among.{Among}
 use Rattle.race_book.specs.Explained.{IsAtHome, IsOfSlot, MeetsSome, buckets_of}
-use Rattle.race_book.specs.Lives.{Throughout, comes_after}
 use Rattle.race_record.specs.Worked.{first_race, hash_a, packet}
+use Rattle.race_record.proofs.Listener.{lives, stays}
 use Rattle.race_record.proofs.rows.wrong_lookups.Goals as goal
 
 at_home : IsAtHome first_race.shape 0 hash_a
@@ -19,14 +18,8 @@ matches : rank hash_a.card (packet 0x0A000001 80) ≡ 3
 unfolding rank
 matches = refl
 
-stays : Throughout (Among first_race.book) hash_a 2 2
-stays = record {
-  before = omega arith;
-  still = λ u a t. elim a as (λ _. 2 ≤ u.begin) [ inl e ↦ absurd (true≢false (sym t ∙ ap (comes_after hash_a) e)) | inr b ↦ absurd b ];
-}
-
 pub returns-clause-nothing : goal.returns-clause-nothing
-returns-clause-nothing c l = l.items.0.explained hash_a (record { there = inl refl; hash = refl }) at_home (omega (arith, matches)) stays
+returns-clause-nothing c l = l.items.0.explained hash_a lives at_home (omega (arith, matches)) stays
 
 pub returns-clause-start : goal.returns-clause-start
 returns-clause-start c l = omega (arith, l.shares.turns.0.turns.0.0)

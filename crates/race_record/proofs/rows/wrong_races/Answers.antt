@@ -1,7 +1,6 @@
-use Rattle.std.proofs.Common.{◌≡◌, ℕ, ◌<◌, ◌==◌, ◌&&◌, true, nat_lt, List, [], ◌∷◌, refl, sym, ap, ◌∙◌, subst, arith, inl, inr, ◌⊎◌}
+use Rattle.std.proofs.Common.{◌≡◌, ◌==◌, ◌&&◌, true, nat_lt, [], ◌∷◌, refl, sym, ap, ◌∙◌, subst, arith, inl, inr}
 use Rattle.std.proofs.lemmas.Bool.{true≢false}
 use Rattle.sock_card.specs.declared.card.Card.{Card}
-use Rattle.bind_buckets.specs.OwnerStep.{owner_step}
 use Rattle.chain_book.specs.declared.book.Act.{Act}
 use Rattle.chain_book.specs.declared.book.Act.TheVariants as acts
 use Rattle.chain_book.specs.declared.book.Change.{Change}
@@ -15,7 +14,7 @@ use Rattle.race_book.specs.Lives.{Leaves, comes_after, is_hash, is_unhash}
 use Rattle.race_book.specs.Serial.{EndsOne}
 use Rattle.race_record.specs.Goes.{Goes}
 use Rattle.race_record.specs.Deeds.{entered}
-use Rattle.race_record.specs.Worked.{first_bind, hash_a, card_a, card_e}
+use Rattle.race_record.specs.Worked.{first_bind, card_a, card_e}
 use Rattle.race_record.specs.Refused as refused
 use Rattle.race_record.specs.Wrong.{twice_script, second_bind, twins_race, twin_b, drop_race, unhash_other}
 use Rattle.race_record.proofs.rows.wrong_races.Goals as goal

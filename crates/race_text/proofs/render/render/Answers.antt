@@ -17,6 +17,7 @@ returns c =
       shape = c.told.inside.shape;
       seed = c.told.inside.seed;
       replies = c.told.inside.replies.items;
+      listings = c.told.inside.listings.items;
       journals = c.told.inside.journals.items;
       book = c.told.inside.book.items;
       looked = c.told.inside.looked.items;
@@ -25,5 +26,5 @@ returns c =
     } in
     whole c.args.script.now.sections r _ c.in_ok-lives.lives.items c.in_ok-commands.commands.items _ _ c.new-out.result.items c.put_race.new.out.items c.put_shape.new.out.items c.put.new.out.items
     c.put_journals.new.out.items c.put_lives.new.out.items c.put_looked_lines.new.out.items c.put_cut.new.out.items c.put_clock.new.out.items
-    names (c.in_ok-lives.ensures ∙ ap lives_of c.deref-2.ensures.value) (c.in_ok-commands.ensures ∙ (λ i. script_text c.args.script.now (c.new.ensures i) (c.deref.ensures.value i)) ∙ append-nil _) c.deref-4.ensures.value c.deref-6.ensures.value c.new-out.ensures.items c.in_ok-put_race.ensures c.in_ok-put_shape.ensures (c.in_ok-put.ensures ∙ ap (λ t. c.put_shape.new.out.items ++ t) c.deref-3.ensures.value) c.in_ok-put_journals.ensures (c.in_ok-put_lives.ensures ∙ ap (λ ls. c.put_journals.new.out.items ++ flat_map (life_line (label_of c.in_ok-labels.labels)) ls) c.deref-5.ensures.value) c.in_ok-put_looked_lines.ensures c.in_ok-put_cut.ensures c.in_ok-put_clock.ensures
+    names (c.in_ok-lives.ensures ∙ ap lives_of c.deref-3.ensures.value) (c.in_ok-commands.ensures ∙ (λ i. script_text c.args.script.now (c.new.ensures i) (c.deref.ensures.value i) (c.deref-2.ensures.value i)) ∙ append-nil _) c.deref-5.ensures.value c.deref-7.ensures.value c.new-out.ensures.items c.in_ok-put_race.ensures c.in_ok-put_shape.ensures (c.in_ok-put.ensures ∙ ap (λ t. c.put_shape.new.out.items ++ t) c.deref-4.ensures.value) c.in_ok-put_journals.ensures (c.in_ok-put_lives.ensures ∙ ap (λ ls. c.put_journals.new.out.items ++ flat_map (life_line (label_of c.in_ok-labels.labels)) ls) c.deref-6.ensures.value) c.in_ok-put_looked_lines.ensures c.in_ok-put_cut.ensures c.in_ok-put_clock.ensures
     ∙ ap (told_text c.args.script.now.sections) c.told.view_is

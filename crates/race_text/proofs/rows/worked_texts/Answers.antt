@@ -1,8 +1,8 @@
 use Rattle.std.proofs.Common.{◌≡◌}
 use Rattle.race_record.specs.Refused.{refused_race}
-use Rattle.race_record.specs.Worked.{first_race, second_race}
+use Rattle.race_record.specs.Worked.{dump_race, first_race, second_race}
 use Rattle.race_text.specs.Render.{render}
-use Rattle.race_text.specs.Texts.{first_text, refused_text, second_text}
+use Rattle.race_text.specs.Texts.{dump_text, first_text, refused_text, second_text}
 use Rattle.race_text.proofs.Numbers.{d0, d1, d2, d3, d4, d5, d6, d7, d8, d9, d10, d11, d12, d13, d14, d60, d80, d90, d91, d92, d1000}
 use Rattle.race_text.proofs.rows.worked_texts.Goals as goal
 
@@ -12,6 +12,13 @@ one = simp (d0, d1, d2, d3, d10, d80)
 
 pub returns-clause-one : goal.returns-clause-one
 returns-clause-one c = one
+
+dump : render dump_race ≡ dump_text
+unfolding render
+dump = simp (d0, d1, d2, d3, d10, d80)
+
+pub returns-clause-dump : goal.returns-clause-dump
+returns-clause-dump c = dump
 
 two : render second_race ≡ second_text
 unfolding render

@@ -27,7 +27,7 @@ loop-number-preserved c =
             drawn = ap (λ (v : TicketView). v.drawn) p.new;
           })
           refl
-          c.new.ensures.items c.new-in-loop-number.ensures.items c.push_reserved.ensures.items;
+          c.new.ensures.items c.new-in-loop-number.ensures.items c.new-in-loop-number-2.ensures.items c.push_reserved.ensures.items;
       len = omega (arith, c.push_reserved.ensures.len, i.len);
       room = omega (arith, c.push_reserved.ensures.capacity, i.room);
     }

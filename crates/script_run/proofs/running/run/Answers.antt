@@ -1,12 +1,12 @@
 use Rattle.std.proofs.Common.{◌≡◌, ℕ, ◌+◌, ◌-◌, ◌∙◌, [], length, ap, subst, sym, arith}
 use Rattle.std.proofs.lemmas.List.{length-map}
-use Rattle.sock_script.specs.Output.{replies_from, events_from, issued_from}
+use Rattle.sock_script.specs.Output.{Replies, listings_from, replies_from, events_from, issued_from}
 use Rattle.flat_list.specs.Flat.{new_flat}
 use Rattle.sock_script.proofs.RunTurns.{commands_at, has_room}
 use Rattle.script_run.specs.Fits.{FitsTables}
 use Rattle.script_run.specs.Sole.{tables_of}
 use Rattle.script_run.specs.Steps.{MayCarry, commands_after}
-use Rattle.script_run.proofs.SectionTurns.{Ran, ran_none, ran_next, ran_every}
+use Rattle.script_run.proofs.SectionTurns.{Ran, ran_none, ran_next, every_replied, every_listed}
 use Rattle.script_run.proofs.running.run.Goals as goal
 
 -- the sections before the next one
@@ -17,12 +17,12 @@ pub loop-i-init : goal.loop-i-init
 loop-i-init g c =
     let e = c.in_ok-tables.ensures in
     let header = c.header-header.result.now in
-    rw c.new-replies.ensures.items
+    rw c.new-replies.ensures
     (record {
       sole = e.sole;
       unspoken = e.unspoken;
       may = e.may;
-      ran = subst (λ xs. Ran header c.args.script.now.sections xs c.items-left.result.now [] 0 (tables_of c.in_ok-tables.tables c.in_ok-tables.worker)) c.items-left.ensures
+      ran = subst (λ xs. Ran header c.args.script.now.sections xs c.items-left.result.now (record { each = []; listings = [] }) 0 (tables_of c.in_ok-tables.tables c.in_ok-tables.worker)) c.items-left.ensures
           (ran_none header c.args.script.now.sections c.items-left.result.now (tables_of c.in_ok-tables.tables c.in_ok-tables.worker) (subst FitsTables (sym c.header-header.ensures) c.requires.header) e.empty);
     })
 
@@ -30,7 +30,7 @@ pub run_section-requires : goal.run_section-requires
 run_section-requires g c =
     let at = commands_at _ c.args.script.now.sections c.loop-i.i c.commands-item.result c.sections-commands-items.ensures c.loop-i-test.true c.commands-item.is in
     let i = c.loop-i.invariant in
-    let room = has_room (new_flat c.header-header.result.now) i.ran.flat c.args.script.now c.args.capture.now.items c.loop-i.left.now c.loop-i.replies.items c.loop-i.i c.commands-item.result.items c.requires.small at.0 at.1 i.ran.ran in
+    let room = has_room (new_flat c.header-header.result.now) i.ran.flat c.args.script.now c.args.capture.now.items c.loop-i.left.now c.loop-i.replies c.loop-i.i c.commands-item.result.items c.requires.small at.0 at.1 i.ran.ran in
     record {
       header = subst FitsTables (sym c.header-header.ensures) c.requires.header;
       tables = c.in_ok-tables.ensures.of;
@@ -50,14 +50,34 @@ loop-i-preserved g c =
       sole = e.sole;
       unspoken = e.unspoken;
       may = e.may;
-      ran = ran_next c.header-header.result.now c.args.script.now.sections c.args.capture.now.items c.loop-i.left.now c.in_ok-left.left.now c.loop-i.replies.items c.run_section.new.replies.items c.loop-i.i (tables_of c.in_ok-tables.tables c.loop-i.worker) (tables_of c.in_ok-tables.tables c.run_section.new.worker) c.commands-item.result.items at.0 at.1
+      ran = ran_next c.header-header.result.now c.args.script.now.sections c.args.capture.now.items c.loop-i.left.now c.in_ok-left.left.now c.loop-i.replies c.run_section.new.replies c.loop-i.i (tables_of c.in_ok-tables.tables c.loop-i.worker) (tables_of c.in_ok-tables.tables c.run_section.new.worker) c.commands-item.result.items at.0 at.1
           (rw c.deref.ensures.value at e.runs) c.loop-i.invariant.ran;
     }
 
-pub returns : goal.returns
-returns g c =
+pub returns-clause-replied : goal.returns-clause-replied
+returns-clause-replied g c =
+    let header = c.header-header.result.now in
     let sections = c.args.script.now.sections in
     let items = c.args.capture.now.items in
-    ran_every c.header-header.result.now sections items c.loop-i.left.now c.loop-i.replies.items c.look_up.new.replies.items c.loop-i.i (tables_of c.in_ok-tables.tables c.loop-i.worker)
-    (omega (arith, ap length c.sections-commands-items.ensures, length-map c.sections-commands-items.result.now (λ v. v.items))) c.loop-i.invariant.ran c.in_ok-look_up.ensures.answers
+    let left = c.loop-i.left.now in
+    let t = tables_of c.in_ok-tables.tables c.loop-i.worker in
+    let out : Replies = record { each = c.replies-2.inside.each.items; listings = c.replies-2.inside.listings.items } in
+    let ran : Ran header sections items left out c.loop-i.i t =
+    subst (λ (r : Replies). Ran header sections items left r c.loop-i.i t) (sym c.replies-2.view_is) c.loop-i.invariant.ran in
+    every_replied header sections items left out c.look_up.new.replies.items c.loop-i.i t
+    (omega (arith, ap length c.sections-commands-items.ensures, length-map c.sections-commands-items.result.now (λ v. v.items))) ran c.in_ok-look_up.ensures.answers
     ∙ ap (λ h. replies_from (new_flat h) (events_from items (issued_from 1 sections))) c.header-header.ensures
+
+pub returns-clause-listed : goal.returns-clause-listed
+returns-clause-listed g c =
+    let header = c.header-header.result.now in
+    let sections = c.args.script.now.sections in
+    let items = c.args.capture.now.items in
+    let left = c.loop-i.left.now in
+    let t = tables_of c.in_ok-tables.tables c.loop-i.worker in
+    let out : Replies = record { each = c.replies-2.inside.each.items; listings = c.replies-2.inside.listings.items } in
+    let ran : Ran header sections items left out c.loop-i.i t =
+    subst (λ (r : Replies). Ran header sections items left r c.loop-i.i t) (sym c.replies-2.view_is) c.loop-i.invariant.ran in
+    every_listed header sections items left out c.look_up.new.replies.items c.loop-i.i t
+    (omega (arith, ap length c.sections-commands-items.ensures, length-map c.sections-commands-items.result.now (λ v. v.items))) ran c.in_ok-look_up.ensures.answers
+    ∙ ap (λ h. listings_from (new_flat h) (events_from items (issued_from 1 sections))) c.header-header.ensures

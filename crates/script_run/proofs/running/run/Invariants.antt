@@ -9,5 +9,5 @@ invariant-loop-i g l = record {
   sole : IsSole l.tables l.worker;
   unspoken : AreUnspoken (l.i + 1) l.worker;
   may : MayCarry (commands_after l.i) l.worker;
-  ran : Ran l.header l.script.sections l.capture.items l.left l.replies.items l.i (tables_of l.tables l.worker);
+  ran : Ran l.header l.script.sections l.capture.items l.left l.replies l.i (tables_of l.tables l.worker);
 }

@@ -30,7 +30,7 @@ loop-command-init g c =
       labels = omega (arith, labels);
       number = ap (λ (x : Kept). x.own.number) c.new-machine.ensures;
       may = go_on_first all k w waits (carry_fewer (commands_after (c.args.n - 1)) all w few c.requires.may);
-      turns = turns_start c.args.header.now c.args.n (tables_of t w) c.args.commands.now c.args.items.now c.args.replies.now.items k c.requires.first c.new-machine.ensures;
+      turns = turns_start c.args.header.now c.args.n (tables_of t w) c.args.commands.now c.args.items.now c.args.replies.now k c.requires.first c.new-machine.ensures;
     }
 
 pub run_command-requires : goal.run_command-requires
@@ -55,8 +55,8 @@ loop-command-preserved g c =
       number = e.kept.number ∙ i.number;
       may = go_on_next (length c.args.commands.now - (c.loop-command.command-index + 1) + commands_after c.args.n) c.loop-command.machine c.run_command.new.machine c.loop-command.worker c.run_command.new.worker
           (subst (λ n. MayGoOn n c.loop-command.machine c.loop-command.worker) (left_after (length c.args.commands.now) c.loop-command.command-index (commands_after c.args.n) below) i.may) e.spends;
-      turns = turns_next c.args.header.now c.args.n (tables_of c.args.tables.now c.args.worker.now) c.args.commands.now c.args.items.now c.loop-command.left.now c.args.replies.now.items c.loop-command.replies.items c.loop-command.command-index c.loop-command.machine (tables_of c.args.tables.now c.loop-command.worker)
-          c.in_ok-left.left.now c.run_command.new.replies.items c.run_command.new.machine (tables_of c.args.tables.now c.run_command.new.worker) c.command-item.result
+      turns = turns_next c.args.header.now c.args.n (tables_of c.args.tables.now c.args.worker.now) c.args.commands.now c.args.items.now c.loop-command.left.now c.args.replies.now c.loop-command.replies c.loop-command.command-index c.loop-command.machine (tables_of c.args.tables.now c.loop-command.worker)
+          c.in_ok-left.left.now c.run_command.new.replies c.run_command.new.machine (tables_of c.args.tables.now c.run_command.new.worker) c.command-item.result
           below c.command-item.is e.kept e.runs i.turns;
     }
 
@@ -72,6 +72,6 @@ returns g c =
       sole = i.running.sole;
       unspoken = λ name least. i.running.section.unspoken name (omega (arith, least, i.labels, i.number, c.requires.room, whole));
       may = go_on_last (commands_after c.args.n) k w (subst (λ n. MayGoOn n k w) none i.may);
-      runs = turns_end c.args.header.now c.args.n (tables_of c.args.tables.now c.args.worker.now) c.args.commands.now c.args.items.now c.loop-command.left.now c.args.replies.now.items c.loop-command.replies.items c.loop-command.command-index k (tables_of c.args.tables.now w)
+      runs = turns_end c.args.header.now c.args.n (tables_of c.args.tables.now c.args.worker.now) c.args.commands.now c.args.items.now c.loop-command.left.now c.args.replies.now c.loop-command.replies c.loop-command.command-index k (tables_of c.args.tables.now w)
           past i.turns;
     }

@@ -10,5 +10,5 @@ invariant-loop-command g l = record {
   labels : length l.machine.own.labels ≤ l.command-index;
   number : l.machine.own.number ≡ l.n;
   may : MayGoOn (length l.commands - l.command-index + commands_after l.n) l.machine l.worker;
-  turns : Turns l.header l.n (tables_of l.tables l.fn.worker) l.commands l.fn.items l.left l.fn.replies.items l.replies.items l.command-index l.machine (tables_of l.tables l.worker);
+  turns : Turns l.header l.n (tables_of l.tables l.fn.worker) l.commands l.fn.items l.left l.fn.replies l.replies l.command-index l.machine (tables_of l.tables l.worker);
 }

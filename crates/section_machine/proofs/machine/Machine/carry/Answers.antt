@@ -1,6 +1,9 @@
-use Rattle.table_model.specs.Commands.{plan}
+use Rattle.std.proofs.Common.{refl}
 use Rattle.std.proofs.lemmas.Result.{on_err_weaker}
+use Rattle.flat_list.specs.declared.command.Reply.TheVariants as replies
+use Rattle.table_model.specs.Commands.{plan}
 use Rattle.section_machine.proofs.LeftOff.{made_none}
+use Rattle.section_machine.proofs.Settled.{ends_at_once}
 use Rattle.section_machine.proofs.Spent.{spends_none}
 use Rattle.section_machine.proofs.machine.Machine.carry.Goals as goal
 
@@ -39,6 +42,14 @@ returns-in-Socket-clause-carried g c = rw c.in-Socket.is c.socket.ensures.carrie
 pub returns-in-Accept-clause-carried : goal.returns-in-Accept-clause-carried
 unfolding plan
 returns-in-Accept-clause-carried g c = rw c.in-Accept.is c.accept.ensures.carried
+
+pub returns-in-Dump-clause-carried : goal.returns-in-Dump-clause-carried
+unfolding plan
+returns-in-Dump-clause-carried g c =
+    rw c.in-Dump.is (ends_at_once c.args.tables.now c.args.self.now _ c.args.self.now c.args.worker.now replies.Ok refl c.requires.section)
+
+pub returns-in-Dump-clause-spends : goal.returns-in-Dump-clause-spends
+returns-in-Dump-clause-spends g c = spends_none c.args.self.now c.args.self.now c.args.worker.now refl
 
 pub returns-in-At-clause-spends : goal.returns-in-At-clause-spends
 returns-in-At-clause-spends g c = spends_none c.args.self.now c.at.new.self c.args.worker.now c.at.ensures.waits
