@@ -92,6 +92,7 @@ module _ (stays : List Stay) (look : PrintedLook) (least : ℕ) (low : 0 < least
     by_kind : (c : Card) (k : Kind) → c.kind ≡ k → least ≤ rank_as k c P → GoneAt stays look (face_as k c)
     by_kind c kinds.Full e l = by_tuple c (has_tuple c P && takes_device c P) refl l
     by_kind c kinds.TimeWait e l = by_tuple c (has_tuple c P && takes_device c P) refl l
+    by_kind c kinds.Request e l = by_tuple c (has_tuple c P && takes_device c P) refl l
     by_kind c kinds.Listen e l =
         by_listener c e (not (takes_port c P) || not (takes_device c P)) (c.local == P.dst) (c.local == 0) (c.dev == 0) refl refl refl refl l
 

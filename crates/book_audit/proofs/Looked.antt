@@ -72,17 +72,25 @@ kind_is : (a b : Kind) → same_kind a b ≡ true → a ≡ b
 kind_is kinds.Full kinds.Full e = refl
 kind_is kinds.TimeWait kinds.TimeWait e = refl
 kind_is kinds.Listen kinds.Listen e = refl
+kind_is kinds.Request kinds.Request e = refl
 kind_is kinds.Full kinds.TimeWait e = absurd (true≢false (sym e))
 kind_is kinds.Full kinds.Listen e = absurd (true≢false (sym e))
 kind_is kinds.TimeWait kinds.Full e = absurd (true≢false (sym e))
 kind_is kinds.TimeWait kinds.Listen e = absurd (true≢false (sym e))
 kind_is kinds.Listen kinds.Full e = absurd (true≢false (sym e))
 kind_is kinds.Listen kinds.TimeWait e = absurd (true≢false (sym e))
+kind_is kinds.Full kinds.Request e = absurd (true≢false (sym e))
+kind_is kinds.Request kinds.Full e = absurd (true≢false (sym e))
+kind_is kinds.TimeWait kinds.Request e = absurd (true≢false (sym e))
+kind_is kinds.Request kinds.TimeWait e = absurd (true≢false (sym e))
+kind_is kinds.Listen kinds.Request e = absurd (true≢false (sym e))
+kind_is kinds.Request kinds.Listen e = absurd (true≢false (sym e))
 
 one_kind : (a : Kind) → same_kind a a ≡ true
 one_kind kinds.Full = refl
 one_kind kinds.TimeWait = refl
 one_kind kinds.Listen = refl
+one_kind kinds.Request = refl
 
 kinds_same : (a b : Kind) → a ≡ b → same_kind a b ≡ true
 kinds_same a b e = subst (λ k. same_kind a k ≡ true) e (one_kind a)

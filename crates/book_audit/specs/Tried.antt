@@ -22,6 +22,7 @@ abbrev pub same_kind : Kind → Kind → Bool
 same_kind kinds.Full kinds.Full = true
 same_kind kinds.TimeWait kinds.TimeWait = true
 same_kind kinds.Listen kinds.Listen = true
+same_kind kinds.Request kinds.Request = true
 same_kind _ _ = false
 
 -- a change was under way during the call

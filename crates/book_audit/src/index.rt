@@ -60,7 +60,7 @@ fn face(card: &Card) -> Card
             extra: 0,
             ..*card
         },
-        Kind::Full | Kind::TimeWait => Card {
+        Kind::Full | Kind::TimeWait | Kind::Request => Card {
             kind: Kind::Full,
             name: 0,
             extra: 0,

@@ -135,7 +135,7 @@ pub fn is_full(life: &PrintedLife) -> bool
 {
     match life.card.kind {
         Kind::Full => true,
-        Kind::TimeWait | Kind::Listen => false,
+        Kind::TimeWait | Kind::Listen | Kind::Request => false,
     }
 }
 

@@ -28,6 +28,7 @@ fn same_kind(one: Kind, other: Kind) -> bool
         Kind::Full => matches!(other, Kind::Full),
         Kind::TimeWait => matches!(other, Kind::TimeWait),
         Kind::Listen => matches!(other, Kind::Listen),
+        Kind::Request => matches!(other, Kind::Request),
     }
 }
 

@@ -45,6 +45,9 @@ const CONNECTION: Card = Card {
     extra: 0,
 };
 
+/// The name of the request by which it comes.
+const REQUEST: u32 = 0x100_0003;
+
 /// A packet of that connection.
 const PACKET: Packet = Packet {
     src: 0x0A00_0002,
@@ -73,6 +76,20 @@ fn connection(slot: u64, begin: u64, end: u64) -> PrintedLife {
         hash: Span { begin, end },
         unhash: None,
     }
+}
+
+/// The request by which the connection comes, hashed from 2 to 3, and unhashed from 6 to 7.
+fn request(slot: u64) -> PrintedLife {
+    let request = Card {
+        kind: Kind::Request,
+        name: REQUEST,
+        ..CONNECTION
+    };
+    let life = PrintedLife {
+        card: request,
+        ..connection(slot, 2, 3)
+    };
+    gone(life, 6, 7)
 }
 
 /// A life that was unhashed.
@@ -258,6 +275,31 @@ fn found_cards(rt: HostRuntime) -> Result<(), Fail> {
     // no card of that name is of that kind
     let waiting = PrintedAnswer::Found(Kind::TimeWait, CONNECTION.name);
     assert_eq!(rt; found_of_packet(alloc, waiting, 2, 4)?, unexplained);
+    Ok(())
+}
+
+#[test]
+fn a_handshake(rt: HostRuntime) -> Result<(), Fail> {
+    let alloc = rt.alloc();
+    let lives = [listener(0, 0, 1), request(1), connection(2, 4, 5)];
+    let listening = PrintedAnswer::Found(Kind::Listen, LISTENER.name);
+    let requested = PrintedAnswer::Found(Kind::Request, REQUEST);
+    let connected = PrintedAnswer::Found(Kind::Full, CONNECTION.name);
+    let unexplained = wrong(Why::Receipt, 0);
+    for (answer, t0, t1, finding) in [
+        (listening, 2, 3, Finding::Sound),
+        (requested, 2, 3, Finding::Sound),
+        (requested, 4, 4, Finding::Sound),
+        // the request was there throughout, or gone before
+        (listening, 4, 4, unexplained),
+        (requested, 8, 8, unexplained),
+        // and it isn't told as a full socket
+        (PrintedAnswer::Found(Kind::Full, REQUEST), 4, 4, unexplained),
+        (connected, 8, 8, Finding::Sound),
+    ] {
+        let packets = [look(answer, t0, t1)];
+        assert_eq!(rt; found(alloc, &lives, &packets, 8)?, finding);
+    }
     Ok(())
 }
 

@@ -80,6 +80,7 @@ five_as kinds.Full shape seed card packet h = tuple_at shape seed card packet (w
 five_as kinds.TimeWait shape seed card packet h = tuple_at shape seed card packet (whole_tuple card packet (omega (arith, h)))
 five_as kinds.Listen shape seed card packet h =
     absurd (omega (arith, h, most_ranked (takes_port card packet) (takes_device card packet) (card.local == packet.dst) (card.dev == 0) (card.local == 0)))
+five_as kinds.Request shape seed card packet h = tuple_at shape seed card packet (whole_tuple card packet (omega (arith, h)))
 
 -- a card of rank 5 belongs in the chain of the packet's four-tuple
 pub five_home : (shape : Shape) (seed : ℕ) (card : Card) (packet : Packet) → 5 ≤ rank card packet → home shape seed card ≡ packet_home shape seed packet
@@ -97,6 +98,7 @@ high_as kinds.Listen shape seed card packet h g =
     ap (λ a. listen_home shape seed a card.lport card.net) (same_number card.local packet.dst both.0)
     ∙ ap (λ p. listen_home shape seed packet.dst p card.net) (same_port card packet both.1)
     ∙ ap (λ n. listen_home shape seed packet.dst packet.dport n) (same_net card packet both.1)
+high_as kinds.Request shape seed card packet h g = absurd (no_tuple (has_tuple card packet && takes_device card packet) (omega (arith, h)) g)
 
 -- one of rank 3 or 4 in that of the packet's address
 pub high_home : (shape : Shape) (seed : ℕ) (card : Card) (packet : Packet) → 3 ≤ rank card packet → rank card packet ≤ 4 → home shape seed card ≡ listen_home shape seed packet.dst packet.dport packet.net
@@ -111,6 +113,7 @@ low_as kinds.Listen shape seed card packet h g =
     ap (λ a. listen_home shape seed a card.lport card.net) (same_number card.local 0 both.0)
     ∙ ap (λ p. listen_home shape seed 0 p card.net) (same_port card packet both.1)
     ∙ ap (λ n. listen_home shape seed 0 packet.dport n) (same_net card packet both.1)
+low_as kinds.Request shape seed card packet h g = absurd (no_tuple (has_tuple card packet && takes_device card packet) h (omega (arith, g)))
 
 -- one of rank 1 or 2 in that of 0.0.0.0
 pub low_home : (shape : Shape) (seed : ℕ) (card : Card) (packet : Packet) → 1 ≤ rank card packet → rank card packet ≤ 2 → home shape seed card ≡ listen_home shape seed 0 packet.dport packet.net

@@ -3,9 +3,9 @@ use Rattle.std.proofs.Common.{map, ◌≡◌, ◌≢◌, ℕ, ◌%◌, ◌<◌, 
 use mathlib.Core.Logic.{dite}
 use native.Mathlib.Decide.{ℕ_discrete}
 use Rattle.table_rule.specs.Lists.{Each, times, total, stands, slots_of}
-use Rattle.table_rule.specs.CardsOk.{tuple, claims, has_tuple, may_claim, all_claims, beside, Differs, MayLight}
+use Rattle.table_rule.specs.CardsOk.{tuple, bears, claims, has_tuple, may_claim, all_claims, beside, Differs, MayLight}
 use Rattle.table_rule.specs.Plays.{advancing, beginning, dropping_beginning}
-use Rattle.nulls_chain.specs.Changes.{going, Apart, IsAlone, Stands, Adds, Rest, TwoDrawn}
+use Rattle.nulls_chain.specs.Changes.{going, Apart, IsAlone, HasNoTwin, Stands, Adds, Rest, TwoDrawn}
 use Rattle.bucket_locks.specs.Locks.{IsAt}
 use Rattle.shared_slots.specs.Claims.{IsFull, sight_by}
 use Rattle.shared_slots.specs.declared.fresh.Full.{Full}
@@ -31,8 +31,15 @@ pub stands_in : (layout : Layout) (before : Option ℕ) (slot : ℕ) (v : View) 
 stands_in layout None slot v h = subst (λ (l : List Seen). 0 < stands slot l) (sym h.3) (stands_there [] h.0 h.1 slot h.2)
 stands_in layout (Some before) slot v h = let t = h.1 in subst (λ (l : List Seen). 0 < stands slot l) (sym t.6) (stands_there (t.0 ++ t.1 ∷ []) t.2 t.3 slot t.5)
 
-pub may_light : (slot : ℕ) (card : CardWords) (xs : List Seen) → IsAlone card xs → MayLight slot (seen_of slot card ∷ xs)
-may_light slot card xs alone = record {
+-- a card that is alone has no twin
+pub no_twin : (card : CardWords) (xs : List Seen) → IsAlone card xs → HasNoTwin card xs
+no_twin card xs alone full =
+    each-map (Apart claims card.ends card.ports) (Apart bears card.ends card.ports) xs
+    (λ s d. record { ends = d.ends; ports = d.ports; has-ends = d.has-ends; has-ports = d.has-ports; apart = omega (arith, bears_few (tuple card.ends card.ports) d.ends d.ports, d.apart) })
+    (alone (full_has card.ports full))
+
+pub may_light : (slot : ℕ) (card : CardWords) (xs : List Seen) → HasNoTwin card xs → MayLight slot (seen_of slot card ∷ xs)
+may_light slot card xs twin = record {
   nth = 0;
   seen = seen_of slot card;
   there = refl;
@@ -43,7 +50,7 @@ may_light slot card xs alone = record {
   has-b = refl;
   alone = λ full. (
     record { ends = card.ends; ports = card.ports; has-ends = refl; has-ports = refl; apart = λ ne. absurd (ne refl) },
-    each-map (Apart card.ends card.ports) (Differs slot card.ends card.ports) xs (λ s d. record { ends = d.ends; ports = d.ports; has-ends = d.has-ends; has-ports = d.has-ports; apart = λ ne. omega (arith, bears_few (tuple card.ends card.ports) d.ends d.ports, d.apart) }) (alone (full_has card.ports full)),
+    each-map (Apart bears card.ends card.ports) (Differs slot card.ends card.ports) xs (λ s d. record { ends = d.ends; ports = d.ports; has-ends = d.has-ends; has-ports = d.has-ports; apart = λ ne. d.apart }) (twin full),
   );
 }
 
@@ -67,7 +74,7 @@ claims_apart t a b far = dite (ℕ_discrete (tuple a b) t)
     none true = refl
     none false = refl
 
-one_apart : (a b : ℕ) (s : Seen) → Apart a b s → may_claim (tuple a b) s.words ≡ 0
+one_apart : (a b : ℕ) (s : Seen) → Apart claims a b s → may_claim (tuple a b) s.words ≡ 0
 one_apart a b s d = go s.words refl
   where
     at : (ws : List ℕ) → s.words ≡ ws → (k x : ℕ) → get_elem? s.words k ≡ some x → get_elem? ws k ≡ some x
@@ -78,7 +85,7 @@ one_apart a b s d = go s.words refl
     go (x ∷ []) e = absurd (some-ne-none d.ports (sym (at (x ∷ []) e 1 d.ports d.has-ports)))
     go (x ∷ y ∷ ws) e = ap (λ (k : ℕ). claims (tuple a b) k y) (some-injective x d.ends (at (x ∷ y ∷ ws) e 0 d.ends d.has-ends)) ∙ (ap (claims (tuple a b) d.ends) (some-injective y d.ports (at (x ∷ y ∷ ws) e 1 d.ports d.has-ports)) ∙ d.apart)
 
-all_apart : (a b : ℕ) (xs : List Seen) → Each (Apart a b) xs → all_claims (tuple a b) xs ≡ 0
+all_apart : (a b : ℕ) (xs : List Seen) → Each (Apart claims a b) xs → all_claims (tuple a b) xs ≡ 0
 all_apart a b [] h = refl
 all_apart a b (x ∷ xs) h = omega (arith, one_apart a b x h.0, all_apart a b xs h.1)
 

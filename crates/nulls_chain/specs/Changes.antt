@@ -1,7 +1,7 @@
 use Rattle.std.specs.Prelude.{true, ◌+◌, ◌≡◌, ◌≢◌, ◌==◌, ℕ, ◌<◌, ◌≤◌, ◌%◌, List, [], ◌∷◌, ◌++◌, Option, None, Some, Bool, cond, false, find, slice_index, ◌⊎◌}
 use mathlib.Core.Option.{some}
 use lib.ListN.{get_elem?}
-use Rattle.table_rule.specs.CardsOk.{claims, has_tuple, tuple}
+use Rattle.table_rule.specs.CardsOk.{bears, claims, has_tuple, tuple}
 use Rattle.table_rule.specs.declared.view.ChainView.{ChainView}
 use Rattle.sock_card.specs.declared.words.CardWords.{CardWords}
 use Rattle.table_rule.specs.Lists.{Each}
@@ -20,17 +20,21 @@ use Rattle.table_rule.specs.declared.view.Change.{Change}
 use Rattle.sock_card.specs.Words.{packed}
 use Rattle.nulls_chain.specs.declared.keeping.Place.{Place}
 
--- s is no full socket's or request's card with the four-tuple of a card that begins with a and b
-pub record Apart (a b : ℕ) (s : Seen) : Type 0 where
+-- by that test of cards, s hasn't the four-tuple of a card that begins with a and b
+pub record Apart (test : ℕ → ℕ → ℕ → ℕ) (a b : ℕ) (s : Seen) : Type 0 where
   pub ends : ℕ
   pub ports : ℕ
   pub has-ends : get_elem? s.words 0 ≡ some ends
   pub has-ports : get_elem? s.words 1 ≡ some ports
-  pub apart : claims (tuple a b) ends ports ≡ 0
+  pub apart : test (tuple a b) ends ports ≡ 0
 
 -- where the card is a full socket's or a request's, no such card of the list has its four-tuple
 abbrev pub IsAlone : CardWords → List Seen → Type 0
-IsAlone card xs = has_tuple card.ports ≡ true → Each (Apart card.ends card.ports) xs
+IsAlone card xs = has_tuple card.ports ≡ true → Each (Apart claims card.ends card.ports) xs
+
+-- where the card is a full socket's, no full socket's card of the list has its four-tuple: a request's may have it
+abbrev pub HasNoTwin : CardWords → List Seen → Type 0
+HasNoTwin card xs = card.ports % 16 ≡ 1 → Each (Apart bears card.ends card.ports) xs
 
 abbrev pub hashed : ChainView → ℕ → CardWords → ChainView
 hashed v slot card = record v { walked = seen_of slot card ∷ v.walked }
@@ -98,6 +102,10 @@ IsApart place b = (hash : Change) → IsPlace b hash → hash.slot ≡ place.slo
 -- the pass hashed this card, no TIME_WAIT's, into this slot of this bucket, and has not begun to unhash it
 abbrev pub IsPlaced : Place → BookView → Type 0
 IsPlaced place b = (hash : Change) × (hash.bucket ≡ place.bucket) × (hash.slot ≡ place.slot) × (hash.card ≡ words_of (packed place.card)) × IsPlace b hash
+
+-- that is so by the pass's change of this number
+abbrev pub IsPlacedBy : (nth : ℕ) → Place → BookView → Type 0
+IsPlacedBy nth place b = (hash : Change) × (get_elem? b.closed nth ≡ some hash) × (hash.bucket ≡ place.bucket) × (hash.slot ≡ place.slot) × (hash.card ≡ words_of (packed place.card)) × IsPlace b hash
 
 -- a change draws two numbers of the clock at most: what else the pass could draw it still can
 abbrev pub TwoDrawn : View → View → Type 0

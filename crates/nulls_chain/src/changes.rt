@@ -7,7 +7,7 @@ ghost use Rattle.table_rule.specs.Beyond.{IsCardWords};
 ghost use Rattle.table_rule.specs.Calls.{IsOf, IsIdle, IsHashOf, IsUnhashOf, HasShares, MayUnhash, seen_of, view, layout_of};
 ghost use Rattle.table_rule.specs.Words.{words_of, home_of, bucket_count};
 ghost use Rattle.bucket_locks.specs.Locks.{IsAt};
-ghost use Rattle.nulls_chain.specs.Changes.{IsAlone, hashed, Stands, AddsAt, Rest, Sees};
+ghost use Rattle.nulls_chain.specs.Changes.{HasNoTwin, IsAlone, hashed, Stands, AddsAt, Rest, Sees};
 ghost use Rattle.shared_slots.specs.Claims.{IsFull};
 ghost use Rattle.table_rule.specs.Plays.{beginning, dropping_beginning, without, carding, card_in};
 
@@ -48,7 +48,7 @@ fn link<H: Halt>(
     requires fresh { (view steps.old).slot.fresh ≡ seen_of slot card.now ∷ [] }
     requires idle { ((view steps.old).slot.tied ≡ []) × ((view steps.old).slot.hung ≡ []) × ((view steps.old).slot.dimmed ≡ []) × ((view steps.old).slot.loose ≡ []) }
     requires begun { IsHashOf slot (view steps.old) × ((view steps.old).done ≡ 0) }
-    requires alone { IsAlone card.now (view steps.old).chain.walked }
+    requires twin { HasNoTwin card.now (view steps.old).chain.walked }
     requires words { IsCardWords (words_of card.now) }
     requires home { home_of (layout_of chains.now) (words_of card.now) ≡ bucket }
     ensures table { IsOf chains.now steps.new }
@@ -57,7 +57,7 @@ fn link<H: Halt>(
     ensures rest { Rest (view steps.old) (view steps.new) }
     ensures seen { (view steps.new).seen ≡ (view steps.old).seen }
     ensures sights { (view steps.new).sights ≡ (view steps.old).sights }
-    ensures twice { (view steps.new).twice ≡ (view steps.old).twice }
+    ensures twice { IsAlone card.now (view steps.old).chain.walked → (view steps.new).twice ≡ (view steps.old).twice }
     ensures hand { steps.new.seat.me.1 ≡ steps.old.seat.me.1 }
     ensures book { ((view steps.new).book ≡ record (view steps.old).book { opened = carding (view steps.old).book.opened (words_of card.now) }) × ((view steps.new).done ≡ 1) }
 {
@@ -85,7 +85,7 @@ pub(crate) fn hash_numbered<H: Halt>(
     requires from { from ≤ (layout_of chains.now).shape.slots }
     requires share { HasShares 2 (view steps.old) }
     requires whole { ((view steps.old).chain.met ≡ 1) × ((view steps.old).chain.ahead ≡ []) }
-    requires alone { IsAlone card.now (view steps.old).chain.walked }
+    requires twin { HasNoTwin card.now (view steps.old).chain.walked }
     requires words { IsCardWords (words_of card.now) }
     requires home { home_of (layout_of chains.now) (words_of card.now) ≡ locked.now.bucket }
     ensures table { IsOf chains.now steps.new }
@@ -99,7 +99,7 @@ pub(crate) fn hash_numbered<H: Halt>(
     ensures change { IfOk result (λ d. AddsAt (view steps.old) (view steps.new) 1 locked.now.bucket d.slot (words_of card.now) d.begin d.end) }
     ensures rest { IfOk result (λ d. Rest (view steps.old) (view steps.new)) }
     ensures saw { Sees (view steps.old) (view steps.new) }
-    ensures twice { (view steps.new).twice ≡ (view steps.old).twice }
+    ensures twice { IsAlone card.now (view steps.old).chain.walked → (view steps.new).twice ≡ (view steps.old).twice }
     ensures hand { steps.new.seat.me.1 ≡ steps.old.seat.me.1 }
     ensures full { IfErr result (λ f. (b : ℕ) × (w : View) × IsFull (layout_of chains.now) (beginning (view steps.old) b) w f × ((view steps.old).seen ≤ b) × ((view steps.new) ≡ dropping_beginning w)) }
     ensures same { IfErr result (λ f. (view steps.new).book.closed ≡ (view steps.old).book.closed) }

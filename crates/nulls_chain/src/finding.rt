@@ -3,7 +3,7 @@ ghost use Rattle.table_rule.specs.declared.view.Seen.{Seen};
 ghost use Rattle.table_rule.specs.Lists.{stands};
 ghost use Rattle.table_rule.specs.Calls.{IsOf, IsIdle, Stays, Becomes, layout_of, seen_of, view};
 ghost use Rattle.table_rule.specs.Beyond.{IsCardWords};
-ghost use Rattle.table_rule.specs.Plays.{PlacesApart};
+ghost use Rattle.table_rule.specs.Plays.{PlacesApart, TuplesListed};
 ghost use Rattle.table_rule.specs.Words.{bucket_count, words_of};
 ghost use Rattle.bucket_locks.specs.Locks.{IsAt, WalkKnown};
 ghost use Rattle.nulls_chain.specs.Changes.{Stands, WasChain, wait_in};
@@ -55,6 +55,7 @@ pub fn walk_to_end(chains: &Chains, steps: &mut Steps, locked: &mut Locked)
     ensures still { (view steps.old).chain.met ≡ 1 → (view steps.new).chain ≡ (view steps.old).chain }
     ensures sole { (view steps.old).chain.met ≡ 0 → WasChain (view steps.new).chain.walked locked.old.bucket (view steps.old) }
     ensures apart { (view steps.old).chain.met ≡ 0 → PlacesApart (view steps.new) }
+    ensures tuples { (view steps.old).chain.met ≡ 0 → TuplesListed (view steps.new) }
 {
     if locked.started && locked.link % 2 == 1 {
         return;

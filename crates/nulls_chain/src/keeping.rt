@@ -1,4 +1,4 @@
-ghost use Rattle.std.specs.Prelude.{◌+◌, vec_len, vec_capacity, ◌≡◌, ◌<◌, ◌≤◌, [], ℕ, true, IfOk, IfErr};
+ghost use Rattle.std.specs.Prelude.{◌+◌, length, vec_len, vec_capacity, ◌≡◌, ◌<◌, ◌≤◌, [], ℕ, true, IfOk, IfErr};
 ghost use Rattle.chain_book.specs.Homes.{home};
 ghost use Rattle.sock_card.specs.Words.{packed};
 ghost use Rattle.table_rule.specs.declared.view.View.{View};
@@ -11,7 +11,7 @@ ghost use Rattle.table_rule.specs.Words.{words_of};
 ghost use Rattle.table_rule.specs.Plays.{beginning, dropping_beginning, without, card_in};
 ghost use Rattle.bucket_locks.specs.Locks.{IsAt, WalkKnown};
 ghost use Rattle.shared_slots.specs.Claims.{IsFull};
-ghost use Rattle.nulls_chain.specs.Changes.{IsAlone, hashed, Adds, Rest, Sees, PlacesStay, OthersStay, TwoDrawn, IsPlaced};
+ghost use Rattle.nulls_chain.specs.Changes.{HasNoTwin, IsAlone, hashed, Adds, Rest, Sees, PlacesStay, OthersStay, TwoDrawn, IsPlaced, IsPlacedBy};
 
 use super::changes::{hash_numbered, unhash_numbered};
 use super::finding::slot_before;
@@ -37,6 +37,9 @@ pub struct Place {
 /// the head stored, the slot lit, and a second number drawn. The change is kept in room that was made before. `Full`:
 /// no slot is free, and of the change only its first number is gone.
 ///
+/// A connected socket comes beside no other of its four-tuple, but it may come beside a request for it: then the lock
+/// is given back only when the request is gone.
+///
 /// As `inet_ehash_insert` of net/ipv4/inet_hashtables.c does by `hlist_nulls_add_head_rcu`.
 pub fn hash(
     chains: &Chains,
@@ -52,7 +55,7 @@ pub fn hash(
     requires room { vec_len pass.old.changes < vec_capacity pass.old.changes }
     requires share { HasShares 2 (known pass.old) }
     requires whole { ((known pass.old).chain.met ≡ 1) × ((known pass.old).chain.ahead ≡ []) }
-    requires alone { IsAlone (packed card.now) (known pass.old).chain.walked }
+    requires twin { HasNoTwin (packed card.now) (known pass.old).chain.walked }
     requires home { home (layout_of chains.now).shape (layout_of chains.now).seed card.now ≡ locked.now.bucket }
     ensures table { IsPassOf chains.now pass.new }
     ensures at { IsAt (layout_of chains.now) locked.now (known pass.new) }
@@ -64,12 +67,13 @@ pub fn hash(
     ensures first { IfOk result (λ place. IsBare (known pass.old) → FirstFree (known pass.old).book.closed (layout_of chains.now).shape.slots from place.slot) }
     ensures all { IfErr result (λ f. IsBare (known pass.old) → AllUsed (known pass.old).book.closed 0 (layout_of chains.now).shape.slots × (f.held ≡ 0)) }
     ensures place { IfOk result (λ place. time_waits (words_of (packed card.now)) ≡ 0 → IsPlaced place (known pass.new).book) }
+    ensures newest { IfOk result (λ place. time_waits (words_of (packed card.now)) ≡ 0 → IsPlacedBy (length (known pass.old).book.closed) place (known pass.new).book) }
     ensures stay { PlacesStay (known pass.old) (known pass.new) }
     ensures share { TwoDrawn (known pass.old) (known pass.new) }
     ensures change { IfOk result (λ place. Adds (known pass.old) (known pass.new) 1 locked.now.bucket place.slot (words_of (packed card.now))) }
     ensures rest { IfOk result (λ place. Rest (known pass.old) (known pass.new)) }
     ensures saw { Sees (known pass.old) (known pass.new) }
-    ensures twice { (known pass.new).twice ≡ (known pass.old).twice }
+    ensures twice { IsAlone (packed card.now) (known pass.old).chain.walked → (known pass.new).twice ≡ (known pass.old).twice }
     ensures hand { pass.new.steps.seat.me.1 ≡ pass.old.steps.seat.me.1 }
     ensures full { IfErr result (λ f. (b : ℕ) × (w : View) × IsFull (layout_of chains.now) (beginning (known pass.old) b) w f × ((known pass.old).seen ≤ b) × ((known pass.new) ≡ dropping_beginning w)) }
     ensures same { IfErr result (λ f. (known pass.new).book.closed ≡ (known pass.old).book.closed) }
@@ -95,7 +99,7 @@ pub fn hash_with<H: Halt>(
     requires room { vec_len pass.old.changes < vec_capacity pass.old.changes }
     requires share { HasShares 2 (known pass.old) }
     requires whole { ((known pass.old).chain.met ≡ 1) × ((known pass.old).chain.ahead ≡ []) }
-    requires alone { IsAlone (packed card.now) (known pass.old).chain.walked }
+    requires twin { HasNoTwin (packed card.now) (known pass.old).chain.walked }
     requires home { home (layout_of chains.now).shape (layout_of chains.now).seed card.now ≡ locked.now.bucket }
     ensures table { IsPassOf chains.now pass.new }
     ensures at { IsAt (layout_of chains.now) locked.now (known pass.new) }
@@ -107,12 +111,13 @@ pub fn hash_with<H: Halt>(
     ensures first { IfOk result (λ place. IsBare (known pass.old) → FirstFree (known pass.old).book.closed (layout_of chains.now).shape.slots from place.slot) }
     ensures all { IfErr result (λ f. IsBare (known pass.old) → AllUsed (known pass.old).book.closed 0 (layout_of chains.now).shape.slots × (f.held ≡ 0)) }
     ensures place { IfOk result (λ place. time_waits (words_of (packed card.now)) ≡ 0 → IsPlaced place (known pass.new).book) }
+    ensures newest { IfOk result (λ place. time_waits (words_of (packed card.now)) ≡ 0 → IsPlacedBy (length (known pass.old).book.closed) place (known pass.new).book) }
     ensures stay { PlacesStay (known pass.old) (known pass.new) }
     ensures share { TwoDrawn (known pass.old) (known pass.new) }
     ensures change { IfOk result (λ place. Adds (known pass.old) (known pass.new) 1 locked.now.bucket place.slot (words_of (packed card.now))) }
     ensures rest { IfOk result (λ place. Rest (known pass.old) (known pass.new)) }
     ensures saw { Sees (known pass.old) (known pass.new) }
-    ensures twice { (known pass.new).twice ≡ (known pass.old).twice }
+    ensures twice { IsAlone (packed card.now) (known pass.old).chain.walked → (known pass.new).twice ≡ (known pass.old).twice }
     ensures hand { pass.new.steps.seat.me.1 ≡ pass.old.steps.seat.me.1 }
     ensures full { IfErr result (λ f. (b : ℕ) × (w : View) × IsFull (layout_of chains.now) (beginning (known pass.old) b) w f × ((known pass.old).seen ≤ b) × ((known pass.new) ≡ dropping_beginning w)) }
     ensures same { IfErr result (λ f. (known pass.new).book.closed ≡ (known pass.old).book.closed) }

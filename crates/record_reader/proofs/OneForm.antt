@@ -35,6 +35,7 @@ pub one_kind : (k l : Kind) → kind_word k ≡ kind_word l → k ≡ l
 one_kind kinds.Full kinds.Full e = refl
 one_kind kinds.TimeWait kinds.TimeWait e = refl
 one_kind kinds.Listen kinds.Listen e = refl
+one_kind kinds.Request kinds.Request e = refl
 one_kind k l e = absurd (apart (kind_word k) (kind_word l) e refl)
 
 two_numbers : (m n p q : ℕ) → (m ≡ p) × (n ≡ q) → lines.Race m n ≡ lines.Race p q
@@ -164,9 +165,11 @@ answer_told (answers.Again a c) (answers.Again b d) xs ys fa fb e = again_told a
 answer_told (answers.Found kinds.Full m) b xs ys fa fb e = absurd (heads_apart (answer_words (answers.Found kinds.Full m) xs) (answer_words b ys) e refl)
 answer_told (answers.Found kinds.TimeWait m) b xs ys fa fb e = absurd (heads_apart (answer_words (answers.Found kinds.TimeWait m) xs) (answer_words b ys) e refl)
 answer_told (answers.Found kinds.Listen m) b xs ys fa fb e = absurd (heads_apart (answer_words (answers.Found kinds.Listen m) xs) (answer_words b ys) e refl)
+answer_told (answers.Found kinds.Request m) b xs ys fa fb e = absurd (heads_apart (answer_words (answers.Found kinds.Request m) xs) (answer_words b ys) e refl)
 answer_told a (answers.Found kinds.Full m) xs ys fa fb e = absurd (heads_apart (answer_words a xs) (answer_words (answers.Found kinds.Full m) ys) e refl)
 answer_told a (answers.Found kinds.TimeWait m) xs ys fa fb e = absurd (heads_apart (answer_words a xs) (answer_words (answers.Found kinds.TimeWait m) ys) e refl)
 answer_told a (answers.Found kinds.Listen m) xs ys fa fb e = absurd (heads_apart (answer_words a xs) (answer_words (answers.Found kinds.Listen m) ys) e refl)
+answer_told a (answers.Found kinds.Request m) xs ys fa fb e = absurd (heads_apart (answer_words a xs) (answer_words (answers.Found kinds.Request m) ys) e refl)
 answer_told a b xs ys fa fb e = absurd (heads_apart (answer_words a xs) (answer_words b ys) e refl)
 
 pub nothing_lacks_net : LacksNet []
@@ -204,12 +207,14 @@ pub skip_apart : NotAnswered (codes "skip")
 skip_apart (answers.Found kinds.Full n) xs ys e = heads_apart (answer_words (answers.Found kinds.Full n) xs) (codes "skip" ∷ ys) e refl
 skip_apart (answers.Found kinds.TimeWait n) xs ys e = heads_apart (answer_words (answers.Found kinds.TimeWait n) xs) (codes "skip" ∷ ys) e refl
 skip_apart (answers.Found kinds.Listen n) xs ys e = heads_apart (answer_words (answers.Found kinds.Listen n) xs) (codes "skip" ∷ ys) e refl
+skip_apart (answers.Found kinds.Request n) xs ys e = heads_apart (answer_words (answers.Found kinds.Request n) xs) (codes "skip" ∷ ys) e refl
 skip_apart a xs ys e = heads_apart (answer_words a xs) (codes "skip" ∷ ys) e refl
 
 pub short_apart : NotAnswered (codes "short")
 short_apart (answers.Found kinds.Full n) xs ys e = heads_apart (answer_words (answers.Found kinds.Full n) xs) (codes "short" ∷ ys) e refl
 short_apart (answers.Found kinds.TimeWait n) xs ys e = heads_apart (answer_words (answers.Found kinds.TimeWait n) xs) (codes "short" ∷ ys) e refl
 short_apart (answers.Found kinds.Listen n) xs ys e = heads_apart (answer_words (answers.Found kinds.Listen n) xs) (codes "short" ∷ ys) e refl
+short_apart (answers.Found kinds.Request n) xs ys e = heads_apart (answer_words (answers.Found kinds.Request n) xs) (codes "short" ∷ ys) e refl
 short_apart a xs ys e = heads_apart (answer_words a xs) (codes "short" ∷ ys) e refl
 
 item_told : (i j : ItemLine) → ItemFits i → ItemFits j → item_words i ≡ item_words j → i ≡ j

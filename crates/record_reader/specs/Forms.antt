@@ -39,8 +39,8 @@ shape_words shape seed =
 -- the verbs of a script's commands, and `item`, which stands before each socket that a `dump` lists
 abbrev pub verbs : List (List ℕ)
 verbs =
-    codes "socket" ∷ codes "bind" ∷ codes "listen" ∷ codes "connect" ∷ codes "accept" ∷ codes "close"
-    ∷ codes "drop" ∷ codes "at" ∷ codes "reap" ∷ codes "look" ∷ codes "packets" ∷ codes "dump"
+    codes "socket" ∷ codes "bind" ∷ codes "listen" ∷ codes "connect" ∷ codes "accept" ∷ codes "syn" ∷ codes "ack"
+    ∷ codes "close" ∷ codes "drop" ∷ codes "at" ∷ codes "reap" ∷ codes "look" ∷ codes "packets" ∷ codes "dump"
     ∷ codes "item" ∷ []
 
 -- one byte or more, each above the space
@@ -70,6 +70,7 @@ abbrev pub kind_word : Kind → List ℕ
 kind_word kinds.Full = codes "full"
 kind_word kinds.TimeWait = codes "time-wait"
 kind_word kinds.Listen = codes "listen"
+kind_word kinds.Request = codes "request"
 
 -- a network namespace that isn't the first one, 0
 abbrev pub net_words : ℕ → List (List ℕ)

@@ -164,6 +164,8 @@ fn kind_of(word: &[u8]) -> Option<Kind>
         Some(Kind::TimeWait)
     } else if is_word(word, b"listen") {
         Some(Kind::Listen)
+    } else if is_word(word, b"request") {
+        Some(Kind::Request)
     } else {
         None
     }
@@ -492,6 +494,8 @@ fn is_verb(word: &[u8]) -> bool
         || is_word(word, b"listen")
         || is_word(word, b"connect")
         || is_word(word, b"accept")
+        || is_word(word, b"syn")
+        || is_word(word, b"ack")
         || is_word(word, b"close")
         || is_word(word, b"drop")
         || is_word(word, b"at")

@@ -88,6 +88,24 @@ const LISTED: [&str; 18] = [
     "clock 8",
 ];
 
+/// A handshake: the request goes as its child comes, and packets find both.
+const HANDSHAKE: [&str; 14] = [
+    "race lookers 1 passes 1",
+    "shape 4 1 1 1 seed 0",
+    "1 socket a ok",
+    "1 bind a ok 80",
+    "1 listen a ok 80",
+    "1 syn r ok",
+    "1 ack b ok",
+    "journal 0 3",
+    "life 1 0 listen 1.a 10.0.0.1:80 0.0.0.0:0 dev 0 hash 0 1 unhash -",
+    "life 0 1 request 1.r 10.0.0.1:80 10.0.0.2:1000 dev 0 hash 2 3 unhash 6 7",
+    "life 0 2 full 1.b 10.0.0.1:80 10.0.0.2:1000 dev 0 hash 4 5 unhash -",
+    "packet 1 request 1.r t0 4 t1 4 from 10.0.0.2:1000 to 10.0.0.1:80 dev 0",
+    "packet 2 full 1.b t0 8 t1 8 from 10.0.0.2:1000 to 10.0.0.1:80 dev 0",
+    "clock 8",
+];
+
 /// The lines, each with a line feed, where that one (from 1) is another.
 fn text_with(
     alloc: Global,
@@ -131,6 +149,7 @@ fn records_are_judged(rt: HostRuntime) -> Result<(), Fail> {
     assert_eq!(rt; verdict_with(alloc, &ONE, 0, ""), yes(1, 0, 2));
     assert_eq!(rt; verdict_with(alloc, &TWO, 0, ""), yes(5, 4, 14));
     assert_eq!(rt; verdict_with(alloc, &LISTED, 0, ""), yes(3, 0, 8));
+    assert_eq!(rt; verdict_with(alloc, &HANDSHAKE, 0, ""), yes(3, 2, 8));
     let rows: [(usize, &str, u64, Why); 9] = [
         // a number that isn't below the clock, a hash that doesn't end later, a number of an earlier line
         (25, "clock 13", 18, Why::Stamp),

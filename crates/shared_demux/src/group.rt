@@ -35,7 +35,7 @@ fn group_of(card: &Card, count: u32) -> Option<u32>
                 Some(card.extra - 1)
             }
         }
-        Kind::Full | Kind::TimeWait => None,
+        Kind::Full | Kind::TimeWait | Kind::Request => None,
     }
 }
 

@@ -12,8 +12,8 @@ use null_reader::{Pace, look};
 use sock_card::Packet;
 use table_rule::{Chains, Layout, Steps};
 
-/// Looks up the connected socket of a packet, or its TIME_WAIT: a card of rank 5, in the chain of the packet's
-/// four-tuple, in at most so many passes.
+/// Looks up the connected socket of a packet, its request or its TIME_WAIT: a card of rank 5, in the chain of the
+/// packet's four-tuple, in at most so many passes.
 ///
 /// It locks nothing, waits for nobody and takes no memory. What it found is held, and must be put.
 pub fn find<P: Pace>(

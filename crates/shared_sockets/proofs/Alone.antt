@@ -22,9 +22,10 @@ use Rattle.nulls_chain.specs.declared.keeping.Place.{Place}
 use Rattle.shared_sockets.specs.Rows.{row_of, card_words}
 use Rattle.shared_sockets.specs.Surveys.{keeper_in, waiting_in}
 use Rattle.shared_sockets.specs.Comings as spec
+use Rattle.shared_sockets.specs.Handovers.{came, Yields, HandsOver}
 use Rattle.shared_sockets.specs.Leavings.{Waits, Reaps, slot_of, waiting_as}
-use Rattle.shared_sockets.specs.Comings.{HashesTo, walking, IsChain, Comes, Goes, IsFree, FindsNone, Admits, Refuses, FindsNoSlot, Inserts, name_of}
-use Rattle.shared_sockets.specs.Alone.{chains_of, next_after, IsTold, InsertsAlone, LeavesAlone, IsAdded, AddsAlone, WaitsAlone, ReapsAlone}
+use Rattle.shared_sockets.specs.Comings.{HashesTo, walking, IsChain, Comes, Departs, Goes, IsFree, FindsNone, Admits, Refuses, FindsNoSlot, Inserts, name_of}
+use Rattle.shared_sockets.specs.Alone.{chains_of, next_after, IsTold, InsertsAlone, LeavesAlone, IsAdded, AddsAlone, WaitsAlone, HandsAlone, ReapsAlone, yielded}
 use Rattle.shared_sockets.specs.declared.survey.Newcomer.{Newcomer}
 use Rattle.shared_sockets.specs.declared.coming.Inserted.{Inserted}
 use Rattle.shared_sockets.specs.declared.coming.InsertEnd.{InsertEnd}
@@ -234,6 +235,56 @@ waits_alone layout from place card r v w le near at h now =
           ∙ ap (λ (x : Chains). unhashed x (record { bucket = place.bucket; slot = place.slot })) a.1)),
       unlocking_now h.left w h.unlocked (adds_now h.between h.left 0 place.bucket place.slot _ h.departs.change a.2),
     )
+
+-- what is left once the request went, or where no slot was free
+put-yields : (left : Chains) (b : ℕ) (card : Card) (request place : Place) (x : Outcome) → IsAdded b card x (Ok place) → unhashed left (record { bucket = request.bucket; slot = request.slot }) ≡ yielded left request x
+put-yields left b card request place (put slot old) e = refl
+put-yields left b card request place (taken name) e = absurd e
+put-yields left b card request place (full owned held) e = absurd e
+
+full-yields : (left : Chains) (b : ℕ) (card : Card) (request : Place) (f : Full) (x : Outcome) → IsAdded b card x (Err f) → left ≡ yielded left request x
+full-yields left b card request f (put slot None) e = absurd e
+full-yields left b card request f (put slot (Some old)) e = absurd e
+full-yields left b card request f (taken name) e = absurd e
+full-yields left b card request f (full owned held) e = refl
+
+pub hands_alone : (layout : Layout) (from : ℕ) (request : Place) (card : Card) (r : Result Place (Place × Full)) (v w : View) → from ≤ layout.shape.slots → request.bucket < chain_count layout.shape
+    → home layout.shape layout.seed card ≡ request.bucket → HandsOver layout from request card r v w → HandsAlone layout from request card r v w
+hands_alone layout from request card r v w le near at h now = go r refl
+  where
+    t : Chains
+    t = chains_of layout from v.book.closed
+
+    outcome : Outcome
+    outcome = add_outcome t
+
+    next : ℕ
+    next = next_after outcome from
+
+    between : View
+    between = h.hands.between
+
+    added : IsAdded request.bucket card outcome (came r) × (chains_of layout next between.book.closed ≡ hashed t card outcome) × IsNow between
+    added = hash_alone layout from request.bucket le near v now h.chain h.seen card at (came r) between h.hands.comes
+
+    go : (k : Result Place (Place × Full)) → r ≡ k → IsAdded request.bucket card outcome (came r) × (chains_of layout next w.book.closed ≡ yielded (hashed t card outcome) request outcome) × IsNow w
+    go (Ok place) e =
+        let d : Departs between h.left request.bucket request.slot request.card = subst (λ (k : Result Place (Place × Full)). Yields request k between h.left) e h.hands.yields in (
+          added.0,
+          ap (λ (x : View). chains_of layout next x.book.closed) h.unlocked
+              ∙ (ap (chains_of layout next) d.change.2.3
+              ∙ (unhashed_as_book layout next between.book.closed request.bucket request.slot d.change.0 d.change.1 near _
+              ∙ (ap (λ (x : Chains). unhashed x (record { bucket = request.bucket; slot = request.slot })) added.1
+              ∙ put-yields (hashed t card outcome) request.bucket card request place outcome (subst (λ (k : Result Place (Place × Full)). IsAdded request.bucket card outcome (came k)) e added.0)))),
+          unlocking_now h.left w h.unlocked (adds_now between h.left 0 request.bucket request.slot _ d.change added.2),
+        )
+    go (Err f) e =
+        let same : h.left ≡ between = (subst (λ (k : Result Place (Place × Full)). Yields request k between h.left) e h.hands.yields).1 in (
+          added.0,
+          ap (λ (x : View). chains_of layout next x.book.closed) (h.unlocked ∙ ap unlocking same)
+              ∙ (added.1 ∙ full-yields (hashed t card outcome) request.bucket card request f.1 outcome (subst (λ (k : Result Place (Place × Full)). IsAdded request.bucket card outcome (came k)) e added.0)),
+          unlocking_now h.left w h.unlocked (subst IsNow (sym same) added.2),
+        )
 
 pub reaps_alone : (layout : Layout) (bucket name : ℕ) (result : Option ℕ) (v w : View) → bucket < chain_count layout.shape → Reaps bucket name result v w → ReapsAlone layout bucket name result v w
 reaps_alone layout bucket name result v w near h now = (

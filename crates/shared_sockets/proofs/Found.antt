@@ -9,12 +9,12 @@ use Rattle.sock_card.specs.declared.card.Card.{Card}
 use Rattle.sock_card.specs.declared.card.Kind.{Kind}
 use Rattle.sock_card.specs.declared.card.Kind.TheVariants as kinds
 use Rattle.sock_card.specs.declared.words.CardWords.{CardWords}
-use Rattle.chain_book.specs.Tuples.{same_cards, is_full_kind, may_replace, keeps_from}
+use Rattle.chain_book.specs.Tuples.{same_cards, claims_tuple, may_replace, keeps_from}
 use Rattle.chain_book.specs.Chains.{keeps, waits}
 use Rattle.chain_book.specs.declared.outcome.Hashed.{Hashed}
 use Rattle.chain_book.specs.declared.outcome.Replace.{Replace}
 use Rattle.table_rule.specs.Lists.{stands, slots_of, Each}
-use Rattle.table_rule.specs.CardsOk.{tuple}
+use Rattle.table_rule.specs.CardsOk.{tuple, claims}
 use Rattle.table_rule.specs.Plays.{card_in, PlacesListed, PlacesApart}
 use Rattle.table_rule.specs.Words.{words_of}
 use Rattle.table_rule.specs.Sole.{IsRead}
@@ -126,8 +126,8 @@ all-five : (p q r s t : Bool) → p ≡ true → q ≡ true → r ≡ true → s
 all-five p q r s t a b c d e = ap (λ (k : Bool). k && q && r && s && t) a ∙ (ap (λ (k : Bool). k && r && s && t) b ∙ (ap (λ (k : Bool). k && s && t) c ∙ (ap (λ (k : Bool). k && t) d ∙ e)))
 
 module _ (card : Card) (moment : ℕ) (rule : Replace) (says : unpacked (packed card) ≡ card) (fits : (packed card).ports < 2 ^ 64) where
-  -- a full card of the newcomer's four-tuple keeps it out, and so would a request's
-  twin-keeps : (w : CardWords) → w.ports < 2 ^ 64 → (kind : ℕ) → w.ports % 16 ≡ kind → is_full_kind (kind_at kind) ≡ true → tuple w.ends w.ports ≡ tuple (packed card).ends (packed card).ports
+  -- a full card of the newcomer's four-tuple keeps it out, and so does a request's
+  twin-keeps : (w : CardWords) → w.ports < 2 ^ 64 → (kind : ℕ) → w.ports % 16 ≡ kind → claims_tuple (kind_at kind) ≡ true → tuple w.ends w.ports ≡ tuple (packed card).ends (packed card).ports
       → keeps_from card moment rule (unpacked w) ≡ true
   twin-keeps w low kind at full q =
       let a = (packed card).ends in
@@ -142,11 +142,11 @@ module _ (card : Card) (moment : ℕ) (rule : Replace) (says : unpacked (packed 
       (eq-eqb card.lport (w.ports / 2 ^ 48) (sym (ap (λ (c : Card). c.lport) says) ∙ omega (arith, ports)))
       (eq-eqb card.remote (w.ends % 2 ^ 32) (sym (ap (λ (c : Card). c.remote) says) ∙ ap (λ (k : ℕ). k % 2 ^ 32) ends))
       (eq-eqb card.rport (w.ports / 2 ^ 32 % 2 ^ 16) (sym (ap (λ (c : Card). c.rport) says) ∙ ap (λ (k : ℕ). k % 2 ^ 16) ports)) in
-      ap (λ (k : Bool). k && (is_full_kind (unpacked w).kind || is_time_wait_kind (unpacked w).kind && not (may_replace rule moment (unpacked w)))) same
-      ∙ (ap (λ (n : ℕ). is_full_kind (kind_at n) || is_time_wait_kind (kind_at n) && not (may_replace rule moment (unpacked w))) at
+      ap (λ (k : Bool). k && (claims_tuple (unpacked w).kind || is_time_wait_kind (unpacked w).kind && not (may_replace rule moment (unpacked w)))) same
+      ∙ (ap (λ (n : ℕ). claims_tuple (kind_at n) || is_time_wait_kind (kind_at n) && not (may_replace rule moment (unpacked w))) at
       ∙ ap (λ (k : Bool). k || is_time_wait_kind (kind_at kind) && not (may_replace rule moment (unpacked w))) full)
 
-  apart-one : (s : Seen) → HasCard s → keeps_from card moment rule (hashed_in s).card ≡ false → Apart (packed card).ends (packed card).ports s
+  apart-one : (s : Seen) → HasCard s → keeps_from card moment rule (hashed_in s).card ≡ false → Apart claims (packed card).ends (packed card).ports s
   apart-one s h nay =
       let w = h.0.words in
       let low : w.ports < 2 ^ 64 = subst (λ (l : List ℕ). slice_index l 1 < 2 ^ 64) h.0.is h.1 in
@@ -163,7 +163,7 @@ module _ (card : Card) (moment : ℕ) (rule : Replace) (says : unpacked (packed 
       }
 
   apart-all : (xs : List Seen) → Each HasCard xs → Each (λ (s : Seen). keeps_from card moment rule (hashed_in s).card ≡ false) xs
-      → Each (Apart (packed card).ends (packed card).ports) xs
+      → Each (Apart claims (packed card).ends (packed card).ports) xs
   apart-all [] a b = tt
   apart-all (x ∷ xs) a b = (apart-one x a.0 b.0, apart-all xs a.1 b.1)
 
@@ -178,6 +178,7 @@ waiting-kind : (k : Kind) → is_time_wait_kind k ≡ true → k ≡ kinds.TimeW
 waiting-kind kinds.Full e = absurd (not-both (sym e))
 waiting-kind kinds.TimeWait e = refl
 waiting-kind kinds.Listen e = absurd (not-both (sym e))
+waiting-kind kinds.Request e = absurd (not-both (sym e))
 
 right-true : (a b : Bool) → a && b ≡ true → b ≡ true
 right-true true b e = e
@@ -208,7 +209,15 @@ waiting_apart v b i h had met read listed apart there waits place at = dite (ℕ
     omega (arith, waits, place.stays, ap time_waits (ap (λ (k : ℕ). card_in k v.chain.walked) (sym at) ∙ t.1 read)))
     (λ ne. omega (arith, there, apart b h had place ne, ap (λ (k : ℕ). stands k v.chain.walked) at))
 
-pub full_words : (card : Card) → card.kind ≡ kinds.Full → time_waits (card_words card) ≡ 0
-full_words card full =
-    let one : (packed card).ports % 16 ≡ 1 = omega (arith, ap number_of full) in
-    ap (λ (b : Bool). cond b 1 0) (ne_eqb ((packed card).ports % 16) 2 (omega (arith, one)))
+-- the card of a full socket or of a request is no TIME_WAIT's
+pub claims_words : (card : Card) → claims_tuple card.kind ≡ true → time_waits (card_words card) ≡ 0
+claims_words card claims = by card.kind refl
+  where
+    no_wait : (packed card).ports % 16 ≢ 2 → time_waits (card_words card) ≡ 0
+    no_wait other = ap (λ (b : Bool). cond b 1 0) (ne_eqb ((packed card).ports % 16) 2 other)
+
+    by : (k : Kind) → card.kind ≡ k → time_waits (card_words card) ≡ 0
+    by kinds.Full e = no_wait (λ two. omega (arith, ap number_of e, two))
+    by kinds.Request e = no_wait (λ two. omega (arith, ap number_of e, two))
+    by kinds.TimeWait e = absurd (not-both (sym claims ∙ ap claims_tuple e))
+    by kinds.Listen e = absurd (not-both (sym claims ∙ ap claims_tuple e))

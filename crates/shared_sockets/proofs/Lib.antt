@@ -5,3 +5,5 @@ pub mod Hashes
 pub mod Known
 pub mod Rows
 pub mod Alone
+pub mod Handed
+pub mod Standing

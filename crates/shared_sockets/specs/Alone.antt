@@ -13,6 +13,7 @@ use Rattle.shared_slots.specs.declared.fresh.Full.{Full}
 use Rattle.nulls_chain.specs.declared.keeping.Place.{Place}
 use Rattle.shared_sockets.specs.Rows.{row_of}
 use Rattle.shared_sockets.specs.Comings.{name_of}
+use Rattle.shared_sockets.specs.Handovers.{came}
 use Rattle.shared_sockets.specs.Leavings.{slot_of, waiting_as}
 use Rattle.shared_sockets.specs.declared.survey.Newcomer.{Newcomer}
 use Rattle.shared_sockets.specs.declared.coming.Inserted.{Inserted}
@@ -85,6 +86,21 @@ WaitsAlone layout from place card result v w =
     → IsAdded place.bucket card outcome result
     × (chains_of layout (next_after outcome from) w.book.closed
     ≡ unhashed (hashed before card outcome) (record { bucket = place.bucket; slot = place.slot }))
+    × IsNow w
+
+-- once a card was put, who stood at the place is gone
+abbrev pub yielded : Chains → Place → Outcome → Chains
+yielded t place (put slot old) = unhashed t (record { bucket = place.bucket; slot = place.slot })
+yielded t place _ = t
+
+-- a socket was added, and its request at the place is gone; or no slot was free, and all is as before
+abbrev pub HandsAlone : Layout → (from : ℕ) → Place → Card → Result Place (Place × Full) → View → View → Type 0
+HandsAlone layout from request card result v w =
+    let before = chains_of layout from v.book.closed in
+    let outcome = add_outcome before in
+    IsNow v
+    → IsAdded request.bucket card outcome (came result)
+    × (chains_of layout (next_after outcome from) w.book.closed ≡ yielded (hashed before card outcome) request outcome)
     × IsNow w
 
 -- the first TIME_WAIT of that name is gone from its chain, if there is one

@@ -2,4 +2,5 @@ pub mod Rows
 pub mod Surveys
 pub mod Comings
 pub mod Leavings
+pub mod Handovers
 pub mod Alone

@@ -3,6 +3,7 @@
 ghost use Rattle.std.specs.Prelude.{◌≡◌, ◌+◌, ◌<◌, ◌≤◌, ◌^◌, [], true, Some, vec_len, vec_capacity, IfOk};
 ghost use Rattle.bucket_locks.specs.Locks.{IsAt, WalkKnown};
 ghost use Rattle.chain_book.specs.Homes.{home};
+ghost use Rattle.chain_book.specs.Tuples.{claims_tuple};
 ghost use Rattle.chain_book.specs.declared.outcome.Hashed.{Hashed as Stood};
 ghost use Rattle.nulls_chain.specs.Changes.{IsPlaced, OthersStay, PlacesStay, TwoDrawn};
 ghost use Rattle.shared_sockets.specs.Alone.{AddsAlone, InsertsAlone};
@@ -102,7 +103,7 @@ fn admit(
     requires known { WalkKnown (layout_of chains.now) (known pass.old) }
     requires apart { PlacesApart (known pass.old) }
     requires surveyed { Surveyed (seeks.Room new.now) survey.now (known pass.old).chain.walked }
-    requires full { new.now.card.kind ≡ kinds.Full }
+    requires claims { claims_tuple new.now.card.kind ≡ true }
     requires home { home (layout_of chains.now).shape (layout_of chains.now).seed new.now.card ≡ locked.now.bucket }
     ensures table { IsPassOf chains.now pass.new }
     ensures idle { IsIdle (known pass.new).slot × ((known pass.new).book.opened ≡ []) }
@@ -132,7 +133,7 @@ fn admit(
     }
 }
 
-/// Hashes a connected socket, unless its four-tuple is kept from it.
+/// Hashes a connected socket or a request for one, unless its four-tuple is kept from it.
 ///
 /// A TIME_WAIT of its four-tuple gives way where the newcomer's rule lets it at its moment. The newcomer comes before
 /// that goes, so it needs a slot of its own; it is sought from the slot `from` on and round to it.
@@ -149,7 +150,7 @@ pub fn insert<R: Wait>(
     requires table { IsPassOf chains.now pass.old }
     requires bucket { bucket < bucket_count (layout_of chains.now) }
     requires home { home (layout_of chains.now).shape (layout_of chains.now).seed new.now.card ≡ bucket }
-    requires full { new.now.card.kind ≡ kinds.Full }
+    requires claims { claims_tuple new.now.card.kind ≡ true }
     requires idle { IsIdle (known pass.old).slot × ((known pass.old).book.opened ≡ []) }
     requires free { (known pass.old).chain.locked ≡ [] }
     requires from { from ≤ (layout_of chains.now).shape.slots }

@@ -30,6 +30,7 @@ as_most : (k : Kind) (card : Card) (packet : Packet) → rank_as k card packet �
 as_most kinds.Full card packet = tuple_most card packet
 as_most kinds.TimeWait card packet = tuple_most card packet
 as_most kinds.Listen card packet = listen_most card packet
+as_most kinds.Request card packet = tuple_most card packet
 
 pub rank_most : (card : Card) (packet : Packet) → rank card packet ≤ 5
 unfolding rank
@@ -43,6 +44,7 @@ two_as : (k : Kind) (w : CardWords) (packet : Packet) → rank_as k (unpacked (r
 two_as kinds.Full w packet = refl
 two_as kinds.TimeWait w packet = refl
 two_as kinds.Listen w packet = refl
+two_as kinds.Request w packet = refl
 
 pub two_words : (w : CardWords) (packet : Packet) → word_rank packet w.ends w.ports ≡ rank (unpacked w) packet
 unfolding word_rank rank

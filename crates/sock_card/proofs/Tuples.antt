@@ -1,5 +1,5 @@
 -- What one four-tuple says, said of its parts.
-use Rattle.std.proofs.Common.{◌≡◌, ℕ, Bool, true, ◌&&◌, ◌==◌}
+use Rattle.std.proofs.Common.{◌≡◌, true, ◌&&◌, ◌==◌}
 use Rattle.std.proofs.lemmas.Bool.{and_parts, eqb-true}
 use Rattle.sock_card.specs.declared.card.Tuple.{Tuple}
 use Rattle.sock_card.specs.Tuples.{same_tuple}

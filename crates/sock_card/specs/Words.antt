@@ -8,15 +8,16 @@ use Rattle.sock_card.specs.declared.card.Card.{Card}
 use Rattle.sock_card.specs.declared.card.Packet.{Packet}
 use Rattle.sock_card.specs.declared.words.CardWords.{CardWords}
 
--- a kind's number; 4 is kept for request sockets, and no other number is any kind's
+-- a kind's number; no other number is any kind's
 abbrev pub number_of : Kind → ℕ
 number_of kinds.Full = 1
 number_of kinds.TimeWait = 2
 number_of kinds.Listen = 3
+number_of kinds.Request = 4
 
 -- the kind of a number: Full where it is no kind's
 abbrev pub kind_at : ℕ → Kind
-kind_at n = cond (n == 2) kinds.TimeWait (cond (n == 3) kinds.Listen kinds.Full)
+kind_at n = cond (n == 2) kinds.TimeWait (cond (n == 3) kinds.Listen (cond (n == 4) kinds.Request kinds.Full))
 
 -- both addresses; both ports, the device, the namespace and the kind; the name; what it says besides
 abbrev pub packed : Card → CardWords

@@ -21,7 +21,7 @@ pub use card::{
     Card, Kind, Packet, Tuple, packet_tuple, rank, same_tuple, tuple_of, tw_expired, tw_replaceable,
 };
 pub use owner::{
-    GROUP_ROOM, Owner, State, as_listener, as_waiting, bind_conflict, bind_key, child, connected,
-    holds, is_mate, overlap, strict_conflict,
+    GROUP_ROOM, Owner, State, as_listener, as_request, as_waiting, bind_conflict, bind_key, child,
+    connected, holds, is_mate, overlap, strict_conflict,
 };
 pub use words::{CardWords, pack, unpack, word_rank};

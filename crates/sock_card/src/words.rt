@@ -32,6 +32,7 @@ fn number_of(kind: Kind) -> u64
         Kind::Full => 1,
         Kind::TimeWait => 2,
         Kind::Listen => 3,
+        Kind::Request => 4,
     }
 }
 
@@ -41,6 +42,7 @@ fn kind_at(number: u64) -> Kind
     match number {
         2 => Kind::TimeWait,
         3 => Kind::Listen,
+        4 => Kind::Request,
         _ => Kind::Full,
     }
 }

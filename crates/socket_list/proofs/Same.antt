@@ -1,6 +1,5 @@
 -- The same cards in whatever order.
-use Rattle.std.proofs.Common.{◌≡◌, ◌≢◌, ℕ, zero, suc, ◌+◌, ◌<◌, ◌≤◌, Bool, true, false, nat_lt, cond, if◌then◌else◌, List, [], ◌∷◌, length, filter, refl, sym, ap, ap₂, ◌∙◌, subst, arith, inl, inr}
-use Rattle.std.proofs.lemmas.Bool.{true≢false, ltb-true, ltb-false}
+use Rattle.std.proofs.Common.{◌≡◌, ◌≢◌, ℕ, ◌+◌, ◌<◌, ◌≤◌, Bool, true, false, nat_lt, cond, if◌then◌else◌, List, [], ◌∷◌, length, refl, sym, ap, ◌∙◌, subst, arith}
 use Rattle.sock_card.specs.Words.{number_of}
 use Rattle.sock_card.specs.declared.card.Card.{Card}
 use Rattle.sock_card.specs.declared.card.Kind.{Kind}
@@ -33,12 +32,19 @@ kind_by : (k l : Kind) → number_of k ≡ number_of l → k ≡ l
 kind_by kinds.Full kinds.Full e = refl
 kind_by kinds.TimeWait kinds.TimeWait e = refl
 kind_by kinds.Listen kinds.Listen e = refl
+kind_by kinds.Request kinds.Request e = refl
 kind_by kinds.Full kinds.TimeWait e = absurd (omega (arith, e))
 kind_by kinds.Full kinds.Listen e = absurd (omega (arith, e))
 kind_by kinds.TimeWait kinds.Full e = absurd (omega (arith, e))
 kind_by kinds.TimeWait kinds.Listen e = absurd (omega (arith, e))
 kind_by kinds.Listen kinds.Full e = absurd (omega (arith, e))
 kind_by kinds.Listen kinds.TimeWait e = absurd (omega (arith, e))
+kind_by kinds.Full kinds.Request e = absurd (omega (arith, e))
+kind_by kinds.Request kinds.Full e = absurd (omega (arith, e))
+kind_by kinds.TimeWait kinds.Request e = absurd (omega (arith, e))
+kind_by kinds.Request kinds.TimeWait e = absurd (omega (arith, e))
+kind_by kinds.Listen kinds.Request e = absurd (omega (arith, e))
+kind_by kinds.Request kinds.Listen e = absurd (omega (arith, e))
 
 alone : (x y : Card) → SameItems (x ∷ []) (y ∷ []) → (f : Card → ℕ) → f x ≡ f y
 alone x y h f = let e : f x + 0 ≡ f y + 0 = h f in omega (arith, e)

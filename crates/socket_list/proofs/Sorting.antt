@@ -1,11 +1,11 @@
 -- Lists of cards in the order in which they are listed: two ascending lists in which those that are alike stand in one
 -- order are one.
-use Rattle.std.proofs.Common.{◌≡◌, ◌≢◌, ℕ, zero, suc, ◌+◌, ◌<◌, ◌≤◌, Bool, true, false, nat_lt, cond, not, ◌&&◌, if◌then◌else◌, List, [], ◌∷◌, drop, length, slice_index_or, filter, refl, sym, ap, ap₂, ◌∙◌, subst, arith, inl, inr}
+use Rattle.std.proofs.Common.{◌≡◌, ◌≢◌, ℕ, zero, suc, ◌<◌, ◌≤◌, Bool, true, false, nat_lt, cond, not, ◌&&◌, if◌then◌else◌, List, [], ◌∷◌, drop, length, slice_index_or, filter, refl, sym, ap, ap₂, ◌∙◌, arith, inl, inr}
 use Rattle.std.specs.Cmp.{nat_cmp_is}
 use Rattle.std.specs.Ordering.{is_lt, nat_cmp}
 use Rattle.std.specs.declared.cmp.Ordering.{Ordering}
 use Rattle.std.specs.declared.cmp.Ordering.TheVariants as orders
-use Rattle.std.specs.List.Sorted.{IsNonDecreasingBy, IsStableByKey, ties}
+use Rattle.std.specs.List.Sorted.{IsNonDecreasingBy, IsStableByKey}
 use Rattle.std.proofs.lemmas.Bool.{true≢false, ltb-true, ltb-false, cases_lt}
 use Rattle.std.proofs.lemmas.List.Sorted.{IsNonDecreasingBy-drop}
 use Rattle.sock_card.specs.declared.card.Card.{Card}

@@ -14,7 +14,7 @@ fn order_of(card: &Card) -> u64
     u64::from(card.name) * 8 + card.kind as u64
 }
 
-/// The cards, ascending by name, and of one name by kind: a full socket, a TIME_WAIT, a listener.
+/// The cards, ascending by name, and of one name by kind: a full socket, a TIME_WAIT, a listener, a request.
 ///
 /// Takes memory for as many cards again, and time about in proportion to them.
 pub fn in_order(mut cards: Vec<Card>) -> Result<Vec<Card>, AllocError>

@@ -16,6 +16,7 @@
 #![tactic(auto)]
 
 mod cards;
+pub mod laws;
 mod make;
 mod pass;
 mod passes;

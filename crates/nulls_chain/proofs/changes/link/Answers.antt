@@ -26,7 +26,7 @@ pub step_live-requires-clause-alone : goal.step_live-requires-clause-alone
 step_live-requires-clause-alone g c = subst (MayLight c.args.slot) (sym (ap (λ (s : Sat). s.0.chain.walked) c.step_head.ensures.view
     ∙ (ap (λ (s : Sat). s.0.slot.tied ++ s.0.chain.walked) c.step_link.ensures.view
     ∙ (ap (λ (s : Sat). s.0.slot.fresh ++ s.0.chain.walked) c.step_again_head-head.ensures.same ∙ ap (λ (l : List Seen). l ++ (view c.args.steps.now).chain.walked) c.requires.fresh))))
-    (may_light c.args.slot c.args.card.now (view c.args.steps.now).chain.walked c.requires.alone)
+    (may_light c.args.slot c.args.card.now (view c.args.steps.now).chain.walked c.requires.twin)
 
 pub step_live-requires-clause-first : goal.step_live-requires-clause-first
 step_live-requires-clause-first g c = (
@@ -48,8 +48,8 @@ pub step_link-requires-clause-begun : goal.step_link-requires-clause-begun
 step_link-requires-clause-begun g c = let b = c.requires.begun.0 in (b.0, ap (λ (s : Sat). s.0.book.opened) c.step_again_head-head.ensures.same ∙ b.1, b.2, b.3)
 
 pub returns-clause-twice : goal.returns-clause-twice
-returns-clause-twice g c =
+returns-clause-twice g c = λ alone.
     let walked = ap (λ (s : Sat). s.0.chain.walked) c.step_head.ensures.view
     ∙ (ap (λ (s : Sat). s.0.slot.tied ++ s.0.chain.walked) c.step_link.ensures.view
     ∙ (ap (λ (s : Sat). s.0.slot.fresh ++ s.0.chain.walked) c.step_again_head-head.ensures.same ∙ ap (λ (l : List Seen). l ++ (view c.args.steps.now).chain.walked) c.requires.fresh)) in
-    omega (arith, ap (λ (s : Sat). s.0.twice) c.step_live.ensures.view, ap (λ (s : Sat). s.0.twice) c.step_head.ensures.view, ap (λ (s : Sat). s.0.twice) c.step_link.ensures.view, ap (λ (s : Sat). s.0.twice) c.step_again_head-head.ensures.same, ap beside walked, beside_none c.args.slot c.args.card.now (view c.args.steps.now).chain.walked c.requires.alone)
+    omega (arith, ap (λ (s : Sat). s.0.twice) c.step_live.ensures.view, ap (λ (s : Sat). s.0.twice) c.step_head.ensures.view, ap (λ (s : Sat). s.0.twice) c.step_link.ensures.view, ap (λ (s : Sat). s.0.twice) c.step_again_head-head.ensures.same, ap beside walked, beside_none c.args.slot c.args.card.now (view c.args.steps.now).chain.walked alone)

@@ -1,4 +1,4 @@
-use Rattle.std.proofs.Common.{rules, ◌≡◌, ◌++◌, [], List, ℕ, sym, append-nil, ap, ◌∙◌, refl, arith}
+use Rattle.std.proofs.Common.{rules, ◌≡◌, [], List, ℕ, sym, append-nil, ap, ◌∙◌, refl, arith}
 use Rattle.table_rule.specs.Plays.{Sat, card_in, first_of, settled}
 use Rattle.table_rule.specs.declared.view.Sight.{Sight}
 use Rattle.nulls_chain.proofs.Saw.{saw}

@@ -5,15 +5,17 @@ use Rattle.table_rule.specs.Passes.{known}
 use Rattle.table_rule.specs.Plays.{Sat, locking}
 use Rattle.table_rule.specs.declared.view.View.{View}
 use Rattle.table_rule.proofs.ChainSteps.{cons_is}
+use Rattle.sock_card.specs.Words.{packed}
 use Rattle.nulls_chain.specs.Changes.{WasChain}
+use Rattle.nulls_chain.proofs.Changed.{no_twin}
 use Rattle.shared_sockets.specs.Comings.{HashesTo}
 use Rattle.shared_sockets.proofs.Hashes.{Said, listens_alone, placed_of, hashes_to}
 use Rattle.shared_sockets.proofs.Known.{walking_is, chain_is}
 use Rattle.shared_sockets.proofs.Alone.{adds_alone}
 use Rattle.shared_sockets.proofs.coming.add.Goals as goal
 
-pub hash-answer-requires-clause-alone : goal.hash-answer-requires-clause-alone
-hash-answer-requires-clause-alone g c = listens_alone c.args.card.now (view c.walk_to_end.new.steps).chain.walked c.requires.listens
+pub hash-answer-requires-clause-twin : goal.hash-answer-requires-clause-twin
+hash-answer-requires-clause-twin g c = no_twin (packed c.args.card.now) (view c.walk_to_end.new.steps).chain.walked (listens_alone c.args.card.now (view c.walk_to_end.new.steps).chain.walked c.requires.listens)
 
 pub returns-clause-answer : goal.returns-clause-answer
 returns-clause-answer g c =
@@ -64,4 +66,4 @@ returns-clause-share g c = λ more share.
     subst (HasShares more) (sym (ap (λ (x : Sat). x.0) c.unlock.ensures.view)) (c.hash-answer.ensures.share more (subst (HasShares (more + 2)) (sym is) share))
 
 pub unlock-requires-clause-alone : goal.unlock-requires-clause-alone
-unlock-requires-clause-alone g c = inl (c.hash-answer.ensures.twice ∙ (ap (λ (x : Sat). x.0.twice) c.walk_to_end.ensures.kept ∙ ap (λ (x : Sat). x.0.twice) c.lock-locked.ensures.view))
+unlock-requires-clause-alone g c = inl (c.hash-answer.ensures.twice (listens_alone c.args.card.now (view c.walk_to_end.new.steps).chain.walked c.requires.listens) ∙ (ap (λ (x : Sat). x.0.twice) c.walk_to_end.ensures.kept ∙ ap (λ (x : Sat). x.0.twice) c.lock-locked.ensures.view))

@@ -4,14 +4,15 @@ use Rattle.table_rule.specs.Plays.{PlacesListed}
 use Rattle.table_rule.specs.Calls.{seen_of}
 use Rattle.table_rule.specs.Passes.{known}
 use Rattle.table_rule.specs.declared.view.ChainView.{ChainView}
-use Rattle.shared_sockets.proofs.Found.{alone_of, full_words}
+use Rattle.shared_sockets.proofs.Found.{alone_of, claims_words}
+use Rattle.nulls_chain.proofs.Changed.{no_twin}
 use Rattle.shared_sockets.proofs.Known.{is_read}
 use Rattle.shared_sockets.proofs.Admitted.{out_after, placed_after, stay_after, four_drawn}
 use Rattle.shared_sockets.specs.declared.survey.Sought.TheVariants as seeks
 use Rattle.shared_sockets.proofs.coming.admit.Goals as goal
 
-pub hash-requires-clause-alone : goal.hash-requires-clause-alone
-hash-requires-clause-alone c = alone_of c.args.new.now c.args.survey.now (known c.args.pass.now).chain.walked c.is_told.ensures.told c.is_told.ensures.fits c.requires.surveyed c.in_default.is
+pub hash-requires-clause-twin : goal.hash-requires-clause-twin
+hash-requires-clause-twin c = no_twin (packed c.args.new.now.card) (known c.args.pass.now).chain.walked (alone_of c.args.new.now c.args.survey.now (known c.args.pass.now).chain.walked c.is_told.ensures.told c.is_told.ensures.fits c.requires.surveyed c.in_default.is)
 
 pub take_out-requires-clause-share : goal.take_out-requires-clause-share
 take_out-requires-clause-share c = c.hash.ensures.share 2 c.requires.share
@@ -41,7 +42,7 @@ returns-in-Ok-clause-comes c =
 pub returns-in-Ok-clause-place : goal.returns-in-Ok-clause-place
 returns-in-Ok-clause-place c =
     placed_after (seeks.Room c.args.new.now) c.args.survey.now (known c.args.pass.now) (known c.hash.new.pass) (known c.take_out.new.pass) (seen_of c.in-Ok.place.slot (packed c.args.new.now.card)) c.requires.surveyed c.requires.known.2 c.in-Ok.ensures.far
-    c.args.locked.now.bucket c.in-Ok.place refl c.take_out.ensures.goes c.take_out.ensures.stay (c.in-Ok.ensures.place (full_words c.args.new.now.card c.requires.full))
+    c.args.locked.now.bucket c.in-Ok.place refl c.take_out.ensures.goes c.take_out.ensures.stay (c.in-Ok.ensures.place (claims_words c.args.new.now.card c.requires.claims))
 
 pub returns-in-Ok-clause-stay : goal.returns-in-Ok-clause-stay
 returns-in-Ok-clause-stay c =
@@ -52,3 +53,11 @@ returns-in-Ok-clause-stay c =
 
 pub returns-in-Ok-clause-share : goal.returns-in-Ok-clause-share
 returns-in-Ok-clause-share c = four_drawn (known c.args.pass.now) (known c.hash.new.pass) (known c.take_out.new.pass) c.hash.ensures.share c.take_out.ensures.share
+
+pub returns-in-Ok-clause-twice : goal.returns-in-Ok-clause-twice
+returns-in-Ok-clause-twice c =
+    c.take_out.ensures.twice ∙ c.hash.ensures.twice (alone_of c.args.new.now c.args.survey.now (known c.args.pass.now).chain.walked c.is_told.ensures.told c.is_told.ensures.fits c.requires.surveyed c.in_default.is)
+
+pub returns-in-Err-clause-twice : goal.returns-in-Err-clause-twice
+returns-in-Err-clause-twice c =
+    c.hash.ensures.twice (alone_of c.args.new.now c.args.survey.now (known c.args.pass.now).chain.walked c.is_told.ensures.told c.is_told.ensures.fits c.requires.surveyed c.in_default.is)

@@ -6,6 +6,8 @@ use Rattle.table_rule.specs.Plays.{Sat, locking}
 use Rattle.table_rule.specs.declared.view.View.{View}
 use Rattle.table_rule.proofs.ChainSteps.{cons_is}
 use Rattle.nulls_chain.specs.Changes.{Adds, IsPlaced, WasChain}
+use Rattle.sock_card.specs.Words.{packed}
+use Rattle.nulls_chain.proofs.Changed.{no_twin}
 use Rattle.nulls_chain.proofs.Found.{is_apart, other_slot}
 use Rattle.shared_sockets.specs.Rows.{card_words}
 use Rattle.shared_sockets.specs.Comings.{HashesTo}
@@ -14,8 +16,8 @@ use Rattle.shared_sockets.proofs.Known.{walking_is, chain_is}
 use Rattle.shared_sockets.proofs.Alone.{waits_alone}
 use Rattle.shared_sockets.proofs.leaving.time_wait.Goals as goal
 
-pub hash-answer-requires-clause-alone : goal.hash-answer-requires-clause-alone
-hash-answer-requires-clause-alone g c = alone_where_waits c.args.card.now (view c.walk_to_end.new.steps).chain.walked c.requires.waits
+pub hash-answer-requires-clause-twin : goal.hash-answer-requires-clause-twin
+hash-answer-requires-clause-twin g c = no_twin (packed c.args.card.now) (view c.walk_to_end.new.steps).chain.walked (alone_where_waits c.args.card.now (view c.walk_to_end.new.steps).chain.walked c.requires.waits)
 
 pub unhash-requires-clause-known : goal.unhash-requires-clause-known
 unhash-requires-clause-known g c =
@@ -112,4 +114,4 @@ returns-clause-share g c = λ more share.
     subst (HasShares more) (sym (ap (λ (x : Sat). x.0) c.unlock.ensures.view)) (c.unhash.ensures.share more (c.hash-answer.ensures.share (more + 2) (let z = subst (HasShares (more + 4)) (sym is) share in omega (arith, z))))
 
 pub unlock-requires-clause-alone : goal.unlock-requires-clause-alone
-unlock-requires-clause-alone g c = inl (c.unhash.ensures.twice ∙ (c.hash-answer.ensures.twice ∙ (ap (λ (x : Sat). x.0.twice) c.walk_to_end.ensures.kept ∙ ap (λ (x : Sat). x.0.twice) c.lock-locked.ensures.view)))
+unlock-requires-clause-alone g c = inl (c.unhash.ensures.twice ∙ (c.hash-answer.ensures.twice (alone_where_waits c.args.card.now (view c.walk_to_end.new.steps).chain.walked c.requires.waits) ∙ (ap (λ (x : Sat). x.0.twice) c.walk_to_end.ensures.kept ∙ ap (λ (x : Sat). x.0.twice) c.lock-locked.ensures.view)))

@@ -1,0 +1,11 @@
+use Rattle.std.proofs.Common.{arith}
+use Rattle.shared_sockets.proofs.tests.shake_hands.Goals as goal
+
+pub hand_over-requires-clause-share : goal.hand_over-requires-clause-share
+hand_over-requires-clause-share g c = let z = c.insert.ensures.share 8 c.requires.share in omega (arith, z)
+
+pub come-requires-clause-share : goal.come-requires-clause-share
+come-requires-clause-share g c = c.hand_over.ensures.share 4 (c.insert.ensures.share 8 c.requires.share)
+
+pub remove-requires-clause-share : goal.remove-requires-clause-share
+remove-requires-clause-share g c = let z = c.hand_over.ensures.share 4 (c.insert.ensures.share 8 c.requires.share) in omega (arith, z)
