@@ -39,7 +39,7 @@ struct inet_sizes {
 
 enum { INET_REUSEADDR = 1, INET_REUSEPORT = 2, INET_BIND_ADDRESS_NO_PORT = 4 };
 
-enum { INET_NONE = 0, INET_CONNECTED = 1, INET_TIME_WAIT = 2, INET_LISTENER = 3 };
+enum { INET_NONE = 0, INET_CONNECTED = 1, INET_TIME_WAIT = 2, INET_LISTENER = 3, INET_REQUEST = 4 };
 
 struct inet_sight {
     uint32_t kind;   /* INET_NONE and so on */
@@ -73,6 +73,10 @@ int inet_tables_connect(struct inet_tables *tables, uint32_t worker, uint32_t so
                         uint16_t to_port, uint32_t *addr, uint16_t *port);
 int inet_tables_accept(struct inet_tables *tables, uint32_t worker, uint32_t listener, uint32_t from_addr,
                        uint16_t from_port, uint32_t at_addr, uint16_t at_port, uint32_t *socket);
+/* A handshake with a listener begins, and ends: a request stands for the connection meanwhile, and then goes. */
+int inet_tables_syn(struct inet_tables *tables, uint32_t worker, uint32_t listener, uint32_t from_addr,
+                    uint16_t from_port, uint32_t at_addr, uint16_t at_port, uint32_t *request);
+int inet_tables_ack(struct inet_tables *tables, uint32_t worker, uint32_t request, uint32_t *socket);
 int inet_tables_close(struct inet_tables *tables, uint32_t worker, uint32_t socket, bool *waits);
 int inet_tables_drop(struct inet_tables *tables, uint32_t worker, uint32_t socket);
 

@@ -96,6 +96,23 @@ static void connect_out(void) {
     must(inet_tables_drop(&tables, 3, socket), "drop");
 }
 
+/* A handshake in two steps: its request takes the packets while it lasts, and then the connection. */
+static void shake_hands(void) {
+    uint32_t listener = open_listener(3), request, socket, again;
+    struct inet_sight sight;
+    must(inet_tables_syn(&tables, 3, listener, CLIENTS + 3, 1024, PROXY, port_of(3), &request), "syn");
+    must(inet_tables_look(&tables, CLIENTS + 3, 1024, PROXY, port_of(3), 0, 0, &sight), "look");
+    printf("a packet of a handshake: %s\n",
+           sight.kind == INET_REQUEST && sight.socket == request ? "the request" : "another socket");
+    must(inet_tables_ack(&tables, 3, request, &socket), "ack");
+    must(inet_tables_look(&tables, CLIENTS + 3, 1024, PROXY, port_of(3), 0, 0, &sight), "look");
+    printf("a packet after it: %s\n",
+           sight.kind == INET_CONNECTED && sight.socket == socket ? "the connection" : "another socket");
+    printf("the request: %s\n", inet_tables_ack(&tables, 3, request, &again) == EBADF ? "EBADF" : "another errno");
+    must(inet_tables_drop(&tables, 3, socket), "drop");
+    must(inet_tables_drop(&tables, 3, listener), "drop");
+}
+
 static void finish(uint32_t worker) {
     uint64_t count;
     must(inet_tables_at(&tables, worker, 60), "at");
@@ -138,6 +155,7 @@ int main(void) {
                accepters[i].closed, accepters[i].waiting, lookers[i].found, CONNECTIONS);
     refusals();
     connect_out();
+    shake_hands();
     finish(1);
     finish(2);
     list();

@@ -84,6 +84,17 @@ unsafe extern "C" {
         at_port: u16,
         socket: &mut u32,
     ) -> i32;
+    fn inet_tables_syn(
+        t: &mut Handle,
+        worker: u32,
+        listener: u32,
+        from_addr: u32,
+        from_port: u16,
+        at_addr: u32,
+        at_port: u16,
+        request: &mut u32,
+    ) -> i32;
+    fn inet_tables_ack(t: &mut Handle, worker: u32, request: u32, socket: &mut u32) -> i32;
     fn inet_tables_close(t: &mut Handle, worker: u32, socket: u32, waits: &mut bool) -> i32;
     fn inet_tables_drop(t: &mut Handle, worker: u32, socket: u32) -> i32;
     fn inet_tables_at(t: &mut Handle, worker: u32, moment: u32) -> i32;
@@ -141,6 +152,8 @@ pub enum Sight {
     Connected(Socket),
     TimeWait(Socket),
     Listener(Socket),
+    /// A handshake that isn't over.
+    Request(Socket),
 }
 
 impl Sight {
@@ -150,6 +163,7 @@ impl Sight {
             1 => Some(Sight::Connected(socket)),
             2 => Some(Sight::TimeWait(socket)),
             3 => Some(Sight::Listener(socket)),
+            4 => Some(Sight::Request(socket)),
             _ => None,
         }
     }
@@ -265,6 +279,33 @@ impl Tables {
             )
         })?;
         Ok(Socket { worker: l.worker, number })
+    }
+
+    /// A handshake with a listener begins, from one end at another.
+    pub fn syn(&mut self, l: Socket, from: SocketAddrV4, at: SocketAddrV4) -> Result<Socket, Errno> {
+        let mut number = 0;
+        // SAFETY: see above.
+        done(unsafe {
+            inet_tables_syn(
+                &mut self.0,
+                l.worker,
+                l.number,
+                from.ip().to_bits(),
+                from.port(),
+                at.ip().to_bits(),
+                at.port(),
+                &mut number,
+            )
+        })?;
+        Ok(Socket { worker: l.worker, number })
+    }
+
+    /// A request's handshake is over, and its listener takes the connection, in the request's place.
+    pub fn ack(&mut self, request: Socket) -> Result<Socket, Errno> {
+        let mut number = 0;
+        // SAFETY: see above.
+        done(unsafe { inet_tables_ack(&mut self.0, request.worker, request.number, &mut number) })?;
+        Ok(Socket { worker: request.worker, number })
     }
 
     /// Closes a socket, and tells whether a TIME_WAIT stays.

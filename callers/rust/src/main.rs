@@ -39,13 +39,17 @@ fn accept_all(tables: &Mutex<Tables>, listener: Socket) -> Result<(u32, u32), Er
     Ok((closed, waiting))
 }
 
+/// The socket that takes a packet.
+fn taker(sight: Sight) -> Socket {
+    match sight {
+        Sight::Connected(s) | Sight::TimeWait(s) | Sight::Listener(s) | Sight::Request(s) => s,
+    }
+}
+
 /// How many packets found a socket of that worker: the connection, its TIME_WAIT or the listener.
 fn look_all(tables: &Mutex<Tables>, worker: u32) -> usize {
     let found = |number| turn(tables).look(client(worker, number), at(worker), 0, 0);
-    let is_own = |sight: Sight| match sight {
-        Sight::Connected(s) | Sight::TimeWait(s) | Sight::Listener(s) => s.worker == worker,
-    };
-    (0..CONNECTIONS).filter_map(found).filter(|sight| is_own(*sight)).count()
+    (0..CONNECTIONS).filter_map(found).filter(|sight| taker(*sight).worker == worker).count()
 }
 
 fn name(errno: Errno) -> &'static str {
@@ -69,16 +73,29 @@ fn connect_out(tables: &mut Tables) -> Result<(), Errno> {
     tables.drop_socket(socket)
 }
 
+/// A handshake in two steps: its request takes the packets while it lasts, and then the connection.
+fn shake_hands(tables: &mut Tables) -> Result<(), Errno> {
+    let listener = tables.socket(3, Options::default())?;
+    tables.bind(listener, at(3))?;
+    tables.listen(listener)?;
+    let request = tables.syn(listener, client(3, 0), at(3))?;
+    let meanwhile = tables.look(client(3, 0), at(3), 0, 0) == Some(Sight::Request(request));
+    println!("a packet of a handshake: {}", if meanwhile { "the request" } else { "another socket" });
+    let socket = tables.ack(request)?;
+    let after = tables.look(client(3, 0), at(3), 0, 0) == Some(Sight::Connected(socket));
+    println!("a packet after it: {}", if after { "the connection" } else { "another socket" });
+    println!("the request: {}", tables.ack(request).map_or_else(name, |_| "there"));
+    tables.drop_socket(socket)?;
+    tables.drop_socket(listener)
+}
+
 /// What is left are the two listeners.
 fn list(tables: &mut Tables) -> Result<(), Errno> {
     let items = tables.list()?;
     println!("{} sockets are left", items.len());
     for item in items {
-        let (kind, socket) = match item.sight {
-            Sight::Listener(socket) => ("listener", socket),
-            Sight::Connected(socket) | Sight::TimeWait(socket) => ("connection", socket),
-        };
-        println!("worker {}: a {kind} at {}", socket.worker, item.own);
+        let kind = if matches!(item.sight, Sight::Listener(_)) { "listener" } else { "connection" };
+        println!("worker {}: a {kind} at {}", taker(item.sight).worker, item.own);
     }
     Ok(())
 }
@@ -111,6 +128,7 @@ fn main() -> Result<(), Errno> {
     println!("worker 65: {}", tables.at(65, 1).map_or_else(name, |()| "there"));
     tables.drop_socket(socket)?;
     connect_out(&mut tables)?;
+    shake_hands(&mut tables)?;
     for worker in [1, 2] {
         tables.at(worker, 60)?;
         println!("worker {worker}: {} TIME_WAITs are over after a minute", tables.reap(worker)?);

@@ -21,6 +21,12 @@ connect s from to = commands.Connect (label_of s) from to
 abbrev pub accept : ℕ → ℕ → End → End → Command
 accept listener number from at = commands.Accept (label_of listener) (label_of number) from at
 
+abbrev pub syn : ℕ → ℕ → End → End → Command
+syn listener number from at = commands.Syn (label_of listener) (label_of number) from at
+
+abbrev pub ack : ℕ → ℕ → Command
+ack request number = commands.Ack (label_of request) (label_of number)
+
 abbrev pub close : ℕ → Command
 close s = commands.Close (label_of s)
 

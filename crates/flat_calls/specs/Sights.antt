@@ -15,6 +15,7 @@ abbrev pub kind_of : Kind → ℕ
 kind_of kinds.Full = 1
 kind_of kinds.TimeWait = 2
 kind_of kinds.Listen = 3
+kind_of kinds.Request = 4
 
 -- the sight is of the socket with that card: of its kind, its worker, and the number whose label is the socket's
 pub record Sees (t : Numbered) (card : Card) (sight : Sight) : Type 0 where

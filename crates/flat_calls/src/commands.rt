@@ -68,6 +68,28 @@ pub fn accept(listener: u32, number: u32, from: End, at: End) -> Command
     }
 }
 
+/// Begins a handshake with a listener, from one end at another: makes a request, whose number is that.
+pub fn syn(listener: u32, number: u32, from: End, at: End) -> Command
+    ensures { result ≡ spec.syn listener number from at }
+{
+    Command::Syn {
+        listener: label_of(listener),
+        label: label_of(number),
+        from,
+        at,
+    }
+}
+
+/// Ends a request's handshake: makes a connected socket of its listener's in its place, whose number is that.
+pub fn ack(request: u32, number: u32) -> Command
+    ensures { result ≡ spec.ack request number }
+{
+    Command::Ack {
+        request: label_of(request),
+        label: label_of(number),
+    }
+}
+
 /// Closes a socket.
 pub fn close(socket: u32) -> Command
     ensures { result ≡ spec.close socket }

@@ -6,7 +6,8 @@ ghost use Rattle.flat_calls.specs.Sights as spec;
 
 use sock_card::Kind;
 
-/// A socket that a packet finds: what it is (1 connected, 2 in TIME_WAIT, 3 a listener), and by which numbers it goes.
+/// A socket that a packet finds: what it is (1 connected, 2 in TIME_WAIT, 3 a listener, 4 a request, whose handshake
+/// isn't over), and by which numbers it goes.
 #[derive(Clone, Copy, Debug, PartialEq, Eq)]
 pub struct Sight {
     pub kind: u32,
@@ -22,6 +23,7 @@ pub fn kind_of(kind: Kind) -> u32
         Kind::Full => 1,
         Kind::TimeWait => 2,
         Kind::Listen => 3,
+        Kind::Request => 4,
     }
 }
 

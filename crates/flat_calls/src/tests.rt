@@ -103,6 +103,32 @@ fn a_connection_is_found_by_its_numbers_closed_and_reaped(rt: HostRuntime) -> Re
 }
 
 #[test]
+fn a_request_is_found_until_its_handshake_is_over(rt: HostRuntime) -> Result<(), Fail> {
+    let mut tables = Tables::new(rt.alloc(), &HEADER);
+    let (listener, _) = listen_here(&mut tables);
+    let request = tables.next_number();
+    let begun = tables.call(2, &commands::syn(listener, request, THERE, HERE));
+    assert_eq!(rt; errno_of(begun), 0);
+    let sight = Sight {
+        kind: 4,
+        worker: 2,
+        socket: request,
+    };
+    assert_eq!(rt; tables.look(&PACKET), Some(sight));
+    let child = tables.next_number();
+    assert_eq!(rt; errno_of(tables.call(2, &commands::ack(request, child))), 0);
+    let sight = Sight {
+        kind: 1,
+        worker: 2,
+        socket: child,
+    };
+    assert_eq!(rt; tables.look(&PACKET), Some(sight));
+    let again = tables.next_number();
+    assert_eq!(rt; errno_of(tables.call(2, &commands::ack(request, again))), 9);
+    Ok(())
+}
+
+#[test]
 fn refusals_have_their_errnos(rt: HostRuntime) -> Result<(), Fail> {
     let mut tables = Tables::new(rt.alloc(), &HEADER);
     let (listener, _) = listen_here(&mut tables);

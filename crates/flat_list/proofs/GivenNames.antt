@@ -6,7 +6,7 @@ use Rattle.list_words.proofs.EachLemmas.{each_weaken}
 use Rattle.flat_list.specs.declared.socket.Socket.{Socket}
 use Rattle.flat_list.specs.declared.header.Header.{Header}
 use Rattle.flat_list.specs.Sections.{with_given, Section, labels_of, name_at}
-use Rattle.flat_list.specs.Sound.{IsGiven}
+use Rattle.flat_list.specs.Sound.{IsGivenName, IsGiven}
 use Rattle.flat_list.proofs.LabelsGrow.{given_at, GivesAt, grows}
 
 -- a name says its section and its number
@@ -27,23 +27,23 @@ next_is_given header n label sections s room is =
       last = rw (place, given_at header n label sections) (omega (arith, number, length-append (labels_of n sections) (label ∷ [])));
     }
 
-is_new : (n : ℕ) (sections : List Section) (s : Socket) → length (labels_of n sections) + 1 < 2 ^ 24 → IsGiven sections s → s.owner.name ≢ name_at n (length (labels_of n sections))
-is_new n sections s room given is =
+pub is_new : (n : ℕ) (sections : List Section) (name : ℕ) → length (labels_of n sections) + 1 < 2 ^ 24 → IsGivenName sections name → name ≢ name_at n (length (labels_of n sections))
+is_new n sections name room given is =
     let count : ℕ = length (labels_of n sections) in
-    let place : s.owner.name / 2 ^ 24 ≡ n = rw is (section_in_name n count room) in
-    let number : s.owner.name % 2 ^ 24 ≡ count + 1 = rw is (number_in_name n count room) in
-    let last : s.owner.name % 2 ^ 24 ≤ length (labels_of n sections) = rw place at given.last in
+    let place : name / 2 ^ 24 ≡ n = rw is (section_in_name n count room) in
+    let number : name % 2 ^ 24 ≡ count + 1 = rw is (number_in_name n count room) in
+    let last : name % 2 ^ 24 ≤ length (labels_of n sections) = rw place at given.last in
     absurd (omega arith)
 
 pub next_is_new : (n : ℕ) (sections : List Section) (sockets : List Socket) → length (labels_of n sections) + 1 < 2 ^ 24 → Each (IsGiven sections) sockets → Each (λ (s : Socket). s.owner.name ≢ name_at n (length (labels_of n sections))) sockets
 next_is_new n sections sockets room given =
-    each_weaken (IsGiven sections) (λ s. s.owner.name ≢ name_at n (length (labels_of n sections))) sockets (λ s g. is_new n sections s room g) given
+    each_weaken (IsGiven sections) (λ s. s.owner.name ≢ name_at n (length (labels_of n sections))) sockets (λ s g. is_new n sections s.owner.name room g) given
 
-stays_given : (n : ℕ) (old new : List Section) (s : Socket) → GivesAt n old new → IsGiven old s → IsGiven new s
-stays_given n old new s gives given =
-    let grown = grows n (s.owner.name / 2 ^ 24) old new gives in
+pub stays_given : (n : ℕ) (old new : List Section) (name : ℕ) → GivesAt n old new → IsGivenName old name → IsGivenName new name
+stays_given n old new name gives given =
+    let grown = grows n (name / 2 ^ 24) old new gives in
     record { first = given.first; last = omega (arith, given.last, grown.least) }
 
 pub stay_given : (n : ℕ) (old new : List Section) (sockets : List Socket) → GivesAt n old new → Each (IsGiven old) sockets → Each (IsGiven new) sockets
 stay_given n old new sockets gives given =
-    each_weaken (IsGiven old) (IsGiven new) sockets (λ s. stays_given n old new s gives) given
+    each_weaken (IsGiven old) (IsGiven new) sockets (λ s. stays_given n old new s.owner.name gives) given

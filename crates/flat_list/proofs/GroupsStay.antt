@@ -320,6 +320,17 @@ remove_grouped buckets name sockets groups is =
           (pairs_of_each Other (without name sockets) (each_filter_kept Other stays sockets (each_of_all (λ x. stays x ≡ true → Other x) sockets (λ x. others_named name x)))));
     }
 
+-- who is in none of the groups leaves them as they are
+left_alone : (name : ℕ) (groups : List Group) → Each (λ g. IsOut name g × (has_members g ≡ true)) groups → leave name groups ≡ groups
+left_alone name [] h = refl
+left_alone name (g ∷ groups) h = rw (h.0.0, h.0.1, left_alone name groups h.1) refl
+
+pub leave_none : (buckets name : ℕ) (sockets : List Socket) (groups : List Group) → count_by (has_member name) groups ≡ 0 → AreGroupsOf buckets sockets groups → leave name groups ≡ groups
+leave_none buckets name sockets groups out is =
+    left_alone name groups
+    (each_both (IsOut name) (λ g. has_members g ≡ true) groups (none_counted (has_member name) groups out)
+    (each_weaken (IsGroupOf buckets sockets) (λ g. has_members g ≡ true) groups (λ g h. lt-ltb 0 (length g.members) h.some) is.each))
+
 -- a listener enters the groups: in that of its mate, or in one of its own
 
 -- what entering is, for a socket in the place of one that was in no group

@@ -16,10 +16,10 @@ use Rattle.flat_list.specs.declared.command.Reply.TheVariants as replies
 use Rattle.flat_list.specs.Flat.{Flat}
 use Rattle.flat_list.specs.Outcome.{added, removed, with_new_label, Outcome, unchanged, changed, open_socket, has_slot, no_slot, draw, Found, search_port}
 use Rattle.flat_list.specs.Sections.{moment_of, at_moment, with_moment, with_given, with_drawn, past_word, next_name, GivesOneAtMost, KeepsOthers, Section, section_of, labels_of, new_section, put_section, has_number, with_label}
-use Rattle.flat_list.specs.Sockets.{is_refused, has_twin}
+use Rattle.flat_list.specs.Sockets.{is_refused, has_twin, open_in}
 use Rattle.flat_list.specs.Groups.{Group}
-use Rattle.flat_list.specs.Connect.{connected_socket, end_of, replacing, is_taken_in, connect, connect_as, connect_from, connect_found, connect_search, connect_socket, connected_by_search, suits_connect, child_of, accept, accept_as}
-use Rattle.flat_list.specs.Owned.{source_of, is_no_end, is_no_accept}
+use Rattle.flat_list.specs.Connect.{connected_socket, end_of, replacing, is_taken_in, connect, connect_as, connect_from, connect_found, connect_search, connect_socket, connected_by_search, suits_connect, child_of, accept, accept_as, request_of, syn, heir_of, without_request, hand_over, ack_by, ack_socket, ack}
+use Rattle.flat_list.specs.Owned.{source_of, is_no_end, is_no_accept, is_no_ack}
 use Rattle.flat_list.specs.Step.{drop, step, at_end, at_port, at_address, bind, bind_any, bind_given, bind_found, bind_search, bind_socket, search_bind, listen, listens_in, listen_as, groups_with, listen_bound, listen_found, listen_socket, waiting, close, close_full, close_socket, at, reap}
 
 find_put : (m : ℕ) (s : Section) (xs : List Section) → find (has_number m) (put_section s xs) ≡ (if has_number m s then Some s else find (has_number m) xs)
@@ -230,6 +230,30 @@ accept_keeps_all flat name (Some l) from at =
     cond_both (is_no_accept l.owner from at) (unchanged flat replies.Einval) (accept_as flat (child_of l name from at)) (Has flat.sections) (λ _. refl)
     (λ _. accept_as_keeps flat (child_of l name from at))
 
+syn_keeps_all : (flat : Flat) (name : ℕ) (o : Option Socket) (from at : End) → Has flat.sections (syn flat name o from at)
+syn_keeps_all flat name None from at = refl
+syn_keeps_all flat name (Some l) from at =
+    cond_both (is_no_accept l.owner from at) (unchanged flat replies.Einval) (accept_as flat (request_of l name from at)) (Has flat.sections) (λ _. refl)
+    (λ _. accept_as_keeps flat (request_of l name from at))
+
+hand_over_keeps : (flat : Flat) (r child : Socket) → Has flat.sections (hand_over flat r child)
+hand_over_keeps flat r child =
+    cond_both (not (has_slot flat)) (no_slot flat) (added (without_request flat r) child replies.Ok) (Has flat.sections) (λ _. refl) (λ _. refl)
+
+ack_by_keeps : (flat : Flat) (name : ℕ) (r : Socket) (o : Option Socket) → Has flat.sections (ack_by flat name r o)
+ack_by_keeps flat name r None = refl
+ack_by_keeps flat name r (Some l) =
+    cond_both (is_no_ack l.owner r.owner) (unchanged flat replies.Einval) (hand_over flat r (heir_of l name r)) (Has flat.sections) (λ _. refl)
+    (λ _. hand_over_keeps flat r (heir_of l name r))
+
+ack_socket_keeps : (flat : Flat) (n name : ℕ) (r : Socket) (t : State) → Has flat.sections (ack_socket flat n name r t)
+ack_socket_keeps flat n name r states.Request = ack_by_keeps flat name r (open_in n r.owner.origin flat.sockets)
+ack_socket_keeps flat n name r _ = refl
+
+ack_keeps_all : (flat : Flat) (n name : ℕ) (o : Option Socket) → Has flat.sections (ack flat n name o)
+ack_keeps_all flat n name None = refl
+ack_keeps_all flat n name (Some r) = ack_socket_keeps flat n name r r.owner.state
+
 drop_keeps_all : (flat : Flat) (o : Option Socket) → Keeps flat (drop flat o)
 drop_keeps_all flat None = λ m. refl
 drop_keeps_all flat (Some s) = λ m. refl
@@ -266,6 +290,12 @@ gives_at_one flat n (commands.Connect label from to) =
 gives_at_one flat n (commands.Accept listener label from at) =
     let name : ℕ = next_name n flat.sections in
     subst (GivesAt n flat.sections) (sym (accept_keeps_all (with_new_label flat n label) name (open_socket flat n listener) from at)) (given_gives flat.header n label flat.sections)
+gives_at_one flat n (commands.Syn listener label from at) =
+    let name : ℕ = next_name n flat.sections in
+    subst (GivesAt n flat.sections) (sym (syn_keeps_all (with_new_label flat n label) name (open_socket flat n listener) from at)) (given_gives flat.header n label flat.sections)
+gives_at_one flat n (commands.Ack request label) =
+    let name : ℕ = next_name n flat.sections in
+    subst (GivesAt n flat.sections) (sym (ack_keeps_all (with_new_label flat n label) n name (open_socket flat n request))) (given_gives flat.header n label flat.sections)
 gives_at_one flat n (commands.Drop label) = gives_of n flat (drop flat (open_socket flat n label)) (drop_keeps_all flat (open_socket flat n label))
 gives_at_one flat n (commands.Close label) =
     gives_of n flat (close flat n (open_socket flat n label)) (close_keeps_all flat n (open_socket flat n label))

@@ -12,6 +12,7 @@ pub mod PortAt
 pub mod Searches
 pub mod Soundness
 pub mod OneBest
+pub mod Acks
 pub mod Refusals
 pub mod SlotsStay
 pub mod LabelKeys

@@ -40,6 +40,7 @@ has_card : (groups : List Group) (s : Socket) (card : Card) (t : State) → s.ow
 has_card groups s card states.Listening is h = record { made = made_of s card kinds.Listen (extra_as kinds.Listen groups s) h; listens = λ _. is; holds = λ no. absurd (no (kind_is s card kinds.Listen (extra_as kinds.Listen groups s) h)) }
 has_card groups s card states.Full is h = record { made = made_of s card kinds.Full 0 h; listens = λ e. absurd (let k : card.kind ≡ kinds.Full = kind_is s card kinds.Full 0 h in cc); holds = λ no. ap holds_tuple is }
 has_card groups s card states.TimeWait is h = record { made = made_of s card kinds.TimeWait s.stamp h; listens = λ e. absurd (let k : card.kind ≡ kinds.TimeWait = kind_is s card kinds.TimeWait s.stamp h in cc); holds = λ no. ap holds_tuple is }
+has_card groups s card states.Request is h = record { made = made_of s card kinds.Request 0 h; listens = λ e. absurd (let k : card.kind ≡ kinds.Request = kind_is s card kinds.Request 0 h in cc); holds = λ no. ap holds_tuple is }
 has_card groups s card _ is h = absurd (cc)
 
 -- two sockets of a sound list

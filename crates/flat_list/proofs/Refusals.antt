@@ -8,13 +8,13 @@ use Rattle.flat_list.specs.declared.socket.Socket.{Socket}
 use Rattle.flat_list.specs.declared.command.End.{End}
 use Rattle.flat_list.specs.declared.command.Command.TheVariants as commands
 use Rattle.flat_list.specs.declared.command.Reply.TheVariants as replies
-use Rattle.flat_list.specs.Connect.{connected_socket, end_of, replacing, is_taken_in, connect, connect_as, connect_from, connect_found, connect_search, connect_socket, connected_by_search, suits_connect, child_of, accept, accept_as}
+use Rattle.flat_list.specs.Connect.{connected_socket, end_of, replacing, is_taken_in, connect, connect_as, connect_from, connect_found, connect_search, connect_socket, connected_by_search, suits_connect, child_of, accept, accept_as, request_of, syn, heir_of, without_request, hand_over, ack_by, ack_socket, ack}
 use Rattle.flat_list.specs.Flat.{Flat}
 use Rattle.flat_list.specs.Groups.{Group}
 use Rattle.flat_list.specs.Outcome.{Outcome, unchanged, changed, added, removed, with_new_label, open_socket, has_slot, no_slot, draw, Found, search_port}
-use Rattle.flat_list.specs.Owned.{source_of, is_no_end, is_no_accept}
+use Rattle.flat_list.specs.Owned.{source_of, is_no_end, is_no_accept, is_no_ack}
 use Rattle.flat_list.specs.Sections.{next_name, moment_of, with_moment}
-use Rattle.flat_list.specs.Sockets.{is_refused, has_twin}
+use Rattle.flat_list.specs.Sockets.{is_refused, has_twin, open_in}
 use Rattle.flat_list.specs.Sound.{is_refusal, SameSockets, RefusalKeeps}
 use Rattle.flat_list.specs.Step.{step, at_end, at_port, at_address, bind, bind_any, bind_given, bind_found, bind_search, bind_socket, search_bind, listen, listens_in, listen_as, groups_with, listen_bound, listen_found, listen_socket, waiting, close, close_socket, drop, at}
 use Rattle.flat_list.proofs.Searches.{draw_sockets, draw_groups}
@@ -121,6 +121,31 @@ accept_keeps first flat name (Some l) from end same =
     cond_both (is_no_accept l.owner from end) (unchanged flat replies.Einval) (accept_as flat (child_of l name from end)) (Keeps first) (λ _ _. same)
     (λ _. accept_as_keeps first flat (child_of l name from end) same)
 
+syn_keeps : (first flat : Flat) (name : ℕ) (o : Option Socket) (from end : End) → SameSockets first flat → Keeps first (syn flat name o from end)
+syn_keeps first flat name None from end same = λ _. same
+syn_keeps first flat name (Some l) from end same =
+    cond_both (is_no_accept l.owner from end) (unchanged flat replies.Einval) (accept_as flat (request_of l name from end)) (Keeps first) (λ _ _. same)
+    (λ _. accept_as_keeps first flat (request_of l name from end) same)
+
+hand_over_keeps : (first flat : Flat) (r child : Socket) → SameSockets first flat → Keeps first (hand_over flat r child)
+hand_over_keeps first flat r child same =
+    let made : Outcome = added (without_request flat r) child replies.Ok in
+    cond_both (not (has_slot flat)) (no_slot flat) made (Keeps first) (λ _ _. same) (λ _. done first made refl)
+
+ack_by_keeps : (first flat : Flat) (name : ℕ) (r : Socket) (o : Option Socket) → SameSockets first flat → Keeps first (ack_by flat name r o)
+ack_by_keeps first flat name r None same = λ _. same
+ack_by_keeps first flat name r (Some l) same =
+    cond_both (is_no_ack l.owner r.owner) (unchanged flat replies.Einval) (hand_over flat r (heir_of l name r)) (Keeps first) (λ _ _. same)
+    (λ _. hand_over_keeps first flat r (heir_of l name r) same)
+
+ack_socket_keeps : (first flat : Flat) (n name : ℕ) (r : Socket) (t : State) → SameSockets first flat → Keeps first (ack_socket flat n name r t)
+ack_socket_keeps first flat n name r states.Request same = ack_by_keeps first flat name r (open_in n r.owner.origin flat.sockets) same
+ack_socket_keeps first flat n name r _ same = λ _. same
+
+ack_keeps : (first flat : Flat) (n name : ℕ) (o : Option Socket) → SameSockets first flat → Keeps first (ack flat n name o)
+ack_keeps first flat n name None same = λ _. same
+ack_keeps first flat n name (Some r) same = ack_socket_keeps first flat n name r r.owner.state same
+
 close_keeps : (flat : Flat) (n : ℕ) (s : Socket) (t : State) → Keeps flat (close_socket flat n s t)
 close_keeps flat n s states.Full =
     let left : Outcome = changed flat (waiting s (moment_of flat.header n flat.sections)) replies.TimeWait in
@@ -150,6 +175,10 @@ refusal_keeps flat n (commands.Listen label) h = listen_keeps_all flat n (open_s
 refusal_keeps flat n (commands.Connect label from to) h = connect_keeps_all flat n (open_socket flat n label) from to h
 refusal_keeps flat n (commands.Accept listener label from end) h =
     accept_keeps flat (with_new_label flat n label) (next_name n flat.sections) (open_socket flat n listener) from end (record { sockets = refl; groups = refl }) h
+refusal_keeps flat n (commands.Syn listener label from end) h =
+    syn_keeps flat (with_new_label flat n label) (next_name n flat.sections) (open_socket flat n listener) from end (record { sockets = refl; groups = refl }) h
+refusal_keeps flat n (commands.Ack request label) h =
+    ack_keeps flat (with_new_label flat n label) n (next_name n flat.sections) (open_socket flat n request) (record { sockets = refl; groups = refl }) h
 refusal_keeps flat n (commands.Close label) h = close_keeps_all flat n (open_socket flat n label) h
 refusal_keeps flat n (commands.Drop label) h = drop_keeps_all flat (open_socket flat n label) h
 refusal_keeps flat n (commands.At moment) h = at_keeps_all flat n moment h

@@ -12,10 +12,10 @@ use Rattle.flat_list.specs.declared.command.Reply.TheVariants as replies
 use Rattle.flat_list.specs.Flat.{Flat}
 use Rattle.flat_list.specs.Outcome.{added, removed, with_new_label, Outcome, unchanged, changed, open_socket, has_slot, no_slot, draw, Found, search_port}
 use Rattle.flat_list.specs.Sections.{moment_of, at_moment, with_moment, past_word, next_name, Section, section_of, put_section, has_number, with_label}
-use Rattle.flat_list.specs.Sockets.{is_refused, has_twin}
+use Rattle.flat_list.specs.Sockets.{is_refused, has_twin, open_in}
 use Rattle.flat_list.specs.Groups.{Group}
-use Rattle.flat_list.specs.Connect.{connected_socket, end_of, replacing, is_taken_in, connect, connect_as, connect_from, connect_found, connect_search, connect_socket, connected_by_search, suits_connect, child_of, accept, accept_as}
-use Rattle.flat_list.specs.Owned.{source_of, is_no_end, is_no_accept}
+use Rattle.flat_list.specs.Connect.{connected_socket, end_of, replacing, is_taken_in, connect, connect_as, connect_from, connect_found, connect_search, connect_socket, connected_by_search, suits_connect, child_of, accept, accept_as, request_of, syn, heir_of, without_request, hand_over, ack_by, ack_socket, ack}
+use Rattle.flat_list.specs.Owned.{source_of, is_no_end, is_no_accept, is_no_ack}
 use Rattle.flat_list.specs.Step.{drop, step, at_end, at_port, at_address, bind, bind_any, bind_given, bind_found, bind_search, bind_socket, search_bind, listen, listens_in, listen_as, groups_with, listen_bound, listen_found, listen_socket, waiting, close, close_socket, at}
 use Rattle.flat_list.proofs.LabelsGrow.{numbered}
 
@@ -129,14 +129,39 @@ module _ (n : ℕ) (flat : Flat) where
   connect_all None from to = same n flat
   connect_all (Some s) from to = connect_stays s s.owner.state from to
 
+  accept_as_stays : (labelled : Flat) (new : Socket) → Stays n flat labelled → Stay n flat (accept_as labelled new)
+  accept_as_stays labelled new stays =
+      let done : Outcome = added (replacing labelled new.owner) new replies.Ok in
+      cond_both (has_twin new.owner labelled.sockets) (unchanged labelled replies.Eaddrnotavail) (if not (has_slot labelled) then no_slot labelled else done) (Stay n flat) (λ _. stays)
+      (λ _. cond_both (not (has_slot labelled)) (no_slot labelled) done (Stay n flat) (λ _. stays) (λ _. stays))
+
   accept_all : (labelled : Flat) (name : ℕ) (o : Option Socket) (from at : End) → Stays n flat labelled → Stay n flat (accept labelled name o from at)
   accept_all labelled name None from at stays = stays
   accept_all labelled name (Some l) from at stays =
       let child : Socket = child_of l name from at in
-      let done : Outcome = added (replacing labelled child.owner) child replies.Ok in
-      cond_both (is_no_accept l.owner from at) (unchanged labelled replies.Einval) (accept_as labelled child) (Stay n flat) (λ _. stays)
-      (λ _. cond_both (has_twin child.owner labelled.sockets) (unchanged labelled replies.Eaddrnotavail) (if not (has_slot labelled) then no_slot labelled else done) (Stay n flat) (λ _. stays)
-      (λ _. cond_both (not (has_slot labelled)) (no_slot labelled) done (Stay n flat) (λ _. stays) (λ _. stays)))
+      cond_both (is_no_accept l.owner from at) (unchanged labelled replies.Einval) (accept_as labelled child) (Stay n flat) (λ _. stays) (λ _. accept_as_stays labelled child stays)
+
+  syn_all : (labelled : Flat) (name : ℕ) (o : Option Socket) (from at : End) → Stays n flat labelled → Stay n flat (syn labelled name o from at)
+  syn_all labelled name None from at stays = stays
+  syn_all labelled name (Some l) from at stays =
+      let request : Socket = request_of l name from at in
+      cond_both (is_no_accept l.owner from at) (unchanged labelled replies.Einval) (accept_as labelled request) (Stay n flat) (λ _. stays) (λ _. accept_as_stays labelled request stays)
+
+  ack_by_stays : (labelled : Flat) (name : ℕ) (r : Socket) (o : Option Socket) → Stays n flat labelled → Stay n flat (ack_by labelled name r o)
+  ack_by_stays labelled name r None stays = stays
+  ack_by_stays labelled name r (Some l) stays =
+      let child : Socket = heir_of l name r in
+      let done : Outcome = added (without_request labelled r) child replies.Ok in
+      cond_both (is_no_ack l.owner r.owner) (unchanged labelled replies.Einval) (hand_over labelled r child) (Stay n flat) (λ _. stays)
+      (λ _. cond_both (not (has_slot labelled)) (no_slot labelled) done (Stay n flat) (λ _. stays) (λ _. stays))
+
+  ack_stays : (labelled : Flat) (name : ℕ) (r : Socket) (t : State) → Stays n flat labelled → Stay n flat (ack_socket labelled n name r t)
+  ack_stays labelled name r states.Request stays = ack_by_stays labelled name r (open_in n r.owner.origin labelled.sockets) stays
+  ack_stays labelled name r _ stays = stays
+
+  ack_all : (labelled : Flat) (name : ℕ) (o : Option Socket) → Stays n flat labelled → Stay n flat (ack labelled n name o)
+  ack_all labelled name None stays = stays
+  ack_all labelled name (Some r) stays = ack_stays labelled name r r.owner.state stays
 
   drop_all : (o : Option Socket) → Stay n flat (drop flat o)
   drop_all None = same n flat
@@ -170,6 +195,10 @@ step_stays flat n (commands.Listen label) = listen_all n flat (open_socket flat 
 step_stays flat n (commands.Connect label from to) = connect_all n flat (open_socket flat n label) from to
 step_stays flat n (commands.Accept listener label from at) =
     accept_all n flat (with_new_label flat n label) (next_name n flat.sections) (open_socket flat n listener) from at (labelled_stays n flat label)
+step_stays flat n (commands.Syn listener label from at) =
+    syn_all n flat (with_new_label flat n label) (next_name n flat.sections) (open_socket flat n listener) from at (labelled_stays n flat label)
+step_stays flat n (commands.Ack request label) =
+    ack_all n flat (with_new_label flat n label) (next_name n flat.sections) (open_socket flat n request) (labelled_stays n flat label)
 step_stays flat n (commands.Drop label) = drop_all n flat (open_socket flat n label)
 step_stays flat n (commands.Close label) = close_all n flat (open_socket flat n label)
 step_stays flat n (commands.At moment) = at_all n flat moment

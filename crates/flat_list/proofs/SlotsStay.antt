@@ -12,13 +12,13 @@ use Rattle.flat_list.specs.declared.command.Command.TheVariants as commands
 use Rattle.flat_list.specs.declared.command.Reply.{Reply}
 use Rattle.flat_list.specs.declared.command.Reply.TheVariants as replies
 use Rattle.flat_list.specs.declared.owned.Options.{Options}
-use Rattle.flat_list.specs.Connect.{connected_socket, end_of, replacing, is_taken_in, connect, connect_as, connect_from, connect_found, connect_search, connect_socket, connected_by_search, suits_connect, child_of, accept, accept_as}
+use Rattle.flat_list.specs.Connect.{connected_socket, end_of, replacing, is_taken_in, connect, connect_as, connect_from, connect_found, connect_search, connect_socket, connected_by_search, suits_connect, child_of, accept, accept_as, request_of, syn, heir_of, without_request, hand_over, ack_by, ack_socket, ack}
 use Rattle.flat_list.specs.Flat.{Flat}
 use Rattle.flat_list.specs.Groups.{Group}
 use Rattle.flat_list.specs.Outcome.{Outcome, unchanged, changed, added, removed, with_new_label, open_socket, has_slot, no_slot, draw, Found, search_port}
-use Rattle.flat_list.specs.Owned.{source_of, is_no_end, is_no_accept}
+use Rattle.flat_list.specs.Owned.{source_of, is_no_end, is_no_accept, is_no_ack}
 use Rattle.flat_list.specs.Sections.{next_name, moment_of, with_moment}
-use Rattle.flat_list.specs.Sockets.{is_hashed, slots_used, has_name, put, replaced, waits_at, is_refused, is_expired, has_twin}
+use Rattle.flat_list.specs.Sockets.{is_hashed, slots_used, has_name, put, replaced, waits_at, is_refused, is_expired, has_twin, open_in}
 use Rattle.flat_list.specs.Sound.{NamesDiffer, FitsSlots, StaysWithinSlots}
 use Rattle.flat_list.specs.Step.{step, socket, new_socket, at_end, at_port, at_address, bind, bind_any, bind_given, bind_found, bind_search, bind_socket, search_bind, listening, listen, listens_in, listen_as, groups_with, listen_bound, listen_found, listen_socket, waiting, close, close_socket, drop, at, reap}
 use Rattle.flat_list.proofs.Counted.{count_cons, count_push}
@@ -247,6 +247,38 @@ accept_fits flat name (Some l) from end is =
     cond_both (is_no_accept l.owner from end) (unchanged flat replies.Einval) (accept_as flat (child_of l name from end)) Fits (λ _. is.fits)
     (λ _. accept_as_fits flat (child_of l name from end) is)
 
+syn_fits : (flat : Flat) (name : ℕ) (o : Option Socket) (from end : End) → Fitting flat → Fits (syn flat name o from end)
+syn_fits flat name None from end is = is.fits
+syn_fits flat name (Some l) from end is =
+    cond_both (is_no_accept l.owner from end) (unchanged flat replies.Einval) (accept_as flat (request_of l name from end)) Fits (λ _. is.fits)
+    (λ _. accept_as_fits flat (request_of l name from end) is)
+
+-- a child needs a slot beside its request's
+heir_fits : (flat : Flat) (r child : Socket) → has_slot flat ≡ true → Fits (added (without_request flat r) child replies.Ok)
+heir_fits flat r child room =
+    let free = ltb-true (slots_used flat.sockets) flat.header.shape.slots room in
+    let keep : Socket → Bool = λ s. not (has_name r.owner.name s) in
+    let less = fewer keep flat.sockets in
+    let more = push_most (filter keep flat.sockets) child in
+    omega (arith, free, less, more)
+
+hand_over_fits : (flat : Flat) (r child : Socket) → Fitting flat → Fits (hand_over flat r child)
+hand_over_fits flat r child is =
+    cond_both (not (has_slot flat)) (no_slot flat) (added (without_request flat r) child replies.Ok) Fits (λ _. is.fits) (λ room. heir_fits flat r child (not_full (has_slot flat) room))
+
+ack_by_fits : (flat : Flat) (name : ℕ) (r : Socket) (o : Option Socket) → Fitting flat → Fits (ack_by flat name r o)
+ack_by_fits flat name r None is = is.fits
+ack_by_fits flat name r (Some l) is =
+    cond_both (is_no_ack l.owner r.owner) (unchanged flat replies.Einval) (hand_over flat r (heir_of l name r)) Fits (λ _. is.fits) (λ _. hand_over_fits flat r (heir_of l name r) is)
+
+ack_socket_fits : (flat : Flat) (n name : ℕ) (r : Socket) (t : State) → Fitting flat → Fits (ack_socket flat n name r t)
+ack_socket_fits flat n name r states.Request is = ack_by_fits flat name r (open_in n r.owner.origin flat.sockets) is
+ack_socket_fits flat n name r _ is = is.fits
+
+ack_fits : (flat : Flat) (n name : ℕ) (o : Option Socket) → Fitting flat → Fits (ack flat n name o)
+ack_fits flat n name None is = is.fits
+ack_fits flat n name (Some r) is = ack_socket_fits flat n name r r.owner.state is
+
 gone_fits : (flat : Flat) (s : Socket) (reply : Reply) → Fitting flat → Fits (removed flat s reply)
 gone_fits flat s reply is =
     let less = fewer (λ x. not (has_name s.owner.name x)) flat.sockets in let fits = is.fits in omega (arith, less, fits)
@@ -291,6 +323,10 @@ slots_stay flat n (commands.Listen label) sound fits = listen_fits_all flat n (o
 slots_stay flat n (commands.Connect label from to) sound fits = connect_fits_all flat n (open_socket flat n label) from to (record { names = sound.names; fits = fits })
 slots_stay flat n (commands.Accept listener label from end) sound fits =
     accept_fits (with_new_label flat n label) (next_name n flat.sections) (open_socket flat n listener) from end (record { names = sound.names; fits = fits })
+slots_stay flat n (commands.Syn listener label from end) sound fits =
+    syn_fits (with_new_label flat n label) (next_name n flat.sections) (open_socket flat n listener) from end (record { names = sound.names; fits = fits })
+slots_stay flat n (commands.Ack request label) sound fits =
+    ack_fits (with_new_label flat n label) n (next_name n flat.sections) (open_socket flat n request) (record { names = sound.names; fits = fits })
 slots_stay flat n (commands.Close label) sound fits = close_fits_all flat n (open_socket flat n label) (record { names = sound.names; fits = fits })
 slots_stay flat n (commands.Drop label) sound fits = drop_fits_all flat (open_socket flat n label) (record { names = sound.names; fits = fits })
 slots_stay flat n (commands.At moment) sound fits = at_fits flat n moment (record { names = sound.names; fits = fits })

@@ -2,11 +2,11 @@
 use Rattle.std.proofs.Common.{◌⊎◌, inl, ◌≡◌, ◌≢◌, ℕ, ◌+◌, ◌*◌, ◌/◌, ◌^◌, ◌<◌, ◌==◌, nat_lt, map, filter, subst, ◌&&◌, ◌||◌, Bool, true, false, not, cond, if◌then◌else◌, List, [], ◌∷◌, ◌++◌, length, Some, None, Option, option_and_then, refl, sym, ap, ◌∙◌, inr, find, count_by, arith}
 use Rattle.std.specs.List.{list_any, range_with_len}
 use Rattle.std.specs.Option.{option_map}
-use Rattle.std.proofs.lemmas.Bool.{true≢false, ne_eqb, cond_both, eqb-true, or_parts, and_parts}
+use Rattle.std.proofs.lemmas.Bool.{true≢false, ne_eqb, eq-eqb, cond_both, eqb-true, or_parts, and_parts}
 use Rattle.std.proofs.lemmas.Bool.Decides.{nat_tests}
 use Rattle.std.proofs.lemmas.List.Sums.{sum_by-cons}
 use Rattle.list_words.specs.Lists.{Each}
-use Rattle.list_words.proofs.EachLemmas.{each_push, each_filter, each_weaken, each_of_all, each_found, each_unless_any, found_passes, some_same}
+use Rattle.list_words.proofs.EachLemmas.{each_push, each_filter, each_weaken, each_both, each_of_all, each_found, each_unless_any, found_passes, some_same}
 use Rattle.list_words.proofs.PairsLemmas.{pairs_push, pairs_filter, pairs_found}
 use Rattle.sock_card.specs.declared.owner.Owner.{Owner}
 use Rattle.sock_card.specs.declared.owner.State.{State}
@@ -22,24 +22,24 @@ use Rattle.flat_list.specs.declared.command.Reply.{Reply}
 use Rattle.flat_list.specs.declared.command.Reply.TheVariants as replies
 use Rattle.flat_list.specs.declared.socket.Socket.{Socket}
 use Rattle.flat_list.specs.declared.owned.Options.{Options}
-use Rattle.flat_list.specs.Groups.{Group, has_member, bucket_of, is_used, free_number, is_full_group, join, join_group, with_group}
-use Rattle.flat_list.specs.Connect.{replacing, is_taken_in, connected_socket, connected_by_search, end_of, connect_as, connect_from, connect_found, connect_search, suits_connect, connect_socket, connect, child_of, accept_as, accept}
+use Rattle.flat_list.specs.Groups.{Group, has_member, bucket_of, is_used, free_number, is_full_group, join, join_group, leave, with_group}
+use Rattle.flat_list.specs.Connect.{replacing, is_taken_in, connected_socket, connected_by_search, end_of, connect_as, connect_from, connect_found, connect_search, suits_connect, connect_socket, connect, child_of, accept_as, accept, request_of, syn, heir_of, without_request, hand_over, ack_by, ack_socket, ack}
 use Rattle.flat_list.specs.Flat.{Flat, new_flat}
 use Rattle.flat_list.specs.Outcome.{Outcome, unchanged, changed, added, removed, with_new_label, open_socket, has_slot, no_slot, Found, search_port}
-use Rattle.flat_list.specs.Owned.{source_of, is_no_end, is_no_accept}
+use Rattle.flat_list.specs.Owned.{source_of, is_no_end, is_no_accept, own_end, other_end, is_no_ack}
 use Rattle.sock_card.specs.Became.{as_listener}
 use Rattle.sock_card.specs.TimeWait.{expired}
 use Rattle.flat_list.specs.Run.{Issued, is_of, after}
 use Rattle.flat_list.specs.Sections.{Section, labels_of, name_in, next_name, with_given, moment_of, with_moment}
-use Rattle.flat_list.specs.Sockets.{have_one_tuple, waits_at, gives_way, without_waiting, is_full, has_twin, is_mate, mate_of, is_expired, put, is_owner, is_other_owner, is_refused, is_overlapped, is_claimed, has_name, open_named}
-use Rattle.flat_list.specs.Sound.{NamesDiffer, IsGiven, AgreeAsOwners, TuplesDiffer, holds_tuple, IsItsOwn, IsAwakeIfNamed, is_sharing, IsInOneGroup, AreGroupsOf, IsSound, StartsSound, StaysSound, RunsSound}
+use Rattle.flat_list.specs.Sockets.{have_one_tuple, waits_at, gives_way, without_waiting, claims_tuple, has_twin, open_in, is_open_in, without, is_mate, mate_of, is_expired, put, is_owner, is_other_owner, is_refused, is_overlapped, is_claimed, has_name, open_named}
+use Rattle.flat_list.specs.Sound.{NamesDiffer, IsGivenName, IsGiven, CanTake, HasListener, AgreeAsOwners, TuplesDiffer, holds_tuple, IsItsOwn, IsAwakeIfNamed, is_sharing, IsInOneGroup, AreGroupsOf, IsSound, StartsSound, StaysSound, RunsSound}
 use Rattle.flat_list.specs.Step.{step, socket, drop, close, close_socket, at, reap, waiting, groups_with, listens_in, listen_as, new_socket, at_end, at_port, suits_bind, search_bind, at_address, bind, bind_any, bind_given, bind_found, bind_search, bind_socket, listening, listen, listen_bound, listen_found, listen_socket}
-use Rattle.flat_list.proofs.GivenNames.{next_is_given, next_is_new, stay_given}
+use Rattle.flat_list.proofs.GivenNames.{next_is_given, next_is_new, is_new, stays_given, stay_given}
 use Rattle.flat_list.proofs.LabelsGrow.{GivesAt, moment_keeps, KeepsLabels, keeps_at, given_gives, search_keeps, gives_at_one, grows}
 use Rattle.flat_list.proofs.Puts.{each_put, pairs_put}
 use Rattle.flat_list.proofs.Searches.{draw_sockets, draw_groups, draw_header}
 use Rattle.flat_list.proofs.Counted.{each_filter_kept}
-use Rattle.flat_list.proofs.GroupsStay.{count_quiet, put_grouped, push_grouped, filter_grouped, remove_grouped, Enters, enter_grouped, join_enters, begin_enters}
+use Rattle.flat_list.proofs.GroupsStay.{count_quiet, leave_none, put_grouped, push_grouped, filter_grouped, remove_grouped, Enters, enter_grouped, join_enters, begin_enters}
 
 pub starts : StartsSound
 starts header = record {
@@ -49,6 +49,7 @@ starts header = record {
   tuples = tt;
   origins = tt;
   awake = tt;
+  requests = tt;
   grouped = record { numbers = tt; each = tt; sharing = tt; mates = tt };
 }
 
@@ -71,6 +72,16 @@ record Fits (flat : Flat) (new : Socket) : Type 0 where
   tuples : Each (λ x. NamesDiffer new x → TuplesDiffer new x) flat.sockets
   origin : IsItsOwn new
   awake : IsAwakeIfNamed new
+  settled : new.owner.state ≢ states.Request
+  takes : Each (λ r. r.owner.state ≡ states.Request → CanTake r new) flat.sockets
+
+-- the requests' listeners, once a socket stands in the place of the one of its name
+requests_put : (flat : Flat) (new : Socket) → new.owner.state ≢ states.Request → Each (λ r. r.owner.state ≡ states.Request → CanTake r new) flat.sockets → Each (HasListener flat.sections flat.sockets) flat.sockets → Each (HasListener flat.sections (put new flat.sockets)) (put new flat.sockets)
+requests_put flat new settled takes requests =
+    each_put (HasListener flat.sections (put new flat.sockets)) new flat.sockets (λ is. absurd (settled is))
+    (each_weaken (λ r. (r.owner.state ≡ states.Request → CanTake r new) × HasListener flat.sections flat.sockets r) (HasListener flat.sections (put new flat.sockets)) flat.sockets
+    (λ r h is. ((h.1 is).0, each_put (CanTake r) new flat.sockets (h.0 is) (h.1 is).1))
+    (each_both (λ r. r.owner.state ≡ states.Request → CanTake r new) (HasListener flat.sections flat.sockets) flat.sockets takes requests))
 
 -- the list with that socket in the place of the one of its name, and with those groups
 put_sound : (flat : Flat) (new : Socket) (groups : List Group) (reply : Reply) → IsSound flat → Fits flat new → AreGroupsOf flat.header.shape.bind (put new flat.sockets) groups → IsSound (changed (record flat { groups = groups }) new reply).flat
@@ -81,6 +92,7 @@ put_sound flat new groups reply sound fits grouped = record {
   tuples = pairs_put TuplesDiffer tuples_swap new flat.sockets sound.names sound.tuples fits.tuples;
   origins = each_put IsItsOwn new flat.sockets fits.origin sound.origins;
   awake = each_put IsAwakeIfNamed new flat.sockets fits.awake sound.awake;
+  requests = requests_put flat new fits.settled fits.takes sound.requests;
   grouped = grouped;
 }
 
@@ -102,6 +114,19 @@ record Joins (flat : Flat) (new : Socket) : Type 0 where
   origin : IsItsOwn new
   quiet : is_sharing new ≡ false
   awake : IsAwakeIfNamed new
+  apart : Each (λ r. r.owner.state ≡ states.Request → new.owner.name ≢ r.owner.origin) flat.sockets
+  listener : new.owner.state ≡ states.Request → IsGivenName flat.sections new.owner.origin × (Each (CanTake new) flat.sockets × CanTake new new)
+
+-- the requests' listeners, once a socket has come last
+requests_push : (flat : Flat) (new : Socket) → Joins flat new → Each (HasListener flat.sections flat.sockets) flat.sockets → Each (HasListener flat.sections (flat.sockets ++ new ∷ [])) (flat.sockets ++ new ∷ [])
+requests_push flat new joins requests =
+    let Apart : Socket → Type 0 = λ r. r.owner.state ≡ states.Request → new.owner.name ≢ r.owner.origin in
+    let sockets : List Socket = flat.sockets ++ new ∷ [] in
+    each_push (HasListener flat.sections sockets) flat.sockets new
+    (each_weaken (λ r. Apart r × HasListener flat.sections flat.sockets r) (HasListener flat.sections sockets) flat.sockets
+    (λ r h is. ((h.1 is).0, each_push (CanTake r) flat.sockets new (h.1 is).1 (λ named same. absurd (h.0 is same))))
+    (each_both Apart (HasListener flat.sections flat.sockets) flat.sockets joins.apart requests))
+    (λ is. let own = joins.listener is in (own.0, each_push (CanTake new) flat.sockets new own.1.0 own.1.1))
 
 added_sound : (flat : Flat) (new : Socket) → IsSound flat → Joins flat new → IsSound (record flat { sockets = flat.sockets ++ new ∷ [] })
 added_sound flat new sound joins = record {
@@ -111,8 +136,14 @@ added_sound flat new sound joins = record {
   tuples = pairs_push TuplesDiffer flat.sockets new sound.tuples joins.tuples;
   origins = each_push IsItsOwn flat.sockets new sound.origins joins.origin;
   awake = each_push IsAwakeIfNamed flat.sockets new sound.awake joins.awake;
+  requests = requests_push flat new joins sound.requests;
   grouped = push_grouped flat.header.shape.bind new flat.sockets flat.groups joins.names joins.quiet sound.grouped;
 }
+
+-- the requests' listeners, once a label more is given
+requests_stay : (n : ℕ) (old new : List Section) (sockets : List Socket) → GivesAt n old new → Each (HasListener old sockets) sockets → Each (HasListener new sockets) sockets
+requests_stay n old new sockets gives requests =
+    each_weaken (HasListener old sockets) (HasListener new sockets) sockets (λ r h is. (stays_given n old new r.owner.origin gives (h is).0, (h is).1)) requests
 
 labels_sound : (flat : Flat) (n : ℕ) (sections : List Section) → GivesAt n flat.sections sections → IsSound flat → IsSound (record flat { sections = sections })
 labels_sound flat n sections gives sound = record {
@@ -122,8 +153,15 @@ labels_sound flat n sections gives sound = record {
   tuples = sound.tuples;
   origins = sound.origins;
   awake = sound.awake;
+  requests = requests_stay n flat.sections sections flat.sockets gives sound.requests;
   grouped = sound.grouped;
 }
+
+-- the requests' listeners, once sockets are gone
+requests_left : (sections : List Section) (stays_in : Socket → Bool) (sockets : List Socket) → Each (HasListener sections sockets) sockets → Each (HasListener sections (filter stays_in sockets)) (filter stays_in sockets)
+requests_left sections stays_in sockets requests =
+    each_filter (HasListener sections (filter stays_in sockets)) stays_in sockets
+    (each_weaken (HasListener sections sockets) (HasListener sections (filter stays_in sockets)) sockets (λ r h is. ((h is).0, each_filter (CanTake r) stays_in sockets (h is).1)) requests)
 
 -- sockets are gone that were in no group
 gone_sound : (flat : Flat) (stays_in : Socket → Bool) → ((x : Socket) → stays_in x ≡ false → is_sharing x ≡ false) → IsSound flat → IsSound (record flat { sockets = filter stays_in flat.sockets })
@@ -134,6 +172,7 @@ gone_sound flat stays_in gone sound = record {
   tuples = pairs_filter TuplesDiffer stays_in flat.sockets sound.tuples;
   origins = each_filter IsItsOwn stays_in flat.sockets sound.origins;
   awake = each_filter IsAwakeIfNamed stays_in flat.sockets sound.awake;
+  requests = requests_left flat.sections stays_in flat.sockets sound.requests;
   grouped = filter_grouped flat.header.shape.bind stays_in flat.sockets flat.groups gone sound.grouped;
 }
 
@@ -151,6 +190,7 @@ after_search flat n first suits =
 after_sound : (flat after : Flat) (n : ℕ) → IsAfter flat after → IsSound flat → IsSound after
 after_sound flat after n is sound =
     let given : Each (IsGiven after.sections) flat.sockets = stay_given n flat.sections after.sections flat.sockets (keeps_at n flat after is.labels) sound.given in
+    let requests : Each (HasListener after.sections flat.sockets) flat.sockets = requests_stay n flat.sections after.sections flat.sockets (keeps_at n flat after is.labels) sound.requests in
     record {
       names = rw is.sockets sound.names;
       given = rw is.sockets given;
@@ -158,8 +198,15 @@ after_sound flat after n is sound =
       tuples = rw is.sockets sound.tuples;
       origins = rw is.sockets sound.origins;
       awake = rw is.sockets sound.awake;
+      requests = rw is.sockets requests;
       grouped = rw (is.header, is.sockets, is.groups) sound.grouped;
     }
+
+-- a name that no label stands for yet is no request's listener's
+fresh_origins : (flat : Flat) (n : ℕ) → length (labels_of n flat.sections) + 1 < 2 ^ 24 → IsSound flat → Each (λ r. r.owner.state ≡ states.Request → next_name n flat.sections ≢ r.owner.origin) flat.sockets
+fresh_origins flat n room sound =
+    each_weaken (HasListener flat.sections flat.sockets) (λ r. r.owner.state ≡ states.Request → next_name n flat.sections ≢ r.owner.origin) flat.sockets
+    (λ r h is same. is_new n flat.sections r.owner.origin room (h is).0 (sym same)) sound.requests
 
 -- `socket`
 
@@ -176,6 +223,8 @@ socket_sound flat n label options room sound =
       origin = λ _. (refl, refl);
       quiet = refl;
       awake = refl;
+      apart = fresh_origins flat n room sound;
+      listener = λ is. absurd (cc);
     })
 
 -- the socket is one of the list's
@@ -210,6 +259,7 @@ free_agrees a sockets free =
 -- a socket that holds no four-tuple fits where no other owner refuses it
 record IsFree (flat : Flat) (s new : Socket) (tested : Owner) : Type 0 where
   before : holds_tuple s.owner.state ≡ false
+  silent : is_listening s.owner.state ≡ false
   now : holds_tuple new.owner.state ≡ false
   named : new.named ≡ s.named
   name : new.owner.name ≡ s.owner.name
@@ -226,6 +276,7 @@ awake_if states.Bound h = refl
 awake_if states.Listening h = refl
 awake_if states.Full h = refl
 awake_if states.TimeWait h = absurd (true≢false h)
+awake_if states.Request h = refl
 
 awake_alike : (t u : State) → holds_tuple t ≡ false → holds_tuple u ≡ false → is_time_wait t ≡ is_time_wait u
 awake_alike t u h k = awake_if t h ∙ sym (awake_if u k)
@@ -236,6 +287,16 @@ quiet_by flat s new sound at before now name =
     let one : IsInOneGroup flat.groups s = of_open (IsInOneGroup flat.groups) flat s at sound.grouped.sharing in
     let silent : is_sharing s ≡ false = rw before refl in
     record { quiet = rw now refl; out = ap (λ k. count_by (has_member k) flat.groups) name ∙ count_quiet flat.groups s silent one }
+
+-- no request came by an open socket that doesn't listen
+takes_none : (flat : Flat) (s new : Socket) → IsSound flat → IsOpen flat s → is_listening s.owner.state ≡ false → new.named ≡ s.named → new.owner.name ≡ s.owner.name → Each (λ r. r.owner.state ≡ states.Request → CanTake r new) flat.sockets
+takes_none flat s new sound at silent named name =
+    each_weaken (HasListener flat.sections flat.sockets) (λ r. r.owner.state ≡ states.Request → CanTake r new) flat.sockets
+    (λ r h is named_new same.
+    let free : is_no_ack s.owner r.owner ≡ false = of_open (CanTake r) flat s at (h is).1 (sym named ∙ named_new) (sym name ∙ same) in
+    let none : is_no_ack s.owner r.owner ≡ true = rw silent refl in
+    absurd (true≢false (sym none ∙ free)))
+    sound.requests
 
 free_fits : (flat : Flat) (s new : Socket) (tested : Owner) → IsSound flat → IsOpen flat s → IsFree flat s new tested → Fits flat new
 free_fits flat s new tested sound at is =
@@ -248,6 +309,8 @@ free_fits flat s new tested sound at is =
       tuples = each_of_all (λ x. NamesDiffer new x → TuplesDiffer new x) flat.sockets (λ x differ p q. absurd (true≢false (sym p ∙ is.now)));
       origin = λ _. (is.origin ∙ (own is.before).0 ∙ sym is.name, is.by_connect ∙ (own is.before).1);
       awake = is.named ∙ of_open IsAwakeIfNamed flat s at sound.awake ∙ ap not (awake_alike s.owner.state new.owner.state is.before is.now);
+      settled = λ e. true≢false (sym (ap holds_tuple e) ∙ is.now);
+      takes = takes_none flat s new sound at is.silent is.named is.name;
     }
 
 -- `bind`
@@ -268,6 +331,10 @@ none_refuses a (x ∷ xs) h =
     let later : is_refused a xs ≡ false = none_refuses a xs parts.1 in
     rw (here, later) refl
 
+is_true : (b : Bool) → not b ≡ false → b ≡ true
+is_true true h = refl
+is_true false h = absurd (true≢false h)
+
 not_true : (b : Bool) → not b ≡ true → b ≡ false
 not_true false h = refl
 not_true true h = absurd (true≢false (sym h))
@@ -283,6 +350,7 @@ bound_sound : (flat : Flat) (s : Socket) (end : End) (reply : Reply) → s.owner
 bound_sound flat s end reply unbound sound at free =
     changed_sound flat (at_end s end) reply sound (free_fits flat s (at_end s end) (at_end s end).owner sound at (record {
       before = ap holds_tuple unbound;
+      silent = ap is_listening unbound;
       now = refl;
       named = refl;
       name = refl;
@@ -326,6 +394,8 @@ addressed_sound flat s addr reply unbound sound at =
       tuples = each_of_all (λ x. NamesDiffer new x → TuplesDiffer new x) flat.sockets (λ x differ p q. absurd (true≢false (sym p)));
       origin = λ _. of_open IsItsOwn flat s at sound.origins before;
       awake = of_open IsAwakeIfNamed flat s at sound.awake ∙ ap not (awake_alike s.owner.state states.Unbound before refl);
+      settled = λ e. cc;
+      takes = takes_none flat s new sound at (ap is_listening unbound) refl refl;
     })
     (quiet_by flat s new sound at (ap is_listening unbound) refl refl)
 
@@ -364,6 +434,7 @@ record MayListen (was s : Socket) : Type 0 where
 listening_fits : (flat : Flat) (was s : Socket) → MayListen was s → IsSound flat → IsOpen flat was → is_refused s.owner flat.sockets ≡ false → Fits flat (listening s)
 listening_fits flat was s may sound at free = free_fits flat was (listening s) s.owner sound at (record {
   before = may.before;
+  silent = may.silent;
   now = refl;
   named = may.named;
   name = may.name;
@@ -468,13 +539,10 @@ listen_sound flat n (Some s) sound at = listen_socket_sound flat n s s.owner.sta
 
 -- `connect`
 
--- tests on a full socket, and on a TIME_WAIT, that failed
-no_twin : (full same : Bool) → (full && same) ≡ false → full ≡ true → same ≡ false
-no_twin full same h e = rw e at h
-
--- who holds a four-tuple is full, or waits
-no_holder : (t : State) (same : Bool) → (is_full t && same) ≡ false → (is_time_wait t && same) ≡ false → holds_tuple t ≡ true → same ≡ false
+-- who holds a four-tuple is full, a request, or waits
+no_holder : (t : State) (same : Bool) → (claims_tuple t && same) ≡ false → (is_time_wait t && same) ≡ false → holds_tuple t ≡ true → same ≡ false
 no_holder states.Full same full waits holds = full
+no_holder states.Request same full waits holds = full
 no_holder states.TimeWait same full waits holds = waits
 no_holder states.Unbound same full waits holds = absurd (true≢false (sym holds))
 no_holder states.Bound same full waits holds = absurd (true≢false (sym holds))
@@ -483,7 +551,7 @@ no_holder states.Listening same full waits holds = absurd (true≢false (sym hol
 -- once the TIME_WAITs of its four-tuple are gone, who has no twin shares its four-tuple with none
 tuple_is_new : (new : Socket) (flat : Flat) → has_twin new.owner flat.sockets ≡ false → Each (λ x. TuplesDiffer new x) (replacing flat new.owner).sockets
 tuple_is_new new flat free =
-    let twin : Socket → Bool = λ x. is_full x.owner.state && have_one_tuple new.owner x.owner in
+    let twin : Socket → Bool = λ x. claims_tuple x.owner.state && have_one_tuple new.owner x.owner in
     let NoTwin : Socket → Type 0 = λ x. twin x ≡ false in
     each_filter_kept (λ x. TuplesDiffer new x) (λ x. not (waits_at new.owner x)) flat.sockets
     (each_weaken NoTwin (λ x. not (waits_at new.owner x) ≡ true → TuplesDiffer new x) flat.sockets
@@ -497,6 +565,7 @@ waiter_is_quiet states.Full same shares h = refl
 waiter_is_quiet states.Unbound same shares h = refl
 waiter_is_quiet states.Bound same shares h = refl
 waiter_is_quiet states.TimeWait same shares h = refl
+waiter_is_quiet states.Request same shares h = refl
 
 replacing_sound : (flat : Flat) (a : Owner) → IsSound flat → IsSound (replacing flat a)
 replacing_sound flat a sound =
@@ -540,6 +609,8 @@ connect_fits flat s source to bound narrows sound at new_tuple =
       tuples = each_weaken (λ x. TuplesDiffer new x) (λ x. NamesDiffer new x → TuplesDiffer new x) flat.sockets (λ x h differ. h) new_tuple;
       origin = λ unconnected. absurd (true≢false unconnected);
       awake = of_open IsAwakeIfNamed flat s at sound.awake ∙ ap (λ t. not (is_time_wait t)) bound;
+      settled = λ e. cc;
+      takes = takes_none flat s new sound at (ap is_listening bound) refl refl;
     }
 
 -- the open socket stays where TIME_WAITs go
@@ -623,6 +694,8 @@ search_fits flat s source to port unbound sound at unclaimed new_tuple =
       tuples = each_weaken (λ x. TuplesDiffer new x) (λ x. NamesDiffer new x → TuplesDiffer new x) flat.sockets (λ x h differ. h) new_tuple;
       origin = λ unconnected. absurd (true≢false unconnected);
       awake = of_open IsAwakeIfNamed flat s at sound.awake ∙ ap (λ t. not (is_time_wait t)) unbound;
+      settled = λ e. cc;
+      takes = takes_none flat s new sound at (ap is_listening unbound) refl refl;
     }
 
 -- the port that was found suits the list after the search
@@ -696,6 +769,7 @@ listening_is states.Unbound h = absurd (true≢false (sym h))
 listening_is states.Bound h = absurd (true≢false (sym h))
 listening_is states.Full h = absurd (true≢false (sym h))
 listening_is states.TimeWait h = absurd (true≢false (sym h))
+listening_is states.Request h = absurd (true≢false (sym h))
 
 -- a listens, p has the port, z names no address, m has the address, e no end
 none_refused : (a p z m e : Bool) → (not a || not p || z || not m || e) ≡ false → (a ≡ true) × (p ≡ true) × (m ≡ true)
@@ -715,54 +789,125 @@ agrees_as_child : (l child x : Socket) → Narrows child.owner l.owner → is_ow
 agrees_as_child l child x narrow owns (inl e) p q = agrees_by_origin x.owner child.owner (ap (λ (y : Socket). y.owner.origin) e ∙ sym narrow.origin)
 agrees_as_child l child x narrow owns (inr h) p q = agrees_both_ways x.owner child.owner ∙ agrees_where_narrowed child.owner l.owner x.owner narrow (h owns p)
 
+-- the list once the label is given
+labelled_sound : (flat : Flat) (n : ℕ) (label : List ℕ) → IsSound flat → IsSound (with_new_label flat n label)
+labelled_sound flat n label sound = labels_sound flat n (with_given flat.header n label flat.sections) (given_gives flat.header n label flat.sections) sound
+
+-- a newcomer of a listener's comes last, once the TIME_WAITs of its four-tuple are gone
+newcomer_sound : (flat : Flat) (new : Socket) → IsSound flat → (has_twin new.owner flat.sockets ≡ false → Joins (replacing flat new.owner) new) → Sound (accept_as flat new)
+newcomer_sound flat new sound joins =
+    let done : Outcome = added (replacing flat new.owner) new replies.Ok in
+    cond_both (has_twin new.owner flat.sockets) (unchanged flat replies.Eaddrnotavail) (if not (has_slot flat) then no_slot flat else done) Sound
+    (λ _. sound)
+    (λ free. cond_both (not (has_slot flat)) (no_slot flat) done Sound (λ _. sound) (λ _. added_sound (replacing flat new.owner) new (replacing_sound flat new.owner sound) (joins free)))
+
+-- a child agrees with each that stays, where it is a listener's among the sockets
+child_agrees : (flat : Flat) (l child : Socket) (stays_in : Socket → Bool) → Narrows child.owner l.owner → is_owner l.owner.state ≡ true → Each (λ x. (x ≡ l) ⊎ AgreeAsOwners l x) flat.sockets → Each (λ x. AgreeAsOwners x child) (filter stays_in flat.sockets)
+child_agrees flat l child stays_in narrow owns agree =
+    each_filter (λ x. AgreeAsOwners x child) stays_in flat.sockets
+    (each_weaken (λ x. (x ≡ l) ⊎ AgreeAsOwners l x) (λ x. AgreeAsOwners x child) flat.sockets (λ x. agrees_as_child l child x narrow owns) agree)
+
+child_narrows : (l : Socket) (name : ℕ) (from at : End) → CanAccept l.owner at → Narrows (child_of l name from at).owner l.owner
+child_narrows l name from at fit = record {
+  port = refl;
+  dev = refl;
+  net = refl;
+  addr = fit.addr;
+  uid = refl;
+  reuseaddr = refl;
+  reuseport = refl;
+  origin = refl;
+  by_connect = refl;
+  listening = refl;
+  waiting = ap is_time_wait fit.listens;
+}
+
+tuple_joins : (flat : Flat) (new : Socket) → has_twin new.owner flat.sockets ≡ false → Each (λ x. TuplesDiffer x new) (replacing flat new.owner).sockets
+tuple_joins flat new free =
+    each_weaken (λ x. TuplesDiffer new x) (λ x. TuplesDiffer x new) (without_waiting new.owner flat.sockets) (λ x. tuples_swap new x) (tuple_is_new new flat free)
+
 child_joins : (flat : Flat) (n : ℕ) (label : List ℕ) (l : Socket) (from at : End) → length (labels_of n flat.sections) + 1 < 2 ^ 24 → CanAccept l.owner at → IsSound flat → IsOpen flat l
     → has_twin (child_of l (next_name n flat.sections) from at).owner flat.sockets ≡ false → Joins (replacing (with_new_label flat n label) (child_of l (next_name n flat.sections) from at).owner) (child_of l (next_name n flat.sections) from at)
 child_joins flat n label l from at room fit sound is free =
     let child : Socket = child_of l (next_name n flat.sections) from at in
     let stays_in : Socket → Bool = λ x. not (waits_at child.owner x) in
-    let narrow : Narrows child.owner l.owner = record {
-      port = refl;
-      dev = refl;
-      net = refl;
-      addr = fit.addr;
-      uid = refl;
-      reuseaddr = refl;
-      reuseport = refl;
-      origin = refl;
-      by_connect = refl;
-      listening = refl;
-      waiting = ap is_time_wait fit.listens;
-    } in
     record {
       given = next_is_given flat.header n label flat.sections child room refl;
       names = each_filter (λ x. NamesDiffer x child) stays_in flat.sockets (next_is_new n flat.sections flat.sockets room sound.given);
-      bound = each_filter (λ x. AgreeAsOwners x child) stays_in flat.sockets
-          (each_weaken (λ x. (x ≡ l) ⊎ AgreeAsOwners l x) (λ x. AgreeAsOwners x child) flat.sockets (λ x. agrees_as_child l child x narrow (ap is_owner fit.listens)) (with_open flat l sound is));
-      tuples = each_weaken (λ x. TuplesDiffer child x) (λ x. TuplesDiffer x child) (without_waiting child.owner flat.sockets) (λ x. tuples_swap child x) (tuple_is_new child flat free);
+      bound = child_agrees flat l child stays_in (child_narrows l (next_name n flat.sections) from at fit) (ap is_owner fit.listens) (with_open flat l sound is);
+      tuples = tuple_joins flat child free;
       origin = λ unconnected. absurd (true≢false unconnected);
       quiet = refl;
       awake = refl;
+      apart = each_filter (λ r. r.owner.state ≡ states.Request → child.owner.name ≢ r.owner.origin) stays_in flat.sockets (fresh_origins flat n room sound);
+      listener = λ is. absurd (cc);
     }
-
-accept_as_sound : (flat : Flat) (n : ℕ) (label : List ℕ) (l : Socket) (from at : End) → length (labels_of n flat.sections) + 1 < 2 ^ 24 → CanAccept l.owner at → IsSound flat → IsOpen flat l
-    → Sound (accept_as (with_new_label flat n label) (child_of l (next_name n flat.sections) from at))
-accept_as_sound flat n label l from at room fit sound is =
-    let child : Socket = child_of l (next_name n flat.sections) from at in
-    let labelled : Flat = with_new_label flat n label in
-    let kept : IsSound labelled = labels_sound flat n (with_given flat.header n label flat.sections) (given_gives flat.header n label flat.sections) sound in
-    let done : Outcome = added (replacing labelled child.owner) child replies.Ok in
-    cond_both (has_twin child.owner flat.sockets) (unchanged labelled replies.Eaddrnotavail) (if not (has_slot labelled) then no_slot labelled else done) Sound
-    (λ _. kept)
-    (λ free. cond_both (not (has_slot labelled)) (no_slot labelled) done Sound (λ _. kept) (λ _. added_sound (replacing labelled child.owner) child (replacing_sound labelled child.owner kept) (child_joins flat n label l from at room fit sound is free)))
 
 accept_sound : (flat : Flat) (n : ℕ) (label : List ℕ) (o : Option Socket) (from at : End) → length (labels_of n flat.sections) + 1 < 2 ^ 24 → IsSound flat → ((s : Socket) → o ≡ Some s → IsOpen flat s)
     → Sound (accept (with_new_label flat n label) (next_name n flat.sections) o from at)
-accept_sound flat n label None from at room sound is = labels_sound flat n (with_given flat.header n label flat.sections) (given_gives flat.header n label flat.sections) sound
+accept_sound flat n label None from at room sound is = labelled_sound flat n label sound
 accept_sound flat n label (Some l) from at room sound is =
     let labelled : Flat = with_new_label flat n label in
-    cond_both (is_no_accept l.owner from at) (unchanged labelled replies.Einval) (accept_as labelled (child_of l (next_name n flat.sections) from at)) Sound
-    (λ _. labels_sound flat n (with_given flat.header n label flat.sections) (given_gives flat.header n label flat.sections) sound)
-    (λ fits. accept_as_sound flat n label l from at room (can_accept l.owner from at fits) sound (is l refl))
+    let child : Socket = child_of l (next_name n flat.sections) from at in
+    let kept : IsSound labelled = labelled_sound flat n label sound in
+    cond_both (is_no_accept l.owner from at) (unchanged labelled replies.Einval) (accept_as labelled child) Sound
+    (λ _. kept)
+    (λ fits. newcomer_sound labelled child kept (child_joins flat n label l from at room (can_accept l.owner from at fits) sound (is l refl)))
+
+-- `syn`
+
+-- the listener can accept at its request's ends
+takes_own : (l : Socket) (name : ℕ) (from at : End) → is_no_accept l.owner from at ≡ false → CanAccept l.owner at → is_no_ack l.owner (request_of l name from at).owner ≡ false
+takes_own l name from at accepts fit =
+    let same : is_no_accept l.owner from (record { addr = at.addr; port = l.owner.port }) ≡ false = ap (λ port. is_no_accept l.owner from (record { addr = at.addr; port = port })) (sym fit.port) ∙ accepts in
+    let one_net : (l.owner.net == l.owner.net) ≡ true = eq-eqb l.owner.net l.owner.net refl in
+    rw (same, one_net) refl
+
+-- and no other socket has the name by which the request came
+takes_if : (l r x : Socket) → r.owner.origin ≡ l.owner.name → is_no_ack l.owner r.owner ≡ false → (x ≡ l) ⊎ NamesDiffer l x → CanTake r x
+takes_if l r x origin fits (inl e) named same = subst (λ (y : Socket). is_no_ack y.owner r.owner ≡ false) (sym e) fits
+takes_if l r x origin fits (inr differ) named same = absurd (differ (sym (same ∙ origin)))
+
+-- a request is no owner of a port
+request_joins : (flat : Flat) (n : ℕ) (label : List ℕ) (l : Socket) (from at : End) → length (labels_of n flat.sections) + 1 < 2 ^ 24 → is_no_accept l.owner from at ≡ false → IsSound flat → IsOpen flat l
+    → has_twin (request_of l (next_name n flat.sections) from at).owner flat.sockets ≡ false → Joins (replacing (with_new_label flat n label) (request_of l (next_name n flat.sections) from at).owner) (request_of l (next_name n flat.sections) from at)
+request_joins flat n label l from at room accepts sound is_there free =
+    let request : Socket = request_of l (next_name n flat.sections) from at in
+    let stays_in : Socket → Bool = λ x. not (waits_at request.owner x) in
+    let fit : CanAccept l.owner at = can_accept l.owner from at accepts in
+    let origin : l.owner.origin ≡ l.owner.name = (of_open IsItsOwn flat l is_there sound.origins (ap holds_tuple fit.listens)).0 in
+    let given : IsGivenName flat.sections l.owner.name = of_open (IsGiven flat.sections) flat l is_there sound.given in
+    let takes : is_no_ack l.owner request.owner ≡ false = takes_own l (next_name n flat.sections) from at accepts fit in
+    record {
+      given = next_is_given flat.header n label flat.sections request room refl;
+      names = each_filter (λ x. NamesDiffer x request) stays_in flat.sockets (next_is_new n flat.sections flat.sockets room sound.given);
+      bound = each_of_all (λ x. AgreeAsOwners x request) (without_waiting request.owner flat.sockets) (λ x p q. absurd (true≢false (sym q)));
+      tuples = tuple_joins flat request free;
+      origin = λ unconnected. absurd (true≢false unconnected);
+      quiet = refl;
+      awake = refl;
+      apart = each_filter (λ r. r.owner.state ≡ states.Request → request.owner.name ≢ r.owner.origin) stays_in flat.sockets (fresh_origins flat n room sound);
+      listener = λ is. (
+        rw origin (stays_given n flat.sections (with_given flat.header n label flat.sections) l.owner.name (given_gives flat.header n label flat.sections) given),
+        (
+          each_filter (CanTake request) stays_in flat.sockets
+              (each_weaken (λ x. (x ≡ l) ⊎ NamesDiffer l x) (CanTake request) flat.sockets (λ x. takes_if l request x origin takes)
+              (pairs_found NamesDiffer (λ x. has_name is_there.0 x && x.named) flat.sockets l names_swap sound.names is_there.1)),
+          λ named same. absurd (is_new n flat.sections l.owner.name room given (sym (same ∙ origin))),
+        ),
+      );
+    }
+
+syn_sound : (flat : Flat) (n : ℕ) (label : List ℕ) (o : Option Socket) (from at : End) → length (labels_of n flat.sections) + 1 < 2 ^ 24 → IsSound flat → ((s : Socket) → o ≡ Some s → IsOpen flat s)
+    → Sound (syn (with_new_label flat n label) (next_name n flat.sections) o from at)
+syn_sound flat n label None from at room sound is = labelled_sound flat n label sound
+syn_sound flat n label (Some l) from at room sound is =
+    let labelled : Flat = with_new_label flat n label in
+    let request : Socket = request_of l (next_name n flat.sections) from at in
+    let kept : IsSound labelled = labelled_sound flat n label sound in
+    cond_both (is_no_accept l.owner from at) (unchanged labelled replies.Einval) (accept_as labelled request) Sound
+    (λ _. kept)
+    (λ accepts. newcomer_sound labelled request kept (request_joins flat n label l from at room accepts sound (is l refl)))
 
 -- `drop` and `close`
 
@@ -776,12 +921,87 @@ removed_sound flat s reply sound =
       tuples = pairs_filter TuplesDiffer stays_in flat.sockets sound.tuples;
       origins = each_filter IsItsOwn stays_in flat.sockets sound.origins;
       awake = each_filter IsAwakeIfNamed stays_in flat.sockets sound.awake;
+      requests = requests_left flat.sections stays_in flat.sockets sound.requests;
       grouped = remove_grouped flat.header.shape.bind s.owner.name flat.sockets flat.groups sound.grouped;
     }
 
 drop_sound : (flat : Flat) (o : Option Socket) → IsSound flat → Sound (drop flat o)
 drop_sound flat None sound = sound
 drop_sound flat (Some s) sound = removed_sound flat s replies.Ok sound
+
+-- `ack`
+
+-- a request is in no group, and so all groups stay as they are where it goes
+request_gone : (flat : Flat) (r : Socket) → r.owner.state ≡ states.Request → IsSound flat → IsOpen flat r → IsSound (without_request flat r)
+request_gone flat r is sound at =
+    let one : IsInOneGroup flat.groups r = of_open (IsInOneGroup flat.groups) flat r at sound.grouped.sharing in
+    let silent : is_listening r.owner.state ≡ false = ap is_listening is in
+    let same : leave r.owner.name flat.groups ≡ flat.groups = leave_none flat.header.shape.bind r.owner.name flat.sockets flat.groups (count_quiet flat.groups r (rw silent refl) one) sound.grouped in
+    subst (λ groups. IsSound (record flat { sockets = without r.owner.name flat.sockets; groups = groups })) same (removed_sound flat r replies.Ok sound)
+
+-- the request's ends are its listener's child's
+record CanAck (l r : Owner) : Type 0 where
+  accepts : CanAccept l (own_end r)
+  net : l.net ≡ r.net
+
+can_ack : (l r : Owner) → is_no_ack l r ≡ false → CanAck l r
+can_ack l r h =
+    let parts = or_parts (is_no_accept l (other_end r) (own_end r)) (not (l.net == r.net)) h in
+    record { accepts = can_accept l (other_end r) (own_end r) parts.0; net = eqb-true l.net r.net (is_true (l.net == r.net) parts.1) }
+
+-- another than the request has another four-tuple than the child
+heir_tuple : (l r : Socket) (name : ℕ) (x : Socket) → r.owner.state ≡ states.Request → CanAck l.owner r.owner → (x ≡ r) ⊎ TuplesDiffer r x → not (has_name r.owner.name x) ≡ true → TuplesDiffer x (heir_of l name r)
+heir_tuple l r name x is fit (inl e) stays p q =
+    absurd (true≢false (sym (eq-eqb x.owner.name r.owner.name (ap (λ (y : Socket). y.owner.name) e)) ∙ not_true (has_name r.owner.name x) stays))
+heir_tuple l r name x is fit (inr h) stays p q =
+    tuples_either_way x.owner (heir_of l name r).owner
+    ∙ rw (fit.net, sym fit.accepts.port) (h (ap holds_tuple is) p)
+
+heir_joins : (flat : Flat) (n : ℕ) (label : List ℕ) (l r : Socket) → length (labels_of n flat.sections) + 1 < 2 ^ 24 → r.owner.state ≡ states.Request → CanAck l.owner r.owner → IsSound flat → IsOpen flat r → open_in n r.owner.origin flat.sockets ≡ Some l
+    → Joins (without_request (with_new_label flat n label) r) (heir_of l (next_name n flat.sections) r)
+heir_joins flat n label l r room is fit sound at found =
+    let child : Socket = heir_of l (next_name n flat.sections) r in
+    let stays_in : Socket → Bool = λ x. not (has_name r.owner.name x) in
+    record {
+      given = next_is_given flat.header n label flat.sections child room refl;
+      names = each_filter (λ x. NamesDiffer x child) stays_in flat.sockets (next_is_new n flat.sections flat.sockets room sound.given);
+      bound = child_agrees flat l child stays_in (child_narrows l (next_name n flat.sections) (other_end r.owner) (own_end r.owner) fit.accepts) (ap is_owner fit.accepts.listens)
+          (pairs_found AgreeAsOwners (λ x. has_name r.owner.origin x && is_open_in n x) flat.sockets l owners_swap sound.bound found);
+      tuples = each_filter_kept (λ x. TuplesDiffer x child) stays_in flat.sockets
+          (each_weaken (λ x. (x ≡ r) ⊎ TuplesDiffer r x) (λ x. stays_in x ≡ true → TuplesDiffer x child) flat.sockets (λ x. heir_tuple l r (next_name n flat.sections) x is fit)
+          (pairs_found TuplesDiffer (λ x. has_name at.0 x && x.named) flat.sockets r tuples_swap sound.tuples at.1));
+      origin = λ unconnected. absurd (true≢false unconnected);
+      quiet = refl;
+      awake = refl;
+      apart = each_filter (λ x. x.owner.state ≡ states.Request → child.owner.name ≢ x.owner.origin) stays_in flat.sockets (fresh_origins flat n room sound);
+      listener = λ is. absurd (cc);
+    }
+
+ack_by_sound : (flat : Flat) (n : ℕ) (label : List ℕ) (r : Socket) (o : Option Socket) → length (labels_of n flat.sections) + 1 < 2 ^ 24 → r.owner.state ≡ states.Request → IsSound flat → IsOpen flat r → open_in n r.owner.origin flat.sockets ≡ o
+    → Sound (ack_by (with_new_label flat n label) (next_name n flat.sections) r o)
+ack_by_sound flat n label r None room is sound at found = labelled_sound flat n label sound
+ack_by_sound flat n label r (Some l) room is sound at found =
+    let labelled : Flat = with_new_label flat n label in
+    let child : Socket = heir_of l (next_name n flat.sections) r in
+    let kept : IsSound labelled = labelled_sound flat n label sound in
+    cond_both (is_no_ack l.owner r.owner) (unchanged labelled replies.Einval) (hand_over labelled r child) Sound
+    (λ _. kept)
+    (λ fits. cond_both (not (has_slot labelled)) (no_slot labelled) (added (without_request labelled r) child replies.Ok) Sound
+    (λ _. kept)
+    (λ _. added_sound (without_request labelled r) child (request_gone labelled r is kept at) (heir_joins flat n label l r room is (can_ack l.owner r.owner fits) sound at found)))
+
+ack_socket_sound : (flat : Flat) (n : ℕ) (label : List ℕ) (r : Socket) (t : State) → length (labels_of n flat.sections) + 1 < 2 ^ 24 → r.owner.state ≡ t → IsSound flat → IsOpen flat r
+    → Sound (ack_socket (with_new_label flat n label) n (next_name n flat.sections) r t)
+ack_socket_sound flat n label r states.Request room is sound at =
+    ack_by_sound flat n label r (open_in n r.owner.origin flat.sockets) room is sound at refl
+ack_socket_sound flat n label r _ room is sound at = labelled_sound flat n label sound
+
+ack_sound : (flat : Flat) (n : ℕ) (label : List ℕ) (o : Option Socket) → length (labels_of n flat.sections) + 1 < 2 ^ 24 → IsSound flat → ((s : Socket) → o ≡ Some s → IsOpen flat s)
+    → Sound (ack (with_new_label flat n label) n (next_name n flat.sections) o)
+ack_sound flat n label None room sound is = labelled_sound flat n label sound
+ack_sound flat n label (Some r) room sound is = ack_socket_sound flat n label r r.owner.state room refl sound (is r refl)
+
+-- `close` of a full socket
 
 any_or_itself : (a : ℕ) → ((a == 0) || (a == a)) ≡ true
 any_or_itself a = grind (arith, nat_tests)
@@ -815,6 +1035,8 @@ waiting_fits flat s moment full sound at =
           (pairs_found TuplesDiffer (λ x. has_name at.0 x && x.named) flat.sockets s tuples_swap sound.tuples at.1);
       origin = λ unconnected. absurd (true≢false unconnected);
       awake = refl;
+      settled = λ e. cc;
+      takes = each_of_all (λ r. r.owner.state ≡ states.Request → CanTake r new) flat.sockets (λ r is named. absurd (true≢false (sym named)));
     }
 
 close_socket_sound : (flat : Flat) (n : ℕ) (s : Socket) (t : State) → s.owner.state ≡ t → IsSound flat → IsOpen flat s → Sound (close_socket flat n s t)
@@ -846,6 +1068,7 @@ over_is_quiet states.Full ours over shares h = refl
 over_is_quiet states.Unbound ours over shares h = refl
 over_is_quiet states.Bound ours over shares h = refl
 over_is_quiet states.TimeWait ours over shares h = refl
+over_is_quiet states.Request ours over shares h = refl
 
 reap_sound : (flat : Flat) (n : ℕ) → IsSound flat → Sound (reap flat n)
 reap_sound flat n sound =
@@ -862,6 +1085,10 @@ stays flat n (commands.Listen label) room sound = listen_sound flat n (open_sock
 stays flat n (commands.Connect label from to) room sound = connect_sound flat n (open_socket flat n label) from to sound (is_open flat n label)
 stays flat n (commands.Accept listener label from at) room sound =
     accept_sound flat n label (open_socket flat n listener) from at room sound (is_open flat n listener)
+stays flat n (commands.Syn listener label from at) room sound =
+    syn_sound flat n label (open_socket flat n listener) from at room sound (is_open flat n listener)
+stays flat n (commands.Ack request label) room sound =
+    ack_sound flat n label (open_socket flat n request) room sound (is_open flat n request)
 stays flat n (commands.Drop label) room sound = drop_sound flat (open_socket flat n label) sound
 stays flat n (commands.Close label) room sound = close_sound flat n (open_socket flat n label) sound (is_open flat n label)
 stays flat n (commands.At moment) room sound = at_sound flat n moment sound

@@ -27,6 +27,7 @@ abbrev pub extra_as : Kind → List Group → Socket → ℕ
 extra_as kinds.Listen groups s = option_map_or (λ (g : Group). g.number + 1) (group_of s.owner.name groups) 0
 extra_as kinds.TimeWait groups s = s.stamp
 extra_as kinds.Full groups s = 0
+extra_as kinds.Request groups s = 0
 
 -- the card under which a socket is looked up
 abbrev pub card_of : List Group → Socket → Option Card

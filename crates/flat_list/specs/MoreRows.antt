@@ -215,6 +215,50 @@ wait_taken =
     ∷ says (commands.Bind (codes "p") (one 80)) (replies.Port 80)
     ∷ []
 
+-- of two slots a listener has one and a request the other; a request's label serves `ack` alone, until `close` lets its
+-- slot and its four-tuple go
+abbrev pub requests : List Line
+requests =
+    says (sharing (codes "l")) replies.Ok
+    ∷ says (commands.Bind (codes "l") (one 80)) (replies.Port 80)
+    ∷ says (commands.Listen (codes "l")) (replies.Port 80)
+    ∷ says (commands.Syn (codes "l") (codes "r") (two 1000) (one 80)) replies.Ok
+    ∷ says (commands.Bind (codes "r") (one 81)) replies.Einval
+    ∷ says (commands.Listen (codes "r")) replies.Einval
+    ∷ says (commands.Connect (codes "r") None (two 81)) replies.Einval
+    ∷ says (commands.Accept (codes "r") (codes "c1") (two 1001) (one 80)) replies.Einval
+    ∷ says (commands.Syn (codes "r") (codes "c2") (two 1001) (one 80)) replies.Einval
+    ∷ says (commands.Ack (codes "l") (codes "c3")) replies.Einval
+    ∷ says (commands.Ack (codes "c1") (codes "c4")) replies.Ebadf
+    ∷ says (sharing (codes "o")) replies.Ok
+    ∷ says (commands.Bind (codes "o") (one 80)) (replies.Port 80)
+    ∷ says (commands.Connect (codes "o") None (two 1000)) replies.Eaddrnotavail
+    ∷ says (commands.Connect (codes "o") None (two 1001)) (replies.Enfile 2 0)
+    ∷ says (commands.Close (codes "r")) replies.Ok
+    ∷ says (look_for (two 1000) (one 80) None) (found_in_group (name_at 1 0) (one 80) 0 0)
+    ∷ says (commands.Connect (codes "o") None (two 1000)) (replies.End (one 80))
+    ∷ []
+
+-- `syn` takes the place of a TIME_WAIT of its four-tuple, whose port is free then; another listener at the port isn't
+-- the request's own
+abbrev pub wait_requested : List Line
+wait_requested =
+    says (socket (codes "l")) replies.Ok
+    ∷ says (commands.Bind (codes "l") (one 80)) (replies.Port 80)
+    ∷ says (commands.Listen (codes "l")) (replies.Port 80)
+    ∷ says (commands.Accept (codes "l") (codes "c") (two 1000) (one 80)) replies.Ok
+    ∷ says (commands.Close (codes "c")) replies.TimeWait
+    ∷ says (commands.Syn (codes "l") (codes "r") (two 1000) (one 80)) replies.Ok
+    ∷ says (look_for (two 1000) (one 80) None) (found kinds.Request (name_at 1 2) (one 80) (two 1000))
+    ∷ says (commands.Drop (codes "l")) replies.Ok
+    ∷ says (socket (codes "p")) replies.Ok
+    ∷ says (commands.Bind (codes "p") (one 80)) (replies.Port 80)
+    ∷ says (commands.Listen (codes "p")) (replies.Port 80)
+    ∷ says (commands.Ack (codes "r") (codes "d")) replies.Einval
+    ∷ says (commands.At 60) replies.Ok
+    ∷ says commands.Reap (replies.Count 0)
+    ∷ []
+
 -- a socket that shares its port by `reuseport` is let in by another user's TIME_WAIT
 abbrev pub wait_shared : List Line
 wait_shared =

@@ -10,7 +10,7 @@ use Rattle.sock_card.specs.declared.card.Card.{Card}
 use Rattle.sock_card.specs.declared.card.Kind.{Kind}
 use Rattle.sock_card.specs.declared.card.Packet.{Packet}
 use Rattle.sock_card.specs.Conflict.{is_listening}
-use Rattle.sock_card.specs.Became.{connected, child}
+use Rattle.sock_card.specs.Became.{connected, child, as_request}
 use Rattle.flat_list.specs.declared.command.End.{End}
 use Rattle.flat_list.specs.declared.command.Query.{Query}
 use Rattle.flat_list.specs.declared.owned.Options.{Options}
@@ -56,6 +56,11 @@ connected_at a source port to = record (connected_to a source to) { port = port;
 abbrev pub child_owner : Owner → ℕ → End → End → Owner
 child_owner l name from at = child name at.addr from.addr from.port l
 
+-- the request of that name for a handshake with a listener from one end at another: as the child would be, but that it
+-- isn't full
+abbrev pub request_owner : Owner → ℕ → End → End → Owner
+request_owner l name from at = as_request (child_owner l name from at)
+
 -- the source of `connect` for a socket bound to addr, or to none where that is 0.0.0.0: that address, or where it is
 -- 0.0.0.0 the one named; none where none is named, or another than the bound one
 abbrev pub source_of : ℕ → Option ℕ → Option ℕ
@@ -72,6 +77,21 @@ abbrev pub is_no_accept : Owner → End → End → Bool
 is_no_accept l from at =
     not (is_listening l.state) || not (at.port == l.port) || (at.addr == 0)
     || not ((l.addr == 0) || (l.addr == at.addr)) || is_no_end from
+
+-- an owner's own end, and the other's
+abbrev pub own_end : Owner → End
+own_end a = record { addr = a.addr; port = a.port }
+
+abbrev pub other_end : Owner → End
+other_end a = record { addr = a.remote; port = a.rport }
+
+-- the socket of that name which a listener accepts when a request's handshake is over: at the request's ends
+abbrev pub heir_owner : Owner → ℕ → Owner → Owner
+heir_owner l name r = child_owner l name (other_end r) (own_end r)
+
+-- this is no listener, or none that could accept at the request's ends in its namespace
+abbrev pub is_no_ack : Owner → Owner → Bool
+is_no_ack l r = is_no_accept l (other_end r) (own_end r) || not (l.net == r.net)
 
 -- the card of that kind under which lookups see it
 abbrev pub card_as : Kind → Owner → ℕ → Card

@@ -89,6 +89,12 @@ e = codes "e"
 abbrev pub f : List ℕ
 f = codes "f"
 
+abbrev pub q : List ℕ
+q = codes "q"
+
+abbrev pub r : List ℕ
+r = codes "r"
+
 -- 0.0.0.0, 10.0.0.1 and 10.0.0.2 at a port
 abbrev pub any : ℕ → End
 any port = record { addr = 0; port = port }
@@ -234,6 +240,40 @@ accepted_goes_first =
     ∷ says (commands.Drop d) replies.Ebadf
     ∷ says (commands.Drop c) replies.Ok
     ∷ says (look_for (two 1000) (one 80) None) (found kinds.Listen (name_at 1 0) (one 80) nowhere)
+    ∷ []
+
+-- a handshake from 10.0.0.2:1000 with a listener at 10.0.0.1:80
+abbrev pub syn : List ℕ → List ℕ → Command
+syn listener label = commands.Syn listener label (two 1000) (one 80)
+
+abbrev pub begun : List Line
+begun =
+    says (socket a) replies.Ok
+    ∷ says (commands.Bind a (one 80)) (replies.Port 80)
+    ∷ says (commands.Listen a) (replies.Port 80)
+    ∷ says (syn a r) replies.Ok
+    ∷ []
+
+-- a packet finds the request, which has its four-tuple for itself, and after `ack` the child in its place
+abbrev pub handed_over : List Line
+handed_over =
+    begun
+    ++ says (look_for (two 1000) (one 80) None) (found kinds.Request (name_at 1 1) (one 80) (two 1000))
+    ∷ says (syn a q) replies.Eaddrnotavail
+    ∷ says (accept a b) replies.Eaddrnotavail
+    ∷ says (commands.Ack r c) replies.Ok
+    ∷ says (look_for (two 1000) (one 80) None) (found kinds.Full (name_at 1 4) (one 80) (two 1000))
+    ∷ says (commands.Ack r d) replies.Ebadf
+    ∷ []
+
+-- a child needs a slot beside its request's, and its listener; a request that is refused its `ack` stands
+abbrev pub not_handed_over : List Line
+not_handed_over =
+    begun
+    ++ says (commands.Ack r c) (replies.Enfile 2 0)
+    ∷ says (look_for (two 1000) (one 80) None) (found kinds.Request (name_at 1 1) (one 80) (two 1000))
+    ∷ says (commands.Drop a) replies.Ok
+    ∷ says (commands.Ack r d) replies.Einval
     ∷ []
 
 -- of two sockets at one end one gets the four-tuple

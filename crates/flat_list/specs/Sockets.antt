@@ -25,6 +25,7 @@ abbrev pub kind_of : State → Option Kind
 kind_of states.Listening = Some kinds.Listen
 kind_of states.Full = Some kinds.Full
 kind_of states.TimeWait = Some kinds.TimeWait
+kind_of states.Request = Some kinds.Request
 kind_of _ = None
 
 -- a socket that lookups find, and that takes a slot
@@ -32,11 +33,13 @@ abbrev pub is_hashed : State → Bool
 is_hashed states.Listening = true
 is_hashed states.Full = true
 is_hashed states.TimeWait = true
+is_hashed states.Request = true
 is_hashed _ = false
 
--- an owner is a socket that has a port
+-- an owner is a socket that has a port; a request isn't one, as it stands at its listener's
 abbrev pub is_owner : State → Bool
 is_owner states.Unbound = false
+is_owner states.Request = false
 is_owner _ = true
 
 abbrev pub has_name : ℕ → Socket → Bool
@@ -45,6 +48,14 @@ has_name name s = s.owner.name == name
 -- the open socket of that name, which a label still names
 abbrev pub open_named : ℕ → List Socket → Option Socket
 open_named name sockets = find (λ s. has_name name s && s.named) sockets
+
+-- an open socket of that section
+abbrev pub is_open_in : ℕ → Socket → Bool
+is_open_in n s = s.named && (s.owner.name / 2 ^ 24 == n)
+
+-- the open socket of that name in that section
+abbrev pub open_in : ℕ → ℕ → List Socket → Option Socket
+open_in n name sockets = find (λ s. has_name name s && is_open_in n s) sockets
 
 -- another socket than that of this name, which has a port
 abbrev pub is_other_owner : ℕ → Socket → Bool
@@ -62,9 +73,11 @@ is_overlapped a sockets = list_any (λ s. is_other_owner a.name s && overlap a s
 abbrev pub is_claimed : ℕ → ℕ → List Socket → Bool
 is_claimed port net sockets = list_any (λ s. is_owner s.owner.state && holds port net s.owner) sockets
 
-abbrev pub is_full : State → Bool
-is_full states.Full = true
-is_full _ = false
+-- a socket of that state has its four-tuple for itself: a full one, or a request for one
+abbrev pub claims_tuple : State → Bool
+claims_tuple states.Full = true
+claims_tuple states.Request = true
+claims_tuple _ = false
 
 -- an owner's four-tuple
 abbrev pub owner_tuple : Owner → Tuple
@@ -74,9 +87,9 @@ owner_tuple a = record { net = a.net; local = a.addr; lport = a.port; remote = a
 abbrev pub have_one_tuple : Owner → Owner → Bool
 have_one_tuple a b = tuples.same_tuple (owner_tuple a) (owner_tuple b)
 
--- some full socket has the owner's four-tuple
+-- some full socket or request has the owner's four-tuple
 abbrev pub has_twin : Owner → List Socket → Bool
-has_twin a sockets = list_any (λ s. is_full s.owner.state && have_one_tuple a s.owner) sockets
+has_twin a sockets = list_any (λ s. claims_tuple s.owner.state && have_one_tuple a s.owner) sockets
 
 -- a TIME_WAIT of the owner's four-tuple
 abbrev pub waits_at : Owner → Socket → Bool
@@ -86,8 +99,8 @@ waits_at a s = is_time_wait s.owner.state && have_one_tuple a s.owner
 abbrev pub gives_way : Bool → ℕ → Socket → Bool
 gives_way switch moment s = switch && nat_lt s.stamp moment
 
--- `connect` can't have the owner's four-tuple at that moment: it is a full socket's, or that of a TIME_WAIT that doesn't
--- give way
+-- `connect` can't have the owner's four-tuple at that moment: it is a full socket's or a request's, or that of a
+-- TIME_WAIT that doesn't give way
 abbrev pub is_taken : Bool → ℕ → Owner → List Socket → Bool
 is_taken switch moment a sockets =
     has_twin a sockets || list_any (λ s. waits_at a s && not (gives_way switch moment s)) sockets

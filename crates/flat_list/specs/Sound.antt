@@ -1,5 +1,5 @@
 -- What holds of every list that commands reach, from the empty one on: our own laws.
-use Rattle.std.specs.Prelude.{◌≡◌, ◌≢◌, ℕ, ◌≤◌, ◌<◌, ◌+◌, ◌/◌, ◌%◌, ◌^◌, Bool, true, false, ◌&&◌, not, List, length, count_by, if◌then◌else◌}
+use Rattle.std.specs.Prelude.{◌≡◌, ◌≢◌, ℕ, ◌≤◌, ◌<◌, ◌+◌, ◌/◌, ◌%◌, ◌^◌, Bool, true, false, ◌&&◌, not, Some, List, length, count_by, if◌then◌else◌}
 use Rattle.std.specs.List.{list_any}
 use Rattle.list_words.specs.Lists.{Each, Pairs}
 use Rattle.sock_card.specs.declared.owner.State.{State}
@@ -8,6 +8,7 @@ use Rattle.sock_card.specs.declared.card.Packet.{Packet}
 use Rattle.sock_card.specs.Limits.{group_room}
 use Rattle.sock_card.specs.Conflict.{owner_key, agree, is_listening, is_time_wait}
 use Rattle.flat_list.specs.declared.command.Command.{Command}
+use Rattle.flat_list.specs.declared.command.Command.TheVariants as commands
 use Rattle.flat_list.specs.declared.command.Reply.{Reply}
 use Rattle.flat_list.specs.declared.command.Reply.TheVariants as replies
 use Rattle.flat_list.specs.declared.header.Header.{Header}
@@ -15,19 +16,25 @@ use Rattle.flat_list.specs.declared.socket.Socket.{Socket}
 use Rattle.flat_list.specs.Flat.{Flat, new_flat}
 use Rattle.flat_list.specs.Groups.{Group, has_member, bucket_of}
 use Rattle.flat_list.specs.Look.{is_best, cards_of}
+use Rattle.flat_list.specs.Outcome.{open_socket}
+use Rattle.flat_list.specs.Owned.{is_no_ack}
 use Rattle.flat_list.specs.Run.{Issued, is_of, after}
 use Rattle.flat_list.specs.Sections.{Section, labels_of}
-use Rattle.flat_list.specs.Sockets.{is_owner, have_one_tuple, has_name, is_mate, slots_used}
+use Rattle.flat_list.specs.Sockets.{is_owner, have_one_tuple, has_name, is_mate, open_in, slots_used}
 use Rattle.flat_list.specs.Step.{step}
 
 -- two sockets have different names
 abbrev pub NamesDiffer : Socket → Socket → Type 0
 NamesDiffer a b = a.owner.name ≢ b.owner.name
 
--- the socket's name was given: the number in it is that of a label which the section in it has given
-pub record IsGiven (sections : List Section) (s : Socket) : Type 0 where
-  pub first : 1 ≤ s.owner.name % 2 ^ 24
-  pub last : s.owner.name % 2 ^ 24 ≤ length (labels_of (s.owner.name / 2 ^ 24) sections)
+-- the name was given: the number in it is that of a label which the section in it has given
+pub record IsGivenName (sections : List Section) (name : ℕ) : Type 0 where
+  pub first : 1 ≤ name % 2 ^ 24
+  pub last : name % 2 ^ 24 ≤ length (labels_of (name / 2 ^ 24) sections)
+
+-- the socket's name was given
+abbrev pub IsGiven : List Section → Socket → Type 0
+IsGiven sections s = IsGivenName sections s.owner.name
 
 -- where both have a port, they may stand beside each other
 abbrev pub AgreeAsOwners : Socket → Socket → Type 0
@@ -37,6 +44,7 @@ AgreeAsOwners a b = is_owner a.owner.state ≡ true → is_owner b.owner.state �
 abbrev pub holds_tuple : State → Bool
 holds_tuple states.Full = true
 holds_tuple states.TimeWait = true
+holds_tuple states.Request = true
 holds_tuple _ = false
 
 -- where both hold a four-tuple, they hold two
@@ -51,6 +59,15 @@ IsItsOwn s = holds_tuple s.owner.state ≡ false → (s.owner.origin ≡ s.owner
 -- an open socket isn't in TIME_WAIT
 abbrev pub IsAwakeIfNamed : Socket → Type 0
 IsAwakeIfNamed s = s.named ≡ not (is_time_wait s.owner.state)
+
+-- where it is open, the socket by whose name a request came can accept at the request's ends
+abbrev pub CanTake : Socket → Socket → Type 0
+CanTake r l = l.named ≡ true → l.owner.name ≡ r.owner.origin → is_no_ack l.owner r.owner ≡ false
+
+-- the name by which a request came was given, and is its listener's where that is open
+abbrev pub HasListener : List Section → List Socket → Socket → Type 0
+HasListener sections sockets r =
+    r.owner.state ≡ states.Request → IsGivenName sections r.owner.origin × Each (CanTake r) sockets
 
 -- a listener that shares its end
 abbrev pub is_sharing : Socket → Bool
@@ -69,7 +86,8 @@ abbrev pub GroupsAreOfMates : List Group → Socket → Socket → Type 0
 GroupsAreOfMates groups a b =
     is_sharing a ≡ true → is_sharing b ≡ true → are_together groups a.owner.name b.owner.name ≡ is_mate a.owner b
 
--- a group's members differ, no more than there is room for, and each is the name of a socket that belongs to the group's bucket
+-- a group's members differ, no more than there is room for, and each is the name of a socket that belongs to the group's
+-- bucket
 pub record IsGroupOf (buckets : ℕ) (sockets : List Socket) (g : Group) : Type 0 where
   pub some : 1 ≤ length g.members
   pub most : length g.members ≤ group_room
@@ -88,9 +106,9 @@ pub record AreGroupsOf (buckets : ℕ) (sockets : List Socket) (groups : List Gr
   pub sharing : Each (IsInOneGroup groups) sockets
   pub mates : Pairs (GroupsAreOfMates groups) sockets
 
--- names are given and differ; no two sockets that have a port conflict; no two full ones or TIME_WAITs have one
--- four-tuple; who isn't connected is of its own origin; all but those in TIME_WAIT are open; the groups are those of the
--- listeners
+-- names are given and differ; no two sockets that have a port conflict; no two full ones, TIME_WAITs or requests have
+-- one four-tuple; who has none is of its own origin; all but those in TIME_WAIT are open; a request is as its listener
+-- made it; the groups are those of the listeners
 pub record IsSound (flat : Flat) : Type 0 where
   pub names : Pairs NamesDiffer flat.sockets
   pub given : Each (IsGiven flat.sections) flat.sockets
@@ -98,6 +116,7 @@ pub record IsSound (flat : Flat) : Type 0 where
   pub tuples : Pairs TuplesDiffer flat.sockets
   pub origins : Each IsItsOwn flat.sockets
   pub awake : Each IsAwakeIfNamed flat.sockets
+  pub requests : Each (HasListener flat.sections flat.sockets) flat.sockets
   pub grouped : AreGroupsOf flat.header.shape.bind flat.sockets flat.groups
 
 abbrev pub StartsSound : Type 0
@@ -145,6 +164,13 @@ FitsSlots flat = slots_used flat.sockets ≤ flat.header.shape.slots
 abbrev pub StaysWithinSlots : Type 0
 StaysWithinSlots =
     (flat : Flat) (n : ℕ) (command : Command) → IsSound flat → FitsSlots flat → FitsSlots (step flat n command).flat
+
+-- while a request's listener is open, its `ack` isn't refused EINVAL
+abbrev pub AcksWhileOpen : Type 0
+AcksWhileOpen =
+    (flat : Flat) (n : ℕ) (request label : List ℕ) (r l : Socket) → IsSound flat → open_socket flat n request ≡ Some r
+    → r.owner.state ≡ states.Request → open_in n r.owner.origin flat.sockets ≡ Some l
+    → (step flat n (commands.Ack request label)).reply ≢ replies.Einval
 
 -- of the cards that match a packet best there is one, or all are members of one group
 abbrev pub FindsOneOrOneGroup : Type 0

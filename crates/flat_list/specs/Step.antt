@@ -16,7 +16,7 @@ use Rattle.flat_list.specs.declared.command.End.{End}
 use Rattle.flat_list.specs.declared.command.Reply.TheVariants as replies
 use Rattle.flat_list.specs.declared.owned.Options.{Options}
 use Rattle.flat_list.specs.declared.socket.Socket.{Socket}
-use Rattle.flat_list.specs.Connect.{connect, accept}
+use Rattle.flat_list.specs.Connect.{connect, accept, syn, ack}
 use Rattle.flat_list.specs.Flat.{Flat}
 use Rattle.flat_list.specs.Look.{look}
 use Rattle.flat_list.specs.Outcome.{Outcome, unchanged, changed, added, removed, with_new_label, open_socket, has_slot, no_slot, Found, search_port}
@@ -183,6 +183,10 @@ step flat n (commands.Listen label) = listen flat n (open_socket flat n label)
 step flat n (commands.Connect label from to) = connect flat n (open_socket flat n label) from to
 step flat n (commands.Accept listener label from at) =
     accept (with_new_label flat n label) (next_name n flat.sections) (open_socket flat n listener) from at
+step flat n (commands.Syn listener label from at) =
+    syn (with_new_label flat n label) (next_name n flat.sections) (open_socket flat n listener) from at
+step flat n (commands.Ack request label) =
+    ack (with_new_label flat n label) n (next_name n flat.sections) (open_socket flat n request)
 step flat n (commands.Close label) = close flat n (open_socket flat n label)
 step flat n (commands.Drop label) = drop flat (open_socket flat n label)
 step flat n (commands.At moment) = at flat n moment
@@ -196,6 +200,8 @@ step flat n commands.Dump = unchanged flat replies.Ok
 abbrev pub gives_label : Command → Bool
 gives_label (commands.Socket label options) = true
 gives_label (commands.Accept listener label from at) = true
+gives_label (commands.Syn listener label from at) = true
+gives_label (commands.Ack request label) = true
 gives_label _ = false
 
 -- a command by which something is kept that wasn't: a label, a socket, a group, a section's moment

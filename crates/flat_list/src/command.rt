@@ -153,6 +153,18 @@ pub enum Command {
         from: End,
         at: End,
     },
+    /// Begins a handshake with a listener, from one end at another: makes a request, and gives it a label.
+    Syn {
+        listener: Label,
+        label: Label,
+        from: End,
+        at: End,
+    },
+    /// Ends a request's handshake: makes a full socket of its listener's in its place, and gives it a label.
+    Ack {
+        request: Label,
+        label: Label,
+    },
     /// Closes a socket: a full one leaves a TIME_WAIT, where a slot is free for that.
     Close {
         label: Label,
@@ -208,7 +220,7 @@ pub enum Reply {
     Eisconn,
     /// Another owner of the port stands in the way, or of each port that was searched.
     Eaddrinuse,
-    /// Another full socket has the four-tuple, or no port that was searched can be had.
+    /// Another full socket or a request has the four-tuple, or no port that was searched can be had.
     Eaddrnotavail,
     /// The socket's group has all its members, or the bucket of its port and namespace all its groups.
     Emfile,

@@ -13,11 +13,11 @@ ghost use Rattle.flat_list.specs.Listed.{listed};
 use crate::command::{Command, End, Label, Reply};
 use crate::group::Group;
 use crate::header::{First, Header};
-use crate::owned::{Options, is_no_accept, is_no_end, packet_of, source_of};
+use crate::owned::{Options, is_no_accept, is_no_ack, is_no_end, packet_of, source_of};
 use crate::section::{Section, draw_word, give_label, moment_of, name_in, section_of, set_moment};
 use crate::socket::{
-    Socket, at_address, at_end, at_port, child_of, connected, connected_by_search, end_of,
-    listening, new_socket, waiting,
+    Socket, at_address, at_end, at_port, child_of, connected, connected_by_search, end_of, heir_of,
+    listening, new_socket, request_of, waiting,
 };
 use crate::{group, ports, search};
 use sock_card::{Card, Packet, State};
@@ -332,6 +332,7 @@ impl Flat {
         match socket.owner.state {
             State::Bound => self.connect_bound(section, socket, from, to),
             State::Unbound => self.connect_unbound(section, socket, from, to),
+            State::Request => Reply::Einval,
             _ => Reply::Eisconn,
         }
     }
@@ -430,6 +431,22 @@ impl Flat {
         self.put(new, Reply::End(end_of(&new)))
     }
 
+    /// Why a newcomer of a listener's can't come, if so: its four-tuple is another's, or no slot is free.
+    fn refusal_of(&self, new: &Socket) -> Option<Reply>
+        ensures refusal { IfSome result (λ reply. connect_spec.accept_as self.now new.now
+            ≡ outcome_spec.unchanged self.now reply) }
+        ensures comes { IfNone result (connect_spec.accept_as self.now new.now
+            ≡ outcome_spec.added (connect_spec.replacing self.now new.now.owner) new.now Reply.Ok) }
+    {
+        if search::has_twin(&new.owner, &self.sockets) {
+            return Some(Reply::Eaddrnotavail);
+        }
+        if !self.has_slot() {
+            return Some(self.no_slot());
+        }
+        None
+    }
+
     /// The child that a listener accepts, or the refusal.
     fn child(
         &self,
@@ -450,13 +467,10 @@ impl Flat {
             return Err(Reply::Einval);
         }
         let child = child_of(listener, name, from, at);
-        if search::has_twin(&child.owner, &self.sockets) {
-            return Err(Reply::Eaddrnotavail);
+        match self.refusal_of(&child) {
+            Some(refusal) => Err(refusal),
+            None => Ok(child),
         }
-        if !self.has_slot() {
-            return Err(self.no_slot());
-        }
-        Ok(child)
     }
 
     fn accept(
@@ -481,6 +495,106 @@ impl Flat {
             Err(refusal) => Ok(refusal),
             Ok(child) => {
                 search::remove_waiting(&child.owner, &mut self.sockets);
+                self.sockets.push(child)?;
+                Ok(Reply::Ok)
+            }
+        }
+    }
+
+    /// The request that a listener's handshake begins with, or the refusal.
+    fn request(
+        &self,
+        listener: Option<Socket>,
+        name: u32,
+        from: End,
+        at: End,
+    ) -> Result<Socket, Reply>
+        ensures request { IfOk result (λ request. connect_spec.syn self.now name listener from at
+            ≡ outcome_spec.added (connect_spec.replacing self.now request.owner) request Reply.Ok) }
+        ensures refusal { IfErr result (λ reply. connect_spec.syn self.now name listener from at
+            ≡ outcome_spec.unchanged self.now reply) }
+    {
+        let Some(listener) = listener else {
+            return Err(Reply::Ebadf);
+        };
+        if is_no_accept(&listener.owner, from, at) {
+            return Err(Reply::Einval);
+        }
+        let request = request_of(listener, name, from, at);
+        match self.refusal_of(&request) {
+            Some(refusal) => Err(refusal),
+            None => Ok(request),
+        }
+    }
+
+    fn syn(
+        &mut self,
+        section: u32,
+        listener: &Label,
+        label: &Label,
+        from: End,
+        at: End,
+    ) -> Result<Reply, AllocError>
+        requires number { section ≤ 64 }
+        requires room { length (sections_spec.labels_of section self.old.sections) + 1 < 2 ^ 24 }
+        ensures step { IfOk result (λ reply. connect_spec.syn (outcome_spec.with_new_label self.old section label.now) (sections_spec.next_name section self.old.sections) (outcome_spec.open_socket self.old section listener.now) from at
+            ≡ record { flat = self.new; reply = reply }) }
+        ensures err { OnErr result (self.new ≡ self.old) }
+    {
+        let label = *label;
+        self.sockets.reserve(1)?;
+        let listener = self.open_socket(section, listener);
+        let name = give_label(self.alloc, &self.header, &mut self.sections, section, label)?;
+        match self.request(listener, name, from, at) {
+            Err(refusal) => Ok(refusal),
+            Ok(request) => {
+                search::remove_waiting(&request.owner, &mut self.sockets);
+                self.sockets.push(request)?;
+                Ok(Reply::Ok)
+            }
+        }
+    }
+
+    /// The child that a request's listener accepts when the handshake is over, or the refusal.
+    fn heir(&self, section: u32, request: &Socket, name: u32) -> Result<Socket, Reply>
+        ensures child { IfOk result (λ child. connect_spec.ack_socket self.now section name request.now request.now.owner.state
+            ≡ outcome_spec.added (connect_spec.without_request self.now request.now) child Reply.Ok) }
+        ensures refusal { IfErr result (λ reply. connect_spec.ack_socket self.now section name request.now request.now.owner.state
+            ≡ outcome_spec.unchanged self.now reply) }
+    {
+        if !matches!(request.owner.state, State::Request) {
+            return Err(Reply::Einval);
+        }
+        let Some(listener) = search::open_in(section, request.owner.origin, &self.sockets) else {
+            return Err(Reply::Einval);
+        };
+        if is_no_ack(&listener.owner, &request.owner) {
+            return Err(Reply::Einval);
+        }
+        if !self.has_slot() {
+            return Err(self.no_slot());
+        }
+        Ok(heir_of(listener, name, request))
+    }
+
+    fn ack(&mut self, section: u32, request: &Label, label: &Label) -> Result<Reply, AllocError>
+        requires number { section ≤ 64 }
+        requires room { length (sections_spec.labels_of section self.old.sections) + 1 < 2 ^ 24 }
+        ensures step { IfOk result (λ reply. connect_spec.ack (outcome_spec.with_new_label self.old section label.now) section (sections_spec.next_name section self.old.sections) (outcome_spec.open_socket self.old section request.now)
+            ≡ record { flat = self.new; reply = reply }) }
+        ensures err { OnErr result (self.new ≡ self.old) }
+    {
+        let label = *label;
+        self.sockets.reserve(1)?;
+        let request = self.open_socket(section, request);
+        let name = give_label(self.alloc, &self.header, &mut self.sections, section, label)?;
+        let Some(request) = request else {
+            return Ok(Reply::Ebadf);
+        };
+        match self.heir(section, &request, name) {
+            Err(refusal) => Ok(refusal),
+            Ok(child) => {
+                search::remove(request.owner.name, &mut self.sockets);
                 self.sockets.push(child)?;
                 Ok(Reply::Ok)
             }
@@ -600,6 +714,13 @@ impl Flat {
                 from,
                 at,
             } => self.accept(section, listener, label, *from, *at),
+            Command::Syn {
+                listener,
+                label,
+                from,
+                at,
+            } => self.syn(section, listener, label, *from, *at),
+            Command::Ack { request, label } => self.ack(section, request, label),
             Command::Close { label } => Ok(self.close(section, label)),
             Command::Drop { label } => Ok(self.drop_socket(section, label)),
             Command::At { moment } => self.at(section, *moment),

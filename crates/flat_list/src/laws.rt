@@ -1,7 +1,7 @@
 //! What the definitions of the flat list imply of every list that commands reach.
 
 ghost use Rattle.std.specs.Prelude.{None, Some, true, false, [], ◌∷◌};
-ghost use Rattle.flat_list.specs.Rows.{Answer, with_slots, with_range, with_seed, with_reserved, until_one_listens, beside_by_device, one_slot, accepted_goes_first, one_four_tuple, slot_is_freed, states_refuse, four_ports, binds_from_two, connects_from_two, shared_by_connect, listens_anywhere, late_ports, late_again, kept_ports, port_without_slot, words_are_drawn, closed_without_slot, child_stays, child_lets_in, shared_by_user, with_reuse, reused, waited_for, by_rank, with_known_hashes, chosen_by_hash, one_listener_too_many};
+ghost use Rattle.flat_list.specs.Rows.{Answer, with_slots, with_range, with_seed, with_reserved, until_one_listens, beside_by_device, one_slot, accepted_goes_first, handed_over, not_handed_over, one_four_tuple, slot_is_freed, states_refuse, four_ports, binds_from_two, connects_from_two, shared_by_connect, listens_anywhere, late_ports, late_again, kept_ports, port_without_slot, words_are_drawn, closed_without_slot, child_stays, child_lets_in, shared_by_user, with_reuse, reused, waited_for, by_rank, with_known_hashes, chosen_by_hash, one_listener_too_many};
 ghost use Rattle.flat_list.specs.Flat.{new_flat};
 ghost use Rattle.flat_list.specs.MoreRows as more;
 ghost use Rattle.flat_list.specs.Ports as ports;
@@ -24,6 +24,11 @@ pub fn slots()
     ensures { law.StaysWithinSlots }
 {}
 
+/// A request's `ack` isn't refused EINVAL while its listener is open.
+pub fn acks()
+    ensures { law.AcksWhileOpen }
+{}
+
 /// A packet's lookup has one socket to choose from, at most, or one group of listeners.
 pub fn one_best()
     ensures { law.FindsOneOrOneGroup }
@@ -40,6 +45,8 @@ pub fn rows()
     ensures devices { Answer (with_slots 1024) beside_by_device }
     ensures slots { Answer (with_slots 1) one_slot }
     ensures accepted { Answer (with_slots 1024) accepted_goes_first }
+    ensures handed_over { Answer (with_slots 1024) handed_over }
+    ensures not_handed_over { Answer (with_slots 2) not_handed_over }
     ensures four_tuple { Answer (with_slots 1024) one_four_tuple }
     ensures freed { Answer (with_slots 1) slot_is_freed }
     ensures refusals { Answer (with_slots 1024) states_refuse }
@@ -71,6 +78,8 @@ pub fn more_rows()
     ensures sections { more.AllAnswer (new_flat more.for_sections) 1 (more.section_one ∷ more.section_two ∷ more.section_three ∷ []) }
     ensures waits { Answer (with_slots 3) more.waits }
     ensures wait_taken { Answer (with_slots 1024) more.wait_taken }
+    ensures requests { Answer (with_slots 2) more.requests }
+    ensures wait_requested { Answer (with_slots 1024) more.wait_requested }
     ensures wait_shared { Answer (with_slots 1024) more.wait_shared }
     ensures searches { Answer (with_range 40000 40001 (Some 65535)) more.searches }
     ensures kept_mark { Answer (with_range 40000 40001 None) more.kept_mark }

@@ -4,7 +4,7 @@ ghost use Rattle.std.specs.Prelude.{◌≡◌};
 ghost use Rattle.flat_list.specs.Owned as spec;
 
 use crate::command::{End, Query};
-use sock_card::{Card, Kind, Owner, Packet, State, child, connected};
+use sock_card::{Card, Kind, Owner, Packet, State, as_request, child, connected};
 
 /// What `socket` says of a new socket: its network namespace, its user, SO_BINDTODEVICE, SO_REUSEADDR,
 /// SO_REUSEPORT and IP_BIND_ADDRESS_NO_PORT.
@@ -91,6 +91,14 @@ pub fn child_owner(listener: Owner, name: u32, from: End, at: End) -> Owner
     child(listener, name, at.addr, from.addr, from.port)
 }
 
+/// The request of that name for a handshake with a listener from one end at another: what the child would be, but that
+/// it isn't full.
+pub fn request_owner(listener: Owner, name: u32, from: End, at: End) -> Owner
+    ensures { result ≡ spec.request_owner listener name from at }
+{
+    as_request(child_owner(listener, name, from, at))
+}
+
 /// The source that `connect` takes for a socket bound to `addr`, 0.0.0.0 if it is bound to none, if it can take one.
 ///
 /// A bound address is the source, and `from` may repeat it; where it is 0.0.0.0, `from` names one.
@@ -120,6 +128,40 @@ pub fn is_no_accept(listener: &Owner, from: End, at: End) -> bool
         && at.addr != 0
         && (listener.addr == 0 || listener.addr == at.addr);
     !listens || !is_there || is_no_end(from)
+}
+
+/// An owner's own end.
+pub fn own_end(owner: &Owner) -> End
+    ensures { result ≡ spec.own_end owner.now }
+{
+    End {
+        addr: owner.addr,
+        port: owner.port,
+    }
+}
+
+/// The end that an owner is connected to.
+pub fn other_end(owner: &Owner) -> End
+    ensures { result ≡ spec.other_end owner.now }
+{
+    End {
+        addr: owner.remote,
+        port: owner.rport,
+    }
+}
+
+/// The owner of that name which a listener accepts when the handshake of a request is over, at the request's ends.
+pub fn heir_owner(listener: Owner, name: u32, request: &Owner) -> Owner
+    ensures { result ≡ spec.heir_owner listener name request.now }
+{
+    child_owner(listener, name, other_end(request), own_end(request))
+}
+
+/// Whether this is no listener, or none that could accept at the request's ends in its namespace.
+pub fn is_no_ack(listener: &Owner, request: &Owner) -> bool
+    ensures { result ≡ spec.is_no_ack listener.now request.now }
+{
+    is_no_accept(listener, other_end(request), own_end(request)) || listener.net != request.net
 }
 
 /// The card of that kind under which lookups see the owner.

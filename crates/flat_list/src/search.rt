@@ -19,14 +19,17 @@ use std::alloc::{AllocError, Global};
 pub fn is_hashed(state: State) -> bool
     ensures { result ≡ spec.is_hashed state }
 {
-    matches!(state, State::Listening | State::Full | State::TimeWait)
+    matches!(
+        state,
+        State::Listening | State::Full | State::TimeWait | State::Request
+    )
 }
 
-/// Whether a socket of that state has a port.
+/// Whether a socket of that state is an owner: it has a port, and isn't a request.
 pub fn is_owner(state: State) -> bool
     ensures { result ≡ spec.is_owner state }
 {
-    !matches!(state, State::Unbound)
+    !matches!(state, State::Unbound | State::Request)
 }
 
 /// The open socket of that name.
@@ -37,6 +40,15 @@ pub fn open_named(name: u32, sockets: &[Socket]) -> Option<Socket>
         .iter()
         .copied()
         .find(|s| s.owner.name == name && s.named)
+}
+
+/// The open socket of that name in that section.
+pub fn open_in(section: u32, name: u32, sockets: &[Socket]) -> Option<Socket>
+    ensures { result ≡ spec.open_in section name sockets.now }
+{
+    sockets.iter().copied().find(|s| s.owner.name == name
+        && s.named
+        && s.owner.name >> 24 == section)
 }
 
 /// Whether another owner keeps this one from its port.
@@ -84,11 +96,18 @@ fn same_tuple(a: &Owner, b: &Owner) -> bool
     sock_card::same_tuple(&tuple_of(a), &tuple_of(b))
 }
 
-/// Whether a full socket has the owner's four-tuple.
+/// Whether a socket of that state has its four-tuple for itself.
+fn claims_tuple(state: State) -> bool
+    ensures { result ≡ spec.claims_tuple state }
+{
+    matches!(state, State::Full | State::Request)
+}
+
+/// Whether a full socket or a request has the owner's four-tuple.
 pub fn has_twin(owner: &Owner, sockets: &[Socket]) -> bool
     ensures { result ≡ spec.has_twin owner.now sockets.now }
 {
-    sockets.iter().any(|s| matches!(s.owner.state, State::Full) && same_tuple(owner, &s.owner))
+    sockets.iter().any(|s| claims_tuple(s.owner.state) && same_tuple(owner, &s.owner))
 }
 
 /// Whether the socket is a TIME_WAIT of the owner's four-tuple.
@@ -201,7 +220,9 @@ pub fn put(new: Socket, sockets: &mut Vec<Socket>)
 
 /// Takes the sockets of that name out.
 pub fn remove(name: u32, sockets: &mut Vec<Socket>)
-    ensures { sockets.new.items ≡ spec.without name sockets.old.items }
+    ensures items { sockets.new.items ≡ spec.without name sockets.old.items }
+    ensures capacity { vec_capacity sockets.new ≡ vec_capacity sockets.old }
+    ensures len { vec_len sockets.new ≤ vec_len sockets.old }
 {
     sockets.retain(|s| s.owner.name != name);
 }
@@ -213,6 +234,7 @@ fn kind_of(state: State) -> Option<Kind>
         State::Listening => Some(Kind::Listen),
         State::Full => Some(Kind::Full),
         State::TimeWait => Some(Kind::TimeWait),
+        State::Request => Some(Kind::Request),
         State::Unbound | State::Bound => None,
     }
 }
@@ -227,7 +249,7 @@ fn extra_as(kind: Kind, groups: &[Group], socket: &Socket) -> u32
             Some(group) => group.number() + 1,
         },
         Kind::TimeWait => socket.stamp,
-        Kind::Full => 0,
+        Kind::Full | Kind::Request => 0,
     }
 }
 

@@ -94,6 +94,28 @@ pub fn child_of(listener: Socket, name: u32, from: End, at: End) -> Socket
     }
 }
 
+/// The request of that name for a handshake with a listener from one end at another.
+pub fn request_of(listener: Socket, name: u32, from: End, at: End) -> Socket
+    ensures { result ≡ connect_spec.request_of listener name from at }
+{
+    Socket {
+        owner: owned::request_owner(listener.owner, name, from, at),
+        stamp: 0,
+        named: true,
+    }
+}
+
+/// The socket of that name which a request's listener accepts when its handshake is over.
+pub fn heir_of(listener: Socket, name: u32, request: &Socket) -> Socket
+    ensures { result ≡ connect_spec.heir_of listener name request.now }
+{
+    Socket {
+        owner: owned::heir_owner(listener.owner, name, &request.owner),
+        stamp: 0,
+        named: true,
+    }
+}
+
 /// The socket, closed at that moment and in TIME_WAIT from then on; no label names it any more.
 pub fn waiting(socket: Socket, moment: u32) -> Socket
     ensures { result ≡ spec.waiting socket moment }

@@ -10,8 +10,8 @@ use flat_calls::Sight;
 use sock_card::Packet;
 use std::alloc::Global;
 
-/// What a lookup tells: the kind of socket (1 connected, 2 in TIME_WAIT, 3 a listener), its worker and its number; all 0
-/// where no socket takes the packet.
+/// What a lookup tells: the kind of socket (1 connected, 2 in TIME_WAIT, 3 a listener, 4 a request), its worker and its
+/// number; all 0 where no socket takes the packet.
 #[repr(C)]
 #[derive(Clone, Copy, Debug, PartialEq, Eq)]
 pub struct InetSight {

@@ -140,6 +140,57 @@ pub extern "C" fn inet_tables_accept(
     errno_of(calls::call(tables, alloc, worker, &command))
 }
 
+/// A handshake with a listener begins, from one end at another. `request` is the number of its request.
+#[unsafe(no_mangle)]
+pub extern "C" fn inet_tables_syn(
+    tables: &mut InetTables,
+    alloc: Global,
+    worker: u32,
+    listener: u32,
+    from_addr: u32,
+    from_port: u16,
+    at_addr: u32,
+    at_port: u16,
+    request: &mut u32,
+) -> i32
+    ensures number { request.new ≡ next_number tables.old.tables }
+    ensures called { (outcome : Outcome) × CalledOn tables.old.tables tables.new.tables worker
+        (commands.syn listener request.new (record { addr = from_addr; port = from_port }) (record { addr = at_addr; port = at_port })) outcome
+        × (result ≡ pos (told.errno_of outcome)) }
+{
+    let number = calls::next_number(tables, alloc);
+    *request = number;
+    let from = End {
+        addr: from_addr,
+        port: from_port,
+    };
+    let at = End {
+        addr: at_addr,
+        port: at_port,
+    };
+    let command = commands::syn(listener, number, from, at);
+    errno_of(calls::call(tables, alloc, worker, &command))
+}
+
+/// A request's handshake is over, and its listener takes the connection. `socket` is the number of the connected socket.
+#[unsafe(no_mangle)]
+pub extern "C" fn inet_tables_ack(
+    tables: &mut InetTables,
+    alloc: Global,
+    worker: u32,
+    request: u32,
+    socket: &mut u32,
+) -> i32
+    ensures number { socket.new ≡ next_number tables.old.tables }
+    ensures called { (outcome : Outcome) × CalledOn tables.old.tables tables.new.tables worker
+        (commands.ack request socket.new) outcome × (result ≡ pos (told.errno_of outcome)) }
+{
+    let number = calls::next_number(tables, alloc);
+    *socket = number;
+    let command = commands::ack(request, number);
+    errno_of(calls::call(tables, alloc, worker, &command))
+}
+
 /// Closes a socket. `waits` tells whether a TIME_WAIT stays: a connected socket leaves one, where a slot is free for it.
 #[unsafe(no_mangle)]
 pub extern "C" fn inet_tables_close(

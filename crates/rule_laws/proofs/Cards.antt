@@ -87,6 +87,7 @@ listening_kind : (st : State) (k : Kind) → is_listening st ≡ true → kind_o
 listening_kind states.Listening k h e = sym (some_same kinds.Listen k e)
 listening_kind states.Full k h e = absurd (cc)
 listening_kind states.TimeWait k h e = absurd (cc)
+listening_kind states.Request k h e = absurd (cc)
 listening_kind states.Bound k h e = absurd (cc)
 listening_kind states.Unbound k h e = absurd (cc)
 
@@ -94,6 +95,7 @@ a_kind : (st : State) → is_listening st ≡ true → kind_of st ≡ Some kinds
 a_kind states.Listening h = refl
 a_kind states.Full h = absurd (cc)
 a_kind states.TimeWait h = absurd (cc)
+a_kind states.Request h = absurd (cc)
 a_kind states.Bound h = absurd (cc)
 a_kind states.Unbound h = absurd (cc)
 

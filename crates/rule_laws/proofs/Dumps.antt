@@ -40,10 +40,11 @@ counted : (name : ℕ) (cards : List Card) → tally name cards ≡ times_named 
 counted name cards =
     is_count_by (tally name) (λ (c : Card). c.name == name) refl (λ c rest. tally_by name (c.name == name) (tally name rest)) cards
 
-kind_below : (k : Kind) → (1 ≤ number_of k) × (number_of k ≤ 3)
+kind_below : (k : Kind) → (1 ≤ number_of k) × (number_of k ≤ 4)
 kind_below kinds.Full = (omega arith, omega arith)
 kind_below kinds.TimeWait = (omega arith, omega arith)
 kind_below kinds.Listen = (omega arith, omega arith)
+kind_below kinds.Request = (omega arith, omega arith)
 
 -- The cards of sockets
 
@@ -58,6 +59,7 @@ module _ (groups : List Group) where
   tally_state name s xs states.Listening = refl
   tally_state name s xs states.Full = refl
   tally_state name s xs states.TimeWait = refl
+  tally_state name s xs states.Request = refl
   tally_state name s xs states.Unbound = omega arith
   tally_state name s xs states.Bound = omega arith
 

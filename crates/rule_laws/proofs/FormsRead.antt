@@ -46,6 +46,12 @@ connecting = commands.Connect (codes "Z") (Some 0x0A000001) (record { addr = 0x0
 abbrev accepting : Command
 accepting = commands.Accept (codes "Z") (codes "y") (record { addr = 0; port = 1 }) (record { addr = 0x0A000001; port = 80 })
 
+abbrev requesting : Command
+requesting = commands.Syn (codes "Z") (codes "x") (record { addr = 4294967295; port = 65535 }) (record { addr = 0x0A000001; port = 80 })
+
+abbrev acknowledging : Command
+acknowledging = commands.Ack (codes "x") (codes "w")
+
 abbrev closing : Command
 closing = commands.Close (codes "y")
 
@@ -94,7 +100,7 @@ abbrev made : List (List Command) → ℕ → Draft
 made sections bytes = record passed { sections = sections; bytes = bytes }
 
 abbrev whole : Draft
-whole = record (made ((first ∷ second ∷ bound ∷ listening ∷ connecting ∷ accepting ∷ closing ∷ dropping ∷ []) ∷ (second ∷ latest ∷ reaping ∷ looking ∷ taking ∷ listing ∷ []) ∷ []) 488) { capture = Some (record { dev = 65535; net = 15; first = 488 }) }
+whole = record (made ((first ∷ second ∷ bound ∷ listening ∷ connecting ∷ accepting ∷ requesting ∷ acknowledging ∷ closing ∷ dropping ∷ []) ∷ (second ∷ latest ∷ reaping ∷ looking ∷ taking ∷ listing ∷ []) ∷ []) 546) { capture = Some (record { dev = 65535; net = 15; first = 546 }) }
 
 pub each_form : IsEachForm
 unfolding digits words_of lines_of
@@ -143,36 +149,44 @@ each_form = (
                               (made ((first ∷ second ∷ bound ∷ listening ∷ connecting ∷ accepting ∷ []) ∷ []) 350),
                               (lines.Command accepting, (refl, (refl, refl, (omega arith, omega arith), (omega arith, omega arith))), (refl, refl)),
                               (
-                                (made ((first ∷ second ∷ bound ∷ listening ∷ connecting ∷ accepting ∷ closing ∷ []) ∷ []) 358),
-                                (lines.Command closing, (refl, refl), (refl, refl)),
+                                (made ((first ∷ second ∷ bound ∷ listening ∷ connecting ∷ accepting ∷ requesting ∷ []) ∷ []) 400),
+                                (lines.Command requesting, (refl, (refl, refl, (omega arith, omega arith), (omega arith, omega arith))), (refl, refl)),
                                 (
-                                  (made ((first ∷ second ∷ bound ∷ listening ∷ connecting ∷ accepting ∷ closing ∷ dropping ∷ []) ∷ []) 365),
-                                  (lines.Command dropping, (refl, refl), (refl, refl)),
+                                  (made ((first ∷ second ∷ bound ∷ listening ∷ connecting ∷ accepting ∷ requesting ∷ acknowledging ∷ []) ∷ []) 408),
+                                  (lines.Command acknowledging, (refl, (refl, refl)), (refl, refl)),
                                   (
-                                    (made ((first ∷ second ∷ bound ∷ listening ∷ connecting ∷ accepting ∷ closing ∷ dropping ∷ []) ∷ ([]) ∷ []) 374),
-                                    (lines.Section 2, (refl, omega arith, omega arith), (refl, refl)),
+                                    (made ((first ∷ second ∷ bound ∷ listening ∷ connecting ∷ accepting ∷ requesting ∷ acknowledging ∷ closing ∷ []) ∷ []) 416),
+                                    (lines.Command closing, (refl, refl), (refl, refl)),
                                     (
-                                      (made ((first ∷ second ∷ bound ∷ listening ∷ connecting ∷ accepting ∷ closing ∷ dropping ∷ []) ∷ (second ∷ []) ∷ []) 383),
-                                      (lines.Command second, (refl, (refl, tt, tt, tt)), (refl, refl)),
+                                      (made ((first ∷ second ∷ bound ∷ listening ∷ connecting ∷ accepting ∷ requesting ∷ acknowledging ∷ closing ∷ dropping ∷ []) ∷ []) 423),
+                                      (lines.Command dropping, (refl, refl), (refl, refl)),
                                       (
-                                        (made ((first ∷ second ∷ bound ∷ listening ∷ connecting ∷ accepting ∷ closing ∷ dropping ∷ []) ∷ (second ∷ latest ∷ []) ∷ []) 397),
-                                        (lines.Command latest, (refl, omega arith), (refl, refl)),
+                                        (made ((first ∷ second ∷ bound ∷ listening ∷ connecting ∷ accepting ∷ requesting ∷ acknowledging ∷ closing ∷ dropping ∷ []) ∷ ([]) ∷ []) 432),
+                                        (lines.Section 2, (refl, omega arith, omega arith), (refl, refl)),
                                         (
-                                          (made ((first ∷ second ∷ bound ∷ listening ∷ connecting ∷ accepting ∷ closing ∷ dropping ∷ []) ∷ (second ∷ latest ∷ reaping ∷ []) ∷ []) 402),
-                                          (lines.Command reaping, (refl, tt), (refl, refl)),
+                                          (made ((first ∷ second ∷ bound ∷ listening ∷ connecting ∷ accepting ∷ requesting ∷ acknowledging ∷ closing ∷ dropping ∷ []) ∷ (second ∷ []) ∷ []) 441),
+                                          (lines.Command second, (refl, (refl, tt, tt, tt)), (refl, refl)),
                                           (
-                                            (made ((first ∷ second ∷ bound ∷ listening ∷ connecting ∷ accepting ∷ closing ∷ dropping ∷ []) ∷ (second ∷ latest ∷ reaping ∷ looking ∷ []) ∷ []) 442),
-                                            (lines.Command looking, (refl, ((omega arith, omega arith), (omega arith, omega arith), (omega arith, omega arith), omega arith)), (refl, refl)),
+                                            (made ((first ∷ second ∷ bound ∷ listening ∷ connecting ∷ accepting ∷ requesting ∷ acknowledging ∷ closing ∷ dropping ∷ []) ∷ (second ∷ latest ∷ []) ∷ []) 455),
+                                            (lines.Command latest, (refl, omega arith), (refl, refl)),
                                             (
-                                              (made ((first ∷ second ∷ bound ∷ listening ∷ connecting ∷ accepting ∷ closing ∷ dropping ∷ []) ∷ (second ∷ latest ∷ reaping ∷ looking ∷ taking ∷ []) ∷ []) 458),
-                                              (lines.Command taking, (refl, omega arith), (refl, refl)),
+                                              (made ((first ∷ second ∷ bound ∷ listening ∷ connecting ∷ accepting ∷ requesting ∷ acknowledging ∷ closing ∷ dropping ∷ []) ∷ (second ∷ latest ∷ reaping ∷ []) ∷ []) 460),
+                                              (lines.Command reaping, (refl, tt), (refl, refl)),
                                               (
-                                                (made ((first ∷ second ∷ bound ∷ listening ∷ connecting ∷ accepting ∷ closing ∷ dropping ∷ []) ∷ (second ∷ latest ∷ reaping ∷ looking ∷ taking ∷ listing ∷ []) ∷ []) 463),
-                                                (lines.Command listing, (refl, tt), (refl, refl)),
+                                                (made ((first ∷ second ∷ bound ∷ listening ∷ connecting ∷ accepting ∷ requesting ∷ acknowledging ∷ closing ∷ dropping ∷ []) ∷ (second ∷ latest ∷ reaping ∷ looking ∷ []) ∷ []) 500),
+                                                (lines.Command looking, (refl, ((omega arith, omega arith), (omega arith, omega arith), (omega arith, omega arith), omega arith)), (refl, refl)),
                                                 (
-                                                  whole,
-                                                  (lines.Capture (Some 65535) (Some 15), (refl, (omega arith, omega arith), omega arith), refl),
-                                                  (whole, refl, (whole, refl, refl)),
+                                                  (made ((first ∷ second ∷ bound ∷ listening ∷ connecting ∷ accepting ∷ requesting ∷ acknowledging ∷ closing ∷ dropping ∷ []) ∷ (second ∷ latest ∷ reaping ∷ looking ∷ taking ∷ []) ∷ []) 516),
+                                                  (lines.Command taking, (refl, omega arith), (refl, refl)),
+                                                  (
+                                                    (made ((first ∷ second ∷ bound ∷ listening ∷ connecting ∷ accepting ∷ requesting ∷ acknowledging ∷ closing ∷ dropping ∷ []) ∷ (second ∷ latest ∷ reaping ∷ looking ∷ taking ∷ listing ∷ []) ∷ []) 521),
+                                                    (lines.Command listing, (refl, tt), (refl, refl)),
+                                                    (
+                                                      whole,
+                                                      (lines.Capture (Some 65535) (Some 15), (refl, (omega arith, omega arith), omega arith), refl),
+                                                      (whole, refl, (whole, refl, refl)),
+                                                    ),
+                                                  ),
                                                 ),
                                               ),
                                             ),

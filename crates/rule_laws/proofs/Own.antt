@@ -13,7 +13,7 @@ use Rattle.flat_list.specs.Step.{step}
 use Rattle.flat_list.proofs.LabelsGrow.{numbered}
 use Rattle.flat_list.proofs.SectionsStay.{step_stays}
 use Rattle.rule_laws.specs.Leaves.{label_by, moment_by, GoesOn, own, CommandsLeave, RefusalsLeave, MomentsAreSet}
-use Rattle.rule_laws.proofs.Walk.{bind_keeps, listen_keeps, connect_keeps, accept_keeps, drop_keeps, close_keeps}
+use Rattle.rule_laws.proofs.Walk.{bind_keeps, listen_keeps, connect_keeps, accept_keeps, syn_keeps, ack_keeps, drop_keeps, close_keeps}
 
 found_put : (n : ℕ) (s : Section) (xs : List Section) → find (has_number n) (put_section s xs) ≡ (if has_number n s then Some s else find (has_number n) xs)
 found_put n s [] = refl
@@ -82,6 +82,12 @@ module _ (flat : Flat) (n : ℕ) where
   own_goes (commands.Accept listener label from at) =
       gives label (step flat n (commands.Accept listener label from at)).flat.sections
       (accept_keeps (Gives label) (with_new_label flat n label) (next_name n flat.sections) (open_socket flat n listener) from at (given label))
+  own_goes (commands.Syn listener label from at) =
+      gives label (step flat n (commands.Syn listener label from at)).flat.sections
+      (syn_keeps (Gives label) (with_new_label flat n label) (next_name n flat.sections) (open_socket flat n listener) from at (given label))
+  own_goes (commands.Ack request label) =
+      gives label (step flat n (commands.Ack request label)).flat.sections
+      (ack_keeps (Gives label) (with_new_label flat n label) n (next_name n flat.sections) (open_socket flat n request) (given label))
   own_goes (commands.Close label) = goes (step flat n (commands.Close label)).flat.sections (close_keeps Went flat n (open_socket flat n label) (inl refl))
   own_goes (commands.Drop label) = goes (step flat n (commands.Drop label)).flat.sections (drop_keeps Went flat (open_socket flat n label) (inl refl))
   own_goes (commands.At moment) =
@@ -123,6 +129,12 @@ module _ (flat : Flat) (n : ℕ) where
   moments (commands.Accept listener label from at) =
       unmoved (commands.Accept listener label from at) (step flat n (commands.Accept listener label from at)) refl
       (accept_keeps Stays (with_new_label flat n label) (next_name n flat.sections) (open_socket flat n listener) from at (labelled label))
+  moments (commands.Syn listener label from at) =
+      unmoved (commands.Syn listener label from at) (step flat n (commands.Syn listener label from at)) refl
+      (syn_keeps Stays (with_new_label flat n label) (next_name n flat.sections) (open_socket flat n listener) from at (labelled label))
+  moments (commands.Ack request label) =
+      unmoved (commands.Ack request label) (step flat n (commands.Ack request label)) refl
+      (ack_keeps Stays (with_new_label flat n label) n (next_name n flat.sections) (open_socket flat n request) (labelled label))
   moments (commands.Close label) =
       unmoved (commands.Close label) (step flat n (commands.Close label)) refl (close_keeps Stays flat n (open_socket flat n label) refl)
   moments (commands.Drop label) =

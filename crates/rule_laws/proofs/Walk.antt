@@ -7,13 +7,13 @@ use Rattle.flat_list.specs.declared.header.First.TheVariants as firsts
 use Rattle.flat_list.specs.declared.socket.Socket.{Socket}
 use Rattle.flat_list.specs.declared.command.End.{End}
 use Rattle.flat_list.specs.declared.command.Reply.TheVariants as replies
-use Rattle.flat_list.specs.Connect.{connected_socket, end_of, replacing, is_taken_in, connect, connect_as, connect_from, connect_found, connect_search, connect_socket, connected_by_search, suits_connect, child_of, accept, accept_as}
+use Rattle.flat_list.specs.Connect.{connected_socket, end_of, replacing, is_taken_in, connect, connect_as, connect_from, connect_found, connect_search, connect_socket, connected_by_search, suits_connect, child_of, request_of, heir_of, accept, accept_as, syn, without_request, hand_over, ack, ack_by, ack_socket}
 use Rattle.flat_list.specs.Flat.{Flat}
 use Rattle.flat_list.specs.Groups.{Group}
 use Rattle.flat_list.specs.Outcome.{Outcome, added, removed, unchanged, changed, has_slot, no_slot, draw, Found, search_port}
-use Rattle.flat_list.specs.Owned.{source_of, is_no_end, is_no_accept}
+use Rattle.flat_list.specs.Owned.{source_of, is_no_end, is_no_accept, is_no_ack}
 use Rattle.flat_list.specs.Sections.{Section, moment_of}
-use Rattle.flat_list.specs.Sockets.{is_refused, has_twin}
+use Rattle.flat_list.specs.Sockets.{is_refused, has_twin, open_in}
 use Rattle.flat_list.specs.Step.{at_end, at_address, at_port, bind, bind_any, bind_given, bind_found, bind_search, bind_socket, search_bind, listen, listens_in, listen_as, groups_with, listen_bound, listen_found, listen_socket, waiting, close, close_socket, drop}
 
 module _ (P : List Section → Type 0) where
@@ -46,14 +46,41 @@ module _ (P : List Section → Type 0) where
   connect_found_keeps found s source to None p = p
   connect_found_keeps found s source to (Some port) p = connect_as_keeps found.flat (connected_by_search s source to port) p
 
+  accept_as_keeps : (flat : Flat) (new : Socket) → P flat.sections → Keeps (accept_as flat new)
+  accept_as_keeps flat new p =
+      let done : Outcome = added (replacing flat new.owner) new replies.Ok in
+      cond_both (has_twin new.owner flat.sockets) (unchanged flat replies.Eaddrnotavail) (if not (has_slot flat) then no_slot flat else done) Keeps (λ _. p)
+      (λ _. cond_both (not (has_slot flat)) (no_slot flat) done Keeps (λ _. p) (λ _. p))
+
   pub accept_keeps : (flat : Flat) (name : ℕ) (o : Option Socket) (from at : End) → P flat.sections → Keeps (accept flat name o from at)
   accept_keeps flat name None from at p = p
   accept_keeps flat name (Some l) from at p =
       let child : Socket = child_of l name from at in
-      let done : Outcome = added (replacing flat child.owner) child replies.Ok in
-      cond_both (is_no_accept l.owner from at) (unchanged flat replies.Einval) (accept_as flat child) Keeps (λ _. p)
-      (λ _. cond_both (has_twin child.owner flat.sockets) (unchanged flat replies.Eaddrnotavail) (if not (has_slot flat) then no_slot flat else done) Keeps (λ _. p)
-      (λ _. cond_both (not (has_slot flat)) (no_slot flat) done Keeps (λ _. p) (λ _. p)))
+      cond_both (is_no_accept l.owner from at) (unchanged flat replies.Einval) (accept_as flat child) Keeps (λ _. p) (λ _. accept_as_keeps flat child p)
+
+  pub syn_keeps : (flat : Flat) (name : ℕ) (o : Option Socket) (from at : End) → P flat.sections → Keeps (syn flat name o from at)
+  syn_keeps flat name None from at p = p
+  syn_keeps flat name (Some l) from at p =
+      let r : Socket = request_of l name from at in
+      cond_both (is_no_accept l.owner from at) (unchanged flat replies.Einval) (accept_as flat r) Keeps (λ _. p) (λ _. accept_as_keeps flat r p)
+
+  hand_over_keeps : (flat : Flat) (r child : Socket) → P flat.sections → Keeps (hand_over flat r child)
+  hand_over_keeps flat r child p =
+      cond_both (not (has_slot flat)) (no_slot flat) (added (without_request flat r) child replies.Ok) Keeps (λ _. p) (λ _. p)
+
+  ack_by_keeps : (flat : Flat) (name : ℕ) (r : Socket) (o : Option Socket) → P flat.sections → Keeps (ack_by flat name r o)
+  ack_by_keeps flat name r None p = p
+  ack_by_keeps flat name r (Some l) p =
+      let child : Socket = heir_of l name r in
+      cond_both (is_no_ack l.owner r.owner) (unchanged flat replies.Einval) (hand_over flat r child) Keeps (λ _. p) (λ _. hand_over_keeps flat r child p)
+
+  ack_socket_keeps : (flat : Flat) (n name : ℕ) (r : Socket) (t : State) → P flat.sections → Keeps (ack_socket flat n name r t)
+  ack_socket_keeps flat n name r states.Request p = ack_by_keeps flat name r (open_in n r.owner.origin flat.sockets) p
+  ack_socket_keeps flat n name r _ p = p
+
+  pub ack_keeps : (flat : Flat) (n name : ℕ) (o : Option Socket) → P flat.sections → Keeps (ack flat n name o)
+  ack_keeps flat n name None p = p
+  ack_keeps flat n name (Some r) p = ack_socket_keeps flat n name r r.owner.state p
 
   pub drop_keeps : (flat : Flat) (o : Option Socket) → P flat.sections → Keeps (drop flat o)
   drop_keeps flat None p = p

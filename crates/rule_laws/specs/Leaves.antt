@@ -12,6 +12,8 @@ use Rattle.flat_list.specs.Step.{step}
 abbrev pub label_by : Command → List (List ℕ)
 label_by (commands.Socket label options) = label ∷ []
 label_by (commands.Accept listener label from at) = label ∷ []
+label_by (commands.Syn listener label from at) = label ∷ []
+label_by (commands.Ack request label) = label ∷ []
 label_by _ = []
 
 -- the moment that a command sets, or else that which was

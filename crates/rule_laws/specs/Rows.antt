@@ -10,8 +10,8 @@ use Rattle.flat_list.specs.declared.command.Reply.{Reply}
 use Rattle.flat_list.specs.declared.command.Reply.TheVariants as replies
 use Rattle.flat_list.specs.Ports.{none_reserved}
 use Rattle.flat_list.specs.Sections.{name_at}
-use Rattle.flat_list.specs.Rows.{Line, says, with_slots, with_reserved, any, one, two, plain, look_for, on_device, socket, reusable, late, sharing, connect_from, found, found_in_group, a, b, c, d}
-use Rattle.flat_list.specs.MoreRows.{grouped, look_in, sharing_all}
+use Rattle.flat_list.specs.Rows.{Line, says, with_slots, with_reserved, any, one, two, plain, look_for, on_device, socket, reusable, late, sharing, sharing_as, connect_from, accept, syn, found, found_in_group, a, b, c, d, q, r}
+use Rattle.flat_list.specs.MoreRows.{grouped, look_in, sharing_all, found_on}
 
 -- what a look answers that finds the listener of that name, end, namespace and group
 abbrev pub found_beside : ℕ → End → ℕ → ℕ → Reply
@@ -143,6 +143,81 @@ one_tuple_on_two_devices =
     ∷ says (commands.Listen b) (replies.Port 80)
     ∷ says (commands.Accept a c (two 1000) (one 80)) replies.Ok
     ∷ says (commands.Accept b d (two 1000) (one 80)) replies.Eaddrnotavail
+    ∷ []
+
+-- with three slots: `syn` and `ack` judge their listener before the four-tuple, and that before the slots
+abbrev pub listener_before_slots : List Line
+listener_before_slots =
+    says (socket a) replies.Ok
+    ∷ says (commands.Bind a (one 80)) (replies.Port 80)
+    ∷ says (commands.Listen a) (replies.Port 80)
+    ∷ says (socket b) replies.Ok
+    ∷ says (commands.Bind b (one 81)) (replies.Port 81)
+    ∷ says (commands.Listen b) (replies.Port 81)
+    ∷ says (syn a r) replies.Ok
+    ∷ says (commands.Syn b (codes "r1") (two 1000) (one 80)) replies.Einval
+    ∷ says (syn r (codes "r2")) replies.Einval
+    ∷ says (syn a (codes "r3")) replies.Eaddrnotavail
+    ∷ says (commands.Syn a (codes "r4") (two 1001) (one 80)) (replies.Enfile 3 0)
+    ∷ says (commands.Ack (codes "r4") (codes "c1")) replies.Ebadf
+    ∷ says (commands.Drop a) replies.Ok
+    ∷ says (commands.Syn b (codes "r5") (two 1001) (one 81)) replies.Ok
+    ∷ says (commands.Ack r (codes "c2")) replies.Einval
+    ∷ says (commands.Ack (codes "r5") (codes "c3")) (replies.Enfile 3 0)
+    ∷ []
+
+-- with three slots: a request needs a slot beside that of the TIME_WAIT whose place it takes
+abbrev pub wait_keeps_slot : List Line
+wait_keeps_slot =
+    says (socket a) replies.Ok
+    ∷ says (commands.Bind a (one 80)) (replies.Port 80)
+    ∷ says (commands.Listen a) (replies.Port 80)
+    ∷ says (accept a b) replies.Ok
+    ∷ says (commands.Close b) replies.TimeWait
+    ∷ says (commands.Syn a q (two 1001) (one 80)) replies.Ok
+    ∷ says (syn a r) (replies.Enfile 3 0)
+    ∷ says (commands.Close q) replies.Ok
+    ∷ says (syn a c) replies.Ok
+    ∷ []
+
+-- a request is at the address that `syn` names, on its listener's device and in no group; the socket that comes in its
+-- place is of the listener's user and options, and isn't handed over again
+abbrev pub handshake_on_device : List Line
+handshake_on_device =
+    says (commands.Socket a (record plain { uid = Some 7; dev = Some 4; reuseport = true })) replies.Ok
+    ∷ says (commands.Bind a (any 80)) (replies.Port 80)
+    ∷ says (commands.Listen a) (replies.Port 80)
+    ∷ says (syn a r) replies.Ok
+    ∷ says (look_for (two 1000) (one 80) None) (replies.Found None)
+    ∷ says (look_for (two 1000) (one 80) (Some 4)) (found_on kinds.Request (name_at 1 1) (one 80) (two 1000) 4 0)
+    ∷ says (commands.Ack r c) replies.Ok
+    ∷ says (commands.Ack c q) replies.Einval
+    ∷ says (look_for (two 1000) (one 80) (Some 4)) (found_on kinds.Full (name_at 1 2) (one 80) (two 1000) 4 0)
+    ∷ says (commands.Drop a) replies.Ok
+    ∷ says (sharing_as b 8) replies.Ok
+    ∷ says (commands.Bind b (one 80)) replies.Eaddrinuse
+    ∷ says (sharing_as d 7) replies.Ok
+    ∷ says (commands.Bind d (one 80)) (replies.Port 80)
+    ∷ []
+
+-- in a range of two ports: a listener's handshakes are over one by one; `connect` passes over the port of a socket that
+-- came by one, and not over that of a request
+abbrev pub handshake_keeps_port : List Line
+handshake_keeps_port =
+    says (socket a) replies.Ok
+    ∷ says (commands.Bind a (one 40000)) (replies.Port 40000)
+    ∷ says (commands.Listen a) (replies.Port 40000)
+    ∷ says (commands.Syn a r (two 1000) (one 40000)) replies.Ok
+    ∷ says (commands.Syn a q (two 1001) (one 40000)) replies.Ok
+    ∷ says (commands.Ack r b) replies.Ok
+    ∷ says (look_for (two 1001) (one 40000) None) (found kinds.Request (name_at 1 2) (one 40000) (two 1001))
+    ∷ says (commands.Close a) replies.Ok
+    ∷ says (socket c) replies.Ok
+    ∷ says (connect_from c 80) (replies.End (one 40001))
+    ∷ says (commands.Drop c) replies.Ok
+    ∷ says (commands.Drop b) replies.Ok
+    ∷ says (socket d) replies.Ok
+    ∷ says (connect_from d 80) (replies.End (one 40000))
     ∷ []
 
 -- in a range of six ports, offset 0: a search goes upwards

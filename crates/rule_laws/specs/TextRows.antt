@@ -69,6 +69,8 @@ every_form =
     ++ codes "listen Z\n"
     ++ codes "connect Z from 10.0.0.1 to 10.0.0.2:0\n"
     ++ codes "accept Z y from 0.0.0.0:1 at 10.0.0.1:80\n"
+    ++ codes "syn Z x from 255.255.255.255:65535 at 10.0.0.1:80\n"
+    ++ codes "ack x w\n"
     ++ codes "close y\n"
     ++ codes "drop Z\n"
     ++ codes "script 2\n"
@@ -109,6 +111,8 @@ first_section =
     ∷ commands.Listen (codes "Z")
     ∷ commands.Connect (codes "Z") (Some 0x0A000001) (record { addr = 0x0A000002; port = 0 })
     ∷ commands.Accept (codes "Z") (codes "y") (record { addr = 0; port = 1 }) (record { addr = 0x0A000001; port = 80 })
+    ∷ commands.Syn (codes "Z") (codes "x") (record { addr = 4294967295; port = 65535 }) (record { addr = 0x0A000001; port = 80 })
+    ∷ commands.Ack (codes "x") (codes "w")
     ∷ commands.Close (codes "y")
     ∷ commands.Drop (codes "Z")
     ∷ []
@@ -135,7 +139,7 @@ every_value =
         twreuse = true;
       };
       sections = first_section ∷ second_section ∷ [];
-      capture = Some (record { dev = 65535; net = 15; first = 488 });
+      capture = Some (record { dev = 65535; net = 15; first = 546 });
     }
 
 abbrev pub IsEachForm : Type 0

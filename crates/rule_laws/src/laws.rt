@@ -68,6 +68,10 @@ pub fn rows()
     ensures listener { Answer (with_slots 1024) row.listener_before_taken }
     ensures child { Answer (with_range 40000 40001 (Some 0)) row.child_keeps_port }
     ensures tuple { Answer (with_slots 1024) row.one_tuple_on_two_devices }
+    ensures refused_handshakes { Answer (with_slots 3) row.listener_before_slots }
+    ensures wait_slot { Answer (with_slots 3) row.wait_keeps_slot }
+    ensures handshake { Answer (with_slots 1024) row.handshake_on_device }
+    ensures handed_port { Answer (with_range 40000 40001 (Some 0)) row.handshake_keeps_port }
     ensures upwards { Answer (with_range 40000 40005 (Some 0)) row.upwards }
     ensures seed { row.IsAdded }
 {}

@@ -12,7 +12,7 @@ use Rattle.flat_list.specs.declared.header.Reserved.{Reserved}
 use Rattle.sock_script.specs.declared.line.Line.{Line}
 use Rattle.sock_script.specs.declared.line.Line.TheVariants as lines
 use Rattle.chain_book.specs.Shapes.{ShapeFits}
-use Rattle.sock_script.specs.Forms.{HasForm, command_words, option_words, CommandFits, EndFits, NamespaceFits, DeviceFits, SourceFits, RangeFits, range_words, shape_words, UserFits, namespace_words, user_words, device_words, flag_words, source_words}
+use Rattle.sock_script.specs.Forms.{HasForm, command_words, option_words, CommandFits, EndFits, NamespaceFits, DeviceFits, SourceFits, RangeFits, range_words, shape_words, UserFits, namespace_words, user_words, device_words, flag_words, source_words, ends_words}
 use Rattle.sock_script.proofs.ReservedPorts.{one_reserved}
 use Rattle.sock_script.proofs.Verbs.{word_code, verb_code, never}
 use Rattle.sock_script.proofs.Words.{second_is, third_is, past_one, past_two, past_three, options_of, rest-lacks_net, rest-lacks_uid, flags-lack_dev, namespace-lacks_dev, reuseport-lacks_reuseaddr, noport-lacks_reuseport, Lacks, flag-last, namespace-last, one_switch}
@@ -87,18 +87,16 @@ one_connect l m d e a b x y h =
     let to = one_end a b x.2 y.2 (second_is _ _ _ _ _ _ from.1) in
     ap (λ t. commands.Connect t d a) label ∙ ap (λ t. commands.Connect m t a) from.0 ∙ ap (commands.Connect m e) to
 
--- the labels and ends of an accept
-accept_texts : (verb from at p q u v i j m n : List ℕ) → verb ∷ p ∷ q ∷ from ∷ u ∷ at ∷ v ∷ [] ≡ verb ∷ i ∷ j ∷ from ∷ m ∷ at ∷ n ∷ []
+newcomer_texts : (verb from at p q u v i j m n : List ℕ) → verb ∷ p ∷ q ∷ from ∷ u ∷ at ∷ v ∷ [] ≡ verb ∷ i ∷ j ∷ from ∷ m ∷ at ∷ n ∷ []
     → (p ≡ i) × (q ≡ j) × (u ≡ m) × (v ≡ n)
-accept_texts verb from at p q u v i j m n e = (cc, cc, cc, cc)
+newcomer_texts verb from at p q u v i j m n e = (cc, cc, cc, cc)
 
-one_accept : (k l m n : List ℕ) (a b c d : End) → CommandFits (commands.Accept k l a b) → CommandFits (commands.Accept m n c d) → command_words (commands.Accept k l a b) ≡ command_words (commands.Accept m n c d) → commands.Accept k l a b ≡ commands.Accept m n c d
-one_accept k l m n a b c d x y h =
-    let words = accept_texts _ _ _ _ _ _ _ _ _ _ _ h in
-    let from = one_end a c x.2 y.2 words.2 in
-    let at = one_end b d x.3 y.3 words.3 in
-    ap (λ t. commands.Accept t l a b) words.0 ∙ ap (λ t. commands.Accept m t a b) words.1
-    ∙ ap (λ t. commands.Accept m n t b) from ∙ ap (commands.Accept m n c) at
+-- the labels and ends of an accept or a syn
+one_newcomer : (verb k l m n : List ℕ) (a b c d : End) → EndFits a → EndFits b → EndFits c → EndFits d → verb ∷ k ∷ l ∷ ends_words a b ≡ verb ∷ m ∷ n ∷ ends_words c d
+    → (k ≡ m) × (l ≡ n) × (a ≡ c) × (b ≡ d)
+one_newcomer verb k l m n a b c d fa fb fc fd h =
+    let words = newcomer_texts _ _ _ _ _ _ _ _ _ _ _ h in
+    (words.0, words.1, one_end a c fa fc words.2, one_end b d fb fd words.3)
 
 one_look : (a b : Query) → CommandFits (commands.Look a) → CommandFits (commands.Look b) → command_words (commands.Look a) ≡ command_words (commands.Look b) → a ≡ b
 one_look a b x y h =
@@ -119,7 +117,12 @@ one_command (commands.Bind l e) (commands.Bind m f) h x y =
     ap (λ t. commands.Bind t e) (second_is _ _ _ _ _ _ h) ∙ ap (commands.Bind m) (one_end e f x.1 y.1 (third_is _ _ _ _ _ _ _ _ h))
 one_command (commands.Listen l) (commands.Listen m) h x y = ap commands.Listen (second_is _ _ _ _ _ _ h)
 one_command (commands.Connect l d a) (commands.Connect m e b) h x y = one_connect l m d e a b x y h
-one_command (commands.Accept k l a b) (commands.Accept m n c d) h x y = one_accept k l m n a b c d x y h
+one_command (commands.Accept k l a b) (commands.Accept m n c d) h x y =
+    let t = one_newcomer _ k l m n a b c d x.2 x.3 y.2 y.3 h in λ i. commands.Accept (t.0 i) (t.1 i) (t.2 i) (t.3 i)
+one_command (commands.Syn k l a b) (commands.Syn m n c d) h x y =
+    let t = one_newcomer _ k l m n a b c d x.2 x.3 y.2 y.3 h in λ i. commands.Syn (t.0 i) (t.1 i) (t.2 i) (t.3 i)
+one_command (commands.Ack k l) (commands.Ack m n) h x y =
+    ap (λ t. commands.Ack t l) (second_is _ _ _ _ _ _ h) ∙ ap (commands.Ack m) (third_is _ _ _ _ _ _ _ _ h)
 one_command (commands.Close l) (commands.Close m) h x y = ap commands.Close (second_is _ _ _ _ _ _ h)
 one_command (commands.Drop l) (commands.Drop m) h x y = ap commands.Drop (second_is _ _ _ _ _ _ h)
 one_command (commands.At m) (commands.At n) h x y = ap commands.At (decimal_injective m n (omega arith) (omega arith) (second_is _ _ _ _ _ _ h))

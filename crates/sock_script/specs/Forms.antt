@@ -50,6 +50,11 @@ option_words options =
     ++ flag_words (codes "reuseaddr") options.reuseaddr ++ flag_words (codes "reuseport") options.reuseport
     ++ flag_words (codes "noport") options.noport
 
+-- the far end of a newcomer to a listener, and its own
+abbrev pub ends_words : End → End → List (List ℕ)
+ends_words from at =
+    codes "from" ∷ end_text from.addr from.port ∷ codes "at" ∷ end_text at.addr at.port ∷ []
+
 -- how a command is spelled
 abbrev pub command_words : Command → List (List ℕ)
 command_words (commands.Socket label options) = codes "socket" ∷ label ∷ option_words options
@@ -57,9 +62,9 @@ command_words (commands.Bind label end) = codes "bind" ∷ label ∷ end_text en
 command_words (commands.Listen label) = codes "listen" ∷ label ∷ []
 command_words (commands.Connect label from to) =
     codes "connect" ∷ label ∷ (source_words from ++ codes "to" ∷ end_text to.addr to.port ∷ [])
-command_words (commands.Accept listener label from at) =
-    codes "accept" ∷ listener ∷ label ∷ codes "from" ∷ end_text from.addr from.port
-    ∷ codes "at" ∷ end_text at.addr at.port ∷ []
+command_words (commands.Accept listener label from at) = codes "accept" ∷ listener ∷ label ∷ ends_words from at
+command_words (commands.Syn listener label from at) = codes "syn" ∷ listener ∷ label ∷ ends_words from at
+command_words (commands.Ack request label) = codes "ack" ∷ request ∷ label ∷ []
 command_words (commands.Close label) = codes "close" ∷ label ∷ []
 command_words (commands.Drop label) = codes "drop" ∷ label ∷ []
 command_words (commands.At moment) = codes "at" ∷ decimal moment ∷ []
@@ -121,6 +126,9 @@ CommandFits (commands.Listen label) = IsTrue (is_label label)
 CommandFits (commands.Connect label from to) = IsTrue (is_label label) × SourceFits from × EndFits to
 CommandFits (commands.Accept listener label from at) =
     IsTrue (is_label listener) × IsTrue (is_label label) × EndFits from × EndFits at
+CommandFits (commands.Syn listener label from at) =
+    IsTrue (is_label listener) × IsTrue (is_label label) × EndFits from × EndFits at
+CommandFits (commands.Ack request label) = IsTrue (is_label request) × IsTrue (is_label label)
 CommandFits (commands.Close label) = IsTrue (is_label label)
 CommandFits (commands.Drop label) = IsTrue (is_label label)
 CommandFits (commands.At moment) = moment < 2 ^ 32

@@ -22,6 +22,8 @@ use Rattle.sock_script.specs.Forms.{HasForm}
 abbrev pub given_label : Command → Option (List ℕ)
 given_label (commands.Socket label options) = Some label
 given_label (commands.Accept listener label from at) = Some label
+given_label (commands.Syn listener label from at) = Some label
+given_label (commands.Ack request label) = Some label
 given_label _ = None
 
 -- the labels that some commands have given

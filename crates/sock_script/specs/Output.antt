@@ -34,6 +34,7 @@ abbrev pub kind_word : Kind → List ℕ
 kind_word kinds.Full = codes "full"
 kind_word kinds.TimeWait = codes "time-wait"
 kind_word kinds.Listen = codes "listen"
+kind_word kinds.Request = codes "request"
 
 -- the answer of a lookup, where the socket that was found has that label
 abbrev pub answer_with : List ℕ → Option Card → List ℕ
@@ -82,6 +83,8 @@ subject_text (commands.Bind label end) = codes "bind " ++ label
 subject_text (commands.Listen label) = codes "listen " ++ label
 subject_text (commands.Connect label from to) = codes "connect " ++ label
 subject_text (commands.Accept listener label from at) = codes "accept " ++ label
+subject_text (commands.Syn listener label from at) = codes "syn " ++ label
+subject_text (commands.Ack request label) = codes "ack " ++ label
 subject_text (commands.Close label) = codes "close " ++ label
 subject_text (commands.Drop label) = codes "drop " ++ label
 subject_text (commands.At moment) = codes "at " ++ decimal moment

@@ -8,7 +8,7 @@ ghost use Rattle.inet_io.specs.Labels.{is_label};
 ghost use Rattle.inet_io.specs.Texts.{addr_text, end_text};
 ghost use Rattle.sock_script.specs.Seen.{texts};
 ghost use Rattle.chain_book.specs.Shapes.{IsPowerTo};
-ghost use Rattle.sock_script.specs.Forms.{HasForm, DeviceFits, EndFits, NamespaceFits, SourceFits, UserFits, device_words, flag_words, namespace_words, source_words, user_words};
+ghost use Rattle.sock_script.specs.Forms.{HasForm, DeviceFits, EndFits, NamespaceFits, SourceFits, UserFits, device_words, ends_words, flag_words, namespace_words, source_words, user_words};
 ghost use Rattle.sock_script.specs.Steps.{IsCommand};
 ghost use Rattle.sock_script.specs.declared.line.Line.{Line};
 ghost use Rattle.sock_script.specs.declared.line.Line.TheVariants as lines;
@@ -263,6 +263,19 @@ fn connect_of(words: &[&[u8]]) -> Option<Command>
     Some(Command::Connect { label, from, to })
 }
 
+/// The far end of a newcomer and its own, as the only words.
+fn ends_of(words: &[&[u8]]) -> Option<(End, End)>
+    ensures some { IfSome result (λ r. (texts words.now ≡ ends_words r.0 r.1) × EndFits r.0 × EndFits r.1) }
+    ensures none { IfNone result ((from at : End) → texts words.now ≡ ends_words from at → EndFits from → EndFits at → ⊥) }
+{
+    let (from, words) = end_after(b"from", words)?;
+    let (at, words) = end_after(b"at", words)?;
+    if !words.is_empty() {
+        return None;
+    }
+    Some((from, at))
+}
+
 /// The command of the words after `accept`.
 fn accept_of(words: &[&[u8]]) -> Option<Command>
     ensures some { IfSome result (λ c. HasForm (codes "accept" ∷ texts words.now) (lines.Command c)) }
@@ -270,11 +283,7 @@ fn accept_of(words: &[&[u8]]) -> Option<Command>
 {
     let (listener, words) = label_first(words)?;
     let (label, words) = label_first(words)?;
-    let (from, words) = end_after(b"from", words)?;
-    let (at, words) = end_after(b"at", words)?;
-    if !words.is_empty() {
-        return None;
-    }
+    let (from, at) = ends_of(words)?;
     let listener = label_of(listener);
     let label = label_of(label);
     Some(Command::Accept {
@@ -283,6 +292,35 @@ fn accept_of(words: &[&[u8]]) -> Option<Command>
         from,
         at,
     })
+}
+
+/// The command of the words after `syn`.
+fn syn_of(words: &[&[u8]]) -> Option<Command>
+    ensures some { IfSome result (λ c. HasForm (codes "syn" ∷ texts words.now) (lines.Command c)) }
+    ensures none { IfNone result ((c : Command) → HasForm (codes "syn" ∷ texts words.now) (lines.Command c) → ⊥) }
+{
+    let (listener, words) = label_first(words)?;
+    let (label, words) = label_first(words)?;
+    let (from, at) = ends_of(words)?;
+    let listener = label_of(listener);
+    let label = label_of(label);
+    Some(Command::Syn {
+        listener,
+        label,
+        from,
+        at,
+    })
+}
+
+/// The command of the words after `ack`.
+fn ack_of(words: &[&[u8]]) -> Option<Command>
+    ensures some { IfSome result (λ c. HasForm (codes "ack" ∷ texts words.now) (lines.Command c)) }
+    ensures none { IfNone result ((c : Command) → HasForm (codes "ack" ∷ texts words.now) (lines.Command c) → ⊥) }
+{
+    let (request, words) = label_first(words)?;
+    let label = label_of(label_alone(words)?);
+    let request = label_of(request);
+    Some(Command::Ack { request, label })
 }
 
 /// The command of the words after `close`.
@@ -386,6 +424,12 @@ pub fn command_of(words: &[&[u8]]) -> Option<Command>
     }
     if let Some(words) = after(b"accept", words) {
         return accept_of(words);
+    }
+    if let Some(words) = after(b"syn", words) {
+        return syn_of(words);
+    }
+    if let Some(words) = after(b"ack", words) {
+        return ack_of(words);
     }
     if let Some(words) = after(b"close", words) {
         return close_of(words);
@@ -601,7 +645,7 @@ mod tests {
 
     #[test]
     fn a_line_of_each_form_is_read(rt: HostRuntime) -> Result<(), Fail> {
-        let lines: [&[&[u8]]; 24] = [
+        let lines: [&[&[u8]]; 26] = [
             &[b"#socket"],
             &[
                 b"table", b"slots", b"65536", b"bind", b"256", b"hash", b"1", b"listen", b"4096",
@@ -644,6 +688,16 @@ mod tests {
                 b"at",
                 b"10.0.0.1:80",
             ],
+            &[
+                b"syn",
+                b"a-1",
+                b"r",
+                b"from",
+                b"10.0.0.2:1",
+                b"at",
+                b"10.0.0.1:80",
+            ],
+            &[b"ack", b"r", b"s"],
             &[b"close", b"c"],
             &[b"drop", b"b"],
             &[b"at", b"4294967295"],

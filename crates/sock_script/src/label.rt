@@ -12,7 +12,10 @@ pub fn given_label(command: &Command) -> Option<&Label>
     ensures { option_copied result ≡ spec.given_label command.now }
 {
     match command {
-        Command::Socket { label, .. } | Command::Accept { label, .. } => Some(label),
+        Command::Socket { label, .. }
+        | Command::Accept { label, .. }
+        | Command::Syn { label, .. }
+        | Command::Ack { label, .. } => Some(label),
         _ => None,
     }
 }

@@ -49,6 +49,7 @@ fn kind_word(kind: Kind) -> &'static [u8]
         Kind::Full => b"full",
         Kind::TimeWait => b"time-wait",
         Kind::Listen => b"listen",
+        Kind::Request => b"request",
     }
 }
 
@@ -220,6 +221,8 @@ fn put_subject(out: &mut Vec<u8>, command: &Command) -> Result<(), AllocError>
         Command::Listen { label } => put_labelled(out, b"listen ", label),
         Command::Connect { label, .. } => put_labelled(out, b"connect ", label),
         Command::Accept { label, .. } => put_labelled(out, b"accept ", label),
+        Command::Syn { label, .. } => put_labelled(out, b"syn ", label),
+        Command::Ack { label, .. } => put_labelled(out, b"ack ", label),
         Command::Close { label } => put_labelled(out, b"close ", label),
         Command::Drop { label } => put_labelled(out, b"drop ", label),
         Command::At { moment } => {

@@ -102,6 +102,83 @@ drop k
 }
 
 #[test]
+fn handshakes_have_their_lines(rt: HostRuntime) -> Result<(), Fail> {
+    let text = b"script 1
+socket a
+bind a 10.0.0.1:80
+listen a
+syn a r from 10.0.0.2:1000 at 10.0.0.1:80
+syn a s from 10.0.0.2:1000 at 10.0.0.1:80
+syn s t from 10.0.0.2:1001 at 10.0.0.1:80
+look 10.0.0.2:1000 10.0.0.1:80
+dump
+ack a c
+ack r d
+look 10.0.0.2:1000 10.0.0.1:80
+ack r e
+close d
+syn a f from 10.0.0.2:1000 at 10.0.0.1:80
+dump
+drop f
+look 10.0.0.2:1000 10.0.0.1:80
+";
+    assert_eq!(rt; bad_line(rt.alloc(), text, Mode::Run), None);
+    let out = output_of(rt.alloc(), text)?;
+    let wanted = b"1 socket a ok
+1 bind a ok 80
+1 listen a ok 80
+1 syn r ok
+1 syn s EADDRNOTAVAIL
+1 syn t EBADF
+1 look request 1.r
+1 dump 2
+1 item listen 1.a 10.0.0.1:80 0.0.0.0:0 dev 0
+1 item request 1.r 10.0.0.1:80 10.0.0.2:1000 dev 0
+1 ack c EINVAL
+1 ack d ok
+1 look full 1.d
+1 ack e EBADF
+1 close d ok time-wait
+1 syn f ok
+1 dump 2
+1 item listen 1.a 10.0.0.1:80 0.0.0.0:0 dev 0
+1 item request 1.f 10.0.0.1:80 10.0.0.2:1000 dev 0
+1 drop f ok
+1 look listen 1.a
+";
+    assert!(rt; out.as_slice() == wanted.as_slice());
+    Ok(())
+}
+
+#[test]
+fn handshakes_are_read(rt: HostRuntime) -> Result<(), Fail> {
+    let cases: [(&[u8], Option<u64>); 7] = [
+        (
+            b"script 1\nsyn a r from 10.0.0.2:1000 at 10.0.0.1:80\nack r c\n",
+            None,
+        ),
+        // a label is given once, by whichever command
+        (
+            b"script 1\nsyn a r from 10.0.0.2:1 at 10.0.0.1:80\nsocket r\n",
+            Some(3),
+        ),
+        (b"script 1\nsocket c\nack r c\n", Some(3)),
+        (
+            b"script 1\nsyn a r at 10.0.0.1:80 from 10.0.0.2:1\n",
+            Some(2),
+        ),
+        (b"script 1\nsyn a r from 10.0.0.2:1\n", Some(2)),
+        (b"script 1\nack r\n", Some(2)),
+        (b"script 1\nack r c d\n", Some(2)),
+    ];
+    for (text, line) in cases {
+        assert_eq!(rt; bad_line(rt.alloc(), text, Mode::Run), line);
+        assert_eq!(rt; bad_line(rt.alloc(), text, Mode::Race), line);
+    }
+    Ok(())
+}
+
+#[test]
 fn ports_are_searched_as_the_header_says(rt: HostRuntime) -> Result<(), Fail> {
     let text = b"offset 5
 range 1000 1003

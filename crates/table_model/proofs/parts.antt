@@ -2,6 +2,7 @@
 pub mod Slots
 pub mod Chains
 pub mod Cards
+pub mod Claims
 pub mod Places
 pub mod Buckets
 pub mod FirstOfName
@@ -24,3 +25,4 @@ pub mod NewSocket
 pub mod WaitNames
 pub mod OwnGoes
 pub mod OwnConnected
+pub mod Handed

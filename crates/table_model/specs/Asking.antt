@@ -12,7 +12,7 @@ use Rattle.chain_book.specs.Chains.{Outcome}
 pub data Asking (R : Type 0) : Type 0 where
   ends : R → Asking R
   asks : ℕ → Request → (Answer → Asking R) → Asking R  -- the bind bucket of that key
-  inserts : Card → ℕ → Replace → (Outcome → Asking R) → Asking R  -- a full card, at that moment by that rule
+  inserts : Card → ℕ → Replace → (Outcome → Asking R) → Asking R  -- a full card or a request's, at a moment by a rule
   adds : Card → (Outcome → Asking R) → Asking R  -- a card that no four-tuple keeps out
   unhashes : Place → Card → Asking R → Asking R  -- the card that stands in that place
   reaps : Card → (Bool → Asking R) → Asking R  -- a TIME_WAIT, if nobody was before it

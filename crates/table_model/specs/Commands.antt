@@ -18,8 +18,8 @@ use Rattle.flat_list.specs.Owned.{new_owner}
 use Rattle.table_model.specs.declared.operation.OpEnd.{OpEnd}
 use Rattle.table_model.specs.declared.operation.OpEnd.TheVariants as errors
 use Rattle.table_model.specs.Asking.{Asking, ends, impossible, and_then}
-use Rattle.table_model.specs.Own.{Own, Mine, open_socket, next_name, with_label, with_socket, with_new, without, with_wait, with_offsets, past_offset, ports_of}
-use Rattle.table_model.specs.Operations.{Did, done, refused, Closed, gone, waiting, no_slot, plain, bind, listen, connect, accept, close, drop, reap, kept_waits, source_to}
+use Rattle.table_model.specs.Own.{Own, Mine, open_socket, open_named, next_name, with_label, with_socket, with_new, without, with_wait, with_offsets, past_offset, ports_of}
+use Rattle.table_model.specs.Operations.{Did, done, refused, Closed, gone, waiting, no_slot, plain, bind, listen, connect, accept, syn, ack, close, drop, reap, kept_waits, source_to}
 
 -- what a command leaves of the section's own, and its reply
 pub record Replied : Type 0 where
@@ -41,7 +41,7 @@ bind_error errors.GroupsFull = replies.Emfile
 bind_error (errors.Full owned held) = replies.Enfile owned held
 bind_error _ = replies.Einval
 
--- how that of `connect` or `accept` is
+-- how that of `connect`, `accept`, `syn` or `ack` is
 abbrev pub connect_error : OpEnd → Reply
 connect_error (errors.Taken name) = replies.Eaddrnotavail
 connect_error errors.NoPort = replies.Eaddrnotavail
@@ -61,6 +61,11 @@ connect_reply own (refused end) = answers own (connect_error end)
 abbrev pub accept_reply : Own → Did → Replied
 accept_reply own (done m) = answers (with_new own m) replies.Ok
 accept_reply own (refused end) = answers own (connect_error end)
+
+-- the child is there, and the request of that name gone
+abbrev pub ack_reply : Own → ℕ → Did → Replied
+ack_reply own name (done m) = answers (with_new (without own name) m) replies.Ok
+ack_reply own name (refused end) = answers own (connect_error end)
 
 abbrev pub close_reply : Own → ℕ → Closed → Replied
 close_reply own name gone = answers (without own name) replies.Ok
@@ -134,6 +139,19 @@ module _ (header : Header) where
   accept_command own name (Some l) from at =
       and_then (accept header.shape header.seed l name from at) (λ did. ends (accept_reply own did))
 
+  -- once the request's label is given
+  abbrev pub syn_command : Own → ℕ → Option Mine → End → End → Asking Replied
+  syn_command own name None from at = replies_at_once own replies.Ebadf
+  syn_command own name (Some l) from at =
+      and_then (syn header.shape header.seed l name from at) (λ did. ends (accept_reply own did))
+
+  -- once the child's label is given
+  abbrev pub ack_command : Own → ℕ → Option Mine → Asking Replied
+  ack_command own name None = replies_at_once own replies.Ebadf
+  ack_command own name (Some r) =
+      and_then (ack header.shape header.seed r (open_named own r.owner.origin) name)
+      (λ did. ends (ack_reply own r.owner.name did))
+
   abbrev pub close_command : Own → Option Mine → Asking Replied
   close_command own None = replies_at_once own replies.Ebadf
   close_command own (Some m) =
@@ -147,6 +165,10 @@ module _ (header : Header) where
   plan own (commands.Connect label from to) = connect_command own (open_socket own label) from to
   plan own (commands.Accept listener label from at) =
       accept_command (with_label own label) (next_name own) (open_socket own listener) from at
+  plan own (commands.Syn listener label from at) =
+      syn_command (with_label own label) (next_name own) (open_socket own listener) from at
+  plan own (commands.Ack request label) =
+      ack_command (with_label own label) (next_name own) (open_socket own request)
   plan own (commands.Close label) = close_command own (open_socket own label)
   plan own (commands.Drop label) = drop_command own (open_socket own label)
   plan own (commands.At moment) = at_command own moment

@@ -23,7 +23,7 @@ use Rattle.flat_list.specs.Flat.{Flat, new_flat}
 use Rattle.flat_list.specs.Groups.{Group}
 use Rattle.flat_list.specs.Look.{cards_of}
 use Rattle.flat_list.specs.Sections.{Section, section_of}
-use Rattle.flat_list.specs.Sockets.{is_owner, has_name, slots_used, kind_of}
+use Rattle.flat_list.specs.Sockets.{is_owner, has_name, is_open_in, slots_used, kind_of}
 use Rattle.flat_list.specs.Sound.{IsSound}
 use Rattle.flat_list.specs.Step.{step}
 use Rattle.table_model.specs.Tables.{Tables, Ended, new_tables, run}
@@ -99,7 +99,7 @@ pub record TablesMean (t : Tables) (flat : Flat) : Type 0 where
 
 -- an open socket of section n
 abbrev pub is_mine : ℕ → Socket → Bool
-is_mine n s = s.named && (s.owner.name / 2 ^ 24 == n)
+is_mine n s = is_open_in n s
 
 -- a TIME_WAIT of section n
 abbrev pub is_wait_of : ℕ → Socket → Bool

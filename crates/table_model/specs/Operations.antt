@@ -1,7 +1,8 @@
 -- What each operation on a socket asks of the tables. Sources: inet_bind, inet_listen, inet_stream_connect, inet_accept
 -- and inet_release of net/ipv4/af_inet.c; inet_csk_get_port and inet_csk_listen_start of
 -- net/ipv4/inet_connection_sock.c; __inet_hash_connect, __inet_inherit_port, inet_put_port and inet_unhash of
--- net/ipv4/inet_hashtables.c; inet_twsk_hashdance_schedule of net/ipv4/inet_timewait_sock.c. Our own: the order of the
+-- net/ipv4/inet_hashtables.c; inet_twsk_hashdance_schedule of net/ipv4/inet_timewait_sock.c; tcp_conn_request of
+-- net/ipv4/tcp_input.c and inet_csk_complete_hashdance of net/ipv4/inet_connection_sock.c. Our own: the order of the
 -- questions, and what `drop` and `reap` do.
 use Rattle.std.specs.Prelude.{ℕ, ◌+◌, Bool, true, false, ◌==◌, List, [], ◌∷◌, Option, None, Some, if◌then◌else◌, filter, not}
 use Rattle.std.specs.Option.{option_map_or}
@@ -23,7 +24,7 @@ use Rattle.chain_book.specs.declared.shape.Shape.{Shape}
 use Rattle.chain_book.specs.Chains.{Outcome, put, taken, full}
 use Rattle.chain_book.specs.Homes.{home}
 use Rattle.flat_list.specs.declared.command.End.{End}
-use Rattle.flat_list.specs.Owned.{addressed, bound_at, connected_to, connected_at, child_owner, source_of, is_no_end, is_no_accept}
+use Rattle.flat_list.specs.Owned.{addressed, bound_at, connected_to, connected_at, child_owner, request_owner, heir_owner, source_of, is_no_end, is_no_accept, is_no_ack}
 use Rattle.table_model.specs.declared.operation.OpEnd.{OpEnd}
 use Rattle.table_model.specs.declared.operation.OpEnd.TheVariants as errors
 use Rattle.table_model.specs.Asking.{Asking, ends, asks, inserts, adds, unhashes, reaps, impossible}
@@ -112,6 +113,9 @@ then_replaced (Some old) next =
 abbrev pub full_card : Owner → Card
 full_card a = card_of kinds.Full (plain a)
 
+abbrev pub request_card : Owner → Card
+request_card a = card_of kinds.Request (plain a)
+
 -- the source from which a socket is connected to that end
 abbrev pub source_to : Owner → Option ℕ → End → Option ℕ
 source_to a from to = if is_no_end to then None else source_of a.addr from
@@ -126,6 +130,7 @@ drop_as states.Unbound m result = ends result
 drop_as states.Bound m result = leave m.owner result
 drop_as states.Listening m result = unhashes m.place (card_of kinds.Listen m) (leave m.owner result)
 drop_as states.Full m result = unhashes m.place (card_of kinds.Full m) (leave m.owner result)
+drop_as states.Request m result = unhashes m.place (card_of kinds.Request m) (ends result)
 drop_as states.TimeWait m result = impossible
 
 abbrev pub drop : {R : Type 0} → Mine → R → Asking R
@@ -233,6 +238,7 @@ module _ (shape : Shape) (seed : ℕ) where
   connect_from states.Bound a (Some source) to moment rule ports = connect_bound (connected_to a source to) moment rule
   connect_from states.Unbound a None to moment rule ports = ends (refused errors.Inval)
   connect_from states.Bound a None to moment rule ports = ends (refused errors.Inval)
+  connect_from states.Request a source to moment rule ports = ends (refused errors.Inval)
   connect_from _ a source to moment rule ports = ends (refused errors.IsConn)
 
   -- `connect`, at that moment; a TIME_WAIT of the four-tuple may be replaced by that rule
@@ -255,6 +261,51 @@ module _ (shape : Shape) (seed : ℕ) where
   accept l name from at =
       if is_no_accept l.owner from at then ends (refused errors.Inval)
       else accept_as l.owner (child_owner l.owner name from at)
+
+  -- a request that is hashed in that slot
+  abbrev pub request_in : Owner → ℕ → Mine
+  request_in a slot = record { owner = a; extra = 0; place = place_of (request_card a) slot }
+
+  abbrev pub syn_hashed : Owner → Outcome → Asking Did
+  syn_hashed r (put slot old) = then_replaced old (ends (done (request_in r slot)))
+  syn_hashed r (taken name) = ends (refused (errors.Taken name))
+  syn_hashed r (full owned held) = ends (refused (errors.Full owned held))
+
+  abbrev pub syn_as : Owner → Asking Did
+  syn_as r = inserts (request_card r) 0 rules.Always (syn_hashed r)
+
+  -- `syn`: a request of that name for a handshake with the listener from one end at another
+  abbrev pub syn : Mine → ℕ → End → End → Asking Did
+  syn l name from at =
+      if is_no_accept l.owner from at then ends (refused errors.Inval)
+      else syn_as (request_owner l.owner name from at)
+
+  -- the child stands before the request is gone, and then it comes to its listener's port
+  abbrev pub ack_hashed : Mine → Owner → Owner → Outcome → Asking Did
+  ack_hashed r l child (put slot None) =
+      unhashes r.place (card_of kinds.Request r)
+      (asks (owner_key l) (requests.Inherit l.name child.name child.addr child.remote child.rport)
+      (when_done (ends (done (full_in child slot)))))
+  ack_hashed r l child (full owned held) = ends (refused (errors.Full owned held))
+  ack_hashed r l child _ = impossible
+
+  abbrev pub ack_as : Mine → Owner → Owner → Asking Did
+  ack_as r l child = adds (full_card child) (ack_hashed r l child)
+
+  -- by the listener, where it is open still
+  abbrev pub ack_by : Mine → Option Mine → ℕ → Asking Did
+  ack_by r None name = ends (refused errors.Inval)
+  ack_by r (Some l) name =
+      if is_no_ack l.owner r.owner then ends (refused errors.Inval)
+      else ack_as r l.owner (heir_owner l.owner name r.owner)
+
+  -- `ack` of a socket in that state: the child of that name comes in the place of a request
+  abbrev pub ack_from : State → Mine → Option Mine → ℕ → Asking Did
+  ack_from states.Request r l name = ack_by r l name
+  ack_from _ r l name = ends (refused errors.Inval)
+
+  abbrev pub ack : Mine → Option Mine → ℕ → Asking Did
+  ack r l name = ack_from r.owner.state r l name
 
   abbrev pub waits_in : Mine → ℕ → Mine
   waits_in w slot = record w { place = place_of (card_of kinds.TimeWait w) slot }

@@ -78,6 +78,10 @@ next_name own = name_at own.number (length own.labels)
 abbrev pub open_socket : Own → List ℕ → Option Mine
 open_socket own label = option_and_then (λ name. find (is_named name) own.sockets) (name_of own label)
 
+-- the open socket of that name
+abbrev pub open_named : Own → ℕ → Option Mine
+open_named own name = find (is_named name) own.sockets
+
 abbrev pub replaced : Mine → Mine → Mine
 replaced new m = if is_named new.owner.name m then new else m
 

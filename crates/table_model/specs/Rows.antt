@@ -1,6 +1,6 @@
 -- Worked examples, computed by the plans on new tables: each line is a command of section 1 with its reply, and the flat
 -- list has the same reply.
-use Rattle.std.specs.Prelude.{◌≡◌, ℕ, List, [], ◌∷◌, ◌++◌, ◌+◌, Option, None, Some, map, codes}
+use Rattle.std.specs.Prelude.{◌≡◌, ℕ, List, [], ◌∷◌, ◌++◌, ◌+◌, Option, None, Some, not, map, filter, codes}
 use Rattle.std.specs.List.{range_with_len}
 use Rattle.sock_card.specs.Limits.{group_room}
 use Rattle.flat_list.specs.declared.header.Header.{Header}
@@ -12,6 +12,7 @@ use Rattle.flat_list.specs.Rows.{Line, says, command_of, reply_of, Answer, a, b,
 use Rattle.table_model.specs.Tables.{Tables, Ended, new_tables, run}
 use Rattle.table_model.specs.Own.{Own, new_own}
 use Rattle.table_model.specs.Commands.{Replied, plan}
+use Rattle.table_model.specs.Means.{is_lookup}
 
 -- a plan's reply, and then those of the commands that follow; none where the tables answer as none do
 abbrev pub reply_and : Option (Ended Replied) → (Ended Replied → List Reply) → List Reply
@@ -30,6 +31,10 @@ abbrev pub BothAnswer : Header → List Line → Type 0
 BothAnswer header lines =
     (replies_by_plans header (new_own header 1) (new_tables header.shape header.seed) (map command_of lines) ≡ map reply_of lines)
     × Answer header lines
+
+-- the lines but those that only look, of which there is no plan
+abbrev pub without_looks : List Line → List Line
+without_looks lines = filter (λ line. not (is_lookup line.command)) lines
 
 -- a header with several buckets of each kind
 abbrev pub with_buckets : Header

@@ -1,6 +1,7 @@
 ghost use Rattle.std.specs.Prelude.{Some, true};
-ghost use Rattle.flat_list.specs.Rows.{with_slots, with_range, with_seed, until_one_listens, beside_by_device, one_four_tuple, states_refuse, four_ports, binds_from_two, connects_from_two, shared_by_connect, port_without_slot, words_are_drawn, child_stays, child_lets_in, shared_by_user, one_listener_too_many, with_reuse};
-ghost use Rattle.table_model.specs.Rows.{BothAnswer, with_buckets, wait_is_replaced, wait_is_reaped, three_groups, one_slot_each, group_is_full, bucket_is_full};
+ghost use Rattle.flat_list.specs.Rows.{with_slots, with_range, with_seed, until_one_listens, beside_by_device, one_four_tuple, states_refuse, four_ports, binds_from_two, connects_from_two, shared_by_connect, port_without_slot, words_are_drawn, child_stays, child_lets_in, shared_by_user, one_listener_too_many, with_reuse, handed_over, not_handed_over};
+ghost use Rattle.flat_list.specs.MoreRows as more;
+ghost use Rattle.table_model.specs.Rows.{BothAnswer, with_buckets, without_looks, wait_is_replaced, wait_is_reaped, three_groups, one_slot_each, group_is_full, bucket_is_full};
 
 /// The worked examples answer what they say, by the plans as by the flat list.
 pub fn worked_rows()
@@ -24,4 +25,8 @@ pub fn worked_rows()
     ensures one_too_many { BothAnswer with_buckets one_listener_too_many }
     ensures full_group { BothAnswer with_buckets group_is_full }
     ensures full_bucket { BothAnswer with_buckets bucket_is_full }
+    ensures handed_over { BothAnswer with_buckets (without_looks handed_over) }
+    ensures not_handed_over { BothAnswer (with_slots 2) (without_looks not_handed_over) }
+    ensures requests { BothAnswer (with_slots 2) (without_looks more.requests) }
+    ensures wait_requested { BothAnswer with_buckets (without_looks more.wait_requested) }
 {}

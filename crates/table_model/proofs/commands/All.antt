@@ -13,7 +13,8 @@ use Rattle.table_model.proofs.parts.OpenSocket.{OpenThere, open_both, open_there
 use Rattle.table_model.proofs.commands.Carried.{Carried}
 use Rattle.table_model.proofs.commands.FirstPlans.{Ends, ends_so, AllCarried, plans_refine, bind_carried, bind_ends, at_carried, at_ends, socket_carried, socket_ends, dump_carried, dump_ends}
 use Rattle.table_model.proofs.commands.ReapAll.{reap_mine}
-use Rattle.table_model.proofs.commands.ConnectPlans.{connect_carried, connect_ends, accept_carried, accept_ends}
+use Rattle.table_model.proofs.commands.ConnectPlans.{connect_carried, connect_ends}
+use Rattle.table_model.proofs.commands.HandshakePlans.{accept_carried, accept_ends, syn_carried, syn_ends, ack_carried, ack_ends}
 use Rattle.table_model.proofs.commands.Drop.{drop_both, drop_open, drop_none}
 use Rattle.table_model.proofs.commands.Close.{close_both, close_open, close_none}
 
@@ -67,6 +68,8 @@ all_carried listens n own t flat (commands.Bind label end) near few looks h = bi
 all_carried listens n own t flat (commands.Listen label) near few looks h = listens n own t flat h near label few
 all_carried listens n own t flat (commands.Connect label from to) near few looks h = connect_carried n own t flat h label from to few
 all_carried listens n own t flat (commands.Accept listener label from at) near few looks h = accept_carried n own t flat h listener label from at few
+all_carried listens n own t flat (commands.Syn listener label from at) near few looks h = syn_carried n own t flat h listener label from at few
+all_carried listens n own t flat (commands.Ack request label) near few looks h = ack_carried n own t flat h request label few
 all_carried listens n own t flat (commands.Close label) near few looks h = close_carried n own t flat h near label few
 all_carried listens n own t flat (commands.Drop label) near few looks h = drop_carried n own t flat h near label few
 all_carried listens n own t flat (commands.At moment) near few looks h = at_carried n own t flat h moment
@@ -86,6 +89,8 @@ all_end listens n own t flat (commands.Bind label end) near looks h = bind_ends 
 all_end listens n own t flat (commands.Listen label) near looks h = listens n own t flat h near label
 all_end listens n own t flat (commands.Connect label from to) near looks h = connect_ends n own t flat h label from to
 all_end listens n own t flat (commands.Accept listener label from at) near looks h = accept_ends n own t flat h listener label from at
+all_end listens n own t flat (commands.Syn listener label from at) near looks h = syn_ends n own t flat h listener label from at
+all_end listens n own t flat (commands.Ack request label) near looks h = ack_ends n own t flat h request label
 all_end listens n own t flat (commands.Close label) near looks h = close_ends n own t flat h near label
 all_end listens n own t flat (commands.Drop label) near looks h = drop_ends n own t flat h near label
 all_end listens n own t flat (commands.At moment) near looks h = at_ends n own t flat h moment

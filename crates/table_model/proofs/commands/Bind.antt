@@ -243,6 +243,7 @@ module _ (n : ℕ) (own : Own) (t : Tables) (flat : Flat) (h : Means n own t fla
   by_state states.Listening e = not_unbound
   by_state states.Full e = not_unbound
   by_state states.TimeWait e = not_unbound
+  by_state states.Request e = not_unbound
 
   -- `bind` of an open socket
   pub bind_mine : Carried n t (bind_command own (Some m) end) (bind flat n (Some s) end)

@@ -1,9 +1,7 @@
 -- `close` of an open socket of a section's own, carried out on tables that mean a list.
-use Rattle.std.proofs.Common.{◌≡◌, ◌≢◌, ℕ, ◌+◌, ◌%◌, ◌^◌, ◌≤◌, ◌<◌, ◌==◌, Bool, true, false, ◌&&◌, ◌||◌, cond, List, [], ◌∷◌, length, find, Option, Some, None, ◌⊎◌, inl, inr, refl, ap, sym, ◌∙◌, subst, arith}
-use Rattle.std.specs.List.{list_any}
-use Rattle.std.proofs.lemmas.Bool.{both_ways, cases_eq, cond-false, eq-eqb, ne_eqb, and_left}
-use Rattle.std.proofs.lemmas.List.{get_or-set_same, get_or-set_other}
-use Rattle.list_words.specs.Lists.{Each, total}
+use Rattle.std.proofs.Common.{◌≡◌, ◌≢◌, ℕ, ◌+◌, ◌%◌, ◌^◌, ◌≤◌, Bool, true, false, ◌&&◌, cond, length, Option, Some, None, refl, ap, sym, ◌∙◌, subst, arith}
+use Rattle.std.proofs.lemmas.Bool.{both_ways}
+use Rattle.list_words.specs.Lists.{Each}
 use Rattle.list_words.proofs.EachLemmas.{each_weaken}
 use Rattle.sock_card.specs.declared.card.Card.{Card}
 use Rattle.sock_card.specs.declared.card.Kind.{Kind}
@@ -14,14 +12,12 @@ use Rattle.sock_card.specs.Conflict.{owner_key, is_time_wait, is_listening}
 use Rattle.bind_buckets.specs.declared.request.Answer.{Answer}
 use Rattle.bind_buckets.specs.declared.request.Request.TheVariants as requests
 use Rattle.chain_book.specs.declared.outcome.Place.{Place}
-use Rattle.chain_book.specs.declared.outcome.Hashed.{Hashed}
-use Rattle.chain_book.specs.Chains.{Chains, Outcome as ChainOutcome, slot_outcome, placed, unhashed, hashed, home_in, row_at, has_slot as in_slot}
+use Rattle.chain_book.specs.Chains.{Chains, Outcome as ChainOutcome, slot_outcome, hashed}
 use Rattle.chain_book.specs.Slots.{free_slot}
-use Rattle.chain_book.specs.declared.shape.Shape.{Shape}
 use Rattle.flat_list.specs.declared.command.Reply.TheVariants as replies
 use Rattle.flat_list.specs.declared.socket.Socket.{Socket}
 use Rattle.flat_list.specs.Flat.{Flat}
-use Rattle.flat_list.specs.Groups.{Group, has_member}
+use Rattle.flat_list.specs.Groups.{has_member}
 use Rattle.flat_list.specs.Outcome.{Outcome, changed, removed, has_slot}
 use Rattle.flat_list.specs.Sockets.{has_name, is_owner, kind_of, put}
 use Rattle.flat_list.specs.Sound.{IsSound}
@@ -33,43 +29,20 @@ use Rattle.table_model.specs.Own.{Own, Mine, card_of}
 use Rattle.table_model.specs.Operations.{Closed, waiting, no_slot, close_as, close_full, close_hashed, wait_of, waits_in, when_done}
 use Rattle.table_model.specs.Commands.{Replied, close_command, close_reply}
 use Rattle.table_model.specs.Means.{ChainsMean, Means, StandsAs, is_mine, stands_in_some}
-use Rattle.table_model.proofs.lists.Passing.{Only, ind, found_counts}
-use Rattle.table_model.proofs.lists.Rows.{row_least}
-use Rattle.table_model.proofs.parts.Slots.{free_is}
-use Rattle.table_model.proofs.parts.Chains.{Holds, holds, means, weighing, unhashed_holds, home_below}
-use Rattle.table_model.proofs.parts.Cards.{card_weight, cards_weigh, only_named}
-use Rattle.table_model.proofs.questions.Inserts.{room_found, room_none, added_holds}
-use Rattle.table_model.proofs.parts.Places.{stands_test, StandsThere, stands_there, stand_placed, stand_unhashed, card_is}
-use Rattle.table_model.proofs.parts.MemberPlaces.{some_placed, some_unhashed}
+use Rattle.table_model.proofs.parts.Chains.{weighing}
+use Rattle.table_model.proofs.parts.Cards.{card_weight, cards_weigh}
+use Rattle.table_model.proofs.questions.Inserts.{room_found, room_none}
 use Rattle.table_model.proofs.lists.Listed.{Listed, put_weighs}
 use Rattle.table_model.proofs.questions.Requests.{IsDone, to_time_wait_asked}
 use Rattle.table_model.proofs.questions.Asked.{with_sockets}
 use Rattle.table_model.proofs.parts.Sections.{same_moment}
 use Rattle.table_model.proofs.commands.Carried.{Carried}
 use Rattle.table_model.proofs.parts.OpenSocket.{IsOpen, OpenBoth}
-use Rattle.table_model.proofs.parts.Groups.{IsGrouped, groups_stay}
+use Rattle.table_model.proofs.parts.Groups.{others_grouped, groups_stay}
 use Rattle.table_model.proofs.questions.WhichGroup.{in_no_group}
 use Rattle.table_model.proofs.parts.OwnGoes.{is_awake, own_waits}
-use Rattle.table_model.proofs.commands.Drop.{stands_so, carried_unhashed, carried_leave, carried_at_once}
-
-found_behind : {A : Type 0} (p : A → Bool) (new x : A) (xs : List A) → p new ≡ false → find p xs ≡ Some x → find p (new ∷ xs) ≡ Some x
-found_behind p new x xs e h = cond-false (p new) (Some new) (find p xs) e ∙ h
-
--- what was found in a row is found there when a card comes that isn't that
-still_found : (c : Chains) (b slot : ℕ) (card : Card) (p : Hashed → Bool) (k : ℕ) (x : Hashed) → (k ≡ b) ⊎ (k ≢ b) → b < length c.rows → p (record { slot = slot; card = card }) ≡ false
-    → find p (row_at c k) ≡ Some x → find p (row_at (placed c b slot card) k) ≡ Some x
-still_found c b slot card p k x (inl e) l fails h =
-    let new : Hashed = record { slot = slot; card = card } in
-    subst (λ (j : ℕ). find p (row_at (placed c b slot card) j) ≡ Some x) (sym e)
-    (subst (λ (r : List Hashed). find p r ≡ Some x) (sym (get_or-set_same c.rows b (new ∷ row_at c b) [] l))
-    (found_behind p new x (row_at c b) fails (subst (λ (j : ℕ). find p (row_at c j) ≡ Some x) e h)))
-still_found c b slot card p k x (inr d) l fails h =
-    subst (λ (r : List Hashed). find p r ≡ Some x) (sym (get_or-set_other c.rows b k (record { slot = slot; card = card } ∷ row_at c b) [] d)) h
-
-nobody_grouped : (name : ℕ) (groups : List Group) → Each (λ g. has_member name g ≡ false) groups → IsGrouped groups name → ⊥
-nobody_grouped name [] none is = absurd (cc)
-nobody_grouped name (g ∷ groups) none is =
-    nobody_grouped name groups none.1 (sym (ap (λ b. b || list_any (has_member name) groups) none.0) ∙ is)
+use Rattle.table_model.proofs.parts.Handed.{handed, handed_means, stays_handed, words_handed}
+use Rattle.table_model.proofs.commands.Drop.{stands_so, carried_unhashed, carried_leave, carried_at_once, carried_portless}
 
 module _ (n : ℕ) (own : Own) (t : Tables) (flat : Flat) (h : Means n own t flat) (near : n ≤ 64) (s : Socket) (extra : ℕ) (place : Place)
     (at : Listed s.owner.name flat.sockets s) (mine : is_mine n s ≡ true) (stands : StandsAs t.chains (record { owner = s.owner; extra = extra; place = place }) (kind_of s.owner.state)) where
@@ -96,9 +69,6 @@ module _ (n : ℕ) (own : Own) (t : Tables) (flat : Flat) (h : Means n own t fla
     abbrev after : Flat
     after = with_sockets flat (put new flat.sockets)
 
-    abbrev home : ℕ
-    home = home_in t.chains card
-
     abbrev full_stands : StandsAs t.chains m (Some kinds.Full)
     full_stands = subst (StandsAs t.chains m) (ap kind_of is_full) stands
 
@@ -106,74 +76,28 @@ module _ (n : ℕ) (own : Own) (t : Tables) (flat : Flat) (h : Means n own t fla
     owner = ap is_owner is_full
 
     module _ (slot : ℕ) (free : free_slot t.chains.slots ≡ Some slot) where
-      abbrev between : Chains
-      between = placed t.chains home slot card
-
+      -- the chains with its card as a TIME_WAIT's, and without the one before
       abbrev chains : Chains
-      chains = unhashed between place
+      chains = handed t.chains flat h.tables.chains h.shape h.sound.names s at extra place kinds.Full full_stands w kinds.TimeWait slot free
 
-      held : Holds between flat.header.shape flat.header.seed (λ f. weighing flat f + f card)
-      held = added_holds t.chains flat card slot h.tables.chains h.shape free
-
-      inside : home < length t.chains.rows
-      inside = omega (
-        arith,
-        home_below t.chains.shape t.chains.seed card (subst (λ (x : Shape). 1 ≤ x.hash) (sym h.tables.chains.shape) h.shape.hash) (subst (λ (x : Shape). 1 ≤ x.listen) (sym h.tables.chains.shape) h.shape.listen),
-        h.tables.chains.count,
-      )
-
-      -- what stands in the socket's place
-      there : (x : Hashed) × StandsThere t.chains m x
-      there = stands_there t.chains m kinds.Full full_stands
-
-      abbrev x : Hashed
-      x = there.0
-
-      other_slot : slot ≢ place.slot
-      other_slot e =
-          let is = free_is t.chains.slots slot free in
-          let alone = (holds t.chains flat h.tables.chains).alone slot in
-          let same : x.slot ≡ slot = there.1.slot ∙ sym e in
-          let counts : 1 ≤ total (ind (in_slot slot)) (row_at t.chains place.bucket) = found_counts (in_slot slot) (stands_test m) (row_at t.chains place.bucket) x there.1.found (eq-eqb x.slot slot same) in
-          absurd (omega (arith, counts, row_least (ind (in_slot slot)) t.chains.rows place.bucket, alone, ap (λ (b : Bool). cond {A = ℕ} b 1 0) is.1))
-
-      found : find (stands_test m) (row_at between place.bucket) ≡ Some x
-      found =
-          still_found t.chains home slot card (stands_test m) place.bucket x (cases_eq place.bucket home) inside
-          (and_left (slot == place.slot) (card.name == m.owner.name) (ne_eqb slot place.slot other_slot)) there.1.found
-
-      weighs : (f : Card → ℕ) → weighing after f + f x.card ≡ weighing flat f + f card
+      weighs : (f : Card → ℕ) → weighing after f + card_weight flat.groups f s ≡ weighing flat f + f card
       weighs f =
-          let one : Only (has_name name) s flat.sockets = only_named (has_name name) flat.sockets s name at refl h.sound.names in
           omega (
             arith,
             cards_weigh flat.groups f (put new flat.sockets),
             cards_weigh flat.groups f flat.sockets,
             put_weighs new (card_weight flat.groups f) s flat.sockets h.sound.names at,
-            card_is t.chains flat h.tables.chains name s (stands_test m) place.bucket x one there.1.found there.1.name f,
           )
 
-      in_place : (P : Chains → Type 0) → P (unhashed between (record { bucket = place.bucket; slot = x.slot })) → P chains
-      in_place P p = subst (λ (k : ℕ). P (unhashed between (record { bucket = place.bucket; slot = k }))) there.1.slot p
-
-      -- the chains mean the list in which it waits
+      -- they mean the list in which it waits
       chains_mean : ChainsMean chains after
-      chains_mean =
-          means chains after
-          (in_place (λ c. Holds c flat.header.shape flat.header.seed (weighing after))
-          (unhashed_holds between flat.header.shape flat.header.seed (λ f. weighing flat f + f card) held place.bucket (stands_test m) x (weighing after) found weighs))
+      chains_mean = handed_means t.chains flat h.tables.chains h.shape h.sound.names s at extra place kinds.Full full_stands w kinds.TimeWait slot free (put new flat.sockets) weighs
 
       others : (y : Mine) (k : Option Kind) → name ≢ y.owner.name → StandsAs t.chains y k → StandsAs chains y k
-      others y k d st =
-          in_place (λ c. StandsAs c y k)
-          (stand_unhashed between flat.header.shape flat.header.seed (λ f. weighing flat f + f card) held place.bucket (stands_test m) x found y (λ e. d (sym there.1.name ∙ e)) k
-          (stand_placed t.chains home slot card y k inside st))
+      others = stays_handed t.chains flat h.tables.chains h.shape h.sound.names s at extra place kinds.Full full_stands w kinds.TimeWait slot free
 
       words : (v : ℕ) → v % 2 ^ 32 ≢ name → stands_in_some v t.chains.rows ≡ true → stands_in_some v chains.rows ≡ true
-      words v d st =
-          in_place (λ c. stands_in_some v c.rows ≡ true)
-          (some_unhashed between flat.header.shape flat.header.seed (λ f. weighing flat f + f card) held place.bucket (stands_test m) x found v (λ e. d (sym e ∙ there.1.name))
-          (some_placed t.chains home slot card v inside st))
+      words = words_handed t.chains flat h.tables.chains h.shape h.sound.names s at extra place kinds.Full full_stands w kinds.TimeWait slot free
 
       asked : IsDone t.buckets (owner_key s.owner) (requests.ToTimeWait name) after
       asked = to_time_wait_asked t.buckets flat h.tables.owners h.shape.bind h.sound.names name s at owner new refl
@@ -194,7 +118,7 @@ module _ (n : ℕ) (own : Own) (t : Tables) (flat : Flat) (h : Means n own t fla
         tables = record {
           owners = asked.left.owners;
           chains = chains_mean;
-          groups = groups_stay t left flat after h.tables.groups asked.left.groups refl (λ v g st. words v (λ e. nobody_grouped name flat.groups ungrouped (subst (IsGrouped flat.groups) e g)) st);
+          groups = groups_stay t left flat after h.tables.groups asked.left.groups refl (λ v g st. words v (others_grouped name flat.groups ungrouped (v % 2 ^ 32) g) st);
         };
         own_is = own_waits n own t flat h.own_is h.sound s at mine left own.moment waiter refl refl
             (each_weaken (λ (y : Mine). StandsAs t.chains y (kind_of y.owner.state)) (λ (y : Mine). name ≢ y.owner.name → StandsAs chains y (kind_of y.owner.state)) own.sockets
@@ -248,6 +172,7 @@ module _ (n : ℕ) (own : Own) (t : Tables) (flat : Flat) (h : Means n own t fla
   by_state states.Bound e = carried_leave n own t flat h near s extra place at mine stands replies.Ok _ (ap is_owner e) (ap kind_of e) refl
   by_state states.Listening e = carried_unhashed n own t flat h near s extra place at mine stands replies.Ok kinds.Listen _ (ap is_owner e) (ap kind_of e) refl
   by_state states.Full e = closes e
+  by_state states.Request e = carried_portless n own t flat h near s extra place at mine stands replies.Ok kinds.Request (ap is_owner e) (ap kind_of e)
   by_state states.TimeWait e = absurd (both_ways (is_time_wait s.owner.state) (is_awake n own t flat h.own_is h.sound s at mine) (ap is_time_wait e))
 
   -- whatever its state is

@@ -1,9 +1,8 @@
--- A full socket comes into a chain and to its port, and what it replaces is gone from both.
+-- A full socket or a request comes into a chain, and to its port if it has one, and what it replaces is gone from both.
 use Rattle.std.proofs.Common.{◌≡◌, ℕ, ◌+◌, ◌≤◌, true, List, find, Option, Some, None, refl, sym, ◌∙◌, subst}
 use Rattle.list_words.specs.Lists.{Each, Pairs, total}
 use Rattle.list_words.proofs.EachLemmas.{each_both, each_weaken}
 use Rattle.sock_card.specs.declared.card.Card.{Card}
-use Rattle.sock_card.specs.declared.card.Kind.TheVariants as kinds
 use Rattle.sock_card.specs.declared.owner.Owner.{Owner}
 use Rattle.sock_card.specs.declared.owner.State.{State}
 use Rattle.sock_card.specs.declared.owner.State.TheVariants as states
@@ -24,10 +23,11 @@ use Rattle.table_model.specs.Asking.{Asking, ends, asks}
 use Rattle.table_model.specs.Tables.{Tables, Ended, with_buckets, with_chains}
 use Rattle.bind_buckets.specs.BindHash.{answer_at, asked_at}
 use Rattle.table_model.specs.Own.{Own, Mine}
-use Rattle.table_model.specs.Operations.{Did, done, full_card, full_in, full_done, then_replaced, when_done}
+use Rattle.table_model.specs.Operations.{Did, done, then_replaced, when_done}
 use Rattle.table_model.specs.Means.{OwnersMean, TablesMean, StandsAs, IsShape, OwnMeans}
 use Rattle.table_model.proofs.questions.Inserts.{keeper, tried_put, inserted}
 use Rattle.table_model.proofs.parts.Cards.{card_weight}
+use Rattle.table_model.proofs.parts.Claims.{claim_kind, claim_card, claimed_in, claim_done}
 use Rattle.table_model.proofs.questions.Replaced.{Replaces}
 use Rattle.table_model.proofs.parts.Hashed.{drop_old, NotOld, OldListed, listed_by, stand_hashed, stand_newcomer, words_hashed, names_not_old}
 use Rattle.table_model.proofs.parts.MemberPlaces.{groups_kept}
@@ -44,6 +44,7 @@ waits_own states.Unbound h = absurd (cc)
 waits_own states.Bound h = refl
 waits_own states.Listening h = refl
 waits_own states.Full h = refl
+waits_own states.Request h = absurd (cc)
 
 -- what was replaced, in the list in which the newcomer stands
 abbrev pub StandsOld : Option Hashed → List Socket → Type 0
@@ -67,25 +68,25 @@ module _ {R : Type 0} (flat : Flat) (some : 1 ≤ flat.header.shape.bind) (names
 -- a socket has come: the tables mean the list with it, and who stood stands
 pub record Came (t : Tables) (own : Own) (flat : Flat) (m : Mine) : Type 0 where
   pub tables : TablesMean t flat
-  pub stands : StandsAs t.chains m (Some kinds.Full)
+  pub stands : StandsAs t.chains m (Some (claim_kind m.owner.state))
   pub others : Each (λ (x : Mine). StandsAs t.chains x (kind_of x.owner.state)) own.sockets
 
 -- it was done so that the socket of that owner has come
 abbrev pub HasCome : Own → Flat → Owner → List Socket → Ended Did → Type 0
 HasCome own flat a after e =
-    (slot : ℕ) × (e.result ≡ done (full_in flat.header.shape flat.header.seed a slot))
-    × Came e.tables own (with_sockets flat after) (full_in flat.header.shape flat.header.seed a slot)
+    (slot : ℕ) × (e.result ≡ done (claimed_in flat.header.shape flat.header.seed a slot))
+    × Came e.tables own (with_sockets flat after) (claimed_in flat.header.shape flat.header.seed a slot)
 
 module _ (n : ℕ) (own : Own) (t : Tables) (flat : Flat) (mean : TablesMean t flat) (shape : IsShape flat.header) (sound : IsSound flat) (own_is : OwnMeans n own t flat) (a : Owner) where
   abbrev card : Card
-  card = full_card a
+  card = claim_card a
 
   abbrev row : List Hashed
   row = row_at t.chains (home_in t.chains card)
 
   -- the newcomer in that slot
   abbrev pub comer : ℕ → Mine
-  comer slot = full_in flat.header.shape flat.header.seed a slot
+  comer slot = claimed_in flat.header.shape flat.header.seed a slot
 
   module _ (with_it after : List Socket) (names : Pairs NamesDiffer with_it)
       (drops : (old : Option Hashed) → find (waits card) row ≡ old → drop_old old with_it ≡ after)
@@ -126,15 +127,21 @@ module _ (n : ℕ) (own : Own) (t : Tables) (flat : Flat) (mean : TablesMean t f
             },
           )
 
-      -- it comes to its port by that request, and what it replaces leaves
-      pub comes_to_port : (port : ℕ) (request : Request) → IsDone t.buckets port request (with_sockets flat with_it)
-          → Comes (with_chains t chains) (asks port request (when_done (full_done flat.header.shape flat.header.seed a slot old))) (HasCome own flat a after)
-      comes_to_port port request asked =
-          comes_asks (with_chains t chains) port request (when_done (full_done flat.header.shape flat.header.seed a slot old)) answers.Done (HasCome own flat a after) asked.answer
-          (old_leaves (with_sockets flat with_it) shape.bind names (with_buckets (with_chains t chains) (asked_at t.buckets port request)) asked.left.owners
+      -- once buckets mean the list with it, what it replaces leaves
+      pub arrives : (buckets : List Standing) → Left t.buckets buckets (with_sockets flat with_it)
+          → Comes (with_buckets (with_chains t chains) buckets) (claim_done flat.header.shape flat.header.seed a slot old) (HasCome own flat a after)
+      arrives buckets here =
+          old_leaves (with_sockets flat with_it) shape.bind names (with_buckets (with_chains t chains) buckets) here.owners
           (ends (done (comer slot))) (HasCome own flat a after) old (stands_by old (listed_by t.chains flat mean.chains sound a old parts.2))
-          (λ buckets left.
-          comes_ends (with_buckets (with_chains t chains) buckets) (done (comer slot)) (HasCome own flat a after)
-          (has_come buckets
-          (subst (λ (xs : List Socket). Left t.buckets buckets (with_sockets flat xs)) (drops old parts.2)
-          (record { owners = left.owners; groups = left.groups ∙ asked.left.groups })))))
+          (λ buckets' left.
+          comes_ends (with_buckets (with_chains t chains) buckets') (done (comer slot)) (HasCome own flat a after)
+          (has_come buckets'
+          (subst (λ (xs : List Socket). Left t.buckets buckets' (with_sockets flat xs)) (drops old parts.2)
+          (record { owners = left.owners; groups = left.groups ∙ here.groups }))))
+
+      -- it comes to its port by that request
+      pub comes_to_port : (port : ℕ) (request : Request) → IsDone t.buckets port request (with_sockets flat with_it)
+          → Comes (with_chains t chains) (asks port request (when_done (claim_done flat.header.shape flat.header.seed a slot old))) (HasCome own flat a after)
+      comes_to_port port request asked =
+          comes_asks (with_chains t chains) port request (when_done (claim_done flat.header.shape flat.header.seed a slot old)) answers.Done (HasCome own flat a after) asked.answer
+          (arrives (asked_at t.buckets port request) asked.left)

@@ -233,6 +233,8 @@ module _ (n : ℕ) (own : Own) (t : Tables) (flat : Flat) (h : Means n own t fla
     by_state states.Listening e = is_conn false refl
     by_state states.Full e = is_conn false refl
     by_state states.TimeWait e = is_conn false refl
+    by_state states.Request e =
+        refused_good (unchanged flat replies.Einval) (do_reply own (refused errors.Inval)) refl (connect_reply own (refused errors.Inval)) refl refl refl
 
     -- `connect` of an open socket
     pub connect_here : Carried n t (plan_from s.owner.state (source_to s.owner from to)) (flat_connect.connect_socket flat n s s.owner.state from to)

@@ -19,7 +19,7 @@ use Rattle.flat_list.specs.Outcome.{removed}
 use Rattle.flat_list.specs.Sockets.{is_owner, kind_of}
 use Rattle.flat_list.specs.Step.{drop}
 use Rattle.table_model.specs.Asking.{Asking, ends, asks, unhashes}
-use Rattle.table_model.specs.Tables.{Tables, run}
+use Rattle.table_model.specs.Tables.{Tables, with_chains, run}
 use Rattle.bind_buckets.specs.BindHash.{asked_at, answer_at}
 use Rattle.table_model.specs.Own as own_words
 use Rattle.table_model.specs.Own.{Own, Mine, card_of}
@@ -80,7 +80,18 @@ module _ (n : ℕ) (own : Own) (t : Tables) (flat : Flat) (h : Means n own t fla
     ended = record { tables = t; result = left_own };
     runs = refl;
     reply = refl;
-    means = leaves_nothing n own t flat h near s at mine unbound (left_unhashed_none n own t flat h near s at mine none);
+    means = leaves_nothing n own t flat h near s at mine unbound t.chains (left_unhashed_none n own t flat h near s at mine none);
+  }
+
+  -- its card is unhashed, and it has no port
+  pub carried_portless : (kind : Kind) → is_owner s.owner.state ≡ false → kind_of s.owner.state ≡ Some kind
+      → Carried n t (unhashes place (card_of kind m) (ends left_own)) (removed flat s reply)
+  carried_portless kind unbound is = record {
+    ended = record { tables = with_chains t (unhashed t.chains place); result = left_own };
+    runs = refl;
+    reply = refl;
+    means = leaves_nothing n own t flat h near s at mine unbound (unhashed t.chains place)
+        (left_unhashed n own t flat h near s at mine m kind refl (subst (StandsAs t.chains m) is stands));
   }
 
   by_state : (state : State) → s.owner.state ≡ state → Carried n t (drop_as state m left_own) (removed flat s reply)
@@ -88,6 +99,7 @@ module _ (n : ℕ) (own : Own) (t : Tables) (flat : Flat) (h : Means n own t fla
   by_state states.Bound e = carried_leave _ (ap is_owner e) (ap kind_of e) refl
   by_state states.Listening e = carried_unhashed kinds.Listen _ (ap is_owner e) (ap kind_of e) refl
   by_state states.Full e = carried_unhashed kinds.Full _ (ap is_owner e) (ap kind_of e) refl
+  by_state states.Request e = carried_portless kinds.Request (ap is_owner e) (ap kind_of e)
   by_state states.TimeWait e = absurd (both_ways (is_time_wait s.owner.state) (is_awake n own t flat h.own_is h.sound s at mine) (ap is_time_wait e))
 
   -- whatever its state is

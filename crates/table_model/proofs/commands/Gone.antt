@@ -21,12 +21,13 @@ use Rattle.flat_list.specs.Look.{extra_as}
 use Rattle.flat_list.specs.Owned.{card_as}
 use Rattle.flat_list.specs.Sockets.{has_name, is_owner, kind_of, without}
 use Rattle.flat_list.specs.Sound.{is_sharing, IsSound, IsGroupOf}
-use Rattle.table_model.specs.Tables.{Tables}
+use Rattle.table_model.specs.Tables.{Tables, with_chains}
 use Rattle.bind_buckets.specs.BindHash.{asked_at}
 use Rattle.table_model.specs.Own as own_words
 use Rattle.table_model.specs.Own.{Own, Mine, card_of}
 use Rattle.table_model.specs.Means.{ChainsMean, OwnMeans, Means, StandsAs, owns, stands_in_some, is_mine}
 use Rattle.table_model.proofs.lists.Passing.{Only}
+use Rattle.table_model.proofs.parts.Buckets.{owners_kept}
 use Rattle.table_model.proofs.parts.Chains.{holds, weighing}
 use Rattle.table_model.proofs.parts.Cards.{card_weight, weigh_as, cards_weigh, only_named}
 use Rattle.table_model.proofs.parts.Places.{stands_test, StandsThere, stands_there, left_means, stand_unhashed}
@@ -36,7 +37,7 @@ use Rattle.table_model.proofs.questions.Requests.{remove_means}
 use Rattle.table_model.proofs.commands.Carried.{cards_kept}
 use Rattle.table_model.proofs.lists.Weights.{total_same}
 use Rattle.table_model.proofs.parts.GroupCards.{extra_of, extra_left}
-use Rattle.table_model.proofs.parts.Groups.{groups_stay}
+use Rattle.table_model.proofs.parts.Groups.{groups_stay, others_grouped}
 use Rattle.table_model.proofs.parts.FreePlace.{HasSome}
 use Rattle.table_model.proofs.questions.WhichGroup.{in_no_group}
 use Rattle.table_model.proofs.parts.OwnGoes.{each_keep_if, own_gone, section_is}
@@ -50,6 +51,7 @@ extra_same : (groups groups' : List Group) (s : Socket) → extra_of s.owner.nam
 extra_same groups groups' s h kinds.Listen = h
 extra_same groups groups' s h kinds.Full = refl
 extra_same groups groups' s h kinds.TimeWait = refl
+extra_same groups groups' s h kinds.Request = refl
 
 -- a card of a socket whose group is the same weighs the same
 pub weight_same : (groups groups' : List Group) (f : Card → ℕ) (s : Socket) → extra_of s.owner.name groups' ≡ extra_of s.owner.name groups → card_weight groups' f s ≡ card_weight groups f s
@@ -110,6 +112,7 @@ not_listening states.Bound h = absurd (cc)
 not_listening states.Listening h = absurd (cc)
 not_listening states.Full h = absurd (cc)
 not_listening states.TimeWait h = absurd (cc)
+not_listening states.Request h = refl
 
 module _ (n : ℕ) (own : Own) (t : Tables) (flat : Flat) (h : Means n own t flat) (near : n ≤ 64) (s : Socket) (at : Listed s.owner.name flat.sockets s) (mine : is_mine n s ≡ true) where
   abbrev name : ℕ
@@ -181,22 +184,20 @@ module _ (n : ℕ) (own : Own) (t : Tables) (flat : Flat) (h : Means n own t fla
       }
 
   -- where it has no port, it is gone at once
-  pub leaves_nothing : is_owner s.owner.state ≡ false → HasLeft t.chains → IsSound left → Means n own' t left
-  leaves_nothing unbound has sound =
+  pub leaves_nothing : is_owner s.owner.state ≡ false → (chains : Chains) → HasLeft chains → IsSound left → Means n own' (with_chains t chains) left
+  leaves_nothing unbound chains has sound =
       let sharing : is_sharing s ≡ false = ap (λ (b : Bool). b && s.owner.reuseport) (not_listening s.owner.state unbound) in
-      let none_leave : leave name flat.groups ≡ flat.groups = leave_none name flat.groups (in_no_group flat h.sound (has_name name) s at sharing)
+      let ungrouped : Each (λ (g : Group). has_member name g ≡ false) flat.groups = in_no_group flat h.sound (has_name name) s at sharing in
+      let none_leave : leave name flat.groups ≡ flat.groups = leave_none name flat.groups ungrouped
       (each_weaken (IsGroupOf flat.header.shape.bind flat.sockets) HasSome flat.groups (λ g x. x.some) h.sound.grouped.each) in
       record {
         shape = h.shape;
         sound = sound;
         tables = record {
-          owners = record {
-            count = h.tables.owners.count;
-            owners = λ f. omega (arith, h.tables.owners.owners f, without_weighs name (owns f) s flat.sockets h.sound.names at, ap (λ (b : Bool). cond {A = ℕ} b (f s.owner) 0) unbound);
-            keys = h.tables.owners.keys;
-          };
+          owners = owners_kept t.buckets flat h.tables.owners h.shape.bind left refl
+              (λ f. omega (arith, without_weighs name (owns f) s flat.sockets h.sound.names at, ap (λ (b : Bool). cond {A = ℕ} b (f s.owner) 0) unbound));
           chains = has.means;
-          groups = groups_stay t t flat left h.tables.groups refl none_leave (λ m g st. st);
+          groups = groups_stay t (with_chains t chains) flat left h.tables.groups refl none_leave (λ w g st. has.words w (others_grouped name flat.groups ungrouped (w % 2 ^ 32) g) st);
         };
-        own_is = own_left t has.others;
+        own_is = own_left (with_chains t chains) has.others;
       }

@@ -408,6 +408,7 @@ module _ (n : ℕ) (own : Own) (t : Tables) (flat : Flat) (h : Means n own t fla
   by_state states.Listening e sound = listens_already e
   by_state states.Full e sound = not_so
   by_state states.TimeWait e sound = not_so
+  by_state states.Request e sound = not_so
 
   -- whatever its state is
   pub listen_mine : (s.owner.state ≡ states.Unbound → IsSound (flat_step.bind_search flat n s s.owner.addr).flat) → Carried n t (plan_as s.owner.state) (listen_socket flat n s s.owner.state)

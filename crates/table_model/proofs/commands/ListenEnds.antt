@@ -129,6 +129,7 @@ module _ (n : ℕ) (own : Own) (t : Tables) (flat : Flat) (h : Means n own t fla
   state_ends extra place states.Listening e ports = (record { tables = t; result = done (record { owner = s.owner; extra = extra; place = place }) }, refl)
   state_ends extra place states.Full e ports = (record { tables = t; result = refused errors.Inval }, refl)
   state_ends extra place states.TimeWait e ports = (record { tables = t; result = refused errors.Inval }, refl)
+  state_ends extra place states.Request e ports = (record { tables = t; result = refused errors.Inval }, refl)
 
   mine_ends : ComesToEnd t (listen_command flat.header own (Some m))
   mine_ends =

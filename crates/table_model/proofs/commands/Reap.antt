@@ -130,6 +130,7 @@ is_waiting states.Unbound h = absurd (cc)
 is_waiting states.Bound h = absurd (cc)
 is_waiting states.Listening h = absurd (cc)
 is_waiting states.Full h = absurd (cc)
+is_waiting states.Request h = absurd (cc)
 
 swap_at : (b c : Bool) (v : ℕ) → cond {A = ℕ} c (cond {A = ℕ} b v 0) 0 ≡ cond {A = ℕ} b (cond {A = ℕ} c v 0) 0
 swap_at true true v = refl

@@ -16,9 +16,10 @@ number_of states.Bound = 1
 number_of states.Listening = 2
 number_of states.Full = 3
 number_of states.TimeWait = 4
+number_of states.Request = 5
 
 state_at : ℕ → State
-state_at n = cond (n == 0) states.Unbound (cond (n == 1) states.Bound (cond (n == 2) states.Listening (cond (n == 3) states.Full states.TimeWait)))
+state_at n = cond (n == 0) states.Unbound (cond (n == 1) states.Bound (cond (n == 2) states.Listening (cond (n == 3) states.Full (cond (n == 4) states.TimeWait states.Request))))
 
 numbered : (s : State) → state_at (number_of s) ≡ s
 unfolding number_of state_at
@@ -27,6 +28,7 @@ numbered states.Bound = refl
 numbered states.Listening = refl
 numbered states.Full = refl
 numbered states.TimeWait = refl
+numbered states.Request = refl
 
 -- whatever tells owners apart doesn't tell these
 pub same_owner : (a b : Owner) → ((f : Owner → ℕ) → f a ≡ f b) → a ≡ b

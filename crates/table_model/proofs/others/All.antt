@@ -66,6 +66,7 @@ waits_kind f states.Unbound o extra h e = refl
 waits_kind f states.Bound o extra h e = refl
 waits_kind f states.Listening o extra h e = h _ refl
 waits_kind f states.Full o extra h e = h _ refl
+waits_kind f states.Request o extra h e = h _ refl
 waits_kind f states.TimeWait o extra h e = absurd (cc)
 
 bit_no : (b : Bool) → cond {A = ℕ} b 1 0 ≡ 0 → b ≡ false

@@ -20,16 +20,16 @@ use Rattle.flat_list.specs.declared.command.Command.{Command}
 use Rattle.flat_list.specs.declared.command.Command.TheVariants as commands
 use Rattle.flat_list.specs.declared.command.End.{End}
 use Rattle.flat_list.specs.declared.command.Reply.TheVariants as replies
-use Rattle.flat_list.specs.Owned.{addressed, bound_at, connected_to, connected_at, child_owner, is_no_accept}
+use Rattle.flat_list.specs.Owned.{addressed, bound_at, connected_to, connected_at, child_owner, request_owner, heir_owner, is_no_accept, is_no_ack}
 use Rattle.flat_list.specs.Sockets.{kind_of}
 use Rattle.sock_card.specs.declared.card.Kind.{Kind}
 use Rattle.table_model.specs.declared.operation.OpEnd.{OpEnd}
 use Rattle.table_model.specs.declared.operation.OpEnd.TheVariants as errors
 use Rattle.table_model.specs.Asking.{Asking, ends, asks, inserts, adds, unhashes, reaps, impossible, and_then}
-use Rattle.table_model.specs.Own.{Own, Mine, open_socket, next_name, with_label, without, ports_of}
-use Rattle.table_model.specs.Operations.{Did, done, refused, Closed, gone, waiting, no_slot, when_done, found_next, search_bind, plain, bound, bind_any, bind_answered, bind_unbound, bind_as, bind, give_up, listener, then_replaced, full_card, source_to, leave, drop_as, drop, wait_of, reaped_next, reap_each, reap, listens_in, listen_hashed, listen_in, listen_answered, listen_at, listen_found, listen_as, listen, full_done, connect_hashed, connect_bound, connect_tried, connect_free, search_connect, connect_from, connect, accept_hashed, accept_as, accept, waits_in, close_hashed, close_full, close_as, close}
+use Rattle.table_model.specs.Own.{Own, Mine, open_socket, open_named, next_name, with_label, without, ports_of}
+use Rattle.table_model.specs.Operations.{Did, done, refused, Closed, gone, waiting, no_slot, when_done, found_next, search_bind, plain, bound, bind_any, bind_answered, bind_unbound, bind_as, bind, give_up, listener, then_replaced, full_card, source_to, leave, drop_as, drop, wait_of, reaped_next, reap_each, reap, listens_in, listen_hashed, listen_in, listen_answered, listen_at, listen_found, listen_as, listen, full_done, connect_hashed, connect_bound, connect_tried, connect_free, search_connect, connect_from, connect, accept_hashed, accept_as, accept, request_in, syn_hashed, syn_as, syn, ack_hashed, ack_as, ack_by, ack_from, ack, waits_in, close_hashed, close_full, close_as, close}
 use Rattle.table_model.specs.Operations as operations
-use Rattle.table_model.specs.Commands.{answers as replied, connect_rule, bind_command, drop_command, at_command, replies_at_once, listen_command, connect_command, accept_command, close_command, plan}
+use Rattle.table_model.specs.Commands.{answers as replied, connect_rule, bind_command, drop_command, at_command, replies_at_once, listen_command, connect_command, accept_command, syn_command, ack_command, close_command, plan}
 use Rattle.table_model.proofs.others.Slots.{Spares}
 
 -- a hashed socket stands in another slot
@@ -100,6 +100,7 @@ module _ (w : Mine) (card : Card) where
   bind_spares states.Listening m end ports = tt
   bind_spares states.Full m end ports = tt
   bind_spares states.TimeWait m end ports = tt
+  bind_spares states.Request m end ports = tt
 
   given_up : (took : Bool) (a : Owner) (end : OpEnd) → Sp (give_up took a end)
   given_up true a end = done_spares (ends (refused end)) tt
@@ -114,6 +115,7 @@ module _ (w : Mine) (card : Card) where
   drop_spares states.Listening m result d = (d, leave_spares m.owner result)
   drop_spares states.Full m result d = (d, leave_spares m.owner result)
   drop_spares states.TimeWait m result d = tt
+  drop_spares states.Request m result d = (d, tt)
 
   reaped_spares : (x : Mine) (count : ℕ) (next : ℕ → Asking ℕ) → ((c : ℕ) → Sp (next c)) → (was_there : Bool) → Sp (reaped_next x count next was_there)
   reaped_spares x count next h true = λ answer. h (count + 1)
@@ -151,6 +153,7 @@ module _ (w : Mine) (card : Card) where
     listen_spares states.Listening m ports = tt
     listen_spares states.Full m ports = tt
     listen_spares states.TimeWait m ports = tt
+    listen_spares states.Request m ports = tt
 
     full_spares : (a : Owner) (slot : ℕ) (old : Option Hashed) → Sp (full_done shape seed a slot old)
     full_spares a slot old = replaced_spares old (ends (done (operations.full_in shape seed a slot))) tt
@@ -187,6 +190,7 @@ module _ (w : Mine) (card : Card) where
     connect_spares states.Listening a source to moment rule ports = tt
     connect_spares states.Full a source to moment rule ports = tt
     connect_spares states.TimeWait a source to moment rule ports = tt
+    connect_spares states.Request a source to moment rule ports = tt
 
     accept_hashed_spares : (l child : Owner) (outcome : Outcome) → Sp (accept_hashed shape seed l child outcome)
     accept_hashed_spares l child (put slot old) = done_spares (full_done shape seed child slot old) (full_spares child slot old)
@@ -197,6 +201,36 @@ module _ (w : Mine) (card : Card) where
     accept_spares l name from at =
         cond_both (is_no_accept l.owner from at) (ends (refused errors.Inval)) (accept_as shape seed l.owner (child_owner l.owner name from at)) Sp (λ _. tt)
         (λ _. accept_hashed_spares l.owner (child_owner l.owner name from at))
+
+    syn_hashed_spares : (r : Owner) (outcome : Outcome) → Sp (syn_hashed shape seed r outcome)
+    syn_hashed_spares r (put slot old) = replaced_spares old (ends (done (request_in shape seed r slot))) tt
+    syn_hashed_spares r (taken name) = tt
+    syn_hashed_spares r (full owned held) = tt
+
+    syn_spares : (l : Mine) (name : ℕ) (from at : End) → Sp (syn shape seed l name from at)
+    syn_spares l name from at =
+        cond_both (is_no_accept l.owner from at) (ends (refused errors.Inval)) (syn_as shape seed (request_owner l.owner name from at)) Sp (λ _. tt)
+        (λ _. syn_hashed_spares (request_owner l.owner name from at))
+
+    ack_hashed_spares : (r : Mine) (l child : Owner) → r.place.slot ≢ w.place.slot → (outcome : Outcome) → Sp (ack_hashed shape seed r l child outcome)
+    ack_hashed_spares r l child d (put slot None) = (d, done_spares (ends (done (operations.full_in shape seed child slot))) tt)
+    ack_hashed_spares r l child d (put slot (Some x)) = tt
+    ack_hashed_spares r l child d (full owned held) = tt
+    ack_hashed_spares r l child d (taken name) = tt
+
+    ack_by_spares : (r : Mine) (l : Option Mine) (name : ℕ) → r.place.slot ≢ w.place.slot → Sp (ack_by shape seed r l name)
+    ack_by_spares r None name d = tt
+    ack_by_spares r (Some l) name d =
+        cond_both (is_no_ack l.owner r.owner) (ends (refused errors.Inval)) (ack_as shape seed r l.owner (heir_owner l.owner name r.owner)) Sp (λ _. tt)
+        (λ _. ack_hashed_spares r l.owner (heir_owner l.owner name r.owner) d)
+
+    ack_spares : (state : State) (r : Mine) (l : Option Mine) (name : ℕ) → IsElsewhere w.place.slot r (kind_of state) → Sp (ack_from shape seed state r l name)
+    ack_spares states.Request r l name d = ack_by_spares r l name d
+    ack_spares states.Unbound r l name d = tt
+    ack_spares states.Bound r l name d = tt
+    ack_spares states.Listening r l name d = tt
+    ack_spares states.Full r l name d = tt
+    ack_spares states.TimeWait r l name d = tt
 
     close_hashed_spares : (m x : Mine) → m.place.slot ≢ w.place.slot → (outcome : Outcome) → Sp (close_hashed shape seed m x outcome)
     close_hashed_spares m x d (put slot None) = (d, done_spares (ends (waiting (waits_in shape seed x slot))) tt)
@@ -210,6 +244,7 @@ module _ (w : Mine) (card : Card) where
     close_spares states.Bound m moment d = drop_spares states.Bound m gone d
     close_spares states.Listening m moment d = drop_spares states.Listening m gone d
     close_spares states.TimeWait m moment d = drop_spares states.TimeWait m gone d
+    close_spares states.Request m moment d = drop_spares states.Request m gone d
 
   module _ (header : Header) (own : Own) where
     bind_all : (o : Option Mine) (end : End) → Sp (bind_command own o end)
@@ -232,6 +267,16 @@ module _ (w : Mine) (card : Card) where
     accept_all labelled name None from at = tt
     accept_all labelled name (Some l) from at = spares_then (accept header.shape header.seed l name from at) _ (accept_spares header.shape header.seed l name from at) (λ did. tt)
 
+    syn_all : (labelled : Own) (name : ℕ) (o : Option Mine) (from at : End) → Sp (syn_command header labelled name o from at)
+    syn_all labelled name None from at = tt
+    syn_all labelled name (Some l) from at = spares_then (syn header.shape header.seed l name from at) _ (syn_spares header.shape header.seed l name from at) (λ did. tt)
+
+    ack_all : (labelled : Own) (name : ℕ) (o : Option Mine) → AreElsewhere w.place.slot o → Sp (ack_command header labelled name o)
+    ack_all labelled name None d = tt
+    ack_all labelled name (Some r) d =
+        let l : Option Mine = open_named labelled r.owner.origin in
+        spares_then (ack header.shape header.seed r l name) _ (ack_spares header.shape header.seed r.owner.state r l name d) (λ did. tt)
+
     close_all : (o : Option Mine) → AreElsewhere w.place.slot o → Sp (close_command header own o)
     close_all None d = tt
     close_all (Some m) d = spares_then (close header.shape header.seed m own.moment) _ (close_spares header.shape header.seed m.owner.state m own.moment d) (λ closed. tt)
@@ -252,6 +297,8 @@ module _ (w : Mine) (card : Card) where
     plan_spares d (commands.Listen label) = listen_all (open_socket own label)
     plan_spares d (commands.Connect label from to) = connect_all (open_socket own label) from to
     plan_spares d (commands.Accept listener label from at) = accept_all (with_label own label) (next_name own) (open_socket own listener) from at
+    plan_spares d (commands.Syn listener label from at) = syn_all (with_label own label) (next_name own) (open_socket own listener) from at
+    plan_spares d (commands.Ack request label) = ack_all (with_label own label) (next_name own) (open_socket own request) (d request)
     plan_spares d (commands.Close label) = close_all (open_socket own label) (d label)
     plan_spares d (commands.Drop label) = drop_all (open_socket own label) (d label)
     plan_spares d (commands.At moment) = at_all moment

@@ -19,10 +19,10 @@ use Rattle.flat_list.specs.Flat.{Flat}
 use Rattle.flat_list.specs.Groups.{Group}
 use Rattle.flat_list.specs.Outcome.{added, removed, with_new_label, Outcome, unchanged, changed, open_socket, has_slot, no_slot, draw, Found, search_port}
 use Rattle.flat_list.specs.Sections.{moment_of, next_name, name_at, labels_of, with_moment}
-use Rattle.flat_list.specs.Sockets.{is_refused, has_twin, has_name, open_named, without, without_waiting, is_expired}
+use Rattle.flat_list.specs.Sockets.{is_refused, has_twin, has_name, open_named, open_in, without, without_waiting, is_expired}
 use Rattle.flat_list.specs.Sound.{IsSound}
-use Rattle.flat_list.specs.Connect.{connected_socket, end_of, replacing, is_taken_in, connect, connect_as, connect_from, connect_found, connect_search, connect_socket, connected_by_search, suits_connect, child_of, accept, accept_as}
-use Rattle.flat_list.specs.Owned.{source_of, is_no_end, is_no_accept}
+use Rattle.flat_list.specs.Connect.{connected_socket, end_of, replacing, is_taken_in, connect, connect_as, connect_from, connect_found, connect_search, connect_socket, connected_by_search, suits_connect, child_of, request_of, heir_of, accept, accept_as, syn, without_request, hand_over, ack_by, ack_socket, ack}
+use Rattle.flat_list.specs.Owned.{source_of, is_no_end, is_no_accept, is_no_ack}
 use Rattle.flat_list.specs.Step.{drop, step, new_socket, at_end, at_port, bind, at_address, bind_any, bind_given, bind_found, bind_search, bind_socket, search_bind, listening, listen, listens_in, listen_as, groups_with, listen_bound, listen_found, listen_socket, waiting, close, close_socket, at, reap}
 use Rattle.table_model.specs.Tables.{Tables}
 use Rattle.table_model.specs.Own.{Own}
@@ -100,15 +100,46 @@ module _ (n m : ℕ) (apart : m ≢ n) (other : Own) (t : Tables) (flat : Flat) 
         cond_both (is_refused s.owner x.sockets) (unchanged x replies.Eaddrinuse) (listen_as x s (groups_with x s)) Stay (λ _. there)
         (λ _. listen_as_rest s (groups_with x s) is)
 
+    beside_rest : (new : Socket) → IsOf n new.owner.name → Stay (accept_as x new)
+    beside_rest new is =
+        let done : Outcome = added (replacing x new.owner) new replies.Ok in
+        cond_both (has_twin new.owner x.sockets) (unchanged x replies.Eaddrnotavail) (if not (has_slot x) then no_slot x else done) Stay (λ _. there)
+        (λ _. cond_both (not (has_slot x)) (no_slot x) done Stay (λ _. there)
+        (λ _. rest_added n m apart other own_is.given new (without_waiting new.owner x.sockets) is (replaced_rest new.owner)))
+
     accept_rest : (name : ℕ) (o : Option Socket) (from at : End) → IsOf n name → Stay (accept x name o from at)
     accept_rest name None from at is = there
     accept_rest name (Some l) from at is =
-        let child : Socket = child_of l name from at in
-        let done : Outcome = added (replacing x child.owner) child replies.Ok in
-        cond_both (is_no_accept l.owner from at) (unchanged x replies.Einval) (accept_as x child) Stay (λ _. there)
-        (λ _. cond_both (has_twin child.owner x.sockets) (unchanged x replies.Eaddrnotavail) (if not (has_slot x) then no_slot x else done) Stay (λ _. there)
-        (λ _. cond_both (not (has_slot x)) (no_slot x) done Stay (λ _. there)
-        (λ _. rest_added n m apart other own_is.given child (without_waiting child.owner x.sockets) is (replaced_rest child.owner))))
+        cond_both (is_no_accept l.owner from at) (unchanged x replies.Einval) (accept_as x (child_of l name from at)) Stay (λ _. there)
+        (λ _. beside_rest (child_of l name from at) is)
+
+    syn_rest : (name : ℕ) (o : Option Socket) (from at : End) → IsOf n name → Stay (syn x name o from at)
+    syn_rest name None from at is = there
+    syn_rest name (Some l) from at is =
+        cond_both (is_no_accept l.owner from at) (unchanged x replies.Einval) (accept_as x (request_of l name from at)) Stay (λ _. there)
+        (λ _. beside_rest (request_of l name from at) is)
+
+    hand_over_rest : (r child : Socket) → IsOf n r.owner.name → IsOf n child.owner.name → Stay (hand_over x r child)
+    hand_over_rest r child gone is =
+        cond_both (not (has_slot x)) (no_slot x) (added (without_request x r) child replies.Ok) Stay (λ _. there)
+        (λ _. rest_added n m apart other own_is.given child (without r.owner.name x.sockets) is (rest_without n m apart other own_is.given r x.sockets gone there))
+
+    ack_by_rest : (name : ℕ) (r : Socket) (o : Option Socket) → IsOf n r.owner.name → IsOf n name → Stay (ack_by x name r o)
+    ack_by_rest name r None gone is = there
+    ack_by_rest name r (Some l) gone is =
+        cond_both (is_no_ack l.owner r.owner) (unchanged x replies.Einval) (hand_over x r (heir_of l name r)) Stay (λ _. there) (λ _. hand_over_rest r (heir_of l name r) gone is)
+
+    ack_rest : (name : ℕ) (r : Socket) (state : State) → IsOf n r.owner.name → IsOf n name → Stay (ack_socket x n name r state)
+    ack_rest name r states.Request gone is = ack_by_rest name r (open_in n r.owner.origin x.sockets) gone is
+    ack_rest name r states.Unbound gone is = there
+    ack_rest name r states.Bound gone is = there
+    ack_rest name r states.Listening gone is = there
+    ack_rest name r states.Full gone is = there
+    ack_rest name r states.TimeWait gone is = there
+
+    ack_all : (name : ℕ) (o : Option Socket) → AreOf n o → IsOf n name → Stay (ack x n name o)
+    ack_all name None gone is = there
+    ack_all name (Some r) gone is = ack_rest name r r.owner.state gone is
 
   bind_found_rest : (found : Found) → found.flat.sockets ≡ flat.sockets → (s : Socket) (addr : ℕ) (port : Option ℕ) → IsOf n s.owner.name → Stay (bind_found found s addr port)
   bind_found_rest found same s addr None is = there found.flat same
@@ -135,6 +166,7 @@ module _ (n m : ℕ) (apart : m ≢ n) (other : Own) (t : Tables) (flat : Flat) 
   bind_rest s states.Listening end is = here
   bind_rest s states.Full end is = here
   bind_rest s states.TimeWait end is = here
+  bind_rest s states.Request end is = here
 
   bind_all : (o : Option Socket) (end : End) → AreOf n o → Stay (bind flat n o end)
   bind_all None end is = here
@@ -147,6 +179,7 @@ module _ (n m : ℕ) (apart : m ≢ n) (other : Own) (t : Tables) (flat : Flat) 
   listen_rest s states.Listening is = here
   listen_rest s states.Full is = here
   listen_rest s states.TimeWait is = here
+  listen_rest s states.Request is = here
 
   listen_all : (o : Option Socket) → AreOf n o → Stay (listen flat n o)
   listen_all None is = here
@@ -174,6 +207,7 @@ module _ (n m : ℕ) (apart : m ≢ n) (other : Own) (t : Tables) (flat : Flat) 
   connect_rest s states.Listening from to is = here
   connect_rest s states.Full from to is = here
   connect_rest s states.TimeWait from to is = here
+  connect_rest s states.Request from to is = here
 
   connect_all : (o : Option Socket) (from : Option ℕ) (to : End) → AreOf n o → Stay (connect flat n o from to)
   connect_all None from to is = here
@@ -194,6 +228,7 @@ module _ (n m : ℕ) (apart : m ≢ n) (other : Own) (t : Tables) (flat : Flat) 
   close_rest s states.Bound is = removed_rest s is
   close_rest s states.Listening is = removed_rest s is
   close_rest s states.TimeWait is = removed_rest s is
+  close_rest s states.Request is = removed_rest s is
 
   close_all : (o : Option Socket) → AreOf n o → Stay (close flat n o)
   close_all None is = here
@@ -228,6 +263,10 @@ module _ (n m : ℕ) (apart : m ≢ n) (other : Own) (t : Tables) (flat : Flat) 
   step_rest (commands.Connect label from to) few = connect_all (open_socket flat n label) from to (open_of n flat label few)
   step_rest (commands.Accept listener label from at) few =
       accept_rest (with_new_label flat n label) refl (next_name n flat.sections) (open_socket flat n listener) from at (name_of n (length (labels_of n flat.sections)) few)
+  step_rest (commands.Syn listener label from at) few =
+      syn_rest (with_new_label flat n label) refl (next_name n flat.sections) (open_socket flat n listener) from at (name_of n (length (labels_of n flat.sections)) few)
+  step_rest (commands.Ack request label) few =
+      ack_all (with_new_label flat n label) refl (next_name n flat.sections) (open_socket flat n request) (open_of n flat request few) (name_of n (length (labels_of n flat.sections)) few)
   step_rest (commands.Drop label) few = drop_all (open_socket flat n label) (open_of n flat label few)
   step_rest (commands.Close label) few = close_all (open_socket flat n label) (open_of n flat label few)
   step_rest (commands.At moment) few = at_all moment

@@ -71,6 +71,11 @@ module _ (buckets : List Standing) (flat : Flat) (om : OwnersMean buckets flat) 
           (changed_homes are (p % length buckets));
     }
 
+  -- the list has the same owners
+  pub owners_kept : (flat' : Flat) → flat'.header.shape.bind ≡ flat.header.shape.bind → ((f : Owner → ℕ) → total (owns f) flat'.sockets ≡ total (owns f) flat.sockets)
+      → OwnersMean buckets flat'
+  owners_kept flat' same weighs = record { count = om.count ∙ sym same; owners = λ f. om.owners f ∙ sym (weighs f); keys = om.keys }
+
   -- what weighs something at one port alone is in its bucket
   pub only_there : (f : Owner → ℕ) (port : ℕ) → ((a : Owner) → owner_key a ≢ port → f a ≡ 0) → weigh_owners f buckets ≡ weigh_in f (standing_at buckets port)
   only_there f port h =

@@ -64,6 +64,7 @@ waits_hold states.Unbound h = absurd (cc)
 waits_hold states.Bound h = absurd (cc)
 waits_hold states.Listening h = absurd (cc)
 waits_hold states.Full h = absurd (cc)
+waits_hold states.Request h = absurd (cc)
 
 two_wait : (a : Owner) (x y : Socket) → TuplesDiffer x y → waits_at a x ≡ true → waits_at a y ≡ true → ⊥
 two_wait a x y q wx wy =

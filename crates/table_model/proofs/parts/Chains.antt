@@ -32,6 +32,7 @@ counted_by f states.Bound cs n h = omega (arith, h)
 counted_by f states.Listening cs n h = omega (arith, h)
 counted_by f states.Full cs n h = omega (arith, h)
 counted_by f states.TimeWait cs n h = omega (arith, h)
+counted_by f states.Request cs n h = omega (arith, h)
 
 abbrev hashed_in : Socket → Bool
 hashed_in s = is_hashed s.owner.state
@@ -111,6 +112,7 @@ home_by : (shape : Shape) (seed : ℕ) (card : Card) (kind : Kind) → 1 ≤ sha
 home_by shape seed card kinds.Listen h l = omega arith
 home_by shape seed card kinds.Full h l = omega arith
 home_by shape seed card kinds.TimeWait h l = omega arith
+home_by shape seed card kinds.Request h l = omega arith
 
 -- a card's home is one of the chains
 pub home_below : (shape : Shape) (seed : ℕ) (card : Card) → 1 ≤ shape.hash → 1 ≤ shape.listen → home shape seed card < chain_count shape

@@ -70,6 +70,7 @@ unbound_alone states.Unbound b h = refl
 unbound_alone states.Bound b h = refl
 unbound_alone states.Full b h = refl
 unbound_alone states.TimeWait b h = refl
+unbound_alone states.Request b h = refl
 unbound_alone states.Listening b h = absurd (cc)
 
 -- no bucket has a member of its name

@@ -55,6 +55,15 @@ any_by_found p q x xs found passes =
 abbrev pub IsGrouped : List Group → ℕ → Type 0
 IsGrouped groups name = list_any (has_member name) groups ≡ true
 
+nobody_grouped : (name : ℕ) (groups : List Group) → Each (λ g. has_member name g ≡ false) groups → IsGrouped groups name → ⊥
+nobody_grouped name [] none is = absurd (cc)
+nobody_grouped name (g ∷ groups) none is =
+    nobody_grouped name groups none.1 (sym (ap (λ b. b || list_any (has_member name) groups) none.0) ∙ is)
+
+-- where no group has a name, members have others
+pub others_grouped : (name : ℕ) (groups : List Group) → Each (λ g. has_member name g ≡ false) groups → (k : ℕ) → IsGrouped groups k → k ≢ name
+others_grouped name groups none k is = λ e. nobody_grouped name groups none (subst (IsGrouped groups) e is)
+
 grouped_by : (n : ℕ) (groups : List Group) (o : Option Group) → find (at_number n) groups ≡ o → Each (IsGrouped groups) (members_in o)
 grouped_by n groups None e = tt
 grouped_by n groups (Some g) e =

@@ -1,11 +1,10 @@
--- Tables in which a full card was inserted: who stands there, and what of the buckets.
+-- Tables in which the card of a full socket or a request was inserted: who stands there, and what of the buckets.
 use Rattle.std.proofs.Common.{◌≡◌, ◌≢◌, ℕ, ◌+◌, ◌%◌, ◌^◌, ◌<◌, Bool, true, false, ◌&&◌, cond, List, [], ◌∷◌, map, filter, find, length, Option, Some, None, refl, ap, sym, ◌∙◌, subst}
 use Rattle.std.proofs.lemmas.Bool.{eq-eqb}
 use Rattle.list_words.specs.Lists.{Each}
 use Rattle.list_words.proofs.EachLemmas.{each_found, each_of_all}
 use Rattle.sock_card.specs.declared.card.Card.{Card}
 use Rattle.sock_card.specs.declared.card.Kind.{Kind}
-use Rattle.sock_card.specs.declared.card.Kind.TheVariants as kinds
 use Rattle.sock_card.specs.declared.owner.Owner.{Owner}
 use Rattle.sock_card.specs.Conflict.{is_time_wait}
 use Rattle.chain_book.specs.declared.shape.Shape.{Shape}
@@ -20,7 +19,7 @@ use Rattle.flat_list.specs.Sockets.{has_name, have_one_tuple, waits_at, without,
 use Rattle.flat_list.specs.Sound.{IsSound, IsInOneGroup, IsAwakeIfNamed}
 use Rattle.table_model.specs.Tables.{Tables}
 use Rattle.table_model.specs.Own.{Mine}
-use Rattle.table_model.specs.Operations.{full_card, full_in}
+use Rattle.table_model.proofs.parts.Claims.{claim_kind, claim_card, claimed_in}
 use Rattle.table_model.specs.Means.{ChainsMean, GroupsMean, StandsAs, IsShape, stands_in_some, is_mine, owner_in, owner_of}
 use Rattle.table_model.proofs.parts.Chains.{weighing}
 use Rattle.table_model.proofs.questions.Inserts.{after_put, held, inside, still_found}
@@ -62,21 +61,21 @@ other_name flat a x s q y r found awake = λ e.
 
 module _ (c : Chains) (flat : Flat) (m : ChainsMean c flat) (sound : IsSound flat) (a : Owner) where
   abbrev old_row : List Hashed
-  old_row = row_at c (home_in c (full_card a))
+  old_row = row_at c (home_in c (claim_card a))
 
   -- what is found there is in the list
-  pub listed_by : (old : Option Hashed) → find (waits (full_card a)) old_row ≡ old → OldListed a old flat
+  pub listed_by : (old : Option Hashed) → find (waits (claim_card a)) old_row ≡ old → OldListed a old flat
   listed_by None e = tt
   listed_by (Some x) e = replaces c flat a m sound x e
 
   -- the list drops it
-  pub dropped_by : (old : Option Hashed) → find (waits (full_card a)) old_row ≡ old → without_waiting a flat.sockets ≡ drop_old old flat.sockets
+  pub dropped_by : (old : Option Hashed) → find (waits (claim_card a)) old_row ≡ old → without_waiting a flat.sockets ≡ drop_old old flat.sockets
   dropped_by None e = replaces_none c flat a m sound e
   dropped_by (Some x) e = (replaces c flat a m sound x e).1.dropped
 
 module _ (c : Chains) (flat : Flat) (m : ChainsMean c flat) (shape : IsShape flat.header) (sound : IsSound flat) (a : Owner) (slot : ℕ) (free : free_slot c.slots ≡ Some slot) where
   abbrev card : Card
-  card = full_card a
+  card = claim_card a
 
   abbrev b : ℕ
   b = home_in c card
@@ -93,19 +92,19 @@ module _ (c : Chains) (flat : Flat) (m : ChainsMean c flat) (shape : IsShape fla
 
   -- the socket that comes, with its place
   abbrev pub newcomer : Mine
-  newcomer = full_in flat.header.shape flat.header.seed a slot
+  newcomer = claimed_in flat.header.shape flat.header.seed a slot
 
-  came : StandsAs here newcomer (Some kinds.Full)
+  came : StandsAs here newcomer (Some (claim_kind a.state))
   came =
       let home : newcomer.place.bucket ≡ home_in c card =
       ap (λ (x : Shape). home x flat.header.seed card) (sym m.shape) ∙ ap (λ (k : ℕ). home c.shape k card) (sym m.seed) in
-      stand_new c newcomer kinds.Full home (subst (λ (k : ℕ). k < length c.rows) (sym home) (inside c flat m shape sound a slot free))
+      stand_new c newcomer (claim_kind a.state) home (subst (λ (k : ℕ). k < length c.rows) (sym home) (inside c flat m shape sound a slot free))
 
   -- and who has come stands in its place
-  pub stand_newcomer : (old : Option Hashed) → find (waits card) (row_at c b) ≡ old → NotOld old a.name → StandsAs (without_replaced here b old) newcomer (Some kinds.Full)
+  pub stand_newcomer : (old : Option Hashed) → find (waits card) (row_at c b) ≡ old → NotOld old a.name → StandsAs (without_replaced here b old) newcomer (Some (claim_kind a.state))
   stand_newcomer None e differs = came
   stand_newcomer (Some y) e differs =
-      stand_unhashed here flat.header.shape flat.header.seed (λ f. weighing flat f + f card) (held c flat m shape sound a slot free) b (waits card) y (still_found c flat m shape sound a slot free y e) newcomer differs (Some kinds.Full) came
+      stand_unhashed here flat.header.shape flat.header.seed (λ f. weighing flat f + f card) (held c flat m shape sound a slot free) b (waits card) y (still_found c flat m shape sound a slot free y e) newcomer differs (Some (claim_kind a.state)) came
 
   -- so do members of groups
   pub words_hashed : (old : Option Hashed) → find (waits card) (row_at c b) ≡ old → (t : Tables) → t.chains ≡ c → GroupsMean t flat

@@ -121,6 +121,7 @@ waits_alone states.TimeWait b h = refl
 waits_alone states.Unbound b h = refl
 waits_alone states.Bound b h = refl
 waits_alone states.Full b h = refl
+waits_alone states.Request b h = refl
 waits_alone states.Listening b h = absurd (cc)
 
 -- no group has the name of a TIME_WAIT

@@ -11,10 +11,10 @@ use Rattle.flat_list.specs.declared.socket.Socket.{Socket}
 use Rattle.flat_list.specs.Flat.{Flat}
 use Rattle.flat_list.specs.Outcome as outcome
 use Rattle.flat_list.specs.Sections.{name_at}
-use Rattle.flat_list.specs.Sockets.{has_name, open_named, kind_of}
+use Rattle.flat_list.specs.Sockets.{has_name, open_named, is_open_in, open_in, kind_of}
 use Rattle.flat_list.specs.Sound.{NamesDiffer}
 use Rattle.table_model.specs.Tables.{Tables}
-use Rattle.table_model.specs.Own.{Own, Mine, is_named, open_socket, name_of}
+use Rattle.table_model.specs.Own.{Own, Mine, is_named, open_socket, open_named as open_named_here, name_of}
 use Rattle.table_model.specs.Means.{OwnMeans, StandsAs, is_mine, owner_of, owner_in}
 use Rattle.table_model.proofs.lists.Weights.{is_eq, is_same}
 use Rattle.table_model.proofs.lists.Listed.{Listed}
@@ -116,6 +116,11 @@ module _ (n : ℕ) (own : Own) (t : Tables) (flat : Flat) (h : OwnMeans n own t 
 
   both_named : (name : ℕ) → OpenBoth n t flat (find (is_named name) own.sockets) (find (has_name name) mine)
   both_named name = both_by name (find (is_named name) own.sockets) (find (has_name name) mine) refl refl (owners_found name)
+
+  -- the open socket of a name is the list's of that name in the section, or neither has one
+  pub open_in_both : (name : ℕ) → OpenBoth n t flat (open_named_here own name) (open_in n name flat.sockets)
+  open_in_both name =
+      subst (OpenBoth n t flat (open_named_here own name)) (find_kept (has_name name) (is_mine n) (is_open_in n) flat.sockets (λ s e. refl)) (both_named name)
 
   there_named : (o : Option ℕ) → OpenThere n t flat (option_and_then (λ name. find (is_named name) own.sockets) o)
   there_named None = tt

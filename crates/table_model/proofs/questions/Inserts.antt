@@ -20,7 +20,7 @@ use Rattle.flat_list.specs.Outcome.{has_slot as has_room}
 use Rattle.flat_list.specs.Sockets.{slots_used, without_waiting}
 use Rattle.flat_list.specs.Sound.{IsSound}
 use Rattle.table_model.specs.Means.{ChainsMean, IsShape}
-use Rattle.table_model.specs.Operations.{full_card}
+use Rattle.table_model.proofs.parts.Claims.{claim_card, claim_awake}
 use Rattle.table_model.proofs.parts.Slots.{free_is, none_free, room_left, no_room}
 use Rattle.table_model.proofs.parts.Chains.{Holds, holds, means, weighing, weighs_same, home_below, placed_holds, unhashed_holds, cards_count}
 use Rattle.table_model.proofs.parts.Cards.{card_weight, cards_weigh, without_weighs}
@@ -101,9 +101,9 @@ added_holds c flat card slot m shape free =
 abbrev pub with_sockets : Flat → List Socket → Flat
 with_sockets flat sockets = record flat { sockets = sockets }
 
-same_not : (t : Bool) → (t && false) ≡ false
-same_not true = refl
-same_not false = refl
+same_not : (t b : Bool) → b ≡ false → (t && b) ≡ false
+same_not true b h = h
+same_not false b h = refl
 
 found_under : {A : Type 0} (b : Bool) (x y : A) (o : Option A) → b ≡ false → o ≡ Some y → cond b (Some x) o ≡ Some y
 found_under true x y o e h = absurd (cc)
@@ -111,43 +111,43 @@ found_under false x y o e h = h
 
 module _ (c : Chains) (flat : Flat) (m : ChainsMean c flat) (shape : IsShape flat.header) (sound : IsSound flat) (a : Owner) (slot : ℕ) (free : free_slot c.slots ≡ Some slot) where
   abbrev b : ℕ
-  b = home_in c (full_card a)
+  b = home_in c (claim_card a)
 
   abbrev row : List Hashed
   row = row_at c b
 
   -- the chains with the card, before anything is gone
   abbrev pub after_put : Chains
-  after_put = placed c b slot (full_card a)
+  after_put = placed c b slot (claim_card a)
 
   -- the card is there, and nothing is gone yet
-  pub held : Holds after_put flat.header.shape flat.header.seed (λ f. weighing flat f + f (full_card a))
-  held = added_holds c flat (full_card a) slot m shape free
+  pub held : Holds after_put flat.header.shape flat.header.seed (λ f. weighing flat f + f (claim_card a))
+  held = added_holds c flat (claim_card a) slot m shape free
 
   -- its chain is one of them
   pub inside : b < length c.rows
-  inside = omega (arith, home_below c.shape c.seed (full_card a) (subst (λ (s : Shape). 1 ≤ s.hash) (sym m.shape) shape.hash) (subst (λ (s : Shape). 1 ≤ s.listen) (sym m.shape) shape.listen), m.count)
+  inside = omega (arith, home_below c.shape c.seed (claim_card a) (subst (λ (s : Shape). 1 ≤ s.hash) (sym m.shape) shape.hash) (subst (λ (s : Shape). 1 ≤ s.listen) (sym m.shape) shape.listen), m.count)
 
   -- what it replaces is found as before
-  pub still_found : (x : Hashed) → find (waits (full_card a)) row ≡ Some x → find (waits (full_card a)) (row_at after_put b) ≡ Some x
+  pub still_found : (x : Hashed) → find (waits (claim_card a)) row ≡ Some x → find (waits (claim_card a)) (row_at after_put b) ≡ Some x
   still_found x h =
-      let new : Hashed = record { slot = slot; card = full_card a } in
-      subst (λ (r : List Hashed). find (waits (full_card a)) r ≡ Some x) (sym (get_or-set_same c.rows b (new ∷ row) [] inside))
-      (found_under (waits (full_card a) new) new x (find (waits (full_card a)) row) (same_not (same_cards (full_card a) (full_card a))) h)
+      let new : Hashed = record { slot = slot; card = claim_card a } in
+      subst (λ (r : List Hashed). find (waits (claim_card a)) r ≡ Some x) (sym (get_or-set_same c.rows b (new ∷ row) [] inside))
+      (found_under (waits (claim_card a) new) new x (find (waits (claim_card a)) row) (same_not (same_cards (claim_card a) (claim_card a)) _ (claim_awake a.state)) h)
 
-  module _ (sockets : List Socket) (more : (f : Card → ℕ) → total (card_weight flat.groups f) sockets ≡ total (card_weight flat.groups f) (without_waiting a flat.sockets) + f (full_card a)) where
-    hashed_none : find (waits (full_card a)) row ≡ None → ChainsMean after_put (with_sockets flat sockets)
+  module _ (sockets : List Socket) (more : (f : Card → ℕ) → total (card_weight flat.groups f) sockets ≡ total (card_weight flat.groups f) (without_waiting a flat.sockets) + f (claim_card a)) where
+    hashed_none : find (waits (claim_card a)) row ≡ None → ChainsMean after_put (with_sockets flat sockets)
     hashed_none e =
         means after_put (with_sockets flat sockets)
-        (weighs_same after_put flat.header.shape flat.header.seed (λ f. weighing flat f + f (full_card a)) (weighing (with_sockets flat sockets))
+        (weighs_same after_put flat.header.shape flat.header.seed (λ f. weighing flat f + f (claim_card a)) (weighing (with_sockets flat sockets))
         (λ f. omega (arith, cards_weigh flat.groups f sockets, more f, ap (λ (xs : List Socket). total (card_weight flat.groups f) xs) (replaces_none c flat a m sound e), cards_weigh flat.groups f flat.sockets)) held)
 
-    hashed_some : (x : Hashed) → find (waits (full_card a)) row ≡ Some x → ChainsMean (without_replaced after_put b (Some x)) (with_sockets flat sockets)
+    hashed_some : (x : Hashed) → find (waits (claim_card a)) row ≡ Some x → ChainsMean (without_replaced after_put b (Some x)) (with_sockets flat sockets)
     hashed_some x h =
         let r = replaces c flat a m sound x h in
         let rep : Replaces flat a x r.0 = r.1 in
         means (without_replaced after_put b (Some x)) (with_sockets flat sockets)
-        (unhashed_holds after_put flat.header.shape flat.header.seed (λ f. weighing flat f + f (full_card a)) held b (waits (full_card a)) x (weighing (with_sockets flat sockets)) (still_found x h)
+        (unhashed_holds after_put flat.header.shape flat.header.seed (λ f. weighing flat f + f (claim_card a)) held b (waits (claim_card a)) x (weighing (with_sockets flat sockets)) (still_found x h)
         (λ f. omega (
           arith,
           cards_weigh flat.groups f sockets,
@@ -159,15 +159,15 @@ module _ (c : Chains) (flat : Flat) (m : ChainsMean c flat) (shape : IsShape fla
           rep.card f,
         )))
 
-    by_old : (old : Option Hashed) → find (waits (full_card a)) row ≡ old → ChainsMean (without_replaced after_put b old) (with_sockets flat sockets)
+    by_old : (old : Option Hashed) → find (waits (claim_card a)) row ≡ old → ChainsMean (without_replaced after_put b old) (with_sockets flat sockets)
     by_old None e = hashed_none e
     by_old (Some x) e = hashed_some x e
 
--- the card of a full socket is inserted, and the TIME_WAIT of its four-tuple is gone
+-- the card of a full socket or a request is inserted, and the TIME_WAIT of its four-tuple is gone
 pub inserted : (c : Chains) (flat : Flat) (a : Owner) (moment : ℕ) (rule : Replace) (slot : ℕ) (old : Option Hashed) (sockets : List Socket)
-    → ChainsMean c flat → IsShape flat.header → IsSound flat → insert_outcome c (full_card a) moment rule ≡ put slot old
-    → ((f : Card → ℕ) → total (card_weight flat.groups f) sockets ≡ total (card_weight flat.groups f) (without_waiting a flat.sockets) + f (full_card a))
-    → ChainsMean (hashed c (full_card a) (put slot old)) (record flat { sockets = sockets })
+    → ChainsMean c flat → IsShape flat.header → IsSound flat → insert_outcome c (claim_card a) moment rule ≡ put slot old
+    → ((f : Card → ℕ) → total (card_weight flat.groups f) sockets ≡ total (card_weight flat.groups f) (without_waiting a flat.sockets) + f (claim_card a))
+    → ChainsMean (hashed c (claim_card a) (put slot old)) (record flat { sockets = sockets })
 inserted c flat a moment rule slot old sockets m shape sound is more =
-    let parts = tried_put c (keeper c flat m (full_card a) moment rule) (find (waits (full_card a)) (row_at c (home_in c (full_card a)))) old slot is in
+    let parts = tried_put c (keeper c flat m (claim_card a) moment rule) (find (waits (claim_card a)) (row_at c (home_in c (claim_card a)))) old slot is in
     by_old c flat m shape sound a slot parts.1 sockets more old parts.2

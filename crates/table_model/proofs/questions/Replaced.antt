@@ -20,7 +20,7 @@ use Rattle.flat_list.specs.Owned.{card_as}
 use Rattle.flat_list.specs.Sockets.{kind_of, has_name, have_one_tuple, waits_at, without, without_waiting}
 use Rattle.flat_list.specs.Sound.{IsSound}
 use Rattle.table_model.specs.Means.{ChainsMean}
-use Rattle.table_model.specs.Operations.{full_card}
+use Rattle.table_model.proofs.parts.Claims.{claim_card}
 use Rattle.table_model.proofs.lists.Passing.{Weighs, only, ind, Only, found_weighs, found_counts, each_zero, only_found}
 use Rattle.table_model.proofs.parts.Cards.{weigh_as, card_weight, only_named, wait_once}
 use Rattle.table_model.proofs.questions.Taken.{waiting_weigh, waiting_count}
@@ -93,13 +93,14 @@ wait_weight f states.Unbound o extra h = absurd (cc)
 wait_weight f states.Bound o extra h = absurd (cc)
 wait_weight f states.Listening o extra h = absurd (cc)
 wait_weight f states.Full o extra h = absurd (cc)
+wait_weight f states.Request o extra h = absurd (cc)
 
 module _ (c : Chains) (flat : Flat) (a : Owner) (m : ChainsMean c flat) (sound : IsSound flat) where
   abbrev row : List Hashed
-  row = row_at c (home_in c (full_card a))
+  row = row_at c (home_in c (claim_card a))
 
   abbrev test : Hashed → Bool
-  test = waits (full_card a)
+  test = waits (claim_card a)
 
   once_there : total (ind test) row ≤ 1
   once_there = omega (arith, waiting_count c flat a m, wait_once a flat.sockets sound.tuples)

@@ -4,8 +4,8 @@ use Rattle.sock_card.specs.declared.card.Card.{Card}
 use Rattle.bind_buckets.specs.declared.request.Request.{Request}
 use Rattle.bind_buckets.specs.declared.request.Answer.{Answer}
 use Rattle.chain_book.specs.declared.outcome.Replace.{Replace}
-use Rattle.chain_book.specs.Chains.{Outcome, insert_outcome, hashed}
-use Rattle.table_model.specs.Asking.{Asking, ends, asks, inserts, and_then}
+use Rattle.chain_book.specs.Chains.{Outcome, insert_outcome, add_outcome, hashed}
+use Rattle.table_model.specs.Asking.{Asking, ends, asks, inserts, adds, and_then}
 use Rattle.table_model.proofs.commands.Carried.{run_and_then, goes_on}
 use Rattle.table_model.specs.Tables.{Tables, Ended, run, with_buckets, with_chains}
 use Rattle.bind_buckets.specs.BindHash.{answer_at, asked_at}
@@ -34,6 +34,12 @@ pub comes_asks : {R : Type 0} (t : Tables) (port : ℕ) (request : Request) (the
     → Comes (with_buckets t (asked_at t.buckets port request)) (then_ answer) P → Comes t (asks port request then_) P
 comes_asks t port request then_ answer P is c =
     subst (λ (a : Answer). Comes (with_buckets t (asked_at t.buckets port request)) (then_ a) P) (sym is) c
+
+-- adding a card comes to that
+pub comes_adds : {R : Type 0} (t : Tables) (card : Card) (then_ : Outcome → Asking R) (outcome : Outcome) (P : Ended R → Type 0) → add_outcome t.chains ≡ outcome
+    → Comes (with_chains t (hashed t.chains card outcome)) (then_ outcome) P → Comes t (adds card then_) P
+comes_adds t card then_ outcome P is c =
+    subst (λ (o : Outcome). Comes (with_chains t (hashed t.chains card o)) (then_ o) P) (sym is) c
 
 -- inserting a card comes to that
 pub comes_inserts : {R : Type 0} (t : Tables) (card : Card) (moment : ℕ) (rule : Replace) (then_ : Outcome → Asking R) (outcome : Outcome) (P : Ended R → Type 0) → insert_outcome t.chains card moment rule ≡ outcome

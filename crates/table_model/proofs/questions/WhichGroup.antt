@@ -120,6 +120,7 @@ listener_owns states.Unbound h = absurd (cc)
 listener_owns states.Bound h = absurd (cc)
 listener_owns states.Full h = absurd (cc)
 listener_owns states.TimeWait h = absurd (cc)
+listener_owns states.Request h = absurd (cc)
 
 cond_one : (b : Bool) → b ≡ true → cond {A = ℕ} b 1 0 ≡ 1
 cond_one true h = refl

@@ -8,4 +8,4 @@ use Rattle.rule_laws.proofs.laws.rows.Goals as goal
 
 pub returns : goal.returns
 unfolding step overlap refuses rank tuple_hash listen_hash jhash_1word jhash_3words started_mix final_mix mixed
-returns c = record { groups = refl; reserved = refl; bound = refl; in_use = refl; late = refl; source = refl; listener = refl; child = refl; tuple = refl; upwards = refl; seed = (refl, refl) }
+returns c = record { groups = refl; reserved = refl; bound = refl; in_use = refl; late = refl; source = refl; listener = refl; child = refl; tuple = refl; refused_handshakes = refl; wait_slot = refl; handshake = refl; handed_port = refl; upwards = refl; seed = (refl, refl) }

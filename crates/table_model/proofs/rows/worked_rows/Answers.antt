@@ -87,3 +87,19 @@ returns-clause-full_group c = (refl, refl)
 pub returns-clause-full_bucket : goal.returns-clause-full_bucket
 unfolding step plan owner_step overlap refuses home tuple_hash listen_hash jhash_3words jhash_1word started_mix final_mix mixed
 returns-clause-full_bucket c = (refl, refl)
+
+pub returns-clause-handed_over : goal.returns-clause-handed_over
+unfolding step plan owner_step overlap refuses home tuple_hash listen_hash jhash_3words jhash_1word started_mix final_mix mixed
+returns-clause-handed_over c = (refl, refl)
+
+pub returns-clause-not_handed_over : goal.returns-clause-not_handed_over
+unfolding step plan owner_step overlap refuses home tuple_hash listen_hash jhash_3words jhash_1word started_mix final_mix mixed
+returns-clause-not_handed_over c = (refl, refl)
+
+pub returns-clause-requests : goal.returns-clause-requests
+unfolding step plan owner_step overlap refuses home tuple_hash listen_hash jhash_3words jhash_1word started_mix final_mix mixed
+returns-clause-requests c = (refl, refl)
+
+pub returns-clause-wait_requested : goal.returns-clause-wait_requested
+unfolding step plan owner_step overlap refuses home tuple_hash listen_hash jhash_3words jhash_1word started_mix final_mix mixed
+returns-clause-wait_requested c = (refl, refl)

@@ -23,6 +23,26 @@ unfolding step
 returns-in-Accept-clause-others c =
     (from_step _ _ c.args.section (commands.Accept c.in-Accept.listener c.in-Accept.label c.in-Accept.from c.in-Accept.at) _ c.accept.ensures.step c.accept.ensures.err).others
 
+pub returns-in-Syn-clause-labels : goal.returns-in-Syn-clause-labels
+unfolding step
+returns-in-Syn-clause-labels c =
+    (from_step _ _ c.args.section (commands.Syn c.in-Syn.listener c.in-Syn.label c.in-Syn.from c.in-Syn.at) _ c.syn.ensures.step c.syn.ensures.err).labels
+
+pub returns-in-Syn-clause-others : goal.returns-in-Syn-clause-others
+unfolding step
+returns-in-Syn-clause-others c =
+    (from_step _ _ c.args.section (commands.Syn c.in-Syn.listener c.in-Syn.label c.in-Syn.from c.in-Syn.at) _ c.syn.ensures.step c.syn.ensures.err).others
+
+pub returns-in-Ack-clause-labels : goal.returns-in-Ack-clause-labels
+unfolding step
+returns-in-Ack-clause-labels c =
+    (from_step _ _ c.args.section (commands.Ack c.in-Ack.request c.in-Ack.label) _ c.ack.ensures.step c.ack.ensures.err).labels
+
+pub returns-in-Ack-clause-others : goal.returns-in-Ack-clause-others
+unfolding step
+returns-in-Ack-clause-others c =
+    (from_step _ _ c.args.section (commands.Ack c.in-Ack.request c.in-Ack.label) _ c.ack.ensures.step c.ack.ensures.err).others
+
 pub returns-in-Bind-clause-labels : goal.returns-in-Bind-clause-labels
 unfolding step
 returns-in-Bind-clause-labels c =
