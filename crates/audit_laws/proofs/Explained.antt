@@ -27,6 +27,7 @@ module _ (number : ℕ → ℕ) where
   rank_by kinds.Full c p = refl
   rank_by kinds.TimeWait c p = refl
   rank_by kinds.Listen c p = refl
+  rank_by kinds.Request c p = refl
 
   -- a card's rank is what its line tells of it
   pub rank_told : (c : Card) (p : Packet) → rank (told_card number c) p ≡ rank c p
@@ -37,6 +38,7 @@ module _ (number : ℕ → ℕ) where
   home_by kinds.Full shape seed c = refl
   home_by kinds.TimeWait shape seed c = refl
   home_by kinds.Listen shape seed c = refl
+  home_by kinds.Request shape seed c = refl
 
   -- and so is its home
   pub home_told : (shape : Shape) (seed : ℕ) (c : Card) → home shape seed (told_card number c) ≡ home shape seed c

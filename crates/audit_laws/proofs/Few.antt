@@ -22,7 +22,7 @@ use Rattle.flat_list.specs.declared.header.First.{First}
 use Rattle.flat_list.specs.declared.header.First.TheVariants as firsts
 use Rattle.flat_list.specs.declared.header.Header.{Header}
 use Rattle.flat_list.specs.declared.header.Range.{Range}
-use Rattle.flat_list.specs.Owned.{addressed, bound_at, child_owner, connected_at, connected_to, is_no_accept}
+use Rattle.flat_list.specs.Owned.{addressed, bound_at, child_owner, connected_at, connected_to, heir_owner, is_no_accept, is_no_ack, request_owner}
 use Rattle.flat_list.specs.Ports.{even, half_from, is_reserved, odd, port_order, size, whole_order}
 use Rattle.table_model.specs.declared.operation.OpEnd.{OpEnd}
 use Rattle.table_model.specs.declared.operation.OpEnd.TheVariants as errors
@@ -31,7 +31,7 @@ use Rattle.table_model.specs.Commands as command
 use Rattle.table_model.specs.Commands.{Replied, answers as reply_with, plan}
 use Rattle.table_model.specs.Operations as op
 use Rattle.table_model.specs.Operations.{Closed, Did, done, gone, no_slot as closed_without, refused, waiting}
-use Rattle.table_model.specs.Own.{Mine, Own, is_over, offset_of, ports_of}
+use Rattle.table_model.specs.Own.{Mine, Own, is_over, next_name, offset_of, open_named, open_socket, ports_of, with_label}
 use Rattle.race_record.specs.Deeds.{Deed, added, entered, inserted, left, reaped}
 use Rattle.race_record.specs.Goes.{Goes, outcome_of, was_there}
 use Rattle.race_record.proofs.Turns.{InTwo, goes_apart}
@@ -102,6 +102,7 @@ module _ {R : Type 0} where
   f_drop_as states.Bound m x = f_more 1 2 (op.leave m.owner x) (omega arith) (f_leave m.owner x)
   f_drop_as states.Listening m x = f_unhashes 1 m.place _ (op.leave m.owner x) (f_leave m.owner x)
   f_drop_as states.Full m x = f_unhashes 1 m.place _ (op.leave m.owner x) (f_leave m.owner x)
+  f_drop_as states.Request m x = f_unhashes 1 m.place _ (ends x) (f_ends 1 x)
   f_drop_as states.TimeWait m x = f_impossible 2
 
   f_replaced : (k : ℕ) (old : Option Hashed) (next : Asking R) → Few k next → Few (k + 1) (op.then_replaced old next)
@@ -195,6 +196,7 @@ module _ (shape : Shape) (seed : ℕ) where
       (f_inserts 2 _ moment rule (op.connect_hashed shape seed (connected_to a source to)) (f_connect_hashed (connected_to a source to)))
   f_connect states.Unbound a None to moment rule ports = f_ends (2 * length ports + 3) _
   f_connect states.Bound a None to moment rule ports = f_ends (2 * length ports + 3) _
+  f_connect states.Request a source to moment rule ports = f_ends (2 * length ports + 3) (refused errors.Inval)
   f_connect s a source to moment rule ports = f_ends (2 * length ports + 3) (refused errors.IsConn)
 
   f_accept_hashed : (l child : Owner) (o : Outcome) → Few 2 (op.accept_hashed shape seed l child o)
@@ -207,6 +209,38 @@ module _ (shape : Shape) (seed : ℕ) where
       let child = child_owner l.owner name from at in
       f_if 3 (is_no_accept l.owner from at) (ends (refused errors.Inval)) (op.accept_as shape seed l.owner child) (f_ends 3 _)
       (f_inserts 2 _ 0 _ (op.accept_hashed shape seed l.owner child) (f_accept_hashed l.owner child))
+
+  f_syn_hashed : (r : Owner) (o : Outcome) → Few 1 (op.syn_hashed shape seed r o)
+  f_syn_hashed r (put slot old) = f_replaced 0 old (ends (done (op.request_in shape seed r slot))) (f_ends 0 _)
+  f_syn_hashed r (taken name) = f_ends 1 _
+  f_syn_hashed r (full owned held) = f_ends 1 _
+
+  f_syn : (l : Mine) (name : ℕ) (from at : End) → Few 2 (op.syn shape seed l name from at)
+  f_syn l name from at =
+      let r = request_owner l.owner name from at in
+      f_if 2 (is_no_accept l.owner from at) (ends (refused errors.Inval)) (op.syn_as shape seed r) (f_ends 2 _)
+      (f_inserts 1 _ 0 _ (op.syn_hashed shape seed r) (f_syn_hashed r))
+
+  f_ack_hashed : (r : Mine) (l child : Owner) (o : Outcome) → Few 2 (op.ack_hashed shape seed r l child o)
+  f_ack_hashed r l child (put slot None) =
+      let last = ends (done (op.full_in shape seed child slot)) in
+      let inherit = requests.Inherit l.name child.name child.addr child.remote child.rport in
+      f_unhashes 1 r.place _ (asks (owner_key l) inherit (op.when_done last))
+      (f_asks 0 (owner_key l) inherit (op.when_done last) (λ answer. f_done 0 last answer (f_ends 0 _)))
+  f_ack_hashed r l child (put slot (Some x)) = f_impossible 2
+  f_ack_hashed r l child (taken name) = f_impossible 2
+  f_ack_hashed r l child (full owned held) = f_ends 2 _
+
+  f_ack_by : (r : Mine) (l : Option Mine) (name : ℕ) → Few 3 (op.ack_by shape seed r l name)
+  f_ack_by r None name = f_ends 3 _
+  f_ack_by r (Some l) name =
+      let child = heir_owner l.owner name r.owner in
+      f_if 3 (is_no_ack l.owner r.owner) (ends (refused errors.Inval)) (op.ack_as shape seed r l.owner child) (f_ends 3 _)
+      (f_adds 2 _ (op.ack_hashed shape seed r l.owner child) (f_ack_hashed r l.owner child))
+
+  f_ack : (s : State) (r : Mine) (l : Option Mine) (name : ℕ) → Few 3 (op.ack_from shape seed s r l name)
+  f_ack states.Request r l name = f_ack_by r l name
+  f_ack s r l name = f_ends 3 (refused errors.Inval)
 
   f_close_hashed : (m w : Mine) (o : Outcome) → Few 2 (op.close_hashed shape seed m w o)
   f_close_hashed m w (put slot None) =
@@ -223,6 +257,7 @@ module _ (shape : Shape) (seed : ℕ) where
   f_close states.Bound m moment = f_more 2 3 (op.drop_as states.Bound m gone) (omega arith) (f_drop_as states.Bound m gone)
   f_close states.Listening m moment = f_more 2 3 (op.drop_as states.Listening m gone) (omega arith) (f_drop_as states.Listening m gone)
   f_close states.TimeWait m moment = f_more 2 3 (op.drop_as states.TimeWait m gone) (omega arith) (f_drop_as states.TimeWait m gone)
+  f_close states.Request m moment = f_more 2 3 (op.drop_as states.Request m gone) (omega arith) (f_drop_as states.Request m gone)
 
 f_reaped : (k : ℕ) (w : Mine) (count : ℕ) (next : ℕ → Asking ℕ) (b : Bool) → ((n : ℕ) → Few k (next n)) → Few (k + 1) (op.reaped_next w count next b)
 f_reaped k w count next true h = f_asks k (owner_key w.owner) (requests.RemoveWaiting w.owner.name) (λ answer. next (count + 1)) (λ answer. h (count + 1))
@@ -304,6 +339,19 @@ f_accept_command header own k name (Some m) from at l =
     let p = op.accept header.shape header.seed m name from at in
     f_then k p _ (f_more 3 k p l (f_accept header.shape header.seed m name from at))
 
+f_syn_command : (header : Header) (own : Own) (k name : ℕ) (o : Option Mine) (from at : End) → 3 ≤ k → Few k (command.syn_command header own name o from at)
+f_syn_command header own k name None from at l = f_ends k _
+f_syn_command header own k name (Some m) from at l =
+    let p = op.syn header.shape header.seed m name from at in
+    f_then k p _ (f_more 2 k p (omega (arith, l)) (f_syn header.shape header.seed m name from at))
+
+f_ack_command : (header : Header) (own : Own) (k name : ℕ) (o : Option Mine) → 3 ≤ k → Few k (command.ack_command header own name o)
+f_ack_command header own k name None l = f_ends k _
+f_ack_command header own k name (Some r) l =
+    let from = open_named own r.owner.origin in
+    let p = op.ack header.shape header.seed r from name in
+    f_then k p _ (f_more 3 k p l (f_ack header.shape header.seed r.owner.state r from name))
+
 -- a command does so much at most: each port is tried, or each TIME_WAIT taken out
 pub plan_few : (header : Header) (ranged : RangeFits header.range) (number count given waits : ℕ) (own : Own) → OwnFits header ranged number count given waits own → (c : Command) → Few (131080 + 2 * waits) (plan header own c)
 unfolding plan
@@ -312,6 +360,9 @@ plan_few header ranged number count given waits own f (commands.Bind label end) 
 plan_few header ranged number count given waits own f (commands.Listen label) = f_listen_command header ranged number count given waits own f _
 plan_few header ranged number count given waits own f (commands.Connect label from to) = f_connect_command header ranged number count given waits own f _ from to
 plan_few header ranged number count given waits own f (commands.Accept listener label from at) = f_accept_command header _ (131080 + 2 * waits) _ _ from at (omega arith)
+plan_few header ranged number count given waits own f (commands.Syn listener label from at) = f_syn_command header _ (131080 + 2 * waits) _ _ from at (omega arith)
+plan_few header ranged number count given waits own f (commands.Ack request label) =
+    f_ack_command header (with_label own label) (131080 + 2 * waits) (next_name own) (open_socket own request) (omega arith)
 plan_few header ranged number count given waits own f (commands.Close label) = f_close_command header ranged number count given waits own f _
 plan_few header ranged number count given waits own f (commands.Drop label) = f_drop_command header ranged number count given waits own f _
 plan_few header ranged number count given waits own f (commands.At moment) = f_if (131080 + 2 * waits) (nat_lt moment own.moment) _ _ (f_ends (131080 + 2 * waits) _) (f_ends (131080 + 2 * waits) _)

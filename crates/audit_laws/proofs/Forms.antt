@@ -53,6 +53,7 @@ kind_plain : (k : Kind) → is_plain (kind_word k) ≡ true
 kind_plain kinds.Full = refl
 kind_plain kinds.TimeWait = refl
 kind_plain kinds.Listen = refl
+kind_plain kinds.Request = refl
 
 net_by : (b : Bool) (net : ℕ) → net < 16 → ArePlain (if b then [] else codes "net" ∷ decimal net ∷ [])
 net_by true net f = none_plain

@@ -21,14 +21,14 @@ use Rattle.flat_list.specs.declared.header.Range.{Range}
 use Rattle.flat_list.specs.declared.header.First.{First}
 use Rattle.flat_list.specs.declared.header.First.TheVariants as firsts
 use Rattle.flat_list.specs.Ports.{size, half_from, whole_order, port_order, is_reserved, odd, even}
-use Rattle.flat_list.specs.Owned.{addressed, bound_at, connected_to, connected_at, child_owner, source_of, is_no_end, is_no_accept, card_as}
+use Rattle.flat_list.specs.Owned.{addressed, bound_at, connected_to, connected_at, child_owner, request_owner, heir_owner, own_end, other_end, source_of, is_no_end, is_no_accept, is_no_ack, card_as}
 use Rattle.flat_list.specs.Sections.{name_at}
 use Rattle.table_model.specs.declared.operation.OpEnd.{OpEnd}
 use Rattle.table_model.specs.declared.operation.OpEnd.TheVariants as errors
 use Rattle.table_model.specs.Asking.{Asking, ends}
 use Rattle.table_model.specs.Own.{Mine, is_over}
 use Rattle.table_model.specs.Operations as op
-use Rattle.table_model.specs.Operations.{Did, done, refused, Closed, gone, waiting, no_slot, when_done, found_next, search_bind, bound, bind_answered, bind_any, bind_unbound, bind_as, bind, give_up, listener, then_replaced, full_card, source_to, leave, drop_as, drop, wait_of, reaped_next, reap_each, reap, listens_in, listen_hashed, listen_in, listen_answered, listen_at, listen_found, listen_as, listen, full_in, full_done, connect_hashed, connect_bound, connect_tried, connect_free, search_connect, connect_from, connect, accept_hashed, accept_as, accept, waits_in, close_hashed, close_full, close_as, close}
+use Rattle.table_model.specs.Operations.{Did, done, refused, Closed, gone, waiting, no_slot, when_done, found_next, search_bind, bound, bind_answered, bind_any, bind_unbound, bind_as, bind, give_up, listener, then_replaced, full_card, source_to, leave, drop_as, drop, wait_of, reaped_next, reap_each, reap, listens_in, listen_hashed, listen_in, listen_answered, listen_at, listen_found, listen_as, listen, full_in, full_done, connect_hashed, connect_bound, connect_tried, connect_free, search_connect, connect_from, connect, accept_hashed, accept_as, accept, request_in, syn_hashed, syn_as, syn, ack_hashed, ack_as, ack_by, ack_from, ack, waits_in, close_hashed, close_full, close_as, close}
 use Rattle.audit_laws.proofs.Asked.{Asked, asked_if, OutcomeFits}
 
 -- the name is that of one of the first so many labels of the section of that number
@@ -109,6 +109,11 @@ module _ (number count : ℕ) where
   ClosedFits (waiting m) = OwnerFits m.owner
   ClosedFits (no_slot owned held) = (owned < 2 ^ 64) × (held < 2 ^ 64)
 
+  -- a socket, if there is one, whose numbers are
+  abbrev pub OpenFits : Option Mine → Type 0
+  OpenFits None = Unit {0}
+  OpenFits (Some m) = OwnerFits m.owner
+
   abbrev AskedWell : {R : Type 0} → (R → Type 0) → Asking R → Type 0
   AskedWell = Asked IsGood
 
@@ -159,6 +164,7 @@ module _ (number count : ℕ) where
   drop_fits_as Q states.Bound m result q = leave_fits Q m.owner result q
   drop_fits_as Q states.Listening m result q = leave_fits Q m.owner result q
   drop_fits_as Q states.Full m result q = leave_fits Q m.owner result q
+  drop_fits_as Q states.Request m result q = q
   drop_fits_as Q states.TimeWait m result q = tt
 
   pub drop_fits : {R : Type 0} (Q : R → Type 0) (m : Mine) (result : R) → Q result → AskedWell Q (drop m result)
@@ -277,6 +283,43 @@ module _ (number count : ℕ) where
         asked_if IsGood DidFits (is_no_accept l.owner from at) (ends (refused errors.Inval)) (accept_as shape seed l.owner (child_owner l.owner name from at)) tt
         (good kinds.Full (child_owner l.owner name from at) 0 (child_fits l.owner name from at f n e k), accepted_fits l.owner (child_owner l.owner name from at) (child_fits l.owner name from at f n e k))
 
+    request_fits : (l : Owner) (name : ℕ) (from at : End) → OwnerFits l → IsNamed number count name → EndIn from.addr from.port → EndIn at.addr at.port → OwnerFits (request_owner l name from at)
+    request_fits l name from at f n e k = let c = child_fits l name from at f n e k in record { local = c.local; remote = c.remote; dev = c.dev; net = c.net; named = c.named }
+
+    requested_fits : (r : Owner) → OwnerFits r → (o : Outcome) → OutcomeFits o → Didn (syn_hashed shape seed r o)
+    requested_fits r f (put slot old) h = replaced_fits DidFits old (ends (done (request_in shape seed r slot))) f
+    requested_fits r f (taken name) h = tt
+    requested_fits r f (full owned held) h = h
+
+    pub syn_fits : (l : Mine) (name : ℕ) (from at : End) → OwnerFits l.owner → IsNamed number count name → EndIn from.addr from.port → EndIn at.addr at.port → Didn (syn shape seed l name from at)
+    syn_fits l name from at f n e k =
+        let r = request_owner l.owner name from at in
+        asked_if IsGood DidFits (is_no_accept l.owner from at) (ends (refused errors.Inval)) (syn_as shape seed r) tt
+        (good kinds.Request r 0 (request_fits l.owner name from at f n e k), requested_fits r (request_fits l.owner name from at f n e k))
+
+    handed_fits : (r : Mine) (l child : Owner) → OwnerFits child → (o : Outcome) → OutcomeFits o → Didn (ack_hashed shape seed r l child o)
+    handed_fits r l child f (put slot None) h = whenever_done DidFits (ends (done (full_in shape seed child slot))) f
+    handed_fits r l child f (put slot (Some old)) h = tt
+    handed_fits r l child f (taken name) h = tt
+    handed_fits r l child f (full owned held) h = h
+
+    heir_fits : (l : Owner) (name : ℕ) (r : Owner) → OwnerFits l → IsNamed number count name → OwnerFits r → OwnerFits (heir_owner l name r)
+    heir_fits l name r f n g = child_fits l name (other_end r) (own_end r) f n g.remote g.local
+
+    ack_fits_by : (r : Mine) (l : Option Mine) (name : ℕ) → OwnerFits r.owner → OpenFits l → IsNamed number count name → Didn (ack_by shape seed r l name)
+    ack_fits_by r None name f g n = tt
+    ack_fits_by r (Some l) name f g n =
+        let child = heir_owner l.owner name r.owner in
+        asked_if IsGood DidFits (is_no_ack l.owner r.owner) (ends (refused errors.Inval)) (ack_as shape seed r l.owner child) tt
+        (good kinds.Full child 0 (heir_fits l.owner name r.owner g n f), handed_fits r l.owner child (heir_fits l.owner name r.owner g n f))
+
+    ack_fits_from : (state : State) (r : Mine) (l : Option Mine) (name : ℕ) → OwnerFits r.owner → OpenFits l → IsNamed number count name → Didn (ack_from shape seed state r l name)
+    ack_fits_from states.Request r l name f g n = ack_fits_by r l name f g n
+    ack_fits_from _ r l name f g n = tt
+
+    pub ack_fits : (r : Mine) (l : Option Mine) (name : ℕ) → OwnerFits r.owner → OpenFits l → IsNamed number count name → Didn (ack shape seed r l name)
+    ack_fits r l name f g n = ack_fits_from r.owner.state r l name f g n
+
     closed_fits : (m w : Mine) → OwnerFits w.owner → (o : Outcome) → OutcomeFits o → AskedWell ClosedFits (close_hashed shape seed m w o)
     closed_fits m w f (put slot None) h = whenever_done ClosedFits (ends (waiting (waits_in shape seed w slot))) f
     closed_fits m w f (put slot (Some old)) h = tt
@@ -295,6 +338,7 @@ module _ (number count : ℕ) where
     close_fits_as states.Bound m moment f = drop_fits_as ClosedFits states.Bound m gone tt
     close_fits_as states.Listening m moment f = drop_fits_as ClosedFits states.Listening m gone tt
     close_fits_as states.TimeWait m moment f = drop_fits_as ClosedFits states.TimeWait m gone tt
+    close_fits_as states.Request m moment f = drop_fits_as ClosedFits states.Request m gone tt
 
     pub close_fits : (m : Mine) (moment : ℕ) → OwnerFits m.owner → AskedWell ClosedFits (close shape seed m moment)
     close_fits m moment f = close_fits_as m.owner.state m moment f

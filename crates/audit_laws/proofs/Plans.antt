@@ -18,11 +18,11 @@ use Rattle.sock_script.specs.Forms.{CommandFits, DeviceFits, NamespaceFits, Sour
 use Rattle.table_model.specs.declared.operation.OpEnd.{OpEnd}
 use Rattle.table_model.specs.declared.operation.OpEnd.TheVariants as errors
 use Rattle.table_model.specs.Asking.{Asking, ends}
-use Rattle.table_model.specs.Own.{Own, Mine, Offsets, is_named, is_over, name_of, next_name, open_socket, replaced, with_socket, with_new, without, with_wait, with_label, past_offset, ports_of, offset_of}
-use Rattle.table_model.specs.Operations.{Did, done, refused, Closed, gone, waiting, no_slot, plain, bind, listen, connect, accept, close, reap, kept_waits}
-use Rattle.table_model.specs.Commands.{Replied, answers, replies_at_once, bind_error, connect_error, bind_reply, connect_reply, accept_reply, close_reply, after_search, bind_command, drop_command, at_command, reap_command, socket_command, listen_command, connect_command, accept_command, close_command, connect_rule, searches_port, plan}
+use Rattle.table_model.specs.Own.{Own, Mine, Offsets, is_named, is_over, name_of, next_name, open_named, open_socket, replaced, with_socket, with_new, without, with_wait, with_label, past_offset, ports_of, offset_of}
+use Rattle.table_model.specs.Operations.{Did, done, refused, Closed, gone, waiting, no_slot, plain, bind, listen, connect, accept, syn, ack, close, reap, kept_waits}
+use Rattle.table_model.specs.Commands.{Replied, answers, replies_at_once, bind_error, connect_error, bind_reply, connect_reply, accept_reply, ack_reply, close_reply, after_search, bind_command, drop_command, at_command, reap_command, socket_command, listen_command, connect_command, accept_command, syn_command, ack_command, close_command, connect_rule, searches_port, plan}
 use Rattle.audit_laws.proofs.Asked.{Asked, asked_if, asked_then}
-use Rattle.audit_laws.proofs.Owners.{IsNamed, Ports, RangeFits, ports_fit, shorter, EndIn, OwnerFits, IsGood, RefusalFits, DidFits, ClosedFits, SourceIn, bind_fits, drop_fits, listen_fits, connect_fits, accept_fits, close_fits, reap_fits}
+use Rattle.audit_laws.proofs.Owners.{IsNamed, Ports, RangeFits, ports_fit, shorter, EndIn, OwnerFits, OpenFits, IsGood, RefusalFits, DidFits, ClosedFits, SourceIn, bind_fits, drop_fits, listen_fits, connect_fits, accept_fits, syn_fits, ack_fits, close_fits, reap_fits}
 
 -- the numbers of a reply can be written
 abbrev pub ReplyFits : Reply → Type 0
@@ -51,6 +51,8 @@ IsReplyTo _ reply = ReplyFits reply
 abbrev pub gives : Command → ℕ
 gives (commands.Socket label options) = 1
 gives (commands.Accept listener label from at) = 1
+gives (commands.Syn listener label from at) = 1
+gives (commands.Ack request label) = 1
 gives _ = 0
 
 device_in : (dev : Option ℕ) → DeviceFits dev → unwrap_or dev 0 < 2 ^ 16
@@ -81,8 +83,7 @@ module _ (header : Header) (ranged : RangeFits header.range) (number count : ℕ
     pub waits : length own.waits ≤ left
 
   abbrev pub SomeFits : Option Mine → Type 0
-  SomeFits None = Unit {0}
-  SomeFits (Some m) = MineFits m
+  SomeFits = OpenFits number count
 
   found_by : (b : Bool) (m : Mine) (o : Option Mine) → MineFits m → SomeFits o → SomeFits (cond b (Some m) o)
   found_by true m o f g = f
@@ -195,6 +196,11 @@ module _ (header : Header) (ranged : RangeFits header.range) (number count : ℕ
   accept_replied given left own f (done m) h = (more_left given left (with_new own m) (with_new_fits given left own m f h), tt)
   accept_replied given left own f (refused end) h = (more_left given left own f, connect_refused end h)
 
+  ack_replied : (given left name : ℕ) (own : Own) → OwnFits given left own → (did : Did) → DidFits number count did → OwnFits given (left + 1) (ack_reply own name did).own × ReplyFits (ack_reply own name did).reply
+  ack_replied given left name own f (done m) h =
+      (more_left given left (with_new (without own name) m) (with_new_fits given left (without own name) m (without_fits given left name own f) h), tt)
+  ack_replied given left name own f (refused end) h = (more_left given left own f, connect_refused end h)
+
   with_wait_fits : (given left : ℕ) (own : Own) (w : Mine) → OwnFits given left own → OwnFits (given + 0) (left + 1) (with_wait own w)
   with_wait_fits given left own w f = record {
     number_is = f.number_is;
@@ -242,6 +248,23 @@ module _ (header : Header) (ranged : RangeFits header.range) (number count : ℕ
       asked_then (IsGood number count) (DidFits number count) (λ r. OwnFits given (left + 1) r.own × ReplyFits r.reply) (accept header.shape header.seed l name from at) _
       (accept_fits number count header.shape header.seed l name from at h n e k)
       (accept_replied given left own f)
+
+  syn_plan : (given left : ℕ) (own : Own) → OwnFits given left own → (name : ℕ) → IsNamed number count name → (o : Option Mine) → SomeFits o → (from at : End) → EndIn from.addr from.port → EndIn at.addr at.port
+      → GoodPlan (λ r. OwnFits given (left + 1) r.own × ReplyFits r.reply) (syn_command header own name o from at)
+  syn_plan given left own f name n None h from at e k = (more_left given left own f, tt)
+  syn_plan given left own f name n (Some l) h from at e k =
+      asked_then (IsGood number count) (DidFits number count) (λ r. OwnFits given (left + 1) r.own × ReplyFits r.reply) (syn header.shape header.seed l name from at) _
+      (syn_fits number count header.shape header.seed l name from at h n e k)
+      (accept_replied given left own f)
+
+  ack_plan : (given left : ℕ) (own : Own) → OwnFits given left own → (name : ℕ) → IsNamed number count name → (o : Option Mine) → SomeFits o
+      → GoodPlan (λ r. OwnFits given (left + 1) r.own × ReplyFits r.reply) (ack_command header own name o)
+  ack_plan given left own f name n None h = (more_left given left own f, tt)
+  ack_plan given left own f name n (Some r) h =
+      let from = open_named own r.owner.origin in
+      asked_then (IsGood number count) (DidFits number count) (λ a. OwnFits given (left + 1) a.own × ReplyFits a.reply) (ack header.shape header.seed r from name) _
+      (ack_fits number count header.shape header.seed r from name h (found_fits (is_named r.owner.origin) own.sockets f.sockets) n)
+      (ack_replied given left r.owner.name own f)
 
   close_plan : (given left : ℕ) (own : Own) → OwnFits given left own → (o : Option Mine) → SomeFits o → GoodPlan (Kept given left) (close_command header own o)
   close_plan given left own f None h = (longer given left own f, tt)
@@ -307,6 +330,11 @@ module _ (header : Header) (ranged : RangeFits header.range) (number count : ℕ
   plan_fits given left own (commands.Accept listener label from at) f c l m =
       accept_plan (given + 1) left (with_label own label) (with_label_fits given left own label f) (next_name own) (next_named given left own f l) (open_socket own listener) (opened own listener f.sockets) from at
       (record { addr = c.2.0; port = c.2.1 }) (record { addr = c.3.0; port = c.3.1 })
+  plan_fits given left own (commands.Syn listener label from at) f c l m =
+      syn_plan (given + 1) left (with_label own label) (with_label_fits given left own label f) (next_name own) (next_named given left own f l) (open_socket own listener) (opened own listener f.sockets) from at
+      (record { addr = c.2.0; port = c.2.1 }) (record { addr = c.3.0; port = c.3.1 })
+  plan_fits given left own (commands.Ack request label) f c l m =
+      ack_plan (given + 1) left (with_label own label) (with_label_fits given left own label f) (next_name own) (next_named given left own f l) (open_socket own request) (opened own request f.sockets)
   plan_fits given left own (commands.Close label) f c l m = close_plan given left own f (open_socket own label) (opened own label f.sockets)
   plan_fits given left own (commands.Drop label) f c l m = drop_plan given left own f (open_socket own label) (opened own label f.sockets)
   plan_fits given left own (commands.At moment) f c l m = at_plan given left own f moment

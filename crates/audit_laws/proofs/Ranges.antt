@@ -68,6 +68,7 @@ module _ (shape : Shape) (f : ShapeFits shape) where
   home_by kinds.Full seed c = hash_below (tuple_hash c.local c.lport c.remote c.rport seed c.net)
   home_by kinds.TimeWait seed c = hash_below (tuple_hash c.local c.lport c.remote c.rport seed c.net)
   home_by kinds.Listen seed c = listen_below (listen_hash c.local c.lport seed c.net)
+  home_by kinds.Request seed c = hash_below (tuple_hash c.local c.lport c.remote c.rport seed c.net)
 
   home_below : (seed : ℕ) (c : Card) → home shape seed c < 2 ^ 32
   unfolding home

@@ -41,17 +41,23 @@ pub few_given : (cs : List Command) → given_by cs ≤ length cs
 few_given [] = omega arith
 few_given (commands.Socket label options ∷ cs) = omega (arith, few_given cs)
 few_given (commands.Accept listener label from at ∷ cs) = omega (arith, few_given cs)
+few_given (commands.Syn listener label from at ∷ cs) = omega (arith, few_given cs)
+few_given (commands.Ack request label ∷ cs) = omega (arith, few_given cs)
 few_given (c ∷ cs) = omega (arith, few_given cs)
 
 pub labels_given : (cs : List Command) → length (given_labels cs) ≡ given_by cs
 labels_given [] = refl
 labels_given (commands.Socket label options ∷ cs) = omega (arith, labels_given cs)
 labels_given (commands.Accept listener label from at ∷ cs) = omega (arith, labels_given cs)
+labels_given (commands.Syn listener label from at ∷ cs) = omega (arith, labels_given cs)
+labels_given (commands.Ack request label ∷ cs) = omega (arith, labels_given cs)
 labels_given (c ∷ cs) = omega (arith, labels_given cs)
 
 label_given : (c : Command) (label : List ℕ) → given_label c ≡ Some label → CommandFits c → is_label label ≡ true
 label_given (commands.Socket l options) label e f = subst (λ x. is_label x ≡ true) (some_same l label e) f.0
 label_given (commands.Accept listener l from at) label e f = subst (λ x. is_label x ≡ true) (some_same l label e) f.1
+label_given (commands.Syn listener l from at) label e f = subst (λ x. is_label x ≡ true) (some_same l label e) f.1
+label_given (commands.Ack request l) label e f = subst (λ x. is_label x ≡ true) (some_same l label e) f.1
 label_given c label e f = absurd (cc)
 
 labels_are : (cs : List Command) → Each CommandFits cs → Each (λ l. is_label l ≡ true) (given_labels cs)

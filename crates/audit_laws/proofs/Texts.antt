@@ -68,6 +68,7 @@ kind_is : (k : Kind) → output.kind_word k ≡ kind_word k
 kind_is kinds.Full = refl
 kind_is kinds.TimeWait = refl
 kind_is kinds.Listen = refl
+kind_is kinds.Request = refl
 
 -- the words of a namespace, by whether there is one
 abbrev net_told : Bool → List ℕ → List (List ℕ)

@@ -5,7 +5,7 @@ use Rattle.sock_card.specs.TimeWait.{is_time_wait_kind}
 use Rattle.sock_card.specs.declared.card.Card.{Card}
 use Rattle.chain_book.specs.declared.outcome.Hashed.{Hashed}
 use Rattle.chain_book.specs.declared.outcome.Replace.{Replace}
-use Rattle.chain_book.specs.Tuples.{same_cards, is_full_kind, may_replace, waits_at}
+use Rattle.chain_book.specs.Tuples.{same_cards, claims_tuple, may_replace, waits_at}
 use Rattle.chain_book.specs.Chains.{keeps, waits}
 use Rattle.table_rule.specs.Beyond.{IsCardWords}
 use Rattle.table_rule.specs.Lists.{Each}
@@ -63,4 +63,4 @@ pub gives_way : (card : Card) (moment : ℕ) (rule : Replace) (row : List Hashed
     → (waits_at card x.card ≡ true) × (may_replace rule moment x.card ≡ true)
 gives_way card moment rule row x none some =
     let two = find_both (keeps card moment rule) (waits card) row x none some in
-    (two.1, may_by (same_cards card x.card) (is_full_kind x.card.kind) (is_time_wait_kind x.card.kind) (may_replace rule moment x.card) two.1 two.0)
+    (two.1, may_by (same_cards card x.card) (claims_tuple x.card.kind) (is_time_wait_kind x.card.kind) (may_replace rule moment x.card) two.1 two.0)

@@ -5,6 +5,7 @@ pub mod Left
 pub mod Alone
 pub mod Comes
 pub mod Goes
+pub mod Hands
 pub mod Reaps
 pub mod Rooms
 pub mod Holds

@@ -52,6 +52,7 @@ waits_kind : (k : Kind) → is_time_wait_kind k ≡ true → k ≡ kinds.TimeWai
 waits_kind kinds.TimeWait e = refl
 waits_kind kinds.Full e = absurd (cc)
 waits_kind kinds.Listen e = absurd (cc)
+waits_kind kinds.Request e = absurd (cc)
 
 -- On a pass that was never split
 

@@ -36,7 +36,7 @@ IsAdded card (hashed hash old) (Ok place) = place ≡ place_by card hash
 IsAdded card (no_slot number owned held) (Err f) = f ≡ record { owned = owned; held = held }
 IsAdded card tried result = ⊥
 
--- a full card came, with a TIME_WAIT that gave way, or not
+-- a full card or a request came, with a TIME_WAIT that gave way, or not
 pub record Inserts (wish : Wish) (result : Result Inserted InsertEnd) (c d : Side) : Type 0 where
   pub tried : Tried
   pub answer : IsInserted wish.card tried result
@@ -54,13 +54,18 @@ pub record Removes (place : Place) (c d : Side) : Type 0 where
   pub is : IsUnhashAt (record { bucket = place.bucket; slot = place.slot }) place.card unhash
   pub does : Does (left unhash ∷ []) c d
 
--- a TIME_WAIT came, if a slot was free, and then who stood at the place was gone
+-- a card came, if a slot was free, and then who stood at the place was gone
 pub record Waits (place : Place) (card : Card) (result : Result Place Full) (c d : Side) : Type 0 where
   pub tried : Tried
   pub answer : IsAdded card tried result
   pub unhash : Change
   pub is : IsUnhashAt (record { bucket = place.bucket; slot = place.slot }) place.card unhash
   pub does : Does (added card tried ∷ left unhash ∷ []) c d
+
+-- a full card came, and then its request was gone; or no slot was free, and the request stands
+abbrev pub HandsOver : Place → Card → Result Place (Place × Full) → Side → Side → Type 0
+HandsOver request card (Ok place) c d = Waits request card (Ok place) c d
+HandsOver request card (Err e) c d = (e.0 ≡ request) × Adds card (Err e.1) c d
 
 abbrev pub slot_in : Change → ℕ
 slot_in unhash = unhash.slot

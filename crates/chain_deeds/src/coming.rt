@@ -1,6 +1,7 @@
 //! Sockets that come into their chains.
 
-ghost use Rattle.std.specs.Prelude.{◌≡◌, IfOk};
+ghost use Rattle.std.specs.Prelude.{◌≡◌, true, IfOk};
+ghost use Rattle.chain_book.specs.Tuples.{claims_tuple};
 ghost use Rattle.chain_deeds.specs.Answers.{Adds, DrawnBy, Inserts, RoomBy};
 ghost use Rattle.chain_deeds.specs.Sides.{HasRoom, IsAtHome, IsResting, side_of};
 ghost use Rattle.nulls_chain.specs.Changes.{IsPlaced, PlacesStay, TwoDrawn};
@@ -16,7 +17,7 @@ use shared_sockets::{InsertEnd, Inserted, Newcomer};
 use sock_card::Card;
 use std::sync::Wait;
 
-/// Hashes a connected socket, unless its four-tuple is kept from it at that moment, in seconds.
+/// Hashes a connected socket or a request for one, unless its four-tuple is kept from it at that moment, in seconds.
 ///
 /// A TIME_WAIT of its four-tuple gives way where the rule lets it. The newcomer comes before that goes, so it needs a
 /// slot of its own. It waits for one bucket's lock, and takes no memory.
@@ -29,7 +30,7 @@ pub fn insert<R: Wait>(
     rule: Replace,
 ) -> Result<Inserted, InsertEnd>
     requires rests { IsResting table.now pass.old }
-    requires full { card.now.kind ≡ kinds.Full }
+    requires claims { claims_tuple card.now.kind ≡ true }
     requires room { HasRoom 2 pass.old }
     requires share { HasShares 4 (known pass.old.pass) }
     ensures rests { IsResting table.now pass.new }

@@ -18,7 +18,7 @@ use sock_card::{Card, pack};
 use std::sync::Wait;
 
 // A card is what its words tell.
-fn is_told(card: &Card)
+pub(crate) fn is_told(card: &Card)
     ensures { unpacked (packed card.now) ≡ card.now }
 {
     let _words = pack(card);

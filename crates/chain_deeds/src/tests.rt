@@ -7,6 +7,7 @@ ghost use Rattle.table_rule.specs.Calls.{HasShares};
 ghost use Rattle.table_rule.specs.Passes.{known};
 
 use crate::coming::{add, insert};
+use crate::handover::hand_over;
 use crate::leaving::{remove, time_wait};
 use crate::table::{ChainPass, ChainTable};
 use chain_book::{Replace, Shape};
@@ -45,6 +46,18 @@ const WAITING: Card = Card {
     kind: Kind::TimeWait,
     name: 1,
     extra: 5,
+};
+
+const REQUEST: Card = Card {
+    local: 0x0a00_0001,
+    lport: 80,
+    remote: 0x0a00_0002,
+    rport: 1000,
+    dev: 0,
+    net: 0,
+    kind: Kind::Request,
+    name: 3,
+    extra: 0,
 };
 
 const LISTENER: Card = Card {
@@ -105,6 +118,28 @@ fn come_again<R: Wait>(table: &ChainTable, rt: &R, pass: &mut ChainPass, rule: R
             Err(full) => Came::Full(full.owned),
         },
         Err(_) => Came::Never,
+    }
+}
+
+/// A request comes and hands over to its socket, which is then to come again. Where no slot is free for that, it comes
+/// once the request has gone.
+fn shake_hands<R: Wait>(table: &ChainTable, rt: &R, pass: &mut ChainPass) -> (Came, Came)
+    requires rests { IsResting table.now pass.old }
+    requires room { HasRoom 6 pass.old }
+    requires share { HasShares 14 (known pass.old.pass) }
+{
+    let Ok(inserted) = insert(table, rt, pass, &REQUEST, 0, Replace::Always) else {
+        return (Came::Never, Came::Never);
+    };
+    match hand_over(table, rt, pass, inserted.place, &FULL) {
+        Ok(child) => (Came::At(child.slot), come(table, rt, pass, Replace::Never)),
+        Err((request, full)) => {
+            remove(table, rt, pass, request);
+            (
+                Came::Full(full.owned),
+                come(table, rt, pass, Replace::Never),
+            )
+        }
     }
 }
 
@@ -170,6 +205,26 @@ fn a_time_wait_stays(rt: HostRuntime) -> Result<(), Fail> {
     assert!(rt; table.bucket_of(&WAITING) == table.bucket_of(&FULL));
     let came = come_again(&table, &rt, &mut pass, Replace::Never);
     assert_eq!(rt; came, Came::Taken(1));
+    Ok(())
+}
+
+#[test]
+fn a_request_hands_over(rt: HostRuntime) -> Result<(), Fail> {
+    let (table, mut pass) = ChainTable::new(rt.alloc(), SHAPE, 7)?;
+    pass.reserve(&table, 6)?;
+    let came = shake_hands(&table, &rt, &mut pass);
+    assert_eq!(rt; came, (Came::At(1), Came::Taken(1)));
+    assert_eq!(rt; pass.pass.changes().len(), 3);
+    Ok(())
+}
+
+#[test]
+fn a_request_stands_where_no_slot_is_free(rt: HostRuntime) -> Result<(), Fail> {
+    let shape = Shape { slots: 1, ..SHAPE };
+    let (table, mut pass) = ChainTable::new(rt.alloc(), shape, 7)?;
+    pass.reserve(&table, 6)?;
+    let came = shake_hands(&table, &rt, &mut pass);
+    assert_eq!(rt; came, (Came::Full(1), Came::At(0)));
     Ok(())
 }
 

@@ -1,6 +1,5 @@
 -- A step at tables where nobody else is.
-use Rattle.std.proofs.Common.{◌≡◌, ℕ, ◌+◌, ◌<◌, ◌≤◌, ◌^◌, false, List, length, ap, arith}
-use Rattle.chain_book.specs.declared.book.Change.{Change}
+use Rattle.std.proofs.Common.{◌≡◌, ℕ, ◌+◌, ◌<◌, ◌≤◌, ◌^◌, false, length, ap, arith}
 use Rattle.flat_list.specs.declared.command.Command.{Command}
 use Rattle.flat_list.specs.Flat.{Flat}
 use Rattle.flat_list.specs.Sections.{labels_of}

@@ -11,23 +11,18 @@ use Rattle.flat_list.specs.declared.command.Command.TheVariants as commands
 use Rattle.flat_list.specs.Flat.{Flat, new_flat}
 use Rattle.flat_list.specs.Run.{Issued, after, replies_to}
 use Rattle.flat_list.specs.Script.{Script, IsSmall}
-use Rattle.flat_list.specs.Sections.{Section, has_number, labels_of, new_section}
+use Rattle.flat_list.specs.Sections.{Section, has_number, new_section}
 use Rattle.flat_list.specs.Sound.{IsSound}
 use Rattle.flat_list.specs.Step.{step}
-use Rattle.flat_list.proofs.LabelsGrow.{gives_at_one, labels_stay}
 use Rattle.flat_list.proofs.Soundness.{starts as starts_sound}
 use Rattle.sock_script.specs.Output.{asked, events_from, replies_from, issued_from, flat_replies}
 use Rattle.table_model.specs.Tables.{Tables, new_tables}
 use Rattle.table_model.specs.Own.{Own, new_own}
-use Rattle.table_model.specs.Commands.{answers, plan}
-use Rattle.table_model.specs.Means.{Means, TablesMean, IsShape, Refines, is_lookup}
-use Rattle.table_model.proofs.commands.Laws.{plans_refine}
+use Rattle.table_model.specs.Means.{Means, TablesMean, IsShape, is_lookup}
 use Rattle.table_model.proofs.parts.Start.{new_mean_empty, starts_meant}
-use Rattle.table_model.proofs.parts.Sections.{same_labels}
 use Rattle.race_book.specs.Among.{Among}
 use Rattle.chain_book.specs.declared.book.Change.{Change}
 use Rattle.race_record.specs.Deeds.{Deed}
-use Rattle.race_record.specs.Goes.{Goes}
 use Rattle.race_record.specs.Lawful.{Lawful, IsStepOf, AreStepsOf, AreSectionsOf}
 use Rattle.race_record.specs.Record.{Race, Step, deeds_of, all_deeds, reply_of}
 use Rattle.race_alone.specs.Plays.{Plays, StepRefines}
@@ -89,6 +84,8 @@ one_event n (commands.Bind label end) rest e = refl
 one_event n (commands.Listen label) rest e = refl
 one_event n (commands.Connect label from to) rest e = refl
 one_event n (commands.Accept listener label from at) rest e = refl
+one_event n (commands.Syn listener label from at) rest e = refl
+one_event n (commands.Ack request label) rest e = refl
 one_event n (commands.Close label) rest e = refl
 one_event n (commands.Drop label) rest e = refl
 one_event n (commands.At moment) rest e = refl

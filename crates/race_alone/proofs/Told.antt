@@ -10,7 +10,7 @@ use Rattle.chain_book.specs.declared.book.Act.{Act}
 use Rattle.chain_book.specs.declared.book.Act.TheVariants as acts
 use Rattle.chain_book.specs.declared.book.Change.{Change}
 use Rattle.chain_book.specs.declared.outcome.Hashed.{Hashed}
-use Rattle.chain_book.specs.Tuples.{same_cards, may_replace, is_full_kind}
+use Rattle.chain_book.specs.Tuples.{same_cards, may_replace, claims_tuple}
 use Rattle.chain_book.specs.Chains.{Chains, Outcome, put, insert_outcome, add_outcome, slot_outcome, tried as tried_in, keeps, waits, row_at, home_in, hashed as hashed_in, unhashed, waiting}
 use Rattle.chain_book.specs.Slots.{free_slot}
 use Rattle.race_book.specs.Among.{Among}
@@ -57,13 +57,13 @@ none_at test [] x e a = absurd a
 none_at test (y ∷ ys) x e a = none_by test y ys x (none_at test ys x) (test y) refl e a
 
 -- a TIME_WAIT that doesn't keep its four-tuple may be replaced
-replaced_by : (same is_full waits_ may : Bool) → (same && (is_full || waits_ && not may)) ≡ false → (same && waits_) ≡ true → may ≡ true
+replaced_by : (same claims waits_ may : Bool) → (same && (claims || waits_ && not may)) ≡ false → (same && waits_) ≡ true → may ≡ true
 replaced_by true true true true k w = refl
 replaced_by true false true true k w = refl
 replaced_by true true true false k w = absurd (true≢false k)
 replaced_by true false true false k w = absurd (true≢false k)
-replaced_by true is_full false may k w = absurd (true≢false (sym w))
-replaced_by false is_full waits_ may k w = absurd (true≢false (sym w))
+replaced_by true claims false may k w = absurd (true≢false (sym w))
+replaced_by false claims waits_ may k w = absurd (true≢false (sym w))
 
 -- what trying to hash a wished card comes to
 record Told (wish : Wish) (outcome : Outcome) : Type 0 where
@@ -86,7 +86,7 @@ module _ (c : Chains) (wish : Wish) where
           record {
             act = refl;
             tuple = f.passes;
-            may = replaced_by (same_cards wish.card x.card) (is_full_kind x.card.kind) (is_time_wait_kind x.card.kind) (may_replace wish.rule wish.moment x.card)
+            may = replaced_by (same_cards wish.card x.card) (claims_tuple x.card.kind) (is_time_wait_kind x.card.kind) (may_replace wish.rule wish.moment x.card)
                 (none_at (keeps wish.card wish.moment wish.rule) (row_at c (home_in c wish.card)) x k f.there) f.passes;
           },
         );

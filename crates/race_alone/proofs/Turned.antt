@@ -1,5 +1,5 @@
 -- Sections that take turns at tables where nobody else is.
-use Rattle.std.proofs.Common.{◌≡◌, ◌≢◌, ℕ, ◌+◌, ◌<◌, ◌≤◌, ◌^◌, ◌==◌, Bool, true, false, cond, nat_lt, List, [], ◌∷◌, ◌++◌, length, map, filter, refl, sym, subst, arith}
+use Rattle.std.proofs.Common.{◌≡◌, ◌≢◌, ℕ, ◌+◌, ◌<◌, ◌≤◌, ◌^◌, ◌==◌, Bool, true, false, cond, nat_lt, List, [], ◌∷◌, length, map, filter, refl, sym, subst, arith}
 use Rattle.std.proofs.lemmas.Bool.{eqb-true, eqb-false, ltb-true, ltb-false}
 use Rattle.list_words.specs.Lists.{Each}
 use Rattle.capture_reader.specs.Captures.{Capture}
@@ -14,7 +14,7 @@ use Rattle.flat_list.proofs.Soundness.{starts as starts_sound}
 use Rattle.table_model.specs.Tables.{Tables, new_tables}
 use Rattle.table_model.specs.Own.{Own, new_own}
 use Rattle.table_model.specs.Commands.{answers, plan}
-use Rattle.table_model.specs.Means.{Means, IsShape, is_lookup}
+use Rattle.table_model.specs.Means.{Means, IsShape}
 use Rattle.table_model.proofs.parts.Start.{new_mean_empty, starts_meant}
 use Rattle.table_model.proofs.others.All.{others_stay}
 use Rattle.race_book.specs.Among.{Among}

@@ -1,5 +1,5 @@
 -- A record whose steps were made at tables where nobody else was, in whatever order of sections: our own.
-use Rattle.std.specs.Prelude.{◌≡◌, ℕ, ◌+◌, ◌==◌, ◌≤◌, Bool, false, List, [], ◌∷◌, length, map, filter}
+use Rattle.std.specs.Prelude.{◌≡◌, ℕ, ◌==◌, ◌≤◌, Bool, false, List, [], ◌∷◌, length, map, filter}
 use Rattle.list_words.specs.Lists.{Each}
 use Rattle.capture_reader.specs.Captures.{Capture}
 use Rattle.flat_list.specs.declared.command.Command.{Command}

@@ -9,3 +9,4 @@ pub mod Drawn
 pub mod Leads
 pub mod Listener
 pub mod Dumps
+pub mod HashedFirst

@@ -7,7 +7,7 @@ use Rattle.sock_card.specs.declared.owner.State.TheVariants as states
 use Rattle.sock_card.specs.declared.card.Card.{Card}
 use Rattle.bind_buckets.specs.declared.request.Request.{Request}
 use Rattle.bind_buckets.specs.declared.request.Request.TheVariants as requests
-use Rattle.flat_list.specs.Owned.{addressed, bound_at, is_no_accept, connected_at, connected_to, child_owner}
+use Rattle.flat_list.specs.Owned.{addressed, bound_at, is_no_accept, is_no_ack, connected_at, connected_to, child_owner, request_owner, heir_owner}
 use Rattle.bind_buckets.specs.declared.request.Answer.{Answer}
 use Rattle.bind_buckets.specs.declared.request.Answer.TheVariants as answers_
 use Rattle.chain_book.specs.declared.outcome.Place.{Place}
@@ -24,7 +24,7 @@ use Rattle.flat_list.specs.declared.command.Reply.TheVariants as replies
 use Rattle.table_model.specs.declared.operation.OpEnd.{OpEnd}
 use Rattle.table_model.specs.declared.operation.OpEnd.TheVariants as errors
 use Rattle.table_model.specs.Asking.{Asking, ends, asks, inserts, adds, unhashes, reaps, impossible, and_then}
-use Rattle.table_model.specs.Own.{Own, Mine}
+use Rattle.table_model.specs.Own.{Own, Mine, next_name, open_named, open_socket, with_label}
 use Rattle.table_model.specs.Operations as op
 use Rattle.table_model.specs.Operations.{Did, done, refused, Closed, gone, waiting, no_slot as closed_without}
 use Rattle.table_model.specs.Commands as command
@@ -109,6 +109,7 @@ module _ {R : Type 0} (k : ℕ) (told : R → ℕ) where
   v_drop_as states.Bound m x e = v_leave m.owner x e
   v_drop_as states.Listening m x e = v_unhashes m.place _ (op.leave m.owner x) (v_leave m.owner x e)
   v_drop_as states.Full m x e = v_unhashes m.place _ (op.leave m.owner x) (v_leave m.owner x e)
+  v_drop_as states.Request m x e = v_unhashes m.place _ (ends x) (v_ends x e)
   v_drop_as states.TimeWait m x e = v_impossible
 
   v_replaced : (old : Option Hashed) (next : Asking R) → Vains k told next → Vains k told (op.then_replaced old next)
@@ -159,6 +160,7 @@ v_bind states.Bound m end ports = v_ends 0 told_did _ refl
 v_bind states.Listening m end ports = v_ends 0 told_did _ refl
 v_bind states.Full m end ports = v_ends 0 told_did _ refl
 v_bind states.TimeWait m end ports = v_ends 0 told_did _ refl
+v_bind states.Request m end ports = v_ends 0 told_did _ refl
 
 v_refused : (end : OpEnd) → told_end end ≡ 0 → Vains 0 told_did (ends (refused end))
 v_refused end e = v_ends 0 told_did (refused end) (sym e)
@@ -193,6 +195,7 @@ module _ (shape : Shape) (seed : ℕ) where
   v_listen states.Listening m ports = v_ends 0 told_did (done m) refl
   v_listen states.Full m ports = v_refused errors.Inval refl
   v_listen states.TimeWait m ports = v_refused errors.Inval refl
+  v_listen states.Request m ports = v_refused errors.Inval refl
 
   v_full : (a : Owner) (slot : ℕ) (old : Option Hashed) → Vains 0 told_did (op.full_done shape seed a slot old)
   v_full a slot old = v_replaced 0 told_did old (ends (done (op.full_in shape seed a slot))) (v_ends 0 told_did _ refl)
@@ -237,6 +240,7 @@ module _ (shape : Shape) (seed : ℕ) where
   v_connect states.Listening a source to moment rule ports = v_refused errors.IsConn refl
   v_connect states.Full a source to moment rule ports = v_refused errors.IsConn refl
   v_connect states.TimeWait a source to moment rule ports = v_refused errors.IsConn refl
+  v_connect states.Request a source to moment rule ports = v_refused errors.Inval refl
 
   v_accept_as : (l child : Owner) → Vains 0 told_did (op.accept_as shape seed l child)
   v_accept_as l child = v_inserts 0 told_did _ 0 _ (op.accept_hashed shape seed l child) (record {
@@ -248,6 +252,45 @@ module _ (shape : Shape) (seed : ℕ) where
   v_accept_by : (l : Mine) (name : ℕ) (from at : End) (b : Bool) → Vains 0 told_did (if b then ends (refused errors.Inval) else op.accept_as shape seed l.owner (child_owner l.owner name from at))
   v_accept_by l name from at true = v_refused errors.Inval refl
   v_accept_by l name from at false = v_accept_as l.owner (child_owner l.owner name from at)
+
+  v_syn_as : (r : Owner) → Vains 0 told_did (op.syn_as shape seed r)
+  v_syn_as r = v_inserts 0 told_did _ 0 _ (op.syn_hashed shape seed r) (record {
+    puts = λ slot old. v_replaced 0 told_did old (ends (done (op.request_in shape seed r slot))) (v_ends 0 told_did _ refl);
+    takes = λ name. v_refused (errors.Taken name) refl;
+    none = λ owned held. v_ends 1 told_did (refused (errors.Full owned held)) refl;
+  })
+
+  v_syn_by : (l : Mine) (name : ℕ) (from at : End) (b : Bool) → Vains 0 told_did (if b then ends (refused errors.Inval) else op.syn_as shape seed (request_owner l.owner name from at))
+  v_syn_by l name from at true = v_refused errors.Inval refl
+  v_syn_by l name from at false = v_syn_as (request_owner l.owner name from at)
+
+  v_ack_put : (r : Mine) (l child : Owner) (slot : ℕ) (old : Option Hashed) → Vains 0 told_did (op.ack_hashed shape seed r l child (put slot old))
+  v_ack_put r l child slot None = v_unhashes 0 told_did r.place _ (asks (owner_key l) (requests.Inherit l.name child.name child.addr child.remote child.rport) (op.when_done (ends (done (op.full_in shape seed child slot)))))
+      (v_asks 0 told_did (owner_key l) _ (op.when_done (ends (done (op.full_in shape seed child slot)))) (λ answer. v_done 0 told_did (ends (done (op.full_in shape seed child slot))) answer (v_ends 0 told_did _ refl)))
+  v_ack_put r l child slot (Some x) = v_impossible 0 told_did
+
+  v_ack_as : (r : Mine) (l child : Owner) → Vains 0 told_did (op.ack_as shape seed r l child)
+  v_ack_as r l child = v_adds 0 told_did _ (op.ack_hashed shape seed r l child) (record {
+    puts = v_ack_put r l child;
+    takes = λ name. v_impossible 0 told_did;
+    none = λ owned held. v_ends 1 told_did (refused (errors.Full owned held)) refl;
+  })
+
+  v_ack_unless : (r l : Mine) (name : ℕ) (b : Bool) → Vains 0 told_did (if b then ends (refused errors.Inval) else op.ack_as shape seed r l.owner (heir_owner l.owner name r.owner))
+  v_ack_unless r l name true = v_refused errors.Inval refl
+  v_ack_unless r l name false = v_ack_as r l.owner (heir_owner l.owner name r.owner)
+
+  v_ack_by : (r : Mine) (o : Option Mine) (name : ℕ) → Vains 0 told_did (op.ack_by shape seed r o name)
+  v_ack_by r None name = v_refused errors.Inval refl
+  v_ack_by r (Some l) name = v_ack_unless r l name (is_no_ack l.owner r.owner)
+
+  v_ack : (s : State) (r : Mine) (o : Option Mine) (name : ℕ) → Vains 0 told_did (op.ack_from shape seed s r o name)
+  v_ack states.Request r o name = v_ack_by r o name
+  v_ack states.Unbound r o name = v_refused errors.Inval refl
+  v_ack states.Bound r o name = v_refused errors.Inval refl
+  v_ack states.Listening r o name = v_refused errors.Inval refl
+  v_ack states.Full r o name = v_refused errors.Inval refl
+  v_ack states.TimeWait r o name = v_refused errors.Inval refl
 
   v_close_put : (m w : Mine) (slot : ℕ) (old : Option Hashed) → Vains 0 told_closed (op.close_hashed shape seed m w (put slot old))
   v_close_put m w slot None = v_unhashes 0 told_closed m.place _ (asks (owner_key m.owner) (requests.ToTimeWait m.owner.name) (op.when_done (ends (waiting (op.waits_in shape seed w slot)))))
@@ -267,6 +310,7 @@ module _ (shape : Shape) (seed : ℕ) where
   v_close states.Bound m moment = v_drop_as 0 told_closed states.Bound m gone refl
   v_close states.Listening m moment = v_drop_as 0 told_closed states.Listening m gone refl
   v_close states.TimeWait m moment = v_drop_as 0 told_closed states.TimeWait m gone refl
+  v_close states.Request m moment = v_drop_as 0 told_closed states.Request m gone refl
 
 v_reaped : (w : Mine) (count : ℕ) (next : ℕ → Asking ℕ) (b : Bool) → ((n : ℕ) → Vains 0 told_count (next n)) → Vains 0 told_count (op.reaped_next w count next b)
 v_reaped w count next true h = v_asks 0 told_count (owner_key w.owner) _ (λ answer. next (count + 1)) (λ answer. h (count + 1))
@@ -330,6 +374,18 @@ same_accept own (refused errors.GroupsFull) = refl
 same_accept own (refused (errors.Full o h)) = refl
 same_accept own (refused errors.Memory) = refl
 
+same_ack : (own : Own) (name : ℕ) (d : Did) → told_did d ≡ told_reply (command.ack_reply own name d)
+same_ack own name (done m) = refl
+same_ack own name (refused (errors.InUse n)) = refl
+same_ack own name (refused errors.NoPort) = refl
+same_ack own name (refused (errors.Taken n)) = refl
+same_ack own name (refused errors.Inval) = refl
+same_ack own name (refused errors.IsConn) = refl
+same_ack own name (refused errors.GroupFull) = refl
+same_ack own name (refused errors.GroupsFull) = refl
+same_ack own name (refused (errors.Full o h)) = refl
+same_ack own name (refused errors.Memory) = refl
+
 same_close : (own : Own) (name : ℕ) (c : Closed) → told_closed c ≡ told_reply (command.close_reply own name c)
 same_close own name gone = refl
 same_close own name (waiting w) = refl
@@ -363,6 +419,14 @@ module _ (header : Header) where
   v_accept_command own name None from at = v_none own
   v_accept_command own name (Some l) from at = v_then told_did _ _ (v_accept_by header.shape header.seed l name from at (is_no_accept l.owner from at)) (same_accept _)
 
+  v_syn_command : (own : Own) (name : ℕ) (o : Option Mine) (from at : End) → Vains 0 told_reply (command.syn_command header own name o from at)
+  v_syn_command own name None from at = v_none own
+  v_syn_command own name (Some l) from at = v_then told_did _ _ (v_syn_by header.shape header.seed l name from at (is_no_accept l.owner from at)) (same_accept _)
+
+  v_ack_command : (own : Own) (name : ℕ) (o : Option Mine) → Vains 0 told_reply (command.ack_command header own name o)
+  v_ack_command own name None = v_none own
+  v_ack_command own name (Some r) = v_then told_did _ _ (v_ack header.shape header.seed r.owner.state r (open_named own r.owner.origin) name) (same_ack own r.owner.name)
+
   v_close_command : (own : Own) (o : Option Mine) → Vains 0 told_reply (command.close_command header own o)
   v_close_command own None = v_none own
   v_close_command own (Some m) = v_then told_closed _ _ (v_close header.shape header.seed m.owner.state m own.moment) (same_close own m.owner.name)
@@ -374,6 +438,8 @@ module _ (header : Header) where
   v_plan own (commands.Listen label) = v_listen_command own _
   v_plan own (commands.Connect label from to) = v_connect_command own _ from to
   v_plan own (commands.Accept listener label from at) = v_accept_command _ _ _ from at
+  v_plan own (commands.Syn listener label from at) = v_syn_command _ _ _ from at
+  v_plan own (commands.Ack request label) = v_ack_command (with_label own label) (next_name own) (open_socket own request)
   v_plan own (commands.Close label) = v_close_command own _
   v_plan own (commands.Drop label) = v_drop_command own _
   v_plan own (commands.At moment) = v_at own moment (nat_lt moment own.moment)

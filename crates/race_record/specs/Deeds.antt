@@ -10,7 +10,7 @@ use Rattle.bind_buckets.specs.declared.request.Entry.{Entry}
 use Rattle.chain_book.specs.declared.book.Change.{Change}
 use Rattle.chain_book.specs.declared.outcome.Replace.{Replace}
 
--- a full card is to be hashed at that moment; a TIME_WAIT of its four-tuple may be replaced by that rule
+-- a full card or a request is to be hashed at that moment; a TIME_WAIT of its four-tuple may be replaced by that rule
 pub record Wish : Type 0 where
   pub card : Card
   pub moment : ℕ
@@ -24,7 +24,7 @@ pub data Tried : Type 0 where
 
 pub data Deed : Type 0 where
   entered : ℕ → Note Entry → Deed  -- a call on the bind bucket of that key, as its journal has it
-  inserted : Wish → Tried → Deed  -- a full card, or the try
+  inserted : Wish → Tried → Deed  -- a full card or a request, or the try
   added : Card → Tried → Deed  -- a card that no four-tuple keeps out, or the try
   left : Change → Deed  -- an unhash
   reaped : Card → Option Change → Deed  -- the unhash of a TIME_WAIT, unless somebody was before it

@@ -1,4 +1,4 @@
--- Worked records: one listener by itself, the same with a dump, and two sections beside each other.
+-- Worked records: one listener by itself, the same with a dump, two sections beside each other, and a handshake.
 use Rattle.std.specs.Prelude.{ℕ, false, true, List, [], ◌∷◌, None, Some}
 use Rattle.sock_card.specs.declared.owner.Owner.{Owner}
 use Rattle.sock_card.specs.declared.card.Card.{Card}
@@ -24,10 +24,11 @@ use Rattle.flat_list.specs.declared.command.Command.{Command}
 use Rattle.flat_list.specs.declared.command.Command.TheVariants as commands
 use Rattle.flat_list.specs.declared.command.Reply.{Reply}
 use Rattle.flat_list.specs.declared.command.Reply.TheVariants as replies
-use Rattle.flat_list.specs.Owned.{new_owner, bound_at, child_owner, card_as}
-use Rattle.flat_list.specs.Rows.{with_slots, plain, a, b, d, e, any, one, two, socket, accept}
+use Rattle.flat_list.specs.Owned.{new_owner, bound_at, child_owner, request_owner, card_as}
+use Rattle.flat_list.specs.Rows.{with_slots, plain, a, b, d, e, r, any, one, two, socket, accept, syn}
 use Rattle.flat_list.specs.Script.{Script}
 use Rattle.flat_list.specs.Sections.{name_at}
+use Rattle.race_record.specs.declared.record.Looked.{Looked}
 use Rattle.race_record.specs.declared.record.Looked.TheVariants as looks
 use Rattle.race_record.specs.Deeds.{Wish, hashed, Deed, entered, inserted, added, left, reaped}
 use Rattle.race_record.specs.Record.{Race, Step}
@@ -233,8 +234,9 @@ inherit_d = note 8 1 (requests.Inherit (name_at 1 0) (name_at 1 2) 0x0A000001 0x
 abbrev pub gone_b : Note Entry
 gone_b = note 9 1 (requests.RemoveWaiting (name_at 1 1)) answers.Done
 
-abbrev pub accepted : Card → Wish
-accepted card = record { card = card; moment = 0; rule = rules.Always }
+-- a newcomer to a listener, as `accept` and `syn` hash it
+abbrev pub newcomer : Card → Wish
+newcomer card = record { card = card; moment = 0; rule = rules.Always }
 
 abbrev pub receipt : Packet → PacketAnswer → ℕ → ℕ → Receipt
 receipt packet answer t0 t1 = record { packet = packet; seed = 0; answer = answer; t0 = t0; t1 = t1 }
@@ -252,11 +254,11 @@ second_race =
           ∷ step (commands.Listen a) (replies.Port 80)
           (entered 80 may_a ∷ added card_a (hashed hash_a None) ∷ entered 80 listen_a ∷ []) 0 2
           ∷ step (accept a b) replies.Ok
-          (inserted (accepted card_b) (hashed hash_b None) ∷ entered 80 inherit_b ∷ []) 2 6
+          (inserted (newcomer card_b) (hashed hash_b None) ∷ entered 80 inherit_b ∷ []) 2 6
           ∷ step (commands.Close b) replies.TimeWait
           (added card_w (hashed hash_w None) ∷ left unhash_b ∷ entered 80 waits_b ∷ []) 5 10
           ∷ step (accept a d) replies.Ok
-          (inserted (accepted card_d) (hashed hash_d (Some unhash_w)) ∷ entered 80 inherit_d ∷ entered 80 gone_b ∷ []) 10 14
+          (inserted (newcomer card_d) (hashed hash_d (Some unhash_w)) ∷ entered 80 inherit_d ∷ entered 80 gone_b ∷ []) 10 14
           ∷ step (commands.At 60) replies.Ok [] 14 14
           ∷ step commands.Reap (replies.Count 0) (reaped card_w None ∷ []) 14 14
           ∷ [])
@@ -279,4 +281,72 @@ second_race =
       counts = 1;
       sightings = [];
       clock = 14;
+    }
+
+-- A handshake with the listener of section 1, by itself: the request is hashed, then the child, and then the request is
+-- unhashed. Of two packets of its four-tuple one comes before that and finds the request, the other comes after the child
+-- was hashed and finds that.
+abbrev pub handshake_script : Script
+handshake_script =
+    record {
+      header = with_slots 4;
+      sections =
+          (socket a ∷ commands.Bind a (one 80) ∷ commands.Listen a ∷ syn a r ∷ commands.Ack r d ∷ []) ∷ [];
+      capture = None;
+    }
+
+abbrev pub handshake_capture : Capture
+handshake_capture =
+    record { items = items.Packet (packet 0x0A000001 80) ∷ items.Packet (packet 0x0A000001 80) ∷ []; cut = false }
+
+abbrev pub card_r : Card
+card_r = card_as kinds.Request (request_owner (as_listener owner_a) (name_at 1 1) (two 1000) (one 80)) 0
+
+abbrev pub hash_r : Change
+hash_r = change 0 1 card_r acts.Hash 2 3
+
+abbrev pub hash_child : Change
+hash_child = change 0 2 card_d acts.Hash 4 5
+
+abbrev pub unhash_r : Change
+unhash_r = change 0 1 card_r acts.Unhash 6 7
+
+abbrev pub inherit_child : Note Entry
+inherit_child = note 3 1 (requests.Inherit (name_at 1 0) (name_at 1 2) 0x0A000001 0x0A000002 1000) answers.Done
+
+-- the steps of the handshake, where `ack` did that
+abbrev pub acknowledged_by : List Deed → List (List Step)
+acknowledged_by deeds =
+    (step (socket a) replies.Ok [] 0 0
+    ∷ step (commands.Bind a (one 80)) (replies.Port 80) (entered 80 first_bind ∷ []) 0 0
+    ∷ step (commands.Listen a) (replies.Port 80)
+    (entered 80 first_may ∷ added card_a (hashed hash_a None) ∷ entered 80 first_listen ∷ []) 0 2
+    ∷ step (syn a r) replies.Ok (inserted (newcomer card_r) (hashed hash_r None) ∷ []) 2 4
+    ∷ step (commands.Ack r d) replies.Ok deeds 4 8
+    ∷ [])
+    ∷ []
+
+-- what the two packets found
+abbrev pub found_by_two : PacketAnswer → PacketAnswer → List Looked
+found_by_two first second =
+    looks.Answered (receipt (packet 0x0A000001 80) first 4 6)
+    ∷ looks.Answered (receipt (packet 0x0A000001 80) second 6 8)
+    ∷ []
+
+abbrev pub handshake_race : Race
+handshake_race =
+    record {
+      lookers = 1;
+      passes = 1;
+      shape = record { slots = 4; bind = 1; hash = 1; listen = 1 };
+      seed = 0;
+      sections = acknowledged_by (added card_d (hashed hash_child None) ∷ left unhash_r ∷ entered 80 inherit_child ∷ []);
+      journals = (first_bind ∷ first_may ∷ first_listen ∷ inherit_child ∷ []) ∷ [];
+      book = hash_a ∷ hash_r ∷ hash_child ∷ unhash_r ∷ [];
+      looked = found_by_two (found.Found card_r) (found.Found card_d);
+      shares = (0 ∷ 1 ∷ []) ∷ [];
+      cut = false;
+      counts = 0;
+      sightings = [];
+      clock = 8;
     }

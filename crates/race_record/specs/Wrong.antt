@@ -1,5 +1,5 @@
 -- Records that aren't lawful, each but for one thing like one that is.
-use Rattle.std.specs.Prelude.{ℕ, [], ◌∷◌, ◌++◌, false, None}
+use Rattle.std.specs.Prelude.{ℕ, List, [], ◌∷◌, ◌++◌, false, None}
 use Rattle.capture_reader.specs.declared.packet.Item.TheVariants as items
 use Rattle.capture_reader.specs.Captures.{Capture}
 use Rattle.bind_buckets.specs.declared.request.Entry.{Entry}
@@ -18,10 +18,10 @@ use Rattle.flat_list.specs.Script.{Script}
 use Rattle.flat_list.specs.Sections.{name_at}
 use Rattle.race_record.specs.declared.record.Looked.{Looked}
 use Rattle.race_record.specs.declared.record.Looked.TheVariants as looks
-use Rattle.race_record.specs.Deeds.{hashed, entered, inserted, added, left}
+use Rattle.race_record.specs.Deeds.{Deed, hashed, entered, inserted, added, left}
 use Rattle.race_record.specs.Record.{Race}
 use Rattle.race_record.specs.Lawful.{Lawful}
-use Rattle.race_record.specs.Worked.{note, change, step, and_then, listing, packet, receipt, first_script, dump_script, no_capture, first_race, first_bind, first_may, first_listen, owner_a, card_a, hash_a, owner_e, card_e}
+use Rattle.race_record.specs.Worked.{note, change, step, and_then, listing, packet, receipt, first_script, dump_script, no_capture, first_race, first_bind, first_may, first_listen, owner_a, card_a, hash_a, card_d, owner_e, card_e, handshake_script, handshake_capture, handshake_race, card_r, hash_r, inherit_child, acknowledged_by, found_by_two}
 use Rattle.race_record.specs.Refused as refused
 
 -- a number of the clock that belongs to nothing
@@ -219,3 +219,32 @@ ListsNothing = ¬ (Lawful dump_script no_capture (record first_race { sections =
 -- one that claims to have listed from before its command began
 abbrev pub ListsBefore : Type 0
 ListsBefore = ¬ (Lawful dump_script no_capture (record first_race { sections = and_then (listing (card_a ∷ []) 1 2) }))
+
+-- a handshake whose request was unhashed before the child was hashed, where `ack` did that
+abbrev pub unhash_early : Change
+unhash_early = change 0 1 card_r acts.Unhash 4 5
+
+abbrev pub hash_late : Change
+hash_late = change 0 2 card_d acts.Hash 6 7
+
+abbrev pub early_race : List Deed → Race
+early_race deeds =
+    record handshake_race { sections = acknowledged_by deeds; book = hash_a ∷ hash_r ∷ unhash_early ∷ hash_late ∷ [] }
+
+-- one that is told in the order of the numbers
+abbrev pub UnhashedFirst : Type 0
+UnhashedFirst =
+    ¬ (Lawful handshake_script handshake_capture
+    (early_race (left unhash_early ∷ added card_d (hashed hash_late None) ∷ entered 80 inherit_child ∷ [])))
+
+-- one that is told as if the child had been hashed first
+abbrev pub NumberedFirst : Type 0
+NumberedFirst =
+    ¬ (Lawful handshake_script handshake_capture
+    (early_race (added card_d (hashed hash_late None) ∷ left unhash_early ∷ entered 80 inherit_child ∷ [])))
+
+-- a packet that found the listener while a request of its four-tuple stood
+abbrev pub FoundListener : Type 0
+FoundListener =
+    ¬ (Lawful handshake_script handshake_capture
+    (record handshake_race { looked = found_by_two (found.Found card_a) (found.Found card_d) }))

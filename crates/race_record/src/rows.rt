@@ -2,7 +2,7 @@
 
 ghost use Rattle.race_record.specs.Lawful.{Lawful};
 ghost use Rattle.race_record.specs.Refused.{refused_capture, refused_race, refused_script};
-ghost use Rattle.race_record.specs.Worked.{dump_race, dump_script, first_race, first_script, no_capture, second_capture, second_race, second_script};
+ghost use Rattle.race_record.specs.Worked.{dump_race, dump_script, first_race, first_script, handshake_capture, handshake_race, handshake_script, no_capture, second_capture, second_race, second_script};
 ghost use Rattle.race_record.specs.Wrong as wrong;
 
 /// The record of one listener by itself is lawful.
@@ -21,6 +21,12 @@ pub fn two_sections()
     ensures { Lawful second_script second_capture second_race }
 {}
 
+/// So is that of a handshake: the child is hashed before its request is unhashed, so that each packet of the four-tuple
+/// finds the one or the other.
+pub fn one_handshake()
+    ensures { Lawful handshake_script handshake_capture handshake_race }
+{}
+
 /// So is one of refusals: a four-tuple that another section has; a slot while the last one is held by a lookup; and
 /// lookups that never were answered.
 pub fn refusals()
@@ -29,7 +35,8 @@ pub fn refusals()
 
 /// Records that aren't lawful: in which a number of the clock belongs to nothing, or to two changes; a change is left out
 /// of the book; a `bind` enters its owner twice, and so is refused; two full sockets have one four-tuple; a card is taken
-/// out that is another's; a step begins with less than its worker has seen.
+/// out that is another's; a step begins with less than its worker has seen; a request is unhashed before its child is
+/// hashed, whether it is told so or as if it hadn't been.
 pub fn wrong_races()
     ensures number { wrong.NumberTooMany }
     ensures stamp { wrong.StampTwice }
@@ -38,16 +45,19 @@ pub fn wrong_races()
     ensures twins { wrong.Twins }
     ensures card { wrong.AnothersCard }
     ensures step { wrong.BeganBefore }
+    ensures unhash { wrong.UnhashedFirst }
+    ensures hash { wrong.NumberedFirst }
 {}
 
 /// So are those in which a packet finds nothing while a listener stands; or finds nothing as if it had been looked up
 /// before the listener came, by a looker that had found it already; or is given up for a change that never was, or in a
-/// bucket that isn't the packet's.
+/// bucket that isn't the packet's; or finds the listener while a request of its four-tuple stands.
 pub fn wrong_lookups()
     ensures nothing { wrong.FoundNothing }
     ensures start { wrong.FromTheStart }
     ensures cause { wrong.CauseNeverWas }
     ensures bucket { wrong.AnotherBucket }
+    ensures listener { wrong.FoundListener }
 {}
 
 /// So are those in which a dump lists nothing while a listener stands, or claims to have begun before its command did.

@@ -55,6 +55,24 @@ second_text =
     ++ codes "cut\n"
     ++ codes "clock 14\n"
 
+-- a handshake
+abbrev pub handshake_text : List ℕ
+handshake_text =
+    codes "race lookers 1 passes 1\n"
+    ++ codes "shape 4 1 1 1 seed 0\n"
+    ++ codes "1 socket a ok\n"
+    ++ codes "1 bind a ok 80\n"
+    ++ codes "1 listen a ok 80\n"
+    ++ codes "1 syn r ok\n"
+    ++ codes "1 ack d ok\n"
+    ++ codes "journal 0 4\n"
+    ++ codes "life 1 0 listen 1.a 10.0.0.1:80 0.0.0.0:0 dev 0 hash 0 1 unhash -\n"
+    ++ codes "life 0 1 request 1.r 10.0.0.1:80 10.0.0.2:1000 dev 0 hash 2 3 unhash 6 7\n"
+    ++ codes "life 0 2 full 1.d 10.0.0.1:80 10.0.0.2:1000 dev 0 hash 4 5 unhash -\n"
+    ++ codes "packet 1 request 1.r t0 4 t1 6 from 10.0.0.2:1000 to 10.0.0.1:80 dev 0\n"
+    ++ codes "packet 2 full 1.d t0 6 t1 8 from 10.0.0.2:1000 to 10.0.0.1:80 dev 0\n"
+    ++ codes "clock 8\n"
+
 -- refusals
 abbrev pub refused_text : List ℕ
 refused_text =

@@ -26,6 +26,7 @@ full_is : (k : Kind) → is_full_kind k ≡ true → k ≡ kinds.Full
 full_is kinds.Full e = refl
 full_is kinds.TimeWait e = absurd (true≢false (sym e))
 full_is kinds.Listen e = absurd (true≢false (sym e))
+full_is kinds.Request e = absurd (true≢false (sym e))
 
 -- full cards of one four-tuple have one home
 pub one_home : (shape : Shape) (seed : ℕ) (a b : Card) → is_full_kind a.kind ≡ true → is_full_kind b.kind ≡ true → same_cards a b ≡ true → home shape seed a ≡ home shape seed b

@@ -25,11 +25,11 @@ use Rattle.flat_list.specs.declared.header.Header.{Header}
 use Rattle.flat_list.specs.declared.command.End.{End}
 use Rattle.flat_list.specs.declared.command.Reply.TheVariants as replies
 use Rattle.flat_list.specs.declared.owned.Options.{Options}
-use Rattle.flat_list.specs.Owned.{addressed, bound_at, is_no_accept, connected_at, connected_to, child_owner, new_owner}
+use Rattle.flat_list.specs.Owned.{addressed, bound_at, is_no_accept, is_no_ack, connected_at, connected_to, child_owner, request_owner, heir_owner, new_owner}
 use Rattle.table_model.specs.declared.operation.OpEnd.{OpEnd}
 use Rattle.table_model.specs.declared.operation.OpEnd.TheVariants as errors
 use Rattle.table_model.specs.Asking.{Asking, ends, asks, inserts, adds, unhashes, impossible, and_then}
-use Rattle.table_model.specs.Own.{Own, Mine, is_named, card_of, next_name, with_label, with_new, with_wait, with_socket, without}
+use Rattle.table_model.specs.Own.{Own, Mine, is_named, card_of, next_name, open_named, with_label, with_new, with_wait, with_socket, without}
 use Rattle.table_model.specs.Means.{name_in}
 use Rattle.table_model.specs.Operations as op
 use Rattle.table_model.specs.Operations.{Did, done, refused, Closed, gone, waiting, no_slot as closed_without}
@@ -100,6 +100,9 @@ IsCalm kind = kind ≡ kinds.TimeWait → ⊥
 
 calm_full : IsCalm kinds.Full
 calm_full e = true≢false (sym (ap is_time_wait_kind e))
+
+calm_request : IsCalm kinds.Request
+calm_request e = true≢false (sym (ap is_time_wait_kind e))
 
 calm_listen : IsCalm kinds.Listen
 calm_listen e = true≢false (sym (ap is_time_wait_kind e))
@@ -181,6 +184,7 @@ module _ {R : Type 0} (Q : R → Type 0) where
   c_drop_as states.Bound m x q = c_leave m.owner x q
   c_drop_as states.Listening m x q = c_unhashes m.place _ (op.leave m.owner x) (c_leave m.owner x q)
   c_drop_as states.Full m x q = c_unhashes m.place _ (op.leave m.owner x) (c_leave m.owner x q)
+  c_drop_as states.Request m x q = c_unhashes m.place _ (ends x) (c_ends x q)
   c_drop_as states.TimeWait m x q = c_impossible
 
   c_replaced : (old : Option Hashed) (next : Asking R) → Calms Q next → Calms Q (op.then_replaced old next)
@@ -222,6 +226,7 @@ any_bind states.Bound m end ports = any_end _
 any_bind states.Listening m end ports = any_end _
 any_bind states.Full m end ports = any_end _
 any_bind states.TimeWait m end ports = any_end _
+any_bind states.Request m end ports = any_end _
 
 -- the socket that it leaves has that name
 abbrev NamedBy : ℕ → Did → Type 0
@@ -256,6 +261,7 @@ module _ (shape : Shape) (seed : ℕ) where
   any_listen states.Listening m ports = any_end _
   any_listen states.Full m ports = any_end _
   any_listen states.TimeWait m ports = any_end _
+  any_listen states.Request m ports = any_end _
 
   full_then : (Q : Did → Type 0) (port : ℕ) (request : Request) (a : Owner) (slot : ℕ) (old : Option Hashed) → Q (done (op.full_in shape seed a slot)) → Calms Q (asks port request (op.when_done (op.full_done shape seed a slot old)))
   full_then Q port request a slot old q =
@@ -298,6 +304,7 @@ module _ (shape : Shape) (seed : ℕ) where
   any_connect states.Listening a source to moment rule ports = any_end _
   any_connect states.Full a source to moment rule ports = any_end _
   any_connect states.TimeWait a source to moment rule ports = any_end _
+  any_connect states.Request a source to moment rule ports = any_end _
 
   named_accept_hashed : (l child : Owner) (o : Outcome) → Calms (NamedBy child.name) (op.accept_hashed shape seed l child o)
   named_accept_hashed l child (put slot old) = full_then (NamedBy child.name) (owner_key l) _ child slot old refl
@@ -309,6 +316,45 @@ module _ (shape : Shape) (seed : ℕ) where
   named_accept_by l name from at false =
       let child : Owner = child_owner l.owner name from at in
       c_inserts (NamedBy name) (op.full_card child) 0 _ (op.accept_hashed shape seed l.owner child) calm_full (named_accept_hashed l.owner child)
+
+  named_syn_hashed : (r : Owner) (o : Outcome) → Calms (NamedBy r.name) (op.syn_hashed shape seed r o)
+  named_syn_hashed r (put slot old) = c_replaced (NamedBy r.name) old _ (c_ends (NamedBy r.name) _ refl)
+  named_syn_hashed r (taken name) = c_ends (NamedBy r.name) _ tt
+  named_syn_hashed r (full owned held) = c_ends (NamedBy r.name) _ tt
+
+  named_syn_by : (l : Mine) (name : ℕ) (from at : End) (b : Bool) → Calms (NamedBy name) (if b then ends (refused errors.Inval) else op.syn_as shape seed (request_owner l.owner name from at))
+  named_syn_by l name from at true = c_ends (NamedBy name) _ tt
+  named_syn_by l name from at false =
+      let r : Owner = request_owner l.owner name from at in
+      c_inserts (NamedBy name) (op.request_card r) 0 _ (op.syn_hashed shape seed r) calm_request (named_syn_hashed r)
+
+  named_ack_hashed : (r : Mine) (l child : Owner) (o : Outcome) → Calms (NamedBy child.name) (op.ack_hashed shape seed r l child o)
+  named_ack_hashed r l child (put slot None) =
+      let request : Request = requests.Inherit l.name child.name child.addr child.remote child.rport in
+      let last : Answer → Asking Did = op.when_done (ends (done (op.full_in shape seed child slot))) in
+      c_unhashes (NamedBy child.name) r.place (card_of kinds.Request r) (asks (owner_key l) request last)
+      (c_asks (NamedBy child.name) (owner_key l) request last (λ answer. c_done (NamedBy child.name) (ends (done (op.full_in shape seed child slot))) answer (c_ends (NamedBy child.name) _ refl)))
+  named_ack_hashed r l child (put slot (Some old)) = c_impossible (NamedBy child.name)
+  named_ack_hashed r l child (taken name) = c_impossible (NamedBy child.name)
+  named_ack_hashed r l child (full owned held) = c_ends (NamedBy child.name) _ tt
+
+  named_ack_if : (r l : Mine) (name : ℕ) (b : Bool) → Calms (NamedBy name) (if b then ends (refused errors.Inval) else op.ack_as shape seed r l.owner (heir_owner l.owner name r.owner))
+  named_ack_if r l name true = c_ends (NamedBy name) _ tt
+  named_ack_if r l name false =
+      let child : Owner = heir_owner l.owner name r.owner in
+      c_adds (NamedBy name) (op.full_card child) (op.ack_hashed shape seed r l.owner child) calm_full (named_ack_hashed r l.owner child)
+
+  named_ack_by : (r : Mine) (l : Option Mine) (name : ℕ) → Calms (NamedBy name) (op.ack_by shape seed r l name)
+  named_ack_by r None name = c_ends (NamedBy name) _ tt
+  named_ack_by r (Some l) name = named_ack_if r l name (is_no_ack l.owner r.owner)
+
+  named_ack : (s : State) (r : Mine) (l : Option Mine) (name : ℕ) → Calms (NamedBy name) (op.ack_from shape seed s r l name)
+  named_ack states.Request r l name = named_ack_by r l name
+  named_ack states.Unbound r l name = c_ends (NamedBy name) _ tt
+  named_ack states.Bound r l name = c_ends (NamedBy name) _ tt
+  named_ack states.Listening r l name = c_ends (NamedBy name) _ tt
+  named_ack states.Full r l name = c_ends (NamedBy name) _ tt
+  named_ack states.TimeWait r l name = c_ends (NamedBy name) _ tt
 
 -- What a command leaves of the section's own
 
@@ -390,6 +436,20 @@ with_its_socket own label m is = record {
   waits = refl;
 }
 
+-- and its socket, with one of the others gone
+handed_over : (own : Own) (label : List ℕ) (name : ℕ) (m : Mine) → m.owner.name ≡ next_name own → Calm own (with_new (without (with_label own label) name) m)
+handed_over own label name m is = record {
+  grows = record {
+    number = refl;
+    moment = omega arith;
+    least = omega (arith, length-append own.labels (label ∷ []));
+    most = omega (arith, length-append own.labels (label ∷ []));
+    names = λ n h. ⊎_elim (λ a. inl (names_left (λ x. not (is_named name x)) own.sockets n a)) (λ e. inr (e ∙ is, omega (arith, length-append own.labels (label ∷ []))))
+        (names_push (filter (λ x. not (is_named name x)) own.sockets) m n h);
+  };
+  waits = refl;
+}
+
 -- an operation, and what is made of its result
 then_by : {R : Type 0} (Q : R → Type 0) (own : Own) (reply : R → Replied) → ((x : R) → Q x → CalmBy own (reply x)) → (deeds : List Deed) (r : Replied) (first rest : List Deed) (x : R)
     → deeds ≡ first ++ rest → Each IsNoWait (changes_in first) × Q x → Goes (ends (reply x)) rest r → Each IsNoWait (changes_in deeds) × CalmBy own r
@@ -413,6 +473,10 @@ calm_connect own next h (refused end) = h
 calm_accept : (own : Own) (label : List ℕ) (d : Did) → NamedBy (next_name own) d → CalmBy own (command.accept_reply (with_label own label) d)
 calm_accept own label (done m) h = with_its_socket own label m h
 calm_accept own label (refused end) h = labelled own label
+
+calm_ack : (own : Own) (label : List ℕ) (name : ℕ) (d : Did) → NamedBy (next_name own) d → CalmBy own (command.ack_reply (with_label own label) name d)
+calm_ack own label name (done m) h = handed_over own label name m h
+calm_ack own label name (refused end) h = labelled own label
 
 pub c_none : (own next : Own) → Calm own next → Calms (CalmBy own) (command.replies_at_once next replies.Ebadf)
 c_none own next h = c_ends (CalmBy own) (answers next replies.Ebadf) h
@@ -449,3 +513,12 @@ module _ (header : Header) where
   pub c_accept_command : (own : Own) (label : List ℕ) (o : Option Mine) (from at : End) → Calms (CalmBy own) (command.accept_command header (with_label own label) (next_name own) o from at)
   c_accept_command own label None from at = c_none own (with_label own label) (labelled own label)
   c_accept_command own label (Some l) from at = c_then (NamedBy (next_name own)) own _ _ (named_accept_by header.shape header.seed l (next_name own) from at (is_no_accept l.owner from at)) (calm_accept own label)
+
+  pub c_syn_command : (own : Own) (label : List ℕ) (o : Option Mine) (from at : End) → Calms (CalmBy own) (command.syn_command header (with_label own label) (next_name own) o from at)
+  c_syn_command own label None from at = c_none own (with_label own label) (labelled own label)
+  c_syn_command own label (Some l) from at = c_then (NamedBy (next_name own)) own _ _ (named_syn_by header.shape header.seed l (next_name own) from at (is_no_accept l.owner from at)) (calm_accept own label)
+
+  pub c_ack_command : (own : Own) (label : List ℕ) (o : Option Mine) → Calms (CalmBy own) (command.ack_command header (with_label own label) (next_name own) o)
+  c_ack_command own label None = c_none own (with_label own label) (labelled own label)
+  c_ack_command own label (Some r) =
+      c_then (NamedBy (next_name own)) own _ _ (named_ack header.shape header.seed r.owner.state r (open_named (with_label own label) r.owner.origin) (next_name own)) (calm_ack own label r.owner.name)

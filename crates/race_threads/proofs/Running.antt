@@ -63,6 +63,7 @@ module _ (t : Tables) (c d : Side) (layout : d.layout ≡ c.layout) (book : d.vi
   stands_sees states.Bound m v s = s
   stands_sees states.Listening m v s = (s.0, hashed_sees _ m s.1)
   stands_sees states.Full m v s = (s.0, hashed_sees _ m s.1)
+  stands_sees states.Request m v s = hashed_sees _ m s
   stands_sees states.TimeWait m v s = s
 
   open_sees : (r : Roll) (v : BindView) (m : Mine) → IsOpen t r v c m → IsOpen t r v d m

@@ -229,6 +229,7 @@ module _ (header : Header) (own : Own) (m : Mine) where
   close_turn states.Unbound deeds next reply was g = calm_turn own next false deeds refl (Plans.c_then is_gone own (op.drop_as states.Unbound m gone) (command.close_reply own name) (Plans.c_drop_as is_gone states.Unbound m gone refl) gone_own deeds (answers next reply) g)
   close_turn states.Bound deeds next reply was g = calm_turn own next false deeds refl (Plans.c_then is_gone own (op.drop_as states.Bound m gone) (command.close_reply own name) (Plans.c_drop_as is_gone states.Bound m gone refl) gone_own deeds (answers next reply) g)
   close_turn states.Listening deeds next reply was g = calm_turn own next false deeds refl (Plans.c_then is_gone own (op.drop_as states.Listening m gone) (command.close_reply own name) (Plans.c_drop_as is_gone states.Listening m gone refl) gone_own deeds (answers next reply) g)
+  close_turn states.Request deeds next reply was g = calm_turn own next false deeds refl (Plans.c_then is_gone own (op.drop_as states.Request m gone) (command.close_reply own name) (Plans.c_drop_as is_gone states.Request m gone refl) gone_own deeds (answers next reply) g)
   close_turn states.TimeWait deeds next reply was g = calm_turn own next false deeds refl (Plans.c_then is_gone own (op.drop_as states.TimeWait m gone) (command.close_reply own name) (Plans.c_drop_as is_gone states.TimeWait m gone refl) gone_own deeds (answers next reply) g)
 
 -- what a label names is open
@@ -257,6 +258,8 @@ module _ (header : Header) (own next : Own) (deeds : List Deed) (reply : Reply) 
   turn (commands.Listen label) g = calmly _ (Plans.c_listen_command header own _) g
   turn (commands.Connect label from to) g = calmly _ (Plans.c_connect_command header own _ from to) g
   turn (commands.Accept listener label from at) g = calmly _ (Plans.c_accept_command header own label _ from at) g
+  turn (commands.Syn listener label from at) g = calmly _ (Plans.c_syn_command header own label _ from at) g
+  turn (commands.Ack request label) g = calmly _ (Plans.c_ack_command header own label _) g
   turn (commands.Close label) g = closing (open_socket own label) (λ m. found_open own.sockets (name_of own label) m) g
   turn (commands.Drop label) g = calmly _ (Plans.c_drop_command own _) g
   turn (commands.At moment) g = calmly _ (Plans.c_at own moment (nat_lt moment own.moment) refl) g

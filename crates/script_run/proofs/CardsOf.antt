@@ -62,6 +62,7 @@ not_listening : (st : State) (k : Kind) → kind_of st ≡ Some k → k ≢ kind
 not_listening states.Listening k h differs = absurd (differs (sym (some_same kinds.Listen k h)))
 not_listening states.Full k h differs = refl
 not_listening states.TimeWait k h differs = refl
+not_listening states.Request k h differs = refl
 not_listening states.Bound k h differs = refl
 not_listening states.Unbound k h differs = refl
 
@@ -187,6 +188,9 @@ module _ (flat : Flat) (sound : IsSound flat) where
     none_by c o kinds.TimeWait e h =
         ap (λ (n : ℕ). group_of n flat.groups) (sym o.says.name)
         ∙ no_share o.socket o.within (not_listening o.socket.owner.state c.kind o.says.kind (λ q. let no : kinds.TimeWait ≡ kinds.Listen = sym e ∙ q in absurd (cc)))
+    none_by c o kinds.Request e h =
+        ap (λ (n : ℕ). group_of n flat.groups) (sym o.says.name)
+        ∙ no_share o.socket o.within (not_listening o.socket.owner.state c.kind o.says.kind (λ q. let no : kinds.Request ≡ kinds.Listen = sym e ∙ q in absurd (cc)))
 
     -- a card that tells no group is in none
     pub no_group : (c : Card) → In c cards → group_in c count ≡ None → NoGroup flat.groups c.name
@@ -198,6 +202,7 @@ module _ (flat : Flat) (sound : IsSound flat) where
         a_number (group_of c.name flat.groups) c.extra n (tells c o e) some.0 some.1
     some_by c n o kinds.Full e h = absurd (cc)
     some_by c n o kinds.TimeWait e h = absurd (cc)
+    some_by c n o kinds.Request e h = absurd (cc)
 
     -- a card that tells a group is in that of this number
     pub some_group : (c : Card) (n : ℕ) → In c cards → group_in c count ≡ Some n → HasNumber (group_of c.name flat.groups) n

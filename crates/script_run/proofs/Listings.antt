@@ -55,6 +55,7 @@ few_kinds : (k : Kind) → number_of k < 8
 few_kinds kinds.Full = omega arith
 few_kinds kinds.TimeWait = omega arith
 few_kinds kinds.Listen = omega arith
+few_kinds kinds.Request = omega arith
 
 differ : (a b : Card) → a.name ≢ b.name → order_of a ≢ order_of b
 differ a b names same = names (omega (arith, same, few_kinds a.kind, few_kinds b.kind))

@@ -104,6 +104,7 @@ listening_kind : (st : State) (k : Kind) → is_listening st ≡ true → kind_o
 listening_kind states.Listening k h e = sym (some_same kinds.Listen k e)
 listening_kind states.Full k h e = absurd (cc)
 listening_kind states.TimeWait k h e = absurd (cc)
+listening_kind states.Request k h e = absurd (cc)
 listening_kind states.Bound k h e = absurd (cc)
 listening_kind states.Unbound k h e = absurd (cc)
 

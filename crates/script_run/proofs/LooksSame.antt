@@ -85,6 +85,7 @@ no_five true true false false false h = absurd (omega (arith, h))
 five_as : (k : Kind) (c : Card) (packet : Packet) (count : ℕ) → rank_as k c packet ≡ 5 → group_as k c.extra count ≡ None
 five_as kinds.Full c packet count h = refl
 five_as kinds.TimeWait c packet count h = refl
+five_as kinds.Request c packet count h = refl
 five_as kinds.Listen c packet count h =
     absurd (no_five (takes_port c packet) (takes_device c packet) (c.local == packet.dst) (c.dev == 0) (c.local == 0) h)
 
@@ -105,6 +106,7 @@ group_low : (k : Kind) (extra count n : ℕ) → group_as k extra count ≡ Some
 group_low kinds.Listen extra count n h = low_at extra count n (extra == 0) (nat_lt count extra) refl refl h
 group_low kinds.Full extra count n h = absurd (cc)
 group_low kinds.TimeWait extra count n h = absurd (cc)
+group_low kinds.Request extra count n h = absurd (cc)
 
 -- what was picked is at the place to which the hash is scaled
 picked_at : (ms : List ℕ) (hash : ℕ) (c : Choice) → Some c ≡ pick ms hash → (1 ≤ length ms) × (c.member ≡ get_or ms (scale hash (length ms)) 0)

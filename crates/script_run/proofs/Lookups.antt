@@ -58,6 +58,7 @@ module _ (t : Tables) (w u : Worker) (l : Looked t w u) where
   stands_same states.Bound m v s = s
   stands_same states.Listening m v s = (s.0, hashed_same _ m s.1)
   stands_same states.Full m v s = (s.0, hashed_same _ m s.1)
+  stands_same states.Request m v s = hashed_same _ m s
   stands_same states.TimeWait m v s = s
 
   open_same : (r : Roll) (v : BindView) (m : Mine) → IsOpen t r v (chained t w) m → IsOpen t r v (chained t u) m

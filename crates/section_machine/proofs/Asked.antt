@@ -1,5 +1,6 @@
 -- What plans ask, whatever they are answered: about which names, which cards leave their chains, and what is left.
 use Rattle.std.proofs.Common.{◌≡◌, ◌==◌, ◌||◌, ◌∙◌, not, ℕ, Bool, true, false, cond, List, [], ◌∷◌, Option, None, Some, refl, sym, subst}
+use Rattle.std.specs.Option.{option_map_or}
 use Rattle.list_words.specs.Lists.{Each}
 use Rattle.sock_card.specs.Conflict.{bind_key, is_time_wait, is_listening}
 use Rattle.sock_card.specs.declared.card.Card.{Card}
@@ -17,7 +18,7 @@ use Rattle.chain_book.specs.declared.outcome.Replace.{Replace}
 use Rattle.chain_book.specs.declared.shape.Shape.{Shape}
 use Rattle.chain_book.specs.Chains.{Outcome, put, taken, full}
 use Rattle.flat_list.specs.declared.command.End.{End}
-use Rattle.flat_list.specs.Owned.{addressed, bound_at, connected_at, connected_to, is_no_accept, child_owner}
+use Rattle.flat_list.specs.Owned.{addressed, bound_at, connected_at, connected_to, is_no_accept, is_no_ack, child_owner, request_owner, heir_owner, own_end, other_end}
 use Rattle.table_model.specs.declared.operation.OpEnd.{OpEnd}
 use Rattle.table_model.specs.declared.operation.OpEnd.TheVariants as errors
 use Rattle.table_model.specs.Asking.{Asking, ends, asks, inserts, adds, unhashes, reaps, impossible}
@@ -235,6 +236,21 @@ module _ (L : Type 0) (never : L → ⊥) where
     of_search_connect a source to moment rule (port ∷ ports) =
         (tt, of_free (connected_at a source port to) moment rule (plans.search_connect shape seed a source to moment rule ports) refl (of_search_connect a source to moment rule ports))
 
+-- a child of that name, of a listener that is open still
+pub record IsHeir (l : Option Mine) (name : ℕ) (m : Mine) : Type 0 where
+  pub named : m.owner.name ≡ name
+  pub parent : Mine
+  pub still : l ≡ Some parent
+  pub listens : parent.owner.state ≡ states.Listening
+
+abbrev pub HeirBy : Option Mine → ℕ → Did → Type 0
+HeirBy l name (done m) = IsHeir l name m
+HeirBy l name (refused end) = Unit {0}
+
+-- a listener's name, where it is open
+abbrev pub name_or_none : Option Mine → ℕ
+name_or_none l = option_map_or (λ (m : Mine). m.owner.name) l 0
+
 -- The operations: one on a listener leaves it so
 
 abbrev pub Keeps : Mine → Asking Did → Type 0
@@ -247,6 +263,7 @@ of_bind_as m end ports states.Bound e = tt
 of_bind_as m end ports states.Listening e = tt
 of_bind_as m end ports states.Full e = tt
 of_bind_as m end ports states.TimeWait e = tt
+of_bind_as m end ports states.Request e = tt
 
 pub of_bind : (m : Mine) (end : End) (ports : List ℕ) → Keeps m (plans.bind m end ports)
 of_bind m end ports = of_bind_as m end ports m.owner.state refl
@@ -261,6 +278,7 @@ module _ (shape : Shape) (seed : ℕ) where
   of_listen_as m ports states.Listening e = (refl, λ l. l)
   of_listen_as m ports states.Full e = tt
   of_listen_as m ports states.TimeWait e = tt
+  of_listen_as m ports states.Request e = tt
 
   pub of_listen : (m : Mine) (ports : List ℕ) → Keeps m (plans.listen shape seed m ports)
   of_listen m ports = of_listen_as m ports m.owner.state refl
@@ -275,9 +293,11 @@ module _ (shape : Shape) (seed : ℕ) where
   of_connect_from m (Some source) to moment rule ports states.Listening e = tt
   of_connect_from m (Some source) to moment rule ports states.Full e = tt
   of_connect_from m (Some source) to moment rule ports states.TimeWait e = tt
+  of_connect_from m (Some source) to moment rule ports states.Request e = tt
   of_connect_from m None to moment rule ports states.Listening e = tt
   of_connect_from m None to moment rule ports states.Full e = tt
   of_connect_from m None to moment rule ports states.TimeWait e = tt
+  of_connect_from m None to moment rule ports states.Request e = tt
 
   pub of_connect : (m : Mine) (from : Option ℕ) (to : End) (moment : ℕ) (rule : Replace) (ports : List ℕ) → Keeps m (plans.connect shape seed m from to moment rule ports)
   of_connect m from to moment rule ports = of_connect_from m (source_to m.owner from to) to moment rule ports m.owner.state refl
@@ -304,10 +324,14 @@ module _ (shape : Shape) (seed : ℕ) where
   listens states.Bound e = absurd (cc)
   listens states.Full e = absurd (cc)
   listens states.TimeWait e = absurd (cc)
+  listens states.Request e = absurd (cc)
 
   neither : (p q : Bool) → (p || q) ≡ false → p ≡ false
   neither true q e = e
   neither false q e = refl
+
+  listens_at : (l : Owner) (from at : End) → is_no_accept l from at ≡ false → l.state ≡ states.Listening
+  listens_at l from at e = listens l.state (neither _ _ (neither _ _ (neither _ _ (neither _ _ e))))
 
   of_accept_if : (l : Mine) (name : ℕ) (from at : End) (b : Bool) → (b ≡ false → l.owner.state ≡ states.Listening) → IsBirthOf l.owner name (cond b (ends (refused errors.Inval)) (plans.accept_as shape seed l.owner (child_owner l.owner name from at)))
   of_accept_if l name from at true e = tt
@@ -315,7 +339,55 @@ module _ (shape : Shape) (seed : ℕ) where
 
   pub of_accept : (l : Mine) (name : ℕ) (from at : End) → IsBirthOf l.owner name (plans.accept shape seed l name from at)
   of_accept l name from at =
-      of_accept_if l name from at (is_no_accept l.owner from at) (λ e. listens l.owner.state (neither _ _ (neither _ _ (neither _ _ (neither _ _ e)))))
+      of_accept_if l name from at (is_no_accept l.owner from at) (listens_at l.owner from at)
+
+  of_syn_hashed : (l r : Owner) → l.state ≡ states.Listening → (o : Outcome) → IsBirthOf l r.name (plans.syn_hashed shape seed r o)
+  of_syn_hashed l r e (put slot old) =
+      all_replaced (IsBirth l.name r.name) (λ _. ⊥) (ChildOf l r.name) old (ends (done (plans.request_in shape seed r slot))) (λ n. tt) (refl, e)
+  of_syn_hashed l r e (taken n) = tt
+  of_syn_hashed l r e (full owned held) = tt
+
+  of_syn_if : (l : Mine) (name : ℕ) (from at : End) (b : Bool) → (b ≡ false → l.owner.state ≡ states.Listening) → IsBirthOf l.owner name (cond b (ends (refused errors.Inval)) (plans.syn_as shape seed (request_owner l.owner name from at)))
+  of_syn_if l name from at true e = tt
+  of_syn_if l name from at false e = of_syn_hashed l.owner (request_owner l.owner name from at) (e refl)
+
+  pub of_syn : (l : Mine) (name : ℕ) (from at : End) → IsBirthOf l.owner name (plans.syn shape seed l name from at)
+  of_syn l name from at = of_syn_if l name from at (is_no_accept l.owner from at) (listens_at l.owner from at)
+
+  -- A request in whose place a child comes
+
+  -- by the name of a listener, where one is open, a bucket is asked about the child; the request alone leaves its chain
+  abbrev pub IsHeirOf : Mine → Option Mine → ℕ → Asking Did → Type 0
+  IsHeirOf r l name p = AllAsk (IsBirth (name_or_none l) name) (HasName r.owner.name) (HeirBy l name) p
+
+  of_ack_hashed : (r l : Mine) (a : Owner) → l.owner.state ≡ states.Listening → (o : Outcome) → IsHeirOf r (Some l) a.name (plans.ack_hashed shape seed r l.owner a o)
+  of_ack_hashed r l a e (put slot None) = (
+    refl,
+    ((refl, refl), all_when (IsBirth l.owner.name a.name) (HasName r.owner.name) (HeirBy (Some l) a.name) (ends (done (plans.full_in shape seed a slot))) (record { named = refl; parent = l; still = refl; listens = e })),
+  )
+  of_ack_hashed r l a e (put slot (Some old)) = tt
+  of_ack_hashed r l a e (taken n) = tt
+  of_ack_hashed r l a e (full owned held) = tt
+
+  of_ack_if : (r l : Mine) (name : ℕ) (b : Bool) → (b ≡ false → l.owner.state ≡ states.Listening) → IsHeirOf r (Some l) name (cond b (ends (refused errors.Inval)) (plans.ack_as shape seed r l.owner (heir_owner l.owner name r.owner)))
+  of_ack_if r l name true e = tt
+  of_ack_if r l name false e = of_ack_hashed r l (heir_owner l.owner name r.owner) (e refl)
+
+  of_ack_by : (r : Mine) (l : Option Mine) (name : ℕ) → IsHeirOf r l name (plans.ack_by shape seed r l name)
+  of_ack_by r None name = tt
+  of_ack_by r (Some l) name =
+      of_ack_if r l name (is_no_ack l.owner r.owner) (λ e. listens_at l.owner (other_end r.owner) (own_end r.owner) (neither _ _ e))
+
+  of_ack_from : (r : Mine) (l : Option Mine) (name : ℕ) (state : State) → IsHeirOf r l name (plans.ack_from shape seed state r l name)
+  of_ack_from r l name states.Request = of_ack_by r l name
+  of_ack_from r l name states.Unbound = tt
+  of_ack_from r l name states.Bound = tt
+  of_ack_from r l name states.Listening = tt
+  of_ack_from r l name states.Full = tt
+  of_ack_from r l name states.TimeWait = tt
+
+  pub of_ack : (r : Mine) (l : Option Mine) (name : ℕ) → IsHeirOf r l name (plans.ack shape seed r l name)
+  of_ack r l name = of_ack_from r l name r.owner.state
 
 -- Sockets that go
 
@@ -337,6 +409,7 @@ module _ (W : Type 0) where
   of_drop_as m result Q q states.Listening = (refl, of_leave m.owner result Q q)
   of_drop_as m result Q q states.Full = (refl, of_leave m.owner result Q q)
   of_drop_as m result Q q states.TimeWait = tt
+  of_drop_as m result Q q states.Request = (refl, q)
 
   pub of_drop : {R : Type 0} (m : Mine) (result : R) (Q : R → Type 0) → Q result → IsGoing W m.owner.name Q (plans.drop m result)
   of_drop m result Q q = of_drop_as m result Q q m.owner.state
@@ -355,6 +428,7 @@ module _ (W : Type 0) where
     of_close_as m moment states.Bound may = of_drop_as m gone (WaitsSince moment) tt states.Bound
     of_close_as m moment states.Listening may = of_drop_as m gone (WaitsSince moment) tt states.Listening
     of_close_as m moment states.TimeWait may = of_drop_as m gone (WaitsSince moment) tt states.TimeWait
+    of_close_as m moment states.Request may = of_drop_as m gone (WaitsSince moment) tt states.Request
 
 -- only a full socket goes into TIME_WAIT
 pub of_close : (shape : Shape) (seed : ℕ) (m : Mine) (moment : ℕ) → IsGoing (m.owner.state ≡ states.Full) m.owner.name (WaitsSince moment) (plans.close shape seed m moment)

@@ -53,6 +53,7 @@ module _ {R : Type 0} (x : R) where
   drop_then m states.Listening = λ i. unhashes m.place (card_of kinds.Listen m) (asks (owner_key m.owner) (requests.Remove m.owner.name) (λ answer. leave_then answer i))
   drop_then m states.Full = λ i. unhashes m.place (card_of kinds.Full m) (asks (owner_key m.owner) (requests.Remove m.owner.name) (λ answer. leave_then answer i))
   drop_then m states.TimeWait = refl
+  drop_then m states.Request = refl
 
 module _ (t : Tables) (k : Kept) (header : Header) (l l1 : Labelled) (moment : ℕ) (o : Offsets) (waits : List Mine) (label : List ℕ) (i : ℕ) (s : Sock) (w : Worker)
     (b : Before k header l moment o waits) (takes : Takes l label l1 i s) (section : IsSection t k w)

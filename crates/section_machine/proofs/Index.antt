@@ -73,13 +73,13 @@ module _ {A : Type 0} (p : A → Bool) (xs : List A) (y : A) where
   in_bounds : position_or_len p xs ≤ length xs
   in_bounds = prefix_len-le-length _ xs
 
-  pushed_new : position p xs ≡ None → p y ≡ true → position p (xs ++ y ∷ []) ≡ Some (length xs)
+  pub pushed_new : position p xs ≡ None → p y ≡ true → position p (xs ++ y ∷ []) ≡ Some (length xs)
   pushed_new h e = new_by (position_or_len p xs) (length xs) (position_or_len p (xs ++ y ∷ [])) (length (xs ++ y ∷ [])) (p y) in_bounds h e (position_or_len_push p xs y) (length-append xs (y ∷ []))
 
-  pushed_other : p y ≡ false → position p (xs ++ y ∷ []) ≡ position p xs
+  pub pushed_other : p y ≡ false → position p (xs ++ y ∷ []) ≡ position p xs
   pushed_other e = other_by (position_or_len p xs) (length xs) (position_or_len p (xs ++ y ∷ [])) (length (xs ++ y ∷ [])) (p y) in_bounds e (position_or_len_push p xs y) (length-append xs (y ∷ []))
 
-  pushed_again : (i : ℕ) → position p xs ≡ Some i → position p (xs ++ y ∷ []) ≡ position p xs
+  pub pushed_again : (i : ℕ) → position p xs ≡ Some i → position p (xs ++ y ∷ []) ≡ position p xs
   pushed_again i h = kept_by (position_or_len p xs) (length xs) (position_or_len p (xs ++ y ∷ [])) (length (xs ++ y ∷ [])) i (p y) in_bounds h (position_or_len_push p xs y) (length-append xs (y ∷ []))
 
 same_text : (text label : List ℕ) → bytes_eq text label ≡ true → text ≡ label

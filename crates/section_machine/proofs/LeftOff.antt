@@ -18,10 +18,10 @@ use Rattle.race_record.specs.Deeds.{Deed, entered, inserted, added, left, reaped
 use Rattle.table_model.specs.declared.operation.OpEnd.{OpEnd}
 use Rattle.table_model.specs.declared.operation.OpEnd.TheVariants as errors
 use Rattle.table_model.specs.Asking.{Asking, ends, asks, inserts, adds, unhashes, reaps, and_then}
-use Rattle.table_model.specs.Own.{Own, Mine, Offsets, open_socket, with_label, without, next_name, is_over, ports_of}
+use Rattle.table_model.specs.Own.{Own, Mine, Offsets, open_socket, open_named as socket_of, with_label, without, next_name, is_over, ports_of}
 use Rattle.table_model.specs.Operations as plans
-use Rattle.table_model.specs.Operations.{kept_waits}
-use Rattle.table_model.specs.Commands.{Replied, answers, plan, bind_command, bind_reply, listen_command, connect_command, connect_reply, connect_rule, accept_command, accept_reply, close_command, close_reply, drop_command, after_search, searches_port, is_unbound, is_some}
+use Rattle.table_model.specs.Operations.{Did, kept_waits}
+use Rattle.table_model.specs.Commands.{Replied, answers, plan, bind_command, bind_reply, listen_command, connect_command, connect_reply, connect_rule, accept_command, syn_command, accept_reply, ack_command, ack_reply, close_command, close_reply, drop_command, after_search, searches_port, is_unbound, is_some}
 use Rattle.shared_ops.specs.declared.sock.Sock.{Sock}
 use Rattle.shared_ops.specs.declared.tables.Tables.{Tables}
 use Rattle.shared_ops.specs.declared.tables.Worker.{Worker}
@@ -32,7 +32,7 @@ use Rattle.shared_ops.specs.Leads.{Leads}
 use Rattle.shared_ops.specs.Socks.{mine_of}
 use Rattle.shared_ops.specs.Stands.{buckets_of, turned, chained}
 use Rattle.shared_ops.proofs.Goes.{does_none}
-use Rattle.section_machine.specs.LeftOff.{IsLeftOff, Leaves, GivesBack, StopsReaping, speaker, socket_name, is_of_socket}
+use Rattle.section_machine.specs.LeftOff.{IsLeftOff, Leaves, GivesLabel, GivesBack, StopsReaping, speaker, socket_name, is_of_socket}
 use Rattle.section_machine.specs.Places.{Labelled, Takes, own_of, with_given, with_place, named_by}
 use Rattle.section_machine.specs.Searches as searches
 use Rattle.section_machine.specs.Sections.{Kept, kept}
@@ -169,35 +169,60 @@ module _ (header : Header) (own : Own) (label : List ℕ) (m : Mine) (named : op
   pub its_search : (test : Mine → Bool) → after_search (test m) own ≡ after_search (is_of_socket test own label) own
   its_search test = ap (λ (x : Option Mine). after_search (option_map_or test x false) own) (sym named)
 
--- a child's label is given, and then memory is wanting
-module _ (t : Tables) (k : Kept) (header : Header) (l l1 : Labelled) (moment : ℕ) (o : Offsets) (waits : List Mine) (listener label : List ℕ) (from at : End) (w : Worker) (b : Before k header l moment o waits) where
+-- a command that gives a label first
+pub record GivesFirst (command : Command) (label : List ℕ) : Type 0 where
+  pub speaks : (own : Own) → speaker own command ≡ Some (next_name own)
+  pub leaves : (own : Own) (deeds : List Deed) (back : List (Placed Entry)) (next : Own) → GivesLabel own label deeds back next → Leaves own command deeds back next
+
+pub accept_gives : (listener label : List ℕ) (from at : End) → GivesFirst (commands.Accept listener label from at) label
+accept_gives listener label from at = record { speaks = λ own. refl; leaves = λ own deeds back next h. h }
+
+pub syn_gives : (listener label : List ℕ) (from at : End) → GivesFirst (commands.Syn listener label from at) label
+syn_gives listener label from at = record { speaks = λ own. refl; leaves = λ own deeds back next h. h }
+
+pub ack_gives : (request label : List ℕ) → GivesFirst (commands.Ack request label) label
+ack_gives request label = record { speaks = λ own. refl; leaves = λ own deeds back next h. h }
+
+-- what it is by the socket that its other label names
+module _ (header : Header) (own : Own) (m : Mine) (name label : List ℕ) (named : open_socket own name ≡ Some m) where
+  pub accept_plan : (from at : End) → plan header own (commands.Accept name label from at) ≡ and_then (plans.accept header.shape header.seed m (next_name own) from at) (λ did. ends (accept_reply (with_label own label) did))
+  unfolding plan
+  accept_plan from at =
+      ap (λ (x : Option Mine). accept_command header (with_label own label) (next_name own) x from at) named
+
+  pub syn_plan : (from at : End) → plan header own (commands.Syn name label from at) ≡ and_then (plans.syn header.shape header.seed m (next_name own) from at) (λ did. ends (accept_reply (with_label own label) did))
+  unfolding plan
+  syn_plan from at =
+      ap (λ (x : Option Mine). syn_command header (with_label own label) (next_name own) x from at) named
+
+  pub ack_plan : plan header own (commands.Ack name label)
+      ≡ and_then (plans.ack header.shape header.seed m (socket_of (with_label own label) m.owner.origin) (next_name own)) (λ did. ends (ack_reply (with_label own label) m.owner.name did))
+  unfolding plan
+  ack_plan = ap (λ (x : Option Mine). ack_command header (with_label own label) (next_name own) x) named
+
+-- and then memory is wanting
+module _ {command : Command} {label : List ℕ} (first : GivesFirst command label) (t : Tables) (k : Kept) (header : Header) (l l1 : Labelled) (moment : ℕ) (o : Offsets) (waits : List Mine) (w : Worker)
+    (b : Before k header l moment o waits) where
   abbrev its_own : Own
   its_own = own_of l moment o waits
 
-  abbrev it : Command
-  it = commands.Accept listener label from at
+  -- for its operation
+  pub label_left : (of : List ℕ) (m : Mine) (p : Asking Did) (next : Did → Asking Replied) (u : Worker) → l1 ≡ with_given l label → named_by l of ≡ Some m → (open_socket its_own of ≡ Some m → plan header its_own command ≡ and_then p next)
+      → ops.LeftOff header.shape.bind (next_name its_own) p (turned w) (turned u) (chained t w) (chained t u) → IsLeftOff t k command (kept header (own_of l1 moment o waits)) w u
+  label_left of m p next u given named is off =
+      subst (λ (x : Kept). IsLeftOff t x command (kept header (own_of l1 moment o waits)) w u) b.view
+      (op_left t header its_own (own_of l1 moment o waits) command w u p next (next_name its_own)
+      (is (open_named l moment o waits of b.names ∙ named)) (first.speaks its_own)
+      (λ deeds back. first.leaves its_own deeds back (own_of l1 moment o waits) (inl (sym (label_given l l1 label moment o waits given))))
+      off)
 
-  accept_plan : (x : Mine) → open_socket its_own listener ≡ Some x → plan header its_own it ≡ and_then (plans.accept header.shape header.seed x (next_name its_own) from at) (λ did. ends (accept_reply (with_label its_own label) did))
-  unfolding plan
-  accept_plan x named =
-      ap (λ (x : Option Mine). accept_command header (with_label its_own label) (next_name its_own) x from at) named
-
-  pub child_left : (m : Mine) (name : ℕ) (u : Worker) → l1 ≡ with_given l label → named_by l listener ≡ Some m → AreOf k.header t → name ≡ next_name its_own
-      → ops.LeftOff (buckets_of t) name (plans.accept t.chains.layout.shape t.chains.layout.seed m name from at) (turned w) (turned u) (chained t w) (chained t u) → IsLeftOff t k it (kept header (own_of l1 moment o waits)) w u
-  child_left m name u given named are is off =
-      subst (λ (x : Kept). IsLeftOff t x it (kept header (own_of l1 moment o waits)) w u) b.view
-      (op_left t header its_own (own_of l1 moment o waits) it w u (plans.accept header.shape header.seed m (next_name its_own) from at) (λ did. ends (accept_reply (with_label its_own label) did)) (next_name its_own)
-      (accept_plan m (open_named l moment o waits listener b.names ∙ named)) refl
-      (λ deeds back. inl (sym (label_given l l1 label moment o waits given)))
-      (subst (λ (n : ℕ). ops.LeftOff header.shape.bind n (plans.accept header.shape header.seed m n from at) (turned w) (turned u) (chained t w) (chained t u)) is
-      (left_by_header header t (λ (shape : Shape) (seed : ℕ). plans.accept shape seed m name from at) name (turned w) (turned u) (chained t w) (chained t u) (subst (λ (x : Kept). AreOf x.header t) (sym b.view) are) off)))
-
-  -- or it isn't given
-  pub no_child : l1 ≡ l → IsLeftOff t k it (kept header (own_of l1 moment o waits)) w w
-  no_child same =
-      subst (λ (x : Kept). IsLeftOff t x it (kept header (own_of l1 moment o waits)) w w) b.view
-      (untouched t (kept header its_own) (kept header (own_of l1 moment o waits)) it w (λ n. tt)
-      (inr (record { none = refl; nor_back = refl; same = ap (λ (x : Labelled). own_of x moment o waits) same })))
+  -- or for its label
+  pub no_label : l1 ≡ l → IsLeftOff t k command (kept header (own_of l1 moment o waits)) w w
+  no_label same =
+      subst (λ (x : Kept). IsLeftOff t x command (kept header (own_of l1 moment o waits)) w w) b.view
+      (untouched t (kept header its_own) (kept header (own_of l1 moment o waits)) command w
+      (λ n. subst (λ (s : Option ℕ). GivesBack n s []) (sym (first.speaks its_own)) tt)
+      (first.leaves its_own [] [] (own_of l1 moment o waits) (inr (record { none = refl; nor_back = refl; same = ap (λ (x : Labelled). own_of x moment o waits) same }))))
 
 -- TIME_WAITs are reaped up to one at which memory is wanting
 module _ (t : Tables) (header : Header) (l : Labelled) (moment : ℕ) (o : Offsets) (waits after : List Mine) (w u : Worker) where

@@ -19,5 +19,7 @@ mod Reaps
 mod Reaped
 mod Made
 mod Steps
+mod Given
 mod Children
+mod Handshakes
 mod Begins

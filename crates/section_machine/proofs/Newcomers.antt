@@ -1,4 +1,4 @@
--- The socket of a new name: a new one, and a listener's child.
+-- The socket of a new name: a new one, a listener's child, and a request.
 use Rattle.std.proofs.Common.{◌≡◌, ℕ, ◌/◌, ◌^◌, ◌==◌, ◌||◌, ◌<◌, ◌≤◌, Bool, true, false, List, [], ◌∷◌, ◌++◌, refl, sym, ap, subst, ◌∙◌, eq-eqb, ne_eqb, arith}
 use Rattle.std.proofs.lemmas.Bool.{eqb-true, false≢true}
 use Rattle.list_words.specs.Lists.{Each}
@@ -53,13 +53,13 @@ newborn t r v c next m tells section more none state =
       stands = subst (λ (s : State). StandsIn s t m v c) (sym state) (new_away name v (λ some. section ∙ tells some) (new_name name v none));
     }
 
--- A listener's child
+-- A listener's child, or a request
 
 or_right : (p q : Bool) → q ≡ true → (p || q) ≡ true
 or_right true q h = refl
 or_right false q h = h
 
-or_left : (p q : Bool) → p ≡ true → (p || q) ≡ true
+pub or_left : (p q : Bool) → p ≡ true → (p || q) ≡ true
 or_left true q h = refl
 or_left false q h = absurd (false≢true h)
 
@@ -81,13 +81,13 @@ module _ (mine : ℕ → Bool) (name : ℕ) where
   with_keeps (requests.ToTimeWait n) keeps none = or_none (mine n) (n == name) keeps none
   with_keeps _ keeps none = tt
 
--- stands, where the listener did
-pub child_family : (r : Roll) (v w : View) (new : List (Placed Entry)) (next : ℕ) (l m : Mine) (f : Family r l.owner.name v) → Gave v w new
+-- rests on its listener's names and its own, among these sockets and its own
+pub child_family : (r : Roll) (v w : View) (new : List (Placed Entry)) (next : ℕ) (ms : List Mine) (l m : Mine) (f : Family r l.owner.name v) → Gave v w new
     → m.owner.name / 2 ^ 24 ≡ r.number → IsUngiven r m.owner.name → m.owner.name < next → IsUnspoken v m.owner.name → Asks (IsBirth l.owner.name m.owner.name) new
-    → l.owner.state ≡ states.Listening → Each (λ (x : Mine). x.owner.name ≡ l.owner.name → x ≡ l) r.sockets → Family (with_next r next (r.sockets ++ m ∷ [])) m.owner.name w
-child_family r v w new next l m f g section un more none about listens only =
+    → l.owner.state ≡ states.Listening → Each (IsApart f.mine l.owner.name) ms → Each (λ (x : Mine). x.owner.name ≡ l.owner.name → x ≡ l) ms → Family (with_next r next (ms ++ m ∷ [])) m.owner.name w
+child_family r v w new next ms l m f g section un more none about listens apart only =
     let name = m.owner.name in
-    let s : Roll = with_next r next (r.sockets ++ m ∷ []) in
+    let s : Roll = with_next r next (ms ++ m ∷ []) in
     let mine : ℕ → Bool = with_name f.mine name in
     let itself : IsGiven s name = record { section = section; before = more } in
     let rises : r.next ≤ next = let low : r.next ≤ name = un in omega arith in
@@ -102,9 +102,9 @@ child_family r v w new next l m f g section un more none about listens only =
           by_or (f.mine n) (n == name) said
           (λ own. let g = f.given n own in let low = g.before in record { section = g.section; before = omega arith })
           (λ is. subst (IsGiven s) (sym (eqb-true n name is)) itself);
-      apart = each_push (IsApart mine name) r.sockets m
-          (each_weaken (λ (x : Mine). IsApart f.mine l.owner.name x × (x.owner.name ≡ l.owner.name → x ≡ l)) (IsApart mine name) r.sockets apart_of
-          (each_both (IsApart f.mine l.owner.name) (λ (x : Mine). x.owner.name ≡ l.owner.name → x ≡ l) r.sockets f.apart only))
+      apart = each_push (IsApart mine name) ms m
+          (each_weaken (λ (x : Mine). IsApart f.mine l.owner.name x × (x.owner.name ≡ l.owner.name → x ≡ l)) (IsApart mine name) ms apart_of
+          (each_both (IsApart f.mine l.owner.name) (λ (x : Mine). x.owner.name ≡ l.owner.name → x ≡ l) ms apart only))
           (λ sleeps else. absurd (else refl));
       keeps = subst (AllKeep mine) (sym g.mine)
           (each_append (λ (x : Placed Entry). KeepsOpen mine x.note.entry.request) v.mine new

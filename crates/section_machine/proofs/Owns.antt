@@ -1,5 +1,5 @@
 -- A section's own, as its labels have it.
-use Rattle.std.proofs.Common.{◌≡◌, ℕ, zero, suc, List, [], ◌∷◌, ◌++◌, length, Option, Some, None, refl, sym, ap, ◌∙◌, subst, set}
+use Rattle.std.proofs.Common.{◌≡◌, ℕ, zero, suc, Bool, true, false, List, [], ◌∷◌, ◌++◌, length, bytes_eq, Option, Some, None, refl, sym, ap, ◌∙◌, subst, set, arith}
 use Rattle.std.specs.Prelude.{option_and_then}
 use Rattle.std.proofs.lemmas.List.{set-set, set-get_or}
 use Rattle.list_words.specs.Lists.{Each}
@@ -7,7 +7,8 @@ use Rattle.list_words.proofs.EachLemmas.{some_same}
 use Rattle.flat_list.specs.Sections.{name_at}
 use Rattle.table_model.specs.Own.{Mine, Offsets, with_socket, with_label, with_new, without}
 use Rattle.section_machine.specs.Places.{Labelled, HaveNames, at_place, those, with_place, with_given, own_of, named_by, place_in}
-use Rattle.section_machine.proofs.Places.{put_there, taken_out, labels_differ, put_last, none_last, set_last, Differ}
+use Rattle.section_machine.proofs.Index.{pushed_new, pushed_other, pushed_again}
+use Rattle.section_machine.proofs.Places.{put_there, taken_out, labels_differ, put_last, none_last, set_last, none_behind, Differ}
 
 -- a fact of each socket holds of that at a place
 pub each_there : (P : Mine → Type 0) (places : List (Option Mine)) (i : ℕ) (m : Mine) → Each P (those places) → at_place places i ≡ Some m → P m
@@ -82,7 +83,7 @@ socket_given l l1 l2 label c moment o waits count given is =
     (sym (ap (λ (i : ℕ). those (set (l.places ++ None ∷ []) i (Some c))) (sym count) ∙ (ap those (set_last l.places None (Some c)) ∙ put_last l.places c)))
     ∙ ap (λ (x : Labelled). own_of x moment o waits) (sym (is ∙ ap (λ (x : Labelled). with_place x (length l.labels) (Some c)) given))
 
-none_more : (places : List (Option Mine)) (i : ℕ) → at_place (places ++ None ∷ []) i ≡ at_place places i
+pub none_more : (places : List (Option Mine)) (i : ℕ) → at_place (places ++ None ∷ []) i ≡ at_place places i
 none_more [] zero = refl
 none_more [] (suc i) = refl
 none_more (x ∷ ps) zero = refl
@@ -96,3 +97,19 @@ found_before l label (Some i) = none_more l.places i
 pub found_named : (l l1 : Labelled) (label : List ℕ) (p : Option ℕ) (name : List ℕ) → l1 ≡ with_given l label → p ≡ place_in l.labels name → option_and_then (at_place l1.places) p ≡ named_by l name
 found_named l l1 label p name given is =
     ap (λ (x : Labelled). option_and_then (at_place x.places) p) given ∙ (found_before l label p ∙ ap (option_and_then (at_place l.places)) is)
+
+again_by : (labels : List (List ℕ)) (places : List (Option Mine)) (label name : List ℕ) (b : Bool) (o : Option ℕ) → length places ≡ length labels → bytes_eq label name ≡ b → place_in labels name ≡ o
+    → option_and_then (at_place places) (place_in (labels ++ label ∷ []) name) ≡ option_and_then (at_place places) (place_in labels name)
+again_by labels places label name false o count e at =
+    ap (option_and_then (at_place places)) (pushed_other (λ x. bytes_eq x name) labels label e)
+again_by labels places label name true (Some i) count e at =
+    ap (option_and_then (at_place places)) (pushed_again (λ x. bytes_eq x name) labels label i at)
+again_by labels places label name true None count e at =
+    ap (option_and_then (at_place places)) (pushed_new (λ x. bytes_eq x name) labels label at e)
+    ∙ (none_behind places (length labels) (omega (arith, count)) ∙ sym (ap (option_and_then (at_place places)) at))
+
+-- a label names what it named before one label more was given
+pub named_again : (l l1 : Labelled) (label name : List ℕ) → length l.places ≡ length l.labels → l1 ≡ with_given l label → named_by l1 name ≡ named_by l name
+named_again l l1 label name count given =
+    ap (λ (x : Labelled). named_by x name) given
+    ∙ (found_before l label (place_in (l.labels ++ label ∷ []) name) ∙ again_by l.labels l.places label name (bytes_eq label name) (place_in l.labels name) count refl refl)

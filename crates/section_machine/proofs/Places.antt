@@ -1,9 +1,10 @@
 -- Sockets at the places of their labels, seen as a list: each is found by its name, changed and taken out.
-use Rattle.std.proofs.Common.{◌≡◌, ◌≢◌, ℕ, zero, suc, Bool, false, not, cond, List, [], ◌∷◌, ◌++◌, length, map, filter, find, Option, Some, None, refl, ap, sym, ◌∙◌, arith, set}
+use Rattle.std.proofs.Common.{◌≡◌, ◌≢◌, ◌+◌, ◌*◌, ◌^◌, ◌≤◌, ℕ, zero, suc, Bool, false, not, cond, List, [], ◌∷◌, ◌++◌, length, map, filter, find, Option, Some, None, refl, ap, sym, ◌∙◌, arith, set}
 use Rattle.std.specs.Prelude.{IfSome, option_and_then}
 use Rattle.std.specs.Option.{option_map}
 use Rattle.std.proofs.lemmas.List.Elements.{filter_map-append}
 use Rattle.list_words.specs.Lists.{Each}
+use Rattle.list_words.proofs.EachLemmas.{each_weaken}
 use Rattle.flat_list.specs.Sections.{name_at}
 use Rattle.table_model.specs.Own.{Mine, Offsets, is_named, replaced, open_socket}
 use Rattle.table_model.proofs.lists.Weights.{is_ne, is_same}
@@ -127,3 +128,36 @@ named_at l (Some k) h = found_there (name_at l.number) (labels_differ l.number) 
 pub open_named : (l : Labelled) (moment : ℕ) (offsets : Offsets) (waits : List Mine) (label : List ℕ) → HaveNames (name_at l.number) l.places
     → open_socket (own_of l moment offsets waits) label ≡ named_by l label
 open_named l moment offsets waits label h = named_at l (place_in l.labels label) h
+
+-- The socket of a name
+
+-- no place has a name before those of the section's labels
+pub none_before : (l : Labelled) (name : ℕ) → (l.number * 2 ^ 24 + 1 ≤ name → ⊥) → HaveNames (name_at l.number) l.places → find (is_named name) (those l.places) ≡ None
+none_before l name before h =
+    find_none name (those l.places) (others (name_at l.number) name (λ i same. before (omega (arith, same))) l.places h)
+
+-- the socket of the name that a place has is that at the place
+pub named_there : (l : Labelled) (name i : ℕ) → name ≡ name_at l.number i → HaveNames (name_at l.number) l.places → find (is_named name) (those l.places) ≡ at_place l.places i
+named_there l name i is h =
+    ap (λ (k : ℕ). find (is_named k) (those l.places)) is ∙ found_there (name_at l.number) (labels_differ l.number) l.places i h
+
+-- behind the last place there is none
+pub none_behind : (places : List (Option Mine)) (i : ℕ) → length places ≤ i → at_place places i ≡ None
+none_behind [] i h = refl
+none_behind (x ∷ ps) zero h = absurd (omega arith)
+none_behind (x ∷ ps) (suc i) h = none_behind ps i (omega arith)
+
+-- each socket has a place
+pub each_placed : (places : List (Option Mine)) → Each (λ (m : Mine). (i : ℕ) × (at_place places i ≡ Some m)) (those places)
+each_placed [] = tt
+each_placed (None ∷ ps) =
+    each_weaken (λ (m : Mine). (i : ℕ) × (at_place ps i ≡ Some m)) (λ (m : Mine). (i : ℕ) × (at_place (None ∷ ps) i ≡ Some m)) (those ps) (λ m at. (suc at.0, at.1)) (each_placed ps)
+each_placed (Some x ∷ ps) =
+    ((0, refl), each_weaken (λ (m : Mine). (i : ℕ) × (at_place ps i ≡ Some m)) (λ (m : Mine). (i : ℕ) × (at_place (Some x ∷ ps) i ≡ Some m)) (those ps) (λ m at. (suc at.0, at.1)) (each_placed ps))
+
+-- a place that is empty now, with an empty place more
+pub none_set : (places : List (Option Mine)) (i : ℕ) → set (places ++ None ∷ []) i None ≡ set places i None ++ None ∷ []
+none_set [] zero = refl
+none_set [] (suc i) = refl
+none_set (x ∷ ps) zero = refl
+none_set (x ∷ ps) (suc i) = ap (λ (qs : List (Option Mine)). x ∷ qs) (none_set ps i)

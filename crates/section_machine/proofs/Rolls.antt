@@ -14,7 +14,7 @@ use Rattle.table_model.specs.Own.{Mine, is_named, replaced}
 use Rattle.shared_ops.specs.declared.tables.Tables.{Tables}
 use Rattle.section_machine.specs.Standing.{Roll, IsGiven, IsUngiven, Tells, IsApart, Family, StandsIn, IsOpen, AllOpen, IsUnspoken}
 use Rattle.section_machine.proofs.Asked.{IsAbout, IsBirth, IsEnd, IsPast, HasName, OnLeft}
-use Rattle.section_machine.proofs.Stays.{Asks, GoesOn, Grows, about_pass, birth_pass, end_pass, past_pass, about_keep, spared, none_left, family_on, other_on, unspoken_on, no_name, given_differs, miss_of, each_replaced, each_without}
+use Rattle.section_machine.proofs.Stays.{Asks, GoesOn, Grows, about_pass, birth_pass, end_pass, past_pass, about_keep, birth_keep, spared, none_left, family_on, other_on, unspoken_on, no_name, given_differs, miss_of, each_replaced, each_without}
 
 -- all sockets of a section stand, and of no name that wasn't given was a bucket asked
 pub record Stand (t : Tables) (r : Roll) (v : View) (c : Side) : Type 0 where
@@ -26,6 +26,10 @@ with_sockets r ms = record r { sockets = ms }
 
 abbrev pub with_next : Roll → ℕ → List Mine → Roll
 with_next r next ms = record r { next = next; sockets = ms }
+
+-- the sockets but those of that name
+abbrev pub others_of : Roll → ℕ → List Mine
+others_of r name = filter (λ (x : Mine). not (is_named name x)) r.sockets
 
 same_given : (r : Roll) (ms : List Mine) → Grows r (with_sockets r ms)
 same_given r ms = λ n g. record { section = g.section; before = g.before }
@@ -90,7 +94,7 @@ module _ (t : Tables) (r : Roll) (v w : View) (c d : Side) (new : List (Placed E
 
   module _ (old : Mine) (there : IsThere r old) (about : Asks (IsEnd (old.owner.state ≡ states.Full) old.owner.name) new) (goes : Each (OnLeft (HasName old.owner.name)) deeds) where
     abbrev left_sockets : List Mine
-    left_sockets = filter (λ (x : Mine). not (is_named old.owner.name x)) r.sockets
+    left_sockets = others_of r old.owner.name
 
     abbrev left_roll : Roll
     left_roll = with_sockets r left_sockets
@@ -141,12 +145,12 @@ module _ (t : Tables) (r : Roll) (v w : View) (c d : Side) (new : List (Placed E
     not_its : (x : Mine) (o : IsOpen t r v c x) → b ≢ x.owner.name
     not_its x o = λ same. given_differs r x.owner.name b o.given un (sym same)
 
-    module _ (l : ℕ) (about : Asks (IsBirth l b) new) (goes : Each (OnLeft (λ _. ⊥)) deeds) where
-      given_other : (ms : List Mine) → ((mine : ℕ → Bool) (a : ℕ) → mine b ≡ false → Each (IsApart mine a) r.sockets → Each (IsApart mine a) ms) → (x : Mine) → IsOpen t r v c x → IsOpen t (with_next r next ms) w d x
-      given_other ms apart x o =
+    module _ (l : ℕ) (about : Asks (IsBirth l b) new) where
+      given_other : (ms : List Mine) → ((mine : ℕ → Bool) (a : ℕ) → mine b ≡ false → Each (IsApart mine a) r.sockets → Each (IsApart mine a) ms) → (x : Mine) → Each (Spares x.owner.name) deeds → IsOpen t r v c x → IsOpen t (with_next r next ms) w d x
+      given_other ms apart x safe o =
           other_on t r (with_next r next ms) v w c d new deeds on tells (more_given r next ms rises) x o
           (birth_pass o.family.mine l b x.owner.name new (not_its x o) (λ said. absurd (false≢true (sym (not_theirs x o) ∙ said))) about)
-          (none_left x.owner.name deeds goes) (apart o.family.mine x.owner.name (not_theirs x o) o.family.apart)
+          safe (apart o.family.mine x.owner.name (not_theirs x o) o.family.apart)
 
       given_unspoken : (ms : List Mine) (n : ℕ) → IsUngiven (with_next r next ms) n → IsUnspoken w n
       given_unspoken ms n u =
@@ -154,22 +158,65 @@ module _ (t : Tables) (r : Roll) (v w : View) (c d : Side) (new : List (Placed E
           let differ : b ≢ n = λ same. absurd (omega (arith, same)) in
           unspoken_on v w new n on.gave (h.unspoken n (less_ungiven r next ms n rises u)) (miss_of no_name n new (birth_pass no_name l b n new differ (λ said. absurd (false≢true said)) about))
 
-      -- and there is none
-      pub labelled : Stand t (with_next r next r.sockets) w d
-      labelled =
-          record {
-            all = each_weaken (IsOpen t r v c) (IsOpen t (with_next r next r.sockets) w d) r.sockets (given_other r.sockets (λ mine a none e. e)) h.all;
-            unspoken = given_unspoken r.sockets;
-          }
+      -- no socket left its chain
 
-      -- or the name's socket is there
-      pub socket_more : (m : Mine) → m.owner.name ≡ b → IsOpen t (with_next r next (r.sockets ++ m ∷ [])) w d m → Stand t (with_next r next (r.sockets ++ m ∷ [])) w d
-      socket_more m name o =
-          let ms = r.sockets ++ m ∷ [] in
-          record {
-            all = each_push (IsOpen t (with_next r next ms) w d) r.sockets m
-                (each_weaken (IsOpen t r v c) (IsOpen t (with_next r next ms) w d) r.sockets
-                (given_other ms (λ mine a none e. each_push (IsApart mine a) r.sockets m e (λ sleeps else. ap mine name ∙ none))) h.all)
-                o;
-            unspoken = given_unspoken ms;
-          }
+      module _ (goes : Each (OnLeft (λ _. ⊥)) deeds) where
+        -- and the name's isn't there
+        pub labelled : Stand t (with_next r next r.sockets) w d
+        labelled =
+            record {
+              all = each_weaken (IsOpen t r v c) (IsOpen t (with_next r next r.sockets) w d) r.sockets (λ x o. given_other r.sockets (λ mine a none e. e) x (none_left x.owner.name deeds goes) o) h.all;
+              unspoken = given_unspoken r.sockets;
+            }
+
+        -- or it is there
+        pub socket_more : (m : Mine) → m.owner.name ≡ b → IsOpen t (with_next r next (r.sockets ++ m ∷ [])) w d m → Stand t (with_next r next (r.sockets ++ m ∷ [])) w d
+        socket_more m name o =
+            let ms = r.sockets ++ m ∷ [] in
+            record {
+              all = each_push (IsOpen t (with_next r next ms) w d) r.sockets m
+                  (each_weaken (IsOpen t r v c) (IsOpen t (with_next r next ms) w d) r.sockets
+                  (λ x was. given_other ms (λ mine a none e. each_push (IsApart mine a) r.sockets m e (λ sleeps else. ap mine name ∙ none)) x (none_left x.owner.name deeds goes) was) h.all)
+                  o;
+              unspoken = given_unspoken ms;
+            }
+
+      -- one alone left its chain, if one did
+
+      module _ (old : Mine) (there : IsThere r old) (goes : Each (OnLeft (HasName old.owner.name)) deeds) where
+        safe_by : (x : Mine) → x.owner.name ≢ old.owner.name → Each (Spares x.owner.name) deeds
+        safe_by x ne = spared old.owner.name x.owner.name deeds (λ same. ne (sym same)) goes
+
+        -- and it stands still
+        pub still_there : StandsIn old.owner.state t old w d → Stand t (with_next r next (map (replaced old) r.sockets)) w d
+        still_there stands =
+            let ms = map (replaced old) r.sockets in
+            let was : IsOpen t r v c old = there (IsOpen t r v c) h.all in
+            let grows = more_given r next ms rises in
+            let apart : (mine : ℕ → Bool) (a : ℕ) → Each (IsApart mine a) r.sockets → Each (IsApart mine a) ms =
+            λ mine a e. each_replaced (IsApart mine a) (IsApart mine a) old r.sockets e (there (IsApart mine a) e) (λ x ne p. p) in
+            record {
+              all = each_replaced (IsOpen t r v c) (IsOpen t (with_next r next ms) w d) old r.sockets h.all
+                  (record {
+                    given = grows old.owner.name was.given;
+                    family = family_on r (with_next r next ms) old.owner.name v w new was.family on.gave
+                        (birth_keep was.family.mine l b new (λ said. absurd (false≢true (sym (not_theirs old was) ∙ said))) about) grows (apart was.family.mine old.owner.name was.family.apart);
+                    stands = stands;
+                  })
+                  (λ x ne o. given_other ms (λ mine a none e. apart mine a e) x (safe_by x ne) o);
+              unspoken = given_unspoken ms;
+            }
+
+        -- or the name's socket has come in its place
+        pub comes_instead : (m : Mine) → m.owner.name ≡ b → IsOpen t (with_next r next (others_of r old.owner.name ++ m ∷ [])) w d m → Stand t (with_next r next (others_of r old.owner.name ++ m ∷ [])) w d
+        comes_instead m name o =
+            let rest = others_of r old.owner.name in
+            let ms = rest ++ m ∷ [] in
+            let apart : (mine : ℕ → Bool) (a : ℕ) → mine b ≡ false → Each (IsApart mine a) r.sockets → Each (IsApart mine a) ms =
+            λ mine a none e. each_push (IsApart mine a) rest m (each_filter (IsApart mine a) (λ (x : Mine). not (is_named old.owner.name x)) r.sockets e) (λ sleeps else. ap mine name ∙ none) in
+            record {
+              all = each_push (IsOpen t (with_next r next ms) w d) rest m
+                  (each_without (IsOpen t r v c) (IsOpen t (with_next r next ms) w d) old.owner.name r.sockets h.all (λ x ne was. given_other ms apart x (safe_by x ne) was))
+                  o;
+              unspoken = given_unspoken ms;
+            }

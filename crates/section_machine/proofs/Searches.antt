@@ -58,6 +58,7 @@ bind_as_same m end ports ours states.Bound same = refl
 bind_as_same m end ports ours states.Listening same = refl
 bind_as_same m end ports ours states.Full same = refl
 bind_as_same m end ports ours states.TimeWait same = refl
+bind_as_same m end ports ours states.Request same = refl
 
 pub bind_same : (m : Mine) (end : End) (ports ours : List ℕ) → (searches_port m.owner end ≡ true → ports ≡ ours) → plans.bind m end ports ≡ plans.bind m end ours
 bind_same m end ports ours same = bind_as_same m end ports ours m.owner.state same
@@ -69,6 +70,7 @@ module _ (shape : Shape) (seed : ℕ) where
   listen_as_same m ports ours states.Listening same = refl
   listen_as_same m ports ours states.Full same = refl
   listen_as_same m ports ours states.TimeWait same = refl
+  listen_as_same m ports ours states.Request same = refl
 
   pub listen_same : (m : Mine) (ports ours : List ℕ) → (is_unbound m.owner.state ≡ true → ports ≡ ours) → plans.listen shape seed m ports ≡ plans.listen shape seed m ours
   listen_same m ports ours same = listen_as_same m ports ours m.owner.state same
@@ -82,6 +84,7 @@ module _ (shape : Shape) (seed : ℕ) where
   connect_from_same a source to moment rule ports ours states.Listening same = refl
   connect_from_same a source to moment rule ports ours states.Full same = refl
   connect_from_same a source to moment rule ports ours states.TimeWait same = refl
+  connect_from_same a source to moment rule ports ours states.Request same = refl
 
   pub connect_same : (m : Mine) (from : Option ℕ) (to : End) (moment : ℕ) (rule : Replace) (ports ours : List ℕ) → ((is_unbound m.owner.state && is_some (source_to m.owner from to)) ≡ true → ports ≡ ours)
       → plans.connect shape seed m from to moment rule ports ≡ plans.connect shape seed m from to moment rule ours

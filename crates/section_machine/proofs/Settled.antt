@@ -46,12 +46,14 @@ stands_typed t (socks.Unbound m) v c e h = subst (λ (state : State). StandsIn s
 stands_typed t (socks.Bound m) v c e h = subst (λ (state : State). StandsIn state t m v c) e h
 stands_typed t (socks.Listening m) v c e h = subst (λ (state : State). StandsIn state t m v c) e h
 stands_typed t (socks.Full m) v c e h = subst (λ (state : State). StandsIn state t m v c) e h
+stands_typed t (socks.Request m) v c e h = subst (λ (state : State). StandsIn state t m v c) e h
 
 pub typed_stands : (t : Tables) (s : Sock) (v : View) (c : Side) → FitsState s → StandsAs t s v c → StandsIn (mine_of s).owner.state t (mine_of s) v c
 typed_stands t (socks.Unbound m) v c e h = subst (λ (state : State). StandsIn state t m v c) (sym e) h
 typed_stands t (socks.Bound m) v c e h = subst (λ (state : State). StandsIn state t m v c) (sym e) h
 typed_stands t (socks.Listening m) v c e h = subst (λ (state : State). StandsIn state t m v c) (sym e) h
 typed_stands t (socks.Full m) v c e h = subst (λ (state : State). StandsIn state t m v c) (sym e) h
+typed_stands t (socks.Request m) v c e h = subst (λ (state : State). StandsIn state t m v c) (sym e) h
 
 -- a plan by the shape, the seed and the buckets of tables that are the header's
 pub of_header : {R : Type 0} (header : Header) (t : Tables) (f : Shape → ℕ → Asking R) (v u : View) (c d : Side) (rest : Asking R) → AreOf header t

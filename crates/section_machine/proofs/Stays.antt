@@ -234,6 +234,7 @@ module _ (t : Tables) (r s : Roll) (v w : View) (c d : Side) (new : List (Placed
     stands states.Listening h = (owns h.0, hashed_on kinds.Listen m deeds c d on.does safe h.1)
     stands states.Full h = (owns h.0, hashed_on kinds.Full m deeds c d on.does safe h.1)
     stands states.TimeWait h = h
+    stands states.Request h = hashed_on kinds.Request m deeds c d on.does safe h
 
     pub other_on : IsOpen t s w d m
     other_on =

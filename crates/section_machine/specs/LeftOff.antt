@@ -33,6 +33,8 @@ speaker own (commands.Bind label end) = socket_name own label
 speaker own (commands.Listen label) = socket_name own label
 speaker own (commands.Connect label from to) = socket_name own label
 speaker own (commands.Accept listener label from at) = Some (next_name own)
+speaker own (commands.Syn listener label from at) = Some (next_name own)
+speaker own (commands.Ack request label) = Some (next_name own)
 speaker own (commands.Close label) = socket_name own label
 speaker own (commands.Drop label) = socket_name own label
 speaker own _ = None
@@ -75,11 +77,16 @@ pub record ReapsSome (own : Own) (deeds : List Deed) (next : Own) : Type 0 where
   pub reaps : Leads (reap own.waits own.moment) deeds (reap_each (filter (is_over own.moment) next.waits) count)
   pub rest : next ≡ record own { waits = next.waits }
 
--- What the section keeps, by what was asked and done: what it had, past the offset of a search that began. The label of an
--- accepted child is given before anything is asked or done. `at` and `dump` are never left off.
+-- it has the label more, which is given before anything is asked or done; or nothing was done at all
+abbrev pub GivesLabel : Own → List ℕ → List Deed → List (Placed Entry) → Own → Type 0
+GivesLabel own label deeds back next = (next ≡ with_label own label) ⊎ IsUntouched own deeds back next
+
+-- What the section keeps, by what was asked and done: what it had, past the offset of a search that began, and the label of
+-- an accepted child or of a request. `at` and `dump` are never left off.
 abbrev pub Leaves : Own → Command → List Deed → List (Placed Entry) → Own → Type 0
-Leaves own (commands.Accept listener label from at) deeds back next =
-    (next ≡ with_label own label) ⊎ IsUntouched own deeds back next
+Leaves own (commands.Accept listener label from at) deeds back next = GivesLabel own label deeds back next
+Leaves own (commands.Syn listener label from at) deeds back next = GivesLabel own label deeds back next
+Leaves own (commands.Ack request label) deeds back next = GivesLabel own label deeds back next
 Leaves own commands.Reap deeds back next = ReapsSome own deeds next
 Leaves own (commands.At moment) deeds back next = ⊥
 Leaves own commands.Dump deeds back next = ⊥

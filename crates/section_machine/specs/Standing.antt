@@ -44,8 +44,8 @@ Tells caller number = caller ≢ 0 → number ≡ caller
 abbrev pub IsApart : (ℕ → Bool) → ℕ → Mine → Type 0
 IsApart mine name m = m.owner.state ≢ states.Listening → m.owner.name ≢ name → mine m.owner.name ≡ false
 
--- The names on which it rests what bind buckets know of the socket of that name: its own, and that of a listener which
--- accepted it. Labels stood for all of them; another of them is no open socket's, unless that listens; and nothing that
+-- The names on which it rests what bind buckets know of the socket of that name: its own, and that of a listener by which
+-- it came. Labels stood for all of them; another of them is no open socket's, unless that listens; and nothing that
 -- the worker asked put one of them into TIME_WAIT.
 pub record Family (r : Roll) (name : ℕ) (v : View) : Type 0 where
   pub mine : ℕ → Bool
@@ -54,12 +54,13 @@ pub record Family (r : Roll) (name : ℕ) (v : View) : Type 0 where
   pub apart : Each (IsApart mine name) r.sockets
   pub keeps : Each (λ (x : Placed Entry). KeepsOpen mine x.note.entry.request) v.mine
 
--- a socket stands as its state says
+-- a socket stands as its state says; of a request no bind bucket knows
 abbrev pub StandsIn : State → Tables → Mine → View → Side → Type 0
 StandsIn states.Unbound t m v c = IsAway m.owner.name v
 StandsIn states.Bound t m v c = IsOwner t m.owner v
 StandsIn states.Listening t m v c = IsOwner t m.owner v × IsHashed kinds.Listen m c
 StandsIn states.Full t m v c = IsOwner t m.owner v × IsHashed kinds.Full m c
+StandsIn states.Request t m v c = IsHashed kinds.Request m c
 StandsIn states.TimeWait t m v c = ⊥
 
 -- an open socket of the section

@@ -1,11 +1,12 @@
 //! The labels of a section, and the open socket that each names.
 
-ghost use Rattle.std.specs.Prelude.{◌≡◌, ◌+◌, ◌<◌, ◌≤◌, ◌^◌, length, slice_set, None, Some, MatchOption, option_and_then, IfSome, OnOk, OnErr};
+ghost use Rattle.std.specs.Prelude.{◌≡◌, ◌+◌, ◌<◌, ◌≤◌, ◌^◌, length, slice_set, find, None, Some, MatchOption, option_and_then, IfSome, OnOk, OnErr};
 ghost use Rattle.std.specs.Option.{option_map};
 ghost use Rattle.std.specs.Borrow.{Bor};
 ghost use Rattle.flat_list.specs.Sections as sections;
+ghost use Rattle.table_model.specs.Own.{is_named};
 ghost use Rattle.section_machine.specs.Places as spec;
-ghost use Rattle.section_machine.specs.Places.{HaveNames, IsUnnamed, Takes, at_place};
+ghost use Rattle.section_machine.specs.Places.{HaveNames, IsUnnamed, Takes, at_place, those};
 ghost use Rattle.shared_ops.specs.Socks.{FitsState, mine_of};
 ghost use Rattle.section_machine.specs.Steps.{NotesPlace};
 
@@ -125,6 +126,30 @@ impl Labels {
         let socket = self.sockets[place?].as_ref()?;
         let _owner = socket.owner();
         Some(socket)
+    }
+
+    /// The place of the label that stands for a name.
+    fn place_named(&self, name: u32) -> Option<usize>
+        ensures within { IfSome result (λ place. place < length self.now.labels) }
+        ensures socket { option_and_then (at_place self.now.places) result
+            ≡ find (is_named name) (those self.now.places) }
+    {
+        let first = self.number * 0x100_0000 + 1;
+        let place = name.checked_sub(first)? as usize;
+        if place < self.len() {
+            Some(place)
+        } else {
+            None
+        }
+    }
+
+    /// The open socket of a name.
+    pub(crate) fn named(&self, name: u32) -> Option<&Sock>
+        ensures socket { option_map (λ (s : Bor Sock). mine_of s.now) result
+            ≡ find (is_named name) (those self.now.places) }
+        ensures state { IfSome result (λ s. FitsState s.now) }
+    {
+        self.at(self.place_named(name))
     }
 
     /// Takes the open socket that a label names out of its place.

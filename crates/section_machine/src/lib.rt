@@ -16,6 +16,7 @@
 #![tactic(auto)]
 
 mod ending;
+mod handshaking;
 pub mod labels;
 pub mod laws;
 pub mod machine;

@@ -258,6 +258,13 @@ impl Machine {
                 from,
                 at,
             } => self.accept(rt, tables, worker, listener, *label, *from, *at),
+            Command::Syn {
+                listener,
+                label,
+                from,
+                at,
+            } => self.syn(rt, tables, worker, listener, *label, *from, *at),
+            Command::Ack { request, label } => self.ack(rt, tables, worker, request, *label),
             Command::Close { label } => self.close(rt, tables, worker, label),
             Command::Drop { label } => self.drop_labelled(rt, tables, worker, label),
             Command::At { moment } => Ok(self.at(tables, worker, *moment)),
@@ -280,8 +287,8 @@ impl Machine {
     /// Want of memory: the plan went some way by the entries and changes that this call made, and by no others, and a port
     /// that it had taken is given up. The section has its header, number, moment and open sockets still; its offsets are
     /// past one, where a search began; of a `reap` the first TIME_WAITs that are over are gone, and the others left; and
-    /// the label of an accepted child is given, unless nothing was done at all. The worker is ready. How far the plan went
-    /// is not told, nor that the section's sockets stand at the tables: the program ends there.
+    /// the label of an accepted child or of a request is given, unless nothing was done at all. The worker is ready. How
+    /// far the plan went is not told, nor that the section's sockets stand at the tables: the program ends there.
     pub fn step<R: Wait>(
         &mut self,
         rt: &R,

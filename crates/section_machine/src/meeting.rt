@@ -22,8 +22,8 @@ use shared_ops::{OpEnd, Sock, Tables, Worker, accept, connect};
 use std::alloc::AllocError;
 use std::sync::Wait;
 
-/// How the refusal of `connect` or `accept` is called.
-fn connect_error(end: OpEnd) -> Reply
+/// How the refusal of `connect`, `accept`, `syn` or `ack` is called.
+pub(crate) fn connect_error(end: OpEnd) -> Reply
     ensures { result ≡ commands.connect_error end }
 {
     match end {

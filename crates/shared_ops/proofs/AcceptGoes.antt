@@ -42,7 +42,7 @@ use Rattle.shared_ops.specs.declared.tables.Tables.{Tables}
 use Rattle.shared_ops.specs.Socks.{FitsState, full_at, mine_of}
 use Rattle.shared_ops.specs.Stands.{IsOwner, StandsAs}
 use Rattle.shared_ops.specs.There.{IsNew}
-use Rattle.shared_ops.proofs.Goes.{deed_at, by_entry, by_inserted, all_entries, does_both, does_none, does_entries, all_first}
+use Rattle.shared_ops.proofs.Goes.{deed_at, by_entry, by_inserted, all_entries, does_both, does_entries, all_first, left_nowhere}
 use Rattle.shared_ops.proofs.Inserted.{grants_of, put_outcome, keys_of, names_of}
 use Rattle.shared_ops.proofs.ConnectGoes.{replaced_leads, full_is, gone_quiet, hashed_still}
 use Rattle.shared_ops.proofs.Knows.{Grows, after, grows, grows_first, grows_rest, gave_first, all_pass, inherits, stands_on}
@@ -103,8 +103,7 @@ module _ (count : ℕ) (l a : Owner) (port : owner_key a ≡ owner_key l) (v w :
   accept_refused errors.Memory ins gave = absurd ins
 
   pub accept_left : c ≡ d → Gave v w [] → LeftOff count a.name plan v w c d
-  accept_left same gave =
-      record { rest = plan; deeds = []; leads = refl; back = []; gives = tt; gave = gave; does = subst (Does [] c) same (does_none c) }
+  accept_left same gave = left_nowhere count a.name plan v w c d same gave
 
 module _ (l a : Owner) (place : ℕ) (v w : View) (replaced : Option ℕ) (answer : Answer) (stands : StandsOwn l place v) (all : AskedAll place (child_entry l a ∷ gone_of replaced answer) v w) where
   -- the child stands
@@ -133,6 +132,7 @@ listening_if states.Bound e = absurd (false≢true e)
 listening_if states.Listening e = refl
 listening_if states.Full e = absurd (false≢true e)
 listening_if states.TimeWait e = absurd (false≢true e)
+listening_if states.Request e = absurd (false≢true e)
 
 first_of_five : (a b c d e : Bool) → (a || b || c || d || e) ≡ false → a ≡ false
 first_of_five true b c d e h = absurd (false≢true (sym h))
@@ -154,3 +154,5 @@ listener_stands t (socks.Listening m) v w c d fits listens same stay stood owns 
     (owns, hashed_still kinds.Listen m c d same stay stood.1)
 listener_stands t (socks.Full m) v w c d fits listens same stay stood owns =
     (owns, hashed_still kinds.Full m c d same stay stood.1)
+listener_stands t (socks.Request m) v w c d fits listens same stay stood owns =
+    hashed_still kinds.Request m c d same stay stood

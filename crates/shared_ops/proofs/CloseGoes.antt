@@ -1,5 +1,6 @@
 -- How the plans of `close` and `drop` go on.
 use Rattle.std.proofs.Common.{◌≡◌, ℕ, ◌+◌, ◌≤◌, ◌%◌, List, [], ◌∷◌, None, Result, Ok, Err, refl, sym, ap, subst, ◌∙◌, arith}
+use Rattle.std.specs.Result.{IsErr}
 use Rattle.sock_card.specs.Conflict.{owner_key}
 use Rattle.sock_card.specs.declared.owner.Owner.{Owner}
 use Rattle.sock_card.specs.declared.owner.State.{State}
@@ -58,7 +59,7 @@ none_of place v w (x ∷ xs) are gave = absurd are
 pub all_none : (place : ℕ) (v w : View) → AskedAll place [] v w → Gave v w []
 all_none place v w all = none_of place v w all.xs all.asked all.gave
 
-gave_one : (count port : ℕ) (e : Entry) (v w : View) (one : One (port % count) e v w) → Gave v w (placed (port % count) one.x.note ∷ [])
+pub gave_one : (count port : ℕ) (e : Entry) (v w : View) (one : One (port % count) e v w) → Gave v w (placed (port % count) one.x.note ∷ [])
 gave_one count port e v w one = subst (λ (p : Placed Entry). Gave v w (p ∷ [])) (sym (entry_is count port e.request e.answer one.x one.is)) one.gave
 
 -- a plan was left off before its first question
@@ -171,10 +172,17 @@ close_drops shape seed (socks.Bound m) moment state other =
     ap (λ (st : State). plan.close_as shape seed st m moment) state ∙ sym (ap (λ (st : State). plan.drop_as st m plan.gone) state)
 close_drops shape seed (socks.Listening m) moment state other =
     ap (λ (st : State). plan.close_as shape seed st m moment) state ∙ sym (ap (λ (st : State). plan.drop_as st m plan.gone) state)
+close_drops shape seed (socks.Request m) moment state other =
+    ap (λ (st : State). plan.close_as shape seed st m moment) state ∙ sym (ap (λ (st : State). plan.drop_as st m plan.gone) state)
 close_drops shape seed (socks.Full m) moment state other = absurd (other m refl)
 
 pub fewer : (more : ℕ) (v : ChainView) → HasShares (more + 4) v → HasShares (more + 2) v
 fewer more v may = omega arith
+
+-- a plan was left off where that is an error
+pub leaves_err : {X E : Type 0} (did : X → plan.Closed) (count name : ℕ) (p : Asking plan.Closed) (v w : View) (c d : Side) (r : Result X E) → IsErr r → LeftOff count name p v w c d → Leaves did count name p v w c d r
+leaves_err did count name p v w c d (Ok x) is k = absurd (cc)
+leaves_err did count name p v w c d (Err end) is k = k
 
 -- what is handed back beside the answer
 module _ {E : Type 0} (count name : ℕ) (p : Asking plan.Closed) (v w : View) (c d : Side) (s : Sock) where

@@ -229,6 +229,11 @@ pub left_there : {R : Type 0} (count name : ℕ) (p q : Asking R) (u v : View) (
 left_there count name p q u v c d a =
     record { rest = q; deeds = a.deeds; leads = a.leads; back = []; gives = tt; gave = subst (Gave u v) (sym (append-nil (entries_in count a.deeds))) a.gave; does = a.does }
 
+-- nothing was asked, and nothing done
+pub left_nowhere : {R : Type 0} (count name : ℕ) (p : Asking R) (v w : View) (c d : Side) → c ≡ d → Gave v w [] → LeftOff count name p v w c d
+left_nowhere count name p v w c d same gave =
+    record { rest = p; deeds = []; leads = refl; back = []; gives = tt; gave = gave; does = subst (Does [] c) same (does_none c) }
+
 module _ {X R : Type 0} (did : X → R) (not_done : OpEnd → R) (count name : ℕ) (p q : Asking R) (u v w : View) (c d e : Side) (a : Went count p u v c d q) where
   pub carried_both : (r : Result X OpEnd) → CarriedOut did not_done count name q v w d e r → CarriedOut did not_done count name p u w c e r
   carried_both (Ok x) b = went_both count p q (ends (did x)) u v w c d e a b

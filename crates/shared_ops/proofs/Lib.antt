@@ -12,6 +12,9 @@ pub mod ConnectGoes
 pub mod SearchGoes
 pub mod SockGoes
 pub mod AcceptGoes
+mod SynGoes
+mod AckGoes
+mod Others
 mod ReapGoes
 pub mod Listed
 mod Lists

@@ -32,7 +32,7 @@ use Rattle.shared_ops.specs.Goes.{Went, LeftOff, Comes}
 abbrev pub spot_of : Stood → Place
 spot_of old = record { bucket = old.bucket; slot = old.slot }
 
--- a TIME_WAIT came into that place of the chain in which it belongs, and then who stood in the old one was gone
+-- a card came into that place of the chain in which it belongs, and then who stood in the old one was gone
 pub record Replaces (old : Stood) (card : Card) (place : Place) (c d : Side) : Type 0 where
   pub hash : Change
   pub is : IsHashOf card hash
@@ -94,4 +94,5 @@ drop_answer socket (Err end) = Err (socket, errors.Memory)
 abbrev pub OthersKept : Sock → ChainView → ChainView → Type 0
 OthersKept (socks.Listening m) v w = OthersStay m.place.slot v w
 OthersKept (socks.Full m) v w = OthersStay m.place.slot v w
+OthersKept (socks.Request m) v w = OthersStay m.place.slot v w
 OthersKept s v w = PlacesStay v w

@@ -134,6 +134,7 @@ LeavesOrStays place a v p q = (q ≡ p) ⊎ LeavesAs place a v p q
 -- by `close`: one that is connected leaves its bucket at once where no slot is free for its TIME_WAIT
 abbrev pub LeavesBy : ℕ → Sock → View → GroupPasses → GroupPasses → Type 0
 LeavesBy count (socks.Unbound m) v p q = q ≡ p
+LeavesBy count (socks.Request m) v p q = q ≡ p
 LeavesBy count (socks.Full m) v p q = LeavesOrStays (owner_key m.owner % count) m.owner v p q
 LeavesBy count (socks.Bound m) v p q = LeavesAs (owner_key m.owner % count) m.owner v p q
 LeavesBy count (socks.Listening m) v p q = LeavesAs (owner_key m.owner % count) m.owner v p q

@@ -1,10 +1,12 @@
--- What hashing a connected socket came to, in an operation's words: our own.
+-- What hashing a connected socket or a request came to, in an operation's words: our own.
 use Rattle.std.specs.Prelude.{◌≡◌, ℕ, Option, Result, Ok, Err, [], ◌∷◌}
 use Rattle.std.specs.Option.{option_map}
 use Rattle.sock_card.specs.declared.owner.Owner.{Owner}
+use Rattle.sock_card.specs.declared.card.Card.{Card}
 use Rattle.chain_book.specs.declared.book.Change.{Change}
 use Rattle.chain_book.specs.declared.outcome.Place.{Place}
 use Rattle.chain_book.specs.declared.outcome.Replace.{Replace}
+use Rattle.chain_book.specs.declared.outcome.Replace.TheVariants as rules
 use Rattle.chain_book.specs.Homes.{home}
 use Rattle.nulls_chain.specs.Changes.{IsPlaced}
 use Rattle.table_rule.specs.Calls.{HasShares}
@@ -15,15 +17,23 @@ use Rattle.shared_sockets.specs.declared.coming.InsertEnd.TheVariants as inserts
 use Rattle.race_record.specs.Deeds.{Wish, hashed, kept_out, no_slot, inserted}
 use Rattle.table_model.specs.declared.operation.OpEnd.{OpEnd}
 use Rattle.table_model.specs.declared.operation.OpEnd.TheVariants as errors
-use Rattle.table_model.specs.Operations.{full_card}
+use Rattle.table_model.specs.Operations.{full_card, request_card}
 use Rattle.chain_deeds.specs.Sides.{Side}
 use Rattle.chain_deeds.specs.Made.{Does}
 use Rattle.chain_deeds.specs.Answers.{name_in}
 use Rattle.shared_ops.specs.declared.hashing.Came.{Came}
 
+-- what a card wishes
+abbrev pub wish_of : Card → ℕ → Replace → Wish
+wish_of card moment rule = record { card = card; moment = moment; rule = rule }
+
 -- what a full owner wishes
 abbrev pub wish_for : Owner → ℕ → Replace → Wish
-wish_for a moment rule = record { card = full_card a; moment = moment; rule = rule }
+wish_for a moment rule = wish_of (full_card a) moment rule
+
+-- what a request wishes: each TIME_WAIT of its four-tuple gives way
+abbrev pub request_wish : Owner → Wish
+request_wish a = wish_of (request_card a) 0 rules.Always
 
 -- it was hashed into that slot of the chain in which it belongs, in place of the TIME_WAIT of that name, if any
 pub record PutsIn (wish : Wish) (place : Place) (replaced : Option ℕ) (c d : Side) : Type 0 where

@@ -12,4 +12,5 @@ pub mod Hashing
 pub mod Connecting
 pub mod Searching
 pub mod Accepting
+pub mod Handshaking
 pub mod Reaping

@@ -17,6 +17,7 @@ mine_of (socks.Unbound m) = m
 mine_of (socks.Bound m) = m
 mine_of (socks.Listening m) = m
 mine_of (socks.Full m) = m
+mine_of (socks.Request m) = m
 
 -- its type says its state
 abbrev pub FitsState : Sock → Type 0
@@ -24,10 +25,15 @@ FitsState (socks.Unbound m) = m.owner.state ≡ states.Unbound
 FitsState (socks.Bound m) = m.owner.state ≡ states.Bound
 FitsState (socks.Listening m) = m.owner.state ≡ states.Listening
 FitsState (socks.Full m) = m.owner.state ≡ states.Full
+FitsState (socks.Request m) = m.owner.state ≡ states.Request
 
 -- a connected socket with that owner
 abbrev pub full_at : Owner → Place → Mine
 full_at a place = record { owner = a; extra = 0; place = place }
+
+-- a request with that owner
+abbrev pub request_at : Owner → Place → Mine
+request_at a place = record { owner = a; extra = 0; place = place }
 
 -- its own end
 abbrev pub end_of : Mine → End

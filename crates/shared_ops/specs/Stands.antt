@@ -88,9 +88,10 @@ pub record IsHashed (kind : Kind) (m : Mine) (c : Side) : Type 0 where
   pub home : m.place.bucket ≡ home c.layout.shape c.layout.seed (card_of kind m)
   pub placed : IsPlaced (place_in kind m) c.view.book
 
--- a socket stands as its state says
+-- a socket stands as its state says; of a request no bucket knows
 abbrev pub StandsAs : Tables → Sock → View → Side → Type 0
 StandsAs t (socks.Unbound m) v c = IsAway m.owner.name v
 StandsAs t (socks.Bound m) v c = IsOwner t m.owner v
 StandsAs t (socks.Listening m) v c = IsOwner t m.owner v × IsHashed kinds.Listen m c
 StandsAs t (socks.Full m) v c = IsOwner t m.owner v × IsHashed kinds.Full m c
+StandsAs t (socks.Request m) v c = IsHashed kinds.Request m c

@@ -147,8 +147,8 @@ fn accept_shared<R: Wait>(
 ///
 /// # Errors
 ///
-/// `Inval`: it is no listener of that end. `Taken`: a full socket has the four-tuple. `Full`: no slot was free.
-/// `Memory`: memory was wanting, and nothing has changed.
+/// `Inval`: it is no listener of that end. `Taken`: a full socket or a request has the four-tuple. `Full`: no slot was
+/// free. `Memory`: memory was wanting, and nothing has changed.
 pub fn accept<R: Wait>(
     rt: &R,
     tables: &Tables,

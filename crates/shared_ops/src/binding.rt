@@ -210,6 +210,7 @@ fn bind_shared<R: Wait>(
         Sock::Bound(bound) => Err((Sock::Bound(bound), OpEnd::Inval)),
         Sock::Listening(listener) => Err((Sock::Listening(listener), OpEnd::Inval)),
         Sock::Full(full) => Err((Sock::Full(full), OpEnd::Inval)),
+        Sock::Request(request) => Err((Sock::Request(request), OpEnd::Inval)),
     }
 }
 

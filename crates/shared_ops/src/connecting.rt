@@ -194,6 +194,7 @@ fn connect_shared<R: Wait>(
         }
         Sock::Listening(listener) => Err((Sock::Listening(listener), OpEnd::IsConn)),
         Sock::Full(full) => Err((Sock::Full(full), OpEnd::IsConn)),
+        Sock::Request(request) => Err((Sock::Request(request), OpEnd::Inval)),
     }
 }
 
@@ -207,10 +208,10 @@ fn connect_shared<R: Wait>(
 ///
 /// # Errors
 ///
-/// `Inval`: there is no such end, or no such source. `IsConn`: it listens or is connected. `Taken`: the socket of that
-/// name keeps its four-tuple from it. `Full`: no slot was free. `NoPort`: each of the ports, at its own turn, was held
-/// or had its four-tuple taken. `Memory`: memory was wanting; what a search was told before stays told. A refused
-/// socket comes back as it was.
+/// `Inval`: there is no such end or no such source, or it is a request. `IsConn`: it listens or is connected. `Taken`:
+/// the socket of that name keeps its four-tuple from it. `Full`: no slot was free. `NoPort`: each of the ports, at its
+/// own turn, was held or had its four-tuple taken. `Memory`: memory was wanting; what a search was told before stays
+/// told. A refused socket comes back as it was.
 pub fn connect<R: Wait>(
     rt: &R,
     tables: &Tables,

@@ -16,6 +16,7 @@ ghost use Rattle.bind_buckets.specs.OwnTold.{StandsOwn};
 ghost use Rattle.bind_buckets.specs.Turned.{View, IsIdle, IsOut, IsAlone, Within, made};
 ghost use Rattle.chain_deeds.specs.Sides.{HasRoom, IsResting, side_of};
 ghost use Rattle.table_model.specs.Asking.{ends, unhashes};
+ghost use Rattle.table_model.specs.Own.{card_of};
 ghost use Rattle.table_model.specs.Operations as plans;
 ghost use Rattle.shared_ops.specs.Closes as spec;
 ghost use Rattle.shared_ops.specs.Closes.{ClosedBy, ClosedByAlone, Leaves, OthersKept, WaitsAs, is_gone, leave_entry, spot_of};
@@ -27,7 +28,7 @@ ghost use Rattle.shared_ops.specs.Spends.{Draws};
 ghost use Rattle.shared_ops.specs.Stands.{HasGroups, IsHashed, IsOwner, IsReady, IsThere, MayDraw, MayEnter, MayTell, StandsAs, buckets_of, chained, place_in, turned};
 
 use crate::room::make_room;
-use crate::sock::{Connected, Listening, Sock};
+use crate::sock::{Connected, Listening, Request, Sock};
 use crate::tables::{Tables, Worker};
 use crate::{asking, group_lists};
 use bind_buckets::{Bucket, turning};
@@ -89,6 +90,17 @@ fn listener_place(listener: &Listening) -> nulls_chain::Place
         bucket: listener.place.bucket,
         slot: listener.place.slot,
         card: owned::card_as(Kind::Listen, &listener.owner, listener.extra),
+    }
+}
+
+/// Where a request stands, with its card.
+pub(crate) fn request_place(request: &Request) -> nulls_chain::Place
+    ensures { result ≡ place_in kinds.Request request.now }
+{
+    nulls_chain::Place {
+        bucket: request.place.bucket,
+        slot: request.place.slot,
+        card: owned::card_as(Kind::Request, &request.owner, 0),
     }
 }
 
@@ -310,6 +322,37 @@ fn leave_chain<R: Wait>(
     }
 }
 
+/// Takes a request out of its chain; no bucket knows of it.
+fn leave_request<R: Wait>(
+    rt: &R,
+    tables: &Tables,
+    worker: &mut Worker,
+    request: &Request,
+) -> Result<(), AllocError>
+    requires ready { IsReady tables.now worker.old }
+    requires draws { MayDraw 2 worker.old }
+    requires hashed { IsHashed kinds.Request request.now (chained tables.now worker.old) }
+    ensures ready { IsReady tables.now worker.new }
+    ensures turns { worker.new.turns ≡ worker.old.turns }
+    ensures groups { worker.new.groups ≡ worker.old.groups }
+    ensures drawn { Draws 2 worker.old worker.new }
+    ensures carried { Leaves is_gone (buckets_of tables.now) request.now.owner.name
+        (unhashes request.now.place (card_of kinds.Request request.now) (ends plans.gone))
+        (turned worker.old) (turned worker.new)
+        (chained tables.now worker.old) (chained tables.now worker.new) result }
+    ensures side { OnErr result (chained tables.now worker.new ≡ chained tables.now worker.old) }
+    ensures stay { OthersStay request.now.place.slot (chained tables.now worker.old).view (chained tables.now worker.new).view }
+{
+    worker.chain.reserve(&tables.chains, 1)?;
+    chain_deeds::remove(
+        &tables.chains,
+        rt,
+        &mut worker.chain,
+        request_place(request),
+    );
+    Ok(())
+}
+
 /// Lets a socket go at once, without TIME_WAIT.
 fn leave<R: Wait>(
     rt: &R,
@@ -347,6 +390,7 @@ fn leave<R: Wait>(
             leave_chain(rt, tables, worker, owner, listener_place(listener))
         }
         Sock::Full(full) => leave_chain(rt, tables, worker, owner, full_place(full)),
+        Sock::Request(request) => leave_request(rt, tables, worker, request),
     }
 }
 

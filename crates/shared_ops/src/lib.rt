@@ -1,4 +1,5 @@
-//! The operations on TCP sockets over tables that threads share: `bind`, `listen`, `connect`, `accept`, `close`, `reap`.
+//! The operations on TCP sockets over tables that threads share: `bind`, `listen`, `connect`, `accept`, `syn`, `ack`,
+//! `close`, `reap`.
 //!
 //! [`Tables`] are the bind buckets under turns and the chain table; a [`Worker`] is a thread's part in both. A socket
 //! is a value of its own type for each state, [`Sock`], which an operation takes and hands back: a refused one as it
@@ -20,10 +21,12 @@ mod asking;
 pub mod binding;
 pub mod connecting;
 mod group_lists;
+pub mod handshaking;
 mod hashing;
 pub mod leaving;
 pub mod listening;
 pub mod reaping;
+pub mod requesting;
 mod room;
 mod searching;
 pub mod sock;
@@ -34,9 +37,11 @@ mod tests;
 pub use accepting::accept;
 pub use binding::bind;
 pub use connecting::connect;
+pub use handshaking::ack;
 pub use leaving::{Closed, Waiting, close, drop_sock};
 pub use listening::listen;
 pub use reaping::reap_one;
-pub use sock::{Bound, Connected, Listening, Sock, Unbound};
+pub use requesting::syn;
+pub use sock::{Bound, Connected, Listening, Request, Sock, Unbound};
 pub use table_model::OpEnd;
 pub use tables::{Tables, Worker};

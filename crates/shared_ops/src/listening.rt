@@ -359,6 +359,7 @@ fn listen_shared<R: Wait>(
         }
         Sock::Listening(listener) => Ok((Sock::Listening(listener), owner.port)),
         Sock::Full(full) => Err((Sock::Full(full), OpEnd::Inval)),
+        Sock::Request(request) => Err((Sock::Request(request), OpEnd::Inval)),
     }
 }
 
@@ -372,7 +373,7 @@ fn listen_shared<R: Wait>(
 ///
 /// # Errors
 ///
-/// `Inval`: it is connected. `InUse`: the owner of that name keeps it from listening. `NoPort`: each of the ports was
+/// `Inval`: it is connected, or a request. `InUse`: the owner of that name keeps it from listening. `NoPort`: each of the ports was
 /// refused, at its own turn. `GroupFull` and `GroupsFull`: no place in a group of listeners. `Full`: no slot was free.
 /// `Memory`: a bucket or the worker's list of changes wanted memory; the ports that were refused before stay told. A
 /// refused socket comes back as it was; a port that this call took for it is given up.

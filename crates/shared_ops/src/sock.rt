@@ -3,7 +3,7 @@
 ghost use Rattle.std.specs.Prelude.{◌≡◌};
 ghost use Rattle.flat_list.specs.Owned.{addressed, new_owner};
 ghost use Rattle.table_model.specs.Operations.{plain};
-ghost use Rattle.shared_ops.specs.Socks.{mine_of, FitsState, full_at, listening_at, end_of};
+ghost use Rattle.shared_ops.specs.Socks.{mine_of, FitsState, full_at, request_at, listening_at, end_of};
 
 use chain_book::Place;
 use flat_list::{End, Options, owned};
@@ -116,6 +116,35 @@ impl Model for Connected {
     ghost invariant = { λ s. s.owner.state ≡ states.Full };
 }
 
+/// A request, which stands for a listener's handshake until that is over, and where it is hashed.
+#[derive(Debug, Drop)]
+pub struct Request {
+    pub(crate) owner: Owner,
+    pub(crate) place: Place,
+}
+
+impl Model for Request {
+    ghost use Rattle.std.specs.Prelude.{◌≡◌};
+    ghost use Rattle.sock_card.specs.declared.owner.State.TheVariants as states;
+    ghost use Rattle.table_model.specs.Own.{Mine};
+
+    ghost Value = { Mine };
+
+    ghost view = { λ s. record { owner = s.owner; extra = 0; place = s.place } };
+
+    ghost invariant = { λ s. s.owner.state ≡ states.Request };
+}
+
+impl Request {
+    /// The request of that owner, hashed at that place.
+    pub(crate) fn at_place(owner: Owner, place: Place) -> Self
+        requires { owner.state ≡ State.Request }
+        ensures { result ≡ request_at owner place }
+    {
+        Request { owner, place }
+    }
+}
+
 impl Connected {
     /// The full socket of that owner, hashed at that place.
     pub(crate) fn at_place(owner: Owner, place: Place) -> Self
@@ -164,6 +193,7 @@ pub enum Sock {
     Bound(Bound),
     Listening(Listening),
     Full(Connected),
+    Request(Request),
 }
 
 impl Sock {
@@ -177,6 +207,7 @@ impl Sock {
             Sock::Bound(s) => &s.owner,
             Sock::Listening(s) => &s.owner,
             Sock::Full(s) => &s.owner,
+            Sock::Request(s) => &s.owner,
         }
     }
 }

@@ -1,13 +1,17 @@
-//! A listener and connected sockets come and go.
+//! Listeners, connected sockets and requests come and go.
 
-ghost use Rattle.std.specs.Prelude.{◌≡◌, ◌+◌, ◌<◌, ◌≤◌, ◌^◌, ℕ, length, IfOk};
+ghost use Rattle.std.specs.Prelude.{◌≡◌, ◌+◌, ◌<◌, ◌≤◌, ◌^◌, ℕ, [], length, IfOk};
 ghost use Rattle.turn_table.specs.Passes as words;
+ghost use Rattle.shared_ops.specs.Socks.{mine_of};
 ghost use Rattle.shared_ops.specs.Stands.{HasGroups, IsAway, IsReady, MayDraw, MayEnter, StandsAs, buckets_of, chained, turned};
 
+use crate::binding::bind;
 use crate::connecting::connect;
+use crate::handshaking::ack;
 use crate::leaving::{Closed, Waiting, close, drop_sock};
 use crate::listening::listen;
 use crate::reaping::reap_one;
+use crate::requesting::syn;
 use crate::sock::{Sock, Unbound};
 use crate::tables::{Tables, Worker};
 use bind_buckets::{Sharing, turning};
@@ -19,6 +23,7 @@ use reuseport_group::{GroupPasses, Groups, name_of};
 use std::alloc::{AllocError, Global};
 use std::sync::Wait;
 use std::test::Fail;
+use table_model::OpEnd;
 
 const PLAIN: Options = Options {
     net: None,
@@ -29,9 +34,19 @@ const PLAIN: Options = Options {
     noport: false,
 };
 
+const REUSING: Options = Options {
+    reuseaddr: true,
+    ..PLAIN
+};
+
 const WEB: End = End {
     addr: 0x0A00_0002,
     port: 80,
+};
+
+const CLIENT: End = End {
+    addr: 0x0A00_0003,
+    port: 1000,
 };
 
 /// Empty tables with so many slots, and a worker that is alone at them.
@@ -40,6 +55,7 @@ fn empty(alloc: Global, slots: u32) -> Result<(Tables, Worker), AllocError>
     ensures ready { IfOk result (λ t. IsReady t.0 t.1) }
     ensures first { IfOk result (λ t. words.caller t.1.turns ≡ 0) }
     ensures away { IfOk result (λ t. (name : ℕ) → IsAway name (turned t.1)) }
+    ensures untold { IfOk result (λ t. (turned t.1).mine ≡ []) }
     ensures enters { IfOk result (λ t. MayEnter 100 t.1) }
     ensures draws { IfOk result (λ t. MayDraw 100 t.1) }
 {
@@ -88,6 +104,10 @@ enum Went {
     Reaped,
     /// It is gone without a wait: so many slots were owned, and so many only held.
     NoSlot(u32, u32),
+    /// The socket of that name kept its four-tuple from it.
+    Taken(u32),
+    /// A request came in its place.
+    Replaced,
     /// It never came, or never went.
     Never,
 }
@@ -226,6 +246,128 @@ fn connect_and_reap<R: Wait>(rt: &R, tables: &Tables, worker: &mut Worker, socke
     }
 }
 
+/// A listener shakes hands with a client, and the child is closed; or no slot is free for it, and the request goes.
+fn shake_hands<R: Wait>(rt: &R, tables: &Tables, worker: &mut Worker, socket: Sock) -> Went
+    requires ready { IsReady tables.now worker.old }
+    requires first { words.caller worker.old.turns ≡ 0 }
+    requires untold { (turned worker.old).mine ≡ [] }
+    requires enters { MayEnter 100 worker.old }
+    requires draws { MayDraw 100 worker.old }
+    requires name { (mine_of socket).owner.name ≡ 1 }
+    requires stands { StandsAs tables.now socket (turned worker.old) (chained tables.now worker.old) }
+{
+    let Ok((listener, port)) = listen(rt, tables, worker, socket, ports()) else {
+        return Went::Never;
+    };
+    let at = End {
+        addr: WEB.addr,
+        port,
+    };
+    let Ok(request) = syn(rt, tables, worker, &listener, 2, CLIENT, at) else {
+        return Went::Never;
+    };
+    match ack(rt, tables, worker, request, Some(&listener), 3) {
+        Ok(child) => match close(rt, tables, worker, child, 5) {
+            Ok(Closed::TimeWait(_)) => Went::Waits,
+            _ => Went::Never,
+        },
+        Err((request, end)) => match (drop_sock(rt, tables, worker, request), end) {
+            (Ok(()), OpEnd::Full { owned, held }) => Went::NoSlot(owned, held),
+            _ => Went::Never,
+        },
+    }
+}
+
+/// A listener goes whose request stands, and a socket at its port would connect to the client.
+fn outlive_listener<R: Wait>(rt: &R, tables: &Tables, worker: &mut Worker, socket: Sock) -> Went
+    requires ready { IsReady tables.now worker.old }
+    requires first { words.caller worker.old.turns ≡ 0 }
+    requires untold { (turned worker.old).mine ≡ [] }
+    requires enters { MayEnter 100 worker.old }
+    requires draws { MayDraw 100 worker.old }
+    requires name { (mine_of socket).owner.name ≡ 1 }
+    requires stands { StandsAs tables.now socket (turned worker.old) (chained tables.now worker.old) }
+{
+    let Ok((listener, port)) = listen(rt, tables, worker, socket, ports()) else {
+        return Went::Never;
+    };
+    let at = End {
+        addr: WEB.addr,
+        port,
+    };
+    let Ok(_request) = syn(rt, tables, worker, &listener, 2, CLIENT, at) else {
+        return Went::Never;
+    };
+    if listener.owner().name != 1 {
+        return Went::Never;
+    }
+    let Ok(()) = drop_sock(rt, tables, worker, listener) else {
+        return Went::Never;
+    };
+    let other = Sock::Unbound(Unbound::new(3, PLAIN));
+    let Ok((bound, _)) = bind(rt, tables, worker, other, at, ports()) else {
+        return Went::Never;
+    };
+    match connect(
+        rt,
+        tables,
+        worker,
+        bound,
+        None,
+        CLIENT,
+        3,
+        Replace::Always,
+        ports(),
+    ) {
+        Err((_, OpEnd::Taken(name))) => Went::Taken(name),
+        _ => Went::Never,
+    }
+}
+
+/// A socket waits, and then a listener at its port has a request from the end to which it was connected.
+fn call_again<R: Wait>(rt: &R, tables: &Tables, worker: &mut Worker, socket: Sock) -> Went
+    requires ready { IsReady tables.now worker.old }
+    requires first { words.caller worker.old.turns ≡ 0 }
+    requires untold { (turned worker.old).mine ≡ [] }
+    requires enters { MayEnter 100 worker.old }
+    requires draws { MayDraw 100 worker.old }
+    requires name { (mine_of socket).owner.name ≡ 1 }
+    requires stands { StandsAs tables.now socket (turned worker.old) (chained tables.now worker.old) }
+{
+    let connected = connect(
+        rt,
+        tables,
+        worker,
+        socket,
+        Some(WEB.addr),
+        CLIENT,
+        3,
+        Replace::Never,
+        ports(),
+    );
+    let Ok((full, at)) = connected else {
+        return Went::Never;
+    };
+    if full.owner().name != 1 {
+        return Went::Never;
+    }
+    let Ok(Closed::TimeWait(waiting)) = close(rt, tables, worker, full, 5) else {
+        return Went::Never;
+    };
+    let other = Sock::Unbound(Unbound::new(2, REUSING));
+    let Ok((bound, _)) = bind(rt, tables, worker, other, at, ports()) else {
+        return Went::Never;
+    };
+    let Ok((listener, _)) = listen(rt, tables, worker, bound, ports()) else {
+        return Went::Never;
+    };
+    let request = syn(rt, tables, worker, &listener, 3, CLIENT, at);
+    match (request, reap_one(rt, tables, worker, &waiting)) {
+        (Ok(_), Ok(false)) => Went::Replaced,
+        _ => Went::Never,
+    }
+}
+
 #[test]
 fn a_listener_comes_and_goes(rt: HostRuntime) -> Result<(), Fail> {
     let (tables, mut worker) = empty(rt.alloc(), 4)?;
@@ -282,5 +424,41 @@ fn a_wait_is_reaped_once(rt: HostRuntime) -> Result<(), Fail> {
     let socket = Sock::Unbound(Unbound::new(1, PLAIN));
     let went = connect_and_reap(&rt, &tables, &mut worker, socket);
     assert_eq!(rt; went, Went::Reaped);
+    Ok(())
+}
+
+#[test]
+fn a_child_comes_in_its_requests_place(rt: HostRuntime) -> Result<(), Fail> {
+    let (tables, mut worker) = empty(rt.alloc(), 4)?;
+    let socket = Sock::Unbound(Unbound::new(1, PLAIN));
+    let went = shake_hands(&rt, &tables, &mut worker, socket);
+    assert_eq!(rt; went, Went::Waits);
+    Ok(())
+}
+
+#[test]
+fn a_request_stands_where_no_slot_is_free_for_its_child(rt: HostRuntime) -> Result<(), Fail> {
+    let (tables, mut worker) = empty(rt.alloc(), 2)?;
+    let socket = Sock::Unbound(Unbound::new(1, PLAIN));
+    let went = shake_hands(&rt, &tables, &mut worker, socket);
+    assert_eq!(rt; went, Went::NoSlot(2, 0));
+    Ok(())
+}
+
+#[test]
+fn a_request_keeps_its_four_tuple(rt: HostRuntime) -> Result<(), Fail> {
+    let (tables, mut worker) = empty(rt.alloc(), 4)?;
+    let socket = Sock::Unbound(Unbound::new(1, PLAIN));
+    let went = outlive_listener(&rt, &tables, &mut worker, socket);
+    assert_eq!(rt; went, Went::Taken(2));
+    Ok(())
+}
+
+#[test]
+fn a_time_wait_gives_way_to_a_request(rt: HostRuntime) -> Result<(), Fail> {
+    let (tables, mut worker) = empty(rt.alloc(), 4)?;
+    let socket = Sock::Unbound(Unbound::new(1, REUSING));
+    let went = call_again(&rt, &tables, &mut worker, socket);
+    assert_eq!(rt; went, Went::Replaced);
     Ok(())
 }

@@ -1,4 +1,5 @@
-use Rattle.std.proofs.Common.{◌≡◌, ℕ, List, [], ◌∷◌, refl, ap, subst, arith, inl, inr}
+use Rattle.std.proofs.Common.{◌≡◌, ℕ, ◌≤◌, List, [], ◌∷◌, refl, sym, ap, ◌∙◌, subst, arith, inl, inr}
+use Rattle.std.proofs.lemmas.Bool.{true≢false}
 use Rattle.jhash_words.specs.Jhash.{jhash_1word, jhash_3words, started_mix, final_mix, mixed}
 use Rattle.jhash_words.specs.Places.{tuple_hash, listen_hash}
 use Rattle.sock_card.specs.Rank.{rank}
@@ -6,7 +7,8 @@ use Rattle.chain_book.specs.declared.book.Change.{Change}
 use Rattle.chain_book.specs.Homes.{home}
 use Rattle.race_book.specs.Among.{Among}
 use Rattle.race_book.specs.Explained.{IsAtHome, IsOfSlot, MeetsSome, buckets_of}
-use Rattle.race_record.specs.Worked.{first_race, hash_a, packet}
+use Rattle.race_book.specs.Lives.{Throughout, comes_after}
+use Rattle.race_record.specs.Worked.{first_race, handshake_race, hash_a, hash_r, packet}
 use Rattle.race_record.proofs.Listener.{lives, stays}
 use Rattle.race_record.proofs.rows.wrong_lookups.Goals as goal
 
@@ -45,3 +47,31 @@ not_there a = elim a as (λ _. ⊥) [
 
 pub returns-clause-bucket : goal.returns-clause-bucket
 returns-clause-bucket c l = not_there (subst (λ (bs : List ℕ). Among bs 2) its_buckets l.items.0.bucket)
+
+request_home : IsAtHome handshake_race.shape 0 hash_r
+unfolding home tuple_hash jhash_3words started_mix final_mix mixed
+request_home = refl
+
+request_ranks : rank hash_r.card (packet 0x0A000001 80) ≡ 5
+unfolding rank
+request_ranks = refl
+
+-- the request is unhashed last
+request_stays : Throughout (Among handshake_race.book) hash_r 4 6
+request_stays = record {
+  before = omega arith;
+  still = λ u a t. elim a as (λ _. 6 ≤ u.begin) [
+    | inl e ↦ absurd (true≢false (sym t ∙ ap (comes_after hash_r) e))
+    | inr b ↦ elim b as (λ _. 6 ≤ u.begin) [
+      | inl e ↦ absurd (true≢false (sym t ∙ ap (comes_after hash_r) e))
+      | inr d ↦ elim d as (λ _. 6 ≤ u.begin) [
+        | inl e ↦ absurd (true≢false (sym t ∙ ap (comes_after hash_r) e))
+        | inr f ↦ elim f as (λ _. 6 ≤ u.begin) [ inl e ↦ omega (arith, ap (λ (x : Change). x.begin) e) | inr n ↦ absurd n ]
+      ]
+    ]
+  ];
+}
+
+pub returns-clause-listener : goal.returns-clause-listener
+returns-clause-listener c l =
+    l.items.0.explained.best hash_r (record { there = inr (inl refl); hash = refl }) request_home (omega (arith, matches, request_ranks)) request_stays

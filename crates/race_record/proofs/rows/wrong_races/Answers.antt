@@ -6,7 +6,7 @@ use Rattle.chain_book.specs.declared.book.Act.TheVariants as acts
 use Rattle.chain_book.specs.declared.book.Change.{Change}
 use Rattle.flat_list.specs.declared.command.Command.TheVariants as commands
 use Rattle.flat_list.specs.declared.command.Reply.TheVariants as replies
-use Rattle.flat_list.specs.Rows.{a, one, socket}
+use Rattle.flat_list.specs.Rows.{a, d, r, one, socket}
 use Rattle.table_model.specs.Own.{Own, new_own}
 use Rattle.table_model.specs.Commands.{Replied, answers, plan}
 use Rattle.race_book.specs.Among.{Among}
@@ -14,9 +14,10 @@ use Rattle.race_book.specs.Lives.{Leaves, comes_after, is_hash, is_unhash}
 use Rattle.race_book.specs.Serial.{EndsOne}
 use Rattle.race_record.specs.Goes.{Goes}
 use Rattle.race_record.specs.Deeds.{entered}
-use Rattle.race_record.specs.Worked.{first_bind, card_a, card_e}
+use Rattle.race_record.specs.Worked.{first_bind, card_a, card_e, handshake_script}
 use Rattle.race_record.specs.Refused as refused
-use Rattle.race_record.specs.Wrong.{twice_script, second_bind, twins_race, twin_b, drop_race, unhash_other}
+use Rattle.race_record.specs.Wrong.{twice_script, second_bind, twins_race, twin_b, drop_race, unhash_other, unhash_early}
+use Rattle.race_record.proofs.HashedFirst.{ack_hashes_first}
 use Rattle.race_record.proofs.rows.wrong_races.Goals as goal
 
 pub returns-clause-number : goal.returns-clause-number
@@ -77,3 +78,12 @@ returns-clause-card c l = not_hers (l.serial.ends unhash_other (inr (inl refl)) 
 
 pub returns-clause-step : goal.returns-clause-step
 returns-clause-step c l = omega (arith, l.spans.0.pairs.1.1.0.0.below.0)
+
+pub returns-clause-unhash : goal.returns-clause-unhash
+returns-clause-unhash c l =
+    let fourth = l.sections.0.2.2.2 in
+    let fifth = fourth.2 in
+    ack_hashes_first handshake_script.header fourth.0 r d unhash_early _ _ fifth.1.goes
+
+pub returns-clause-hash : goal.returns-clause-hash
+returns-clause-hash c l = omega (arith, l.spans.0.each.1.1.1.1.0.ascend.0.1.0)

@@ -60,6 +60,14 @@ returns-in-Full-clause-carried g c =
     subst (λ (x : Sock). Went (buckets_of t) (bind (mine_of x) c.args.end c.args.ports) v v k k (ends (refused errors.Inval))) (sym c.in-Full.is)
     (has_port (buckets_of t) c.in-Full.full c.args.end c.args.ports v k states.Full (subst FitsState c.in-Full.is c.owner-owner.ensures.state) refl)
 
+pub returns-in-Request-clause-carried : goal.returns-in-Request-clause-carried
+returns-in-Request-clause-carried g c =
+    let t = c.args.tables.now in
+    let v = turned c.args.worker.now in
+    let k = chained t c.args.worker.now in
+    subst (λ (x : Sock). Went (buckets_of t) (bind (mine_of x) c.args.end c.args.ports) v v k k (ends (refused errors.Inval))) (sym c.in-Request.is)
+    (has_port (buckets_of t) c.in-Request.request c.args.end c.args.ports v k states.Request (subst FitsState c.in-Request.is c.owner-owner.ensures.state) refl)
+
 pub returns-then-owner-clause-carried : goal.returns-then-owner-clause-carried
 returns-then-owner-clause-carried g c =
     let t = c.args.tables.now in

@@ -105,3 +105,16 @@ returns-in-Full-clause-carried g c =
     let state = subst FitsState c.in-Full.is c.owner.ensures.state in
     let planned = subst (λ (p : Asking Did). Went n p v v k k (ends (refused errors.IsConn))) (plan_by shape seed m c.args.from c.args.to c.args.moment c.args.rule c.args.ports states.Full _ state refl) (went_nowhere n (ends (refused errors.IsConn)) v k) in
     subst (λ (s : Sock). Went n (connect shape seed (mine_of s) c.args.from c.args.to c.args.moment c.args.rule c.args.ports) v v k k (ends (refused errors.IsConn))) (sym c.in-Full.is) planned
+
+pub returns-in-Request-clause-carried : goal.returns-in-Request-clause-carried
+returns-in-Request-clause-carried g c =
+    let t = c.args.tables.now in
+    let n = buckets_of t in
+    let v = turned c.args.worker.now in
+    let k = chained t c.args.worker.now in
+    let shape = t.chains.layout.shape in
+    let seed = t.chains.layout.seed in
+    let m : Mine = c.in-Request.request in
+    let state = subst FitsState c.in-Request.is c.owner.ensures.state in
+    let planned = subst (λ (p : Asking Did). Went n p v v k k (ends (refused errors.Inval))) (plan_by shape seed m c.args.from c.args.to c.args.moment c.args.rule c.args.ports states.Request _ state refl) (went_nowhere n (ends (refused errors.Inval)) v k) in
+    subst (λ (s : Sock). Went n (connect shape seed (mine_of s) c.args.from c.args.to c.args.moment c.args.rule c.args.ports) v v k k (ends (refused errors.Inval))) (sym c.in-Request.is) planned

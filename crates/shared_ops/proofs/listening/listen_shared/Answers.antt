@@ -94,6 +94,18 @@ returns-in-Full-clause-carried g c =
     subst (λ (s : Sock). Went n (listen l.shape l.seed (mine_of s) c.args.ports) v v k k (ends (refused errors.Inval))) (sym c.in-Full.is)
     (subst (λ (st : State). Went n (listen_as l.shape l.seed st m c.args.ports) v v k k (ends (refused errors.Inval))) (sym state) (went_nowhere n (ends (refused errors.Inval)) v k))
 
+pub returns-in-Request-clause-carried : goal.returns-in-Request-clause-carried
+returns-in-Request-clause-carried g c =
+    let t = c.args.tables.now in
+    let l = t.chains.layout in
+    let n = buckets_of t in
+    let v = turned c.args.worker.now in
+    let k = chained t c.args.worker.now in
+    let m : Mine = c.in-Request.request in
+    let state = subst FitsState c.in-Request.is c.owner.ensures.state in
+    subst (λ (s : Sock). Went n (listen l.shape l.seed (mine_of s) c.args.ports) v v k k (ends (refused errors.Inval))) (sym c.in-Request.is)
+    (subst (λ (st : State). Went n (listen_as l.shape l.seed st m c.args.ports) v v k k (ends (refused errors.Inval))) (sym state) (went_nowhere n (ends (refused errors.Inval)) v k))
+
 pub returns-in-Bound-clause-lists : goal.returns-in-Bound-clause-lists
 returns-in-Bound-clause-lists g c =
     let n = buckets_of c.args.tables.now in

@@ -43,6 +43,14 @@ pub returns-in-Accept-clause-carried : goal.returns-in-Accept-clause-carried
 unfolding plan
 returns-in-Accept-clause-carried g c = rw c.in-Accept.is c.accept.ensures.carried
 
+pub returns-in-Syn-clause-carried : goal.returns-in-Syn-clause-carried
+unfolding plan
+returns-in-Syn-clause-carried g c = rw c.in-Syn.is c.syn.ensures.carried
+
+pub returns-in-Ack-clause-carried : goal.returns-in-Ack-clause-carried
+unfolding plan
+returns-in-Ack-clause-carried g c = rw c.in-Ack.is c.ack.ensures.carried
+
 pub returns-in-Dump-clause-carried : goal.returns-in-Dump-clause-carried
 unfolding plan
 returns-in-Dump-clause-carried g c =
@@ -68,6 +76,12 @@ returns-in-Connect-clause-left g c = rw c.in-Connect.is c.connect.ensures.left
 
 pub returns-in-Accept-clause-left : goal.returns-in-Accept-clause-left
 returns-in-Accept-clause-left g c = rw c.in-Accept.is c.accept.ensures.left
+
+pub returns-in-Syn-clause-left : goal.returns-in-Syn-clause-left
+returns-in-Syn-clause-left g c = rw c.in-Syn.is c.syn.ensures.left
+
+pub returns-in-Ack-clause-left : goal.returns-in-Ack-clause-left
+returns-in-Ack-clause-left g c = rw c.in-Ack.is c.ack.ensures.left
 
 pub returns-in-Close-clause-left : goal.returns-in-Close-clause-left
 returns-in-Close-clause-left g c = rw c.in-Close.is c.close.ensures.left

@@ -1,0 +1,118 @@
+use Rattle.std.proofs.Common.{ℕ, length, Some, refl, sym, ap, ◌∙◌, subst, arith}
+use Rattle.flat_list.specs.Sections.{name_at}
+use Rattle.table_model.specs.Own.{Own}
+use Rattle.table_model.specs.Asking.{ends}
+use Rattle.table_model.specs.Own.{next_name, with_label}
+use Rattle.table_model.specs.Operations as plans
+use Rattle.table_model.specs.Operations.{done, refused}
+use Rattle.table_model.specs.Commands.{accept_reply, connect_error}
+use Rattle.shared_ops.specs.Accepting.{accepted}
+use Rattle.shared_ops.specs.Goes as ops
+use Rattle.shared_ops.specs.Socks.{mine_of}
+use Rattle.shared_ops.specs.Stands.{buckets_of, turned, chained}
+use Rattle.section_machine.specs.Places.{Labelled, own_of, with_place}
+use Rattle.section_machine.specs.Sections.{Kept, kept}
+use Rattle.section_machine.proofs.Children.{syn_asker, syn_asks, child_named, its_plan, parent_stands, accepts_refused, accepts}
+use Rattle.section_machine.proofs.Given.{Giving, was, given_own, asked_none}
+use Rattle.section_machine.proofs.LeftOff.{syn_gives, syn_plan, label_left, left_by_header, no_label, wanted_left}
+use Rattle.section_machine.proofs.Owns.{found_named}
+use Rattle.section_machine.proofs.Settled.{refused_went, on_err}
+use Rattle.section_machine.proofs.Spent.{spends_of}
+use Rattle.section_machine.proofs.machine.Machine.syn.Goals as goal
+
+pub returns-in_default-clause-carried : goal.returns-in_default-clause-carried
+returns-in_default-clause-carried g c =
+    let gives : Giving c.args.tables.now c.args.self.now c.self.inside.header c.self.inside.labels c.give.new.self c.self.inside.moment c.self.inside.offsets c.self.inside.waits c.args.label c.args.worker.now =
+    record { before = record { view = c.self.view_is; names = c.len-place.ensures.names }; section = c.requires.section; room = c.requires.room; count = c.len-place.ensures.places; given = c.in_ok-give.ensures.given } in
+    asked_none gives (syn_asker c.args.from c.args.at) c.args.listener.now (λ h x n. refl)
+    (sym (found_named c.self.inside.labels c.give.new.self c.args.label c.place_of-listener.result c.args.listener.now c.in_ok-give.ensures.given c.place_of-listener.ensures.place) ∙ sym c.in_default.ensures.socket)
+
+pub syn-requires-clause-stands : goal.syn-requires-clause-stands
+syn-requires-clause-stands g c =
+    let gives : Giving c.args.tables.now c.args.self.now c.self.inside.header c.self.inside.labels c.give.new.self c.self.inside.moment c.self.inside.offsets c.self.inside.waits c.args.label c.args.worker.now =
+    record { before = record { view = c.self.view_is; names = c.len-place.ensures.names }; section = c.requires.section; room = c.requires.room; count = c.len-place.ensures.places; given = c.in_ok-give.ensures.given } in
+    parent_stands gives c.args.listener.now c.in-Some.socket.now
+    (sym (found_named c.self.inside.labels c.give.new.self c.args.label c.place_of-listener.result c.args.listener.now c.in_ok-give.ensures.given c.place_of-listener.ensures.place) ∙ sym c.in-Some.ensures.socket) c.in-Some.ensures.state
+
+pub put-requires-clause-name : goal.put-requires-clause-name
+put-requires-clause-name g c =
+    let layout = c.args.tables.now.chains.layout in
+    child_named (syn_asks c.args.from c.args.at) layout.shape layout.seed (mine_of c.in-Some.socket.now) (mine_of c.in-Ok.request) c.next_name-name.result _ _ _ _ _ c.in-Ok.ensures.carried
+    ∙ (c.next_name-name.ensures
+    ∙ (ap (name_at c.self.inside.labels.number) (sym c.len-place.ensures.labels) ∙ ap (λ (l : Labelled). name_at l.number c.len-place.result) (sym c.in_ok-give.ensures.given)))
+
+pub returns-in-Ok-clause-carried : goal.returns-in-Ok-clause-carried
+returns-in-Ok-clause-carried g c =
+    let w = c.args.worker.now in
+    let u = c.syn.new.worker in
+    let m = mine_of c.in-Some.socket.now in
+    let child = mine_of c.in-Ok.request in
+    let gives : Giving c.args.tables.now c.args.self.now c.self.inside.header c.self.inside.labels c.give.new.self c.self.inside.moment c.self.inside.offsets c.self.inside.waits c.args.label c.args.worker.now =
+    record { before = record { view = c.self.view_is; names = c.len-place.ensures.names }; section = c.requires.section; room = c.requires.room; count = c.len-place.ensures.places; given = c.in_ok-give.ensures.given } in
+    accepts gives c.args.listener.now c.in-Some.socket.now
+    (sym (found_named c.self.inside.labels c.give.new.self c.args.label c.place_of-listener.result c.args.listener.now c.in_ok-give.ensures.given c.place_of-listener.ensures.place) ∙ sym c.in-Some.ensures.socket) c.in-Some.ensures.state
+    (syn_asks c.args.from c.args.at) u c.syn.ensures.ready c.syn.ensures.caller c.in-Ok.request c.put.new.self
+    (its_plan (syn_asks c.args.from c.args.at) c.args.tables.now c.args.self.now c.self.inside.header (own_of c.self.inside.labels c.self.inside.moment c.self.inside.offsets c.self.inside.waits) w c.self.view_is c.requires.section u m c.next_name-name.result (done child)
+    c.next_name-name.ensures c.in-Ok.ensures.carried)
+    c.put.ensures.state c.in-Ok.ensures.stands (c.put.ensures.put ∙ ap (λ (i : ℕ). with_place c.give.new.self i (Some child)) c.len-place.ensures.labels)
+
+pub returns-in_ok-refusal-in-Err-clause-carried : goal.returns-in_ok-refusal-in-Err-clause-carried
+returns-in_ok-refusal-in-Err-clause-carried g c =
+    let t = c.args.tables.now in
+    let w = c.args.worker.now in
+    let u = c.syn.new.worker in
+    let m = mine_of c.in-Some.socket.now in
+    let gives : Giving c.args.tables.now c.args.self.now c.self.inside.header c.self.inside.labels c.give.new.self c.self.inside.moment c.self.inside.offsets c.self.inside.waits c.args.label c.args.worker.now =
+    record { before = record { view = c.self.view_is; names = c.len-place.ensures.names }; section = c.requires.section; room = c.requires.room; count = c.len-place.ensures.places; given = c.in_ok-give.ensures.given } in
+    accepts_refused gives c.args.listener.now c.in-Some.socket.now
+    (sym (found_named c.self.inside.labels c.give.new.self c.args.label c.place_of-listener.result c.args.listener.now c.in_ok-give.ensures.given c.place_of-listener.ensures.place) ∙ sym c.in-Some.ensures.socket) c.in-Some.ensures.state
+    (syn_asks c.args.from c.args.at) u c.syn.ensures.ready c.syn.ensures.caller c.in-Err.end c.connect_error.result
+    (its_plan (syn_asks c.args.from c.args.at) t c.args.self.now c.self.inside.header (own_of c.self.inside.labels c.self.inside.moment c.self.inside.offsets c.self.inside.waits) w c.self.view_is c.requires.section u m c.next_name-name.result (refused c.in-Err.end)
+    c.next_name-name.ensures
+    (refused_went accepted (buckets_of t) c.next_name-name.result _ (turned w) (turned u) (chained t w) (chained t u) c.in-Err.end c.in_ok-refusal-in-Err.ensures.kept.told c.in-Err.ensures.carried))
+    (c.connect_error.ensures ∙ ap connect_error c.in_ok-refusal-in-Err.ensures.kept.same)
+
+pub returns-in_err-refusal-in-Err-clause-err : goal.returns-in_err-refusal-in-Err-clause-err
+returns-in_err-refusal-in-Err-clause-err g c =
+    let gives : Giving c.args.tables.now c.args.self.now c.self.inside.header c.self.inside.labels c.give.new.self c.self.inside.moment c.self.inside.offsets c.self.inside.waits c.args.label c.args.worker.now =
+    record { before = record { view = c.self.view_is; names = c.len-place.ensures.names }; section = c.requires.section; room = c.requires.room; count = c.len-place.ensures.places; given = c.in_ok-give.ensures.given } in
+    on_err c.from_residual-in_err-refusal-in-Err.result
+    (sym (ap (λ (x : Own). x.sockets) (given_own gives)) ∙ ap (λ (k : Kept). k.own.sockets) c.self.view_is)
+
+pub returns-in-Ok-clause-spends : goal.returns-in-Ok-clause-spends
+returns-in-Ok-clause-spends g c =
+    spends_of c.args.self.now (kept c.self.inside.header (own_of c.put.new.self c.self.inside.moment c.self.inside.offsets c.self.inside.waits)) c.args.worker.now c.syn.new.worker c.self.inside.waits 4 1 0 (ap (λ (k : Kept). length k.own.waits) (sym c.self.view_is)) (omega arith) c.syn.ensures.entered (omega arith) (omega arith) c.syn.ensures.drawn
+
+pub returns-in_err-refusal-in-Err-clause-spends : goal.returns-in_err-refusal-in-Err-clause-spends
+returns-in_err-refusal-in-Err-clause-spends g c =
+    spends_of c.args.self.now (kept c.self.inside.header (own_of c.give.new.self c.self.inside.moment c.self.inside.offsets c.self.inside.waits)) c.args.worker.now c.syn.new.worker c.self.inside.waits 4 1 0 (ap (λ (k : Kept). length k.own.waits) (sym c.self.view_is)) (omega arith) c.syn.ensures.entered (omega arith) (omega arith) c.syn.ensures.drawn
+
+pub returns-in_ok-refusal-in-Err-clause-spends : goal.returns-in_ok-refusal-in-Err-clause-spends
+returns-in_ok-refusal-in-Err-clause-spends g c =
+    spends_of c.args.self.now (kept c.self.inside.header (own_of c.give.new.self c.self.inside.moment c.self.inside.offsets c.self.inside.waits)) c.args.worker.now c.syn.new.worker c.self.inside.waits 4 1 0 (ap (λ (k : Kept). length k.own.waits) (sym c.self.view_is)) (omega arith) c.syn.ensures.entered (omega arith) (omega arith) c.syn.ensures.drawn
+
+pub returns-in_err-refusal-in-Err-clause-left : goal.returns-in_err-refusal-in-Err-clause-left
+returns-in_err-refusal-in-Err-clause-left g c =
+    let t = c.args.tables.now in
+    let h = c.self.inside.header in
+    let l = c.self.inside.labels in
+    let w = c.args.worker.now in
+    let u = c.syn.new.worker in
+    let m = mine_of c.in-Some.socket.now in
+    let own = own_of l c.self.inside.moment c.self.inside.offsets c.self.inside.waits in
+    let gives : Giving c.args.tables.now c.args.self.now c.self.inside.header c.self.inside.labels c.give.new.self c.self.inside.moment c.self.inside.offsets c.self.inside.waits c.args.label c.args.worker.now =
+    record { before = record { view = c.self.view_is; names = c.len-place.ensures.names }; section = c.requires.section; room = c.requires.room; count = c.len-place.ensures.places; given = c.in_ok-give.ensures.given } in
+    on_err c.from_residual-in_err-refusal-in-Err.result
+    (label_left (syn_gives c.args.listener.now c.args.label c.args.from c.args.at) t c.args.self.now h l c.give.new.self c.self.inside.moment c.self.inside.offsets c.self.inside.waits w gives.before c.args.listener.now m
+    (plans.syn h.shape h.seed m (next_name own) c.args.from c.args.at) (λ did. ends (accept_reply (with_label own c.args.label) did)) u c.in_ok-give.ensures.given
+    (sym (found_named c.self.inside.labels c.give.new.self c.args.label c.place_of-listener.result c.args.listener.now c.in_ok-give.ensures.given c.place_of-listener.ensures.place) ∙ sym c.in-Some.ensures.socket)
+    (λ is. syn_plan h own m c.args.listener.now c.args.label is c.args.from c.args.at)
+    (subst (λ (n : ℕ). ops.LeftOff h.shape.bind n (plans.syn h.shape h.seed m n c.args.from c.args.at) (turned w) (turned u) (chained t w) (chained t u)) c.next_name-name.ensures
+    (left_by_header h t (λ shape seed. plans.syn shape seed m c.next_name-name.result c.args.from c.args.at) c.next_name-name.result (turned w) (turned u) (chained t w) (chained t u) (was gives).tables
+    (wanted_left accepted refused (buckets_of t) c.next_name-name.result _ (turned w) (turned u) (chained t w) (chained t u) c.in-Err.end c.in_err-refusal-in-Err.ensures.wanted c.in-Err.ensures.carried))))
+
+pub returns-in_err-give-clause-left : goal.returns-in_err-give-clause-left
+returns-in_err-give-clause-left g c =
+    on_err c.from_residual.result
+    (no_label (syn_gives c.args.listener.now c.args.label c.args.from c.args.at) c.args.tables.now c.args.self.now c.self.inside.header c.self.inside.labels c.give.new.self c.self.inside.moment c.self.inside.offsets c.self.inside.waits c.args.worker.now
+    (record { view = c.self.view_is; names = c.len-place.ensures.names }) c.in_err-give.ensures.err)
