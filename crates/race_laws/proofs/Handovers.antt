@@ -1,0 +1,256 @@
+-- Each `ack` that a lawful race answers with Ok handed a request over to a connection.
+use Rattle.std.proofs.Common.{◌≡◌, ℕ, ◌+◌, ◌<◌, ◌==◌, Bool, true, false, ◌||◌, ◌&&◌, not, List, [], ◌∷◌, ◌++◌, Option, None, Some, if◌then◌else◌, refl, sym, ap, ◌∙◌, subst, inl, inr}
+use Rattle.std.specs.List.{flat_map}
+use Rattle.std.proofs.lemmas.Bool.{or_parts, not-false, eqb-true, eq-eqb}
+use Rattle.list_words.specs.Lists.{Each, Pairs}
+use Rattle.list_words.proofs.EachLemmas.{each_append}
+use Rattle.sock_card.specs.Conflict.{is_listening}
+use Rattle.sock_card.specs.declared.card.Card.{Card}
+use Rattle.sock_card.specs.declared.card.Kind.TheVariants as kinds
+use Rattle.sock_card.specs.declared.owner.Owner.{Owner}
+use Rattle.sock_card.specs.declared.owner.State.{State}
+use Rattle.sock_card.specs.declared.owner.State.TheVariants as states
+use Rattle.capture_reader.specs.Captures.{Capture}
+use Rattle.chain_book.specs.declared.book.Change.{Change}
+use Rattle.chain_book.specs.declared.shape.Shape.{Shape}
+use Rattle.chain_book.specs.Homes.{home, tuple_home}
+use Rattle.chain_book.specs.Tuples.{same_cards}
+use Rattle.flat_list.specs.declared.header.Header.{Header}
+use Rattle.flat_list.specs.declared.command.Command.{Command}
+use Rattle.flat_list.specs.declared.command.Command.TheVariants as commands
+use Rattle.flat_list.specs.declared.command.Reply.{Reply}
+use Rattle.flat_list.specs.declared.command.Reply.TheVariants as replies
+use Rattle.flat_list.specs.Owned.{heir_owner, is_no_ack, is_no_end, is_no_accept, own_end, other_end}
+use Rattle.flat_list.specs.Script.{Script}
+use Rattle.table_model.specs.declared.operation.OpEnd.{OpEnd}
+use Rattle.table_model.specs.declared.operation.OpEnd.TheVariants as errors
+use Rattle.table_model.specs.Asking.{ends}
+use Rattle.table_model.specs.Commands as command
+use Rattle.table_model.specs.Commands.{Replied, answers, plan}
+use Rattle.table_model.specs.Operations as op
+use Rattle.table_model.specs.Operations.{Did, done, refused, full_card}
+use Rattle.table_model.specs.Own.{Mine, Own, card_of, next_name, open_named, open_socket, with_label}
+use Rattle.race_book.specs.Among.{Among}
+use Rattle.race_book.specs.Serial.{IsSerial, EndsOne}
+use Rattle.race_book.proofs.Checks.{and_both}
+use Rattle.race_record.specs.Deeds.{Deed, hashed, kept_out, no_slot, entered, inserted, added, left, reaped, changes_in, drawn_in}
+use Rattle.race_record.specs.Goes.{Goes, IsHashOf, IsUnhashAt}
+use Rattle.race_record.specs.Record.{Race, Step, steps_of, deeds_of}
+use Rattle.race_record.specs.Lawful.{Lawful, AreStepsOf, AreSectionsOf, AreInOrder, IsSpanned}
+use Rattle.race_record.proofs.Turns.{InTwo, goes_apart}
+use Rattle.race_laws.specs.Handovers.{HandsOver, HandsOverAs}
+use Rattle.race_laws.proofs.Booked.{among_same}
+use Rattle.race_laws.proofs.Steps.{changes_more}
+
+-- the deeds begin with the hash of a child, and the unhash of the request whose listener took it
+record Handed (deeds : List Deed) : Type 0 where
+  request : Mine
+  listener : Owner
+  name : ℕ
+  wish : Card
+  hash : Change
+  unhash : Change
+  rest : List Deed
+  are : deeds ≡ added wish (hashed hash None) ∷ left unhash ∷ rest
+  came : IsHashOf (full_card (heir_owner listener name request.owner)) hash
+  went : IsUnhashAt request.place (card_of kinds.Request request) unhash
+  fits : is_no_ack listener request.owner ≡ false
+
+-- The plan
+
+module _ (shape : Shape) (seed : ℕ) (m : Mine) where
+  hashed_then : (r : Mine) (l : Owner) (name : ℕ) (wish : Card) (h : Change) (deeds : List Deed) → is_no_ack l r.owner ≡ false → IsHashOf (full_card (heir_owner l name r.owner)) h
+      → Goes (op.ack_hashed shape seed r l (heir_owner l name r.owner) (Rattle.chain_book.specs.Chains.put h.slot None)) deeds (done m) → Handed (added wish (hashed h None) ∷ deeds)
+  hashed_then r l name wish h (left u ∷ deeds) fits came g = record { request = r; listener = l; name = name; wish = wish; hash = h; unhash = u; rest = deeds; are = refl; came = came; went = g.0; fits = fits }
+  hashed_then r l name wish h [] fits came g = absurd g
+  hashed_then r l name wish h (entered p note ∷ deeds) fits came g = absurd g
+  hashed_then r l name wish h (inserted w tried ∷ deeds) fits came g = absurd g
+  hashed_then r l name wish h (added c tried ∷ deeds) fits came g = absurd g
+  hashed_then r l name wish h (reaped c u ∷ deeds) fits came g = absurd g
+
+  no_done : (end : OpEnd) (deeds : List Deed) → Goes (ends (refused end)) deeds (done m) → ⊥
+  no_done end [] g = absurd (cc)
+  no_done end (d ∷ deeds) g = g
+
+  as_handed : (r : Mine) (l : Owner) (name : ℕ) (deeds : List Deed) → is_no_ack l r.owner ≡ false → Goes (op.ack_as shape seed r l (heir_owner l name r.owner)) deeds (done m) → Handed deeds
+  as_handed r l name (added c (hashed h None) ∷ deeds) fits g = hashed_then r l name c h deeds fits g.1 g.2
+  as_handed r l name (added c (hashed h (Some u)) ∷ deeds) fits g = absurd g.1
+  as_handed r l name (added c (kept_out n) ∷ deeds) fits g = absurd g.1
+  as_handed r l name (added c (no_slot n owned held) ∷ deeds) fits g = absurd (no_done (errors.Full owned held) deeds g.2)
+  as_handed r l name [] fits g = absurd g
+  as_handed r l name (entered p note ∷ deeds) fits g = absurd g
+  as_handed r l name (inserted w tried ∷ deeds) fits g = absurd g
+  as_handed r l name (left u ∷ deeds) fits g = absurd g
+  as_handed r l name (reaped c u ∷ deeds) fits g = absurd g
+
+  if_handed : (r l : Mine) (name : ℕ) (deeds : List Deed) (b : Bool) → is_no_ack l.owner r.owner ≡ b
+      → Goes (if b then ends (refused errors.Inval) else op.ack_as shape seed r l.owner (heir_owner l.owner name r.owner)) deeds (done m) → Handed deeds
+  if_handed r l name deeds true e g = absurd (no_done errors.Inval deeds g)
+  if_handed r l name deeds false e g = as_handed r l.owner name deeds e g
+
+  by_handed : (r : Mine) (l : Option Mine) (name : ℕ) (deeds : List Deed) → Goes (op.ack_by shape seed r l name) deeds (done m) → Handed deeds
+  by_handed r None name deeds g = absurd (no_done errors.Inval deeds g)
+  by_handed r (Some l) name deeds g = if_handed r l name deeds (is_no_ack l.owner r.owner) refl g
+
+  state_handed : (s : State) (r : Mine) (l : Option Mine) (name : ℕ) (deeds : List Deed) → Goes (op.ack_from shape seed s r l name) deeds (done m) → Handed deeds
+  state_handed states.Request r l name deeds g = by_handed r l name deeds g
+  state_handed states.Unbound r l name deeds g = absurd (no_done errors.Inval deeds g)
+  state_handed states.Bound r l name deeds g = absurd (no_done errors.Inval deeds g)
+  state_handed states.Listening r l name deeds g = absurd (no_done errors.Inval deeds g)
+  state_handed states.Full r l name deeds g = absurd (no_done errors.Inval deeds g)
+  state_handed states.TimeWait r l name deeds g = absurd (no_done errors.Inval deeds g)
+
+-- no refusal is called Ok
+no_ok : (end : OpEnd) → replies.Ok ≡ command.connect_error end → ⊥
+no_ok (errors.InUse name) e = absurd (cc)
+no_ok errors.NoPort e = absurd (cc)
+no_ok (errors.Taken name) e = absurd (cc)
+no_ok errors.Inval e = absurd (cc)
+no_ok errors.IsConn e = absurd (cc)
+no_ok errors.GroupFull e = absurd (cc)
+no_ok errors.GroupsFull e = absurd (cc)
+no_ok (errors.Full owned held) e = absurd (cc)
+no_ok errors.Memory e = absurd (cc)
+
+more_handed : (first rest : List Deed) → Handed first → Handed (first ++ rest)
+more_handed first rest h = record {
+  request = h.request;
+  listener = h.listener;
+  name = h.name;
+  wish = h.wish;
+  hash = h.hash;
+  unhash = h.unhash;
+  rest = h.rest ++ rest;
+  are = ap (λ (l : List Deed). l ++ rest) h.are;
+  came = h.came;
+  went = h.went;
+  fits = h.fits;
+}
+
+module _ (header : Header) (own next : Own) (name : ℕ) where
+  did_ok : (gone : ℕ) (end : OpEnd) (rest : List Deed) → Goes (ends (command.ack_reply own gone (refused end))) rest (answers next replies.Ok) → ⊥
+  did_ok gone end [] g = no_ok end (ap (λ (r : Replied). r.reply) g)
+  did_ok gone end (d ∷ rest) g = g
+
+  did_handed : (r : Mine) (first rest : List Deed) (did : Did) → Goes (op.ack header.shape header.seed r (open_named own r.owner.origin) name) first did
+      → Goes (ends (command.ack_reply own r.owner.name did)) rest (answers next replies.Ok) → Handed (first ++ rest)
+  did_handed r first rest (done m) g h = more_handed first rest (state_handed header.shape header.seed m r.owner.state r (open_named own r.owner.origin) name first g)
+  did_handed r first rest (refused end) g h = absurd (did_ok r.owner.name end rest h)
+
+  none_ok : (deeds : List Deed) → Goes (command.replies_at_once own replies.Ebadf) deeds (answers next replies.Ok) → ⊥
+  none_ok [] g = let e : replies.Ok ≡ replies.Ebadf = ap (λ (r : Replied). r.reply) g in absurd (cc)
+  none_ok (d ∷ deeds) g = g
+
+  command_handed : (o : Option Mine) (deeds : List Deed) → Goes (command.ack_command header own name o) deeds (answers next replies.Ok) → Handed deeds
+  command_handed None deeds g = absurd (none_ok deeds g)
+  command_handed (Some r) deeds g =
+      let reply : Did → Rattle.table_model.specs.Asking.Asking Replied = λ did. ends (command.ack_reply own r.owner.name did) in
+      let two : InTwo reply (op.ack header.shape header.seed r (open_named own r.owner.origin) name) deeds (answers next replies.Ok) =
+      goes_apart reply (op.ack header.shape header.seed r (open_named own r.owner.origin) name) deeds (answers next replies.Ok) g in
+      subst Handed (sym two.joined) (did_handed r two.first two.rest two.did two.goes two.then_)
+
+-- Of what the plan did
+
+record Fits (l r : Owner) : Type 0 where
+  net : l.net ≡ r.net
+  port : l.port ≡ r.port
+
+fits_of : (l r : Owner) → is_no_ack l r ≡ false → Fits l r
+fits_of l r e =
+    let at = own_end r in
+    let from = other_end r in
+    let both = or_parts (is_no_accept l from at) (not (l.net == r.net)) e in
+    let one = or_parts (not (is_listening l.state) || not (at.port == l.port) || (at.addr == 0) || not ((l.addr == 0) || (l.addr == at.addr))) (is_no_end from) both.0 in
+    let two = or_parts (not (is_listening l.state) || not (at.port == l.port) || (at.addr == 0)) (not ((l.addr == 0) || (l.addr == at.addr))) one.0 in
+    let three = or_parts (not (is_listening l.state) || not (at.port == l.port)) (at.addr == 0) two.0 in
+    let four = or_parts (not (is_listening l.state)) (not (at.port == l.port)) three.0 in
+    record { net = eqb-true l.net r.net (not-false (l.net == r.net) both.1); port = sym (eqb-true r.port l.port (not-false (r.port == l.port) four.1)) }
+
+one_tuple : (l : Owner) (name : ℕ) (r : Mine) → Fits l r.owner → same_cards (full_card (heir_owner l name r.owner)) (card_of kinds.Request r) ≡ true
+one_tuple l name r f =
+    let o = r.owner in
+    and_both ((l.net == o.net) && (o.addr == o.addr) && (l.port == o.port) && (o.remote == o.remote)) (o.rport == o.rport)
+    (and_both ((l.net == o.net) && (o.addr == o.addr) && (l.port == o.port)) (o.remote == o.remote)
+    (and_both ((l.net == o.net) && (o.addr == o.addr)) (l.port == o.port)
+    (and_both (l.net == o.net) (o.addr == o.addr) (eq-eqb l.net o.net f.net) (eq-eqb o.addr o.addr refl))
+    (eq-eqb l.port o.port f.port)) (eq-eqb o.remote o.remote refl)) (eq-eqb o.rport o.rport refl)
+
+one_home : (shape : Shape) (seed : ℕ) (l : Owner) (name : ℕ) (r : Mine) → Fits l r.owner → home shape seed (full_card (heir_owner l name r.owner)) ≡ home shape seed (card_of kinds.Request r)
+unfolding home
+one_home shape seed l name r f = λ i. tuple_home shape seed r.owner.addr (f.port i) r.owner.remote r.owner.rport (f.net i)
+
+module _ (In : Change → Type 0) (shape : Shape) (seed : ℕ) (serial : IsSerial In shape seed) where
+  handed_over : (deeds : List Deed) → Handed deeds → Pairs (λ (n m : ℕ). n < m) (drawn_in deeds) → ((c : Change) → Among (changes_in deeds) c → In c) → HandsOver In deeds
+  handed_over deeds h ascend there =
+      let child : Among (changes_in deeds) h.hash = subst (λ (ds : List Deed). Among (changes_in ds) h.hash) (sym h.are) (inl refl) in
+      let gone : Among (changes_in deeds) h.unhash = subst (λ (ds : List Deed). Among (changes_in ds) h.unhash) (sym h.are) (inr (inl refl)) in
+      let drawn : Pairs (λ (n m : ℕ). n < m) (drawn_in (added h.wish (hashed h.hash None) ∷ left h.unhash ∷ h.rest)) = subst (λ (ds : List Deed). Pairs (λ (n m : ℕ). n < m) (drawn_in ds)) h.are ascend in
+      let one : EndsOne In h.unhash = serial.ends h.unhash (there h.unhash gone) h.went.unhash.act in
+      let card : one.life.card ≡ card_of kinds.Request h.request = sym one.card ∙ h.went.unhash.card_is in
+      let fits : Fits h.listener h.request.owner = fits_of h.listener h.request.owner h.fits in
+      record {
+        request = one.life;
+        is_request = (one.is, ap (λ (c : Card). c.kind) card);
+        child = h.hash;
+        is_child = (record { there = there h.hash child; hash = h.came.act }, ap (λ (c : Card). c.kind) h.came.card_is);
+        unhash = h.unhash;
+        ends = one.ends;
+        did = (child, gone);
+        tuple = ap (λ (c : Card). same_cards c one.life.card) h.came.card_is ∙ ap (same_cards (full_card (heir_owner h.listener h.name h.request.owner))) card ∙ one_tuple h.listener h.name h.request fits;
+        bucket = serial.homes h.hash (there h.hash child) ∙ ap (home shape seed) h.came.card_is ∙ one_home shape seed h.listener h.name h.request fits ∙ ap (home shape seed) (sym card) ∙ sym (serial.homes one.life one.is.there);
+        order = drawn.1.0.0;
+      }
+
+  module _ (header : Header) (clock : ℕ) where
+    by_command : (own next : Own) (c : Command) (reply : Reply) (deeds : List Deed) → Goes (plan header own c) deeds (answers next reply) → Pairs (λ (n m : ℕ). n < m) (drawn_in deeds)
+        → ((x : Change) → Among (changes_in deeds) x → In x) → HandsOverAs In c reply deeds
+    unfolding plan
+    by_command own next (commands.Ack request label) replies.Ok deeds g ascend there =
+        handed_over deeds (command_handed header (with_label own label) next (next_name own) (open_socket own request) deeds g) ascend there
+    by_command own next _ _ deeds g ascend there = tt
+
+    abbrev Hands : Step → Type 0
+    Hands s = HandsOverAs In s.command s.reply s.deeds
+
+    in_front : (xs ys : List Change) (c : Change) → Among xs c → Among (xs ++ ys) c
+    in_front [] ys c a = absurd a
+    in_front (x ∷ xs) ys c (inl e) = inl e
+    in_front (x ∷ xs) ys c (inr a) = inr (in_front xs ys c a)
+
+    in_back : (xs ys : List Change) (c : Change) → Among ys c → Among (xs ++ ys) c
+    in_back [] ys c a = a
+    in_back (x ∷ xs) ys c a = inr (in_back xs ys c a)
+
+    abbrev AreIn : List Deed → Type 0
+    AreIn deeds = (c : Change) → Among (changes_in deeds) c → In c
+
+    first_in : (first rest : List Deed) → AreIn (first ++ rest) → AreIn first
+    first_in first rest h c a = h c (subst (λ (l : List Change). Among l c) (sym (changes_more first rest)) (in_front (changes_in first) (changes_in rest) c a))
+
+    rest_in : (first rest : List Deed) → AreIn (first ++ rest) → AreIn rest
+    rest_in first rest h c a = h c (subst (λ (l : List Change). Among l c) (sym (changes_more first rest)) (in_back (changes_in first) (changes_in rest) c a))
+
+    steps_hand : (own : Own) (cs : List Command) (steps : List Step) → AreStepsOf header In own cs steps → Each (IsSpanned clock) steps → AreIn (deeds_of steps) → Each Hands steps
+    steps_hand own [] [] a spans there = tt
+    steps_hand own (c ∷ cs) (s ∷ steps) a spans there =
+        let did : HandsOverAs In c s.reply s.deeds = by_command own a.0 c s.reply s.deeds a.1.goes spans.0.ascend (first_in s.deeds (deeds_of steps) there) in
+        (subst (λ (x : Command). HandsOverAs In x s.reply s.deeds) (sym a.1.command_is) did, steps_hand a.0 cs steps a.2 spans.1 (rest_in s.deeds (deeds_of steps) there))
+    steps_hand own [] (s ∷ steps) a spans there = absurd a
+    steps_hand own (c ∷ cs) [] a spans there = absurd a
+
+    sections_hand : (number : ℕ) (scripts : List (List Command)) (sections : List (List Step)) → AreSectionsOf header In number scripts sections → Each (AreInOrder clock) sections
+        → AreIn (deeds_of (flat_map (λ steps. steps) sections)) → Each Hands (flat_map (λ steps. steps) sections)
+    sections_hand number [] [] a spans there = tt
+    sections_hand number (cs ∷ scripts) (steps ∷ sections) a spans there =
+        let others : List Step = flat_map (λ steps. steps) sections in
+        let all : AreIn (deeds_of steps ++ deeds_of others) = subst AreIn (Rattle.std.proofs.lemmas.Grind.flat_map-append (λ (s : Step). s.deeds) steps others) there in
+        each_append Hands steps others
+        (steps_hand (Rattle.table_model.specs.Own.new_own header number) cs steps a.0 spans.0.each (first_in (deeds_of steps) (deeds_of others) all))
+        (sections_hand (number + 1) scripts sections a.1 spans.1 (rest_in (deeds_of steps) (deeds_of others) all))
+    sections_hand number [] (steps ∷ sections) a spans there = absurd a
+    sections_hand number (cs ∷ scripts) [] a spans there = absurd a
+
+pub acks_hand_over : (script : Script) (capture : Capture) (race : Race) → Lawful script capture race → Each (λ (s : Step). HandsOverAs (Among race.book) s.command s.reply s.deeds) (steps_of race)
+acks_hand_over script capture race l =
+    sections_hand (Among race.book) race.shape race.seed l.serial script.header race.clock 1 script.sections race.sections l.sections l.spans
+    (λ c a. among_same race.book (changes_in (deeds_of (steps_of race))) l.book.each_once c a)

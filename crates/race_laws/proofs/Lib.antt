@@ -1,0 +1,9 @@
+pub mod Counted
+pub mod Hashed
+pub mod Kept
+pub mod Operations
+pub mod Plans
+pub mod Steps
+pub mod Names
+pub mod Booked
+pub mod Handovers
