@@ -34,7 +34,7 @@ use Rattle.record_reader.specs.declared.line.Line.{Line}
 use Rattle.record_reader.specs.declared.line.Line.TheVariants as lines
 use Rattle.chain_book.specs.Shapes.{ShapeFits}
 use Rattle.record_reader.specs.Forms.{AnswerFits, EndFits, ItemFits, LifeFits, PacketFits, UnhashFits}
-use Rattle.record_reader.proofs.Powers.{power_positive}
+use Rattle.chain_book.proofs.Powers.{power_positive}
 use Rattle.audit_laws.proofs.Printed.{span_of, told_end}
 use Rattle.audit_laws.proofs.Ascending.{IsOfBook, life_back}
 use Rattle.audit_laws.proofs.Captures.{ItemIn}

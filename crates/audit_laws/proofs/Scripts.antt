@@ -13,8 +13,10 @@ use Rattle.sock_script.specs.declared.line.Line.{Line}
 use Rattle.sock_script.specs.declared.line.Line.TheVariants as lines
 use Rattle.sock_script.specs.Words.{lines_of, words_of}
 use Rattle.sock_script.specs.Forms.{CommandFits, HasForm, DeviceFits, NamespaceFits}
-use Rattle.sock_script.specs.Grammar.{Draft, Follows, MayCome, ReadsLine, Reads, IsScript, capture_device, capture_namespace, default_range, default_shape, given_label, header_of, is_allowed, is_new, nothing_yet, past, script_of, with_command}
+use Rattle.sock_script.specs.Grammar.{IsScript, capture_device, capture_namespace, default_range, default_shape, given_label, is_allowed}
+use Rattle.sock_script.specs.Reading.{Draft, Follows, MayCome, ReadsLine, Reads, header_of, is_new, nothing_yet, past, script_of, with_command}
 use Rattle.sock_script.proofs.LineCases.{line_cases}
+use Rattle.sock_script.proofs.Reprinted.{read_as}
 use Rattle.sock_script.proofs.Small.{small_script}
 use Rattle.chain_book.specs.Shapes.{ShapeFits}
 use Rattle.audit_laws.proofs.Owners.{RangeFits}
@@ -129,7 +131,8 @@ pub record ScriptTold (script : Script) : Type 0 where
   pub small : IsSmall script
 
 pub script_told : (input : List ℕ) (script : Script) → length input ≤ 2 ^ 24 → IsScript modes.Race input script → ScriptTold script
-script_told input script few is =
+script_told input script few spelled =
+    let is = read_as modes.Race (lines_of input) script spelled in
     let d : Draft = is.0 in
     let f : DraftFits d = after_lines nothing_yet d (lines_of input) is.1 (record { table = tt; range = tt; seed = tt; sections = tt; capture = tt }) in
     let small : IsSmall script = small_script modes.Race input d script few is.1 is.2 in

@@ -4,7 +4,8 @@ use Rattle.std.specs.List.{list_any}
 use Rattle.std.proofs.lemmas.Bool.{true≢false, ltb-true, ltb-false, lt-ltb, le-ltb, leb-true, le-leb, eqb-true, eq-eqb}
 use Rattle.sock_card.specs.declared.card.Card.{Card}
 use Rattle.sock_card.specs.declared.card.Kind.{Kind}
-use Rattle.sock_card.specs.declared.card.Kind.TheVariants as kinds
+use Rattle.sock_card.specs.Kinds.{same_kind}
+use Rattle.sock_card.proofs.SameKinds.{kind_is, kinds_same}
 use Rattle.sock_card.specs.Rank.{rank}
 use Rattle.chain_book.specs.declared.book.Change.{Change}
 use Rattle.chain_book.specs.declared.book.PacketAnswer.{PacketAnswer}
@@ -28,7 +29,7 @@ use Rattle.book_audit.specs.declared.printed.PrintedPacket.TheVariants as packet
 use Rattle.book_audit.specs.Book.{hash_of, unhash_of, book_of}
 use Rattle.book_audit.specs.Lines.{NoTwo, AreStamped, AreHoused, passes, some_span, is_out, is_home, share_slot}
 use Rattle.book_audit.specs.Looks.{Tells, pass_end, receipt_of, IsLookExplained, IsLineExplained}
-use Rattle.book_audit.specs.Tried.{same_kind, met, was_throughout, has_stood, beats, is_beaten, is_found, hashes_into, changes_in, hashes, may_end, is_bucket_of, explains, line_explained}
+use Rattle.book_audit.specs.Tried.{met, was_throughout, has_stood, beats, is_beaten, is_found, hashes_into, changes_in, hashes, may_end, is_bucket_of, explains, line_explained}
 use Rattle.book_audit.proofs.Order.{no_truth}
 use Rattle.book_audit.proofs.Lives.{IsOf, by_hash, by_unhash, Whose, whose, LifeOf, life_of, is_life, hash_there, unhash_there, OwnEnd, EndedBy, ended, ends_there, ends_only}
 
@@ -67,33 +68,6 @@ passes_not test o s e p = subst (λ x. passes test x ≡ false) e p
 none_passes : (test : Span → Bool) (l : PrintedLife) (o : Option Span) → l.unhash ≡ o → ((s : Span) → l.unhash ≡ Some s → test s ≡ false) → passes test o ≡ false
 none_passes test l None e f = refl
 none_passes test l (Some s) e f = f s e
-
-kind_is : (a b : Kind) → same_kind a b ≡ true → a ≡ b
-kind_is kinds.Full kinds.Full e = refl
-kind_is kinds.TimeWait kinds.TimeWait e = refl
-kind_is kinds.Listen kinds.Listen e = refl
-kind_is kinds.Request kinds.Request e = refl
-kind_is kinds.Full kinds.TimeWait e = absurd (true≢false (sym e))
-kind_is kinds.Full kinds.Listen e = absurd (true≢false (sym e))
-kind_is kinds.TimeWait kinds.Full e = absurd (true≢false (sym e))
-kind_is kinds.TimeWait kinds.Listen e = absurd (true≢false (sym e))
-kind_is kinds.Listen kinds.Full e = absurd (true≢false (sym e))
-kind_is kinds.Listen kinds.TimeWait e = absurd (true≢false (sym e))
-kind_is kinds.Full kinds.Request e = absurd (true≢false (sym e))
-kind_is kinds.Request kinds.Full e = absurd (true≢false (sym e))
-kind_is kinds.TimeWait kinds.Request e = absurd (true≢false (sym e))
-kind_is kinds.Request kinds.TimeWait e = absurd (true≢false (sym e))
-kind_is kinds.Listen kinds.Request e = absurd (true≢false (sym e))
-kind_is kinds.Request kinds.Listen e = absurd (true≢false (sym e))
-
-one_kind : (a : Kind) → same_kind a a ≡ true
-one_kind kinds.Full = refl
-one_kind kinds.TimeWait = refl
-one_kind kinds.Listen = refl
-one_kind kinds.Request = refl
-
-kinds_same : (a b : Kind) → a ≡ b → same_kind a b ≡ true
-kinds_same a b e = subst (λ k. same_kind a k ≡ true) e (one_kind a)
 
 abbrev span_of : Change → Span
 span_of c = record { begin = c.begin; end = c.end }

@@ -14,8 +14,8 @@ use Rattle.book_audit.specs.declared.stays.Stay.{Stay}
 use Rattle.book_audit.specs.declared.index.Index.{Index}
 use Rattle.book_audit.specs.Stays.{is_below, begin_of}
 
--- what lookups tell of a card: of a connected socket or a request its four-tuple and device, of a listener its own end and
--- device
+-- what lookups tell of a card: of a connected socket or a request its four-tuple and device, of a listener its own
+-- end and device
 abbrev pub face_as : Kind → Card → Card
 face_as kinds.Listen c = record c { remote = 0; rport = 0; name = 0; extra = 0 }
 face_as _ c = record c { kind = kinds.Full; name = 0; extra = 0 }

@@ -1,8 +1,8 @@
 -- How the judge tries whether lives explain what came of a packet, one life after the other.
-use Rattle.std.specs.Prelude.{ℕ, ◌+◌, ◌==◌, ◌&&◌, ◌||◌, not, nat_lt, nat_le, Bool, true, false, List}
+use Rattle.std.specs.Prelude.{ℕ, ◌+◌, ◌==◌, ◌&&◌, ◌||◌, not, nat_lt, nat_le, Bool, true, List}
 use Rattle.std.specs.List.{list_any}
 use Rattle.sock_card.specs.declared.card.Kind.{Kind}
-use Rattle.sock_card.specs.declared.card.Kind.TheVariants as kinds
+use Rattle.sock_card.specs.Kinds.{same_kind}
 use Rattle.sock_card.specs.declared.card.Packet.{Packet}
 use Rattle.sock_card.specs.Rank.{rank}
 use Rattle.chain_book.specs.declared.shape.Shape.{Shape}
@@ -17,13 +17,6 @@ use Rattle.book_audit.specs.declared.printed.PrintedLook.{PrintedLook}
 use Rattle.book_audit.specs.declared.printed.PrintedPacket.{PrintedPacket}
 use Rattle.book_audit.specs.declared.printed.PrintedPacket.TheVariants as packets
 use Rattle.book_audit.specs.Lines.{passes, some_span, is_out}
-
-abbrev pub same_kind : Kind → Kind → Bool
-same_kind kinds.Full kinds.Full = true
-same_kind kinds.TimeWait kinds.TimeWait = true
-same_kind kinds.Listen kinds.Listen = true
-same_kind kinds.Request kinds.Request = true
-same_kind _ _ = false
 
 -- a change was under way during the call
 abbrev pub met : PrintedLook → Span → Bool

@@ -2,6 +2,7 @@
 
 ghost use Rattle.std.specs.Prelude.{◌≡◌, ◌<◌, ◌+◌, ◌^◌, IsTrue, true};
 ghost use Rattle.std.specs.List.{list_any};
+ghost use Rattle.sock_card.specs.Kinds as kinds;
 ghost use Rattle.book_audit.specs.Lines.{some_span};
 ghost use Rattle.book_audit.specs.Index.{IsIndex};
 ghost use Rattle.book_audit.specs.Tried as spec;
@@ -22,7 +23,7 @@ pub struct Told {
 }
 
 fn same_kind(one: Kind, other: Kind) -> bool
-    ensures { result ≡ spec.same_kind one other }
+    ensures { result ≡ kinds.same_kind one other }
 {
     match one {
         Kind::Full => matches!(other, Kind::Full),

@@ -142,8 +142,8 @@ fn found_of_lives(alloc: Global, lives: &[PrintedLife], clock: u64) -> Result<Fi
     found(alloc, lives, &[], clock)
 }
 
-/// What is found of one packet beside a listener that is hashed from 0 to 1, and a connection that is hashed from 2 to 3
-/// and unhashed from 4 to 5.
+/// What is found of one packet beside a listener that is hashed from 0 to 1, and a connection that is hashed from 2
+/// to 3 and unhashed from 4 to 5.
 fn found_of_packet(
     alloc: Global,
     answer: PrintedAnswer,

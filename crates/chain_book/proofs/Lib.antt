@@ -1,1 +1,2 @@
 pub mod RankHomes
+pub mod Powers

@@ -387,7 +387,8 @@ unfolding joined
 joined_was name q g differ h =
     or_left (has_member q g) (name == q) (ne_eqb name q differ) (sym (any_push (λ m. m == q) g.members name) ∙ h)
 
--- what is known of one group as the socket joins: it isn't in it, the group isn't full, and its port and namespace are the mate's
+-- what is known of one group as the socket joins: it isn't in it, the group isn't full, and its port and namespace
+-- are the mate's
 record MayJoin (buckets : ℕ) (new mate : Socket) (sockets : List Socket) (g : Group) : Type 0 where
   out : IsOut new.owner.name g
   room : is_full_group mate.owner.name g ≡ false

@@ -51,9 +51,9 @@ record Apart (groups : List Group) (x y : Socket) : Type 0 where
   origins : IsItsOwn x × IsItsOwn y
   mates : GroupsAreOfMates groups x y
 
--- two listeners that overlap agree only by sharing their end, as sockets of one user
--- o overlaps, ra both reuseaddr, l and m who listens, p and q who reuses its port, e same user, v and w who waits, s same
--- origin, t and u who was chosen by connect
+-- two listeners that overlap agree only by sharing their end, as sockets of one user o overlaps, ra both reuseaddr, l
+-- and m who listens, p and q who reuses its port, e same user, v and w who waits, s same origin, t and u who was
+-- chosen by connect
 share_only : (ra p q e u : Bool) → (not true || ra && not (true && true) || p && q && (e || false || false) || false || false && u) ≡ true → (p ≡ true) × (q ≡ true) × (e ≡ true)
 share_only ra true true true u h = (refl, refl, refl)
 share_only true true true false u h = absurd (both_ways false refl h)

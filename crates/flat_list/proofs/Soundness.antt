@@ -31,7 +31,8 @@ use Rattle.sock_card.specs.Became.{as_listener}
 use Rattle.sock_card.specs.TimeWait.{expired}
 use Rattle.flat_list.specs.Run.{Issued, is_of, after}
 use Rattle.flat_list.specs.Sections.{Section, labels_of, name_in, next_name, with_given, moment_of, with_moment}
-use Rattle.flat_list.specs.Sockets.{have_one_tuple, waits_at, gives_way, without_waiting, claims_tuple, has_twin, open_in, is_open_in, without, is_mate, mate_of, is_expired, put, is_owner, is_other_owner, is_refused, is_overlapped, is_claimed, has_name, open_named}
+use Rattle.sock_card.specs.TimeWait.{gives_way}
+use Rattle.flat_list.specs.Sockets.{have_one_tuple, waits_at, without_waiting, claims_tuple, has_twin, open_in, is_open_in, without, is_mate, mate_of, is_expired, put, is_owner, is_other_owner, is_refused, is_overlapped, is_claimed, has_name, open_named}
 use Rattle.flat_list.specs.Sound.{NamesDiffer, IsGivenName, IsGiven, CanTake, HasListener, AgreeAsOwners, TuplesDiffer, holds_tuple, IsItsOwn, IsAwakeIfNamed, is_sharing, IsInOneGroup, AreGroupsOf, IsSound, StartsSound, StaysSound, RunsSound}
 use Rattle.flat_list.specs.Step.{step, socket, drop, close, close_socket, at, reap, waiting, groups_with, listens_in, listen_as, new_socket, at_end, at_port, suits_bind, search_bind, at_address, bind, bind_any, bind_given, bind_found, bind_search, bind_socket, listening, listen, listen_bound, listen_found, listen_socket}
 use Rattle.flat_list.proofs.GivenNames.{next_is_given, next_is_new, is_new, stays_given, stay_given}
@@ -656,7 +657,7 @@ not_taken : (flat : Flat) (n : ℕ) (s : Socket) → is_taken_in flat n s ≡ fa
 not_taken flat n s free =
     let switch : Bool = flat.header.twreuse in
     let moment : ℕ = moment_of flat.header n flat.sections in
-    (or_parts (has_twin s.owner flat.sockets) (list_any (λ x. waits_at s.owner x && not (gives_way switch moment x)) flat.sockets) free).0
+    (or_parts (has_twin s.owner flat.sockets) (list_any (λ x. waits_at s.owner x && not (gives_way switch moment x.stamp)) flat.sockets) free).0
 
 connect_from_sound : (flat : Flat) (n : ℕ) (s : Socket) (to : End) (source : Option ℕ) → s.owner.state ≡ states.Bound → ((k : ℕ) → source ≡ Some k → ((s.owner.addr == 0) || (s.owner.addr == k)) ≡ true) → IsSound flat → IsOpen flat s → Sound (connect_from flat n s to source)
 connect_from_sound flat n s to None bound narrows sound at = sound

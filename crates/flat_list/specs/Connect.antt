@@ -6,6 +6,10 @@
 -- request has a label; it takes a slot, and goes when `ack`, `close` or `drop` says so; which ends EINVAL refuses; a
 -- socket without a port needs a source named; which owners may share a port that `connect` chooses; which TIME_WAIT
 -- gives way to a connection.
+--
+-- To be read from a command's name upwards: `connect`, `accept`, `syn` and `ack` are given the socket that their label
+-- names. `connect_socket` and `ack_socket` part its states, each in one place; `accept` and `syn` ask `is_no_accept`,
+-- which is true of any but a listener. What they call stands above them, and tests one refusal after the other.
 use Rattle.std.specs.Prelude.{ℕ, Bool, true, ◌&&◌, not, Option, None, Some, if◌then◌else◌}
 use Rattle.sock_card.specs.declared.owner.Owner.{Owner}
 use Rattle.sock_card.specs.declared.owner.State.{State}

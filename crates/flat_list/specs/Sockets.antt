@@ -3,9 +3,9 @@
 -- net/ipv4/inet_connection_sock.c, asked of every other owner; who keeps a four-tuple is __inet_check_established of
 -- net/ipv4/inet_hashtables.c and tcp_twsk_unique of net/ipv4/tcp_ipv4.c; whose group a listener joins is
 -- inet_reuseport_add_sock of net/ipv4/inet_hashtables.c. That devices don't keep two full sockets of one four-tuple
--- apart is our own rule, and so are which TIME_WAIT gives way, how long one lasts, and that `connect` shares a port only
--- with owners for whom it chose that.
-use Rattle.std.specs.Prelude.{ℕ, ◌/◌, ◌^◌, Bool, true, false, ◌==◌, ◌&&◌, ◌||◌, not, nat_lt, List, Option, None, Some, if◌then◌else◌, map, filter, find, count_by}
+-- apart is our own rule, and so are which TIME_WAIT gives way, how long one lasts, and that `connect` shares a port
+-- only with owners for whom it chose that.
+use Rattle.std.specs.Prelude.{ℕ, ◌/◌, ◌^◌, Bool, true, false, ◌==◌, ◌&&◌, ◌||◌, not, List, Option, None, Some, if◌then◌else◌, map, filter, find, count_by}
 use Rattle.std.specs.List.{list_any}
 use Rattle.std.specs.Option.{option_map}
 use Rattle.sock_card.specs.declared.card.Kind.{Kind}
@@ -17,7 +17,7 @@ use Rattle.sock_card.specs.declared.card.Tuple.{Tuple}
 use Rattle.sock_card.specs.Tuples as tuples
 use Rattle.sock_card.specs.Conflict as conflict
 use Rattle.sock_card.specs.Conflict.{refuses, overlap, holds, is_time_wait}
-use Rattle.sock_card.specs.TimeWait.{expired}
+use Rattle.sock_card.specs.TimeWait.{expired, gives_way}
 use Rattle.flat_list.specs.declared.socket.Socket.{Socket}
 
 -- the kind under which a socket of that state is looked up, if it is
@@ -95,15 +95,11 @@ has_twin a sockets = list_any (λ s. claims_tuple s.owner.state && have_one_tupl
 abbrev pub waits_at : Owner → Socket → Bool
 waits_at a s = is_time_wait s.owner.state && have_one_tuple a s.owner
 
--- `connect` may take the place of that TIME_WAIT at that moment: the switch is on, and it was closed earlier
-abbrev pub gives_way : Bool → ℕ → Socket → Bool
-gives_way switch moment s = switch && nat_lt s.stamp moment
-
 -- `connect` can't have the owner's four-tuple at that moment: it is a full socket's or a request's, or that of a
 -- TIME_WAIT that doesn't give way
 abbrev pub is_taken : Bool → ℕ → Owner → List Socket → Bool
 is_taken switch moment a sockets =
-    has_twin a sockets || list_any (λ s. waits_at a s && not (gives_way switch moment s)) sockets
+    has_twin a sockets || list_any (λ s. waits_at a s && not (gives_way switch moment s.stamp)) sockets
 
 -- the sockets but the TIME_WAITs of the owner's four-tuple
 abbrev pub without_waiting : Owner → List Socket → List Socket

@@ -86,8 +86,8 @@ abbrev pub GroupsAreOfMates : List Group → Socket → Socket → Type 0
 GroupsAreOfMates groups a b =
     is_sharing a ≡ true → is_sharing b ≡ true → are_together groups a.owner.name b.owner.name ≡ is_mate a.owner b
 
--- a group's members differ, no more than there is room for, and each is the name of a socket that belongs to the group's
--- bucket
+-- a group's members differ, no more than there is room for, and each is the name of a socket that belongs to the
+-- group's bucket
 pub record IsGroupOf (buckets : ℕ) (sockets : List Socket) (g : Group) : Type 0 where
   pub some : 1 ≤ length g.members
   pub most : length g.members ≤ group_room

@@ -12,7 +12,7 @@ pub struct Label {
     /// The label, and zeros behind it.
     bytes: [u8; 16],
     /// How many bytes are the label's.
-    used: usize,
+    used: u8,
 }
 
 impl Model for Label {
@@ -32,7 +32,7 @@ impl Model for Label {
 
 /// A label as numbers, which compare faster than bytes: by them labels stand in the order of their
 /// bytes.
-#[derive(Clone, Copy, Debug, PartialEq, Eq, PartialOrd, Ord)]
+#[derive(Clone, Copy, Debug, PartialEq, Eq, PartialOrd, Ord, Hash)]
 pub struct LabelKey {
     /// The first eight bytes, the first of them highest.
     high: u64,
@@ -72,7 +72,7 @@ impl Label {
         padded[..bytes.len()].copy_from_slice(bytes);
         Some(Label {
             bytes: padded,
-            used: bytes.len(),
+            used: bytes.len() as u8,
         })
     }
 
@@ -80,7 +80,7 @@ impl Label {
     pub fn as_bytes(&self) -> &[u8]
         ensures { result.now ≡ self.now }
     {
-        &self.bytes[..self.used]
+        &self.bytes[..self.used as usize]
     }
 
     /// The label as numbers. Two labels have the same ones exactly where they have the same bytes.
@@ -92,7 +92,7 @@ impl Label {
         LabelKey {
             high: number_at(&self.bytes, 0),
             low: number_at(&self.bytes, 8),
-            length: self.used,
+            length: self.used as usize,
         }
     }
 

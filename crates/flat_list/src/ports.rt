@@ -56,7 +56,8 @@ fn distances(offset: u16, first: First) -> (u32, u32)
     }
 }
 
-/// The port of that number, from 0, in the order of a search that begins at the offset, which passes the reserved ones by.
+/// The port of that number, from 0, in the order of a search that begins at the offset, which passes the reserved
+/// ones by.
 ///
 /// There are [`count`] of them; beyond that it is the range's lowest.
 pub fn port_at(range: &Range, offset: u16, first: First, number: u32) -> u16

@@ -6,7 +6,8 @@ use std::alloc::{AllocError, Global};
 use std::marker::Model;
 
 /// Where a script has its capture: the device and the network namespace that all its packets come in by, 0 where none
-/// is named, and the place of its first byte in the text. A place past the text's end is that of a capture without bytes.
+/// is named, and the place of its first byte in the text. A place past the text's end is that of a capture without
+/// bytes.
 #[derive(Clone, Copy, Debug, PartialEq, Eq)]
 pub struct CapturePlace {
     pub dev: u16,

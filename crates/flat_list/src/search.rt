@@ -2,6 +2,7 @@
 
 ghost use Rattle.std.specs.Prelude.{◌≡◌, ◌≤◌, ◌==◌, ◌&&◌, length, not, filter, find, count_by, vec_len, vec_capacity, IfOk};
 ghost use Rattle.std.specs.List.{list_any};
+ghost use Rattle.sock_card.specs.TimeWait as time_wait;
 ghost use Rattle.flat_list.specs.Sockets as spec;
 ghost use Rattle.flat_list.specs.Look as spec_look;
 
@@ -119,14 +120,14 @@ fn waits_at(owner: &Owner, socket: &Socket) -> bool
 
 /// Whether `connect` may take the place of that TIME_WAIT at that moment.
 fn gives_way(switch: bool, moment: u32, socket: &Socket) -> bool
-    ensures { result ≡ spec.gives_way switch moment socket.now }
+    ensures { result ≡ time_wait.gives_way switch moment socket.now.stamp }
 {
     switch && socket.stamp < moment
 }
 
 /// Whether a TIME_WAIT of the owner's four-tuple doesn't give way.
 fn is_kept_waiting(switch: bool, moment: u32, owner: &Owner, sockets: &[Socket]) -> bool
-    ensures { result ≡ list_any (λ s. spec.waits_at owner.now s && not (spec.gives_way switch moment s)) sockets.now }
+    ensures { result ≡ list_any (λ s. spec.waits_at owner.now s && not (time_wait.gives_way switch moment s.stamp)) sockets.now }
 {
     sockets
         .iter()

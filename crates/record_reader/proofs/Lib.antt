@@ -6,7 +6,6 @@ pub mod Nets
 pub mod OneForm
 pub mod Cursor
 pub mod Numerals
-pub mod Powers
 pub mod Labels
 pub mod Dots
 pub mod Feeds

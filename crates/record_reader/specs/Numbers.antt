@@ -1,4 +1,4 @@
--- The index by which names are numbered, as the code holds it. No public contract cites this file.
+-- The index by which names are numbered, as the code holds it: our own. No public contract cites this file.
 use Rattle.std.specs.Prelude.{◌≡◌, ℕ, List, [], ◌∷◌, ◌++◌, length, unwrap_or}
 use Rattle.std.specs.Ordering.{nat_cmp, ordering_then}
 use Rattle.std.specs.declared.cmp.Ordering.{Ordering}

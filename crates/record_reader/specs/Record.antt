@@ -22,7 +22,8 @@ abbrev pub is_first : Line → Bool
 is_first (lines.Packet number item) = number == 1
 is_first line = true
 
--- a line of a later kind, the first of its kind: behind `race` stands `shape`, and behind that any other may come next
+-- a line of a later kind, the first of its kind: behind `race` stands `shape`, and behind that any other may come
+-- next
 abbrev pub is_next_kind : Line → Line → Bool
 is_next_kind before line =
     nat_lt (rank before) (rank line) && is_first line && (nat_lt 0 (rank before) || (rank line == 1))

@@ -1,4 +1,4 @@
--- How the reader goes on. No public contract cites this file.
+-- How the reader goes on: our own. Of public contracts that of `tell` alone cites this file, by `EndsWell`.
 use Rattle.std.specs.Prelude.{◌≡◌, ℕ, ◌-◌, Bool, true, false, IsTrue, List, [], ◌∷◌, ◌++◌, length, slice_get, Option, Some}
 use Rattle.chain_book.specs.declared.shape.Shape.{Shape}
 use Rattle.record_reader.specs.declared.line.Line.{Line}

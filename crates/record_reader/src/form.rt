@@ -1,7 +1,7 @@
 //! The line that some words are: one function for each form, over readers of one word.
 //!
-//! A reader takes a word off the front and gives its value and the words after it. Each form is read by one pass over its
-//! words, and takes no memory.
+//! A reader takes a word off the front and gives its value and the words after it. Each form is read by one pass over
+//! its words, and takes no memory.
 ghost use Rattle.std.specs.Prelude.{◌≡◌, ◌≢◌, ◌↔◌, ◌<◌, ◌≤◌, ◌∷◌, ◌++◌, ◌==◌, ◌^◌, [], Bool, ℕ, List, IfSome, IfNone, IsTrue, Option, Some, slice_get, bytes_eq, nat_lt, codes, decimal};
 ghost use Rattle.std.specs.Borrow.{Bor};
 ghost use Rattle.std.specs.List.{list_all, list_any};

@@ -7,10 +7,12 @@ use Rattle.flat_list.specs.declared.command.Command.{Command}
 use Rattle.flat_list.specs.declared.command.Command.TheVariants as commands
 use Rattle.flat_list.specs.Ports.{none_reserved}
 use Rattle.sock_script.specs.declared.line.Line.TheVariants as lines
+use Rattle.sock_script.specs.declared.parse.Mode.TheVariants as modes
 use Rattle.sock_script.specs.Forms.{reserved_ports, ReservedFits}
 use Rattle.sock_script.specs.Words.{words_of, lines_of}
-use Rattle.sock_script.specs.Grammar.{Draft, nothing_yet}
-use Rattle.rule_laws.specs.TextRows.{IsEachForm, largest, two_reserved, no_options, all_options}
+use Rattle.sock_script.proofs.Printed.{are_lines}
+use Rattle.sock_script.specs.Reading.{Draft, nothing_yet}
+use Rattle.rule_laws.specs.TextRows.{IsEachForm, every_form, every_value, largest, two_reserved, no_options, all_options}
 
 abbrev widest : Range
 widest = record { low = 2; high = 65535; reserved = none_reserved }
@@ -104,7 +106,7 @@ whole = record (made ((first ∷ second ∷ bound ∷ listening ∷ connecting �
 
 pub each_form : IsEachForm
 unfolding digits words_of lines_of
-each_form = (
+each_form = are_lines modes.Run (lines_of every_form) every_value (
   whole,
   (
     shape_said,

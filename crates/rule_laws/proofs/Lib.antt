@@ -9,5 +9,3 @@ pub mod Dumps
 pub mod TextsRead
 pub mod FormsRead
 pub mod Orderly
-pub mod Printed
-pub mod Reprinted

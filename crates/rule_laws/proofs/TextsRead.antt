@@ -7,13 +7,17 @@ use Rattle.flat_list.specs.declared.command.Command.{Command}
 use Rattle.flat_list.specs.declared.command.Command.TheVariants as commands
 use Rattle.capture_reader.specs.Grammar.{nothing}
 use Rattle.sock_script.specs.declared.line.Line.TheVariants as lines
+use Rattle.sock_script.specs.declared.parse.Mode.TheVariants as modes
 use Rattle.sock_script.specs.Words.{words_of, lines_of}
-use Rattle.sock_script.specs.Grammar.{Draft, nothing_yet, script_of}
-use Rattle.rule_laws.specs.TextRows.{IsUnsaid, IsWritten, IsDumped, no_options}
+use Rattle.sock_script.proofs.Printed.{are_lines}
+use Rattle.sock_script.specs.Reading.{Draft, nothing_yet, script_of}
+use Rattle.rule_laws.specs.TextRows.{IsUnsaid, IsWritten, IsDumped, two_sockets, one_dumped, no_options}
 
 pub unsaid : IsUnsaid
 unfolding words_of lines_of
-unsaid = (record nothing_yet { bytes = 1 }, (record nothing_yet { bytes = 1 }, (lines.PassedOver, tt, refl), refl), refl)
+unsaid =
+    are_lines modes.Run (lines_of []) (script_of (record nothing_yet { bytes = 1 }))
+    (record nothing_yet { bytes = 1 }, (record nothing_yet { bytes = 1 }, (lines.PassedOver, tt, refl), refl), refl)
 
 abbrev made : List (List Command) → ℕ → Draft
 made sections bytes = record nothing_yet { sections = sections; bytes = bytes }
@@ -39,7 +43,7 @@ written = (
   script_of whole,
   nothing,
   record {
-    script_is = (
+    script_is = are_lines modes.Run (lines_of two_sockets) (script_of whole) (
       whole,
       (
         made ([] ∷ []) 9,
@@ -84,7 +88,7 @@ dumped = (
   script_of all_said,
   nothing,
   record {
-    script_is = (
+    script_is = are_lines modes.Run (lines_of one_dumped) (script_of all_said) (
       all_said,
       (
         made ([] ∷ []) 9,

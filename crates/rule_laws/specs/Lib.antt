@@ -3,8 +3,6 @@ pub mod Finds
 pub mod Dumps
 pub mod Leaves
 pub mod Events
-pub mod Waits
 pub mod Rows
 pub mod TextRows
 pub mod Scripts
-pub mod Lines

@@ -180,8 +180,8 @@ wait_keeps_slot =
     ∷ says (syn a c) replies.Ok
     ∷ []
 
--- a request is at the address that `syn` names, on its listener's device and in no group; the socket that comes in its
--- place is of the listener's user and options, and isn't handed over again
+-- a request is at the address that `syn` names, on its listener's device and in no group; the socket that comes in
+-- its place is of the listener's user and options, and isn't handed over again
 abbrev pub handshake_on_device : List Line
 handshake_on_device =
     says (commands.Socket a (record plain { uid = Some 7; dev = Some 4; reuseport = true })) replies.Ok
@@ -200,8 +200,8 @@ handshake_on_device =
     ∷ says (commands.Bind d (one 80)) (replies.Port 80)
     ∷ []
 
--- in a range of two ports: a listener's handshakes are over one by one; `connect` passes over the port of a socket that
--- came by one, and not over that of a request
+-- in a range of two ports: a listener's handshakes are over one by one; `connect` passes over the port of a socket
+-- that came by one, and not over that of a request
 abbrev pub handshake_keeps_port : List Line
 handshake_keeps_port =
     says (socket a) replies.Ok

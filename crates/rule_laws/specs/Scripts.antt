@@ -1,25 +1,17 @@
 -- What holds of each script that a text is, said of the script alone: our own laws.
-use Rattle.std.specs.Prelude.{◌≡◌, ◌≢◌, ◌≤◌, ℕ, true, List, length}
-use Rattle.list_words.specs.Lists.{Each, Pairs}
-use Rattle.flat_list.specs.declared.command.Command.{Command}
+use Rattle.std.specs.Prelude.{◌≤◌, ℕ, List, length}
+use Rattle.list_words.specs.Lists.{Each}
 use Rattle.flat_list.specs.Script.{Script}
 use Rattle.sock_script.specs.declared.parse.Mode.{Mode}
 use Rattle.sock_script.specs.Forms.{CommandFits}
-use Rattle.sock_script.specs.Grammar.{IsScript, given_labels, is_allowed}
+use Rattle.sock_script.specs.Grammar.{IsScript, IsSection}
 
--- what stands in the command is in range, and it is one of those that are run so
-abbrev pub IsTaken : Mode → Command → Type 0
-IsTaken mode command = CommandFits command × (is_allowed mode command ≡ true)
-
--- each label is given once, and each command is taken
-pub record IsSection (mode : Mode) (section : List Command) : Type 0 where
-  pub labels : Pairs (λ (a b : List ℕ). a ≢ b) (given_labels section)
-  pub commands : Each (IsTaken mode) section
-
--- each script that a text is has 64 sections at most, and each of them is such a one
+-- each script that a text is has 64 sections at most; each of them gives each label once and has commands that may be
+-- asked for so, and what stands in the commands is in range
 pub record IsOrderly (mode : Mode) (script : Script) : Type 0 where
   pub few : length script.sections ≤ 64
   pub sections : Each (IsSection mode) script.sections
+  pub fits : Each (Each CommandFits) script.sections
 
 abbrev pub ScriptsAreOrderly : Type 0
 ScriptsAreOrderly = (mode : Mode) (text : List ℕ) (script : Script) → IsScript mode text script → IsOrderly mode script

@@ -1,4 +1,4 @@
--- Texts whose scripts are computed by the definitions, one of them with what is written for it.
+-- Worked examples: texts whose scripts are computed by the definitions, one of them with what is written for it.
 use Rattle.std.specs.Prelude.{◌≡◌, ℕ, List, [], ◌∷◌, ◌++◌, Some, None, codes, true, false, replicate}
 use Rattle.chain_book.specs.declared.shape.Shape.{Shape}
 use Rattle.flat_list.specs.declared.header.Reserved.{Reserved}

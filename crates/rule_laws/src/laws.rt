@@ -6,11 +6,9 @@ ghost use Rattle.rule_laws.specs.Dumps.{DumpsListEach};
 ghost use Rattle.rule_laws.specs.Events.{EventsAreAll, ListingsAreAll, RepliesAreAll};
 ghost use Rattle.rule_laws.specs.Finds.{FindsTheBest};
 ghost use Rattle.rule_laws.specs.Leaves.{CommandsLeave, MomentsAreSet, RefusalsLeave};
-ghost use Rattle.rule_laws.specs.Lines.{PrintedAreScripts, ScriptsArePrinted};
 ghost use Rattle.rule_laws.specs.Rows as row;
 ghost use Rattle.rule_laws.specs.Scripts.{ScriptsAreOrderly};
 ghost use Rattle.rule_laws.specs.TextRows as text;
-ghost use Rattle.rule_laws.specs.Waits.{GivesWayAsItsCard};
 
 /// What a packet finds in a sound list matches it, and no card matches it better; where it finds nothing, none matches.
 pub fn best_card()
@@ -22,8 +20,8 @@ pub fn dumps()
     ensures { DumpsListEach }
 {}
 
-/// A command leaves the header and all sections but its own, which gives the command's label and draws one word at most;
-/// `at` alone, where it isn't refused, sets its moment.
+/// A command leaves the header and all sections but its own, which gives the command's label and draws one word at
+/// most; `at` alone, where it isn't refused, sets its moment.
 pub fn sections_stay()
     ensures each { CommandsLeave }
     ensures refused { RefusalsLeave }
@@ -38,23 +36,10 @@ pub fn all_events()
     ensures listings { ListingsAreAll }
 {}
 
-/// `connect` may take the place of a TIME_WAIT in the flat list where its card may be replaced in a table.
-pub fn one_rule_of_waits()
-    ensures { GivesWayAsItsCard }
-{}
-
 /// Each script that a text is has 64 sections at most; the labels of one differ, what its commands say is in range, and
 /// one for a race asks for no lookup.
 pub fn orderly_scripts()
     ensures { ScriptsAreOrderly }
-{}
-
-/// The lines of a text that is a script, but for those that are passed over, are header lines, each kind at most once,
-/// then its sections with their commands, and last the line of its capture, behind which nothing is read; and a text with
-/// such lines is the script.
-pub fn printed_scripts()
-    ensures printed { ScriptsArePrinted }
-    ensures back { PrintedAreScripts }
 {}
 
 /// The definitions give worked examples of rules that no row of the flat list shows.

@@ -1,3 +1,4 @@
+use label_index::LabelSeed;
 use sock_script::parse::{Mode, ScriptEnd, parse};
 use std::alloc::Global;
 use std::test::Fail;
@@ -71,7 +72,7 @@ const LIMITS: [(&str, &str); 24] = [
 
 /// The first bad line, 0 for want of memory, and none where the text is a script.
 fn bad_line(alloc: Global, text: &str) -> Option<u64> {
-    match parse(alloc, text.as_bytes(), Mode::Run) {
+    match parse(alloc, LabelSeed::fixed(), text.as_bytes(), Mode::Run) {
         Ok(_) => None,
         Err(ScriptEnd::BadLine(n)) => Some(n),
         Err(ScriptEnd::Memory) => Some(0),

@@ -1,4 +1,5 @@
 pub mod Agreement
+pub mod SameKinds
 pub mod Ranks
 pub mod Tuples
 pub mod Most

@@ -5,6 +5,7 @@ pub mod Limits
 pub mod Conflict
 pub mod Agreement
 pub mod TimeWait
+pub mod Kinds
 pub mod Became
 pub mod Words
 pub mod Rows

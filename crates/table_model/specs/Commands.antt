@@ -1,5 +1,5 @@
--- What each command of a section asks of the tables: an operation's plan, and what its result makes of the section's own
--- and replies. Sources: errno(3), and those of the operations.
+-- What each command of a section asks of the tables: an operation's plan, and what its result makes of the section's
+-- own and replies. Sources: errno(3), and those of the operations.
 use Rattle.std.specs.Prelude.{ℕ, Bool, true, false, ◌==◌, ◌&&◌, not, nat_lt, List, Option, None, Some, if◌then◌else◌}
 use Rattle.sock_card.specs.declared.owner.Owner.{Owner}
 use Rattle.sock_card.specs.declared.owner.State.{State}

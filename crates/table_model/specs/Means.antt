@@ -1,6 +1,6 @@
--- What tables mean as a flat list of sockets, and what a section's own means in it: our own. What buckets and chains hold
--- is compared by weight: whatever number is given to each owner or card, both sides weigh the same. So both hold the
--- same, each as often, and in no matter which order.
+-- What tables mean as a flat list of sockets, and what a section's own means in it: our own. What buckets and chains
+-- hold is compared by weight: whatever number is given to each owner or card, both sides weigh the same. So both hold
+-- the same, each as often, and in no matter which order.
 use Rattle.std.specs.Prelude.{◌≡◌, ◌≢◌, ℕ, ◌+◌, ◌*◌, ◌/◌, ◌%◌, ◌^◌, ◌<◌, ◌≤◌, Bool, true, false, ◌==◌, ◌&&◌, cond, List, [], ◌++◌, length, map, filter, count_by, Option, None, Some, unwrap_or, find}
 use Rattle.std.specs.List.{list_any, slice_index_or}
 use Rattle.std.specs.Option.{option_map}
@@ -97,10 +97,6 @@ pub record TablesMean (t : Tables) (flat : Flat) : Type 0 where
   pub chains : ChainsMean t.chains flat
   pub groups : GroupsMean t flat
 
--- an open socket of section n
-abbrev pub is_mine : ℕ → Socket → Bool
-is_mine n s = is_open_in n s
-
 -- a TIME_WAIT of section n
 abbrev pub is_wait_of : ℕ → Socket → Bool
 is_wait_of n s = is_time_wait s.owner.state && (s.owner.name / 2 ^ 24 == n)
@@ -139,14 +135,14 @@ abbrev pub section_as : Own → Section
 section_as own =
     record { number = own.number; labels = own.labels; moment = own.moment; generator = own.offsets.generator }
 
--- what a section knows of itself is what the list says of it: its open sockets are those of the list, each stands in its
--- place, and the TIME_WAITs that it left are those of the list, but for such as were replaced
+-- what a section knows of itself is what the list says of it: its open sockets are those of the list, each stands in
+-- its place, and the TIME_WAITs that it left are those of the list, but for such as were replaced
 pub record OwnMeans (n : ℕ) (own : Own) (t : Tables) (flat : Flat) : Type 0 where
   pub number : own.number ≡ n
   pub section : section_as own ≡ section_of flat.header n flat.sections
   pub range : own.offsets.range ≡ flat.header.range
   pub offset : own.offsets.offset ≡ flat.header.offset
-  pub sockets : map owner_in own.sockets ≡ map owner_of (filter (is_mine n) flat.sockets)
+  pub sockets : map owner_in own.sockets ≡ map owner_of (filter (is_open_in n) flat.sockets)
   pub stand : Each (λ (m : Mine). StandsAs t.chains m (kind_of m.owner.state)) own.sockets
   pub waits : (f : Owner → ℕ → ℕ) → total (weighs_if_there f flat.sockets) own.waits ≡ total (weighs_as_wait f n) flat.sockets
   pub names : Pairs (λ (a b : ℕ). a ≢ b) (map name_in own.sockets ++ map name_in own.waits)

@@ -15,8 +15,8 @@ use Rattle.flat_list.specs.Owned.{card_as}
 use Rattle.flat_list.specs.Ports.{size, port_order}
 use Rattle.flat_list.specs.Sections.{name_at}
 
--- a socket; what its card says besides, which is a listener's group and 1 or a TIME_WAIT's stamp; and where it is hashed,
--- if it is
+-- a socket; what its card says besides, which is a listener's group and 1 or a TIME_WAIT's stamp; and where it is
+-- hashed, if it is
 pub record Mine : Type 0 where
   pub owner : Owner
   pub extra : ℕ
@@ -28,8 +28,8 @@ pub record Offsets : Type 0 where
   pub offset : Option ℕ
   pub generator : Lcg
 
--- the section's number, its labels in the order in which they were given, its moment, its offsets, its open sockets, and
--- the TIME_WAITs that it left, in the order in which they were closed
+-- the section's number, its labels in the order in which they were given, its moment, its offsets, its open sockets,
+-- and the TIME_WAITs that it left, in the order in which they were closed
 pub record Own : Type 0 where
   pub number : ℕ
   pub labels : List (List ℕ)

@@ -1,5 +1,5 @@
--- Worked examples, computed by the plans on new tables: each line is a command of section 1 with its reply, and the flat
--- list has the same reply.
+-- Worked examples, computed by the plans on new tables: each line is a command of section 1 with its reply, and the
+-- flat list has the same reply.
 use Rattle.std.specs.Prelude.{◌≡◌, ℕ, List, [], ◌∷◌, ◌++◌, ◌+◌, Option, None, Some, not, map, filter, codes}
 use Rattle.std.specs.List.{range_with_len}
 use Rattle.sock_card.specs.Limits.{group_room}
@@ -26,7 +26,8 @@ replies_by_plans header own t (command ∷ rest) =
     reply_and (run t (plan header own command))
     (λ ended. replies_by_plans header ended.result.own ended.tables rest)
 
--- the lines' commands, carried out by their plans on new tables, have the lines' replies, and so they have in the flat list
+-- the lines' commands, carried out by their plans on new tables, have the lines' replies, and so they have in the
+-- flat list
 abbrev pub BothAnswer : Header → List Line → Type 0
 BothAnswer header lines =
     (replies_by_plans header (new_own header 1) (new_tables header.shape header.seed) (map command_of lines) ≡ map reply_of lines)

@@ -24,7 +24,7 @@ use Rattle.flat_list.specs.Groups.{has_member}
 use Rattle.flat_list.specs.Outcome.{Outcome, unchanged, added, no_slot, has_slot as has_room}
 use Rattle.flat_list.specs.Owned.{heir_owner, other_end, own_end, is_no_accept, is_no_ack}
 use Rattle.flat_list.specs.Sections.{with_given}
-use Rattle.flat_list.specs.Sockets.{has_name, is_owner, kind_of, open_in, without}
+use Rattle.flat_list.specs.Sockets.{has_name, is_owner, kind_of, open_in, without, is_open_in}
 use Rattle.flat_list.specs.Sound.{NamesDiffer}
 use Rattle.table_model.specs.declared.operation.OpEnd.TheVariants as errors
 use Rattle.table_model.specs.Asking.{Asking, ends, and_then}
@@ -33,7 +33,7 @@ use Rattle.table_model.specs.Own as own_words
 use Rattle.table_model.specs.Own.{Own, Mine, with_label, open_named}
 use Rattle.table_model.specs.Operations.{Did, done, refused, plain, full_card, full_in, when_done, ack_hashed, ack_as, ack_by, ack_from}
 use Rattle.table_model.specs.Commands.{Replied, ack_reply}
-use Rattle.table_model.specs.Means.{OwnersMean, TablesMean, OwnMeans, Means, StandsAs, owns, is_mine, stands_in_some}
+use Rattle.table_model.specs.Means.{OwnersMean, TablesMean, OwnMeans, Means, StandsAs, owns, stands_in_some}
 use Rattle.table_model.proofs.lists.Weights.{is_same}
 use Rattle.table_model.proofs.lists.Listed.{Listed, without_weighs}
 use Rattle.table_model.proofs.parts.Buckets.{owners_kept}
@@ -62,7 +62,7 @@ acks_own : (l r : Owner) → is_no_ack l r ≡ false → is_owner l.state ≡ tr
 acks_own l r h = accepts_own l (other_end r) (own_end r) (or_parts (is_no_accept l (other_end r) (own_end r)) (not (l.net == r.net)) h).0
 
 module _ (n : ℕ) (own : Own) (t : Tables) (flat : Flat) (h : Means n own t flat) (label : List ℕ) (r : Socket) (extra : ℕ) (place : Place)
-    (at : Listed r.owner.name flat.sockets r) (mine : is_mine n r ≡ true) (stands : StandsAs t.chains (record { owner = r.owner; extra = extra; place = place }) (kind_of r.owner.state)) where
+    (at : Listed r.owner.name flat.sockets r) (mine : is_open_in n r ≡ true) (stands : StandsAs t.chains (record { owner = r.owner; extra = extra; place = place }) (kind_of r.owner.state)) where
   abbrev m : Mine
   m = record { owner = r.owner; extra = extra; place = place }
 

@@ -16,7 +16,7 @@ use Rattle.flat_list.specs.Connect as flat_connect
 use Rattle.flat_list.specs.Flat.{Flat}
 use Rattle.flat_list.specs.Outcome.{Outcome, unchanged, added, no_slot, has_slot as has_room}
 use Rattle.flat_list.specs.Sections.{with_given}
-use Rattle.flat_list.specs.Sockets.{has_twin, waits_at, without_waiting}
+use Rattle.flat_list.specs.Sockets.{has_twin, waits_at, without_waiting, is_open_in}
 use Rattle.flat_list.specs.Sound.{NamesDiffer}
 use Rattle.table_model.specs.declared.operation.OpEnd.TheVariants as errors
 use Rattle.table_model.specs.Asking.{Asking, ends, inserts}
@@ -24,7 +24,7 @@ use Rattle.table_model.specs.Tables.{Tables, Ended, with_buckets, with_chains}
 use Rattle.table_model.specs.Own.{Own, Mine, with_label}
 use Rattle.table_model.specs.Operations.{Did, done, refused, then_replaced}
 use Rattle.table_model.specs.Commands.{accept_reply}
-use Rattle.table_model.specs.Means.{Means, StandsAs, is_mine}
+use Rattle.table_model.specs.Means.{Means, StandsAs}
 use Rattle.table_model.proofs.lists.Weights.{is_same}
 use Rattle.table_model.proofs.parts.Claims.{claim_card, claimed_in, IsClaim, claim_open}
 use Rattle.table_model.proofs.parts.NewSocket.{own_new}
@@ -76,7 +76,7 @@ module _ (n : ℕ) (own : Own) (t : Tables) (flat : Flat) (h : Means n own t fla
   good_as : (k room : Bool) → twin ≡ k → has_room flat ≡ room → (e : Ended Did) → Good_so (out_as k room) e → P e
   good_as k room q r e g = subst (λ (b : Bool). Good_so (out_as b (has_room flat)) e) (sym q) (subst (λ (b : Bool). Good_so (out_as k b) e) (sym r) g)
 
-  of_section : is_mine n new ≡ true
+  of_section : is_open_in n new ≡ true
   of_section = is_same _ n (subst (λ (k : ℕ). k / 2 ^ 24 ≡ n) (sym named) (new_section n own t flat h few))
 
   came_good : (e : Ended Did) → HasCome own flat a beside_list e → Good_so (out_as false true) e

@@ -19,7 +19,7 @@ use Rattle.flat_list.specs.declared.socket.Socket.{Socket}
 use Rattle.flat_list.specs.Flat.{Flat}
 use Rattle.flat_list.specs.Groups.{has_member}
 use Rattle.flat_list.specs.Outcome.{Outcome, changed, removed, has_slot}
-use Rattle.flat_list.specs.Sockets.{has_name, is_owner, kind_of, put}
+use Rattle.flat_list.specs.Sockets.{has_name, is_owner, kind_of, put, is_open_in}
 use Rattle.flat_list.specs.Sound.{IsSound}
 use Rattle.flat_list.specs.Step as flat_step
 use Rattle.table_model.specs.Asking.{Asking, ends, and_then}
@@ -28,7 +28,7 @@ use Rattle.bind_buckets.specs.BindHash.{asked_at}
 use Rattle.table_model.specs.Own.{Own, Mine, card_of}
 use Rattle.table_model.specs.Operations.{Closed, waiting, no_slot, close_as, close_full, close_hashed, wait_of, waits_in, when_done}
 use Rattle.table_model.specs.Commands.{Replied, close_command, close_reply}
-use Rattle.table_model.specs.Means.{ChainsMean, Means, StandsAs, is_mine, stands_in_some}
+use Rattle.table_model.specs.Means.{ChainsMean, Means, StandsAs, stands_in_some}
 use Rattle.table_model.proofs.parts.Chains.{weighing}
 use Rattle.table_model.proofs.parts.Cards.{card_weight, cards_weigh}
 use Rattle.table_model.proofs.questions.Inserts.{room_found, room_none}
@@ -45,7 +45,7 @@ use Rattle.table_model.proofs.parts.Handed.{handed, handed_means, stays_handed, 
 use Rattle.table_model.proofs.commands.Drop.{stands_so, carried_unhashed, carried_leave, carried_at_once, carried_portless}
 
 module _ (n : ℕ) (own : Own) (t : Tables) (flat : Flat) (h : Means n own t flat) (near : n ≤ 64) (s : Socket) (extra : ℕ) (place : Place)
-    (at : Listed s.owner.name flat.sockets s) (mine : is_mine n s ≡ true) (stands : StandsAs t.chains (record { owner = s.owner; extra = extra; place = place }) (kind_of s.owner.state)) where
+    (at : Listed s.owner.name flat.sockets s) (mine : is_open_in n s ≡ true) (stands : StandsAs t.chains (record { owner = s.owner; extra = extra; place = place }) (kind_of s.owner.state)) where
   abbrev m : Mine
   m = record { owner = s.owner; extra = extra; place = place }
 

@@ -16,7 +16,7 @@ use Rattle.flat_list.specs.declared.command.Reply.TheVariants as replies
 use Rattle.flat_list.specs.declared.socket.Socket.{Socket}
 use Rattle.flat_list.specs.Flat.{Flat}
 use Rattle.flat_list.specs.Outcome.{removed}
-use Rattle.flat_list.specs.Sockets.{is_owner, kind_of}
+use Rattle.flat_list.specs.Sockets.{is_owner, kind_of, is_open_in}
 use Rattle.flat_list.specs.Step.{drop}
 use Rattle.table_model.specs.Asking.{Asking, ends, asks, unhashes}
 use Rattle.table_model.specs.Tables.{Tables, with_chains, run}
@@ -26,7 +26,7 @@ use Rattle.table_model.specs.Own.{Own, Mine, card_of}
 use Rattle.table_model.specs.Operations.{drop_as}
 use Rattle.table_model.specs.Commands as commands
 use Rattle.table_model.specs.Commands.{Replied, drop_command}
-use Rattle.table_model.specs.Means.{Means, StandsAs, is_mine}
+use Rattle.table_model.specs.Means.{Means, StandsAs}
 use Rattle.table_model.proofs.lists.Listed.{Listed}
 use Rattle.table_model.proofs.questions.Requests.{remove_answer}
 use Rattle.table_model.proofs.commands.Carried.{Carried}
@@ -35,7 +35,7 @@ use Rattle.table_model.proofs.parts.OwnGoes.{is_awake}
 use Rattle.table_model.proofs.commands.Gone.{left_unhashed, left_unhashed_none, leaves_port, leaves_nothing}
 
 module _ (n : ℕ) (own : Own) (t : Tables) (flat : Flat) (h : Means n own t flat) (near : n ≤ 64) (s : Socket) (extra : ℕ) (place : Place)
-    (at : Listed s.owner.name flat.sockets s) (mine : is_mine n s ≡ true) (stands : StandsAs t.chains (record { owner = s.owner; extra = extra; place = place }) (kind_of s.owner.state)) (reply : Reply) where
+    (at : Listed s.owner.name flat.sockets s) (mine : is_open_in n s ≡ true) (stands : StandsAs t.chains (record { owner = s.owner; extra = extra; place = place }) (kind_of s.owner.state)) (reply : Reply) where
   abbrev pub m : Mine
   m = record { owner = s.owner; extra = extra; place = place }
 

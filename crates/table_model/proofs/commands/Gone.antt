@@ -19,13 +19,13 @@ use Rattle.flat_list.specs.Flat.{Flat}
 use Rattle.flat_list.specs.Groups.{Group, has_member, leave, leave_group, left_by, has_members}
 use Rattle.flat_list.specs.Look.{extra_as}
 use Rattle.flat_list.specs.Owned.{card_as}
-use Rattle.flat_list.specs.Sockets.{has_name, is_owner, kind_of, without}
+use Rattle.flat_list.specs.Sockets.{has_name, is_owner, kind_of, without, is_open_in}
 use Rattle.flat_list.specs.Sound.{is_sharing, IsSound, IsGroupOf}
 use Rattle.table_model.specs.Tables.{Tables, with_chains}
 use Rattle.bind_buckets.specs.BindHash.{asked_at}
 use Rattle.table_model.specs.Own as own_words
 use Rattle.table_model.specs.Own.{Own, Mine, card_of}
-use Rattle.table_model.specs.Means.{ChainsMean, OwnMeans, Means, StandsAs, owns, stands_in_some, is_mine}
+use Rattle.table_model.specs.Means.{ChainsMean, OwnMeans, Means, StandsAs, owns, stands_in_some}
 use Rattle.table_model.proofs.lists.Passing.{Only}
 use Rattle.table_model.proofs.parts.Buckets.{owners_kept}
 use Rattle.table_model.proofs.parts.Chains.{holds, weighing}
@@ -114,7 +114,7 @@ not_listening states.Full h = absurd (cc)
 not_listening states.TimeWait h = absurd (cc)
 not_listening states.Request h = refl
 
-module _ (n : ℕ) (own : Own) (t : Tables) (flat : Flat) (h : Means n own t flat) (near : n ≤ 64) (s : Socket) (at : Listed s.owner.name flat.sockets s) (mine : is_mine n s ≡ true) where
+module _ (n : ℕ) (own : Own) (t : Tables) (flat : Flat) (h : Means n own t flat) (near : n ≤ 64) (s : Socket) (at : Listed s.owner.name flat.sockets s) (mine : is_open_in n s ≡ true) where
   abbrev name : ℕ
   name = s.owner.name
 

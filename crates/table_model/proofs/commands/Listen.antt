@@ -23,7 +23,7 @@ use Rattle.flat_list.specs.declared.socket.Socket.{Socket}
 use Rattle.flat_list.specs.Flat.{Flat}
 use Rattle.flat_list.specs.Groups.{Group, has_member, join}
 use Rattle.flat_list.specs.Outcome.{Outcome, unchanged, draw}
-use Rattle.flat_list.specs.Sockets.{has_name, is_owner, is_other_owner, is_refused, is_mate, is_hashed, kind_of, put, replaced, without, slots_used, mate_of}
+use Rattle.flat_list.specs.Sockets.{has_name, is_owner, is_other_owner, is_refused, is_mate, is_hashed, kind_of, put, replaced, without, slots_used, mate_of, is_open_in}
 use Rattle.flat_list.specs.Sound.{IsSound}
 use Rattle.flat_list.specs.Step as flat_step
 use Rattle.flat_list.specs.Step.{at_port, listening, groups_with, listen_bound, listen_found, listen_unbound, listen_socket, bind_found, suits_bind}
@@ -35,7 +35,7 @@ use Rattle.table_model.specs.Own.{Own, Mine, is_named, with_socket, ports_of, re
 use Rattle.table_model.specs.Operations.{Did, done, refused, plain, search_bind, give_up, listen_at, listen_as, when_done}
 use Rattle.table_model.specs.Operations as operations
 use Rattle.table_model.specs.Commands.{Replied, bind_reply, after_search, is_unbound, listen_command}
-use Rattle.table_model.specs.Means.{OwnersMean, GroupsMean, TablesMean, OwnMeans, Means, StandsAs, is_mine, owns}
+use Rattle.table_model.specs.Means.{OwnersMean, GroupsMean, TablesMean, OwnMeans, Means, StandsAs, owns}
 use Rattle.table_model.proofs.lists.Passing.{ind, count_is}
 use Rattle.table_model.proofs.parts.Buckets.{near}
 use Rattle.table_model.proofs.parts.GroupPlaces.{at_number, is_name, any_names, members_in}
@@ -150,7 +150,7 @@ nobody_named name n groups None e h = refl
 nobody_named name n groups (Some g) e h = each_found (λ g. has_member name g ≡ false) (at_number n) groups g h e
 
 module _ (n : ℕ) (own : Own) (t : Tables) (flat : Flat) (h : Means n own t flat) (few : n ≤ 64) (s : Socket) (extra : ℕ) (place : Place)
-    (at : Listed s.owner.name flat.sockets s) (mine : is_mine n s ≡ true) (stands : StandsAs t.chains (record { owner = s.owner; extra = extra; place = place }) (kind_of s.owner.state)) where
+    (at : Listed s.owner.name flat.sockets s) (mine : is_open_in n s ≡ true) (stands : StandsAs t.chains (record { owner = s.owner; extra = extra; place = place }) (kind_of s.owner.state)) where
   abbrev m : Mine
   m = record { owner = s.owner; extra = extra; place = place }
 

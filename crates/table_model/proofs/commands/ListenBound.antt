@@ -29,7 +29,7 @@ use Rattle.flat_list.specs.Flat.{Flat}
 use Rattle.flat_list.specs.Groups.{Group, has_member, join}
 use Rattle.flat_list.specs.Look.{extra_as}
 use Rattle.flat_list.specs.Outcome.{Outcome, changed, unchanged, has_slot}
-use Rattle.flat_list.specs.Sockets.{has_name, is_owner, is_refused, kind_of, put, mate_of}
+use Rattle.flat_list.specs.Sockets.{has_name, is_owner, is_refused, kind_of, put, mate_of, is_open_in}
 use Rattle.flat_list.specs.Sound.{IsSound, NamesDiffer}
 use Rattle.flat_list.specs.Step.{listening, groups_with, listen_as, listen_bound}
 use Rattle.table_model.specs.declared.operation.OpEnd.{OpEnd}
@@ -40,7 +40,7 @@ use Rattle.bind_buckets.specs.BindHash.{asked_at, answer_at, standing_at, untouc
 use Rattle.table_model.specs.Own.{Own, Mine, card_of, with_socket}
 use Rattle.table_model.specs.Operations.{Did, done, listener, give_up, listen_hashed, listens_in, listen_answered, listen_at, when_done}
 use Rattle.table_model.specs.Commands.{bind_error}
-use Rattle.table_model.specs.Means.{OwnersMean, ChainsMean, GroupsMean, OwnMeans, Means, StandsAs, is_mine, stands_in_some}
+use Rattle.table_model.specs.Means.{OwnersMean, ChainsMean, GroupsMean, OwnMeans, Means, StandsAs, stands_in_some}
 use Rattle.table_model.proofs.parts.Chains.{means, weighing, weighs_same, home_below}
 use Rattle.table_model.proofs.parts.Cards.{card_weight, weigh_as, cards_weigh}
 use Rattle.table_model.proofs.questions.Inserts.{room_found, room_none, added_holds}
@@ -80,7 +80,7 @@ none_extra name [] h = refl
 none_extra name (g ∷ groups) h =
     ap (λ o. option_map_or (λ (y : Group). y.number + 1) o 0) (cond-false (has_member name g) (Some g) (find (has_member name) groups) h.0) ∙ none_extra name groups h.1
 
-module _ (n : ℕ) (own : Own) (t : Tables) (flat : Flat) (h : Means n own t flat) (few : n ≤ 64) (s : Socket) (at : Listed s.owner.name flat.sockets s) (mine : is_mine n s ≡ true)
+module _ (n : ℕ) (own : Own) (t : Tables) (flat : Flat) (h : Means n own t flat) (few : n ≤ 64) (s : Socket) (at : Listed s.owner.name flat.sockets s) (mine : is_open_in n s ≡ true)
     (bound : s.owner.state ≡ states.Bound) (took : Bool) where
   abbrev a : Owner
   a = s.owner

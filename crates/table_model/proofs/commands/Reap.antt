@@ -22,12 +22,12 @@ use Rattle.flat_list.specs.declared.socket.Socket.{Socket}
 use Rattle.flat_list.specs.Flat.{Flat}
 use Rattle.flat_list.specs.Look.{extra_as}
 use Rattle.flat_list.specs.Owned.{card_as}
-use Rattle.flat_list.specs.Sockets.{is_owner, has_name, without, kind_of}
+use Rattle.flat_list.specs.Sockets.{is_owner, has_name, without, kind_of, is_open_in}
 use Rattle.flat_list.specs.Sound.{NamesDiffer, IsAwakeIfNamed, IsInOneGroup}
 use Rattle.table_model.specs.Tables.{Tables}
 use Rattle.bind_buckets.specs.BindHash.{asked_at}
 use Rattle.table_model.specs.Own.{Own, Mine}
-use Rattle.table_model.specs.Means.{ChainsMean, TablesMean, OwnMeans, IsShape, StandsAs, is_mine, is_wait_of, name_in, stands_in_some, weighs_as_wait}
+use Rattle.table_model.specs.Means.{ChainsMean, TablesMean, OwnMeans, IsShape, StandsAs, is_wait_of, name_in, stands_in_some, weighs_as_wait}
 use Rattle.table_model.proofs.lists.Weights.{is_ne, is_same, total_alike, none_of_each, ind, Weighs, found_weighs}
 use Rattle.table_model.proofs.lists.Listed.{Listed, listed_name, without_weighs}
 use Rattle.table_model.proofs.lists.SameOwners.{same_owner}
@@ -192,13 +192,13 @@ module _ (n : ℕ) (own : Own) (base : Flat) (shape : IsShape base.header) where
     pub waits : is_wait_of n s ≡ true
     pub owner : w.owner ≡ s.owner
     pub stamp : w.extra ≡ s.stamp
-    pub shut : is_mine n s ≡ false
+    pub shut : is_open_in n s ≡ false
 
   -- what the section knows of it is what the list says
   pub wait_is : (t : Tables) (xs : List Socket) → Kept t xs → (w : Mine) → IsOne own.waits w → (s : Socket) → Listed w.owner.name xs s → WaitIs w s
   wait_is t xs k w one s found =
-      let shut : is_mine n s ≡ false =
-      not_waiting (is_mine n s) (λ mine. absurd (let z : total (λ (x : Mine). cond {A = ℕ} (x.owner.name == w.owner.name) 1 0) own.waits ≡ 0 = none_such w.owner.name (λ (x : Mine). 1) own.waits (waits_differ n own t (at xs) w.owner.name s k.own_is found mine) in let o : total (λ (x : Mine). cond {A = ℕ} (x.owner.name == w.owner.name) 1 0) own.waits ≡ 1 = one (λ (x : Mine). 1) in omega (arith, z, o))) in
+      let shut : is_open_in n s ≡ false =
+      not_waiting (is_open_in n s) (λ mine. absurd (let z : total (λ (x : Mine). cond {A = ℕ} (x.owner.name == w.owner.name) 1 0) own.waits ≡ 0 = none_such w.owner.name (λ (x : Mine). 1) own.waits (waits_differ n own t (at xs) w.owner.name s k.own_is found mine) in let o : total (λ (x : Mine). cond {A = ℕ} (x.owner.name == w.owner.name) 1 0) own.waits ≡ 1 = one (λ (x : Mine). 1) in omega (arith, z, o))) in
       let weighs : (f : Owner → ℕ → ℕ) → f w.owner w.extra ≡ weighs_as_wait f n s = λ f.
       let there : Mine → ℕ = λ x. cond (list_any (has_name x.owner.name) xs) (f x.owner x.extra) 0 in
       sym (ap (λ (b : Bool). cond {A = ℕ} b (f w.owner w.extra) 0) (listed_there w.owner.name xs s found))
@@ -211,7 +211,7 @@ module _ (n : ℕ) (own : Own) (base : Flat) (shape : IsShape base.header) where
       record { waits = waits; owner = same_owner w.owner s.owner (λ f. counts (λ a e. f a)); stamp = counts (λ a e. e); shut = shut }
 
   -- one of them goes
-  module _ (t : Tables) (xs : List Socket) (k : Kept t xs) (s : Socket) (place : Place) (found : Listed s.owner.name xs s) (waits : s.owner.state ≡ states.TimeWait) (shut : is_mine n s ≡ false) where
+  module _ (t : Tables) (xs : List Socket) (k : Kept t xs) (s : Socket) (place : Place) (found : Listed s.owner.name xs s) (waits : s.owner.state ≡ states.TimeWait) (shut : is_open_in n s ≡ false) where
     abbrev name : ℕ
     name = s.owner.name
 

@@ -17,7 +17,8 @@ use Rattle.table_model.specs.Own.{Own, Mine, with_label, with_new}
 use Rattle.table_model.specs.Own as own_words
 use Rattle.table_model.specs.Operations.{plain}
 use Rattle.table_model.specs.Commands.{socket_command, at_command, replies_at_once, answers}
-use Rattle.table_model.specs.Means.{TablesMean, Means, is_mine, IsNameOf}
+use Rattle.flat_list.specs.Sockets.{is_open_in}
+use Rattle.table_model.specs.Means.{TablesMean, Means, IsNameOf}
 use Rattle.table_model.proofs.lists.Weights.{is_same}
 use Rattle.table_model.proofs.questions.Asked.{with_sockets}
 use Rattle.table_model.proofs.parts.Sections.{with_sections, own_label, own_moment, same_labels, same_moment}
@@ -73,7 +74,7 @@ module _ (n : ℕ) (own : Own) (t : Tables) (flat : Flat) (h : Means n own t fla
     one_more : length (own.labels ++ label ∷ []) ≡ length own.labels + 1
     one_more = omega (arith, length-append own.labels (label ∷ []))
 
-    of_section : is_mine n new ≡ true
+    of_section : is_open_in n new ≡ true
     of_section = is_same (name / 2 ^ 24) n (omega (arith, few))
 
     socket_tables : TablesMean t after

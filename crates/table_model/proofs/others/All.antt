@@ -20,14 +20,14 @@ use Rattle.flat_list.specs.declared.socket.Socket.{Socket}
 use Rattle.flat_list.specs.Flat.{Flat}
 use Rattle.flat_list.specs.Look.{extra_as}
 use Rattle.flat_list.specs.Sections.{Section, section_of, new_section, has_number, labels_of}
-use Rattle.flat_list.specs.Sockets.{kind_of, has_name}
+use Rattle.flat_list.specs.Sockets.{kind_of, has_name, is_open_in}
 use Rattle.flat_list.specs.Sound.{IsSound, IsAwakeIfNamed}
 use Rattle.flat_list.specs.Step.{step}
 use Rattle.flat_list.proofs.SectionsStay.{step_stays}
 use Rattle.table_model.specs.Tables.{Tables, Ended, run}
 use Rattle.table_model.specs.Own.{Own, Mine, card_of, open_socket}
 use Rattle.table_model.specs.Commands.{Replied, plan}
-use Rattle.table_model.specs.Means.{Means, OwnMeans, Refines, ChainsMean, StandsAs, OthersStay, is_mine, owner_of, owner_in}
+use Rattle.table_model.specs.Means.{Means, OwnMeans, Refines, ChainsMean, StandsAs, OthersStay, owner_of, owner_in}
 use Rattle.table_model.proofs.lists.Passing.{Weighs, Only, ind, any_weighs, found_counts}
 use Rattle.table_model.proofs.lists.Rows.{weigh, weigh_sum, row_least}
 use Rattle.table_model.proofs.parts.Slots.{one_most}
@@ -46,20 +46,20 @@ use Rattle.table_model.proofs.others.Step.{step_rest}
 
 -- what is known of each open socket of a section's own: the list has it
 abbrev HasSocket : ℕ → Flat → Owner → Type 0
-HasSocket m flat a = (s : Socket) × (a ≡ s.owner) × Listed s.owner.name flat.sockets s × (is_mine m s ≡ true) × IsAwakeIfNamed s
+HasSocket m flat a = (s : Socket) × (a ≡ s.owner) × Listed s.owner.name flat.sockets s × (is_open_in m s ≡ true) × IsAwakeIfNamed s
 
 module _ (m : ℕ) (other : Own) (t : Tables) (flat : Flat) (h : Means m other t flat) where
   all_have : Each (λ (x : Mine). HasSocket m flat x.owner) other.sockets
   all_have =
       each_unmap (HasSocket m flat) owner_in other.sockets
       (subst (Each (HasSocket m flat)) (sym h.own_is.sockets)
-      (each_map (HasSocket m flat) owner_of (filter (is_mine m) flat.sockets)
-      (each_weaken (λ (s : Socket). (Listed s.owner.name flat.sockets s × IsAwakeIfNamed s) × (is_mine m s ≡ true)) (λ (s : Socket). HasSocket m flat s.owner) (filter (is_mine m) flat.sockets)
+      (each_map (HasSocket m flat) owner_of (filter (is_open_in m) flat.sockets)
+      (each_weaken (λ (s : Socket). (Listed s.owner.name flat.sockets s × IsAwakeIfNamed s) × (is_open_in m s ≡ true)) (λ (s : Socket). HasSocket m flat s.owner) (filter (is_open_in m) flat.sockets)
       (λ s q. (s, refl, q.0.0, q.1, q.0.1))
-      (each_both (λ (s : Socket). Listed s.owner.name flat.sockets s × IsAwakeIfNamed s) (λ (s : Socket). is_mine m s ≡ true) (filter (is_mine m) flat.sockets)
-      (each_filter (λ (s : Socket). Listed s.owner.name flat.sockets s × IsAwakeIfNamed s) (is_mine m) flat.sockets
+      (each_both (λ (s : Socket). Listed s.owner.name flat.sockets s × IsAwakeIfNamed s) (λ (s : Socket). is_open_in m s ≡ true) (filter (is_open_in m) flat.sockets)
+      (each_filter (λ (s : Socket). Listed s.owner.name flat.sockets s × IsAwakeIfNamed s) (is_open_in m) flat.sockets
       (each_both (λ (s : Socket). Listed s.owner.name flat.sockets s) IsAwakeIfNamed flat.sockets (all_listed flat.sockets h.sound.names) h.sound.awake))
-      (each_passes (is_mine m) flat.sockets)))))
+      (each_passes (is_open_in m) flat.sockets)))))
 
 waits_kind : (f : Card → ℕ) (state : State) (o : Owner) (extra : Kind → ℕ) → ((card : Card) → is_time_wait_kind card.kind ≡ false → f card ≡ 0) → is_time_wait state ≡ false → weigh_as f (kind_of state) o extra ≡ 0
 waits_kind f states.Unbound o extra h e = refl

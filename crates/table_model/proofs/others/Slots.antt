@@ -1,4 +1,5 @@
--- What stands in a slot, and isn't in TIME_WAIT, stays there while a plan is carried out that unhashes nothing from that slot.
+-- What stands in a slot, and isn't in TIME_WAIT, stays there while a plan is carried out that unhashes nothing from
+-- that slot.
 use Rattle.std.proofs.Common.{◌≡◌, ◌≢◌, ℕ, ◌+◌, ◌<◌, ◌≤◌, ◌==◌, Bool, true, false, ◌&&◌, not, cond, List, [], ◌∷◌, filter, find, length, get_or, set, Option, Some, None, refl, ap, sym, ◌∙◌, subst, inl, inr, ◌⊎◌, arith}
 use Rattle.std.proofs.lemmas.Bool.{cases_eq, cases_lt, eq-eqb, eqb-true, ne_eqb, and_parts}
 use Rattle.std.proofs.lemmas.List.{get_or-set_same, get_or-set_other, set_past}

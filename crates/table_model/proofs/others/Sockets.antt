@@ -10,11 +10,11 @@ use Rattle.sock_card.specs.declared.owner.Owner.{Owner}
 use Rattle.sock_card.specs.Conflict.{is_time_wait}
 use Rattle.flat_list.specs.declared.socket.Socket.{Socket}
 use Rattle.flat_list.specs.Flat.{Flat}
-use Rattle.flat_list.specs.Sockets.{has_name, put, without, without_waiting, waits_at, have_one_tuple}
+use Rattle.flat_list.specs.Sockets.{has_name, put, without, without_waiting, waits_at, have_one_tuple, is_open_in}
 use Rattle.flat_list.specs.Sound.{IsSound, IsAwakeIfNamed}
 use Rattle.table_model.specs.Tables.{Tables}
 use Rattle.table_model.specs.Own.{Own, Mine}
-use Rattle.table_model.specs.Means.{OwnMeans, IsNameOf, is_mine, owner_of, owner_in, weighs_if_there, weighs_as_wait}
+use Rattle.table_model.specs.Means.{OwnMeans, IsNameOf, owner_of, owner_in, weighs_if_there, weighs_as_wait}
 use Rattle.table_model.proofs.lists.Passing.{Only, only_found, total_each, found_weighs}
 use Rattle.table_model.proofs.parts.Cards.{wait_once, only_named}
 use Rattle.table_model.proofs.questions.Replaced.{same_tests, dropped_same, kept_all}
@@ -23,7 +23,7 @@ use Rattle.table_model.proofs.parts.Own.{any_put}
 
 -- the open sockets and the TIME_WAITs of a section's own are those of the list
 pub record Rest (m : ℕ) (other : Own) (sockets : List Socket) : Type 0 where
-  pub mine : map owner_in other.sockets ≡ map owner_of (filter (is_mine m) sockets)
+  pub mine : map owner_in other.sockets ≡ map owner_of (filter (is_open_in m) sockets)
   pub waits : (f : Owner → ℕ → ℕ) → total (weighs_if_there f sockets) other.waits ≡ total (weighs_as_wait f m) sockets
 
 -- what a section knows of itself says so
@@ -51,7 +51,7 @@ module _ (n m : ℕ) (apart : m ≢ n) where
   and_no true b e = e
   and_no false b e = refl
 
-  not_mine : (s : Socket) → s.owner.name / 2 ^ 24 ≡ n → is_mine m s ≡ false
+  not_mine : (s : Socket) → s.owner.name / 2 ^ 24 ≡ n → is_open_in m s ≡ false
   not_mine s is = and_no s.named (s.owner.name / 2 ^ 24 == m) (not_named s is)
 
   no_wait : (f : Owner → ℕ → ℕ) (s : Socket) → s.owner.name / 2 ^ 24 ≡ n → weighs_as_wait f m s ≡ 0
@@ -65,14 +65,14 @@ module _ (n m : ℕ) (apart : m ≢ n) where
     old_is : (x : Socket) → has_name new.owner.name x ≡ true → x.owner.name / 2 ^ 24 ≡ n
     old_is x e = ap (λ k. k / 2 ^ 24) (eqb-true x.owner.name new.owner.name e) ∙ is
 
-    mine_at : (x : Socket) (ys zs : List Socket) (b : Bool) → has_name new.owner.name x ≡ b → filter (is_mine m) ys ≡ filter (is_mine m) zs
-        → filter (is_mine m) (cond b new x ∷ ys) ≡ filter (is_mine m) (x ∷ zs)
+    mine_at : (x : Socket) (ys zs : List Socket) (b : Bool) → has_name new.owner.name x ≡ b → filter (is_open_in m) ys ≡ filter (is_open_in m) zs
+        → filter (is_open_in m) (cond b new x ∷ ys) ≡ filter (is_open_in m) (x ∷ zs)
     mine_at x ys zs true e h =
-        ap (λ c. cond c (new ∷ filter (is_mine m) ys) (filter (is_mine m) ys)) (not_mine new is)
-        ∙ (h ∙ sym (ap (λ c. cond c (x ∷ filter (is_mine m) zs) (filter (is_mine m) zs)) (not_mine x (old_is x e))))
-    mine_at x ys zs false e h = ap (λ l. cond (is_mine m x) (x ∷ l) l) h
+        ap (λ c. cond c (new ∷ filter (is_open_in m) ys) (filter (is_open_in m) ys)) (not_mine new is)
+        ∙ (h ∙ sym (ap (λ c. cond c (x ∷ filter (is_open_in m) zs) (filter (is_open_in m) zs)) (not_mine x (old_is x e))))
+    mine_at x ys zs false e h = ap (λ l. cond (is_open_in m x) (x ∷ l) l) h
 
-    mine_put : (xs : List Socket) → filter (is_mine m) (put new xs) ≡ filter (is_mine m) xs
+    mine_put : (xs : List Socket) → filter (is_open_in m) (put new xs) ≡ filter (is_open_in m) xs
     mine_put [] = refl
     mine_put (x ∷ xs) = mine_at x (put new xs) xs (has_name new.owner.name x) refl (mine_put xs)
 
@@ -86,12 +86,12 @@ module _ (n m : ℕ) (apart : m ≢ n) where
 
   -- those that aren't kept are of section n
   module _ (keep : Socket → Bool) (those : (x : Socket) → keep x ≡ false → x.owner.name / 2 ^ 24 ≡ n) where
-    mine_kept : (x : Socket) (ys zs : List Socket) (b : Bool) → keep x ≡ b → filter (is_mine m) ys ≡ filter (is_mine m) zs
-        → filter (is_mine m) (cond b (x ∷ ys) ys) ≡ filter (is_mine m) (x ∷ zs)
-    mine_kept x ys zs true e h = ap (λ l. cond (is_mine m x) (x ∷ l) l) h
-    mine_kept x ys zs false e h = h ∙ sym (ap (λ c. cond c (x ∷ filter (is_mine m) zs) (filter (is_mine m) zs)) (not_mine x (those x e)))
+    mine_kept : (x : Socket) (ys zs : List Socket) (b : Bool) → keep x ≡ b → filter (is_open_in m) ys ≡ filter (is_open_in m) zs
+        → filter (is_open_in m) (cond b (x ∷ ys) ys) ≡ filter (is_open_in m) (x ∷ zs)
+    mine_kept x ys zs true e h = ap (λ l. cond (is_open_in m x) (x ∷ l) l) h
+    mine_kept x ys zs false e h = h ∙ sym (ap (λ c. cond c (x ∷ filter (is_open_in m) zs) (filter (is_open_in m) zs)) (not_mine x (those x e)))
 
-    mine_filter : (xs : List Socket) → filter (is_mine m) (filter keep xs) ≡ filter (is_mine m) xs
+    mine_filter : (xs : List Socket) → filter (is_open_in m) (filter keep xs) ≡ filter (is_open_in m) xs
     mine_filter [] = refl
     mine_filter (x ∷ xs) = mine_kept x (filter keep xs) xs (keep x) refl (mine_filter xs)
 
@@ -124,7 +124,7 @@ module _ (n m : ℕ) (apart : m ≢ n) where
         (each_weaken (λ (w : Mine). IsNameOf m (length other.labels) w.owner.name) (λ (w : Mine). weighs_if_there f ys w ≡ weighs_if_there f xs w) other.waits
         (λ w g. ap (λ (b : Bool). cond {A = ℕ} b (f w.owner w.extra) 0) (same w.owner.name g.section)) given)
 
-    alike : (xs ys : List Socket) → filter (is_mine m) ys ≡ filter (is_mine m) xs → ((f : Owner → ℕ → ℕ) → total (weighs_as_wait f m) ys ≡ total (weighs_as_wait f m) xs)
+    alike : (xs ys : List Socket) → filter (is_open_in m) ys ≡ filter (is_open_in m) xs → ((f : Owner → ℕ → ℕ) → total (weighs_as_wait f m) ys ≡ total (weighs_as_wait f m) xs)
         → ((name : ℕ) → name / 2 ^ 24 ≡ m → list_any (has_name name) ys ≡ list_any (has_name name) xs) → R xs → R ys
     alike xs ys mine waits same h = record {
       mine = h.mine ∙ sym (ap (map owner_of) mine);
@@ -139,7 +139,7 @@ module _ (n m : ℕ) (apart : m ≢ n) where
 
     pub rest_added : (new : Socket) (xs : List Socket) → new.owner.name / 2 ^ 24 ≡ n → R xs → R (xs ++ new ∷ [])
     rest_added new xs is h =
-        alike xs (xs ++ new ∷ []) (kept_more (is_mine m) xs new (not_mine new is))
+        alike xs (xs ++ new ∷ []) (kept_more (is_open_in m) xs new (not_mine new is))
         (λ f. let none : weighs_as_wait f m new ≡ 0 = no_wait f new is in omega (arith, total-append (weighs_as_wait f m) xs (new ∷ []), none))
         (λ name here. any_more (has_name name) xs new (no_name name new here is)) h
 

@@ -14,11 +14,11 @@ use Rattle.bind_buckets.specs.OwnerStep.{has_name as is_owner_named}
 use Rattle.flat_list.specs.declared.socket.Socket.{Socket}
 use Rattle.flat_list.specs.Flat.{Flat}
 use Rattle.flat_list.specs.Groups.{has_member as is_member_of}
-use Rattle.flat_list.specs.Sockets.{is_owner}
+use Rattle.flat_list.specs.Sockets.{is_owner, is_open_in}
 use Rattle.flat_list.specs.Sound.{NamesDiffer, IsInOneGroup}
 use Rattle.table_model.specs.Tables.{Tables}
 use Rattle.bind_buckets.specs.BindHash.{standing_at, untouched}
-use Rattle.table_model.specs.Means.{OwnersMean, GroupsMean, UnboundFresh, owns, weigh_owners, is_mine, owner_of, owner_in}
+use Rattle.table_model.specs.Means.{OwnersMean, GroupsMean, UnboundFresh, owns, weigh_owners, owner_of, owner_in}
 use Rattle.table_model.proofs.lists.Weights.{is_ne, part_none, ind, found_weighs, Weighs}
 use Rattle.table_model.proofs.lists.Listed.{Listed, without_weighs, others_weigh_none}
 use Rattle.table_model.proofs.parts.Buckets.{weigh_in}
@@ -98,5 +98,5 @@ pub unbound_fresh : UnboundFresh
 unbound_fresh n own t flat m =
     each_unmap (FreshUnbound t.buckets) owner_in own.sockets
     (subst (Each (FreshUnbound t.buckets)) (sym m.own_is.sockets)
-    (each_map (FreshUnbound t.buckets) owner_of (filter (is_mine n) flat.sockets)
-    (each_filter (λ (s : Socket). FreshUnbound t.buckets s.owner) (is_mine n) flat.sockets (all_fresh t flat m.tables.owners m.tables.groups m.sound.names m.sound.grouped.sharing))))
+    (each_map (FreshUnbound t.buckets) owner_of (filter (is_open_in n) flat.sockets)
+    (each_filter (λ (s : Socket). FreshUnbound t.buckets s.owner) (is_open_in n) flat.sockets (all_fresh t flat m.tables.owners m.tables.groups m.sound.names m.sound.grouped.sharing))))

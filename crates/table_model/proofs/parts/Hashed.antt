@@ -15,12 +15,12 @@ use Rattle.chain_book.specs.Slots.{free_slot}
 use Rattle.flat_list.specs.declared.socket.Socket.{Socket}
 use Rattle.flat_list.specs.Flat.{Flat}
 use Rattle.flat_list.specs.Groups.{Group, has_member}
-use Rattle.flat_list.specs.Sockets.{has_name, have_one_tuple, waits_at, without, without_waiting}
+use Rattle.flat_list.specs.Sockets.{has_name, have_one_tuple, waits_at, without, without_waiting, is_open_in}
 use Rattle.flat_list.specs.Sound.{IsSound, IsInOneGroup, IsAwakeIfNamed}
 use Rattle.table_model.specs.Tables.{Tables}
 use Rattle.table_model.specs.Own.{Mine}
 use Rattle.table_model.proofs.parts.Claims.{claim_kind, claim_card, claimed_in}
-use Rattle.table_model.specs.Means.{ChainsMean, GroupsMean, StandsAs, IsShape, stands_in_some, is_mine, owner_in, owner_of}
+use Rattle.table_model.specs.Means.{ChainsMean, GroupsMean, StandsAs, IsShape, stands_in_some, owner_in, owner_of}
 use Rattle.table_model.proofs.parts.Chains.{weighing}
 use Rattle.table_model.proofs.questions.Inserts.{after_put, held, inside, still_found}
 use Rattle.table_model.proofs.questions.Replaced.{Replaces, replaces, replaces_none}
@@ -125,7 +125,7 @@ module _ (c : Chains) (flat : Flat) (m : ChainsMean c flat) (shape : IsShape fla
       (words_differ t flat y.card.name gm (subst (λ (k : ℕ). Each (λ (g : Group). has_member k g ≡ false) flat.groups) (sym name) none))
 
   -- none of a section's open sockets has the name of what is replaced
-  pub names_not_old : (old : Option Hashed) → find (waits card) (row_at c b) ≡ old → (n : ℕ) (ms : List Mine) → map owner_in ms ≡ map owner_of (filter (is_mine n) flat.sockets)
+  pub names_not_old : (old : Option Hashed) → find (waits card) (row_at c b) ≡ old → (n : ℕ) (ms : List Mine) → map owner_in ms ≡ map owner_of (filter (is_open_in n) flat.sockets)
       → Each (λ (x : Mine). NotOld old x.owner.name) ms
   names_not_old None e n ms same = each_of_all (λ (x : Mine). Unit {0}) ms (λ x. tt)
   names_not_old (Some y) e n ms same =

@@ -9,11 +9,11 @@ use Rattle.sock_card.specs.Conflict.{is_time_wait}
 use Rattle.flat_list.specs.declared.socket.Socket.{Socket}
 use Rattle.flat_list.specs.Flat.{Flat}
 use Rattle.flat_list.specs.Sections.{name_at}
-use Rattle.flat_list.specs.Sockets.{has_name, kind_of}
+use Rattle.flat_list.specs.Sockets.{has_name, kind_of, is_open_in}
 use Rattle.flat_list.specs.Sound.{NamesDiffer}
 use Rattle.table_model.specs.Tables.{Tables}
 use Rattle.table_model.specs.Own.{Own, Mine, with_new}
-use Rattle.table_model.specs.Means.{OwnMeans, StandsAs, IsNameOf, is_mine, owner_of, owner_in, name_in, weighs_if_there, weighs_as_wait}
+use Rattle.table_model.specs.Means.{OwnMeans, StandsAs, IsNameOf, owner_of, owner_in, name_in, weighs_if_there, weighs_as_wait}
 use Rattle.table_model.proofs.lists.Weights.{is_ne, total_same}
 use Rattle.table_model.proofs.questions.Asked.{with_sockets}
 use Rattle.table_model.proofs.parts.Standing.{each_unmap}
@@ -62,14 +62,14 @@ own_names_are P n own t flat h each =
     each_map P name_in own.sockets
     (each_unmap (λ (o : Owner). P o.name) owner_in own.sockets
     (subst (Each (λ (o : Owner). P o.name)) (sym h.sockets)
-    (each_map (λ (o : Owner). P o.name) owner_of (filter (is_mine n) flat.sockets) (each_filter (λ (x : Socket). P x.owner.name) (is_mine n) flat.sockets each))))
+    (each_map (λ (o : Owner). P o.name) owner_of (filter (is_open_in n) flat.sockets) (each_filter (λ (x : Socket). P x.owner.name) (is_open_in n) flat.sockets each))))
 
 -- a name that was given before differs from the next
 pub given_before : (n labels name : ℕ) → IsNameOf n labels name → name ≢ name_at n labels
 given_before n labels name h = λ e. absurd (omega (arith, h.section, h.first, h.last, e))
 
 -- a socket of the section's own comes, which isn't in TIME_WAIT
-pub own_new : (n : ℕ) (own : Own) (t t' : Tables) (flat : Flat) (s : Socket) (m : Mine) → OwnMeans n own t flat → m.owner ≡ s.owner → is_mine n s ≡ true → is_time_wait s.owner.state ≡ false
+pub own_new : (n : ℕ) (own : Own) (t t' : Tables) (flat : Flat) (s : Socket) (m : Mine) → OwnMeans n own t flat → m.owner ≡ s.owner → is_open_in n s ≡ true → is_time_wait s.owner.state ≡ false
     → Each (λ (x : Socket). NamesDiffer x s) flat.sockets → Each (λ (w : Mine). w.owner.name ≢ s.owner.name) own.waits
     → StandsAs t'.chains m (kind_of m.owner.state) → Each (λ (x : Mine). StandsAs t'.chains x (kind_of x.owner.state)) own.sockets
     → OwnMeans n (with_new own m) t' (with_sockets flat (flat.sockets ++ s ∷ []))
@@ -81,8 +81,8 @@ own_new n own t t' flat s m h same mine awake apart waits_apart stands others = 
   sockets =
       map_push owner_in own.sockets m
       ∙ (ap (λ (l : List Owner). l ++ m.owner ∷ []) h.sockets
-      ∙ (ap (λ (o : Owner). map owner_of (filter (is_mine n) flat.sockets) ++ o ∷ []) same
-      ∙ (sym (map_push owner_of (filter (is_mine n) flat.sockets) s) ∙ ap (map owner_of) (sym (filter_push (is_mine n) s mine flat.sockets)))));
+      ∙ (ap (λ (o : Owner). map owner_of (filter (is_open_in n) flat.sockets) ++ o ∷ []) same
+      ∙ (sym (map_push owner_of (filter (is_open_in n) flat.sockets) s) ∙ ap (map owner_of) (sym (filter_push (is_open_in n) s mine flat.sockets)))));
   stand = each_push (λ (x : Mine). StandsAs t'.chains x (kind_of x.owner.state)) own.sockets m others stands;
   waits = λ f.
       let there : total (weighs_if_there f (flat.sockets ++ s ∷ [])) own.waits ≡ total (weighs_if_there f flat.sockets) own.waits =

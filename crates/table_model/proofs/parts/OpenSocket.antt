@@ -15,7 +15,7 @@ use Rattle.flat_list.specs.Sockets.{has_name, open_named, is_open_in, open_in, k
 use Rattle.flat_list.specs.Sound.{NamesDiffer}
 use Rattle.table_model.specs.Tables.{Tables}
 use Rattle.table_model.specs.Own.{Own, Mine, is_named, open_socket, open_named as open_named_here, name_of}
-use Rattle.table_model.specs.Means.{OwnMeans, StandsAs, is_mine, owner_of, owner_in}
+use Rattle.table_model.specs.Means.{OwnMeans, StandsAs, owner_of, owner_in}
 use Rattle.table_model.proofs.lists.Weights.{is_eq, is_same}
 use Rattle.table_model.proofs.lists.Listed.{Listed}
 use Rattle.table_model.proofs.parts.Standing.{all_listed}
@@ -71,7 +71,7 @@ placed p xs k h = placed_by (position_or_len p xs) (length xs) k (ltb (position_
 pub record IsOpen (n : ℕ) (t : Tables) (flat : Flat) (m : Mine) (s : Socket) : Type 0 where
   pub same : m.owner ≡ s.owner
   pub listed : Listed s.owner.name flat.sockets s
-  pub mine : is_mine n s ≡ true
+  pub mine : is_open_in n s ≡ true
   pub stands : StandsAs t.chains m (kind_of m.owner.state)
 
 -- both, or none
@@ -88,7 +88,7 @@ OpenThere n t flat (Some m) = (s : Socket) × IsOpen n t flat m s
 
 module _ (n : ℕ) (own : Own) (t : Tables) (flat : Flat) (h : OwnMeans n own t flat) (names : Pairs NamesDiffer flat.sockets) where
   abbrev mine : List Socket
-  mine = filter (is_mine n) flat.sockets
+  mine = filter (is_open_in n) flat.sockets
 
   owners_found : (name : ℕ) → option_map owner_in (find (is_named name) own.sockets) ≡ option_map owner_of (find (has_name name) mine)
   owners_found name =
@@ -98,8 +98,8 @@ module _ (n : ℕ) (own : Own) (t : Tables) (flat : Flat) (h : OwnMeans n own t 
   is_open : (name : ℕ) (m : Mine) (s : Socket) → find (is_named name) own.sockets ≡ Some m → find (has_name name) mine ≡ Some s → m.owner ≡ s.owner → IsOpen n t flat m s
   is_open name m s at there same = record {
     same = same;
-    listed = each_found (λ (x : Socket). Listed x.owner.name flat.sockets x) (has_name name) mine s (each_filter (λ (x : Socket). Listed x.owner.name flat.sockets x) (is_mine n) flat.sockets (all_listed flat.sockets names)) there;
-    mine = each_found (λ (x : Socket). is_mine n x ≡ true) (has_name name) mine s (each_passes (is_mine n) flat.sockets) there;
+    listed = each_found (λ (x : Socket). Listed x.owner.name flat.sockets x) (has_name name) mine s (each_filter (λ (x : Socket). Listed x.owner.name flat.sockets x) (is_open_in n) flat.sockets (all_listed flat.sockets names)) there;
+    mine = each_found (λ (x : Socket). is_open_in n x ≡ true) (has_name name) mine s (each_passes (is_open_in n) flat.sockets) there;
     stands = each_found (λ (x : Mine). StandsAs t.chains x (kind_of x.owner.state)) (is_named name) own.sockets m h.stand at;
   }
 
@@ -120,7 +120,7 @@ module _ (n : ℕ) (own : Own) (t : Tables) (flat : Flat) (h : OwnMeans n own t 
   -- the open socket of a name is the list's of that name in the section, or neither has one
   pub open_in_both : (name : ℕ) → OpenBoth n t flat (open_named_here own name) (open_in n name flat.sockets)
   open_in_both name =
-      subst (OpenBoth n t flat (open_named_here own name)) (find_kept (has_name name) (is_mine n) (is_open_in n) flat.sockets (λ s e. refl)) (both_named name)
+      subst (OpenBoth n t flat (open_named_here own name)) (find_kept (has_name name) (is_open_in n) (is_open_in n) flat.sockets (λ s e. refl)) (both_named name)
 
   there_named : (o : Option ℕ) → OpenThere n t flat (option_and_then (λ name. find (is_named name) own.sockets) o)
   there_named None = tt
@@ -136,7 +136,7 @@ module _ (n : ℕ) (own : Own) (t : Tables) (flat : Flat) (h : OwnMeans n own t 
 
   named_here : (k : ℕ) → k + 1 < 2 ^ 24 → find (has_name (name_at n k)) mine ≡ open_named (name_at n k) flat.sockets
   named_here k l =
-      find_kept (has_name (name_at n k)) (is_mine n) (λ (s : Socket). s.named) flat.sockets
+      find_kept (has_name (name_at n k)) (is_open_in n) (λ (s : Socket). s.named) flat.sockets
       (λ s e.
       let here : (s.owner.name / 2 ^ 24 == n) ≡ true = is_same (s.owner.name / 2 ^ 24) n (ap (λ (j : ℕ). j / 2 ^ 24) (is_eq s.owner.name (name_at n k) e) ∙ given_here k l) in
       and_true s.named (s.owner.name / 2 ^ 24 == n) here)

@@ -8,11 +8,11 @@ use Rattle.sock_card.specs.declared.owner.Owner.{Owner}
 use Rattle.sock_card.specs.Conflict.{is_time_wait}
 use Rattle.flat_list.specs.declared.socket.Socket.{Socket}
 use Rattle.flat_list.specs.Flat.{Flat}
-use Rattle.flat_list.specs.Sockets.{has_name, put, replaced, kind_of}
+use Rattle.flat_list.specs.Sockets.{has_name, put, replaced, kind_of, is_open_in}
 use Rattle.flat_list.specs.Sound.{NamesDiffer}
 use Rattle.table_model.specs.Tables.{Tables}
 use Rattle.table_model.specs.Own.{Own, Mine, with_socket, is_named, replaced as replaced_mine}
-use Rattle.table_model.specs.Means.{OwnMeans, StandsAs, is_mine, owner_of, owner_in, name_in, weighs_if_there, weighs_as_wait}
+use Rattle.table_model.specs.Means.{OwnMeans, StandsAs, owner_of, owner_in, name_in, weighs_if_there, weighs_as_wait}
 use Rattle.table_model.proofs.lists.Weights.{is_eq, total_alike}
 use Rattle.table_model.proofs.lists.Listed.{Listed, each_other, put_weighs, replaced_name}
 use Rattle.table_model.proofs.questions.Asked.{with_sockets}
@@ -42,8 +42,8 @@ module _ (new : Socket) where
   abbrev pub renewed : Owner → Owner
   renewed o = cond (o.name == new.owner.name) new.owner o
 
-  kept_by : (n : ℕ) (s x : Socket) (b : Bool) → has_name new.owner.name x ≡ b → is_mine n new ≡ is_mine n s → (has_name new.owner.name x ≡ true → x ≡ s) → is_mine n (cond b new x) ≡ is_mine n x
-  kept_by n s x true q same only = same ∙ ap (is_mine n) (sym (only q))
+  kept_by : (n : ℕ) (s x : Socket) (b : Bool) → has_name new.owner.name x ≡ b → is_open_in n new ≡ is_open_in n s → (has_name new.owner.name x ≡ true → x ≡ s) → is_open_in n (cond b new x) ≡ is_open_in n x
+  kept_by n s x true q same only = same ∙ ap (is_open_in n) (sym (only q))
   kept_by n s x false q same only = refl
 
   owner_by : (x : Socket) (b : Bool) → owner_of (cond b new x) ≡ cond b new.owner x.owner
@@ -58,11 +58,11 @@ module _ (new : Socket) where
   filtered x ys zs false true e h = absurd (cc)
 
   -- the section's open sockets in the list, renewed
-  pub mine_put : (n : ℕ) (s : Socket) (xs : List Socket) → is_mine n new ≡ is_mine n s → Each (λ (y : Socket). has_name new.owner.name y ≡ true → y ≡ s) xs
-      → map owner_of (filter (is_mine n) (put new xs)) ≡ map renewed (map owner_of (filter (is_mine n) xs))
+  pub mine_put : (n : ℕ) (s : Socket) (xs : List Socket) → is_open_in n new ≡ is_open_in n s → Each (λ (y : Socket). has_name new.owner.name y ≡ true → y ≡ s) xs
+      → map owner_of (filter (is_open_in n) (put new xs)) ≡ map renewed (map owner_of (filter (is_open_in n) xs))
   mine_put n s [] same o = refl
   mine_put n s (x ∷ xs) same o =
-      filtered x (filter (is_mine n) (put new xs)) (filter (is_mine n) xs) (is_mine n x) (is_mine n (replaced new x)) (kept_by n s x (has_name new.owner.name x) refl same o.0) (mine_put n s xs same o.1)
+      filtered x (filter (is_open_in n) (put new xs)) (filter (is_open_in n) xs) (is_open_in n x) (is_open_in n (replaced new x)) (kept_by n s x (has_name new.owner.name x) refl same o.0) (mine_put n s xs same o.1)
 
   own_by : (m x : Mine) (b : Bool) → m.owner ≡ new.owner → owner_in (cond b m x) ≡ cond b new.owner x.owner
   own_by m x true h = h
@@ -95,7 +95,7 @@ each_renewed P m (x ∷ ms) p h = (each_by P m x (is_named m.owner.name x) p h.0
 
 -- one socket of the section has changed, and neither was nor is in TIME_WAIT
 pub own_put : (n : ℕ) (own : Own) (t t' : Tables) (flat : Flat) (new s : Socket) (m : Mine) → OwnMeans n own t flat → Pairs NamesDiffer flat.sockets
-    → Listed new.owner.name flat.sockets s → is_mine n new ≡ is_mine n s → m.owner ≡ new.owner
+    → Listed new.owner.name flat.sockets s → is_open_in n new ≡ is_open_in n s → m.owner ≡ new.owner
     → is_time_wait s.owner.state ≡ false → is_time_wait new.owner.state ≡ false
     → StandsAs t'.chains m (kind_of m.owner.state) → Each (λ (x : Mine). StandsAs t'.chains x (kind_of x.owner.state)) own.sockets
     → OwnMeans n (with_socket own m) t' (with_sockets flat (put new flat.sockets))

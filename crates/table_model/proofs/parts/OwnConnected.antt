@@ -9,11 +9,11 @@ use Rattle.sock_card.specs.declared.owner.Owner.{Owner}
 use Rattle.sock_card.specs.Conflict.{is_time_wait}
 use Rattle.flat_list.specs.declared.socket.Socket.{Socket}
 use Rattle.flat_list.specs.Flat.{Flat}
-use Rattle.flat_list.specs.Sockets.{kind_of, has_name, waits_at, have_one_tuple, put as put_socket, without, without_waiting}
+use Rattle.flat_list.specs.Sockets.{kind_of, has_name, waits_at, have_one_tuple, put as put_socket, without, without_waiting, is_open_in}
 use Rattle.flat_list.specs.Sound.{NamesDiffer, TuplesDiffer, IsAwakeIfNamed}
 use Rattle.table_model.specs.Tables.{Tables}
 use Rattle.table_model.specs.Own.{Own, Mine, with_socket}
-use Rattle.table_model.specs.Means.{OwnMeans, StandsAs, is_mine}
+use Rattle.table_model.specs.Means.{OwnMeans, StandsAs}
 use Rattle.table_model.proofs.lists.Passing.{Only, found_weighs, only_found}
 use Rattle.table_model.proofs.parts.Cards.{only_named, wait_once}
 use Rattle.table_model.proofs.questions.Replaced.{same_tests, dropped_same, kept_all}
@@ -61,7 +61,7 @@ module _ (n : ℕ) (own : Own) (t t' : Tables) (flat : Flat) (h : OwnMeans n own
 
 -- one of the section's sockets was connected
 pub own_connected : (n : ℕ) (own : Own) (t t' : Tables) (flat : Flat) (new s : Socket) (m : Mine) → OwnMeans n own t flat → Pairs NamesDiffer flat.sockets → Pairs TuplesDiffer flat.sockets → Each IsAwakeIfNamed flat.sockets
-    → AllStand own t' → Listed new.owner.name flat.sockets s → is_mine n new ≡ is_mine n s → m.owner ≡ new.owner → is_time_wait s.owner.state ≡ false → is_time_wait new.owner.state ≡ false → StandsAs t'.chains m (kind_of m.owner.state)
+    → AllStand own t' → Listed new.owner.name flat.sockets s → is_open_in n new ≡ is_open_in n s → m.owner ≡ new.owner → is_time_wait s.owner.state ≡ false → is_time_wait new.owner.state ≡ false → StandsAs t'.chains m (kind_of m.owner.state)
     → OwnMeans n (with_socket own m) t' (with_sockets flat (put_socket new (without_waiting new.owner flat.sockets)))
 own_connected n own t t' flat new s m h names tuples awake stands at mine same was is there =
     own_put n own t' t' (with_sockets flat (without_waiting new.owner flat.sockets)) new s m

@@ -11,13 +11,13 @@ use Rattle.flat_list.specs.declared.socket.Socket.{Socket}
 use Rattle.flat_list.specs.Flat.{Flat}
 use Rattle.flat_list.specs.Groups.{Group}
 use Rattle.flat_list.specs.Sections.{labels_of}
-use Rattle.flat_list.specs.Sockets.{has_name, kind_of, put, without}
+use Rattle.flat_list.specs.Sockets.{has_name, kind_of, put, without, is_open_in}
 use Rattle.flat_list.specs.Sound.{IsSound, IsGiven, IsAwakeIfNamed}
 use Rattle.flat_list.specs.Step.{waiting}
 use Rattle.table_model.specs.Tables.{Tables}
 use Rattle.table_model.specs.Own as own_words
 use Rattle.table_model.specs.Own.{Own, Mine, is_named, with_wait}
-use Rattle.table_model.specs.Means.{OwnMeans, StandsAs, IsNameOf, is_mine, owner_of, owner_in, name_in, weighs_if_there, weighs_as_wait}
+use Rattle.table_model.specs.Means.{OwnMeans, StandsAs, IsNameOf, owner_of, owner_in, name_in, weighs_if_there, weighs_as_wait}
 use Rattle.table_model.proofs.parts.OwnWaits.{any_without}
 use Rattle.table_model.proofs.lists.Listed.{Listed, put_weighs, without_weighs}
 use Rattle.table_model.proofs.parts.Own.{any_put}
@@ -93,27 +93,27 @@ module _ (name : ℕ) where
   own_without [] = refl
   own_without (x ∷ ms) = own_kept (x.owner.name == name) x (filter (λ m. not (is_named name m)) ms) (others (map owner_in ms)) (own_without ms)
 
-  mine_kept : (n : ℕ) (b c : Bool) (x : Socket) (ys zs : List Socket) → is_mine n x ≡ c → (x.owner.name == name) ≡ b → map owner_of (filter (is_mine n) ys) ≡ others (map owner_of zs)
-      → map owner_of (filter (is_mine n) (cond (not b) (x ∷ ys) ys)) ≡ others (map owner_of (cond c (x ∷ zs) zs))
+  mine_kept : (n : ℕ) (b c : Bool) (x : Socket) (ys zs : List Socket) → is_open_in n x ≡ c → (x.owner.name == name) ≡ b → map owner_of (filter (is_open_in n) ys) ≡ others (map owner_of zs)
+      → map owner_of (filter (is_open_in n) (cond (not b) (x ∷ ys) ys)) ≡ others (map owner_of (cond c (x ∷ zs) zs))
   mine_kept n true true x ys zs e q h = h ∙ ap (λ (b : Bool). cond (not b) (x.owner ∷ others (map owner_of zs)) (others (map owner_of zs))) (sym q)
   mine_kept n true false x ys zs e q h = h
   mine_kept n false true x ys zs e q h =
-      ap (λ (c : Bool). map owner_of (cond c (x ∷ filter (is_mine n) ys) (filter (is_mine n) ys))) e
+      ap (λ (c : Bool). map owner_of (cond c (x ∷ filter (is_open_in n) ys) (filter (is_open_in n) ys))) e
       ∙ (ap (λ (l : List Owner). x.owner ∷ l) h ∙ ap (λ (b : Bool). cond (not b) (x.owner ∷ others (map owner_of zs)) (others (map owner_of zs))) (sym q))
-  mine_kept n false false x ys zs e q h = ap (λ (c : Bool). map owner_of (cond c (x ∷ filter (is_mine n) ys) (filter (is_mine n) ys))) e ∙ h
+  mine_kept n false false x ys zs e q h = ap (λ (c : Bool). map owner_of (cond c (x ∷ filter (is_open_in n) ys) (filter (is_open_in n) ys))) e ∙ h
 
-  mine_without : (n : ℕ) (xs : List Socket) → map owner_of (filter (is_mine n) (without name xs)) ≡ others (map owner_of (filter (is_mine n) xs))
+  mine_without : (n : ℕ) (xs : List Socket) → map owner_of (filter (is_open_in n) (without name xs)) ≡ others (map owner_of (filter (is_open_in n) xs))
   mine_without n [] = refl
-  mine_without n (x ∷ xs) = mine_kept n (x.owner.name == name) (is_mine n x) x (without name xs) (filter (is_mine n) xs) refl refl (mine_without n xs)
+  mine_without n (x ∷ xs) = mine_kept n (x.owner.name == name) (is_open_in n x) x (without name xs) (filter (is_open_in n) xs) refl refl (mine_without n xs)
 
 -- one that isn't open any more isn't among the open ones
-hidden_by : (n : ℕ) (new x : Socket) (ys zs : List Socket) (b : Bool) → new.named ≡ false → filter (is_mine n) ys ≡ filter (is_mine n) zs
-    → filter (is_mine n) (cond b new x ∷ ys) ≡ filter (is_mine n) (cond (not b) (x ∷ zs) zs)
+hidden_by : (n : ℕ) (new x : Socket) (ys zs : List Socket) (b : Bool) → new.named ≡ false → filter (is_open_in n) ys ≡ filter (is_open_in n) zs
+    → filter (is_open_in n) (cond b new x ∷ ys) ≡ filter (is_open_in n) (cond (not b) (x ∷ zs) zs)
 hidden_by n new x ys zs true e h =
-    ap (λ (c : Bool). cond (c && (new.owner.name / 2 ^ 24 == n)) (new ∷ filter (is_mine n) ys) (filter (is_mine n) ys)) e ∙ h
-hidden_by n new x ys zs false e h = ap (λ (l : List Socket). cond (is_mine n x) (x ∷ l) l) h
+    ap (λ (c : Bool). cond (c && (new.owner.name / 2 ^ 24 == n)) (new ∷ filter (is_open_in n) ys) (filter (is_open_in n) ys)) e ∙ h
+hidden_by n new x ys zs false e h = ap (λ (l : List Socket). cond (is_open_in n x) (x ∷ l) l) h
 
-hidden : (n : ℕ) (new : Socket) (xs : List Socket) → new.named ≡ false → filter (is_mine n) (put new xs) ≡ filter (is_mine n) (without new.owner.name xs)
+hidden : (n : ℕ) (new : Socket) (xs : List Socket) → new.named ≡ false → filter (is_open_in n) (put new xs) ≡ filter (is_open_in n) (without new.owner.name xs)
 hidden n new [] e = refl
 hidden n new (x ∷ xs) e = hidden_by n new x (put new xs) (without new.owner.name xs) (has_name new.owner.name x) e (hidden n new xs e)
 
@@ -125,7 +125,7 @@ map_more f (y ∷ xs) x = ap (λ l. f y ∷ l) (map_more f xs x)
 some_named : (name : ℕ) (xs : List Socket) (s : Socket) → Listed name xs s → list_any (has_name name) xs ≡ true
 some_named name xs s at = any_by_found (has_name name) (has_name name) s xs at (found_passes (has_name name) xs s at)
 
-module _ (n : ℕ) (own : Own) (t : Tables) (flat : Flat) (h : OwnMeans n own t flat) (sound : IsSound flat) (s : Socket) (at : Listed s.owner.name flat.sockets s) (mine : is_mine n s ≡ true) where
+module _ (n : ℕ) (own : Own) (t : Tables) (flat : Flat) (h : OwnMeans n own t flat) (sound : IsSound flat) (s : Socket) (at : Listed s.owner.name flat.sockets s) (mine : is_open_in n s ≡ true) where
   abbrev name : ℕ
   name = s.owner.name
 
@@ -142,10 +142,10 @@ module _ (n : ℕ) (own : Own) (t : Tables) (flat : Flat) (h : OwnMeans n own t 
   -- what holds of the names of the section's sockets holds of this one's
   at_own : (P : ℕ → Type 0) → Each P (map name_in own.sockets) → P name
   at_own P each =
-      let listed : Each (λ (x : Socket). P x.owner.name) (filter (is_mine n) flat.sockets) =
-      each_unmap (λ (o : Owner). P o.name) owner_of (filter (is_mine n) flat.sockets)
+      let listed : Each (λ (x : Socket). P x.owner.name) (filter (is_open_in n) flat.sockets) =
+      each_unmap (λ (o : Owner). P o.name) owner_of (filter (is_open_in n) flat.sockets)
       (subst (Each (λ (o : Owner). P o.name)) h.sockets (each_map (λ (o : Owner). P o.name) owner_in own.sockets (each_unmap P name_in own.sockets each))) in
-      each_found (λ (x : Socket). is_mine n x ≡ true → P x.owner.name) (has_name name) flat.sockets s (each_if_kept (λ (x : Socket). P x.owner.name) (is_mine n) flat.sockets listed) at mine
+      each_found (λ (x : Socket). is_open_in n x ≡ true → P x.owner.name) (has_name name) flat.sockets s (each_if_kept (λ (x : Socket). P x.owner.name) (is_open_in n) flat.sockets listed) at mine
 
   -- no TIME_WAIT of the section's has its name
   pub waits_differ : Each (λ (w : Mine). name ≢ w.owner.name) own.waits

@@ -7,35 +7,35 @@ use Rattle.sock_card.specs.declared.owner.Owner.{Owner}
 use Rattle.sock_card.specs.Conflict.{is_time_wait}
 use Rattle.flat_list.specs.declared.socket.Socket.{Socket}
 use Rattle.flat_list.specs.Flat.{Flat}
-use Rattle.flat_list.specs.Sockets.{kind_of, has_name, without}
+use Rattle.flat_list.specs.Sockets.{kind_of, has_name, without, is_open_in}
 use Rattle.flat_list.specs.Sound.{IsAwakeIfNamed}
 use Rattle.table_model.specs.Tables.{Tables}
 use Rattle.table_model.specs.Own.{Own, Mine}
-use Rattle.table_model.specs.Means.{OwnMeans, StandsAs, is_mine, is_wait_of, owner_of, weighs_if_there, weighs_as_wait}
+use Rattle.table_model.specs.Means.{OwnMeans, StandsAs, is_wait_of, owner_of, weighs_if_there, weighs_as_wait}
 use Rattle.table_model.proofs.lists.Passing.{either_order, only, ind, Only, total_same, total_sum, each_zero}
 use Rattle.table_model.proofs.parts.Cards.{without_weighs}
 
 -- a TIME_WAIT is nobody's open socket
-pub wait_not_mine : (n : ℕ) (s : Socket) → IsAwakeIfNamed s → is_time_wait s.owner.state ≡ true → is_mine n s ≡ false
+pub wait_not_mine : (n : ℕ) (s : Socket) → IsAwakeIfNamed s → is_time_wait s.owner.state ≡ true → is_open_in n s ≡ false
 wait_not_mine n s awake waits =
     let named : s.named ≡ false = awake ∙ ap not waits in
     ap (λ (b : Bool). b && (s.owner.name / 2 ^ 24 == n)) named
 
-mine_at : (b c : Bool) (y : Socket) (ys zs : List Socket) (n : ℕ) → is_mine n y ≡ c → cond {A = ℕ} b (cond {A = ℕ} c 1 0) 0 ≡ 0 → filter (is_mine n) ys ≡ zs
-    → filter (is_mine n) (cond (not b) (y ∷ ys) ys) ≡ cond c (y ∷ zs) zs
+mine_at : (b c : Bool) (y : Socket) (ys zs : List Socket) (n : ℕ) → is_open_in n y ≡ c → cond {A = ℕ} b (cond {A = ℕ} c 1 0) 0 ≡ 0 → filter (is_open_in n) ys ≡ zs
+    → filter (is_open_in n) (cond (not b) (y ∷ ys) ys) ≡ cond c (y ∷ zs) zs
 mine_at true true y ys zs n e h same = absurd (omega (arith, h))
 mine_at true false y ys zs n e h same = same
-mine_at false true y ys zs n e h same = ap (λ (b : Bool). cond b (y ∷ filter (is_mine n) ys) (filter (is_mine n) ys)) e ∙ ap (λ l. y ∷ l) same
-mine_at false false y ys zs n e h same = ap (λ (b : Bool). cond b (y ∷ filter (is_mine n) ys) (filter (is_mine n) ys)) e ∙ same
+mine_at false true y ys zs n e h same = ap (λ (b : Bool). cond b (y ∷ filter (is_open_in n) ys) (filter (is_open_in n) ys)) e ∙ ap (λ l. y ∷ l) same
+mine_at false false y ys zs n e h same = ap (λ (b : Bool). cond b (y ∷ filter (is_open_in n) ys) (filter (is_open_in n) ys)) e ∙ same
 
-mine_without : (n k : ℕ) (xs : List Socket) → Each (λ (y : Socket). only (has_name k) (ind (is_mine n)) y ≡ 0) xs → filter (is_mine n) (without k xs) ≡ filter (is_mine n) xs
+mine_without : (n k : ℕ) (xs : List Socket) → Each (λ (y : Socket). only (has_name k) (ind (is_open_in n)) y ≡ 0) xs → filter (is_open_in n) (without k xs) ≡ filter (is_open_in n) xs
 mine_without n k [] h = refl
-mine_without n k (y ∷ ys) h = mine_at (has_name k y) (is_mine n y) y (without k ys) (filter (is_mine n) ys) n refl h.0 (mine_without n k ys h.1)
+mine_without n k (y ∷ ys) h = mine_at (has_name k y) (is_open_in n y) y (without k ys) (filter (is_open_in n) ys) n refl h.0 (mine_without n k ys h.1)
 
 -- the section's open sockets stay where another socket goes
-pub mine_stay : (n k : ℕ) (s : Socket) (xs : List Socket) → Only (has_name k) s xs → is_mine n s ≡ false → filter (is_mine n) (without k xs) ≡ filter (is_mine n) xs
+pub mine_stay : (n k : ℕ) (s : Socket) (xs : List Socket) → Only (has_name k) s xs → is_open_in n s ≡ false → filter (is_open_in n) (without k xs) ≡ filter (is_open_in n) xs
 mine_stay n k s xs o not_mine =
-    mine_without n k xs (each_zero (only (has_name k) (ind (is_mine n))) xs (o (ind (is_mine n)) ∙ ap (λ (b : Bool). cond {A = ℕ} b 1 0) not_mine))
+    mine_without n k xs (each_zero (only (has_name k) (ind (is_open_in n))) xs (o (ind (is_open_in n)) ∙ ap (λ (b : Bool). cond {A = ℕ} b 1 0) not_mine))
 
 any_without_at : (j k : ℕ) (y : Socket) (ys : List Socket) (rest : Bool) (b c : Bool) → has_name k y ≡ b → (j == k) ≡ c → (y.owner.name == j) ≡ true ⊎ ((y.owner.name == j) ≡ false)
     → list_any (has_name j) ys ≡ (not c && rest) → list_any (has_name j) (cond (not b) (y ∷ ys) ys) ≡ (not c && ((y.owner.name == j) || rest))
@@ -67,7 +67,7 @@ there_at false false v = omega arith
 abbrev pub at_name : ℕ → (Owner → ℕ → ℕ) → Owner → ℕ → ℕ
 at_name k f o e = cond (o.name == k) (f o e) 0
 
-module _ (n : ℕ) (own : Own) (t t' : Tables) (flat : Flat) (h : OwnMeans n own t flat) (k : ℕ) (s : Socket) (one : Only (has_name k) s flat.sockets) (not_mine : is_mine n s ≡ false) where
+module _ (n : ℕ) (own : Own) (t t' : Tables) (flat : Flat) (h : OwnMeans n own t flat) (k : ℕ) (s : Socket) (one : Only (has_name k) s flat.sockets) (not_mine : is_open_in n s ≡ false) where
   -- the section's TIME_WAITs of that name weigh as the socket
   pub its_wait : (f : Owner → ℕ → ℕ) → total (weighs_if_there (at_name k f) flat.sockets) own.waits ≡ weighs_as_wait f n s
   its_wait f =

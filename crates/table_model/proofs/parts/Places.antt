@@ -15,8 +15,8 @@ use Rattle.flat_list.specs.declared.header.Header.{Header}
 use Rattle.flat_list.specs.declared.socket.Socket.{Socket}
 use Rattle.flat_list.specs.Flat.{Flat}
 use Rattle.flat_list.specs.Look.{extra_as}
-use Rattle.flat_list.specs.Sockets.{kind_of, has_name}
-use Rattle.table_model.specs.Means.{ChainsMean, StandsAs, is_mine, owner_of, owner_in}
+use Rattle.flat_list.specs.Sockets.{kind_of, has_name, is_open_in}
+use Rattle.table_model.specs.Means.{ChainsMean, StandsAs, owner_of, owner_in}
 use Rattle.table_model.specs.Own.{Mine, card_of}
 use Rattle.table_model.proofs.lists.Passing.{Weighs, only, ind, Only, any_weighs, found_counts, only_found, total_same, each_zero, without_only, none_weigh}
 use Rattle.table_model.proofs.lists.Rows.{weigh, weigh_set, row_least, within}
@@ -183,14 +183,14 @@ not_both true true h e f = absurd (omega (arith, h))
 not_both true false h e f = absurd (cc)
 not_both false q h e f = absurd (cc)
 
-mine_differ : (n k : ℕ) (sockets : List Socket) → Each (λ (y : Socket). only (has_name k) (ind (is_mine n)) y ≡ 0) sockets → Each (λ (a : Owner). k ≢ a.name) (map owner_of (filter (is_mine n) sockets))
+mine_differ : (n k : ℕ) (sockets : List Socket) → Each (λ (y : Socket). only (has_name k) (ind (is_open_in n)) y ≡ 0) sockets → Each (λ (a : Owner). k ≢ a.name) (map owner_of (filter (is_open_in n) sockets))
 mine_differ n k [] h = tt
 mine_differ n k (y ∷ ys) h =
-    mine_at n k (is_mine n y) y (filter (is_mine n) ys) (λ e named. not_both (has_name k y) (is_mine n y) h.0 (eq-eqb y.owner.name k (sym named)) e) (mine_differ n k ys h.1)
+    mine_at n k (is_open_in n y) y (filter (is_open_in n) ys) (λ e named. not_both (has_name k y) (is_open_in n y) h.0 (eq-eqb y.owner.name k (sym named)) e) (mine_differ n k ys h.1)
 
 -- a name that none of the section's open sockets has, since a socket of the list has it that isn't one of them
-pub no_such_name : (n k : ℕ) (s : Socket) (sockets : List Socket) (ms : List Mine) → Only (has_name k) s sockets → is_mine n s ≡ false
-    → map owner_in ms ≡ map owner_of (filter (is_mine n) sockets) → Each (λ (m : Mine). k ≢ m.owner.name) ms
+pub no_such_name : (n k : ℕ) (s : Socket) (sockets : List Socket) (ms : List Mine) → Only (has_name k) s sockets → is_open_in n s ≡ false
+    → map owner_in ms ≡ map owner_of (filter (is_open_in n) sockets) → Each (λ (m : Mine). k ≢ m.owner.name) ms
 no_such_name n k s sockets ms o not_mine same =
-    let none : Each (λ (y : Socket). only (has_name k) (ind (is_mine n)) y ≡ 0) sockets = each_zero (only (has_name k) (ind (is_mine n))) sockets (o (ind (is_mine n)) ∙ ap (λ (b : Bool). cond {A = ℕ} b 1 0) not_mine) in
+    let none : Each (λ (y : Socket). only (has_name k) (ind (is_open_in n)) y ≡ 0) sockets = each_zero (only (has_name k) (ind (is_open_in n))) sockets (o (ind (is_open_in n)) ∙ ap (λ (b : Bool). cond {A = ℕ} b 1 0) not_mine) in
     each_unmap (λ (a : Owner). k ≢ a.name) owner_in ms (subst (Each (λ (a : Owner). k ≢ a.name)) (sym same) (mine_differ n k sockets none))

@@ -8,10 +8,10 @@ use Rattle.bind_buckets.specs.Journal.{Standing}
 use Rattle.bind_buckets.specs.OwnerStep.{has_name as is_owner_named}
 use Rattle.flat_list.specs.declared.socket.Socket.{Socket}
 use Rattle.flat_list.specs.Flat.{Flat}
-use Rattle.flat_list.specs.Sockets.{is_owner, has_name}
+use Rattle.flat_list.specs.Sockets.{is_owner, has_name, is_open_in}
 use Rattle.flat_list.specs.Sound.{NamesDiffer}
 use Rattle.bind_buckets.specs.BindHash.{standing_at}
-use Rattle.table_model.specs.Means.{OwnersMean, OwnersStand, is_mine, owner_of, owner_in}
+use Rattle.table_model.specs.Means.{OwnersMean, OwnersStand, owner_of, owner_in}
 use Rattle.table_model.proofs.lists.Weights.{is_ne, is_same}
 use Rattle.table_model.proofs.lists.Listed.{Listed}
 use Rattle.table_model.proofs.parts.FirstOfName.{stands}
@@ -52,5 +52,5 @@ pub owners_stand : OwnersStand
 owners_stand n own t flat m =
     each_unmap (StandsFirst t.buckets) owner_in own.sockets
     (subst (Each (StandsFirst t.buckets)) (sym m.own_is.sockets)
-    (each_map (StandsFirst t.buckets) owner_of (filter (is_mine n) flat.sockets)
-    (each_filter (λ (s : Socket). StandsFirst t.buckets s.owner) (is_mine n) flat.sockets (all_stand t.buckets flat m.tables.owners m.shape.bind m.sound.names))))
+    (each_map (StandsFirst t.buckets) owner_of (filter (is_open_in n) flat.sockets)
+    (each_filter (λ (s : Socket). StandsFirst t.buckets s.owner) (is_open_in n) flat.sockets (all_stand t.buckets flat m.tables.owners m.shape.bind m.sound.names))))

@@ -18,7 +18,8 @@ use Rattle.chain_book.specs.Homes.{chain_count}
 use Rattle.chain_book.specs.Chains.{has_slot}
 use Rattle.flat_list.specs.declared.header.Header.{Header}
 use Rattle.bind_buckets.specs.BindHash.{untouched}
-use Rattle.table_model.specs.Means.{is_used, names_in, stands_in_some, is_mine, owner_of, weighs_as_wait, NewMeanEmpty, StartsMeant}
+use Rattle.flat_list.specs.Sockets.{is_open_in}
+use Rattle.table_model.specs.Means.{is_used, names_in, stands_in_some, owner_of, weighs_as_wait, NewMeanEmpty, StartsMeant}
 
 -- what is read from one item again and again is that item
 get_or-same : {A : Type 0} (n i : ℕ) (a : A) → get_or (replicate n a) i a ≡ a
@@ -92,7 +93,7 @@ none_of header n xs s none given =
     let first : 1 ≤ s.owner.name % 2 ^ 24 = given.first in
     absurd (omega (arith, last, first)))
 
-no_mine : (n : ℕ) (xs : List Socket) → Each (λ (s : Socket). (s.owner.name / 2 ^ 24 == n) ≡ false) xs → filter (is_mine n) xs ≡ []
+no_mine : (n : ℕ) (xs : List Socket) → Each (λ (s : Socket). (s.owner.name / 2 ^ 24 == n) ≡ false) xs → filter (is_open_in n) xs ≡ []
 no_mine n [] h = refl
 no_mine n (x ∷ xs) h =
     rw (and_right x.named (x.owner.name / 2 ^ 24 == n) h.0) (no_mine n xs h.1)

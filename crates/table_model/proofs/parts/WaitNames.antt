@@ -7,10 +7,10 @@ use Rattle.list_words.proofs.EachLemmas.{some_same}
 use Rattle.bind_buckets.specs.OwnerStep.{has_name as is_owner_named}
 use Rattle.flat_list.specs.declared.socket.Socket.{Socket}
 use Rattle.flat_list.specs.Flat.{Flat}
-use Rattle.flat_list.specs.Sockets.{has_name}
+use Rattle.flat_list.specs.Sockets.{has_name, is_open_in}
 use Rattle.table_model.specs.Tables.{Tables}
 use Rattle.table_model.specs.Own.{Own, Mine}
-use Rattle.table_model.specs.Means.{OwnMeans, is_mine, owner_of, owner_in, name_in}
+use Rattle.table_model.specs.Means.{OwnMeans, owner_of, owner_in, name_in}
 use Rattle.table_model.proofs.lists.Weights.{is_eq}
 use Rattle.table_model.proofs.lists.Listed.{Listed}
 
@@ -37,23 +37,23 @@ any_more : (name : ℕ) (x : Socket) (ys : List Socket) (b : Bool) → list_any 
 any_more name x ys true h = or_true (x.owner.name == name) (list_any (is_owner_named name) (map owner_of ys)) h
 any_more name x ys false h = h
 
-any_at : (n name : ℕ) (x s : Socket) (xs : List Socket) → (has_name name x ≡ true) ⊎ (has_name name x ≡ false) → is_mine n s ≡ true
-    → (Listed name xs s → list_any (is_owner_named name) (map owner_of (filter (is_mine n) xs)) ≡ true)
-    → Listed name (x ∷ xs) s → list_any (is_owner_named name) (map owner_of (filter (is_mine n) (x ∷ xs))) ≡ true
+any_at : (n name : ℕ) (x s : Socket) (xs : List Socket) → (has_name name x ≡ true) ⊎ (has_name name x ≡ false) → is_open_in n s ≡ true
+    → (Listed name xs s → list_any (is_owner_named name) (map owner_of (filter (is_open_in n) xs)) ≡ true)
+    → Listed name (x ∷ xs) s → list_any (is_owner_named name) (map owner_of (filter (is_open_in n) (x ∷ xs))) ≡ true
 any_at n name x s xs (inl e) mine later h =
     let is : x ≡ s = some_same x s (rw e at h) in
-    let kept : is_mine n x ≡ true = ap (is_mine n) is ∙ mine in
-    ap (λ (b : Bool). list_any (is_owner_named name) (map owner_of (cond b (x ∷ filter (is_mine n) xs) (filter (is_mine n) xs)))) kept
-    ∙ ap (λ (b : Bool). b || list_any (is_owner_named name) (map owner_of (filter (is_mine n) xs))) e
-any_at n name x s xs (inr e) mine later h = any_more name x (filter (is_mine n) xs) (is_mine n x) (later (rw e at h))
+    let kept : is_open_in n x ≡ true = ap (is_open_in n) is ∙ mine in
+    ap (λ (b : Bool). list_any (is_owner_named name) (map owner_of (cond b (x ∷ filter (is_open_in n) xs) (filter (is_open_in n) xs)))) kept
+    ∙ ap (λ (b : Bool). b || list_any (is_owner_named name) (map owner_of (filter (is_open_in n) xs))) e
+any_at n name x s xs (inr e) mine later h = any_more name x (filter (is_open_in n) xs) (is_open_in n x) (later (rw e at h))
 
 -- an open socket of the section is among its own
-pub any_mine : (n name : ℕ) (s : Socket) (xs : List Socket) → is_mine n s ≡ true → Listed name xs s → list_any (is_owner_named name) (map owner_of (filter (is_mine n) xs)) ≡ true
+pub any_mine : (n name : ℕ) (s : Socket) (xs : List Socket) → is_open_in n s ≡ true → Listed name xs s → list_any (is_owner_named name) (map owner_of (filter (is_open_in n) xs)) ≡ true
 any_mine n name s [] mine h = absurd (cc)
 any_mine n name s (x ∷ xs) mine h = any_at n name x s xs (cases_Bool (has_name name x)) mine (any_mine n name s xs mine) h
 
 -- the TIME_WAITs that a section left have other names than its open sockets
-pub waits_differ : (n : ℕ) (own : Own) (t : Tables) (flat : Flat) (name : ℕ) (s : Socket) → OwnMeans n own t flat → Listed name flat.sockets s → is_mine n s ≡ true → Each (λ (k : ℕ). name ≢ k) (map name_in own.waits)
+pub waits_differ : (n : ℕ) (own : Own) (t : Tables) (flat : Flat) (name : ℕ) (s : Socket) → OwnMeans n own t flat → Listed name flat.sockets s → is_open_in n s ≡ true → Each (λ (k : ℕ). name ≢ k) (map name_in own.waits)
 waits_differ n own t flat name s h at mine =
     behind name own.sockets (map name_in own.waits) h.names
     (ap (list_any (is_owner_named name)) h.sockets ∙ any_mine n name s flat.sockets mine at)

@@ -25,7 +25,8 @@ use Rattle.flat_list.specs.declared.socket.Socket.{Socket}
 use Rattle.flat_list.specs.Flat.{Flat}
 use Rattle.flat_list.specs.Look.{cards_of, extra_as}
 use Rattle.flat_list.specs.Owned.{card_as}
-use Rattle.flat_list.specs.Sockets.{kind_of, claims_tuple, have_one_tuple, has_twin, waits_at, gives_way, is_taken}
+use Rattle.sock_card.specs.TimeWait.{gives_way}
+use Rattle.flat_list.specs.Sockets.{kind_of, claims_tuple, have_one_tuple, has_twin, waits_at, is_taken}
 use Rattle.table_model.specs.Means.{ChainsMean}
 use Rattle.table_model.proofs.lists.Passing.{same_answer, only, ind, any_weighs, found_weighs, total_same}
 use Rattle.table_model.proofs.parts.Chains.{holds, weighing, row_weigh}
@@ -113,7 +114,7 @@ rule_of switch = if switch then rules.After else rules.Never
 
 -- a socket of the list keeps the four-tuple from `connect`
 abbrev keeps_as : Bool → ℕ → Owner → Socket → Bool
-keeps_as switch moment a s = (claims_tuple s.owner.state && have_one_tuple a s.owner) || (waits_at a s && not (gives_way switch moment s))
+keeps_as switch moment a s = (claims_tuple s.owner.state && have_one_tuple a s.owner) || (waits_at a s && not (gives_way switch moment s.stamp))
 
 keeps_at : (switch : Bool) (moment : ℕ) (a o : Owner) (st : State) (extra : Kind → ℕ)
     → weigh_as (ind (keeps_from (claim_card a) moment (rule_of switch))) (kind_of st) o extra
@@ -172,7 +173,7 @@ taken_same c flat switch moment a m =
     (found_weighs (keeps (claim_card a) moment (rule_of switch)) row) (any_weighs (keeps_as switch moment a) flat.sockets)
     (tested_weigh c flat (claim_card a) q (λ (x : Card). 1) m (keepers_home c a moment (rule_of switch))
     ∙ total_same (card_weight flat.groups (ind q)) (ind (keeps_as switch moment a)) flat.sockets (λ s. keeps_at switch moment a s.owner s.owner.state (λ kind. extra_as kind flat.groups s)))
-    ∙ any_or (λ (s : Socket). claims_tuple s.owner.state && have_one_tuple a s.owner) (λ (s : Socket). waits_at a s && not (gives_way switch moment s)) flat.sockets
+    ∙ any_or (λ (s : Socket). claims_tuple s.owner.state && have_one_tuple a s.owner) (λ (s : Socket). waits_at a s && not (gives_way switch moment s.stamp)) flat.sockets
 
 -- and so is `accept`
 pub twin_same : (c : Chains) (flat : Flat) (moment : ℕ) (a : Owner) → ChainsMean c flat

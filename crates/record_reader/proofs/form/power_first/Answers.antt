@@ -3,7 +3,7 @@ use Rattle.std.proofs.lemmas.Bool.{false≢true}
 use Rattle.std.proofs.lemmas.Fmt.{decimal_injective}
 use Rattle.std.specs.Int.{is_power_of_two}
 use Rattle.record_reader.proofs.Cursor.{first_is}
-use Rattle.record_reader.proofs.Powers.{power-from_test, test-from_power}
+use Rattle.chain_book.proofs.Powers.{power-from_test, test-from_power}
 use Rattle.record_reader.proofs.form.power_first.Goals as goal
 
 pub returns-then-not-is_power_of_two-clause-none : goal.returns-then-not-is_power_of_two-clause-none

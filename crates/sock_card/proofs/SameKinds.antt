@@ -1,0 +1,33 @@
+-- Two kinds are the same where the test says so.
+use Rattle.std.proofs.Common.{◌≡◌, true, refl, sym, subst}
+use Rattle.std.proofs.lemmas.Bool.{true≢false}
+use Rattle.sock_card.specs.declared.card.Kind.{Kind}
+use Rattle.sock_card.specs.declared.card.Kind.TheVariants as kinds
+use Rattle.sock_card.specs.Kinds.{same_kind}
+
+pub kind_is : (a b : Kind) → same_kind a b ≡ true → a ≡ b
+kind_is kinds.Full kinds.Full e = refl
+kind_is kinds.TimeWait kinds.TimeWait e = refl
+kind_is kinds.Listen kinds.Listen e = refl
+kind_is kinds.Request kinds.Request e = refl
+kind_is kinds.Full kinds.TimeWait e = absurd (true≢false (sym e))
+kind_is kinds.Full kinds.Listen e = absurd (true≢false (sym e))
+kind_is kinds.TimeWait kinds.Full e = absurd (true≢false (sym e))
+kind_is kinds.TimeWait kinds.Listen e = absurd (true≢false (sym e))
+kind_is kinds.Listen kinds.Full e = absurd (true≢false (sym e))
+kind_is kinds.Listen kinds.TimeWait e = absurd (true≢false (sym e))
+kind_is kinds.Full kinds.Request e = absurd (true≢false (sym e))
+kind_is kinds.Request kinds.Full e = absurd (true≢false (sym e))
+kind_is kinds.TimeWait kinds.Request e = absurd (true≢false (sym e))
+kind_is kinds.Request kinds.TimeWait e = absurd (true≢false (sym e))
+kind_is kinds.Listen kinds.Request e = absurd (true≢false (sym e))
+kind_is kinds.Request kinds.Listen e = absurd (true≢false (sym e))
+
+pub kind_itself : (a : Kind) → same_kind a a ≡ true
+kind_itself kinds.Full = refl
+kind_itself kinds.TimeWait = refl
+kind_itself kinds.Listen = refl
+kind_itself kinds.Request = refl
+
+pub kinds_same : (a b : Kind) → a ≡ b → same_kind a b ≡ true
+kinds_same a b e = subst (λ k. same_kind a k ≡ true) e (kind_itself a)
