@@ -1,0 +1,32 @@
+-- What an index keeps of its labels. No public contract cites this file.
+use Rattle.std.specs.Prelude.{◌≡◌, ℕ, Bool, ◌&&◌, nat_eq, List, [], ◌∷◌, ◌++◌, length}
+use Rattle.std.specs.HashMap.{HashMap, get}
+use Rattle.flat_list.specs.declared.command.LabelKey.{LabelKey}
+use Rattle.flat_list.specs.Labels.{IsLabel, key_of}
+use Rattle.label_index.specs.declared.index.Log.{Log, Empty, After'}
+use Rattle.label_index.specs.declared.seed.LabelSeed.{LabelSeed}
+use Rattle.label_index.specs.Places.{place_in}
+
+-- the labels of a log, oldest first
+abbrev pub labels_of : Log → List (List ℕ)
+labels_of Empty = []
+labels_of (After' label shape before) = labels_of before ++ label ∷ []
+
+-- two keys are one
+abbrev pub key_eq : LabelKey → LabelKey → Bool
+key_eq a b = nat_eq a.high b.high && (nat_eq a.low b.low && nat_eq a.length b.length)
+
+-- the map tells of each label, by its key, where it was given first
+abbrev pub TellsPlaces : HashMap LabelKey ℕ LabelSeed → List (List ℕ) → Type 0
+TellsPlaces firsts labels =
+    (label : List ℕ) → IsLabel label → get key_eq firsts (key_of label) ≡ place_in labels label
+
+-- the map has one label more
+abbrev pub NotesPlace : HashMap LabelKey ℕ LabelSeed → List ℕ → ℕ → HashMap LabelKey ℕ LabelSeed → Type 0
+NotesPlace old label place new =
+    (labels : List (List ℕ)) → length labels ≡ place → TellsPlaces old labels → TellsPlaces new (labels ++ label ∷ [])
+
+-- the map and the count are those of the labels
+pub record AreFirsts (firsts : HashMap LabelKey ℕ LabelSeed) (count : ℕ) (labels : List (List ℕ)) : Type 0 where
+  pub tells : TellsPlaces firsts labels
+  pub count_is : count ≡ length labels
