@@ -5,7 +5,7 @@ use Rattle.std.proofs.lemmas.Bool.{eqb-true, eqb-false, eq-eqb, cases_lt}
 use Rattle.std.proofs.lemmas.List.{get_or_append_left, get_or_default, map-append, length-set, length-map, get_or-set_same, get_or-set_other}
 use Rattle.bind_buckets.specs.declared.links.Place.{Place}
 use Rattle.bind_buckets.specs.declared.links.Ends.{Ends}
-use Rattle.bind_buckets.specs.Links.{place_or_end, IsFirstIn, IsLastIn, is_home, keys_in, newers_in, oldest_of, newest_of, ends_with, home_at, AreLinked, AreInHomes}
+use Rattle.bind_buckets.specs.Links.{place_or_end, IsFirstIn, IsLastIn, is_home, keys_in, newers_in, no_ends, ends_with, home_at, most_places, AreLinked, AreInHomes}
 
 pub false_ne_true : false ≡ true → ⊥
 false_ne_true e = absurd (cc)
@@ -93,35 +93,34 @@ module _ (n : ℕ) (keys : List ℕ) (k : ℕ) where
     last_elsewhere : (h : ℕ) (last : Option ℕ) → eqb home h ≡ false → IsLastIn (is_home n h) keys k last → IsLastIn (is_home n h) keys (k + 1) last
     last_elsewhere h last e are = last_goes_on (is_home n h) keys k last are (at_end h false e)
 
-    abbrev linked_in : List (Option Ends) → Option Ends → List (Option Ends)
-    linked_in homes ends = set homes home (Some (ends_with ends k))
+    abbrev linked_in : List Ends → Ends → List Ends
+    linked_in homes ends = set homes home (ends_with ends k)
 
-    oldest_here : (h : ℕ) (ends : Option Ends) → eqb home h ≡ true → IsFirstIn (is_home n h) keys 0 k (oldest_of ends) → IsFirstIn (is_home n h) keys 0 (k + 1) (Some (ends_with ends k).oldest)
+    oldest_here : (h : ℕ) (oldest : Option ℕ) → eqb home h ≡ true → IsFirstIn (is_home n h) keys 0 k oldest → IsFirstIn (is_home n h) keys 0 (k + 1) (Some (place_or_end oldest k))
     oldest_here h None e first = first_found (is_home n h) keys 0 k first (at_end h true e)
-    oldest_here h (Some ends) e first = first_stays (is_home n h) keys 0 k ends.oldest first
+    oldest_here h (Some oldest) e first = first_stays (is_home n h) keys 0 k oldest first
 
-    last_here : (h : ℕ) (ends : Option Ends) → eqb home h ≡ true → IsLastIn (is_home n h) keys (k + 1) (Some (ends_with ends k).newest)
-    last_here h None e = last_found (is_home n h) keys k (at_end h true e)
-    last_here h (Some ends) e = last_found (is_home n h) keys k (at_end h true e)
+    last_here : (h : ℕ) → eqb home h ≡ true → IsLastIn (is_home n h) keys (k + 1) (Some k)
+    last_here h e = last_found (is_home n h) keys k (at_end h true e)
 
-    module _ (homes : List (Option Ends)) (len : length homes ≡ n) (some : 0 < n) (ends : Option Ends) (is : home_at homes home ≡ ends) where
-      there : (h : ℕ) → eqb home h ≡ true → home_at (linked_in homes ends) h ≡ Some (ends_with ends k)
+    module _ (homes : List Ends) (len : length homes ≡ n) (some : 0 < n) (ends : Ends) (is : home_at homes home ≡ ends) where
+      there : (h : ℕ) → eqb home h ≡ true → home_at (linked_in homes ends) h ≡ ends_with ends k
       there h e =
           let within : home < length homes = omega arith in
-          subst (λ i. home_at (linked_in homes ends) i ≡ Some (ends_with ends k)) (eqb-true _ _ e)
-          (get_or-set_same homes home (Some (ends_with ends k)) None within)
+          subst (λ i. home_at (linked_in homes ends) i ≡ ends_with ends k) (eqb-true _ _ e)
+          (get_or-set_same homes home (ends_with ends k) no_ends within)
 
       elsewhere : (h : ℕ) → eqb home h ≡ false → home_at (linked_in homes ends) h ≡ home_at homes h
-      elsewhere h e = get_or-set_other homes home h _ None (λ at. eqb-false _ _ e (sym at))
+      elsewhere h e = get_or-set_other homes home h _ no_ends (λ at. eqb-false _ _ e (sym at))
 
-      oldest_by : (h : ℕ) (b : Bool) → eqb home h ≡ b → IsFirstIn (is_home n h) keys 0 k (oldest_of (home_at homes h)) → IsFirstIn (is_home n h) keys 0 (k + 1) (oldest_of (home_at (linked_in homes ends) h))
+      oldest_by : (h : ℕ) (b : Bool) → eqb home h ≡ b → IsFirstIn (is_home n h) keys 0 k (home_at homes h).oldest → IsFirstIn (is_home n h) keys 0 (k + 1) (home_at (linked_in homes ends) h).oldest
       oldest_by h true e first =
           rw (there h e)
-          (oldest_here h ends e (subst (λ o. IsFirstIn (is_home n h) keys 0 k (oldest_of o)) (ap (home_at homes) (sym (eqb-true _ _ e)) ∙ is) first))
+          (oldest_here h ends.oldest e (subst (λ (o : Ends). IsFirstIn (is_home n h) keys 0 k o.oldest) (ap (home_at homes) (sym (eqb-true _ _ e)) ∙ is) first))
       oldest_by h false e first = rw (elsewhere h e) (first_elsewhere 0 h _ e first)
 
-      newest_by : (h : ℕ) (b : Bool) → eqb home h ≡ b → IsLastIn (is_home n h) keys k (newest_of (home_at homes h)) → IsLastIn (is_home n h) keys (k + 1) (newest_of (home_at (linked_in homes ends) h))
-      newest_by h true e last = rw (there h e) (last_here h ends e)
+      newest_by : (h : ℕ) (b : Bool) → eqb home h ≡ b → IsLastIn (is_home n h) keys k (home_at homes h).newest → IsLastIn (is_home n h) keys (k + 1) (home_at (linked_in homes ends) h).newest
+      newest_by h true e last = rw (there h e) (last_here h e)
       newest_by h false e last = rw (elsewhere h e) (last_elsewhere h _ e last)
 
     -- the next of a home, once the place is linked behind what was the last of its home
@@ -191,7 +190,7 @@ abbrev newer_of : Place → Option ℕ
 newer_of p = p.newer
 
 -- keys and links of places, once one is linked
-module _ (places places' : List Place) (homes : List (Option Ends)) (k : ℕ) (within : k < length places) (some : 0 < length homes) (same : keys_in places' ≡ keys_in places) (linked : AreLinked places homes k) where
+module _ (places places' : List Place) (homes : List Ends) (k : ℕ) (within : k < length places) (some : 0 < length homes) (same : keys_in places' ≡ keys_in places) (linked : AreLinked places homes k) where
   abbrev keys : List ℕ
   keys = keys_in places
 
@@ -201,10 +200,10 @@ module _ (places places' : List Place) (homes : List (Option Ends)) (k : ℕ) (w
   pub filed : k < length keys
   filed = let len = length-map places key_of in omega arith
 
-  pub linked_more : (ends : Option Ends) → home_at homes (get_or keys k 0 % many) ≡ ends → get_or (newers_in places') k None ≡ None → ((q : ℕ) → newest_of ends ≡ Some q → get_or (newers_in places') q None ≡ Some k) → ((j : ℕ) → j < k → (newest_of ends ≡ Some j → ⊥) → get_or (newers_in places') j None ≡ get_or (newers_in places) j None) → AreLinked places' (linked_in many keys k filed homes ends) (k + 1)
+  pub linked_more : (ends : Ends) → home_at homes (get_or keys k 0 % many) ≡ ends → get_or (newers_in places') k None ≡ None → ((q : ℕ) → ends.newest ≡ Some q → get_or (newers_in places') q None ≡ Some k) → ((j : ℕ) → j < k → (ends.newest ≡ Some j → ⊥) → get_or (newers_in places') j None ≡ get_or (newers_in places) j None) → AreLinked places' (linked_in many keys k filed homes ends) (k + 1)
   linked_more ends is end behind others =
       let at_home : get_or keys k 0 % many < many = omega arith in
-      let last_is = subst (λ e. IsLastIn (is_home many (get_or keys k 0 % many)) keys k (newest_of e)) is (linked.newest_is (get_or keys k 0 % many) at_home) in
+      let last_is = subst (λ (e : Ends). IsLastIn (is_home many (get_or keys k 0 % many)) keys k e.newest) is (linked.newest_is (get_or keys k 0 % many) at_home) in
       let len : length (linked_in many keys k filed homes ends) ≡ many = length-set homes _ _ in
       record {
         oldest_is = rw (len, same)
@@ -212,42 +211,42 @@ module _ (places places' : List Place) (homes : List (Option Ends)) (k : ℕ) (w
         newest_is = rw (len, same)
             (λ h lt. newest_by many keys k filed homes refl some ends is h (eqb (get_or keys k 0 % many) h) refl (linked.newest_is h lt));
         newer_is = rw (len, same)
-            (newer_more many keys k filed (newers_in places) (newers_in places') (newest_of ends) last_is end behind others linked.newer_is);
+            (newer_more many keys k filed (newers_in places) (newers_in places') ends.newest last_is end behind others linked.newer_is);
       }
 
   within_newers : k < length (newers_in places)
   within_newers = let len = length-map places newer_of in omega arith
 
   -- the place is the first of its home
-  pub linked_first : (home : ℕ) → get_or keys k 0 % many ≡ home → home_at homes home ≡ None → newers_in places' ≡ set (newers_in places) k None → AreLinked places' (set homes home (Some (ends_with None k))) (k + 1)
-  linked_first home at is newers =
-      subst (λ h. AreLinked places' (set homes h (Some (ends_with None k))) (k + 1)) at
-      (linked_more None (ap (home_at homes) at ∙ is)
+  pub linked_first : (home : ℕ) (ends : Ends) → get_or keys k 0 % many ≡ home → home_at homes home ≡ ends → ends.newest ≡ None → newers_in places' ≡ set (newers_in places) k None → AreLinked places' (set homes home (ends_with ends k)) (k + 1)
+  linked_first home ends at is none newers =
+      subst (λ h. AreLinked places' (set homes h (ends_with ends k)) (k + 1)) at
+      (linked_more ends (ap (home_at homes) at ∙ is)
       (ap (λ xs. get_or xs k None) newers ∙ get_or-set_same (newers_in places) k None None within_newers)
       (λ q e. absurd (cc))
       (λ j lt other. ap (λ xs. get_or xs j None) newers ∙ get_or-set_other (newers_in places) k j None None (λ e. omega arith)))
 
   -- it stands behind the last of its home
-  pub linked_behind : (home : ℕ) (ends : Ends) → get_or keys k 0 % many ≡ home → home_at homes home ≡ Some ends → newers_in places' ≡ set (set (newers_in places) k None) ends.newest (Some k) → AreLinked places' (set homes home (Some (ends_with (Some ends) k))) (k + 1)
-  linked_behind home ends at is newers =
+  pub linked_behind : (home : ℕ) (ends : Ends) (newest : ℕ) → get_or keys k 0 % many ≡ home → home_at homes home ≡ ends → ends.newest ≡ Some newest → newers_in places' ≡ set (set (newers_in places) k None) newest (Some k) → AreLinked places' (set homes home (ends_with ends k)) (k + 1)
+  linked_behind home ends newest at is last_is newers =
       let at_home : get_or keys k 0 % many < many = omega arith in
-      let there : home_at homes (get_or keys k 0 % many) ≡ Some ends = ap (home_at homes) at ∙ is in
-      let last = subst (λ e. IsLastIn (is_home many (get_or keys k 0 % many)) keys k (newest_of e)) there (linked.newest_is (get_or keys k 0 % many) at_home) in
-      let before : ends.newest < k = last.within ends.newest refl in
+      let there : home_at homes (get_or keys k 0 % many) ≡ ends = ap (home_at homes) at ∙ is in
+      let last = subst (λ (e : Ends). IsLastIn (is_home many (get_or keys k 0 % many)) keys k e.newest) there (linked.newest_is (get_or keys k 0 % many) at_home) in
+      let before : newest < k = last.within newest last_is in
       let len = length-set (newers_in places) k None in
-      let many_newers : ends.newest < length (set (newers_in places) k None) = let w = within_newers in omega arith in
-      subst (λ h. AreLinked places' (set homes h (Some (ends_with (Some ends) k))) (k + 1)) at
-      (linked_more (Some ends) there
+      let many_newers : newest < length (set (newers_in places) k None) = let w = within_newers in omega arith in
+      subst (λ h. AreLinked places' (set homes h (ends_with ends k)) (k + 1)) at
+      (linked_more ends there
       (ap (λ xs. get_or xs k None) newers
-      ∙ get_or-set_other (set (newers_in places) k None) ends.newest k (Some k) None (λ e. omega arith)
+      ∙ get_or-set_other (set (newers_in places) k None) newest k (Some k) None (λ e. omega arith)
       ∙ get_or-set_same (newers_in places) k None None within_newers)
-      (λ q e. let same : ends.newest ≡ q = cc in
+      (λ q e. let same : newest ≡ q = cc in
       ap (λ xs. get_or xs q None) newers
-      ∙ subst (λ i. get_or (set (set (newers_in places) k None) ends.newest (Some k)) i None ≡ Some k) same
-      (get_or-set_same (set (newers_in places) k None) ends.newest (Some k) None many_newers))
+      ∙ subst (λ i. get_or (set (set (newers_in places) k None) newest (Some k)) i None ≡ Some k) same
+      (get_or-set_same (set (newers_in places) k None) newest (Some k) None many_newers))
       (λ j lt other.
       ap (λ xs. get_or xs j None) newers
-      ∙ get_or-set_other (set (newers_in places) k None) ends.newest j (Some k) None (λ e. other (ap Some (sym e)))
+      ∙ get_or-set_other (set (newers_in places) k None) newest j (Some k) None (λ e. other (last_is ∙ ap Some (sym e)))
       ∙ get_or-set_other (newers_in places) k j None None (λ e. omega arith)))
 
 below_end : (first : Option ℕ) (end j : ℕ) → j < place_or_end first end → ((place : ℕ) → first ≡ Some place → place < end) → j < end
@@ -275,7 +274,7 @@ last_before is items more end last le h =
     }
 
 -- a place behind those that are linked changes nothing
-pub linked_before : (places : List Place) (homes : List (Option Ends)) (p : Place) → AreLinked places homes (length places) → AreLinked (places ++ p ∷ []) homes (length places)
+pub linked_before : (places : List Place) (homes : List Ends) (p : Place) → AreLinked places homes (length places) → AreLinked (places ++ p ∷ []) homes (length places)
 linked_before places homes p linked =
     let keys = keys_in places in
     let many : length places ≤ length keys = let len = length-map places key_of in omega arith in
@@ -293,13 +292,13 @@ linked_before places homes p linked =
     }
 
 -- so many places are linked anew
-pub record AreRelinked (old new : List Place) (homes : List (Option Ends)) (count : ℕ) : Type 0 where
+pub record AreRelinked (old new : List Place) (homes : List Ends) (count : ℕ) : Type 0 where
   pub linked : AreLinked new homes count
   pub keys : keys_in new ≡ keys_in old
   pub some : 0 < length homes
 
 -- none is linked, where each home is empty
-pub none_linked : (places : List Place) (homes : List (Option Ends)) → ((h : ℕ) → home_at homes h ≡ None) → AreLinked places homes 0
+pub none_linked : (places : List Place) (homes : List Ends) → ((h : ℕ) → home_at homes h ≡ no_ends) → AreLinked places homes 0
 none_linked places homes empty =
     record {
       oldest_is = λ h lt.
@@ -320,6 +319,6 @@ none_linked places homes empty =
       newer_is = λ place lt. absurd (omega arith);
     }
 
-pub same_in_homes : (places places' : List Place) (homes homes' : List (Option Ends)) (capacity : ℕ) → places' ≡ places → homes' ≡ homes → 0 < length homes → AreLinked places homes (length places) → AreInHomes places' homes' capacity
-same_in_homes places places' homes homes' capacity p q some linked =
-    rw (p, q) (record { linked = linked; some = λ has. some })
+pub same_in_homes : (places places' : List Place) (homes homes' : List Ends) (capacity : ℕ) → places' ≡ places → homes' ≡ homes → 0 < length homes → AreLinked places homes (length places) → length places ≤ most_places → AreInHomes places' homes' capacity
+same_in_homes places places' homes homes' capacity p q some linked fits =
+    rw (p, q) (record { linked = linked; some = λ has. some; fits = fits })

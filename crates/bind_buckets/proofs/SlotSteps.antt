@@ -6,6 +6,9 @@ use Rattle.std.proofs.lemmas.Bool.{and_parts}
 use Rattle.sock_card.specs.declared.owner.Owner.{Owner}
 use Rattle.bind_buckets.specs.declared.slot.Slot.{Slot}
 use Rattle.bind_buckets.specs.First.{change_first, drop_first}
+use Rattle.bind_buckets.specs.declared.change.Change.{Change}
+use Rattle.bind_buckets.specs.declared.change.Change.TheVariants as changes
+use Rattle.bind_buckets.specs.Change.{becomes, CanBecome}
 use Rattle.bind_buckets.specs.Slots.{owners_in, Filed, AreKept, StandsThere}
 use Rattle.bind_buckets.proofs.FirstPlace.{found_at, absent, changes_at, unchanged, passes_at, place_is}
 use Rattle.bind_buckets.proofs.OwnersIn.{owner_found, owner_changed, owner_left}
@@ -64,8 +67,13 @@ module _ (is : Owner → Bool) (slots : List Slot) where
     pub none_left : owners_in slots ≡ drop_first is (owners_in slots)
     none_left = sym (owner_left is leave (λ s. refl) slots ∙ ap owners_in (unchanged has leave slots nowhere))
 
-    pub none_put : (a : Owner) → owners_in slots ≡ change_first is (λ _. a) (owners_in slots)
-    none_put a =
-        sym
-        (owner_changed is (λ _. a) (puts a) (λ s. refl) (λ s. refl) slots
-        ∙ ap owners_in (unchanged has (puts a) slots nowhere))
+-- an owner keeps its name in what it becomes, and is found where it was
+pub becomes_named : (change : Change) (a : Owner) → (becomes change a).name ≡ a.name
+becomes_named (changes.Connects local remote rport) a = refl
+becomes_named changes.Listens a = refl
+becomes_named changes.Waits a = refl
+
+pub becomes_there : (change : Change) (a : Owner) → CanBecome change (Some a) → StandsThere (becomes change a) (Some a)
+becomes_there (changes.Connects local remote rport) a bound = (refl, bound)
+becomes_there changes.Listens a bound = (refl, own_address a.addr)
+becomes_there changes.Waits a bound = (refl, own_address a.addr)

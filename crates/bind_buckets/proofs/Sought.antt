@@ -11,7 +11,7 @@ use Rattle.bind_buckets.proofs.Linked.{false_ne_true}
 abbrev pub places_left : Option ℕ → ℕ → ℕ
 places_left next end = end - place_or_end next end
 
-module _ (key : ℕ) (places : List Place) (homes : List (Option Ends)) where
+module _ (key : ℕ) (places : List Place) (homes : List Ends) where
   abbrev keys : List ℕ
   keys = keys_in places
 
@@ -72,11 +72,14 @@ module _ (key : ℕ) (places : List Place) (homes : List (Option Ends)) where
           fails = none_before start (Some place) sought;
         }
 
-    pub goes_on : (x : Place) → ((get_or places place x).key ≡ key → ⊥) → AreLinked places homes (length places) → IsSought start (get_or places place x).newer
-    goes_on x other linked =
+    newer_at : (x : Place) → x ≡ get_or places place x → get_or (newers_in places) place None ≡ x.newer
+    newer_at x read =
+        get_or-map (λ (p : Place). p.newer) places place x None place_within ∙ ap (λ (p : Place). p.newer) (sym read)
+
+    pub goes_on : (x : Place) → x ≡ get_or places place x → (x.key ≡ key → ⊥) → AreLinked places homes (length places) → IsSought start x.newer
+    goes_on x read other linked =
         let home : get_or keys place 0 % many ≡ key % many = eqb-true _ _ (sought.next_is.passes place 0 refl) in
-        let newer : get_or (newers_in places) place None ≡ (get_or places place x).newer =
-        get_or-map (λ (p : Place). p.newer) places place x None place_within in
+        let newer : get_or (newers_in places) place None ≡ x.newer = newer_at x read in
         let b = reached start (Some place) sought in
         record {
           from = place + 1;
@@ -89,21 +92,20 @@ module _ (key : ℕ) (places : List Place) (homes : List (Option Ends)) where
               ⊎_elim (λ lt. none_before start (Some place) sought j d above lt)
               (λ ge.
               let is : place ≡ j = omega arith in
-              subst (λ i. is_key key (get_or keys i d) ≡ false) is (ap (λ k. eqb k key) (key_at x d) ∙ false_from_ne_true _ (λ t. other (eqb-true _ _ t))))
+              subst (λ i. is_key key (get_or keys i d) ≡ false) is (ap (λ k. eqb k key) (key_at x d ∙ ap (λ (p : Place). p.key) (sym read)) ∙ false_from_ne_true _ (λ t. other (eqb-true _ _ t))))
               (cases_lt j place);
         }
 
-    pub fewer_left : (x : Place) → AreLinked places homes (length places) → places_left (get_or places place x).newer (length places) < places_left (Some place) (length places)
-    fewer_left x linked =
-        let newer : get_or (newers_in places) place None ≡ (get_or places place x).newer =
-        get_or-map (λ (p : Place). p.newer) places place x None place_within in
+    pub fewer_left : (x : Place) → x ≡ get_or places place x → AreLinked places homes (length places) → places_left x.newer (length places) < places_left (Some place) (length places)
+    fewer_left x read linked =
+        let newer : get_or (newers_in places) place None ≡ x.newer = newer_at x read in
         let first = subst (IsFirstIn _ keys (place + 1) (length places)) newer (linked.newer_is place place_within) in
         let r = first.reaches in
         let lt = place_within in
         omega arith
 
 -- behind a place of that key, its home goes on
-pub behind : (key : ℕ) (places : List Place) (homes : List (Option Ends)) (place : ℕ) (x : Place) → AreLinked places homes (length places) → place < length (keys_in places) → get_or (keys_in places) place 0 ≡ key → IsFirstIn (is_home (length homes) (key % length homes)) (keys_in places) (place + 1) (length places) (get_or places place x).newer
+pub behind : (key : ℕ) (places : List Place) (homes : List Ends) (place : ℕ) (x : Place) → AreLinked places homes (length places) → place < length (keys_in places) → get_or (keys_in places) place 0 ≡ key → IsFirstIn (is_home (length homes) (key % length homes)) (keys_in places) (place + 1) (length places) (get_or places place x).newer
 behind key places homes place x linked within same =
     let lt : place < length places = let len = length-map places (λ (p : Place). p.key) in omega arith in
     subst (IsFirstIn (is_home (length homes) (key % length homes)) (keys_in places) (place + 1) (length places))

@@ -1,5 +1,5 @@
--- Which entries a caller may make: our own rule. The caller k, from 1, runs script k alone; the caller 0 runs all scripts,
--- and then there are no others.
+-- Which entries a caller may make: our own rule. The caller k, from 1, runs script k alone; the caller 0 runs all
+-- scripts, and then there are no others.
 use Rattle.std.specs.Prelude.{◌≡◌, ◌≢◌, ℕ, ◌/◌, ◌^◌, Bool, true, List, [], ◌∷◌}
 use Rattle.list_words.specs.Lists.{Each}
 use Rattle.bind_buckets.specs.Notes.{Note}

@@ -1,5 +1,5 @@
--- Buckets as a table begins with them, and as the last pass leaves them: our own. Their entries exist in proofs alone; a
--- program has their count.
+-- Buckets as a table begins with them, and as the last pass leaves them: our own. Their entries exist in proofs
+-- alone; a program has their count.
 use Rattle.std.specs.Prelude.{◌≡◌, ℕ, ◌+◌, List, [], ◌∷◌, length}
 use Rattle.std.specs.Global.{Box}
 use Rattle.list_words.specs.Lists.{Each}

@@ -1,3 +1,4 @@
+-- What the contracts of this crate and of those above it cite.
 pub mod Limits
 pub mod First
 pub mod Members
@@ -10,6 +11,8 @@ pub mod Bucket
 pub mod Tally
 pub mod OwnerCounts
 pub mod Owners
+pub mod Change
+pub mod MaybePlace
 pub mod Links
 pub mod Slots
 pub mod Runs

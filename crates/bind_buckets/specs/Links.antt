@@ -1,5 +1,5 @@
 -- Keys of places, and the links between the places of one home: our own rule.
-use Rattle.std.specs.Prelude.{◌≡◌, ℕ, ◌+◌, ◌%◌, ◌≤◌, ◌<◌, Bool, true, false, ◌==◌, List, map, length, Option, None, Some, slice_index}
+use Rattle.std.specs.Prelude.{◌≡◌, ℕ, ◌+◌, ◌%◌, ◌≤◌, ◌<◌, Bool, true, false, ◌==◌, List, map, length, Option, None, Some, slice_index, ◌-◌, min}
 use Rattle.std.specs.List.{slice_index_or}
 use Rattle.bind_buckets.specs.declared.links.Place.{Place}
 use Rattle.bind_buckets.specs.declared.links.Ends.{Ends}
@@ -8,6 +8,14 @@ use Rattle.bind_buckets.specs.declared.links.Ends.{Ends}
 pub record Keyed : Type 0 where
   pub keys : List ℕ
   pub room : ℕ
+
+-- how many places there are at most: each fits 32 bits, with a word for none
+abbrev pub most_places : ℕ
+most_places = 4294967295
+
+-- how many more may come without memory
+abbrev pub room_in : ℕ → ℕ → ℕ
+room_in capacity count = min capacity most_places - count
 
 -- the place, or the end where there is none
 abbrev pub place_or_end : Option ℕ → ℕ → ℕ
@@ -45,37 +53,32 @@ keys_in places = map (λ (p : Place). p.key) places
 abbrev pub newers_in : List Place → List (Option ℕ)
 newers_in places = map (λ (p : Place). p.newer) places
 
-abbrev pub oldest_of : Option Ends → Option ℕ
-oldest_of None = None
-oldest_of (Some ends) = Some ends.oldest
-
-abbrev pub newest_of : Option Ends → Option ℕ
-newest_of None = None
-newest_of (Some ends) = Some ends.newest
+abbrev pub no_ends : Ends
+no_ends = record { oldest = None; newest = None }
 
 -- the ends of a home, once that place is its last
-abbrev pub ends_with : Option Ends → ℕ → Ends
-ends_with None place = record { oldest = place; newest = place }
-ends_with (Some ends) place = record { oldest = ends.oldest; newest = place }
+abbrev pub ends_with : Ends → ℕ → Ends
+ends_with ends place = record { oldest = Some (place_or_end ends.oldest place); newest = Some place }
 
-abbrev pub home_at : List (Option Ends) → ℕ → Option Ends
-home_at homes home = slice_index_or homes home None
+abbrev pub home_at : List Ends → ℕ → Ends
+home_at homes home = slice_index_or homes home no_ends
 
 -- the links between so many first places: the first and the last of each home, and behind each place the next of its
 -- home
-pub record AreLinked (places : List Place) (homes : List (Option Ends)) (count : ℕ) : Type 0 where
+pub record AreLinked (places : List Place) (homes : List Ends) (count : ℕ) : Type 0 where
   pub oldest_is : (home : ℕ) → home < length homes
-      → IsFirstIn (is_home (length homes) home) (keys_in places) 0 count (oldest_of (home_at homes home))
+      → IsFirstIn (is_home (length homes) home) (keys_in places) 0 count (home_at homes home).oldest
   pub newest_is : (home : ℕ) → home < length homes
-      → IsLastIn (is_home (length homes) home) (keys_in places) count (newest_of (home_at homes home))
+      → IsLastIn (is_home (length homes) home) (keys_in places) count (home_at homes home).newest
   pub newer_is : (place : ℕ) → place < count
       → IsFirstIn (is_home (length homes) (slice_index (keys_in places) place % length homes)) (keys_in places)
       (place + 1) count (slice_index_or (newers_in places) place None)
 
--- all are linked, and those that may come have a home
-pub record AreInHomes (places : List Place) (homes : List (Option Ends)) (capacity : ℕ) : Type 0 where
+-- all are linked, those that may come have a home, and each place fits
+pub record AreInHomes (places : List Place) (homes : List Ends) (capacity : ℕ) : Type 0 where
   pub linked : AreLinked places homes (length places)
   pub some : 0 < capacity → 0 < length homes
+  pub fits : length places ≤ most_places
 
 -- a place with that key, or none
 pub record IsAfter (key : ℕ) (after : Option ℕ) (keys : List ℕ) : Type 0 where

@@ -1,7 +1,8 @@
--- What a request to a bind bucket leaves and answers: inet_csk_get_port, inet_csk_find_open_port, inet_csk_bind_conflict
--- and inet_csk_listen_start of net/ipv4/inet_connection_sock.c, __inet_hash_connect, __inet_inherit_port and inet_put_port
--- of net/ipv4/inet_hashtables.c, reuseport_alloc and reuseport_add_sock of net/core/sock_reuseport.c. Our own rule: so
--- many places for groups in a bucket, and room for so many members in a group.
+-- What a request to a bind bucket leaves and answers: inet_csk_get_port, inet_csk_find_open_port,
+-- inet_csk_bind_conflict and inet_csk_listen_start of net/ipv4/inet_connection_sock.c, __inet_hash_connect,
+-- __inet_inherit_port and inet_put_port of net/ipv4/inet_hashtables.c, reuseport_alloc and reuseport_add_sock of
+-- net/core/sock_reuseport.c. Our own rule: so many places for groups in a bucket, and room for so many members in a
+-- group.
 use Rattle.std.specs.Prelude.{ℕ, ◌+◌, ◌*◌, Bool, ◌==◌, ◌&&◌, nat_lt, List, [], ◌∷◌, ◌++◌, length, Option, None, Some, if◌then◌else◌, find, position, replicate, slice_set}
 use Rattle.std.specs.List.{slice_index_or}
 use Rattle.std.specs.Option.{option_or, option_and_then}

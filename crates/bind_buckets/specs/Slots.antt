@@ -1,5 +1,5 @@
 -- The slots in which a list keeps its owners, and how they are filed: our own rule.
-use Rattle.std.specs.Prelude.{◌≡◌, ℕ, ◌+◌, ◌*◌, ◌<◌, ◌≤◌, Bool, true, false, ◌==◌, ◌&&◌, ◌||◌, List, [], ◌∷◌, map, filter, length, Option, None, Some, zero, suc, min, slice_index, IfSome}
+use Rattle.std.specs.Prelude.{◌≡◌, ℕ, ◌+◌, ◌*◌, ◌%◌, ◌<◌, ◌≤◌, Bool, true, false, ◌==◌, ◌&&◌, ◌||◌, List, [], ◌∷◌, map, filter, length, Option, None, Some, zero, suc, min, slice_index, IfSome}
 use Rattle.std.specs.List.{slice_index_or}
 use Rattle.sock_card.specs.declared.owner.Owner.{Owner}
 use Rattle.sock_card.specs.Conflict.{refuses, overlap, holds, is_mate}
@@ -48,9 +48,10 @@ is_under (unders.End port addr) s = (s.owner.port == port) && ((s.owner.addr == 
 abbrev pub IsUnder : Asked → Under → Type 0
 IsUnder asked under = (s : Slot) → has asked s ≡ true → is_under under s ≡ true
 
--- what a port and an address are filed under
+-- what a port and an address are filed under, in 32 bits; ports spread by 2654435769, which is 2^32 over the golden
+-- ratio
 abbrev pub end_key : ℕ → ℕ → ℕ
-end_key port addr = addr * 65536 + port
+end_key port addr = (addr + port * 2654435769) % 4294967296
 
 abbrev pub names_in : List Slot → List ℕ
 names_in slots = map (λ (s : Slot). s.owner.name) slots

@@ -9,11 +9,12 @@ ghost use Rattle.bind_buckets.specs.Members as members_spec;
 ghost use Rattle.bind_buckets.specs.Bucket.{IsGroup, brings_owner};
 ghost use Rattle.bind_buckets.specs.HeldBy.{held_by, IsStep, CanBeAt, CanCarryOut, IsRoomLeft};
 
+use crate::change::Change;
 use crate::group::Group;
 use crate::owners::Owners;
 use crate::places::{group_place, place_for};
 use crate::request::{Answer, Request};
-use sock_card::{Owner, as_listener, as_waiting, child, connected};
+use sock_card::{Owner, child};
 use std::alloc::Global;
 
 /// How many places for groups a bucket has.
@@ -105,12 +106,14 @@ impl Held {
         ensures room { IsRoomLeft self.old.owners self.new.owners }
         ensures none { length self.new.owners.owners ≤ length self.old.owners.owners }
     {
-        match self.owners.named(name).copied() {
+        let change = Change::Connects {
+            local,
+            remote,
+            rport,
+        };
+        match self.owners.change(name, change) {
             None => Answer::Strange(name),
-            Some(owner) => {
-                self.owners.replace(connected(owner, local, remote, rport));
-                Answer::Done
-            }
+            Some(_) => Answer::Done,
         }
     }
 
@@ -202,7 +205,7 @@ impl Held {
                 if owner.reuseport {
                     self.join(&owner, name, slot);
                 }
-                self.owners.replace(as_listener(owner));
+                self.owners.change(name, Change::Listens);
                 Answer::Done
             }
         }
@@ -244,12 +247,9 @@ impl Held {
         ensures room { IsRoomLeft self.old.owners self.new.owners }
         ensures none { length self.new.owners.owners ≤ length self.old.owners.owners }
     {
-        match self.owners.named(name).copied() {
+        match self.owners.change(name, Change::Waits) {
             None => Answer::Strange(name),
-            Some(owner) => {
-                self.owners.replace(as_waiting(owner));
-                Answer::Done
-            }
+            Some(_) => Answer::Done,
         }
     }
 

@@ -29,6 +29,7 @@
 #![tactic(auto)]
 
 pub mod bucket;
+mod change;
 mod counts;
 mod group;
 mod held;
@@ -36,6 +37,7 @@ mod index;
 mod journal;
 pub mod laws;
 mod links;
+mod maybe_place;
 mod owner_list;
 mod owners;
 mod places;

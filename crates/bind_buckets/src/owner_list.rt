@@ -1,11 +1,13 @@
 //! The owners of a bucket, each of which is found without a look at all.
 
-ghost use Rattle.std.specs.Prelude.{◌≡◌, ◌^◌, ◌+◌, ◌≤◌, ◌<◌, ◌++◌, ◌∷◌, [], Option, length, find, filter, vec_len, vec_capacity, IsSome, OnOk, IsTrue, ◌↔◌, None};
+ghost use Rattle.std.specs.Prelude.{◌≡◌, ◌^◌, ◌+◌, ◌≤◌, ◌<◌, ◌++◌, ◌∷◌, [], Option, length, find, filter, vec_len, vec_capacity, OnOk, None};
 ghost use Rattle.std.specs.Option.{option_copied};
 ghost use Rattle.bind_buckets.specs.OwnerStep as spec;
 ghost use Rattle.bind_buckets.specs.First.{change_first, drop_first};
-ghost use Rattle.bind_buckets.specs.Slots.{owners_in, answers, beside, names_in, ports_in, ends_in, AreFiled, StandsThere};
+ghost use Rattle.bind_buckets.specs.Slots.{owners_in, answers, beside, names_in, ports_in, ends_in, AreFiled};
+ghost use Rattle.bind_buckets.specs.Change.{becomes, CanBecome};
 
+use crate::change::Change;
 use crate::index::Index;
 use crate::slot::{Asked, Slot};
 use sock_card::Owner;
@@ -130,16 +132,6 @@ impl OwnerList {
         }
     }
 
-    /// The first owner of that name that is in TIME_WAIT.
-    pub fn waiting(&self, name: u32) -> Option<&Owner>
-        ensures { option_copied result ≡ find (spec.waits_as name) self.now.owners }
-    {
-        match self.index.first(&Asked::Waiting(name), None, &self.slots) {
-            Some(place) => Some(&self.slots[place].owner),
-            None => None,
-        }
-    }
-
     /// Appends an owner. Constant cost.
     pub fn push(&mut self, owner: Owner)
         requires { 1 ≤ self.old.room }
@@ -155,46 +147,30 @@ impl OwnerList {
         self.slots.push_reserved(slot);
     }
 
-    /// Puts the owner in the place of the first of its name, if there is one, which has its port, and
-    /// its address or 0.0.0.0.
-    pub fn replace(&mut self, owner: Owner)
-        requires { StandsThere owner (find (spec.has_name owner.name) self.old.owners) }
-        ensures owners { self.new.owners ≡ change_first (spec.has_name owner.name) (λ _. owner) self.old.owners }
+    /// Changes the first owner of that name, and tells what it was.
+    pub fn change(&mut self, name: u32, change: Change) -> Option<Owner>
+        requires { CanBecome change (find (spec.has_name name) self.old.owners) }
+        ensures was { result ≡ find (spec.has_name name) self.old.owners }
+        ensures owners { self.new.owners ≡ change_first (spec.has_name name) (becomes change) self.old.owners }
         ensures room { self.new.room ≡ self.old.room }
     {
-        if let Some(place) = self
-            .index
-            .first(&Asked::Named(owner.name), None, &self.slots)
-        {
-            self.slots[place].owner = owner;
-        }
+        let place = self.index.first(&Asked::Named(name), None, &self.slots)?;
+        let was = self.slots[place].owner;
+        self.slots[place].owner = change.of(was);
+        Some(was)
     }
 
-    /// Takes out the first owner of that name, if there is one.
-    pub fn remove(&mut self, name: u32)
-        ensures owners { self.new.owners ≡ drop_first (spec.has_name name) self.old.owners }
+    /// Takes out the first owner of which that holds.
+    pub fn take(&mut self, asked: Asked) -> Option<Owner>
+        ensures gone { result ≡ find (answers asked) self.old.owners }
+        ensures owners { self.new.owners ≡ drop_first (answers asked) self.old.owners }
         ensures room { self.new.room ≡ self.old.room }
     {
-        if let Some(place) = self.index.first(&Asked::Named(name), None, &self.slots) {
-            self.slots[place].here = false;
-            self.gone += 1;
-        }
-    }
-
-    /// Takes out the first owner of that name that is in TIME_WAIT, and tells whether there is one.
-    pub fn remove_waiting(&mut self, name: u32) -> bool
-        ensures owners { self.new.owners ≡ drop_first (spec.waits_as name) self.old.owners }
-        ensures room { self.new.room ≡ self.old.room }
-        ensures found { IsTrue result ↔ IsSome (find (spec.waits_as name) self.old.owners) }
-    {
-        match self.index.first(&Asked::Waiting(name), None, &self.slots) {
-            Some(place) => {
-                self.slots[place].here = false;
-                self.gone += 1;
-                true
-            }
-            None => false,
-        }
+        let place = self.index.first(&asked, None, &self.slots)?;
+        let gone = self.slots[place].owner;
+        self.slots[place].here = false;
+        self.gone += 1;
+        Some(gone)
     }
 
     /// The first owner of which that holds.

@@ -5,8 +5,10 @@ ghost use Rattle.std.specs.Option.{option_copied};
 ghost use Rattle.sock_card.specs.Conflict as conflict_spec;
 ghost use Rattle.bind_buckets.specs.OwnerStep as spec;
 ghost use Rattle.bind_buckets.specs.First.{change_first, drop_first};
-ghost use Rattle.bind_buckets.specs.Slots.{StandsThere};
+ghost use Rattle.bind_buckets.specs.Slots.{answers};
+ghost use Rattle.bind_buckets.specs.Change.{becomes, CanBecome};
 
+use crate::change::Change;
 use crate::counts::OwnerCounts;
 use crate::owner_list::OwnerList;
 use crate::slot::Asked;
@@ -80,18 +82,26 @@ impl Owners {
         self.list.push(owner);
     }
 
-    /// Puts an owner in the place of the first of its name, which has its port, and its address or
-    /// 0.0.0.0.
-    pub fn replace(&mut self, owner: Owner)
-        requires { StandsThere owner (find (spec.has_name owner.name) self.old.owners) }
-        ensures owners { self.new.owners
-            ≡ change_first (spec.has_name owner.name) (λ _. owner) self.old.owners }
+    /// Changes the first owner of that name, and tells what it was.
+    pub fn change(&mut self, name: u32, change: Change) -> Option<Owner>
+        requires { CanBecome change (find (spec.has_name name) self.old.owners) }
+        ensures was { result ≡ find (spec.has_name name) self.old.owners }
+        ensures owners { self.new.owners ≡ change_first (spec.has_name name) (becomes change) self.old.owners }
         ensures room { self.new.room ≡ self.old.room }
     {
-        if let Some(was) = self.list.named(owner.name).copied() {
-            self.counts.change(&was, &owner);
-            self.list.replace(owner);
-        }
+        let was = self.list.change(name, change)?;
+        self.counts.change(&was, &change.of(was));
+        Some(was)
+    }
+
+    fn take(&mut self, asked: Asked) -> Option<Owner>
+        ensures gone { result ≡ find (answers asked) self.old.owners }
+        ensures owners { self.new.owners ≡ drop_first (answers asked) self.old.owners }
+        ensures room { self.new.room ≡ self.old.room }
+    {
+        let gone = self.list.take(asked)?;
+        self.counts.go(&gone);
+        Some(gone)
     }
 
     /// Takes out the first owner of that name.
@@ -100,10 +110,7 @@ impl Owners {
         ensures owners { self.new.owners ≡ drop_first (spec.has_name name) self.old.owners }
         ensures room { self.old.room ≤ self.new.room }
     {
-        let gone = self.list.named(name).copied()?;
-        self.list.remove(name);
-        self.counts.go(&gone);
-        Some(gone)
+        self.take(Asked::Named(name))
     }
 
     /// Takes out the first owner of that name that is in TIME_WAIT.
@@ -112,10 +119,7 @@ impl Owners {
         ensures owners { self.new.owners ≡ drop_first (spec.waits_as name) self.old.owners }
         ensures room { self.old.room ≤ self.new.room }
     {
-        let gone = self.list.waiting(name).copied()?;
-        self.list.remove_waiting(name);
-        self.counts.go(&gone);
-        Some(gone)
+        self.take(Asked::Waiting(name))
     }
 
     /// The first owner that keeps this one from its port.

@@ -1,6 +1,7 @@
 -- There are homes before there is room.
-use Rattle.std.proofs.Common.{◌≡◌, ◌<◌, length, refl, ◌∙◌, arith}
+use Rattle.std.proofs.Common.{◌≡◌, ◌<◌, ◌≤◌, length, refl, ◌∙◌, arith}
 use Rattle.std.proofs.lemmas.List.{with_items_is}
+use Rattle.bind_buckets.specs.Links.{most_places}
 use Rattle.bind_buckets.proofs.Linked.{same_in_homes}
 use Rattle.bind_buckets.proofs.links.Links.reserve.Goals as goal
 use Rattle.bind_buckets.proofs.links.Links.reserve.Goals.{then-len-wanted+in_ok-homes+in_ok-resize, else-len-wanted}
@@ -16,13 +17,14 @@ invariant_of-self-2 c =
           let sized : length homes ≡ w.resize.new.self.len = w.link_all.auto.homes ∙ w.deref_mut-then-len-wanted.ensures.len in
           let wanted = rw w.in_ok-homes.ensures.ok_part at w.homes_for.ensures in
           let some : 0 < length homes = omega (arith, wanted, sized, w.in_ok-resize.ensures.len) in
+          let fits : length places ≤ most_places = omega (arith, many, c.self.invariant.fits, kept.places.ok.0) in
           let items = rw w.self-inside-is at c.reserve.ensures.items in
           rw w.self-inside-is
           (same_in_homes places _ homes _ _ (items ∙ with_items_is kept.places places many)
-          (with_items_is w.resize.new.self homes sized) some w.link_all.ensures.linked)
+          (with_items_is w.resize.new.self homes sized) some w.link_all.ensures.linked fits)
       | else-len-wanted w ↦
           let some : 0 < length kept.homes.items = omega (arith, w.if-len-wanted.false, c.len-2.ensures, kept.homes.ok.0) in
           let items = rw w.self-inside-is at c.reserve.ensures.items in
           rw w.self-inside-is
-          (same_in_homes kept.places.items _ kept.homes.items _ _ items refl some c.self.invariant.linked)
+          (same_in_homes kept.places.items _ kept.homes.items _ _ items refl some c.self.invariant.linked c.self.invariant.fits)
     ]
