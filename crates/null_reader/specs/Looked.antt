@@ -146,7 +146,8 @@ pub record Between (m : Sat) (q₀ : Reader) (passes : ℕ) (last : PassEnd) (n 
   pub count : length q.stops ≡ passes
   pub last-is : 0 < passes → (front : List Stop) × (q.stops ≡ front ++ stop_of last ∷ [])
 
--- a view after a lookup: nothing else changed than what is held, how often a count was taken, the receipts, and what is seen
+-- a view after a lookup: nothing else changed than what is held, how often a count was taken, the receipts, and what
+-- is seen
 abbrev pub looked_view : View → ℕ → List Kept → List ℕ → (taken : ℕ) → Receipt → View
 looked_view v t₀ ks hs taken c = record v { slot = record v.slot { holds = hs; taken = taken }; read = record v.read { kept = ks; reader = []; receipts = v.read.receipts ++ c ∷ [] }; seen = c.to; sights = settled v.sights t₀ }
 
@@ -174,7 +175,8 @@ SoleAs bucket key least v (ends.Found h card) = CardStands v (words_of card) × 
 SoleAs bucket key least v ends.None = NoneStands v bucket key least 0
 SoleAs bucket key least v (ends.Again b stop) = ⊥
 
--- whatever others do: of what the pass hashed into the bucket before the lookup, each card that is better than the answer, and no TIME_WAIT's, it has begun to unhash
+-- whatever others do: of what the pass hashed into the bucket before the lookup, each card that is better than the
+-- answer, and no TIME_WAIT's, it has begun to unhash
 abbrev pub KnownAs : (bucket : ℕ) (key : Packet) (least : ℕ) → View → WordsEnd → (t₀ : ℕ) → Type 0
 KnownAs bucket key least v (ends.Found h card) t₀ = NoneKnown v bucket key least (rank_of key (words_of card)) t₀
 KnownAs bucket key least v ends.None t₀ = NoneKnown v bucket key least 0 t₀
@@ -193,7 +195,8 @@ IsStopInside layout (Dead i) = Unit {0}
 IsStopInside layout (Changed i) = Unit {0}
 IsStopInside layout (Long n) = n ≡ layout.shape.slots + 1
 
--- the slot of what was found is one of the table, so that its count can be put; and so is the bucket at whose end the last pass stopped
+-- the slot of what was found is one of the table, so that its count can be put; and so is the bucket at whose end the
+-- last pass stopped
 abbrev pub IsInside : Layout → WordsEnd → Type 0
 IsInside layout (ends.Found h card) = h.slot < layout.shape.slots
 IsInside layout ends.None = Unit {0}

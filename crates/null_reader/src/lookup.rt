@@ -16,12 +16,14 @@ use table_rule::{Chains, First, Second, Steps};
 const LIVE: u64 = 3 << 62;
 
 // How well the card that begins with these words fits a packet.
+#[inline(always)]
 fn rank(key: Packet, ends: u64, ports: u64) -> u8
     ensures { result ≡ rank key ends ports }
 {
     word_rank(&key, ends, ports)
 }
 
+#[inline(always)]
 fn rank_so_far(best: Option<Best>) -> u8
     ensures { result ≡ so_far best }
 {
@@ -32,6 +34,7 @@ fn rank_so_far(best: Option<Best>) -> u8
 }
 
 // Loads the two card words that give a rank, without a count.
+#[inline(always)]
 fn key_rank<P: Pace>(chains: &Chains, steps: &mut Steps, slot: u32, key: Packet, pace: &mut P) -> u8
     requires table { IsOf chains.now steps.old }
     requires slot { slot < (layout_of chains.now).shape.slots }
@@ -47,6 +50,7 @@ fn key_rank<P: Pace>(chains: &Chains, steps: &mut Steps, slot: u32, key: Packet,
 }
 
 // Loads the card under the count that was taken last. None where its rank is another.
+#[inline(always)]
 fn check<P: Pace>(
     chains: &Chains,
     steps: &mut Steps,
@@ -82,6 +86,7 @@ fn check<P: Pace>(
 }
 
 // Visits the slot at the link: it is passed over, or is better than the best, or the pass ends.
+#[inline(always)]
 fn visit<P: Pace>(
     chains: &Chains,
     steps: &mut Steps,
@@ -125,6 +130,7 @@ fn visit<P: Pace>(
 }
 
 // Puts what a pass holds.
+#[inline(always)]
 fn drop_best<P: Pace>(chains: &Chains, steps: &mut Steps, best: Option<Best>, pace: &mut P)
     requires table { IsOf chains.now steps.old }
     requires held { IfSome best (λ t. (t.slot < (layout_of chains.now).shape.slots) × IsNth 0 t.slot (view steps.old)) }
@@ -139,6 +145,7 @@ fn drop_best<P: Pace>(chains: &Chains, steps: &mut Steps, best: Option<Best>, pa
 }
 
 // Puts what a pass held before it took another.
+#[inline(always)]
 fn change_best<P: Pace>(chains: &Chains, steps: &mut Steps, best: Option<Best>, pace: &mut P)
     requires table { IsOf chains.now steps.old }
     requires held { IfSome best (λ t. (t.slot < (layout_of chains.now).shape.slots) × IsNth 1 t.slot (view steps.old)) }
@@ -153,6 +160,7 @@ fn change_best<P: Pace>(chains: &Chains, steps: &mut Steps, best: Option<Best>, 
 }
 
 // Goes past the slot at the link.
+#[inline(always)]
 fn pass_by<P: Pace>(
     chains: &Chains,
     steps: &mut Steps,
@@ -195,6 +203,7 @@ fn pass_by<P: Pace>(
 }
 
 // One pass of a lookup: its best, or none, or how it stopped.
+#[inline(always)]
 fn one_pass<P: Pace>(
     chains: &Chains,
     steps: &mut Steps,
@@ -240,6 +249,7 @@ fn one_pass<P: Pace>(
 }
 
 // Looks up the best card of a bucket for a packet, in at most so many passes; of a card it answers the words.
+#[inline(always)]
 pub(crate) fn look_words<P: Pace>(
     chains: &Chains,
     steps: &mut Steps,

@@ -9,6 +9,7 @@ use super::lookup::look_words;
 use sock_card::Packet;
 use table_rule::{Chains, Steps, known_card};
 
+#[inline(always)]
 fn as_card(end: WordsEnd) -> LookEnd
     requires card { IsCardEnd end }
     ensures { words_end result ≡ end }
@@ -28,6 +29,9 @@ fn as_card(end: WordsEnd) -> LookEnd
 ///
 /// The algorithm is that of `__inet_lookup_established` of net/ipv4/inet_hashtables.c over hlist_nulls, which
 /// Documentation/RCU/rculist_nulls.rst explains.
+// Inlined, so that the least rank and the number of passes of a call are known within: from rank 5 on, a visit compares
+// one four-tuple.
+#[inline(always)]
 pub fn look<P: Pace>(
     chains: &Chains,
     steps: &mut Steps,
