@@ -3,8 +3,10 @@ use Rattle.std.proofs.Common.{◌≡◌, ℕ, ◌-◌, ◌<◌, ◌≤◌, List,
 use Rattle.std.proofs.lemmas.List.{take-append-drop}
 use Rattle.std.proofs.lemmas.Grind.{common_steps}
 use Rattle.sock_script.specs.declared.parse.Mode.{Mode}
-use Rattle.sock_script.specs.Grammar.{Reads, IsInside, IsFirstOutside, nothing_yet}
+use Rattle.sock_script.specs.Grammar.{IsInside, IsFirstOutside}
+use Rattle.sock_script.specs.Reading.{Reads, nothing_yet}
 use Rattle.sock_script.proofs.Scripts.{Reads-split}
+use Rattle.sock_script.proofs.Inside.{read_inside, inside_by}
 
 -- the front of a longer front
 take_of_take : (texts : List (List ℕ)) (m n : ℕ) → m ≤ n → take m (take n texts) ≡ take m texts
@@ -14,8 +16,9 @@ module _ (mode : Mode) where
   -- a front of lines inside is inside
   pub IsInside-take : (texts : List (List ℕ)) (n : ℕ) → IsInside mode texts → IsInside mode (take n texts)
   IsInside-take texts n h =
-      let parts = Reads-split mode nothing_yet h.0 (take n texts) (drop n texts) (subst (λ t. Reads mode nothing_yet t h.0) (sym (take-append-drop n texts)) h.1) in
-      (parts.0, parts.1)
+      let whole = read_inside mode texts h in
+      let parts = Reads-split mode nothing_yet whole.0 (take n texts) (drop n texts) (subst (λ t. Reads mode nothing_yet t whole.0) (sym (take-append-drop n texts)) whole.1) in
+      inside_by mode (take n texts) parts.0 parts.1
 
   pub none_outside : (texts : List (List ℕ)) (n : ℕ) → IsFirstOutside mode texts n → IsInside mode texts → ⊥
   none_outside texts n h inside = h.outside (IsInside-take texts n inside)

@@ -1,72 +1,52 @@
--- The set of labels beside the commands that give them.
-use Rattle.std.proofs.Common.{◌≡◌, ℕ, List, [], ◌∷◌, ◌++◌, append-nil, Option, Some, None, Bool, true, false, ◌||◌, bytes_eq, refl, sym, ap, ap₂, ◌∙◌}
-use Rattle.std.specs.List.{list_any, cons_option}
-use Rattle.std.specs.Ordering.{is_eq, match_ordering}
-use Rattle.std.specs.declared.cmp.Ordering.{Ordering}
-use Rattle.std.specs.declared.cmp.Ordering.TheVariants as orderings
-use Rattle.std.specs.BTreeSet.{BTreeSet, insert_key, contains_by}
+-- The labels that commands give, and whether one is among them.
+use Rattle.std.proofs.Common.{◌≡◌, ℕ, suc, ◌+◌, List, [], ◌∷◌, ◌++◌, length, Option, Some, None, Bool, true, false, cond, not, ◌||◌, bytes_eq, refl, sym, ap, ◌∙◌, arith, ltb}
+use Rattle.std.specs.Prelude.{is_some}
+use Rattle.std.specs.List.{list_any, cons_option, position_or_len}
+use Rattle.std.specs.Option.{option_to_list}
+use Rattle.std.proofs.lemmas.Bool.Decides.{nat_tests}
 use Rattle.std.proofs.lemmas.List.Elements.{filter_map-append}
-use Rattle.std.proofs.lemmas.List.Folds.{list_any-append}
+use Rattle.std.proofs.lemmas.Slice.Eq.{bytes_eq-Decides}
 use Rattle.flat_list.specs.declared.command.Command.{Command}
-use Rattle.flat_list.specs.declared.command.LabelKey.{LabelKey}
-use Rattle.flat_list.specs.Labels.{key_of, key_cmp, text_of}
-use Rattle.flat_list.proofs.LabelKeys.{compared, same_key, label_told}
+use Rattle.label_index.specs.Places.{place_in}
 use Rattle.sock_script.specs.Grammar.{given_label, given_labels}
-use Rattle.sock_script.specs.Steps.{IsSetOf, NotesLabel}
 
--- a key is that label's
-abbrev has_label : List ℕ → LabelKey → Bool
-has_label label k = is_eq (key_cmp (key_of label) k)
+one_given : (o : Option (List ℕ)) → cons_option o [] ≡ option_to_list o
+one_given None = refl
+one_given (Some label) = refl
 
-or_other : (a b : Bool) → (a || b) ≡ (b || a)
-or_other true true = refl
-or_other true false = refl
-or_other false true = refl
-or_other false false = refl
+-- the labels of one command more
+pub given_more : (commands : List Command) (command : Command) → given_labels (commands ++ command ∷ []) ≡ given_labels commands ++ option_to_list (given_label command)
+given_more commands command =
+    filter_map-append given_label commands (command ∷ []) ∙ ap (λ labels. given_labels commands ++ labels) (one_given (given_label command))
 
-later : (a b c : Bool) → (b || (a || c)) ≡ ((b || c) || a)
-later true true c = refl
-later false true c = refl
-later true false c = sym (or_other c true)
-later false false c = sym (or_other c false)
+swapped_by : (a b : List ℕ) (p q : Bool) → bytes_eq a b ≡ p → bytes_eq b a ≡ q → p ≡ q
+swapped_by a b true true e f = refl
+swapped_by a b false false e f = refl
+swapped_by a b true false e f =
+    let is : bytes_eq b a ≡ true = (bytes_eq-Decides b a).1 (sym ((bytes_eq-Decides a b).0 e)) in
+    absurd (cc)
+swapped_by a b false true e f =
+    let is : bytes_eq a b ≡ true = (bytes_eq-Decides a b).1 (sym ((bytes_eq-Decides b a).0 f)) in
+    absurd (cc)
 
-again : (b c : Bool) → (b || c) ≡ ((b || c) || b)
-again true c = refl
-again false c = sym (or_other c false)
+one_more : (n m : ℕ) → ltb (1 + n) (suc m) ≡ ltb n m
+one_more n m = grind (arith, nat_tests)
 
--- one key more, by where it stands against the first
-module _ (label : List ℕ) (k : LabelKey) where
-  placed : (x : LabelKey) (xs more : List LabelKey) (o : Ordering) → key_cmp k x ≡ o
-      → list_any (has_label label) more ≡ (list_any (has_label label) xs || has_label label k)
-      → list_any (has_label label) (match_ordering o (k ∷ x ∷ xs) (x ∷ xs) (x ∷ more)) ≡ (list_any (has_label label) (x ∷ xs) || has_label label k)
-  placed x xs more orderings.Less e h = or_other (has_label label k) (list_any (has_label label) (x ∷ xs))
-  placed x xs more orderings.Equal e h =
-      again (has_label label x) (list_any (has_label label) xs) ∙ ap (λ y. list_any (has_label label) (x ∷ xs) || has_label label y) (sym (same_key k x e))
-  placed x xs more orderings.Greater e h =
-      ap (λ b. has_label label x || b) (h ∙ or_other (list_any (has_label label) xs) (has_label label k)) ∙ later (has_label label k) (has_label label x) (list_any (has_label label) xs)
+behind : (b c : Bool) (n m : ℕ) → ltb n m ≡ c → ltb (cond (not b) (1 + n) 0) (suc m) ≡ (b || c)
+behind true c n m h = grind (arith, nat_tests)
+behind false c n m h = one_more n m ∙ h
 
-  more_keys : (keys : List LabelKey) → list_any (has_label label) (insert_key key_cmp keys k) ≡ (list_any (has_label label) keys || has_label label k)
-  more_keys [] = or_other (has_label label k) false
-  more_keys (x ∷ xs) = placed x xs (insert_key key_cmp xs k) (key_cmp k x) refl (more_keys xs)
+within : (labels : List (List ℕ)) (label : List ℕ) → ltb (position_or_len (λ l. bytes_eq l label) labels) (length labels) ≡ list_any (bytes_eq label) labels
+within [] label = refl
+within (x ∷ labels) label =
+    behind (bytes_eq x label) (list_any (bytes_eq label) labels) (position_or_len (λ l. bytes_eq l label) labels) (length labels) (within labels label)
+    ∙ ap (λ b. b || list_any (bytes_eq label) labels) (swapped_by x label (bytes_eq x label) (bytes_eq label x) refl refl)
 
-last_label : (text : List ℕ) (o : Option (List ℕ)) (label : List ℕ) → o ≡ Some label → list_any (bytes_eq text) (cons_option o []) ≡ bytes_eq text label
-last_label text o label e = rw e (or_other (bytes_eq text label) false)
+some_by : (b : Bool) (n : ℕ) → is_some (cond b (Some n) None) ≡ b
+some_by true n = refl
+some_by false n = refl
 
--- the set with the key of a label that a command gives
-pub noted : (old new : BTreeSet LabelKey) (command : Command) (label : List ℕ) (k : LabelKey) → given_label command ≡ Some label → k ≡ key_of label → text_of k ≡ label
-    → new.keys ≡ insert_key key_cmp old.keys k → NotesLabel old command new
-noted old new command label k gives is tells more commands h text told =
-    ap (list_any (has_label text)) more ∙ more_keys text k old.keys
-    ∙ ap₂ ◌||◌ (h text told) (ap (has_label text) is ∙ compared text label told (label_told label k is tells) ∙ sym (last_label text (given_label command) label gives))
-    ∙ sym (ap (list_any (bytes_eq text)) (filter_map-append given_label commands (command ∷ [])) ∙ list_any-append (bytes_eq text) (given_labels commands) (given_labels (command ∷ [])))
-
--- a command that gives none
-pub none_noted : (old : BTreeSet LabelKey) (command : Command) → given_label command ≡ None → NotesLabel old command old
-none_noted old command none commands h text told =
-    h text told ∙ ap (list_any (bytes_eq text)) (sym (filter_map-append given_label commands (command ∷ []) ∙ ap (λ o. given_labels commands ++ cons_option o []) none ∙ append-nil (given_labels commands)))
-
--- whether a label is among those of a set
-pub found_in : (set : BTreeSet LabelKey) (labels : List (List ℕ)) (label : List ℕ) (k : LabelKey) → IsSetOf set labels → k ≡ key_of label → text_of k ≡ label
-    → contains_by (key_cmp k) set ≡ list_any (bytes_eq label) labels
-found_in set labels label k h is tells =
-    ap (λ x. contains_by (key_cmp x) set) is ∙ h label (label_told label k is tells)
+-- a label that has a place is among them
+pub is_among : (labels : List (List ℕ)) (label : List ℕ) → is_some (place_in labels label) ≡ list_any (bytes_eq label) labels
+is_among labels label =
+    some_by (ltb (position_or_len (λ l. bytes_eq l label) labels) (length labels)) (position_or_len (λ l. bytes_eq l label) labels) ∙ within labels label

@@ -6,7 +6,7 @@ use Rattle.std.specs.declared.vec.Vec.{Vec}
 use Rattle.std.specs.declared.alloc.Global.{Global}
 use Rattle.flat_list.specs.declared.command.Command.{Command}
 use Rattle.sock_script.specs.declared.parse.Mode.{Mode}
-use Rattle.sock_script.specs.Grammar.{MayCome, with_command, may_stand}
+use Rattle.sock_script.specs.Reading.{MayCome, with_command, may_stand}
 
 -- the sections that a draft stands for
 abbrev pub made : List (Vec Command Global) → Option (List Command) → List (List Command)

@@ -1,9 +1,10 @@
 pub mod Words
 pub mod ReservedPorts
-pub mod Powers
 pub mod Verbs
 pub mod Determined
 pub mod FirstWord
+pub mod TakenLines
+pub mod SixteenBits
 pub mod Fronts
 pub mod Issued
 pub mod Events
@@ -25,3 +26,7 @@ pub mod StepWords
 pub mod StepTurns
 pub mod MadeTexts
 pub mod CountTurns
+pub mod Heads
+pub mod Printed
+pub mod Reprinted
+pub mod Inside

@@ -5,7 +5,7 @@ use Rattle.sock_script.specs.declared.parse.Mode.{Mode}
 use Rattle.sock_script.specs.declared.line.Line.{Line}
 use Rattle.sock_script.specs.Words.{words_of}
 use Rattle.sock_script.specs.Forms.{HasForm}
-use Rattle.sock_script.specs.Grammar.{Draft, Follows, ReadsLine, past}
+use Rattle.sock_script.specs.Reading.{Draft, Follows, ReadsLine, past}
 
 -- the line that a text is, and what it makes of a draft that has no capture
 pub record IsRead (mode : Mode) (old : Draft) (text : List ℕ) (new : Draft) : Type 0 where

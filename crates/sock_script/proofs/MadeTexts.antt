@@ -15,13 +15,15 @@ use Rattle.flat_list.specs.declared.command.Command.TheVariants as commands
 use Rattle.sock_script.specs.declared.parse.Mode.TheVariants as modes
 use Rattle.sock_script.specs.declared.line.Line.{Line}
 use Rattle.sock_script.specs.declared.line.Line.TheVariants as lines
-use Rattle.sock_script.specs.Words.{words_of}
+use Rattle.sock_script.specs.Words.{lines_of, words_of}
 use Rattle.inet_io.specs.Texts.{addr_text, end_text}
 use Rattle.chain_book.specs.Shapes.{ShapeFits}
 use Rattle.sock_script.specs.Forms.{HasForm, CommandFits, command_words, shape_words}
 use Rattle.inet_io.specs.Labels.{is_label}
-use Rattle.sock_script.specs.Grammar.{Draft, Follows, ReadsLine, Reads, IsScript, given_label, given_labels, is_new, nothing_yet, past, script_of}
+use Rattle.sock_script.specs.Grammar.{IsScript, given_label, given_labels}
+use Rattle.sock_script.specs.Reading.{Draft, Follows, ReadsLine, Reads, is_new, nothing_yet, past, script_of}
 use Rattle.sock_script.proofs.LineCases.{reads}
+use Rattle.sock_script.proofs.Printed.{are_lines}
 use Rattle.sock_script.proofs.Scripts.{Reads-append}
 use Rattle.sock_script.specs.Make.{TextsAreScripts, made_text, step_label, chosen_step, last_number, step_port, remote_port, step_words, step_generator, step_lines, lines_from, first_lines, line_bytes}
 use Rattle.flat_list.specs.Script.{Script}
@@ -311,7 +313,8 @@ empty_line old none = reads modes.Run old [] (past old []) none lines.PassedOver
 script_of_read : (draft : Draft) (texts : List (List (List ℕ))) → draft.capture ≡ None → IsRead nothing_yet texts draft → IsScript modes.Run (flat_map line_bytes texts) (script_of draft)
 script_of_read draft texts none h =
     let all = h.read 0 in
-    let last : Draft = past (at_bytes draft all.0) [] in (
+    let last : Draft = past (at_bytes draft all.0) [] in
+    are_lines modes.Run (lines_of (flat_map line_bytes texts)) (script_of draft) (
       last,
       subst (λ ls. Reads modes.Run nothing_yet ls last) (sym (lines_of_bytes texts h.clear))
           (Reads-append modes.Run nothing_yet (at_bytes draft all.0) last (map spaced texts) ([] ∷ []) all.1 (last, empty_line (at_bytes draft all.0) none, refl)),

@@ -1,12 +1,15 @@
 -- What the code learns of a line's words, as the grammar says it.
-use Rattle.std.proofs.Common.{◌≡◌, ℕ, List, subst, Bool, true, false, None, Result, Ok, Err, IfOk}
+use Rattle.std.proofs.Common.{◌≡◌, ℕ, ◌<◌, ◌∙◌, inl, inr, List, [], ◌∷◌, length, arith, sym, subst, Bool, true, false, None, Result, Ok, Err, IfOk}
 use Rattle.sock_script.specs.declared.parse.Mode.{Mode}
 use Rattle.flat_list.specs.declared.command.Command.{Command}
 use Rattle.sock_script.specs.declared.line.Line.{Line}
 use Rattle.sock_script.specs.declared.line.Line.TheVariants as lines
 use Rattle.sock_script.specs.Words.{words_of}
-use Rattle.sock_script.specs.Forms.{HasForm}
-use Rattle.sock_script.specs.Grammar.{Draft, Follows, ReadsLine, past}
+use Rattle.sock_script.specs.Forms.{HasForm, IsPassedOver}
+use Rattle.sock_script.specs.Pieces.{HasWords}
+use Rattle.sock_script.specs.Seen.{texts}
+use Rattle.std.specs.Borrow.{Bor}
+use Rattle.sock_script.specs.Reading.{Draft, Follows, ReadsLine, past}
 use Rattle.sock_script.specs.Steps.{Adds, IsCommand, LineAnswer}
 use Rattle.sock_script.proofs.Determined.{one_form}
 use Rattle.sock_script.proofs.LineCases.{reads, is_read}
@@ -35,3 +38,14 @@ formless words no_command no_other line form = no_other line form
 pub no_line : (mode : Mode) (old : Draft) (text : List ℕ) → old.capture ≡ None → ((command : Command) → HasForm (words_of text) (lines.Command command) → ⊥) → ((line : Line) → HasForm (words_of text) line → IsCommand line) → (next : Draft) → ReadsLine mode old text next → ⊥
 no_line mode old text none no_command no_other next k =
     let r = is_read mode old text next none k in formless (words_of text) no_command no_other r.0 r.1
+
+-- a line whose words are none is passed over
+pub none_seen : (line : List ℕ) (words : List (List ℕ)) → HasWords line words → words ≡ [] → IsPassedOver (words_of line)
+none_seen line words (inl same) none = subst IsPassedOver (sym none ∙ same) tt
+none_seen line words (inr passed) none = passed.1
+
+-- and words that are some are the line's
+pub some_seen : (line : List ℕ) (words : List (Bor (List ℕ))) → HasWords line (texts words) → 0 < length words → texts words ≡ words_of line
+some_seen line [] seen some = absurd (omega arith)
+some_seen line (word ∷ words) (inl same) some = same
+some_seen line (word ∷ words) (inr passed) some = let none : word.now ∷ texts words ≡ [] = passed.0 in absurd (cc)

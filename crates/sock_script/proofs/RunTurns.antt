@@ -17,8 +17,8 @@ use Rattle.sock_script.specs.Output.{Replies, issued_from, events_from, replies_
 use Rattle.sock_script.specs.Steps.{issue, RunsCommand, RunsSection}
 use Rattle.sock_script.proofs.Events.{last_replied, last_listed}
 
--- what was replied, with what will be to the rest of the commands and to later ones, is what is replied to all of them, and
--- so is what was listed
+-- what was replied, with what will be to the rest of the commands and to later ones, is what is replied to all of
+-- them, and so is what was listed
 pub record RanSoFar (n : ℕ) (first flat : Flat) (rest all : List Command) (items left : List Item) (before out : Replies) (i : ℕ) : Type 0 where
   pub replied : (later : List Issued)
       → out.each ++ replies_from flat (events_from left (issue n rest ++ later)) ≡ before.each ++ replies_from first (events_from items (issue n all ++ later))
@@ -51,8 +51,8 @@ module _ (n : ℕ) (first flat next : Flat) (items left left_after : List Item) 
 pub ran_all : (n : ℕ) (first flat : Flat) (all : List Command) (items left : List Item) (before out : Replies) (i : ℕ) → RanSoFar n first flat [] all items left before out i → RunsSection first flat n all items left before out
 ran_all n first flat all items left before out i h = record { replied = h.replied; listed = h.listed; flat = h.last; others = h.others }
 
--- what was replied, with what will be to the rest of the sections, is what is replied to all of them, and so is what was
--- listed
+-- what was replied, with what will be to the rest of the sections, is what is replied to all of them, and so is what
+-- was listed
 pub record RanSections (first flat : Flat) (all : List (List Command)) (items left : List Item) (out : Replies) (i : ℕ) : Type 0 where
   pub replied : out.each ++ replies_from flat (events_from left (issued_from (i + 1) (drop i all))) ≡ replies_from first (events_from items (issued_from 1 all))
   pub listed : out.listings ++ listings_from flat (events_from left (issued_from (i + 1) (drop i all))) ≡ listings_from first (events_from items (issued_from 1 all))

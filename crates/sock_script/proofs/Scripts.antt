@@ -1,11 +1,11 @@
 -- Lines are read one way.
-use Rattle.std.proofs.Common.{◌≡◌, ℕ, ◌∙◌, List, [], ◌∷◌, ◌++◌, Option, Some, None, inl, inr, ap, sym, refl, subst}
+use Rattle.std.proofs.Common.{◌≡◌, ℕ, ◌∙◌, List, [], ◌∷◌, ◌++◌, Option, Some, None, inl, inr, sym, refl, subst}
 use Rattle.flat_list.specs.declared.script.CapturePlace.{CapturePlace}
 use Rattle.sock_script.specs.declared.parse.Mode.{Mode}
 use Rattle.sock_script.specs.declared.line.Line.{Line}
 use Rattle.sock_script.specs.declared.line.Line.TheVariants as lines
-use Rattle.sock_script.specs.Words.{words_of, lines_of}
-use Rattle.sock_script.specs.Grammar.{Draft, Follows, ReadsLine, Reads, past, nothing_yet, script_of, IsOneScript}
+use Rattle.sock_script.specs.Words.{words_of}
+use Rattle.sock_script.specs.Reading.{Draft, Follows, ReadsLine, Reads, past}
 use Rattle.sock_script.proofs.LineCases.{IsRead, line_cases, keeps}
 use Rattle.sock_script.proofs.Determined.{one_form}
 
@@ -79,8 +79,3 @@ module _ (mode : Mode) where
   pub Reads-append : (old mid new : Draft) (texts more : List (List ℕ)) → Reads mode old texts mid → Reads mode mid more new → Reads mode old (texts ++ more) new
   Reads-append old mid new [] more h k = subst (λ d. Reads mode d more new) h k
   Reads-append old mid new (t ∷ texts) more h k = (h.0, h.1, Reads-append h.0 mid new texts more h.2 k)
-
--- a text is one script at most
-pub one_script : IsOneScript
-one_script mode text a b h k =
-    h.2 ∙ ap script_of (one_reading mode nothing_yet (lines_of text) h.0 k.0 h.1 k.1) ∙ sym k.2

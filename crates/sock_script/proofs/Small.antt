@@ -12,13 +12,19 @@ use Rattle.sock_script.specs.declared.line.Line.{Line}
 use Rattle.sock_script.specs.declared.line.Line.TheVariants as lines
 use Rattle.sock_script.specs.Words.{lines_of, words_of, is_line_feed}
 use Rattle.sock_script.specs.Forms.{HasForm, command_words}
-use Rattle.sock_script.specs.Grammar.{Draft, Follows, ReadsLine, Reads, past, with_command, nothing_yet, script_of}
+use Rattle.sock_script.specs.Reading.{Draft, Follows, ReadsLine, Reads, past, with_command, nothing_yet, script_of}
 use Rattle.sock_script.proofs.LineCases.{line_cases}
 
 -- the bytes of some lines, each with its line feed
 pub weight : List (List ℕ) → ℕ
 weight [] = 0
 weight (text ∷ texts) = length text + 1 + weight texts
+
+-- each line weighs something
+pub count_weighs : (texts : List (List ℕ)) → length texts ≤ weight texts
+unfolding weight
+count_weighs [] = omega arith
+count_weighs (text ∷ texts) = omega (arith, count_weighs texts)
 
 -- the weight of lines in two parts
 pub weight_append : (xs ys : List (List ℕ)) → weight (xs ++ ys) ≡ weight xs + weight ys

@@ -1,13 +1,17 @@
 -- A turn of the loop over the lines.
-use Rattle.std.proofs.Common.{◌≡◌, ℕ, ◌+◌, ◌-◌, ◌<◌, ◌≤◌, ◌∙◌, inl, inr, List, [], ◌∷◌, ◌++◌, length, take, drop, get_or, Option, Some, None, is_some, refl, sym, ap, subst, arith, Bool, true, false}
-use Rattle.std.proofs.lemmas.List.{take_more, take-append-drop}
+use Rattle.std.proofs.Common.{◌≡◌, ℕ, zero, suc, ◌+◌, ◌-◌, ◌<◌, ◌≤◌, ◌∙◌, inl, inr, List, [], ◌∷◌, ◌++◌, length, take, drop, get_or, Option, Some, None, is_some, refl, sym, ap, subst, arith, Bool, true, false}
+use Rattle.std.proofs.lemmas.List.{take_more, take-append-drop, length-drop}
+use Rattle.std.proofs.lemmas.List.Splits.{length-slice_split}
+use Rattle.sock_script.specs.Words.{is_line_feed, lines_of}
 use Rattle.sock_script.specs.declared.parse.Mode.{Mode}
-use Rattle.sock_script.specs.Grammar.{Draft, Follows, ReadsLine, Reads, past, IsFirstOutside, nothing_yet}
+use Rattle.sock_script.specs.Grammar.{IsFirstOutside}
+use Rattle.sock_script.specs.Reading.{Draft, Follows, ReadsLine, Reads, past, nothing_yet}
 use Rattle.sock_script.specs.Steps.{LineAnswer}
 use Rattle.sock_script.specs.declared.line.Line.{Line}
 use Rattle.sock_script.specs.declared.line.Line.TheVariants as lines
 use Rattle.sock_script.proofs.LineCases.{line_cases}
 use Rattle.sock_script.proofs.Small.{weight, weight_append, weight_one}
+use Rattle.sock_script.proofs.Inside.{read_inside, inside_by}
 use Rattle.sock_script.proofs.Scripts.{Reads-push, Reads-append, Reads-kept, no_reading}
 
 -- what is there
@@ -29,8 +33,10 @@ module _ (mode : Mode) (old new : Draft) (texts : List (List ℕ)) (n : ℕ) (te
       let same : n + 1 - 1 ≡ n = omega arith in
       record {
         within = (omega arith, omega arith);
-        before = (old, rw same before);
-        outside = λ k. no_reading mode nothing_yet old k.0 (take n texts) text before none (subst (λ t. Reads mode nothing_yet t k.0) one_more k.1);
+        before = inside_by mode (take (n + 1 - 1) texts) old (rw same before);
+        outside = λ k.
+            let r = read_inside mode (take (n + 1) texts) k in
+            no_reading mode nothing_yet old r.0 (take n texts) text before none (subst (λ t. Reads mode nothing_yet t r.0) one_more r.1);
       }
 
 -- how many bytes of a draft's lines have been read
@@ -77,3 +83,27 @@ read_to_capture mode draft texts n before begun =
     let place = some_of draft.capture begun in
     subst (λ t. Reads mode nothing_yet t draft) (take-append-drop n texts)
     (Reads-append mode nothing_yet draft draft (take n texts) (drop n texts) before (Reads-kept mode draft (drop n texts) place.0 place.1))
+
+-- a line is next
+pub next_line : (texts : List (List ℕ)) (n : ℕ) (text : List ℕ) (more : List (List ℕ)) → drop n texts ≡ text ∷ more
+    → (n < length texts) × (text ≡ get_or texts n text) × (drop (n + 1) texts ≡ more)
+next_line [] zero text more e = absurd (cc)
+next_line [] (suc n) text more e = absurd (cc)
+next_line (t ∷ ts) zero text more e =
+    let first : text ≡ t = cc in
+    let others : ts ≡ more = cc in
+    (omega arith, first, others)
+next_line (t ∷ ts) (suc n) text more e =
+    let r = next_line ts n text more e in
+    let step : suc n + 1 ≡ suc (n + 1) = omega arith in
+    (omega (arith, r.0), r.1, ap (λ k. drop k (t ∷ ts)) step ∙ r.2)
+
+-- some line is next where the lines of a text are left
+pub line_left : (texts : List (List ℕ)) (n : ℕ) (text : List ℕ) → drop n texts ≡ lines_of text → n < length texts
+unfolding lines_of
+line_left texts n text e =
+    omega (arith, length-drop n texts, ap (λ (l : List (List ℕ)). length l) e, length-slice_split is_line_feed text)
+
+-- none is next where none is left
+pub none_left : (texts : List (List ℕ)) (n : ℕ) → drop n texts ≡ [] → length texts ≤ n
+none_left texts n e = omega (arith, length-drop n texts, ap (λ (l : List (List ℕ)). length l) e)

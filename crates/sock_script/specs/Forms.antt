@@ -1,6 +1,6 @@
--- The forms of a script's lines: a grammar of our own.
--- A line is passed over, or its words are the spelling of a value that is in range. Numbers are spelled in decimal digits without
--- a leading zero, which is `decimal`, and addresses and ends as `addr_text` and `end_text` say.
+-- The forms of a script's lines: a grammar of our own. A line is passed over, or its words are the spelling of a
+-- value that is in range. Numbers are spelled in decimal digits without a leading zero, which is `decimal`, and
+-- addresses and ends as `addr_text` and `end_text` say.
 use Rattle.std.specs.Prelude.{◌≡◌, ℕ, ◌-◌, ◌^◌, ◌%◌, ◌<◌, ◌≤◌, Bool, true, false, IsTrue, List, [], ◌∷◌, ◌++◌, length, take, drop, map, replicate, codes, decimal, Option, Some, None}
 use Rattle.std.specs.List.Sorted.{IsStrictlyIncreasing}
 use Rattle.list_words.specs.Lists.{Each}

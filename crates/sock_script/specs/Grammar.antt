@@ -1,9 +1,11 @@
--- Which texts are scripts, and what script a text is: a grammar of our own. No parsing stands here: a line has the form of
--- the words that spell it, and the rules over earlier lines are a relation on what those have made.
-use Rattle.std.specs.Prelude.{◌≡◌, ℕ, ◌+◌, ◌-◌, ◌≤◌, List, [], ◌∷◌, ◌++◌, length, take, drop, Option, Some, None, MatchOption, Bool, true, false, ◌&&◌, not, bytes_eq, IsTrue, unwrap_or}
-use Rattle.std.specs.List.{list_any, filter_map}
-use Rattle.flat_list.specs.declared.header.Header.{Header}
+-- Which texts are scripts, and what script a text is: a grammar of our own. No parsing stands here, and no state of
+-- reading: a line has the form of the words that spell it, and the lines of a script are those of its head, then
+-- those of its sections, and last that of its capture, if it has one.
+use Rattle.std.specs.Prelude.{◌≡◌, ◌≢◌, ℕ, ◌+◌, ◌-◌, ◌≤◌, List, [], ◌∷◌, ◌++◌, length, map, filter, take, drop, Option, Some, None, Bool, true, false, unwrap_or}
+use Rattle.std.specs.List.{filter_map}
+use Rattle.list_words.specs.Lists.{Each, Pairs, SameItems, total}
 use Rattle.chain_book.specs.declared.shape.Shape.{Shape}
+use Rattle.flat_list.specs.declared.header.Header.{Header}
 use Rattle.flat_list.specs.declared.header.Range.{Range}
 use Rattle.flat_list.specs.declared.header.Reserved.{Reserved}
 use Rattle.flat_list.specs.Ports.{none_reserved}
@@ -18,6 +20,54 @@ use Rattle.sock_script.specs.declared.line.Line.TheVariants as lines
 use Rattle.sock_script.specs.Words.{lines_of, words_of}
 use Rattle.sock_script.specs.Forms.{HasForm}
 
+-- how large the tables are where no line says it
+abbrev pub default_shape : Shape
+default_shape = record { slots = 1024; bind = 16; hash = 256; listen = 32 }
+
+-- which ports are searched where no line says it
+abbrev pub default_range : Range
+default_range = record { low = 32768; high = 60999; reserved = none_reserved }
+
+-- the lines of these texts have these forms, one after the other
+abbrev pub HaveForms : List (List ℕ) → List Line → Type 0
+HaveForms [] [] = Unit {0}
+HaveForms (text ∷ texts) (line ∷ rest) = HasForm (words_of text) line × HaveForms texts rest
+HaveForms _ _ = ⊥
+
+-- a line that isn't passed over
+abbrev pub is_said : Line → Bool
+is_said lines.PassedOver = false
+is_said _ = true
+
+-- the line of that kind that says the value, if there is one
+abbrev pub said : {A : Type 0} → (A → Line) → Option A → List Line
+said kind None = []
+said kind (Some value) = kind value ∷ []
+
+-- What the lines of the head say: they are of these kinds, each kind once or not at all, in whatever order; and the
+-- header has what they say, and the defaults for what none says.
+pub record HasHead (head : List Line) (header : Header) : Type 0 where
+  pub table : Option Shape
+  pub range : Option Range
+  pub reserved : Option Reserved
+  pub seed : Option ℕ
+  pub offset : Option ℕ
+  pub twreuse : Option Bool
+  pub lines_are : SameItems head (said lines.Table table ++ said lines.Range range ++ said lines.Reserved reserved
+      ++ said lines.Seed seed ++ said lines.Offset offset ++ said lines.TimeWaitReuse twreuse)
+  pub header_is : header ≡ record {
+    shape = unwrap_or table default_shape;
+    range = record (unwrap_or range default_range) { reserved = unwrap_or reserved none_reserved };
+    seed = unwrap_or seed 0;
+    offset = offset;
+    twreuse = unwrap_or twreuse false;
+  }
+
+-- the lines of the sections from that number on: for each its own, and those of its commands
+abbrev pub section_lines : ℕ → List (List Command) → List Line
+section_lines n [] = []
+section_lines n (section ∷ rest) = lines.Section n ∷ (map (λ c. lines.Command c) section ++ section_lines (n + 1) rest)
+
 -- the label that a command gives to a new socket
 abbrev pub given_label : Command → Option (List ℕ)
 given_label (commands.Socket label options) = Some label
@@ -30,149 +80,57 @@ given_label _ = None
 abbrev pub given_labels : List Command → List (List ℕ)
 given_labels section = filter_map given_label section
 
--- no label, or one that those commands haven't given
-abbrev pub is_new : Option (List ℕ) → List Command → Bool
-is_new None section = true
-is_new (Some label) section = not (list_any (bytes_eq label) (given_labels section))
-
 -- lookups are asked for only where sections run one after the other
 abbrev pub is_allowed : Mode → Command → Bool
 is_allowed modes.Race (commands.Look query) = false
 is_allowed modes.Race (commands.Packets count) = false
 is_allowed _ _ = true
 
--- a command may follow the others of its section
-abbrev pub may_stand : Mode → List Command → Command → Bool
-may_stand mode section command = is_allowed mode command && is_new (given_label command) section
+-- each label is given once in a section, and each command may be asked for in such a script
+pub record IsSection (mode : Mode) (section : List Command) : Type 0 where
+  pub labels : Pairs (λ (a b : List ℕ). a ≢ b) (given_labels section)
+  pub allowed : Each (λ command. is_allowed mode command ≡ true) section
 
--- a command may come: there is a section, and it may follow the others of the last one
-abbrev pub MayCome : Mode → List (List Command) → Command → Type 0
-MayCome mode [] command = ⊥
-MayCome mode (section ∷ []) command = IsTrue (may_stand mode section command)
-MayCome mode (section ∷ next ∷ rest) command = MayCome mode (next ∷ rest) command
+-- the bytes of some lines, each with its line feed
+abbrev pub bytes_of : List (List ℕ) → ℕ
+bytes_of texts = total (λ (text : List ℕ). length text + 1) texts
 
--- the sections with one more command in the last
-abbrev pub with_command : Command → List (List Command) → List (List Command)
-with_command command [] = []
-with_command command (section ∷ []) = (section ++ command ∷ []) ∷ []
-with_command command (section ∷ next ∷ rest) = section ∷ with_command command (next ∷ rest)
+-- What stands behind lines of so many bytes: nothing, or the line of a capture, whose first byte is the one behind
+-- that line; its bytes aren't read as lines.
+abbrev pub EndsIn : Option CapturePlace → ℕ → List (List ℕ) → Type 0
+EndsIn None bytes last = last ≡ []
+EndsIn (Some place) bytes last =
+    (text : List ℕ) × (behind : List (List ℕ)) × (dev net : Option ℕ)
+    × (last ≡ text ∷ behind) × HasForm (words_of text) (lines.Capture dev net)
+    × (place ≡ record { dev = unwrap_or dev 0; net = unwrap_or net 0; first = bytes + length text + 1 })
 
--- what lines have made: what each kind of header line says, if one came, the sections, where the capture begins, if
--- there is one, and how many bytes the lines had, each with its line feed
-pub record Draft : Type 0 where
-  pub table : Option Shape
-  pub range : Option Range
-  pub reserved : Option Reserved
-  pub seed : Option ℕ
-  pub offset : Option ℕ
-  pub twreuse : Option Bool
-  pub sections : List (List Command)
-  pub capture : Option CapturePlace
-  pub bytes : ℕ
+-- These are the lines of the script: but for those that are passed over, first its head, then its sections, one after
+-- the other from number 1, each with its commands; and last the line of its capture, if it has one.
+pub record AreLines (mode : Mode) (texts : List (List ℕ)) (script : Script) : Type 0 where
+  pub front : List (List ℕ)
+  pub last : List (List ℕ)
+  pub read : List Line
+  pub head : List Line
+  pub parts : texts ≡ front ++ last
+  pub forms : HaveForms front read
+  pub order : filter is_said read ≡ head ++ section_lines 1 script.sections
+  pub header : HasHead head script.header
+  pub sections : Each (IsSection mode) script.sections
+  pub ends : EndsIn script.capture (bytes_of front) last
 
--- before the first line
-abbrev pub nothing_yet : Draft
-nothing_yet =
-    record {
-      table = None;
-      range = None;
-      reserved = None;
-      seed = None;
-      offset = None;
-      twreuse = None;
-      sections = [];
-      capture = None;
-      bytes = 0;
-    }
+-- the text is this script
+abbrev pub IsScript : Mode → List ℕ → Script → Type 0
+IsScript mode text script = AreLines mode (lines_of text) script
 
--- A header line may come once, before the first section: `said` is what one of its kind has said.
-abbrev pub IsHeaderTurn : {A : Type 0} → Option A → Draft → Type 0
-IsHeaderTurn said old = (said ≡ None) × (old.sections ≡ [])
-
--- the draft, past the bytes of one line more
-abbrev pub past : Draft → List ℕ → Draft
-past old text = record old { bytes = old.bytes + length text + 1 }
-
--- the capture's packets come from that device and that network namespace, and its first byte is the next
-abbrev pub capture_here : Draft → Option ℕ → Option ℕ → CapturePlace
-capture_here old dev net = record { dev = unwrap_or dev 0; net = unwrap_or net 0; first = old.bytes }
-
--- The line may follow the lines that made `old`, and makes `new` of it; its own bytes are counted in `old` already.
-abbrev pub Follows : Mode → Draft → Line → Draft → Type 0
-Follows mode old lines.PassedOver new = new ≡ old
-Follows mode old (lines.Table shape) new =
-    IsHeaderTurn old.table old × (new ≡ record old { table = Some shape })
-Follows mode old (lines.Range range) new =
-    IsHeaderTurn old.range old × (new ≡ record old { range = Some range })
-Follows mode old (lines.Reserved reserved) new =
-    IsHeaderTurn old.reserved old × (new ≡ record old { reserved = Some reserved })
-Follows mode old (lines.Seed seed) new =
-    IsHeaderTurn old.seed old × (new ≡ record old { seed = Some seed })
-Follows mode old (lines.Offset offset) new =
-    IsHeaderTurn old.offset old × (new ≡ record old { offset = Some offset })
-Follows mode old (lines.TimeWaitReuse reuse) new =
-    IsHeaderTurn old.twreuse old × (new ≡ record old { twreuse = Some reuse })
-Follows mode old (lines.Section number) new =
-    (number ≡ length old.sections + 1) × (new ≡ record old { sections = old.sections ++ [] ∷ [] })
-Follows mode old (lines.Capture dev net) new = new ≡ record old { capture = Some (capture_here old dev net) }
-Follows mode old (lines.Command command) new =
-    MayCome mode old.sections command × (new ≡ record old { sections = with_command command old.sections })
-
--- the line of that text makes `new` of `old`; where a capture has begun, its bytes aren't read as lines
-abbrev pub ReadsLine : Mode → Draft → List ℕ → Draft → Type 0
-ReadsLine mode old text new =
-    MatchOption old.capture
-    ((line : Line) × HasForm (words_of text) line × Follows mode (past old text) line new)
-    (λ place. new ≡ old)
-
--- the lines of those texts make `new` of `old`, one after the other
-abbrev pub Reads : Mode → Draft → List (List ℕ) → Draft → Type 0
-Reads mode old [] new = new ≡ old
-Reads mode old (text ∷ texts) new =
-    (next : Draft) × ReadsLine mode old text next × Reads mode next texts new
-
--- a list of lines that is in the grammar
+-- a list of lines that is in the grammar: they are some script's
 abbrev pub IsInside : Mode → List (List ℕ) → Type 0
-IsInside mode texts = (draft : Draft) × Reads mode nothing_yet texts draft
+IsInside mode texts = (script : Script) × AreLines mode texts script
 
 -- line n, counted from 1, is the first outside the grammar
 pub record IsFirstOutside (mode : Mode) (texts : List (List ℕ)) (n : ℕ) : Type 0 where
   pub within : (1 ≤ n) × (n ≤ length texts)
   pub before : IsInside mode (take (n - 1) texts)
   pub outside : ¬ (IsInside mode (take n texts))
-
--- how large the tables are where no line says it
-abbrev pub default_shape : Shape
-default_shape = record { slots = 1024; bind = 16; hash = 256; listen = 32 }
-
--- which ports are searched where no line says it
-abbrev pub default_range : Range
-default_range = record { low = 32768; high = 60999; reserved = none_reserved }
-
--- which ports are searched: those of the range but for the reserved ones
-abbrev pub range_of : Draft → Range
-range_of draft =
-    record (unwrap_or draft.range default_range) { reserved = unwrap_or draft.reserved none_reserved }
-
--- what the header lines have said, with the defaults for what none said
-abbrev pub header_of : Draft → Header
-header_of draft =
-    record {
-      shape = unwrap_or draft.table default_shape;
-      range = range_of draft;
-      seed = unwrap_or draft.seed 0;
-      offset = draft.offset;
-      twreuse = unwrap_or draft.twreuse false;
-    }
-
--- the script that lines have made
-abbrev pub script_of : Draft → Script
-script_of draft = record { header = header_of draft; sections = draft.sections; capture = draft.capture }
-
--- the text is this script
-abbrev pub IsScript : Mode → List ℕ → Script → Type 0
-IsScript mode text script =
-    (draft : Draft) × Reads mode nothing_yet (lines_of text) draft × (script ≡ script_of draft)
 
 -- the bytes of a text's capture; none where it has no capture
 abbrev pub capture_bytes : Option CapturePlace → List ℕ → List ℕ

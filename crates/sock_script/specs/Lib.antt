@@ -2,7 +2,9 @@
 pub mod Words
 pub mod Forms
 pub mod Seen
+pub mod Pieces
 pub mod Grammar
+pub mod Reading
 pub mod Output
 pub mod Steps
 pub mod Make

@@ -65,8 +65,8 @@ reply_with label replies.Eaddrnotavail = codes "EADDRNOTAVAIL"
 reply_with label replies.Emfile = codes "EMFILE"
 reply_with label (replies.Enfile owned held) = codes "ENFILE" ++ two_numbers owned held
 
--- the label of a name: the section in it gave that label as its k-th, k being the number in it, from 1; none where there
--- is no such label
+-- the label of a name: the section in it gave that label as its k-th, k being the number in it, from 1; none where
+-- there is no such label
 abbrev pub label_in : List (List Command) → ℕ → List ℕ
 label_in sections name =
     unwrap_or (slice_get ([] ∷ given_labels (slice_index_or ([] ∷ sections) (name / 2 ^ 24) [])) (name % 2 ^ 24)) []
@@ -234,8 +234,8 @@ abbrev pub cut_text : Bool → List ℕ
 cut_text false = []
 cut_text true = codes "cut\n"
 
--- what is written for a script with that capture, which is answered so, and for which that is listed; items have numbers
--- from 1
+-- what is written for a script with that capture, which is answered so, and for which that is listed; items have
+-- numbers from 1
 abbrev pub script_text : Script → Capture → List Reply → List Listing → List ℕ
 script_text script capture replies listings =
     lines_text script.sections 1 (events_from capture.items (issued script)) replies listings ++ cut_text capture.cut

@@ -1,15 +1,12 @@
 -- What the steps of reading, of running and of writing a script answer. No public contract cites this file.
-use Rattle.std.specs.Prelude.{◌≡◌, ℕ, ◌+◌, ◌/◌, ◌%◌, ◌^◌, Bool, true, false, Some, if◌then◌else◌, unwrap_or, slice_get, List, [], ◌∷◌, ◌++◌, ◌≤◌, map, take, drop, min, length, bytes_eq}
-use Rattle.std.specs.List.{flat_map, list_any, slice_index_or}
-use Rattle.std.specs.BTreeSet.{BTreeSet, contains_by}
+use Rattle.std.specs.Prelude.{◌≡◌, ℕ, ◌+◌, ◌/◌, ◌%◌, ◌^◌, Bool, true, false, Some, if◌then◌else◌, unwrap_or, slice_get, List, [], ◌∷◌, ◌++◌, ◌≤◌, map, take, drop, min, length}
+use Rattle.std.specs.List.{flat_map, slice_index_or}
 use Rattle.capture_reader.specs.declared.packet.Item.{Item}
 use Rattle.flat_list.specs.declared.command.Command.{Command}
 use Rattle.flat_list.specs.declared.command.Command.TheVariants as commands
-use Rattle.flat_list.specs.declared.command.LabelKey.{LabelKey}
 use Rattle.flat_list.specs.declared.command.Reply.{Reply}
 use Rattle.flat_list.specs.declared.command.Reply.TheVariants as replies
 use Rattle.flat_list.specs.Flat.{Flat}
-use Rattle.flat_list.specs.Labels.{IsLabel, key_of, key_cmp}
 use Rattle.flat_list.specs.Run.{Issued, after}
 use Rattle.flat_list.specs.Sections.{KeepsOthers}
 use Rattle.flat_list.specs.Step.{step}
@@ -19,18 +16,9 @@ use Rattle.sock_script.specs.declared.parse.ScriptEnd.{ScriptEnd}
 use Rattle.sock_script.specs.declared.parse.ScriptEnd.TheVariants as ends
 use Rattle.sock_script.specs.declared.line.Line.{Line}
 use Rattle.sock_script.specs.declared.line.Line.TheVariants as lines
-use Rattle.sock_script.specs.Grammar.{Draft, Follows, ReadsLine, IsFirstOutside, given_labels}
+use Rattle.sock_script.specs.Grammar.{IsFirstOutside, given_labels}
+use Rattle.sock_script.specs.Reading.{Draft, Follows, ReadsLine}
 use Rattle.sock_script.specs.Output.{Replies, Event, asked, stored, events_from, replies_from, listings_from, line_with, item_line, is_dump, listing_text, listings_after}
-
--- the set has the keys of these labels, and no others
-abbrev pub IsSetOf : BTreeSet LabelKey → List (List ℕ) → Type 0
-IsSetOf set labels =
-    (label : List ℕ) → IsLabel label → contains_by (key_cmp (key_of label)) set ≡ list_any (bytes_eq label) labels
-
--- the set has the label that one command more gives, if it gives one
-abbrev pub NotesLabel : BTreeSet LabelKey → Command → BTreeSet LabelKey → Type 0
-NotesLabel old command new =
-    (commands : List Command) → IsSetOf old (given_labels commands) → IsSetOf new (given_labels (commands ++ command ∷ []))
 
 -- the line is one of a command
 abbrev pub IsCommand : Line → Type 0
@@ -106,7 +94,8 @@ command_at table c reply listings =
     if is_dump c.command then flat_map (listing_text (label_at table) c.section) (take 1 listings)
     else line_with c.section c.command (found_at table reply) reply
 
--- the lines of events, with their replies and listings, where the table has the labels, and the next item has that number
+-- the lines of events, with their replies and listings, where the table has the labels, and the next item has that
+-- number
 abbrev pub lines_at : List (List (List ℕ)) → ℕ → List Event → List Reply → List Listing → List ℕ
 lines_at table number (asked c ∷ events) (reply ∷ rest) listings =
     command_at table c reply listings ++ lines_at table number events rest (listings_after c.command listings)

@@ -2,35 +2,36 @@ ghost use Rattle.std.specs.Prelude.{◌≡◌, ◌↔◌, ◌+◌, ◌<◌, ◌^
 ghost use Rattle.std.specs.List.{list_any};
 ghost use Rattle.std.specs.Option.{option_to_list};
 ghost use Rattle.sock_script.specs.declared.parse.Mode.{Mode as AnyMode};
-ghost use Rattle.sock_script.specs.Grammar as spec;
-ghost use Rattle.sock_script.specs.Steps.{NotesLabel, Adds};
+ghost use Rattle.sock_script.specs.Grammar as law;
+ghost use Rattle.sock_script.specs.Reading as spec;
+ghost use Rattle.sock_script.specs.Steps.{Adds};
 
 use crate::label::given_label;
 use crate::line::Line;
 use crate::parse::Mode;
 use flat_list::{
-    CapturePlace, Command, Header, Label, LabelKey, NONE_RESERVED, Range, Reserved, Script, Shape,
+    CapturePlace, Command, Header, Label, NONE_RESERVED, Range, Reserved, Script, Shape,
 };
+use label_index::{LabelIndex, LabelSeed};
 use std::alloc::{AllocError, Global};
-use std::collections::BTreeSet;
 use std::marker::Model;
 use std::mem;
 
 /// Whether a script of that mode may ask for it.
 fn is_allowed(mode: Mode, command: &Command) -> bool
-    ensures { result ≡ spec.is_allowed mode command.now }
+    ensures { result ≡ law.is_allowed mode command.now }
 {
     !(matches!(mode, Mode::Race)
         && matches!(command, Command::Look { .. } | Command::Packets { .. }))
 }
 
-/// Puts the label that a command gives among the others.
-fn note_label(labels: &mut BTreeSet<LabelKey>, command: &Command) -> Result<(), AllocError>
-    ensures noted { OnOk result (NotesLabel labels.old command.now labels.new) }
+/// Puts the label that a command gives behind the others.
+fn note_label(labels: &mut LabelIndex, command: &Command) -> Result<(), AllocError>
+    ensures noted { OnOk result (labels.new ≡ labels.old ++ option_to_list (law.given_label command.now)) }
     ensures err { OnErr result (labels.new ≡ labels.old) }
 {
     if let Some(label) = given_label(command) {
-        labels.insert(label.key())?;
+        labels.give(label)?;
     }
     Ok(())
 }
@@ -40,40 +41,40 @@ fn note_label(labels: &mut BTreeSet<LabelKey>, command: &Command) -> Result<(), 
 struct OpenSection {
     commands: Vec<Command>,
     /// The labels that the commands give, so that finding one again takes no scan.
-    labels: BTreeSet<LabelKey>,
+    labels: LabelIndex,
 }
 
 impl Model for OpenSection {
     ghost use Rattle.std.specs.Prelude.{List};
     ghost use Rattle.flat_list.specs.declared.command.Command.{Command as AnyCommand};
     ghost use Rattle.sock_script.specs.Grammar.{given_labels};
-    ghost use Rattle.sock_script.specs.Steps.{IsSetOf};
+    ghost use Rattle.std.specs.Prelude.{◌≡◌};
 
     ghost Value = { List AnyCommand };
 
     ghost view = { λ s. s.commands.items };
 
-    ghost invariant = { λ s. IsSetOf s.labels (given_labels s.commands.items) };
+    ghost invariant = { λ s. s.labels ≡ given_labels s.commands.items };
 }
 
 impl OpenSection {
-    fn new(alloc: Global) -> Self
+    fn new(alloc: Global, seed: LabelSeed) -> Self
         ensures { result ≡ [] }
     {
         OpenSection {
             commands: Vec::new(alloc),
-            labels: BTreeSet::new(alloc),
+            labels: LabelIndex::new(alloc, seed),
         }
     }
 
     fn has_given(&self, label: &Label) -> bool
-        ensures { result ≡ list_any (bytes_eq label.now) (spec.given_labels self.now) }
+        ensures { result ≡ list_any (bytes_eq label.now) (law.given_labels self.now) }
     {
-        self.labels.contains(&label.key())
+        self.labels.place_of(label).is_some()
     }
 
     fn is_new(&self, command: &Command) -> bool
-        ensures { result ≡ spec.is_new (spec.given_label command.now) self.now }
+        ensures { result ≡ spec.is_new (law.given_label command.now) self.now }
     {
         match given_label(command) {
             None => true,
@@ -152,12 +153,14 @@ pub struct Draft {
     /// How many bytes the lines had, each with its line feed.
     bytes: usize,
     alloc: Global,
+    /// What the hashes of labels begin with.
+    label_seed: LabelSeed,
 }
 
 impl Model for Draft {
     ghost use Rattle.std.specs.Prelude.{◌≡◌, ◌++◌, [], map, IfNone};
     ghost use Rattle.std.specs.Option.{option_to_list};
-    ghost use Rattle.sock_script.specs.Grammar.{Draft as Made};
+    ghost use Rattle.sock_script.specs.Reading.{Draft as Made};
 
     ghost Value = { Made };
 
@@ -168,7 +171,7 @@ impl Model for Draft {
 
 impl Draft {
     /// Before the first line. Takes no memory.
-    pub fn new(alloc: Global) -> Self
+    pub fn new(alloc: Global, label_seed: LabelSeed) -> Self
         ensures { result ≡ spec.nothing_yet }
     {
         Draft {
@@ -183,6 +186,7 @@ impl Draft {
             capture: None,
             bytes: 0,
             alloc,
+            label_seed,
         }
     }
 
@@ -290,7 +294,7 @@ impl Draft {
         if number as usize != self.section_count() + 1 {
             return Ok(false);
         }
-        let next = OpenSection::new(self.alloc);
+        let next = OpenSection::new(self.alloc, self.label_seed);
         if let Some(section) = mem::replace(&mut self.last, Some(next)) {
             self.finished.push(section.into_commands())?;
         }

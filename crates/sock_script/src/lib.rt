@@ -10,11 +10,11 @@
 //! [`run::replies`] runs a script on `flat_list`, the plain engine, and gives the reply to each command
 //! and to each item of its capture, and what each `dump` lists; [`output::text`] writes them, a line for each reply
 //! and for each socket listed, as `specs/Output.antt` says. [`make::script`] makes a script from a seed, and [`Counts`] tells how many of its
-//! commands were done. It stands on `flat_list`, `capture_reader`, and the texts of `inet_io`.
+//! commands were done. It stands on `flat_list`, `label_index`, `capture_reader`, and the texts of `inet_io`.
 //!
 //! ```text
 //! let text = b"script 1\nsocket a\nbind a 0.0.0.0:80\n";
-//! let script = parse::parse(alloc, text, Mode::Run)?;
+//! let script = parse::parse(alloc, LabelSeed::random(&rt), text, Mode::Run)?;
 //! let capture = capture::read(alloc, &script, text)?;
 //! let replies = run::replies(alloc, &script, capture.items())?;
 //! let lines = output::text(alloc, &script, &capture, &replies.each, &replies.listings)?;

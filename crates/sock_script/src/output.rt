@@ -10,25 +10,56 @@ use crate::label::Labels;
 use crate::unwritten::Unwritten;
 use capture_reader::Capture;
 use flat_list::{Command, End, Label, Reply, Script};
-use inet_io::{put_addr, put_num};
+use inet_io::put_addr;
+use itoa::write_digits;
 use sock_card::{Card, Kind};
 use socket_list::{Listing, Span};
 use std::alloc::{AllocError, Global};
 
-/// Appends a text.
+/// Appends a text. Inlined, so that a constant one is stored by a move or two.
+#[inline(always)]
 pub fn put(out: &mut Vec<u8>, text: &[u8]) -> Result<(), AllocError>
     ensures { OnOk result (out.new.items ≡ out.old.items ++ text.now) }
 {
     out.extend_from_slice(text)
 }
 
-/// Appends a number.
-pub fn put_number(out: &mut Vec<u8>, n: u64) -> Result<(), AllocError>
+/// Appends a byte.
+#[inline(always)]
+fn put_byte(out: &mut Vec<u8>, byte: u8) -> Result<(), AllocError>
+    ensures { OnOk result (out.new.items ≡ out.old.items ++ byte ∷ []) }
+{
+    out.push(byte)?;
+    Ok(())
+}
+
+/// Appends a text that is no constant. Out of line, since it is copied by a call anyhow.
+#[inline(never)]
+fn put_copy(out: &mut Vec<u8>, text: &[u8]) -> Result<(), AllocError>
+    ensures { OnOk result (out.new.items ≡ out.old.items ++ text.now) }
+{
+    out.extend_from_slice(text)
+}
+
+/// Appends a number's digits, which may be many.
+#[inline(never)]
+fn put_digits(out: &mut Vec<u8>, n: u64) -> Result<(), AllocError>
     ensures { OnOk result (out.new.items ≡ out.old.items ++ decimal n) }
 {
     let mut digits = [0; 20];
-    let len = put_num(&mut digits, 0, n);
-    put(out, &digits[..len])
+    let start = write_digits(n, &mut digits, 20);
+    put_copy(out, &digits[start..])
+}
+
+/// Appends a number. One digit, as most sections' numbers have, is put as it is.
+#[inline(always)]
+pub fn put_number(out: &mut Vec<u8>, n: u64) -> Result<(), AllocError>
+    ensures { OnOk result (out.new.items ≡ out.old.items ++ decimal n) }
+{
+    if n < 10 {
+        return put_byte(out, b'0' + n as u8);
+    }
+    put_digits(out, n)
 }
 
 /// Appends an address with its dots, a colon and a port.
@@ -37,19 +68,20 @@ pub fn put_end(out: &mut Vec<u8>, end: End) -> Result<(), AllocError>
 {
     let mut addr = [0; 15];
     let len = put_addr(&mut addr, 0, end.addr);
-    put(out, &addr[..len])?;
-    put(out, b":")?;
+    put_copy(out, &addr[..len])?;
+    put_byte(out, b':')?;
     put_number(out, u64::from(end.port))
 }
 
-fn kind_word(kind: Kind) -> &'static [u8]
-    ensures { result.now ≡ spec.kind_word kind }
+/// Appends the word for a kind of socket.
+fn put_kind(out: &mut Vec<u8>, kind: Kind) -> Result<(), AllocError>
+    ensures { OnOk result (out.new.items ≡ out.old.items ++ spec.kind_word kind) }
 {
     match kind {
-        Kind::Full => b"full",
-        Kind::TimeWait => b"time-wait",
-        Kind::Listen => b"listen",
-        Kind::Request => b"request",
+        Kind::Full => put(out, b"full"),
+        Kind::TimeWait => put(out, b"time-wait"),
+        Kind::Listen => put(out, b"listen"),
+        Kind::Request => put(out, b"request"),
     }
 }
 
@@ -60,11 +92,11 @@ pub fn put_answer(out: &mut Vec<u8>, answer: Option<Card>, label: &[u8]) -> Resu
     let Some(card) = answer else {
         return put(out, b"none");
     };
-    put(out, kind_word(card.kind))?;
-    put(out, b" ")?;
+    put_kind(out, card.kind)?;
+    put_byte(out, b' ')?;
     put_number(out, (card.name >> 24) as u64)?;
-    put(out, b".")?;
-    put(out, label)
+    put_byte(out, b'.')?;
+    put_copy(out, label)
 }
 
 /// Appends a device, and the namespace if it isn't the first one.
@@ -85,7 +117,7 @@ pub fn put_whole_card(out: &mut Vec<u8>, card: &Card, label: &[u8]) -> Result<()
     ensures { OnOk result (out.new.items ≡ out.old.items ++ spec.whole_card_with label.now card.now) }
 {
     put_answer(out, Some(*card), label)?;
-    put(out, b" ")?;
+    put_byte(out, b' ')?;
     put_end(
         out,
         End {
@@ -93,7 +125,7 @@ pub fn put_whole_card(out: &mut Vec<u8>, card: &Card, label: &[u8]) -> Result<()
             port: card.lport,
         },
     )?;
-    put(out, b" ")?;
+    put_byte(out, b' ')?;
     put_end(
         out,
         End {
@@ -125,7 +157,7 @@ fn put_socket(out: &mut Vec<u8>, n: u64, card: &Card, label: &[u8]) -> Result<()
     put_number(out, n)?;
     put(out, b" item ")?;
     put_whole_card(out, card, label)?;
-    put(out, b"\n")
+    put_byte(out, b'\n')
 }
 
 /// Appends the lines of the sockets that section `n` lists.
@@ -158,7 +190,7 @@ pub fn put_listing(
     put(out, b" dump ")?;
     put_number(out, listing.cards.len() as u64)?;
     put_span(out, listing.span)?;
-    put(out, b"\n")?;
+    put_byte(out, b'\n')?;
     put_sockets(out, labels, n, &listing.cards)
 }
 
@@ -166,9 +198,9 @@ pub fn put_listing(
 fn put_two_numbers(out: &mut Vec<u8>, owned: u32, held: u32) -> Result<(), AllocError>
     ensures { OnOk result (out.new.items ≡ out.old.items ++ spec.two_numbers owned held) }
 {
-    put(out, b" ")?;
+    put_byte(out, b' ')?;
     put_number(out, u64::from(owned))?;
-    put(out, b" ")?;
+    put_byte(out, b' ')?;
     put_number(out, u64::from(held))
 }
 
@@ -240,7 +272,7 @@ fn put_labelled(out: &mut Vec<u8>, verb: &[u8], label: &Label) -> Result<(), All
     ensures { OnOk result (out.new.items ≡ out.old.items ++ (verb.now ++ label.now)) }
 {
     put(out, verb)?;
-    put(out, label.as_bytes())
+    put_copy(out, label.as_bytes())
 }
 
 /// Appends the line of a command of section `n`; the label is that of the socket that a look found.
@@ -254,11 +286,11 @@ fn put_line(
     ensures { OnOk result (out.new.items ≡ out.old.items ++ spec.line_with n command.now label.now reply.now) }
 {
     put_number(out, n)?;
-    put(out, b" ")?;
+    put_byte(out, b' ')?;
     put_subject(out, command)?;
-    put(out, b" ")?;
+    put_byte(out, b' ')?;
     put_reply(out, reply, label)?;
-    put(out, b"\n")
+    put_byte(out, b'\n')
 }
 
 /// Appends the line of the capture's item of that number; the label is that of the socket that its packet found.
@@ -267,9 +299,9 @@ fn put_item(out: &mut Vec<u8>, number: u64, reply: &Reply, label: &[u8]) -> Resu
 {
     put(out, b"packet ")?;
     put_number(out, number)?;
-    put(out, b" ")?;
+    put_byte(out, b' ')?;
     put_reply(out, reply, label)?;
-    put(out, b"\n")
+    put_byte(out, b'\n')
 }
 
 /// Appends the lines of items and their replies, where the first has that number.
@@ -371,6 +403,16 @@ fn put_cut(out: &mut Vec<u8>, is_cut: bool) -> Result<(), AllocError>
     Ok(())
 }
 
+/// How many bytes the lines are likely to take: as many as most lines have at most, for each reply and each socket that
+/// is listed.
+fn typical_room(replies: &[Reply], listings: &[Listing]) -> usize {
+    let mut room = replies.len().saturating_mul(32);
+    for listing in listings {
+        room = room.saturating_add(listing.cards.len().saturating_mul(64));
+    }
+    room
+}
+
 /// The lines of a script's commands and of its capture's items, in the order in which they are come to, each
 /// with its reply; a `dump` has the lines of the next listing.
 ///
@@ -388,7 +430,7 @@ pub fn text(
     ensures { IfOk result (λ text. text.items ≡ script_text script.now capture.now replies.now listings.now) }
 {
     let labels = Labels::of_script(alloc, script)?;
-    let mut out = Vec::new(alloc);
+    let mut out = Vec::with_capacity(alloc, typical_room(replies, listings))?;
     let mut left = Unwritten::new(capture.items(), replies, listings);
     for (i, commands) in script.sections().iter().enumerate() {
         left = put_section(&mut out, &labels, i as u64 + 1, commands, left)?;

@@ -1,12 +1,16 @@
 ghost use Rattle.std.specs.Prelude.{◌≡◌, ◌≤◌, ◌<◌, ◌+◌, ◌^◌, ℕ, None, length, IfOk, IfErr, Err};
 ghost use Rattle.flat_list.specs.Script.{IsSmall};
 ghost use Rattle.sock_script.specs.Words.{lines_of};
-ghost use Rattle.sock_script.specs.Grammar.{IsScript, IsFirstOutside, Reads, nothing_yet};
+ghost use Rattle.sock_script.specs.Pieces.{HasWords};
+ghost use Rattle.sock_script.specs.Seen.{texts};
+ghost use Rattle.sock_script.specs.Grammar.{IsScript, IsFirstOutside};
+ghost use Rattle.sock_script.specs.Reading.{Reads, nothing_yet};
 ghost use Rattle.sock_script.specs.Steps.{LineAnswer, EndAnswer};
 
 use crate::draft::Draft;
 use crate::{form, word};
 use flat_list::Script;
+use label_index::LabelSeed;
 use std::alloc::{AllocError, Global};
 
 /// What a script is read for.
@@ -38,24 +42,22 @@ impl From<AllocError> for ScriptEnd {
     }
 }
 
-/// Reads one line, where it may follow, and says whether. `words` is room for its words.
-///
-/// A line that is passed over costs a look at its first bytes.
-fn read_line<'a>(
+/// Reads one line, of which these are the words, where it may follow, and says whether.
+fn read_line(
     mode: Mode,
     draft: &mut Draft,
-    words: &mut Vec<&'a [u8]>,
-    line: &'a [u8],
+    words: &[&[u8]],
+    line: &[u8],
 ) -> Result<bool, AllocError>
     requires no_capture { draft.old.capture ≡ None }
     requires room { draft.old.bytes + length line.now + 1 < 2 ^ 64 }
+    requires words { HasWords line.now (texts words.now) }
     ensures { IfOk result (LineAnswer mode draft.old line.now draft.new) }
 {
     draft.pass(line);
-    if word::is_passed_over(line) {
+    if words.is_empty() {
         return Ok(true);
     }
-    word::read_words(line, words)?;
     // Most lines are commands, so no line of another kind is tried before them.
     if let Some(command) = form::command_of(words) {
         return draft.add_command(mode, command);
@@ -67,21 +69,24 @@ fn read_line<'a>(
 }
 
 /// Reads the lines of a text, to its end or to where its capture begins.
-fn read_lines(alloc: Global, text: &[u8], mode: Mode) -> Result<Draft, ScriptEnd>
+fn read_lines(alloc: Global, seed: LabelSeed, text: &[u8], mode: Mode) -> Result<Draft, ScriptEnd>
     ensures read { IfOk result (λ draft. Reads mode nothing_yet (lines_of text.now) draft) }
     ensures bad { IfErr result (EndAnswer mode (lines_of text.now)) }
 {
-    let mut draft = Draft::new(alloc);
+    let mut draft = Draft::new(alloc, seed);
     let mut words = Vec::new(alloc);
     let mut number = 0;
-    for line in text.split(|b| word::is_line_feed(*b)) {
+    let mut left = Some(text);
+    while let Some(text) = left {
         if draft.has_capture() {
             return Ok(draft);
         }
         number += 1;
-        if !read_line(mode, &mut draft, &mut words, line)? {
+        let (line, rest) = word::take_line(text, &mut words)?;
+        if !read_line(mode, &mut draft, &words, line)? {
             return Err(ScriptEnd::BadLine(number));
         }
+        left = rest;
     }
     Ok(draft)
 }
@@ -93,12 +98,12 @@ fn read_lines(alloc: Global, text: &[u8], mode: Mode) -> Result<Draft, ScriptEnd
 /// counts as a line. A line `capture` ends the script: the bytes after it are a capture, which isn't
 /// read here. Takes memory for the commands, and none for lines that are passed over; the
 /// time is about that of one look at each byte, and that of finding each label among those that its
-/// section has given.
-pub fn parse(alloc: Global, text: &[u8], mode: Mode) -> Result<Script, ScriptEnd>
+/// section has given, whose hashes begin with the seed.
+pub fn parse(alloc: Global, seed: LabelSeed, text: &[u8], mode: Mode) -> Result<Script, ScriptEnd>
     ensures script { IfOk result (λ script. IsScript mode text.now script) }
     ensures bad { (n : ℕ) → result ≡ Err (ScriptEnd.BadLine n) → IsFirstOutside mode (lines_of text.now) n }
     ensures small { length text.now ≤ 2 ^ 24 → IfOk result IsSmall }
 {
-    let draft = read_lines(alloc, text, mode)?;
+    let draft = read_lines(alloc, seed, text, mode)?;
     Ok(draft.into_script()?)
 }

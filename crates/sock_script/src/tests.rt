@@ -4,12 +4,13 @@ use crate::parse::{Mode, ScriptEnd, parse};
 use crate::{capture, output, run};
 use capture_reader::Capture;
 use flat_list::Reply;
+use label_index::LabelSeed;
 use std::alloc::{AllocError, Global};
 use std::test::Fail;
 
 /// The first bad line, 0 for want of memory, and none where the text is a script.
 fn bad_line(alloc: Global, text: &[u8], mode: Mode) -> Option<u64> {
-    match parse(alloc, text, mode) {
+    match parse(alloc, LabelSeed::fixed(), text, mode) {
         Ok(_) => None,
         Err(ScriptEnd::BadLine(n)) => Some(n),
         Err(ScriptEnd::Memory) => Some(0),
@@ -20,7 +21,7 @@ fn bad_line(alloc: Global, text: &[u8], mode: Mode) -> Option<u64> {
 fn output_of(alloc: Global, text: &[u8]) -> Result<Vec<u8>, ScriptEnd>
     requires { length text.now ≤ 2 ^ 24 }
 {
-    let script = parse(alloc, text, Mode::Run)?;
+    let script = parse(alloc, LabelSeed::fixed(), text, Mode::Run)?;
     let capture = capture::read(alloc, &script, text).map_err(|_| ScriptEnd::Memory)?;
     let replies = run::replies(alloc, &script, capture.items())?;
     Ok(output::text(alloc, &script, &capture, &replies.each, &replies.listings)?)
@@ -584,7 +585,12 @@ fn a_dump_has_no_words(rt: HostRuntime) -> Result<(), Fail> {
 #[test]
 fn a_dump_without_a_listing_has_no_line(rt: HostRuntime) -> Result<(), Fail> {
     let alloc = rt.alloc();
-    let script = parse(alloc, b"script 1\ndump\nreap\n", Mode::Run)?;
+    let script = parse(
+        alloc,
+        LabelSeed::fixed(),
+        b"script 1\ndump\nreap\n",
+        Mode::Run,
+    )?;
     let capture = Capture::new(alloc);
     let replies = [Reply::Ok, Reply::Count(0)];
     let out = output::text(alloc, &script, &capture, &replies, &[])?;

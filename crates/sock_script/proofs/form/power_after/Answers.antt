@@ -2,7 +2,7 @@ use Rattle.std.proofs.Common.{◌≡◌, ◌∙◌, IsTrue, arith, sym, subst}
 use Rattle.std.proofs.lemmas.Bool.{false≢true}
 use Rattle.std.proofs.lemmas.Fmt.{decimal_injective}
 use Rattle.std.specs.Int.{is_power_of_two}
-use Rattle.sock_script.proofs.Powers.{power-from_test, test-from_power}
+use Rattle.chain_book.proofs.Powers.{power-from_test, test-from_power}
 use Rattle.sock_script.proofs.Words.{second_is}
 use Rattle.sock_script.proofs.form.power_after.Goals as goal
 

@@ -1,4 +1,4 @@
-use Rattle.sock_script.proofs.Scripts.{one_script}
+use Rattle.sock_script.proofs.Inside.{one_script}
 use Rattle.sock_script.proofs.law.one_script.Goals as goal
 
 pub returns : goal.returns

@@ -1,7 +1,6 @@
 use Rattle.std.proofs.Common.{arith}
-use Rattle.std.proofs.lemmas.Fmt.{length-decimal-le}
+use Rattle.std.proofs.lemmas.Fmt.{decimal_digit}
 use Rattle.sock_script.proofs.output.put_number.Goals as goal
 
--- a number of 64 bits has 20 digits at most
-pub put_num-len-requires : goal.put_num-len-requires
-put_num-len-requires c = omega (arith, length-decimal-le 20 c.args.n (omega arith) (omega arith) (omega arith))
+pub returns-then-n-lt10 : goal.returns-then-n-lt10
+returns-then-n-lt10 c = rw (decimal_digit c.args.n (omega (arith, c.if-n-lt10.true))) c.put_byte.ensures

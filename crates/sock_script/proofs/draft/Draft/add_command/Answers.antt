@@ -1,6 +1,6 @@
 use Rattle.std.proofs.Common.{◌∙◌, sym, ap, ap₂, subst, List}
 use Rattle.flat_list.specs.declared.command.Command.{Command}
-use Rattle.sock_script.specs.Grammar.{MayCome, Draft}
+use Rattle.sock_script.specs.Reading.{MayCome, Draft}
 use Rattle.sock_script.proofs.LastSection.{none_made, refused, added}
 use Rattle.sock_script.proofs.draft.Draft.add_command.Goals as goal
 
