@@ -1,6 +1,6 @@
--- Which texts are captures, and of what: the savefile format of libpcap (pcap-savefile(5); draft-ietf-opsawg-pcap, section
--- 5), and pcapng (draft-ietf-opsawg-pcapng). A capture that ends in the middle of a record is one of the records before,
--- and one whose blocks are followed by other bytes is one of these blocks.
+-- Which texts are captures, and of what: the savefile format of libpcap (pcap-savefile(5); draft-ietf-opsawg-pcap,
+-- section 5), and pcapng (draft-ietf-opsawg-pcapng). A capture that ends in the middle of a record is one of the
+-- records before, and one whose blocks are followed by other bytes is one of these blocks.
 use Rattle.std.specs.Prelude.{◌≡◌, ◌≢◌, ℕ, ◌+◌, ◌<◌, ◌≤◌, ◌⊎◌, List, [], ◌∷◌, ◌++◌, length, drop, Bool, true, false}
 use Rattle.capture_reader.specs.declared.number.Order.{Order}
 use Rattle.capture_reader.specs.declared.header.Header.{Header}
@@ -56,8 +56,8 @@ IsOfBlocks dev net bytes capture =
     (order : Order) × (rest : List ℕ) × (blocks : List Block) × BeginsWithSection bytes order rest
     × AreBlocks dev net (begun order) rest blocks capture.cut × (capture.items ≡ items_of blocks)
 
--- The text is this capture, of packets that came in by that device and in that network namespace: no bytes at all, or one
--- in either format.
+-- The text is this capture, of packets that came in by that device and in that network namespace: no bytes at all, or
+-- one in either format.
 abbrev pub IsCapture : ℕ → ℕ → List ℕ → Capture → Type 0
 IsCapture dev net bytes capture =
     ((bytes ≡ []) × (capture ≡ nothing)) ⊎ (IsOfRecords dev net bytes capture ⊎ IsOfBlocks dev net bytes capture)

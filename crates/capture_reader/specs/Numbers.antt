@@ -1,5 +1,5 @@
--- Numbers in a text of bytes. RFC 791, appendix B, has the highest byte of a number first; a capture has the order of the
--- machine that wrote it (draft-ietf-opsawg-pcap, section 4).
+-- Numbers in a text of bytes. RFC 791, appendix B, has the highest byte of a number first; a capture has the order of
+-- the machine that wrote it (draft-ietf-opsawg-pcap, section 4).
 use Rattle.std.specs.Prelude.{ℕ, ◌<◌, List, drop, slice_index}
 use Rattle.byteorder.specs.Endian.{big_number, little_number}
 use Rattle.capture_reader.specs.declared.number.Order.{Order}

@@ -32,8 +32,8 @@ arp_frame = addresses ++ 8 ∷ 6 ∷ []
 abbrev pub found : Item
 found = items.Packet (record { src = 0x0A000002; sport = 1000; dst = 0x0A000001; dport = 80; dev = 3; net = 2 })
 
--- what these are that came in by device 3 in network namespace 2: a packet plain, in a VLAN and without a frame; a frame
--- of ARP; a later fragment; a packet without its last byte
+-- what these are that came in by device 3 in network namespace 2: a packet plain, in a VLAN and without a frame; a
+-- frame of ARP; a later fragment; a packet without its last byte
 abbrev pub judged : List Item
 judged =
     map (item_of links.Ethernet 3 2) (frame (datagram 0) ∷ tagged_frame (datagram 0) ∷ [])

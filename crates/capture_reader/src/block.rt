@@ -108,8 +108,8 @@ fn item_on(link: Option<Link>, dev: u16, net: u8, stored: &[u8]) -> Item
     }
 }
 
-/// The bytes that a whole block of that type stores of a packet, and the link type of its interface. None where it isn't
-/// valid.
+/// The bytes that a whole block of that type stores of a packet, and the link type of its interface. None where it
+/// isn't valid.
 fn packet_of<'a>(section: &Section, block: &'a [u8]) -> Option<(Option<Link>, &'a [u8])>
     requires whole { IsWhole section.now.order block.now }
     requires kind { number section.now.order 4 0 block.now ≡ 6 }

@@ -75,6 +75,12 @@ impl From<AllocError> for CaptureEnd {
     }
 }
 
+/// The room that is made for the items of so many bytes, before the first is read: as many as have 40 bytes, the
+/// shortest record or packet block of an IP packet with ports. Only a capture of shorter packets needs more.
+fn room_for(length: usize) -> usize {
+    length / 40
+}
+
 /// Reads the records after a header, to the end of the bytes.
 fn read_records(
     alloc: Global,
@@ -85,7 +91,7 @@ fn read_records(
 ) -> Result<Capture, AllocError>
     ensures { IfOk result (λ capture. AreRecords header dev net bytes.now capture.items capture.cut) }
 {
-    let mut items = Vec::new(alloc);
+    let mut items = Vec::with_capacity(alloc, room_for(bytes.len()))?;
     let mut rest = bytes;
     while let Some((stored, after)) = next_record(header.order, rest) {
         items.push(item_of(header.link, dev, net, stored))?;
@@ -106,8 +112,8 @@ fn read_blocks(
     ensures { IfOk result (λ capture. (blocks : List Block)
         × AreBlocks dev net (begun order) bytes.now blocks capture.cut × (capture.items ≡ items_of blocks)) }
 {
+    let mut items = Vec::with_capacity(alloc, room_for(bytes.len()))?;
     let mut section = Section::new(alloc, order);
-    let mut items = Vec::new(alloc);
     let mut rest = bytes;
     while let Some((block, after)) = next_block(&section, dev, net, rest) {
         match block {
@@ -126,8 +132,8 @@ fn read_blocks(
 /// isn't told, and in that network namespace.
 ///
 /// No bytes are a capture without items. Times, how long a packet was on the wire, and options aren't read; a packet of
-/// an interface whose link type isn't read is passed over. Takes memory for the items and for the interfaces of one
-/// section, and the time is about that of one look at each record or block.
+/// an interface whose link type isn't read is passed over. Takes memory for the items, at once for one in each 40
+/// bytes, and for the interfaces of one section; the time is about that of one look at each record or block.
 pub fn packets(alloc: Global, bytes: &[u8], dev: u16, net: u8) -> Result<Capture, CaptureEnd>
     ensures capture { IfOk result (IsCapture dev net bytes.now) }
     ensures only { (capture : Contents) → IsCapture dev net bytes.now capture → IfOk result (λ found. found ≡ capture) }

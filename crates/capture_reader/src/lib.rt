@@ -11,7 +11,7 @@
 //! the laws in [`law`] say that each text is one at most.
 //!
 //! ```text
-//! let capture = packets(alloc, bytes, 0)?;
+//! let capture = packets(alloc, bytes, 0, 0)?;
 //! for item in capture.items() {
 //!     if let Item::Packet(packet) = item {
 //!         let answer = flat.look(packet);

@@ -26,8 +26,8 @@ use Rattle.race_record.specs.declared.record.Looked.TheVariants as looks
 use Rattle.race_record.specs.Record.{Race, commands_of, replies_of, listings_of}
 use Rattle.race_record.specs.Lawful.{Lawful}
 
--- what is written of a race: the replies of all sections, one section after the other, what they listed, how many entries
--- each journal has, the changes, and what came of each item
+-- what is written of a race: the replies of all sections, one section after the other, what they listed, how many
+-- entries each journal has, the changes, and what came of each item
 pub record Told : Type 0 where
   pub lookers : ℕ
   pub passes : ℕ
@@ -158,7 +158,8 @@ pub record HasRace (input : List ℕ) (script : Script) (capture : Capture) : Ty
   pub script_is : IsScript modes.Race input script
   pub capture_is : IsCapture (capture_device script.capture) (capture_namespace script.capture) (capture_bytes script.capture input) capture
 
--- what is written for a text that is a script for a race, by so many lookers with so many passes: some lawful record of it
+-- what is written for a text that is a script for a race, by so many lookers with so many passes: some lawful record
+-- of it
 abbrev pub RaceOut : ℕ → ℕ → List ℕ → List ℕ → Type 0
 RaceOut lookers passes input out =
     (script : Script) × (capture : Capture) × (race : Race) × HasRace input script capture × Lawful script capture race

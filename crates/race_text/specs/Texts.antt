@@ -1,4 +1,4 @@
--- The texts of the worked records of race_record.
+-- Worked examples: the texts of the worked records of race_record.
 use Rattle.std.specs.Prelude.{ℕ, List, ◌++◌, codes}
 
 -- one listener by itself

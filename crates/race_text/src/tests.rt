@@ -7,6 +7,7 @@ use crate::Record;
 use crate::render::render;
 use chain_book::{Act, Change, PacketAnswer, PassEnd, Receipt, Shape};
 use flat_list::Reply;
+use label_index::LabelSeed;
 use race_record::Looked;
 use sock_card::{Card, Kind, Packet};
 use sock_script::parse::{Mode, ScriptEnd, parse};
@@ -115,7 +116,7 @@ fn told(alloc: Global, net: u8, looked: Vec<Looked>) -> Result<Record, AllocErro
 
 /// The text of the race in that namespace, with what came of these items.
 fn text_of(alloc: Global, net: u8, looked: Vec<Looked>) -> Result<Vec<u8>, ScriptEnd> {
-    let script = parse(alloc, SCRIPT, Mode::Race)?;
+    let script = parse(alloc, LabelSeed::fixed(), SCRIPT, Mode::Race)?;
     let told = told(alloc, net, looked)?;
     Ok(render(alloc, &script, &told)?)
 }
@@ -168,7 +169,7 @@ journal 0 3
 life 1 0 listen 1.a 10.0.0.1:80 0.0.0.0:0 dev 0 net 3 hash 0 1 unhash -
 clock 2
 ";
-    let script = parse(rt.alloc(), DUMP_SCRIPT, Mode::Race)?;
+    let script = parse(rt.alloc(), LabelSeed::fixed(), DUMP_SCRIPT, Mode::Race)?;
     let mut told = told(rt.alloc(), 3, Vec::new(rt.alloc()))?;
     told.replies.push(Reply::Ok)?;
     let mut cards = Vec::new(rt.alloc());

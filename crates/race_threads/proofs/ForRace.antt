@@ -17,8 +17,10 @@ use Rattle.sock_script.specs.declared.line.Line.TheVariants as lines
 use Rattle.sock_script.specs.Words.{words_of, lines_of}
 use Rattle.chain_book.specs.Shapes.{ShapeFits}
 use Rattle.sock_script.specs.Forms.{HasForm, RangeFits}
-use Rattle.sock_script.specs.Grammar.{Draft, Follows, ReadsLine, Reads, MayCome, past, nothing_yet, default_shape, default_range, with_command, is_allowed}
+use Rattle.sock_script.specs.Grammar.{default_shape, default_range, is_allowed}
+use Rattle.sock_script.specs.Reading.{Draft, Follows, ReadsLine, Reads, MayCome, past, nothing_yet, with_command}
 use Rattle.sock_script.proofs.LineCases.{line_cases}
+use Rattle.sock_script.proofs.Reprinted.{read_as}
 use Rattle.table_model.specs.Means.{is_lookup}
 use Rattle.race_threads.specs.Scripts.{FitsRace, LooksNothingUp, ScriptsAreForRace}
 
@@ -122,7 +124,8 @@ range_races None s = record { order = omega arith; even = refl }
 range_races (Some range) s = record { order = omega (arith, s.order); even = s.even }
 
 pub scripts_are_for_race : ScriptsAreForRace
-scripts_are_for_race text script h small =
+scripts_are_for_race text script is small =
+    let h = read_as modes.Race (lines_of text) script is in
     let said = texts_say nothing_yet h.0 (lines_of text) h.1 (record { table = tt; range = tt; looks = tt }) in
     let shape = shape_races h.0.table said.table in
     let range = range_races h.0.range said.range in

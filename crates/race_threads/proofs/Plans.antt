@@ -358,8 +358,8 @@ module _ (shape : Shape) (seed : ℕ) where
 
 -- What a command leaves of the section's own
 
--- the section's number stays, its moment never falls, one label more is given at most, and no socket has a name but an old
--- one or that of the new label
+-- the section's number stays, its moment never falls, one label more is given at most, and no socket has a name but
+-- an old one or that of the new label
 pub record Grows (own next : Own) : Type 0 where
   pub number : next.number ≡ own.number
   pub moment : own.moment ≤ next.moment

@@ -1,4 +1,5 @@
--- Each TIME_WAIT that a section left, and that is over when the section reaps, is on its way out before the reaping ends.
+-- Each TIME_WAIT that a section left, and that is over when the section reaps, is on its way out before the reaping
+-- ends.
 use Rattle.std.proofs.Common.{◌≡◌, ℕ, ◌+◌, ◌-◌, ◌*◌, ◌/◌, ◌^◌, ◌<◌, ◌≤◌, true, IsTrue, List, [], ◌∷◌, length, Option, None, Some, refl, sym, ap, ◌∙◌, subst, arith, ◌⊎◌, inl, inr, ⊎_elim}
 use Rattle.std.proofs.lemmas.Bool.{leb-true}
 use Rattle.std.proofs.lemmas.Nat.{div-mul-add}

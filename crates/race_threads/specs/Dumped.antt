@@ -21,8 +21,8 @@ use Rattle.shared_dump.specs.Books.{AreTold}
 use Rattle.shared_dump.specs.Dumps.{Keeps}
 use Rattle.shared_dump.specs.Sightings.{sightings}
 
--- Between these two numbers all chains were listed, each seen whole, as sightings tell; and in each book of changes in
--- which these are true, so are the cards.
+-- Between these two numbers all chains were listed, each seen whole, as sightings tell; and in each book of changes
+-- in which these are true, so are the cards.
 pub record SawAll (layout : Layout) (sights : List Sight) (from to : ℕ) (cards : List Card) (span : Span) : Type 0 where
   pub begins : from ≤ span.t0
   pub order : span.t0 ≤ span.t1

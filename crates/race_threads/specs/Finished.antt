@@ -31,8 +31,8 @@ listings_in o = o.listings.items
 abbrev pub told_in : Outcome → List Look
 told_in o = o.told.items
 
--- This is what the script's sections and so many lookers of these items left: the chain pass into which all others were
--- joined, the buckets, and what came of each job.
+-- This is what the script's sections and so many lookers of these items left: the chain pass into which all others
+-- were joined, the buckets, and what came of each job.
 pub record HasFinished (script : Script) (all : List Item) (lookers : ℕ) (e : Ended) : Type 0 where
   pub part : ℕ → Part
   pub turns : BindView

@@ -68,8 +68,8 @@ JoinsMore =
     (part : ℕ → Part) (order : List ℕ) (v : BindView) (x : View) (m : ℕ) → Joined part order v x
     → Joined part (order ++ m ∷ []) (joined v (part m).turns) (both x (part m).chain)
 
--- each section reaped to the end: each TIME_WAIT that it left, and that was over at its moment, was on its way out before
--- the step ended
+-- each section reaped to the end: each TIME_WAIT that it left, and that was over at its moment, was on its way out
+-- before the step ended
 abbrev pub ReapsToTheEnd : Type 0
 ReapsToTheEnd =
     (header : Header) (scripts : List (List Command)) (part : ℕ → Part) (lookers : ℕ) (v : BindView) (x : View)

@@ -60,8 +60,8 @@ pub record HasOnlyLooked (p : Part) : Type 0 where
   pub closed : p.chain.book.closed ≡ []
   pub lost : p.chain.book.lost ≡ []
 
--- each section and so many lookers were joined to the first worker, each once, whose passes then came to an end: by the
--- one the clock was loaded, and by the other the bind buckets were taken
+-- each section and so many lookers were joined to the first worker, each once, whose passes then came to an end: by
+-- the one the clock was loaded, and by the other the bind buckets were taken
 pub record HasEnded (header : Header) (scripts : List (List Command)) (part : ℕ → Part) (lookers : ℕ) (v : BindView) (x : View) (values : List (Box Bucket)) (says : List Said) (clock : ℕ) : Type 0 where
   pub order : List ℕ
   pub each_once : SameItems order (range_with_len 1 (length scripts + lookers))

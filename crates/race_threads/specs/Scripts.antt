@@ -1,5 +1,5 @@
--- The scripts of which there can be a race: our own limits, and a range of ports as ip(7) wants it of ip_local_port_range,
--- whose two halves a search tries one after the other.
+-- The scripts of which there can be a race: our own limits, and a range of ports as ip(7) wants it of
+-- ip_local_port_range, whose two halves a search tries one after the other.
 use Rattle.std.specs.Prelude.{◌≡◌, ℕ, ◌+◌, ◌%◌, ◌^◌, ◌<◌, ◌≤◌, false, List}
 use Rattle.list_words.specs.Lists.{Each}
 use Rattle.flat_list.specs.Ports.{size}

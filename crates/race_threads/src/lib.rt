@@ -14,7 +14,7 @@
 //! taken, that the record is lawful (`specs/Races`, `specs/Lookers`).
 //!
 //! ```text
-//! let record = race(&rt, alloc, &script, &capture, lookers, passes, &Open)?;
+//! let record = race(&rt, alloc, LabelSeed::random(&rt), &script, &capture, lookers, passes, &Open)?;
 //! ```
 #![tactic(auto)]
 

@@ -13,13 +13,15 @@ use crate::threads::run_all;
 use capture_reader::Capture;
 use flat_list::Script;
 use inet_io::Gate;
+use label_index::LabelSeed;
 use race_text::Record;
 use std::alloc::{AllocError, Global};
 use std::sync::Wait;
 use std::thread::Threads;
 
 /// Runs each section of the script on a thread of its own, and looks the capture's packets up on so many more, with so
-/// many passes a lookup at most: one race, told whole. Each looker takes the next packet that none has taken yet.
+/// many passes a lookup at most: one race, told whole. Each looker takes the next packet that none has taken yet. The
+/// hashes of labels begin with the seed.
 ///
 /// # Errors
 ///
@@ -27,6 +29,7 @@ use std::thread::Threads;
 pub fn race<R: Threads + Wait + Sync, G: Gate>(
     rt: &R,
     alloc: Global,
+    seed: LabelSeed,
     script: &Script,
     capture: &Capture,
     lookers: u32,
@@ -44,7 +47,7 @@ pub fn race<R: Threads + Wait + Sync, G: Gate>(
     let count = script.sections().len() + lookers as usize;
     let jobs = deal(alloc, &tables, &tickets, &mut first, &mut draws, count)?;
     let done = run_all(
-        rt, alloc, &tables, &tickets, script, capture, passes, gate, jobs,
+        rt, alloc, seed, &tables, &tickets, script, capture, passes, gate, jobs,
     )?;
     let ended = finish(
         alloc,

@@ -15,6 +15,7 @@ ghost use Rattle.race_threads.specs.Workers.{AreTables, IsAtRest, IsFresh, part_
 
 use flat_list::{Command, Header, Reply};
 use inet_io::{Gate, Who};
+use label_index::LabelSeed;
 use section_machine::{Machine, laws};
 use shared_ops::{Tables, Worker};
 use socket_list::Listing;
@@ -53,8 +54,8 @@ fn list_for<R: Wait>(
     Ok(())
 }
 
-/// Carries a section's commands out, beside whoever else is at the tables, and loads the clock behind each. For a `dump`
-/// it lists all sockets, before that load.
+/// Carries a section's commands out, beside whoever else is at the tables, and loads the clock behind each. For a
+/// `dump` it lists all sockets, before that load.
 ///
 /// # Errors
 ///
@@ -62,6 +63,7 @@ fn list_for<R: Wait>(
 pub fn run_section<R: Wait, G: Gate>(
     rt: &R,
     alloc: Global,
+    seed: LabelSeed,
     tables: &Tables,
     header: &Header,
     worker: &mut Worker,
@@ -84,7 +86,7 @@ pub fn run_section<R: Wait, G: Gate>(
         (said_as said.replies.items said.listings.items)) }
 {
     laws::section_begins();
-    let mut machine = Machine::new(alloc, header, number);
+    let mut machine = Machine::new(alloc, seed, header, number);
     let mut replies = Vec::new(alloc);
     let mut listings = Vec::new(alloc);
     for at in 0..commands.len() {

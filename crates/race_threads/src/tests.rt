@@ -7,6 +7,7 @@ use crate::race;
 use capture_reader::Capture;
 use flat_list::{End, Reply};
 use inet_io::Open;
+use label_index::LabelSeed;
 use race_text::Record;
 use sock_card::{Card, Kind};
 use sock_script::parse::{Mode, ScriptEnd, parse};
@@ -108,8 +109,9 @@ fn raced<R: Threads + Wait + Sync>(rt: &R, alloc: Global, text: &[u8]) -> Result
     requires { length text.now ≤ 2 ^ 24 }
 {
     for_race();
-    let script = parse(alloc, text, Mode::Race)?;
-    let record = race(rt, alloc, &script, &Capture::new(alloc), 1, 1, &Open)?;
+    let seed = LabelSeed::fixed();
+    let script = parse(alloc, seed, text, Mode::Race)?;
+    let record = race(rt, alloc, seed, &script, &Capture::new(alloc), 1, 1, &Open)?;
     Ok(record)
 }
 

@@ -12,6 +12,7 @@ use crate::work::work;
 use capture_reader::Capture;
 use flat_list::Script;
 use inet_io::Gate;
+use label_index::LabelSeed;
 use shared_ops::Tables;
 use std::alloc::{AllocError, Global};
 use std::sync::Wait;
@@ -26,6 +27,7 @@ use tickets::Tickets;
 pub fn run_all<R: Threads + Wait + Sync, G: Gate>(
     rt: &R,
     alloc: Global,
+    seed: LabelSeed,
     tables: &Tables,
     tickets: &Tickets,
     script: &Script,
@@ -53,7 +55,7 @@ pub fn run_all<R: Threads + Wait + Sync, G: Gate>(
             (IsWorked script.entry.now capture.entry.now.items tables.entry.now tickets.entry.now job.number) }
     {
         work(
-            rt, alloc, tables, tickets, script, capture, passes, gate, job,
+            rt, alloc, seed, tables, tickets, script, capture, passes, gate, job,
         )
     };
     let done = map_vec(rt, jobs, &run)?;

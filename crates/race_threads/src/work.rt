@@ -13,6 +13,7 @@ use crate::share::look_share;
 use capture_reader::Capture;
 use flat_list::Script;
 use inet_io::Gate;
+use label_index::LabelSeed;
 use shared_ops::Tables;
 use std::alloc::{AllocError, Global};
 use std::sync::Wait;
@@ -26,6 +27,7 @@ use tickets::Tickets;
 pub fn work<R: Wait, G: Gate>(
     rt: &R,
     alloc: Global,
+    seed: LabelSeed,
     tables: &Tables,
     tickets: &Tickets,
     script: &Script,
@@ -56,6 +58,7 @@ pub fn work<R: Wait, G: Gate>(
         let Said { replies, listings } = run_section(
             rt,
             alloc,
+            seed,
             tables,
             script.header(),
             &mut worker,

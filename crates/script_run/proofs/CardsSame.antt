@@ -3,38 +3,8 @@ use Rattle.std.proofs.Common.{◌≡◌, ℕ, Bool, true, false, ◌&&◌, ◌==
 use Rattle.std.proofs.lemmas.Bool.{and_parts, and_from, eqb-true, eq-eqb}
 use Rattle.sock_card.specs.declared.card.Card.{Card}
 use Rattle.sock_card.specs.declared.card.Kind.{Kind}
-use Rattle.sock_card.specs.declared.card.Kind.TheVariants as kinds
-
-abbrev same_kind : Kind → Kind → Bool
-same_kind kinds.Full kinds.Full = true
-same_kind kinds.TimeWait kinds.TimeWait = true
-same_kind kinds.Listen kinds.Listen = true
-same_kind kinds.Request kinds.Request = true
-same_kind _ _ = false
-
-kind_is : (a b : Kind) → same_kind a b ≡ true → a ≡ b
-kind_is kinds.Full kinds.Full h = refl
-kind_is kinds.TimeWait kinds.TimeWait h = refl
-kind_is kinds.Listen kinds.Listen h = refl
-kind_is kinds.Request kinds.Request h = refl
-kind_is kinds.Full kinds.TimeWait h = absurd (cc)
-kind_is kinds.Full kinds.Listen h = absurd (cc)
-kind_is kinds.TimeWait kinds.Full h = absurd (cc)
-kind_is kinds.TimeWait kinds.Listen h = absurd (cc)
-kind_is kinds.Listen kinds.Full h = absurd (cc)
-kind_is kinds.Listen kinds.TimeWait h = absurd (cc)
-kind_is kinds.Full kinds.Request h = absurd (cc)
-kind_is kinds.Request kinds.Full h = absurd (cc)
-kind_is kinds.TimeWait kinds.Request h = absurd (cc)
-kind_is kinds.Request kinds.TimeWait h = absurd (cc)
-kind_is kinds.Listen kinds.Request h = absurd (cc)
-kind_is kinds.Request kinds.Listen h = absurd (cc)
-
-kind_itself : (a : Kind) → same_kind a a ≡ true
-kind_itself kinds.Full = refl
-kind_itself kinds.TimeWait = refl
-kind_itself kinds.Listen = refl
-kind_itself kinds.Request = refl
+use Rattle.sock_card.specs.Kinds.{same_kind}
+use Rattle.sock_card.proofs.SameKinds.{kind_is, kind_itself}
 
 abbrev same_ends : Card → Card → Bool
 same_ends a b = (a.local == b.local) && ((a.lport == b.lport) && ((a.remote == b.remote) && (a.rport == b.rport)))

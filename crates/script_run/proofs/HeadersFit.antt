@@ -12,8 +12,10 @@ use Rattle.sock_script.specs.declared.line.Line.TheVariants as lines
 use Rattle.sock_script.specs.Words.{words_of, lines_of}
 use Rattle.chain_book.specs.Shapes.{ShapeFits}
 use Rattle.sock_script.specs.Forms.{HasForm, RangeFits}
-use Rattle.sock_script.specs.Grammar.{Draft, Follows, ReadsLine, Reads, past, nothing_yet, default_shape, default_range}
+use Rattle.sock_script.specs.Grammar.{default_shape, default_range}
+use Rattle.sock_script.specs.Reading.{Draft, Follows, ReadsLine, Reads, past, nothing_yet}
 use Rattle.sock_script.proofs.LineCases.{line_cases}
+use Rattle.sock_script.proofs.Reprinted.{read_as}
 use Rattle.script_run.specs.Fits.{FitsTables, ScriptsFit}
 
 -- a shape or a range that was said fits
@@ -81,7 +83,8 @@ range_runs None s = record { order = omega arith; even = refl }
 range_runs (Some range) s = record { order = omega (arith, s.order); even = s.even }
 
 pub scripts_fit : ScriptsFit
-scripts_fit mode text script h =
+scripts_fit mode text script is =
+    let h = read_as mode (lines_of text) script is in
     let said = texts_fit mode nothing_yet h.0 (lines_of text) h.1 (record { table = tt; range = tt }) in
     let shape = shape_runs h.0.table said.table in
     let range = range_runs h.0.range said.range in

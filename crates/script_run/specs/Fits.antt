@@ -7,8 +7,8 @@ use Rattle.flat_list.specs.Script.{Script}
 use Rattle.sock_script.specs.declared.parse.Mode.{Mode}
 use Rattle.sock_script.specs.Grammar.{IsScript}
 
--- one bucket of each kind at least, 256 bind buckets at most, chains and slots that 32 bits count, and an even number of
--- ports
+-- one bucket of each kind at least, 256 bind buckets at most, chains and slots that 32 bits count, and an even number
+-- of ports
 pub record FitsTables (header : Header) : Type 0 where
   pub bind : 1 ≤ header.shape.bind
   pub most : header.shape.bind ≤ 256

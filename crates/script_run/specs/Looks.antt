@@ -1,4 +1,4 @@
--- What a packet finds at tables that nobody else is at: our own.
+-- What a packet finds at tables that nobody else is at: our own. No public contract cites this file.
 use Rattle.std.specs.Prelude.{◌≡◌, Option, None, Some}
 use Rattle.capture_reader.specs.declared.packet.Item.{Item}
 use Rattle.chain_book.specs.declared.book.PacketAnswer.{PacketAnswer}

@@ -1,4 +1,5 @@
--- A worker that is alone at its tables, between two calls, and the tables as it knows them: our own.
+-- A worker that is alone at its tables, between two calls, and the tables as it knows them: our own. No public
+-- contract cites this file.
 use Rattle.bind_buckets.specs.Turned.{IsAlone}
 use Rattle.chain_deeds.specs.Sides.{HoldsNothing, chains_by}
 use Rattle.reuseport_group.specs.Passes as lists
@@ -16,8 +17,8 @@ use Rattle.turn_table.specs.Passes as words
 abbrev pub tables_of : Tables → Worker → plain.Tables
 tables_of t w = tables_by (buckets_of t) (words.given w.turns) (chains_by (chained t w))
 
--- Its passes were never split, and no call of its is under way; the list that was published last for each group is the
--- one that its bucket has.
+-- Its passes were never split, and no call of its is under way; the list that was published last for each group is
+-- the one that its bucket has.
 pub record IsSole (t : Tables) (w : Worker) : Type 0 where
   pub ready : IsReady t w
   pub turns : IsAlone (turned w)

@@ -1,4 +1,4 @@
--- What the steps of a run leave. No public contract cites this file.
+-- What the steps of a run leave: our own. No public contract cites this file.
 use Rattle.std.specs.Prelude.{◌≡◌, ℕ, ◌+◌, ◌-◌, ◌*◌, ◌^◌, ◌≤◌, List, ◌++◌, map, length, None, find}
 use Rattle.capture_reader.specs.declared.packet.Item.{Item}
 use Rattle.flat_list.specs.declared.header.Header.{Header}
@@ -68,8 +68,8 @@ ListsFor t command before out =
     (flat : Flat) → IsShape flat.header → IsSound flat → TablesMean t flat
     → out ≡ before ++ listings_at flat command
 
--- From whatever list the tables and the section's own meant, the command was run: what is replied to it and to the items
--- that it comes to, and what it lists, is the list's, and what the list leaves is meant now.
+-- From whatever list the tables and the section's own meant, the command was run: what is replied to it and to the
+-- items that it comes to, and what it lists, is the list's, and what the list leaves is meant now.
 pub record RunsOne (number : ℕ) (flat : Flat) (command : Command) (items left : List Item) (before out : Replies) (own : Own) (new : Tables) : Type 0 where
   pub runs : RunsCommand flat (step flat number command).flat number command items left before out
   pub means : Means number own new (step flat number command).flat
@@ -87,7 +87,8 @@ pub record StartsAt (header : Header) (n : ℕ) (t : Tables) (flat : Flat) : Typ
   pub tables : TablesMean t flat
   pub fresh : (m : ℕ) → n ≤ m → find (has_number m) flat.sections ≡ None
 
--- section n was run from that list on: what was replied and listed is the list's, and the tables mean what the list has become
+-- section n was run from that list on: what was replied and listed is the list's, and the tables mean what the list
+-- has become
 pub record RanSection (header : Header) (n : ℕ) (t : Tables) (first : Flat) (commands : List Command) (items left : List Item) (before out : Replies) : Type 0 where
   pub runs : RunsSection first (after first (issue n commands)) n commands items left before out
   pub starts : StartsAt header (n + 1) t (after first (issue n commands))

@@ -7,7 +7,7 @@
 //! `table_dump`.
 //!
 //! ```text
-//! let replies = run(&rt, alloc, &script, &capture)?;
+//! let replies = run(&rt, alloc, LabelSeed::random(&rt), &script, &capture)?;
 //! ```
 #![tactic(auto)]
 

@@ -1,6 +1,6 @@
 //! The run of a script: its sections one after the other, by one worker.
 
-ghost use Rattle.std.specs.Prelude.{◌≡◌, ◌<◌, ◌+◌, ◌-◌, ◌≤◌, ◌^◌, false, length, IfOk, OnOk};
+ghost use Rattle.std.specs.Prelude.{◌≡◌, ◌<◌, ◌+◌, ◌-◌, ◌≤◌, ◌^◌, [], false, length, IfOk, OnOk};
 ghost use Rattle.flat_list.specs.Script.{IsSmall};
 ghost use Rattle.script_run.specs.Fits.{FitsTables};
 ghost use Rattle.script_run.specs.Looks.{AnswersItem, Looked};
@@ -18,6 +18,7 @@ use crate::start::start;
 use capture_reader::{Capture, Item};
 use flat_list::owned::packet_of;
 use flat_list::{Command, Header, Reply, Script};
+use label_index::LabelSeed;
 use section_machine::{Machine, laws};
 use shared_ops::{Tables, Worker};
 use sock_script::Replies;
@@ -122,6 +123,7 @@ fn run_command<'a, R: Wait>(
 fn run_section<'a, R: Wait>(
     rt: &R,
     alloc: Global,
+    seed: LabelSeed,
     header: &Header,
     tables: &Tables,
     worker: &mut Worker,
@@ -146,7 +148,7 @@ fn run_section<'a, R: Wait>(
         items.now left.now replies.old replies.new) }
 {
     laws::section_comes_next();
-    let mut machine = Machine::new(alloc, header, n);
+    let mut machine = Machine::new(alloc, seed, header, n);
     let mut left = items;
     for command in commands {
         left = run_command(
@@ -163,10 +165,25 @@ fn run_section<'a, R: Wait>(
     Ok(left)
 }
 
+/// No replies yet, with room for one to each command and each item: what grows by doubling leaves its former blocks
+/// behind, among those of the tables.
+fn no_replies(alloc: Global, script: &Script, capture: &Capture) -> Result<Replies, AllocError>
+    ensures { IfOk result (λ replies. replies ≡ record { each = []; listings = [] }) }
+{
+    let mut count = capture.items().len();
+    for commands in script.sections() {
+        count = count.saturating_add(commands.len());
+    }
+    Ok(Replies {
+        each: Vec::with_capacity(alloc, count)?,
+        listings: Vec::new(alloc),
+    })
+}
+
 /// Runs a script's sections one after the other over new tables, looks up the packets of its capture that no
 /// command took, and gives what is replied to each command and each item, and what each `dump` lists.
 ///
-/// Takes memory for the tables, the sockets, the replies and the listings.
+/// Takes memory for the tables, the sockets, the replies and the listings. The hashes of labels begin with the seed.
 ///
 /// # Errors
 ///
@@ -174,6 +191,7 @@ fn run_section<'a, R: Wait>(
 pub fn run<R: Wait>(
     rt: &R,
     alloc: Global,
+    seed: LabelSeed,
     script: &Script,
     capture: &Capture,
 ) -> Result<Replies, AllocError>
@@ -184,12 +202,13 @@ pub fn run<R: Wait>(
 {
     let header = script.header();
     let (tables, mut worker) = start(alloc, header)?;
-    let mut replies = Replies::new(alloc);
+    let mut replies = no_replies(alloc, script, capture)?;
     let mut left = capture.items();
     for (i, commands) in script.sections().iter().enumerate() {
         left = run_section(
             rt,
             alloc,
+            seed,
             header,
             &tables,
             &mut worker,

@@ -7,6 +7,7 @@ use capture_reader::Capture;
 use flat_list::{
     Command, End, Header, Label, NONE_RESERVED, Options, Query, Range, Reply, Script, Shape,
 };
+use label_index::LabelSeed;
 use sock_card::{Card, Kind};
 use std::alloc::{AllocError, Global};
 use std::test::Fail;
@@ -81,7 +82,13 @@ fn nothing_is_found_in_new_tables(rt: HostRuntime) -> Result<(), Fail> {
     let mut sections = Vec::new(alloc);
     sections.push(looking(alloc)?)?;
     let script = Script::new(HEADER, sections, None);
-    let replies = run(&rt, alloc, &script, &Capture::new(alloc))?;
+    let replies = run(
+        &rt,
+        alloc,
+        LabelSeed::fixed(),
+        &script,
+        &Capture::new(alloc),
+    )?;
     assert_eq!(rt; replies.each.as_slice(), [Reply::Found(None)].as_slice());
     Ok(())
 }
@@ -92,7 +99,13 @@ fn a_listener_is_listed(rt: HostRuntime) -> Result<(), Fail> {
     let mut sections = Vec::new(alloc);
     sections.push(listening(alloc)?)?;
     let script = Script::new(HEADER, sections, None);
-    let replies = run(&rt, alloc, &script, &Capture::new(alloc))?;
+    let replies = run(
+        &rt,
+        alloc,
+        LabelSeed::fixed(),
+        &script,
+        &Capture::new(alloc),
+    )?;
     let card = Card {
         local: HERE.addr,
         lport: HERE.port,

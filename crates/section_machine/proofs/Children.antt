@@ -9,6 +9,7 @@ use Rattle.flat_list.specs.declared.header.Header.{Header}
 use Rattle.flat_list.specs.declared.command.End.{End}
 use Rattle.flat_list.specs.declared.command.Reply.{Reply}
 use Rattle.flat_list.specs.declared.command.Reply.TheVariants as replies
+use Rattle.label_index.specs.Places.{place_in}
 use Rattle.race_record.specs.Deeds.{entries_in}
 use Rattle.table_model.specs.declared.operation.OpEnd.{OpEnd}
 use Rattle.table_model.specs.Asking.{Asking, ends, and_then}
@@ -23,7 +24,7 @@ use Rattle.shared_ops.specs.Goes.{Went}
 use Rattle.shared_ops.specs.Socks.{mine_of, FitsState}
 use Rattle.shared_ops.specs.Stands.{IsReady, MayTell, StandsAs, buckets_of, turned, chained}
 use Rattle.section_machine.specs.Carried.{Carries}
-use Rattle.section_machine.specs.Places.{Labelled, at_place, named_by, place_in, with_place, own_of}
+use Rattle.section_machine.specs.Places.{Labelled, at_place, named_by, with_place, own_of}
 use Rattle.section_machine.specs.Sections.{Kept, kept}
 use Rattle.section_machine.specs.Standing.{Roll, roll_of, AreOf, IsSection, IsOpen}
 use Rattle.section_machine.proofs.Asked.{AskedSo, asked_so, IsBirth, IsBirthOf, ChildOf, of_accept, of_syn}

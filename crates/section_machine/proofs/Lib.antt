@@ -1,4 +1,3 @@
-mod Index
 mod Places
 mod Told
 pub mod Names

@@ -6,9 +6,10 @@ use Rattle.std.proofs.lemmas.List.Elements.{filter_map-append}
 use Rattle.list_words.specs.Lists.{Each}
 use Rattle.list_words.proofs.EachLemmas.{each_weaken}
 use Rattle.flat_list.specs.Sections.{name_at}
+use Rattle.label_index.specs.Places.{place_in}
 use Rattle.table_model.specs.Own.{Mine, Offsets, is_named, replaced, open_socket}
 use Rattle.table_model.proofs.lists.Weights.{is_ne, is_same}
-use Rattle.section_machine.specs.Places.{at_place, those, HaveNames, Labelled, named_by, own_of, place_in}
+use Rattle.section_machine.specs.Places.{at_place, those, HaveNames, Labelled, named_by, own_of}
 
 find_none : (k : ℕ) (ms : List Mine) → Each (λ (m : Mine). is_named k m ≡ false) ms → find (is_named k) ms ≡ None
 find_none k [] h = refl

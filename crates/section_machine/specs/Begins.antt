@@ -9,8 +9,8 @@ use Rattle.shared_ops.specs.Stands.{IsReady, turned}
 use Rattle.section_machine.specs.Sections.{kept}
 use Rattle.section_machine.specs.Standing.{AreOf, IsSection, IsUnspoken, Tells}
 
--- a new section is a worker's that is ready at the header's tables and asked no bucket about a name of this section, or of
--- a later one
+-- a new section is a worker's that is ready at the header's tables and asked no bucket about a name of this section,
+-- or of a later one
 abbrev pub SectionComesNext : Type 0
 SectionComesNext =
     (t : Tables) (header : Header) (number : ℕ) (w : Worker) → AreOf header t → IsReady t w → number ≤ 64

@@ -81,8 +81,8 @@ pub record ReapsSome (own : Own) (deeds : List Deed) (next : Own) : Type 0 where
 abbrev pub GivesLabel : Own → List ℕ → List Deed → List (Placed Entry) → Own → Type 0
 GivesLabel own label deeds back next = (next ≡ with_label own label) ⊎ IsUntouched own deeds back next
 
--- What the section keeps, by what was asked and done: what it had, past the offset of a search that began, and the label of
--- an accepted child or of a request. `at` and `dump` are never left off.
+-- What the section keeps, by what was asked and done: what it had, past the offset of a search that began, and the
+-- label of an accepted child or of a request. `at` and `dump` are never left off.
 abbrev pub Leaves : Own → Command → List Deed → List (Placed Entry) → Own → Type 0
 Leaves own (commands.Accept listener label from at) deeds back next = GivesLabel own label deeds back next
 Leaves own (commands.Syn listener label from at) deeds back next = GivesLabel own label deeds back next
@@ -92,8 +92,8 @@ Leaves own (commands.At moment) deeds back next = ⊥
 Leaves own commands.Dump deeds back next = ⊥
 Leaves own command deeds back next = next ≡ after_search (searches own command) own
 
--- The command's plan went so far by these deeds, and was left off; a port that it had taken was given up. The pass of the
--- buckets gave their entries, the pass of the chains made their changes, and neither did anything else.
+-- The command's plan went so far by these deeds, and was left off; a port that it had taken was given up. The pass of
+-- the buckets gave their entries, the pass of the chains made their changes, and neither did anything else.
 pub record LeftOff (header : Header) (own : Own) (command : Command) (v w : View) (c d : Side) (next : Own) : Type 0 where
   pub rest : Asking Replied
   pub deeds : List Deed

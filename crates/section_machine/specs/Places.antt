@@ -1,23 +1,12 @@
 -- The labels of a section, each with the open socket that it names, and how both are found without a search: our own.
-use Rattle.std.specs.Prelude.{◌≡◌, ℕ, ◌<◌, List, [], ◌∷◌, ◌++◌, length, Option, None, Some, option_and_then, position, bytes_eq, slice_set, map, IfSome}
+use Rattle.std.specs.Prelude.{◌≡◌, ℕ, ◌<◌, List, [], ◌∷◌, ◌++◌, length, Option, None, Some, option_and_then, slice_set, map, IfSome}
 use Rattle.std.specs.List.{filter_map, slice_index_or}
 use Rattle.std.specs.Option.{option_map}
-use Rattle.std.specs.BTreeMap.{BTreeMap, get_by}
-use Rattle.flat_list.specs.declared.command.LabelKey.{LabelKey}
-use Rattle.flat_list.specs.Labels.{IsLabel, key_of, key_cmp}
 use Rattle.flat_list.specs.Sections.{name_at}
+use Rattle.label_index.specs.Places.{place_in}
 use Rattle.table_model.specs.Own.{Own, Mine, Offsets}
 use Rattle.shared_ops.specs.declared.sock.Sock.{Sock}
 use Rattle.shared_ops.specs.Socks.{mine_of, FitsState}
-
--- where a label was given first, if it was
-abbrev pub place_in : List (List ℕ) → List ℕ → Option ℕ
-place_in labels label = position (λ l. bytes_eq l label) labels
-
--- the index tells that of each label, by its key
-abbrev pub IsIndexOf : BTreeMap LabelKey ℕ → List (List ℕ) → Type 0
-IsIndexOf index labels =
-    (label : List ℕ) → IsLabel label → get_by (key_cmp (key_of label)) index ≡ place_in labels label
 
 -- the sockets of such places
 abbrev pub mines : List (Option Sock) → List (Option Mine)
@@ -35,7 +24,8 @@ those places = filter_map (λ (o : Option Mine). o) places
 abbrev pub HaveNames : (ℕ → ℕ) → List (Option Mine) → Type 0
 HaveNames name places = (i : ℕ) → IfSome (at_place places i) (λ (m : Mine). m.owner.name ≡ name i)
 
--- a section's number, its labels in the order in which they were given, and at each one's place its socket, while it is open
+-- a section's number, its labels in the order in which they were given, and at each one's place its socket, while it
+-- is open
 pub record Labelled : Type 0 where
   pub number : ℕ
   pub labels : List (List ℕ)

@@ -17,8 +17,8 @@ use Rattle.shared_ops.specs.declared.tables.Worker.{Worker}
 use Rattle.shared_ops.specs.Stands.{IsReady, IsAway, IsOwner, IsHashed, buckets_of, turned, chained}
 use Rattle.section_machine.specs.Sections.{Kept}
 
--- Of a section, what it rests on that its sockets stand: its number, the name that its next label will stand for, and the
--- sockets
+-- Of a section, what it rests on that its sockets stand: its number, the name that its next label will stand for, and
+-- the sockets
 pub record Roll : Type 0 where
   pub number : ℕ
   pub next : ℕ
@@ -44,9 +44,9 @@ Tells caller number = caller ≢ 0 → number ≡ caller
 abbrev pub IsApart : (ℕ → Bool) → ℕ → Mine → Type 0
 IsApart mine name m = m.owner.state ≢ states.Listening → m.owner.name ≢ name → mine m.owner.name ≡ false
 
--- The names on which it rests what bind buckets know of the socket of that name: its own, and that of a listener by which
--- it came. Labels stood for all of them; another of them is no open socket's, unless that listens; and nothing that
--- the worker asked put one of them into TIME_WAIT.
+-- The names on which it rests what bind buckets know of the socket of that name: its own, and that of a listener by
+-- which it came. Labels stood for all of them; another of them is no open socket's, unless that listens; and nothing
+-- that the worker asked put one of them into TIME_WAIT.
 pub record Family (r : Roll) (name : ℕ) (v : View) : Type 0 where
   pub mine : ℕ → Bool
   pub it : mine name ≡ true

@@ -87,8 +87,8 @@ impl Machine {
         }
     }
 
-    /// Lets those of the section's sockets in TIME_WAIT go that have lasted their minute, and counts those that were still
-    /// there. For want of memory a first part of them is gone, and the others are left for the next call.
+    /// Lets those of the section's sockets in TIME_WAIT go that have lasted their minute, and counts those that were
+    /// still there. For want of memory a first part of them is gone, and the others are left for the next call.
     pub(crate) fn reap<R: Wait>(
         &mut self,
         rt: &R,

@@ -4,16 +4,16 @@ ghost use Rattle.std.specs.Prelude.{◌≡◌, ◌+◌, ◌<◌, ◌≤◌, ◌^
 ghost use Rattle.std.specs.Option.{option_map};
 ghost use Rattle.std.specs.Borrow.{Bor};
 ghost use Rattle.flat_list.specs.Sections as sections;
+ghost use Rattle.label_index.specs.Places.{place_in};
 ghost use Rattle.table_model.specs.Own.{is_named};
 ghost use Rattle.section_machine.specs.Places as spec;
 ghost use Rattle.section_machine.specs.Places.{HaveNames, IsUnnamed, Takes, at_place, those};
 ghost use Rattle.shared_ops.specs.Socks.{FitsState, mine_of};
-ghost use Rattle.section_machine.specs.Steps.{NotesPlace};
 
-use flat_list::{Label, LabelKey};
+use flat_list::Label;
+use label_index::{LabelIndex, LabelSeed};
 use shared_ops::Sock;
 use std::alloc::{AllocError, Global};
-use std::collections::BTreeMap;
 use std::marker::Model;
 use std::mem;
 
@@ -21,9 +21,7 @@ use std::mem;
 #[derive(Drop)]
 pub struct Labels {
     number: u32,
-    given: Vec<Label>,
-    /// Where each label was given first, so that finding it takes no scan.
-    index: BTreeMap<LabelKey, usize>,
+    given: LabelIndex,
     sockets: Vec<Option<Sock>>,
 }
 
@@ -33,25 +31,9 @@ impl Model for Labels {
 
     ghost Value = { Labelled };
 
-    ghost view = { λ l. record { number = l.number; labels = l.given.items; places = mines l.sockets.items } };
+    ghost view = { λ l. record { number = l.number; labels = l.given; places = mines l.sockets.items } };
 
-    ghost invariant = { λ l. AreLabels l.number l.given.items l.index l.sockets.items };
-}
-
-/// Notes the place of a label, unless it was given before.
-fn note_place(
-    index: &mut BTreeMap<LabelKey, usize>,
-    label: &Label,
-    place: usize,
-) -> Result<(), AllocError>
-    ensures noted { OnOk result (NotesPlace index.old label.now place index.new) }
-    ensures err { OnErr result (index.new.entries ≡ index.old.entries) }
-{
-    let key = label.key();
-    if let None = index.get(&key) {
-        index.insert(key, place)?;
-    }
-    Ok(())
+    ghost invariant = { λ l. AreLabels l.number l.given l.sockets.items };
 }
 
 /// Takes the socket out of its place.
@@ -64,15 +46,14 @@ fn take_at(sockets: &mut [Option<Sock>], place: usize) -> Option<Sock>
 }
 
 impl Labels {
-    /// Of a section that has given none. It takes no memory.
-    pub fn new(alloc: Global, number: u32) -> Self
+    /// Of a section that has given none, whose hashes of labels begin with the seed. It takes no memory.
+    pub fn new(alloc: Global, seed: LabelSeed, number: u32) -> Self
         requires { number ≤ 64 }
         ensures { result ≡ spec.no_labels number }
     {
         Labels {
             number,
-            given: Vec::new(alloc),
-            index: BTreeMap::new(alloc),
+            given: LabelIndex::new(alloc, seed),
             sockets: Vec::new(alloc),
         }
     }
@@ -99,21 +80,19 @@ impl Labels {
         ensures given { OnOk result (self.new ≡ spec.with_given self.old label) }
         ensures err { OnErr result (self.new ≡ self.old) }
     {
-        self.given.reserve(1)?;
         self.sockets.reserve(1)?;
-        note_place(&mut self.index, &label, self.given.len())?;
-        self.given.push(label)?;
+        self.given.give(&label)?;
         self.sockets.push(None)?;
         Ok(())
     }
 
     /// Where a label was given first.
     pub(crate) fn place_of(&self, label: &Label) -> Option<usize>
-        ensures place { result ≡ spec.place_in self.now.labels label.now }
+        ensures place { result ≡ place_in self.now.labels label.now }
         ensures within { IfSome result (λ place. place < length self.now.labels) }
         ensures names { HaveNames (sections.name_at self.now.number) self.now.places }
     {
-        self.index.get(&label.key()).copied()
+        self.given.place_of(label)
     }
 
     /// The open socket at the place of a label.

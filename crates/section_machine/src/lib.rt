@@ -10,7 +10,7 @@
 //! the contract says by which entries and changes it went so far, and what the section keeps.
 //!
 //! ```text
-//! let mut machine = Machine::new(alloc, &header, number);
+//! let mut machine = Machine::new(alloc, seed, &header, number);
 //! let reply = machine.step(&rt, &tables, &mut worker, &command)?;
 //! ```
 #![tactic(auto)]

@@ -22,6 +22,7 @@ use crate::labels::Labels;
 use crate::offsets::Offsets;
 use crate::waits::Waits;
 use flat_list::{Command, End, First, Header, Label, Options, Reply};
+use label_index::LabelSeed;
 use shared_ops::{OpEnd, Sock, Tables, Unbound, Worker, bind, listen};
 use sock_card::State;
 use std::alloc::{AllocError, Global};
@@ -88,8 +89,8 @@ fn searches_bind(socket: &Sock, end: End) -> bool
 }
 
 impl Machine {
-    /// The section of that number, before its first command.
-    pub fn new(alloc: Global, header: &Header, number: u32) -> Self
+    /// The section of that number, before its first command, whose hashes of labels begin with the seed.
+    pub fn new(alloc: Global, seed: LabelSeed, header: &Header, number: u32) -> Self
         requires number { number ≤ 64 }
         requires range { header.now.range.low ≤ header.now.range.high }
         requires even { size header.now.range % 2 ≡ 0 }
@@ -97,7 +98,7 @@ impl Machine {
     {
         Machine {
             header: *header,
-            labels: Labels::new(alloc, number),
+            labels: Labels::new(alloc, seed, number),
             moment: 0,
             offsets: Offsets::new(header, number),
             waits: Waits::new(alloc),
@@ -284,11 +285,12 @@ impl Machine {
     ///
     /// # Errors
     ///
-    /// Want of memory: the plan went some way by the entries and changes that this call made, and by no others, and a port
-    /// that it had taken is given up. The section has its header, number, moment and open sockets still; its offsets are
-    /// past one, where a search began; of a `reap` the first TIME_WAITs that are over are gone, and the others left; and
-    /// the label of an accepted child or of a request is given, unless nothing was done at all. The worker is ready. How
-    /// far the plan went is not told, nor that the section's sockets stand at the tables: the program ends there.
+    /// Want of memory: the plan went some way by the entries and changes that this call made, and by no others, and a
+    /// port that it had taken is given up. The section has its header, number, moment and open sockets still; its
+    /// offsets are past one, where a search began; of a `reap` the first TIME_WAITs that are over are gone, and the
+    /// others left; and the label of an accepted child or of a request is given, unless nothing was done at all. The
+    /// worker is ready. How far the plan went is not told, nor that the section's sockets stand at the tables: the
+    /// program ends there.
     pub fn step<R: Wait>(
         &mut self,
         rt: &R,

@@ -17,7 +17,7 @@ pub loop-i-init : goal.loop-i-init
 loop-i-init g c =
     let e = c.in_ok-tables.ensures in
     let header = c.header-header.result.now in
-    rw c.new-replies.ensures
+    rw c.in_ok-replies.ensures
     (record {
       sole = e.sole;
       unspoken = e.unspoken;

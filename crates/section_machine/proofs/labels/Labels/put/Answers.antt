@@ -13,7 +13,6 @@ pub invariant_of-self : goal.invariant_of-self
 invariant_of-self c = record {
   section = c.self.invariant.section;
   few = c.self.invariant.few;
-  index_is = c.self.invariant.index_is;
   count = length-set c.self.inside.sockets.items c.args.place (Some c.args.socket) ∙ c.self.invariant.count;
   names =
       subst (HaveNames (name_at c.self.inside.number)) (sym (map-set (option_map mine_of) c.self.inside.sockets.items c.args.place (Some c.args.socket)))
@@ -23,6 +22,6 @@ invariant_of-self c = record {
 
 pub returns-clause-put : goal.returns-clause-put
 returns-clause-put c =
-    ap (λ (ps : List (Option Mine)). record { number = c.self.inside.number; labels = c.self.inside.given.items; places = ps })
+    ap (λ (ps : List (Option Mine)). record { number = c.self.inside.number; labels = c.self.inside.given; places = ps })
     (map-set (option_map mine_of) c.self.inside.sockets.items c.args.place (Some c.args.socket))
     ∙ ap (λ (l : Labelled). with_place l c.args.place (Some (mine_of c.args.socket))) c.self.view_is
