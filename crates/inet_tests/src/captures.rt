@@ -3,6 +3,7 @@
 use crate::tests::{PLAIN, call};
 use inet_tool::Status;
 use std::alloc::{AllocError, Global};
+use std::random::RandomSource;
 use std::sync::Wait;
 use std::test::Fail;
 use std::thread::Threads;
@@ -73,7 +74,7 @@ pub fn input_of(alloc: Global, text: &str, parts: &[&str]) -> Result<Vec<u8>, Al
 
 /// Whether `inet run` ends well on a text and the parts of a capture, and writes those two texts.
 fn writes(
-    rt: &(impl Threads + Wait + Sync + AllocGlobal),
+    rt: &(impl Threads + Wait + Sync + RandomSource + AllocGlobal),
     text: &str,
     parts: &[&str],
     wanted: [&str; 2],

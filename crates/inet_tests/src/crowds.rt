@@ -5,6 +5,7 @@ use crate::captures::{HEADER, RECORDS, input_of};
 use crate::tests::{PLAIN, call};
 use inet_tool::Status;
 use std::alloc::{AllocError, Global};
+use std::random::RandomSource;
 use std::str::from_utf8;
 use std::sync::Wait;
 use std::test::Fail;
@@ -92,7 +93,7 @@ fn ending(text: &str, end: &str) -> u32 {
 
 /// What is written of a race, if it is one.
 fn race(
-    rt: &(impl Threads + Wait + Sync + AllocGlobal),
+    rt: &(impl Threads + Wait + Sync + RandomSource + AllocGlobal),
     input: Vec<u8>,
 ) -> Result<Option<String>, AllocError> {
     let (status, written) = call(rt, &WORDS, input, PLAIN)?;
@@ -103,7 +104,10 @@ fn race(
 }
 
 /// Whether an audit of what a race wrote says yes.
-fn passes(rt: &(impl Threads + Wait + Sync + AllocGlobal), text: &str) -> Result<bool, AllocError> {
+fn passes(
+    rt: &(impl Threads + Wait + Sync + RandomSource + AllocGlobal),
+    text: &str,
+) -> Result<bool, AllocError> {
     let text = text.as_bytes().to_vec(rt.alloc())?;
     let (status, written) = call(rt, &["inet", "audit"], text, PLAIN)?;
     Ok(status == Status::Done && written.starts_with(b"yes lives "))

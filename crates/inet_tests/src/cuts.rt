@@ -4,6 +4,7 @@ use crate::captures::{BLOCKS, HEADER, LISTENER, LISTENING, RECORDS, input_of};
 use crate::tests::{Ends, OUTPUT, PLAIN, SCRIPT, call, run};
 use inet_tool::Status;
 use std::alloc::{AllocError, Global};
+use std::random::RandomSource;
 use std::sync::Wait;
 use std::test::Fail;
 use std::thread::Threads;
@@ -11,8 +12,8 @@ use std::thread::Threads;
 /// An input up to a length at which nothing of it is cut off in its middle, and what is written for it.
 type Whole = (usize, &'static str);
 
-/// The script of two sockets, where its last line is whole, with its line feed or without, or names another port without
-/// its last digit.
+/// The script of two sockets, where its last line is whole, with its line feed or without, or names another port
+/// without its last digit.
 const SCRIPTS: [Whole; 13] = [
     (0, ""),
     (8, ""),
@@ -64,7 +65,7 @@ fn last_whole(wholes: &[Whole], len: usize) -> Whole {
 
 /// What `inet run` answers to the first bytes of an input.
 fn run_cut(
-    rt: &(impl Threads + Wait + Sync + AllocGlobal),
+    rt: &(impl Threads + Wait + Sync + RandomSource + AllocGlobal),
     input: &[u8],
     len: usize,
 ) -> Result<(Status, Vec<u8>), AllocError> {

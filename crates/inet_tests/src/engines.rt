@@ -4,6 +4,7 @@ ghost use Rattle.std.specs.Prelude.{◌≤◌, ◌^◌, length};
 
 use capture_reader::Capture;
 use flat_list::Script;
+use label_index::LabelSeed;
 use sock_script::parse::parse;
 use sock_script::{Mode, Replies, capture, output, run};
 use std::alloc::{AllocError, Global};
@@ -39,14 +40,15 @@ fn text_of(
 fn reply_alike<R: Wait>(rt: &R, alloc: Global, text: &[u8]) -> Result<bool, AllocError>
     requires { length text.now ≤ 2 ^ 24 }
 {
-    let Ok(script) = parse(alloc, text, Mode::Run) else {
+    let seed = LabelSeed::fixed();
+    let Ok(script) = parse(alloc, seed, text, Mode::Run) else {
         return Ok(false);
     };
     let Ok(capture) = capture::read(alloc, &script, text) else {
         return Ok(false);
     };
     let by_list = run::replies(alloc, &script, capture.items())?;
-    let by_tables = script_run::run(rt, alloc, &script, &capture)?;
+    let by_tables = script_run::run(rt, alloc, seed, &script, &capture)?;
     let list_text = text_of(alloc, &script, &capture, &by_list)?;
     let table_text = text_of(alloc, &script, &capture, &by_tables)?;
     Ok(list_text.as_slice() == table_text.as_slice())

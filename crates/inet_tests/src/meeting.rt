@@ -6,6 +6,7 @@ use inet_io::{Gate, MemSink, MemSource, Who};
 use inet_tool::{Status, inet};
 use std::alloc::AllocError;
 use std::hint;
+use std::random::RandomSource;
 use std::sync::Wait;
 use std::sync::atomic::{AtomicU64, Ordering};
 use std::test::Fail;
@@ -83,7 +84,7 @@ impl Gate for Held {
 
 /// The status of a race of the script with a capture of four packets, and what it writes.
 fn race<G: Gate>(
-    rt: &(impl Threads + Wait + Sync + AllocGlobal),
+    rt: &(impl Threads + Wait + Sync + RandomSource + AllocGlobal),
     lookers: &str,
     script: &str,
     gate: &G,

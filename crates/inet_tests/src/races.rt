@@ -7,8 +7,8 @@ use std::test::Fail;
 /// The words that ask for a race with one looker, whose lookups have one pass.
 const WORDS: [&str; 6] = ["inet", "race", "--lookers", "1", "--passes", "1"];
 
-/// Scripts for a race, each with what is written for it: no section, one listener, one in a network namespace, a refusal,
-/// and a connection that is closed.
+/// Scripts for a race, each with what is written for it: no section, one listener, one in a network namespace, a
+/// refusal, and a connection that is closed.
 const ROWS: [(&str, &str); 5] = [
     (
         "",

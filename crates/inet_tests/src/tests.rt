@@ -3,6 +3,7 @@ ghost use Rattle.std.specs.Prelude.{◌<◌};
 use inet_io::{MemSink, MemSource, Open, StdSink, StdSource};
 use inet_tool::{LIMIT, Status, inet};
 use std::alloc::{AllocError, Global};
+use std::random::RandomSource;
 use std::sync::Wait;
 use std::test::Fail;
 use std::thread::Threads;
@@ -190,7 +191,7 @@ pub fn words_of(alloc: Global, words: &[&str]) -> Result<Vec<String>, AllocError
 
 /// The status of a call over ends in memory, and what was written.
 pub fn call(
-    rt: &(impl Threads + Wait + Sync + AllocGlobal),
+    rt: &(impl Threads + Wait + Sync + RandomSource + AllocGlobal),
     words: &[&str],
     input: Vec<u8>,
     ends: Ends<'_>,
@@ -207,7 +208,7 @@ pub fn call(
 
 /// The same for `inet run`.
 pub fn run(
-    rt: &(impl Threads + Wait + Sync + AllocGlobal),
+    rt: &(impl Threads + Wait + Sync + RandomSource + AllocGlobal),
     input: &str,
     ends: Ends<'_>,
 ) -> Result<(Status, Vec<u8>), AllocError> {

@@ -7,7 +7,7 @@ use Rattle.sock_script.specs.declared.parse.Mode.{Mode}
 use Rattle.sock_script.specs.Words.{lines_of}
 use Rattle.sock_script.specs.Grammar.{IsScript, IsInside, IsFirstOutside, capture_bytes, capture_device, capture_namespace}
 use Rattle.sock_script.proofs.Fronts.{none_outside, one_first}
-use Rattle.sock_script.proofs.Scripts.{one_script}
+use Rattle.sock_script.proofs.Inside.{one_script}
 use Rattle.capture_reader.proofs.Captures.{no_other}
 use Rattle.inet_tool.specs.declared.fault.Fault.{Fault}
 use Rattle.inet_tool.specs.declared.fault.Fault.TheVariants as faults
@@ -16,7 +16,7 @@ use Rattle.inet_tool.specs.declared.reply.Reply.{Reply}
 
 -- a script's lines are in the grammar
 pub is_inside : (mode : Mode) (bytes : List ℕ) (script : Script) → IsScript mode bytes script → IsInside mode (lines_of bytes)
-is_inside mode bytes script h = (h.0, h.1)
+is_inside mode bytes script h = (script, h)
 
 module _ (mode : Mode) (bytes : List ℕ) where
   -- lines with one outside are no script's

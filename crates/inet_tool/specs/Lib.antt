@@ -5,3 +5,4 @@ pub mod Status
 pub mod Table
 pub mod Verdict
 pub mod Audit
+pub mod Races

@@ -1,4 +1,5 @@
--- The exit status of each status: 0 for success as in exit(3), and a number of its own for each failure, our own rule.
+-- The exit status of each status: 0 for success as in exit(3), and a number of its own for each failure, our own
+-- rule.
 use Rattle.std.specs.Prelude.{ℕ}
 use Rattle.inet_tool.specs.declared.status.Status.{Status}
 use Rattle.inet_tool.specs.declared.status.Status.TheVariants.{Done, Usage, BadScript, BadCapture, TooLong, ReadFault, WriteFault, Memory, BadRecord, Refuted}

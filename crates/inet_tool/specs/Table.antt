@@ -15,10 +15,6 @@ use Rattle.sock_script.specs.Grammar.{IsScript, IsFirstOutside, capture_bytes, c
 use Rattle.sock_script.specs.Output.{FlatOut, flat_replies, lists_of}
 use Rattle.sock_script.specs.Make.{made_text}
 use Rattle.sock_script.specs.Counts.{script_counts, counts_text}
-use Rattle.race_record.specs.Record.{Race}
-use Rattle.race_record.specs.Lawful.{Lawful}
-use Rattle.race_record.specs.Headline.{Headline}
-use Rattle.race_text.specs.Render.{HasRace, RaceOut}
 use Rattle.inet_tool.specs.declared.fault.Fault.{Fault}
 use Rattle.inet_tool.specs.declared.fault.Fault.TheVariants as faults
 
@@ -54,8 +50,8 @@ IsGood mode bytes =
     × IsCapture (capture_device script.capture) (capture_namespace script.capture) (capture_bytes script.capture bytes) capture
 
 -- Whatever script these bytes are, each list that it runs through is sound: no two bound sockets of different origin
--- conflict, but for those whose ports `connect` chose, and no two sockets that are full or in TIME_WAIT have one
--- four-tuple.
+-- conflict, but for those whose ports `connect` chose, and no two sockets of one namespace that are full, in
+-- TIME_WAIT or requests have one four-tuple.
 abbrev pub InputRunsSound : List ℕ → Type 0
 InputRunsSound bytes =
     (script : Script) → IsScript modes.Run bytes script → Each IsSound (lists_of script)
@@ -64,23 +60,12 @@ InputRunsSound bytes =
 abbrev pub IsRunOf : List ℕ → List ℕ → Type 0
 IsRunOf bytes out = FlatOut bytes out × InputRunsSound bytes
 
--- Whatever lawful record of a race of these bytes: no two full sockets ever have one four-tuple, no two bound sockets of
--- different origin ever conflict, and each packet's answer has its cause.
-abbrev pub RacesSay : List ℕ → Type 0
-RacesSay bytes =
-    (script : Script) (capture : Capture) (race : Race) → HasRace bytes script capture → Lawful script capture race
-    → Headline race
-
--- what a race writes for a script: the text of a lawful record, with so many lookers and passes
-abbrev pub IsRaceOf : ℕ → ℕ → List ℕ → List ℕ → Type 0
-IsRaceOf lookers passes bytes out = RaceOut lookers passes bytes out × RacesSay bytes
-
 -- what is written for a script's bytes
 abbrev pub Output : Type 1
 Output = List ℕ → List ℕ → Type 0
 
--- The text is what is to be written for an input, where `Out` is written for a script: that, or the line that tells the
--- input's fault, where it has one.
+-- The text is what is to be written for an input, where `Out` is written for a script: that, or the line that tells
+-- the input's fault, where it has one.
 abbrev pub IsReply : Mode → Output → List ℕ → Option Fault → List ℕ → Type 0
 IsReply mode Out bytes None text = Out bytes text
 IsReply mode Out bytes (Some fault) text = HasFault mode bytes fault × (text ≡ fault_text fault)
@@ -93,10 +78,6 @@ WritesOut Out left left' written written' =
 -- The input was read to its end and is a script, and written grew by the flat list's output of it.
 abbrev pub WritesFlatOut : Option (List ℕ) → Option (List ℕ) → Option (List ℕ) → Option (List ℕ) → Type 0
 WritesFlatOut = WritesOut IsRunOf
-
--- The input was read to its end and is a script for a race, and written grew by the text of a lawful record of it.
-abbrev pub WritesRace : ℕ → ℕ → Option (List ℕ) → Option (List ℕ) → Option (List ℕ) → Option (List ℕ) → Type 0
-WritesRace lookers passes = WritesOut (IsRaceOf lookers passes)
 
 -- The input was read to its end and has that fault, and written grew by the line that tells it.
 abbrev pub WritesFault : Mode → Option (List ℕ) → Option (List ℕ) → Option (List ℕ) → Option (List ℕ) → Fault → Type 0

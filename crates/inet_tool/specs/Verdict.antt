@@ -12,8 +12,8 @@ abbrev pub fault_status : Fault → Status
 fault_status (faults.Line n) = BadScript n
 fault_status faults.Capture = BadCapture
 
--- These bytes, read so, can get the status. A failed read and want of memory may come whatever they are; a failed write comes
--- once they were read, so within the limit.
+-- These bytes, read so, can get the status. A failed read and want of memory may come whatever they are; a failed
+-- write comes once they were read, so within the limit.
 abbrev pub Answers : Mode → List ℕ → Status → Type 0
 Answers mode bytes Done = (length bytes ≤ limit) × IsGood mode bytes
 Answers mode bytes Usage = ⊥

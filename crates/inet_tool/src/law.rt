@@ -6,8 +6,8 @@ ghost use Rattle.inet_tool.specs.WordRows.{faults};
 ghost use Rattle.inet_tool.specs.Words as law;
 
 /// The accepted forms: `run`, `make` with a seed and a count in range, `race` with lookers and passes in range, and
-/// `audit`, ask for just these, and no words ask for numbers beyond them. The program's command is of the kind that clap's own
-/// statement of faults speaks of.
+/// `audit`, ask for just these, and no words ask for numbers beyond them. The program's command is of the kind that
+/// clap's own statement of faults speaks of.
 pub fn forms_ask()
     ensures simple { is_simple_and_free law.inet_app ≡ true }
     ensures run { law.RunAsks }

@@ -6,8 +6,8 @@
 //! a generated script, and writes how many of its commands were done. `inet audit` reads the record of a race, and writes
 //! whether it passes the tests of the judge, or where it fails which. The contract of [`inet`] has each status of
 //! the table below, when it comes and what was written then; `main` makes the real ends, calls it and ends with the
-//! status. It stands on `sock_script`, `script_run`, `race_threads`, `race_text`, `record_reader` and `inet_io`, and on
-//! `clap` for the words.
+//! status. It stands on `sock_script`, `script_run`, `race_threads`, `race_text`, `record_reader` and `inet_io`, on
+//! `clap` for the words, and for what it says of a race on the laws of `race_laws` and `audit_laws`.
 //!
 //! | Status | Exit | When | Written |
 //! |---|---|---|---|
@@ -35,7 +35,8 @@ ghost use Rattle.inet_tool.specs.declared.fault.Fault.TheVariants as faults;
 ghost use Rattle.sock_script.specs.declared.parse.Mode.{Mode};
 ghost use Rattle.sock_script.specs.declared.parse.Mode.TheVariants as modes;
 ghost use Rattle.inet_tool.specs.Words.{IsRun, IsMake, IsRace, IsRefused, IsAudit, AsksToRead};
-ghost use Rattle.inet_tool.specs.Table.{limit, HasFault, IsGood, IsRaceOf, IsRunOf, WritesFlatOut, WritesRace, WritesFault, WritesFront, WritesCounts, WritesFrontOfCounts};
+ghost use Rattle.inet_tool.specs.Table.{limit, HasFault, IsGood, IsRunOf, WritesFlatOut, WritesFault, WritesFront, WritesCounts, WritesFrontOfCounts};
+ghost use Rattle.inet_tool.specs.Races.{IsRaceOf, WritesRace};
 ghost use Rattle.inet_tool.specs.Verdict.{Answers, fault_status};
 ghost use Rattle.inet_tool.specs.Audit.{AuditAnswers, IsEnd, IsOutcome, WritesFrontOfOutcome, WritesOutcome, outcome_status};
 ghost use Rattle.inet_tool.specs.declared.audit.Outcome.{Outcome as AnyOutcome};
@@ -53,8 +54,10 @@ mod tests;
 mod words;
 
 use inet_io::{Gate, Sink, Source};
+use label_index::LabelSeed;
 pub use status::Status;
 use std::alloc::Global;
+use std::random::RandomSource;
 use std::sync::Wait;
 use std::thread::Threads;
 use words::{Ask, AskEnd};
@@ -68,13 +71,14 @@ pub const LIMIT: usize = 16_777_216;
 /// `words` has the program's name first. What is written is built whole before the first write, so that
 /// only a write that fails leaves a part of it. Each command waits by `rt` for the turns of bind buckets and the
 /// locks of chains, so no call is promised to return. A race runs threads by it, too, and waits for them; the gate, at
-/// which its workers call before each command and packet, is for a race alone.
+/// which its workers call before each command and packet, is for a race alone. The seed with which the hashes of labels
+/// begin is drawn from it, once.
 ///
 /// Reading takes at most 16,777,217 reads. Where several causes stand, the earlier of usage, a failed
 /// read, too long an input, a bad line, a bad capture and a failed write is answered, and of an audit a bad line before
 /// a line that is refuted, but a failed write in place of both; want of memory may come in place of what a later test
 /// would give.
-pub fn inet<R: Threads + Wait + Sync, S: Source, K: Sink, G: Gate>(
+pub fn inet<R: Threads + Wait + Sync + RandomSource, S: Source, K: Sink, G: Gate>(
     rt: &R,
     alloc: Global,
     words: &[String],
@@ -87,7 +91,7 @@ pub fn inet<R: Threads + Wait + Sync, S: Source, K: Sink, G: Gate>(
     ensures refused { IsRefused (map string_bytes words.now)
         → (result ≡ Status.Usage) ⊎ (result ≡ Status.Memory) }
     ensures untouched { IsRefused (map string_bytes words.now) → (source.new ≡ source.old) × (sink.new ≡ sink.old) }
-    // Other words ask to run a script, to race one or to make one, so what follows speaks of all of them.
+    // Other words ask to run a script, to race one, to make one or to audit a record, so what follows speaks of all.
     ensures asked { (result ≡ Status.Usage) ⊎ ((result ≡ Status.Memory) ⊎ (IsRun (map string_bytes words.now)
         ⊎ (((lookers : ℕ) × (passes : ℕ) × IsRace (map string_bytes words.now) lookers passes)
         ⊎ (((seed : ℕ) × (count : ℕ) × IsMake (map string_bytes words.now) seed count)
@@ -171,11 +175,12 @@ pub fn inet<R: Threads + Wait + Sync, S: Source, K: Sink, G: Gate>(
     ensures no_script { IsAudit (map string_bytes words.now)
         → (n : ℕ) → (result ≡ Status.BadScript n → ⊥) × (result ≡ Status.BadCapture → ⊥) }
 {
+    let label_seed = LabelSeed::random(rt);
     match words::ask_of(alloc, words) {
-        Ok(Ask::Run) => serve::run(rt, alloc, source, sink),
-        Ok(Ask::Make { seed, count }) => serve::make(rt, alloc, seed, count, sink),
+        Ok(Ask::Run) => serve::run(rt, alloc, label_seed, source, sink),
+        Ok(Ask::Make { seed, count }) => { serve::make(rt, alloc, label_seed, seed, count, sink) }
         Ok(Ask::Race { lookers, passes }) => {
-            race::serve(rt, alloc, lookers, passes, source, sink, gate)
+            race::serve(rt, alloc, label_seed, lookers, passes, source, sink, gate)
         }
         Ok(Ask::Audit) => audit::serve(alloc, source, sink),
         Err(AskEnd::Usage) => Status::Usage,

@@ -3,6 +3,7 @@ ghost use Rattle.std.specs.Prelude.{◌≤◌, IfOk};
 ghost use Rattle.inet_tool.specs.Table.{CountsMade};
 
 use capture_reader::Capture;
+use label_index::LabelSeed;
 use script_run::run;
 use sock_script::{Counts, make};
 use std::alloc::{AllocError, Global};
@@ -12,6 +13,7 @@ use std::sync::Wait;
 pub fn counts_text<R: Wait>(
     rt: &R,
     alloc: Global,
+    label_seed: LabelSeed,
     seed: u32,
     count: u32,
 ) -> Result<Vec<u8>, AllocError>
@@ -19,6 +21,6 @@ pub fn counts_text<R: Wait>(
     ensures { IfOk result (λ text. CountsMade seed count text.items) }
 {
     let script = make::script(alloc, seed, count)?;
-    let replies = run(rt, alloc, &script, &Capture::new(alloc))?;
+    let replies = run(rt, alloc, label_seed, &script, &Capture::new(alloc))?;
     Counts::of(&script, &replies.each).text(alloc)
 }

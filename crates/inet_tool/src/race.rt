@@ -4,7 +4,8 @@ ghost use Rattle.inet_io.specs.Ends.{Rose, ReadsMoreThan};
 ghost use Rattle.inet_tool.specs.declared.fault.Fault.{Fault as AnyFault};
 ghost use Rattle.inet_tool.specs.declared.fault.Fault.TheVariants as faults;
 ghost use Rattle.sock_script.specs.declared.parse.Mode.TheVariants as modes;
-ghost use Rattle.inet_tool.specs.Table.{limit, HasFault, IsGood, IsRaceOf, IsReply, WritesRace, WritesFault, WritesFront};
+ghost use Rattle.inet_tool.specs.Table.{limit, HasFault, IsGood, IsReply, WritesFault, WritesFront};
+ghost use Rattle.inet_tool.specs.Races.{IsRaceOf, WritesRace};
 ghost use Rattle.inet_tool.specs.Verdict as verdicts;
 
 use crate::fault::Fault;
@@ -12,6 +13,7 @@ use crate::reply::{Reply, refusal};
 use crate::{LIMIT, Status};
 use capture_reader::CaptureEnd;
 use inet_io::{Failed, Gate, ReadEnd, Sink, Source};
+use label_index::LabelSeed;
 use race_text::render::render;
 use race_threads::race;
 use sock_script::parse::parse;
@@ -24,6 +26,7 @@ use std::thread::Threads;
 pub fn serve<R: Threads + Wait + Sync, S: Source, K: Sink, G: Gate>(
     rt: &R,
     alloc: Global,
+    seed: LabelSeed,
     lookers: u32,
     passes: u32,
     source: &mut S,
@@ -68,7 +71,7 @@ pub fn serve<R: Threads + Wait + Sync, S: Source, K: Sink, G: Gate>(
         Err(ReadEnd::TooLong) => return Status::TooLong,
         Err(ReadEnd::Memory) => return Status::Memory,
     };
-    let Ok(reply) = reply_to(rt, alloc, &bytes, lookers, passes, gate) else {
+    let Ok(reply) = reply_to(rt, alloc, seed, &bytes, lookers, passes, gate) else {
         return Status::Memory;
     };
     match (inet_io::write_all(sink, &reply.text), reply.fault) {
@@ -83,6 +86,7 @@ pub fn serve<R: Threads + Wait + Sync, S: Source, K: Sink, G: Gate>(
 fn reply_to<R: Threads + Wait + Sync, G: Gate>(
     rt: &R,
     alloc: Global,
+    seed: LabelSeed,
     bytes: &[u8],
     lookers: u32,
     passes: u32,
@@ -94,7 +98,7 @@ fn reply_to<R: Threads + Wait + Sync, G: Gate>(
     requires passes { 1 ≤ passes }
     ensures { IfOk result (λ reply. IsReply modes.Race (IsRaceOf lookers passes) bytes.now reply.fault reply.text.items) }
 {
-    let script = match parse(alloc, bytes, Mode::Race) {
+    let script = match parse(alloc, seed, bytes, Mode::Race) {
         Ok(script) => script,
         Err(ScriptEnd::BadLine(n)) => return refusal(alloc, Fault::Line(n)),
         Err(ScriptEnd::Memory) => return Err(AllocError),
@@ -104,7 +108,7 @@ fn reply_to<R: Threads + Wait + Sync, G: Gate>(
         Err(CaptureEnd::BadHead) => return refusal(alloc, Fault::Capture),
         Err(CaptureEnd::Memory) => return Err(AllocError),
     };
-    let told = race(rt, alloc, &script, &capture, lookers, passes, gate)?;
+    let told = race(rt, alloc, seed, &script, &capture, lookers, passes, gate)?;
     let text = render(alloc, &script, &told)?;
     Ok(Reply { text, fault: None })
 }

@@ -5,6 +5,7 @@ ghost use Rattle.inet_tool.specs.Table.{limit, IsReply, IsRunOf, fault_text};
 
 use crate::fault::Fault;
 use capture_reader::CaptureEnd;
+use label_index::LabelSeed;
 use script_run::run;
 use sock_script::parse::parse;
 use sock_script::{Mode, ScriptEnd, capture, output};
@@ -18,22 +19,29 @@ pub struct Reply {
     pub fault: Option<Fault>,
 }
 
-/// The reply to an input within the limit.
-pub fn reply_to<R: Wait>(rt: &R, alloc: Global, bytes: &[u8]) -> Result<Reply, AllocError>
-    requires { length bytes.now ≤ limit }
-    ensures { IfOk result (λ reply. IsReply modes.Run IsRunOf bytes.now reply.fault reply.text.items) }
+/// The reply to an input within the limit, which is let go before its script runs. The hashes of labels begin with the
+/// seed.
+pub fn reply_to<R: Wait>(
+    rt: &R,
+    alloc: Global,
+    seed: LabelSeed,
+    bytes: Vec<u8>,
+) -> Result<Reply, AllocError>
+    requires { length bytes.items ≤ limit }
+    ensures { IfOk result (λ reply. IsReply modes.Run IsRunOf bytes.items reply.fault reply.text.items) }
 {
-    let script = match parse(alloc, bytes, Mode::Run) {
+    let script = match parse(alloc, seed, &bytes, Mode::Run) {
         Ok(script) => script,
         Err(ScriptEnd::BadLine(n)) => return refusal(alloc, Fault::Line(n)),
         Err(ScriptEnd::Memory) => return Err(AllocError),
     };
-    let capture = match capture::read(alloc, &script, bytes) {
+    let capture = match capture::read(alloc, &script, &bytes) {
         Ok(capture) => capture,
         Err(CaptureEnd::BadHead) => return refusal(alloc, Fault::Capture),
         Err(CaptureEnd::Memory) => return Err(AllocError),
     };
-    let replies = run(rt, alloc, &script, &capture)?;
+    drop(bytes);
+    let replies = run(rt, alloc, seed, &script, &capture)?;
     let text = output::text(alloc, &script, &capture, &replies.each, &replies.listings)?;
     Ok(Reply { text, fault: None })
 }

@@ -10,6 +10,7 @@ ghost use Rattle.inet_tool.specs.Verdict as verdicts;
 use crate::fault::Fault;
 use crate::{LIMIT, Status, made, reply};
 use inet_io::{Failed, ReadEnd, Sink, Source};
+use label_index::LabelSeed;
 use std::alloc::Global;
 use std::sync::Wait;
 
@@ -17,6 +18,7 @@ use std::sync::Wait;
 pub fn run<R: Wait, S: Source, K: Sink>(
     rt: &R,
     alloc: Global,
+    seed: LabelSeed,
     source: &mut S,
     sink: &mut K,
 ) -> Status
@@ -54,7 +56,7 @@ pub fn run<R: Wait, S: Source, K: Sink>(
         Err(ReadEnd::TooLong) => return Status::TooLong,
         Err(ReadEnd::Memory) => return Status::Memory,
     };
-    let Ok(reply) = reply::reply_to(rt, alloc, &bytes) else {
+    let Ok(reply) = reply::reply_to(rt, alloc, seed, bytes) else {
         return Status::Memory;
     };
     match (inet_io::write_all(sink, &reply.text), reply.fault) {
@@ -66,7 +68,14 @@ pub fn run<R: Wait, S: Source, K: Sink>(
 }
 
 /// Runs the script that a seed and so many steps make, and writes its counts.
-pub fn make<R: Wait, K: Sink>(rt: &R, alloc: Global, seed: u32, count: u32, sink: &mut K) -> Status
+pub fn make<R: Wait, K: Sink>(
+    rt: &R,
+    alloc: Global,
+    label_seed: LabelSeed,
+    seed: u32,
+    count: u32,
+    sink: &mut K,
+) -> Status
     requires { count ≤ 100000 }
     ensures done { result ≡ Status.Done → WritesCounts (K.written sink.old) (K.written sink.new) seed count }
     ensures write_fault { result ≡ Status.WriteFault → Rose (K.faults sink.old) (K.faults sink.new)
@@ -74,7 +83,7 @@ pub fn make<R: Wait, K: Sink>(rt: &R, alloc: Global, seed: u32, count: u32, sink
     ensures memory { result ≡ Status.Memory → sink.new ≡ sink.old }
     ensures ends { (result ≡ Status.Done) ⊎ ((result ≡ Status.WriteFault) ⊎ (result ≡ Status.Memory)) }
 {
-    let Ok(text) = made::counts_text(rt, alloc, seed, count) else {
+    let Ok(text) = made::counts_text(rt, alloc, label_seed, seed, count) else {
         return Status::Memory;
     };
     match inet_io::write_all(sink, &text) {

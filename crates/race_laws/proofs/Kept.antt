@@ -1,5 +1,5 @@
--- What a section keeps to: it has hashed no name twice as one kind, each name that it hashed is one that it gave, and an
--- open socket was hashed as no kind but that of its state.
+-- What a section keeps to: it has hashed no name twice as one kind, each name that it hashed is one that it gave, and
+-- an open socket was hashed as no kind but that of its state.
 use Rattle.std.proofs.Common.{◌≡◌, ◌≢◌, ℕ, ◌+◌, ◌*◌, ◌^◌, ◌<◌, ◌≤◌, ◌==◌, not, Bool, true, false, cond, List, [], ◌∷◌, ◌++◌, map, filter, Option, None, Some, if◌then◌else◌, refl, sym, ap, ◌∙◌, subst, arith}
 use Rattle.std.proofs.lemmas.Bool.{eqb-false}
 use Rattle.list_words.specs.Lists.{Each}

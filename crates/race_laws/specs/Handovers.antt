@@ -38,8 +38,10 @@ abbrev pub HandsOverAs : (Change → Type 0) → Command → Reply → List Deed
 HandsOverAs In (commands.Ack request label) replies.Ok deeds = HandsOver In deeds
 HandsOverAs In _ _ deeds = Unit {0}
 
--- each `ack` that a lawful race answers with Ok handed a request over
+-- each `ack` of a race that is answered with Ok handed a request over
+abbrev pub HandsAllOver : Race → Type 0
+HandsAllOver race = Each (λ (s : Step). HandsOverAs (Among race.book) s.command s.reply s.deeds) (steps_of race)
+
+-- so it is in a lawful race
 abbrev pub AcksHandOver : Type 0
-AcksHandOver =
-    (script : Script) (capture : Capture) (race : Race) → Lawful script capture race
-    → Each (λ (s : Step). HandsOverAs (Among race.book) s.command s.reply s.deeds) (steps_of race)
+AcksHandOver = (script : Script) (capture : Capture) (race : Race) → Lawful script capture race → HandsAllOver race

@@ -14,15 +14,19 @@ use Rattle.race_book.specs.Lives.{IsLife, Stood, Throughout}
 use Rattle.race_record.specs.Record.{Race, listings_of}
 use Rattle.race_record.specs.Lawful.{Lawful}
 
--- in the book of a lawful race two hashes of one name as one kind are one change: its name and kind tell a life
+-- two hashes of one name as one kind are one change: its name and kind tell a life
+abbrev pub HashesOnce : (Change → Type 0) → Type 0
+HashesOnce In =
+    (g h : Change) → IsLife In g → IsLife In h → g.card.name ≡ h.card.name → g.card.kind ≡ h.card.kind → g ≡ h
+
+-- so it is in the book of a lawful race
 abbrev pub HashedOnce : Type 0
 HashedOnce =
     (script : Script) (capture : Capture) (race : Race) → IsSmall script → Lawful script capture race
-    → (g h : Change) → IsLife (Among race.book) g → IsLife (Among race.book) h
-    → g.card.name ≡ h.card.name → g.card.kind ≡ h.card.kind → g ≡ h
+    → HashesOnce (Among race.book)
 
--- the card is that of a life which stood at some time between two numbers of the clock, and no other life has its name
--- and kind
+-- the card is that of a life which stood at some time between two numbers of the clock, and no other life has its
+-- name and kind
 pub record IsOfOneLife (In : Change → Type 0) (t0 t1 : ℕ) (card : Card) : Type 0 where
   pub life : Change
   pub is : IsLife In life
@@ -30,8 +34,8 @@ pub record IsOfOneLife (In : Change → Type 0) (t0 t1 : ℕ) (card : Card) : Ty
   pub stood : Stood In life t0 t1
   pub only : (h : Change) → IsLife In h → h.card.name ≡ card.name → h.card.kind ≡ card.kind → h ≡ life
 
--- What a dump lists between two loads of the clock: no name twice with one kind, so that its items ascend; each item is
--- of one life alone; and each life that was there throughout is the life of an item.
+-- What a dump lists between two loads of the clock: no name twice with one kind, so that its items ascend; each item
+-- is of one life alone; and each life that was there throughout is the life of an item.
 pub record ListsOnce (In : Change → Type 0) (listing : Listing) : Type 0 where
   pub span : Span
   pub span_is : listing.span ≡ Some span

@@ -5,7 +5,8 @@ use Rattle.sock_script.specs.declared.parse.Mode.TheVariants as modes
 use Rattle.inet_tool.specs.declared.fault.Fault.{Fault}
 use Rattle.inet_tool.specs.declared.fault.Fault.TheVariants as faults
 use Rattle.inet_tool.specs.declared.status.Status.TheVariants as statuses
-use Rattle.inet_tool.specs.Table.{limit, HasFault, IsGood, IsRaceOf, WritesCounts, WritesFault, WritesFront, WritesFrontOfCounts, WritesRace}
+use Rattle.inet_tool.specs.Races.{IsRaceOf, WritesRace}
+use Rattle.inet_tool.specs.Table.{limit, HasFault, IsGood, WritesCounts, WritesFault, WritesFront, WritesFrontOfCounts}
 use Rattle.inet_tool.specs.Verdict.{Answers, fault_status}
 use Rattle.inet_tool.specs.Words.{Asks, IsRace, AsksToRead}
 use Rattle.inet_tool.proofs.Asks.{by_mode, one_make, one_race, read_or_made, refused_read}

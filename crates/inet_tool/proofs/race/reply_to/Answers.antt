@@ -1,9 +1,9 @@
-use Rattle.std.proofs.Common.{rules, ◌≡◌}
+use Rattle.std.proofs.Common.{rules, arith, ◌≡◌}
 use Rattle.std.specs.Prelude.{Err}
 use Rattle.capture_reader.specs.declared.capture.CaptureEnd.TheVariants as ends
 use Rattle.race_threads.proofs.ForRace.{scripts_are_for_race}
 use Rattle.inet_tool.specs.declared.fault.Fault.TheVariants as faults
-use Rattle.inet_tool.specs.Table.{IsRaceOf}
+use Rattle.inet_tool.specs.Races.{IsRaceOf}
 use Rattle.sock_script.specs.declared.parse.Mode.TheVariants as modes
 use Rattle.inet_tool.proofs.Faults.{bad_reply}
 use Rattle.inet_tool.proofs.Raced.{differ, fits, race_out}
@@ -24,7 +24,8 @@ render-requires-clause-stamps g c =
 pub returns : goal.returns
 returns g c =
     race_out c.in-Ok.script c.in-Ok-read.capture c.args.lookers c.args.passes c.in_ok-told.told c.in_ok-told.ensures
-    c.args.bytes.now c.in_ok-text.text.items c.in-Ok.ensures.script c.in-Ok-read.ensures.capture c.in_ok-text.ensures
+    c.args.bytes.now c.in_ok-text.text.items (λ i. omega (arith, c.type_inv.bytes i)) c.requires.within (omega arith) (omega arith) (c.in-Ok.ensures.small c.requires.within)
+    c.in-Ok.ensures.script c.in-Ok-read.ensures.capture c.in_ok-text.ensures
 
 pub returns-in-Err-BadHead : goal.returns-in-Err-BadHead
 returns-in-Err-BadHead g c =

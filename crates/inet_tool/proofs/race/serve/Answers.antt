@@ -1,7 +1,8 @@
 use Rattle.std.proofs.Common.{rules, ◌≡◌, ◌≤◌, None, Some, ℕ, List, length, subst, inl, ap}
 use Rattle.sock_script.specs.declared.parse.Mode.TheVariants as modes
 use Rattle.inet_tool.specs.declared.fault.Fault.TheVariants as faults
-use Rattle.inet_tool.specs.Table.{limit, HasFault, IsGood, IsRaceOf, ReadsInput, WritesFault, fault_text}
+use Rattle.inet_tool.specs.Races.{IsRaceOf}
+use Rattle.inet_tool.specs.Table.{limit, HasFault, IsGood, ReadsInput, WritesFault, fault_text}
 use Rattle.std.specs.Io.KnownBytes.{Appends}
 use Rattle.inet_tool.specs.Verdict.{fault_status}
 use Rattle.inet_tool.proofs.Faults.{good_by, no_fault, one_fault, told_by}

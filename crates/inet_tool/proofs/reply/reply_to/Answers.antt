@@ -11,26 +11,29 @@ use Rattle.script_run.proofs.HeadersFit.{scripts_fit}
 use Rattle.inet_tool.proofs.reply.reply_to.Goals as goal
 
 pub run-requires-clause-header : goal.run-requires-clause-header
-run-requires-clause-header g c = scripts_fit modes.Run c.args.bytes.now c.in-Ok.script c.in-Ok.ensures.script
+run-requires-clause-header g c = scripts_fit modes.Run c.args.bytes.items c.in-Ok.script (rw c.deref.ensures.value at c.in-Ok.ensures.script)
 
 pub returns : goal.returns
 returns g c = (
   (
     c.in-Ok.script,
     c.in-Ok-read.capture,
-    record { script_is = c.in-Ok.ensures.script; capture_is = c.in-Ok-read.ensures.capture },
+    record {
+      script_is = rw c.deref.ensures.value at c.in-Ok.ensures.script;
+      capture_is = rw c.deref-2.ensures.value at c.in-Ok-read.ensures.capture;
+    },
     c.in_ok-text.ensures
         ∙ λ i. script_text c.in-Ok.script c.in-Ok-read.capture
-        ((c.deref.ensures.value ∙ ap (λ (r : Replies). r.each) c.replies.view_is ∙ c.in_ok-replies.ensures.replied) i)
-        ((c.deref-2.ensures.value ∙ ap (λ (r : Replies). r.listings) c.replies.view_is ∙ c.in_ok-replies.ensures.listed) i),
+        ((c.deref-3.ensures.value ∙ ap (λ (r : Replies). r.each) c.replies.view_is ∙ c.in_ok-replies.ensures.replied) i)
+        ((c.deref-4.ensures.value ∙ ap (λ (r : Replies). r.listings) c.replies.view_is ∙ c.in_ok-replies.ensures.listed) i),
   ),
-  λ script is. texts_sound modes.Run c.args.bytes.now script c.requires is,
+  λ script is. texts_sound modes.Run c.args.bytes.items script c.requires is,
 )
 
 pub returns-in-Err-BadHead : goal.returns-in-Err-BadHead
 returns-in-Err-BadHead g c =
     let is : c.read.result ≡ Err ends.BadHead = search rules in
-    let none = c.read.ensures.bad_head.0 is in
-    bad_reply modes.Run IsRunOf c.args.bytes.now faults.Capture c.refusal-in-Err-BadHead.result
-    (c.in-Ok.script, c.in-Ok.ensures.script, none.0, none.1)
+    let none = (rw c.deref-2.ensures.value at c.read.ensures.bad_head).0 is in
+    bad_reply modes.Run IsRunOf c.args.bytes.items faults.Capture c.refusal-in-Err-BadHead.result
+    (c.in-Ok.script, rw c.deref.ensures.value at c.in-Ok.ensures.script, none.0, none.1)
     c.refusal-in-Err-BadHead.ensures.text c.refusal-in-Err-BadHead.ensures.fault

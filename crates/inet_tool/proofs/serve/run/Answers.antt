@@ -1,4 +1,4 @@
-use Rattle.std.proofs.Common.{rules, ◌≡◌, ◌≤◌, Some, ℕ, List, length, subst, inl, ap}
+use Rattle.std.proofs.Common.{rules, ◌≡◌, ◌≤◌, Some, ℕ, List, length, refl, subst, inl, ap}
 use Rattle.sock_script.specs.Output.{FlatOut}
 use Rattle.sock_script.specs.declared.parse.Mode.TheVariants as modes
 use Rattle.inet_tool.specs.declared.fault.Fault.TheVariants as faults
@@ -33,10 +33,10 @@ returns-in-Ok-Some-Line-clause-complete g c =
     (λ within good read written. absurd (no_fault modes.Run bytes (faults.Line c.in-Ok-Some-Line.n) good bad))
 
 -- the capture is bad, and the reply tells it
-bad_capture : (g : Over) (c : goal.After-drop-bytes-in-Ok-Some-Capture g) → HasFault modes.Run c.in-Ok.bytes.items faults.Capture × (c.in-Ok-reply_to.reply.text.items ≡ fault_text faults.Capture)
+bad_capture : (g : Over) (c : goal.After-drop-reply-in-Ok-Some-Capture g) → HasFault modes.Run c.in-Ok.bytes.items faults.Capture × (c.in-Ok-reply_to.reply.text.items ≡ fault_text faults.Capture)
 bad_capture g c =
     let told : c.in-Ok-reply_to.reply.fault ≡ Some faults.Capture = search rules in
-    told_by modes.Run IsRunOf c.in-Ok.bytes.items _ _ _ faults.Capture c.deref.ensures.value told c.in-Ok-reply_to.ensures
+    told_by modes.Run IsRunOf c.in-Ok.bytes.items _ _ _ faults.Capture refl told c.in-Ok-reply_to.ensures
 
 pub returns-in-Ok-Some-Capture-clause-bad_capture : goal.returns-in-Ok-Some-Capture-clause-bad_capture
 returns-in-Ok-Some-Capture-clause-bad_capture g c = λ is.
