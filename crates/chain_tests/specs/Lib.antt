@@ -1,1 +1,2 @@
+-- What the tests of this crate cite.
 pub mod Ready

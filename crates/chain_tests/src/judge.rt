@@ -49,8 +49,8 @@ impl Looked {
             .any(|hash| self.had_throughout(book, hash, least))
     }
 
-    /// The card was hashed, and stood there at some time of the lookup: in this bucket or in another, since a slot that is
-    /// hashed elsewhere meanwhile leads a lookup there.
+    /// The card was hashed, and stood there at some time of the lookup: in this bucket or in another, since a slot
+    /// that is hashed elsewhere meanwhile leads a lookup there.
     fn stood(&self, book: &[Change], hash: &Change, card: &Card) -> bool {
         hash.act == Act::Hash
             && hash.card == *card

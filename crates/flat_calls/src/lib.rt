@@ -7,7 +7,7 @@
 //! ```text
 //! let mut tables = Tables::new(alloc, &header);
 //! let number = tables.next_number();
-//! let outcome = tables.call(1, &socket_command(number, options));
+//! let outcome = tables.call(1, &commands::socket(number, options));
 //! ```
 #![tactic(auto)]
 

@@ -172,7 +172,8 @@ pub extern "C" fn inet_tables_syn(
     errno_of(calls::call(tables, alloc, worker, &command))
 }
 
-/// A request's handshake is over, and its listener takes the connection. `socket` is the number of the connected socket.
+/// A request's handshake is over, and its listener takes the connection. `socket` is the number of the connected
+/// socket.
 #[unsafe(no_mangle)]
 pub extern "C" fn inet_tables_ack(
     tables: &mut InetTables,
@@ -191,7 +192,8 @@ pub extern "C" fn inet_tables_ack(
     errno_of(calls::call(tables, alloc, worker, &command))
 }
 
-/// Closes a socket. `waits` tells whether a TIME_WAIT stays: a connected socket leaves one, where a slot is free for it.
+/// Closes a socket. `waits` tells whether a TIME_WAIT stays: a connected socket leaves one, where a slot is free for
+/// it.
 #[unsafe(no_mangle)]
 pub extern "C" fn inet_tables_close(
     tables: &mut InetTables,

@@ -19,9 +19,10 @@ use flat_list::{Header, Range, Shape};
 use sock_card::Packet;
 use std::alloc::Global;
 
-/// The sizes of tables: `slots` is 1 to 65536; `bind`, `hash` and `listen` are powers of two to 256, 65536 and 4096. `low`
-/// to `high` are the ports of searches, an even number of them, from 1 on. Searches begin at numbers that a generator
-/// draws, started from `seed`. `twreuse` lets `connect` take the place of a TIME_WAIT of its four-tuple, closed earlier.
+/// The sizes of tables: `slots` is 1 to 65536; `bind`, `hash` and `listen` are powers of two to 256, 65536 and 4096.
+/// `low` to `high` are the ports of searches, an even number of them, from 1 on. Searches begin at numbers that a
+/// generator draws, started from `seed`. `twreuse` lets `connect` take the place of a TIME_WAIT of its four-tuple,
+/// closed earlier.
 #[repr(C)]
 #[derive(Clone, Copy, Debug, PartialEq, Eq)]
 pub struct InetSizes {
@@ -104,8 +105,8 @@ pub extern "C" fn inet_tables_look(
     look(tables, alloc, &packet, sight)
 }
 
-/// All sockets that packets can find, by their workers, and those of one in the order in which they were made: the first
-/// of them in `items`, as many as fit. `count` is how many there are.
+/// All sockets that packets can find, by their workers, and those of one in the order in which they were made: the
+/// first of them in `items`, as many as fit. `count` is how many there are.
 #[unsafe(no_mangle)]
 pub extern "C" fn inet_tables_list(
     tables: &mut InetTables,

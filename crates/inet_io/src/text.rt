@@ -1,4 +1,5 @@
-//! Numbers, addresses and ends as text, into a buffer that has room for them and out of a word; and which words are labels.
+//! Numbers, addresses and ends as text, into a buffer that has room for them and out of a word; and which words are
+//! labels.
 ghost use Rattle.std.specs.Prelude.{◌≡◌, ◌↔◌, ℕ, ◌+◌, ◌^◌, ◌<◌, ◌≤◌, ◌++◌, ◌∷◌, List, length, decimal, IsTrue, IfSome, IfNone};
 ghost use Rattle.std.specs.List.{list_all};
 ghost use Rattle.inet_io.specs.Labels as labels;

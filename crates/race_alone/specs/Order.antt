@@ -50,8 +50,8 @@ abbrev pub replies_of : Flat → List Issued → List Reply
 replies_of flat [] = []
 replies_of flat (c ∷ rest) = let next = step flat c.section c.command in next.reply ∷ replies_of next.flat rest
 
--- Sections took turns at tables where nobody else was: then the replies are the flat list's to the same commands in the
--- same order.
+-- Sections took turns at tables where nobody else was: then the replies are the flat list's to the same commands in
+-- the same order.
 abbrev pub TurnsAreFlat : Type 0
 TurnsAreFlat =
     (script : Script) (capture : Capture) (race : Race) (turns : List Turn) (after : Tables) → IsSmall script

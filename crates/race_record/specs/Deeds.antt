@@ -34,8 +34,8 @@ pub record Taken : Type 0 where
   pub wish : Wish
   pub name : ℕ
 
--- a slot that was sought in vain: the number of the clock that was drawn for it, how many slots were owned, and how many
--- only held
+-- a slot that was sought in vain: the number of the clock that was drawn for it, how many slots were owned, and how
+-- many only held
 pub record Vain : Type 0 where
   pub number : ℕ
   pub owned : ℕ

@@ -70,7 +70,8 @@ abbrev pub was_there : Option Change → Bool
 was_there None = false
 was_there (Some u) = true
 
--- The plan comes to that result by these deeds: each is what the plan asks for there, and by the deed's answer it goes on.
+-- The plan comes to that result by these deeds: each is what the plan asks for there, and by the deed's answer it
+-- goes on.
 abbrev pub Goes : {R : Type 0} → Asking R → List Deed → R → Type 0
 Goes (ends r) [] result = result ≡ r
 Goes (asks key request then_) (entered k note ∷ deeds) result =

@@ -27,8 +27,8 @@ use Rattle.race_record.specs.Lawful.{Lawful, EachFrom, HaveOnePlace, entry_in}
 abbrev pub AlwaysAgree : ℕ → List (Note Entry) → Type 0
 AlwaysAgree number journal = (k : ℕ) → OwnersAgree (replayed number (take k (map entry_in journal))).owners
 
--- whatever was entered so far, each owner of the bucket of that number among so many has a key of it: so no two owners of
--- different buckets have one port of one namespace
+-- whatever was entered so far, each owner of the bucket of that number among so many has a key of it: so no two
+-- owners of different buckets have one port of one namespace
 abbrev pub AlwaysAtHome : ℕ → ℕ → List (Note Entry) → Type 0
 AlwaysAtHome buckets number journal =
     (k : ℕ) → Each (λ (a : Owner). owner_key a % buckets ≡ number) (replayed number (take k (map entry_in journal))).owners
@@ -57,8 +57,8 @@ pub record Headline (race : Race) : Type 0 where
   pub owners : EachFrom AlwaysAgree 0 race.journals
   -- nor do two of different buckets, since they have different ports or namespaces
   pub keys : EachFrom (AlwaysAtHome race.shape.bind) 0 race.journals
-  -- each packet's socket stood hashed with matching keys while no better one stood hashed throughout; nothing was found,
-  -- or a lookup given up, only with its cause
+  -- each packet's socket stood hashed with matching keys while no better one stood hashed throughout; nothing was
+  -- found, or a lookup given up, only with its cause
   pub packets : Each (HasCause (Among race.book) race.shape) race.looked
   -- each dump lists what stood hashed throughout, nothing that stood at no time meanwhile, and nothing twice
   pub dumps : Each (ListsWhatStood (Among race.book)) (listings_of race)

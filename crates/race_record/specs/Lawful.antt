@@ -43,8 +43,8 @@ abbrev pub EachFrom : {A : Type 0} → (ℕ → A → Type 0) → ℕ → List A
 EachFrom P n [] = Unit {0}
 EachFrom P n (x ∷ xs) = P n x × EachFrom P (n + 1) xs
 
--- each TIME_WAIT that this section left, and that has lasted its minute at the section's moment, is on its way out before
--- that number
+-- each TIME_WAIT that this section left, and that has lasted its minute at the section's moment, is on its way out
+-- before that number
 abbrev pub ExpiredLeave : (Change → Type 0) → Own → ℕ → Type 0
 ExpiredLeave In own to =
     (h : Change) → IsLife In h → h.card.kind ≡ kinds.TimeWait → h.card.name / 2 ^ 24 ≡ own.number
@@ -55,8 +55,8 @@ abbrev pub ReapsAll : (Change → Type 0) → Own → ℕ → Command → Type 0
 ReapsAll In own to commands.Reap = ExpiredLeave In own to
 ReapsAll In own to _ = Unit {0}
 
--- The step is the command's: by its plan, from what the section knows of itself, what was done leads to the reply and to
--- what the section knows then.
+-- The step is the command's: by its plan, from what the section knows of itself, what was done leads to the reply and
+-- to what the section knows then.
 pub record IsStepOf (header : Header) (In : Change → Type 0) (own next : Own) (command : Command) (step : Step) : Type 0 where
   pub command_is : step.command ≡ command
   pub goes : Goes (plan header own command) step.deeds (answers next step.reply)
@@ -121,8 +121,8 @@ pub record AreJournalsOf (race : Race) : Type 0 where
   pub each_once : SameItems (all_placed itself 0 race.journals) (entries_in race.shape.bind (all_deeds race))
   pub sections : EachFrom (IsEnteredBy race.shape.bind race.journals) 1 race.sections
 
--- The book has what the steps changed, each change once and of one of the slots. The numbers that were drawn, for changes
--- and in vain, are those below the clock, each once.
+-- The book has what the steps changed, each change once and of one of the slots. The numbers that were drawn, for
+-- changes and in vain, are those below the clock, each once.
 pub record IsBookOf (race : Race) : Type 0 where
   pub each_once : SameItems race.book (changes_in (all_deeds race))
   pub slots : FitSlots race.shape.slots race.book
@@ -178,8 +178,9 @@ SlotsWereUsed race s =
 abbrev pub HaveOnePlace : Change → Change → Type 0
 HaveOnePlace g h = (g.bucket ≡ h.bucket) × (g.slot ≡ h.slot)
 
--- What was listed between two numbers of a step: each card is that of a life that stood at some time between the two loads
--- of the clock, no two of them of lives in one place, and of each life that was there throughout the card is among them.
+-- What was listed between two numbers of a step: each card is that of a life that stood at some time between the two
+-- loads of the clock, no two of them of lives in one place, and of each life that was there throughout the card is
+-- among them.
 pub record IsListed (In : Change → Type 0) (from to : ℕ) (cards : List Card) (span : Span) : Type 0 where
   pub begins : from ≤ span.t0
   pub order : span.t0 ≤ span.t1
@@ -201,8 +202,8 @@ ListsAs race _ s = s.listings ≡ []
 abbrev pub Lists : Race → Step → Type 0
 Lists race s = ListsAs race s.command s
 
--- a packet's receipt: by the seed, between two loads of the clock, explained by the changes; and where it was given up, it
--- names the bucket
+-- a packet's receipt: by the seed, between two loads of the clock, explained by the changes; and where it was given
+-- up, it names the bucket
 pub record IsReceiptOf (In : Change → Type 0) (shape : Shape) (seed clock : ℕ) (packet : Packet) (r : Receipt) : Type 0 where
   pub packet_is : r.packet ≡ packet
   pub seed_is : r.seed ≡ seed

@@ -11,8 +11,8 @@ use Rattle.socket_list.specs.Listing.{Listing}
 use Rattle.race_record.specs.declared.record.Looked.{Looked}
 use Rattle.race_record.specs.Deeds.{Deed}
 
--- one command: its reply, what it did, what it listed, what its worker had seen of the clock as it began (a number below
--- which it knows all to be drawn), and the number that its worker drew next, or else the last one
+-- one command: its reply, what it did, what it listed, what its worker had seen of the clock as it began (a number
+-- below which it knows all to be drawn), and the number that its worker drew next, or else the last one
 pub record Step : Type 0 where
   pub command : Command
   pub reply : Reply
@@ -27,10 +27,10 @@ pub record Sighting : Type 0 where
   pub since : ℕ
   pub until : ℕ
 
--- a race, once all passes are joined: how many lookers it had, and how many passes each lookup; the shape and the seed of
--- its tables; the steps of each section, the journal of each bind bucket, all changes, what came of each item of the
--- capture, the items that each looker took; whether the capture is cut; and of the pass into which all others were joined
--- how often it took a count, the slots that it read as only held, and the clock
+-- a race, once all passes are joined: how many lookers it had, and how many passes each lookup; the shape and the
+-- seed of its tables; the steps of each section, the journal of each bind bucket, all changes, what came of each item
+-- of the capture, the items that each looker took; whether the capture is cut; and of the pass into which all others
+-- were joined how often it took a count, the slots that it read as only held, and the clock
 pub record Race : Type 0 where
   pub lookers : ℕ
   pub passes : ℕ

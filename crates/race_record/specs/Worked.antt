@@ -140,9 +140,9 @@ listing cards t0 t1 =
 abbrev pub dump_race : Race
 dump_race = record first_race { sections = and_then (listing (card_a ∷ []) 2 2) }
 
--- Two sections beside each other: the first accepts a connection, closes it, and accepts one of the same four-tuple, which
--- replaces the TIME_WAIT, so that none is left to be reaped; the other listens meanwhile. Of two packets one goes to the
--- connections, and the other to the second listener while it is being hashed.
+-- Two sections beside each other: the first accepts a connection, closes it, and accepts one of the same four-tuple,
+-- which replaces the TIME_WAIT, so that none is left to be reaped; the other listens meanwhile. Of two packets one
+-- goes to the connections, and the other to the second listener while it is being hashed.
 abbrev pub second_script : Script
 second_script =
     record {
@@ -283,9 +283,9 @@ second_race =
       clock = 14;
     }
 
--- A handshake with the listener of section 1, by itself: the request is hashed, then the child, and then the request is
--- unhashed. Of two packets of its four-tuple one comes before that and finds the request, the other comes after the child
--- was hashed and finds that.
+-- A handshake with the listener of section 1, by itself: the request is hashed, then the child, and then the request
+-- is unhashed. Of two packets of its four-tuple one comes before that and finds the request, the other comes after
+-- the child was hashed and finds that.
 abbrev pub handshake_script : Script
 handshake_script =
     record {

@@ -15,8 +15,8 @@ pub fn one_dump()
     ensures { Lawful dump_script no_capture dump_race }
 {}
 
-/// So is that of two sections beside each other: a TIME_WAIT is replaced; a packet that came meanwhile finds the newcomer;
-/// one to a listener that was being hashed finds nothing.
+/// So is that of two sections beside each other: a TIME_WAIT is replaced; a packet that came meanwhile finds the
+/// newcomer; one to a listener that was being hashed finds nothing.
 pub fn two_sections()
     ensures { Lawful second_script second_capture second_race }
 {}
@@ -33,10 +33,10 @@ pub fn refusals()
     ensures { Lawful refused_script refused_capture refused_race }
 {}
 
-/// Records that aren't lawful: in which a number of the clock belongs to nothing, or to two changes; a change is left out
-/// of the book; a `bind` enters its owner twice, and so is refused; two full sockets have one four-tuple; a card is taken
-/// out that is another's; a step begins with less than its worker has seen; a request is unhashed before its child is
-/// hashed, whether it is told so or as if it hadn't been.
+/// Records that aren't lawful: in which a number of the clock belongs to nothing, or to two changes; a change is left
+/// out of the book; a `bind` enters its owner twice, and so is refused; two full sockets have one four-tuple; a card
+/// is taken out that is another's; a step begins with less than its worker has seen; a request is unhashed before its
+/// child is hashed, whether it is told so or as if it hadn't been.
 pub fn wrong_races()
     ensures number { wrong.NumberTooMany }
     ensures stamp { wrong.StampTwice }

@@ -1,4 +1,5 @@
--- What a choice loads, and what it answers: reuseport_select_sock of net/core/sock_reuseport.c, which reads the count and then one member.
+-- What a choice loads, and what it answers: reuseport_select_sock of net/core/sock_reuseport.c, which reads the count
+-- and then one member.
 use Rattle.std.specs.Prelude.{◌≡◌, ◌≢◌, ℕ, ◌==◌, if◌then◌else◌, List, length, Option, None, Some}
 use Rattle.jhash_words.specs.Places.{scale}
 use Rattle.list_words.specs.Lists.{Each}
@@ -26,7 +27,8 @@ pub record Chose (before after : GroupPasses) (group hash : ℕ) (result : Optio
   pub known : Each (NotBefore counted) (moments before)
   pub own : AllOccur (stored before) counted
   pub later : NotBefore (now after) counted
-  -- a count that isn't 0 is that of a list of which each word was stored by then. So the member is that list's, or was stored later
+  -- a count that isn't 0 is that of a list of which each word was stored by then. So the member is that list's, or
+  -- was stored later
   pub complete : count_at group counted ≢ 0 → WasPublished group (list_at group counted) counted
   pub answer : result ≡ choice_of (count_at group counted) (λ place. member_at group place (now after)) hash
 

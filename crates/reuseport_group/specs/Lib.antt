@@ -1,4 +1,5 @@
--- What the contracts of this crate and of those above it cite, in the order in which it can be read. The last two are the rule behind them.
+-- What the contracts of this crate and of those above it cite, in the order in which it can be read. The last two are
+-- the rule behind them.
 pub mod Member
 pub mod Pick
 pub mod Words

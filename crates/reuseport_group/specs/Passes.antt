@@ -1,4 +1,5 @@
--- Words for what passes are between two calls, and for what their table is: our own. What passes know is `known`, and the other words are read off it.
+-- Words for what passes are between two calls, and for what their table is: our own. What passes know is `known`, and
+-- the other words are read off it.
 use Rattle.std.specs.Prelude.{◌≡◌, ℕ, ◌<◌, true, List, [], ◌∷◌}
 use Rattle.reuseport_group.specs.Words.{list_at, Settled}
 use Rattle.reuseport_group.specs.declared.view.Stored.{Stored}

@@ -11,7 +11,8 @@ use Rattle.reuseport_group.specs.declared.view.Stored.{Stored}
 abbrev pub most : ℕ
 most = MOST
 
--- where word j of a group stands among the words of all groups: word 0 is the count, and those from 1 on are the members
+-- where word j of a group stands among the words of all groups: word 0 is the count, and those from 1 on are the
+-- members
 abbrev pub at : ℕ → ℕ → ℕ
 at group j = (1 + most) * group + j
 
@@ -43,7 +44,8 @@ abbrev pub members_stored : ℕ → List ℕ → ℕ → List Stored
 members_stored group list zero = []
 members_stored group list (suc place) = record { group = group; at = suc place; members = list } ∷ members_stored group list place
 
--- the stores of a whole list: its members, zeros after them, and last its count, as __reuseport_add_sock of net/core/sock_reuseport.c stores a member before it raises the count
+-- the stores of a whole list: its members, zeros after them, and last its count, as __reuseport_add_sock of
+-- net/core/sock_reuseport.c stores a member before it raises the count
 unfoldable pub stores : ℕ → List ℕ → List Stored
 stores group list = record { group = group; at = 0; members = list } ∷ members_stored group list most
 

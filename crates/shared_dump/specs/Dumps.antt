@@ -43,8 +43,8 @@ pub record ListsAll (count : ℕ) (old new : List Card) (v w : View) : Type 0 wh
   pub sole : IsSole v → rows ≡ chains_from count v.book.closed
   pub sights : w.sights ≡ v.sights ++ sightings v.seen open-end 0 rows
 
--- the items are the chains that it saw, one for each bucket, between the two loads of the clock; and in each book in which
--- what it saw is true, so are they
+-- the items are the chains that it saw, one for each bucket, between the two loads of the clock; and in each book in
+-- which what it saw is true, so are they
 pub record Saw (layout : Layout) (dump : Dump) (v w : View) : Type 0 where
   pub rows : List (List Seen)
   pub each : length rows ≡ bucket_count layout

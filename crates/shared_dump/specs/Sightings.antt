@@ -27,8 +27,8 @@ having_seen v bucket xs =
       sights = v.sights ++ sighting v.seen open-end bucket xs ∷ [];
     }
 
--- under one lock a bucket's chain was listed behind what was there; of a pass that was never split it is what the pass's
--- changes make
+-- under one lock a bucket's chain was listed behind what was there; of a pass that was never split it is what the
+-- pass's changes make
 pub record Lists (bucket : ℕ) (old new : List Card) (v w : View) : Type 0 where
   pub chain : List Seen
   pub is-chain : IsChain chain

@@ -231,7 +231,8 @@ lists_in t p turn v w h before added es group g0 g1 out sound within gave began 
 
 -- Alone
 
--- a group's list, where its bucket was asked so in the turn in which lists were published, and some that spare them before
+-- a group's list, where its bucket was asked so in the turn in which lists were published, and some that spare them
+-- before
 list_follows : (n : ℕ) (group : Option ℕ) (h k : Held) (p q : GroupPasses) (g : ℕ) → Follows n group h k p q → g / 8 ≡ n → published p g ≡ members_in h g → published q g ≡ members_in k g
 list_follows n None h k p q g follows own was =
     ap (λ v. list_at g v.mine) follows.nothing ∙ was ∙ sym (same_lists h k g follows.held)

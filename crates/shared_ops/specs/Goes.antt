@@ -17,8 +17,8 @@ use Rattle.table_model.specs.Goes.{tables_by}
 use Rattle.race_record.specs.Deeds.{Deed, entries_in}
 use Rattle.shared_ops.specs.Leads.{Leads}
 
--- The plan went on so far by these deeds: the pass of the buckets gave their entries, of so many buckets, and the pass of
--- the chains made their changes, and neither did anything else.
+-- The plan went on so far by these deeds: the pass of the buckets gave their entries, of so many buckets, and the
+-- pass of the chains made their changes, and neither did anything else.
 pub record Went {R : Type 0} (count : ℕ) (plan : Asking R) (v w : View) (c d : Side) (rest : Asking R) : Type 0 where
   pub deeds : List Deed
   pub leads : Leads plan deeds rest

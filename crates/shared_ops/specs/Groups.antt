@@ -64,15 +64,16 @@ IsGroupOf number h name (Some group) =
     × (has_member name (members_in h group) ≡ true)
     × ((place : ℕ) → place < group % 8 → has_member name (members_at h place) ≡ false)
 
--- the journal of the bucket of that place, as a pass left it that knows this: it is lawful, what the pass's caller asked of
--- the bucket stands in it, and where the pass is alone nothing else does
+-- the journal of the bucket of that place, as a pass left it that knows this: it is lawful, what the pass's caller
+-- asked of the bucket stands in it, and where the pass is alone nothing else does
 pub record IsLeft (place : ℕ) (v : View) (journal : List Note) : Type 0 where
   pub legal : IsLegal place (entries_of journal)
   pub own : by_caller v.caller journal ≡ own_given place v
   pub all : IsAlone v → journal ≡ notes_at place v.mine
 
--- In a turn the bucket of that place was asked so: the list of that group was published as the bucket had it at the end of
--- the turn, by its journal, and no other list of the bucket changed; or no list changed, and nothing was published.
+-- In a turn the bucket of that place was asked so: the list of that group was published as the bucket had it at the
+-- end of the turn, by its journal, and no other list of the bucket changed; or no list changed, and nothing was
+-- published.
 pub record ListsIn (place : ℕ) (es : List Entry) (group : Option ℕ) (v : View) (p q : GroupPasses) : Type 0 where
   -- the journal as the turn began, and what was added to it
   pub before : List Note

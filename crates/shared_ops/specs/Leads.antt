@@ -1,4 +1,5 @@
--- How far a plan goes by deeds, whoever else is at the tables: our own. A plan that goes to its end is a record's `Goes`.
+-- How far a plan goes by deeds, whoever else is at the tables: our own. A plan that goes to its end is a record's
+-- `Goes`.
 use Rattle.std.specs.Prelude.{◌≡◌, List, [], ◌∷◌}
 use Rattle.table_model.specs.Asking.{Asking, asks, inserts, adds, unhashes, reaps}
 use Rattle.race_record.specs.Deeds.{Deed, entered, inserted, added, left, reaped}

@@ -1,3 +1,4 @@
+-- What the contracts of this crate and of those above it cite.
 pub mod Socks
 pub mod Stands
 pub mod Spends
@@ -7,10 +8,11 @@ pub mod Closes
 pub mod Groups
 pub mod Leads
 pub mod Goes
+pub mod Accepting
+pub mod Handshaking
+pub mod Reaping
+-- What only private functions cite.
 pub mod Binding
 pub mod Hashing
 pub mod Connecting
 pub mod Searching
-pub mod Accepting
-pub mod Handshaking
-pub mod Reaping

@@ -1,5 +1,5 @@
--- What it comes to, among others, that a TIME_WAIT is taken out: inet_twsk_kill of net/ipv4/inet_timewait_sock.c. That a
--- plan goes on so is our own.
+-- What it comes to, among others, that a TIME_WAIT is taken out: inet_twsk_kill of net/ipv4/inet_timewait_sock.c.
+-- That a plan goes on so is our own.
 use Rattle.std.specs.Prelude.{ℕ, ◌+◌, Bool, true, false, List, ◌∷◌}
 use Rattle.bind_buckets.specs.Turned.{View}
 use Rattle.chain_deeds.specs.Sides.{Side}

@@ -66,8 +66,8 @@ fn group_of(turn: &Turn<Box<Bucket>>, name: u32) -> Option<u32>
     None
 }
 
-/// An owner of the bucket that is out listens, with a card in that slot, in the group in which the bucket says that it may.
-/// The group's list, if there is one, is published as the bucket has it then.
+/// An owner of the bucket that is out listens, with a card in that slot, in the group in which the bucket says that
+/// it may. The group's list, if there is one, is published as the bucket has it then.
 pub(crate) fn join(
     tables: &Tables,
     pass: &mut TurnPass<Box<Bucket>>,

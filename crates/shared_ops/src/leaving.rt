@@ -451,15 +451,15 @@ fn close_as<R: Wait>(
 
 /// Closes a socket at that moment, in seconds: a connected one leaves a TIME_WAIT, any other is gone.
 ///
-/// Where no slot is free for the TIME_WAIT the socket goes without one, and the answer tells how full the slots are. Its
-/// plan goes on so by the answers of the entries that this call gave and by the changes that it made, whoever else was at
-/// the tables. On a worker that was never split, the plan comes to that on the tables that its own entries and changes
-/// make.
+/// Where no slot is free for the TIME_WAIT the socket goes without one, and the answer tells how full the slots are.
+/// Its plan goes on so by the answers of the entries that this call gave and by the changes that it made, whoever
+/// else was at the tables. On a worker that was never split, the plan comes to that on the tables that its own
+/// entries and changes make.
 ///
 /// # Errors
 ///
-/// `Memory`: a bucket or the worker's list of changes wanted memory, before anything was done. The socket comes back as it
-/// was.
+/// `Memory`: a bucket or the worker's list of changes wanted memory, before anything was done. The socket comes back
+/// as it was.
 pub fn close<R: Wait>(
     rt: &R,
     tables: &Tables,

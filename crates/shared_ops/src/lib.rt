@@ -10,7 +10,7 @@
 //! the tables that its own entries and changes make, comes to the same.
 //!
 //! ```text
-//! let (tables, mut worker) = Tables::new(alloc, shape, seed)?;
+//! // `tables` and `worker` are those of a run or of a race.
 //! let socket = Sock::Unbound(Unbound::new(name, options));
 //! let (socket, port) = bind(&rt, &tables, &mut worker, socket, end, ports)?;
 //! ```

@@ -367,16 +367,16 @@ fn listen_shared<R: Wait>(
 /// address to which it is bound, or 0.0.0.0. A listener
 /// stays as it is.
 ///
-/// Its plan goes on so by the answers of the entries that this call gave and by the changes that it made, whoever else was
-/// at the tables. On a worker that was never split, the plan comes to that on the tables that its own entries and changes
-/// make.
+/// Its plan goes on so by the answers of the entries that this call gave and by the changes that it made, whoever
+/// else was at the tables. On a worker that was never split, the plan comes to that on the tables that its own
+/// entries and changes make.
 ///
 /// # Errors
 ///
-/// `Inval`: it is connected, or a request. `InUse`: the owner of that name keeps it from listening. `NoPort`: each of the ports was
-/// refused, at its own turn. `GroupFull` and `GroupsFull`: no place in a group of listeners. `Full`: no slot was free.
-/// `Memory`: a bucket or the worker's list of changes wanted memory; the ports that were refused before stay told. A
-/// refused socket comes back as it was; a port that this call took for it is given up.
+/// `Inval`: it is connected, or a request. `InUse`: the owner of that name keeps it from listening. `NoPort`: each of
+/// the ports was refused, at its own turn. `GroupFull` and `GroupsFull`: no place in a group of listeners. `Full`: no
+/// slot was free. `Memory`: a bucket or the worker's list of changes wanted memory; the ports that were refused
+/// before stay told. A refused socket comes back as it was; a port that this call took for it is given up.
 pub fn listen<R: Wait>(
     rt: &R,
     tables: &Tables,

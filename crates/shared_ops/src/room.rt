@@ -11,8 +11,8 @@ use bind_buckets::{Bucket, turning};
 use std::alloc::AllocError;
 use turn_table::Turn;
 
-/// Makes room in a bucket that is out, as much as an operation takes, and for so many changes of chains. Where memory is
-/// wanting nothing has changed.
+/// Makes room in a bucket that is out, as much as an operation takes, and for so many changes of chains. Where memory
+/// is wanting nothing has changed.
 pub(crate) fn make_room(
     tables: &Tables,
     worker: &mut Worker,

@@ -5,8 +5,8 @@ use chain_deeds::{ChainPass, ChainTable};
 use reuseport_group::{GroupPasses, Groups};
 use turn_table::{TurnPass, Turns};
 
-/// The bind buckets, each under its turn, the chains, and the lists of the groups of listeners: eight groups for each bind
-/// bucket, the first of which has eight times the bucket's number.
+/// The bind buckets, each under its turn, the chains, and the lists of the groups of listeners: eight groups for each
+/// bind bucket, the first of which has eight times the bucket's number.
 #[derive(Drop)]
 pub struct Tables {
     pub buckets: Turns<Box<Bucket>>,

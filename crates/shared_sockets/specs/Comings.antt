@@ -29,8 +29,8 @@ use Rattle.shared_sockets.specs.declared.coming.InsertEnd.TheVariants as ends
 abbrev pub walking : View → ℕ → List Seen → View
 walking v bucket xs = record (locking v bucket) { chain = record { locked = bucket ∷ []; walked = xs; ahead = []; met = 1 } }
 
--- a chain that a pass saw whole under the lock: each of its slots once; where the pass is alone, it is what the pass's own
--- changes make
+-- a chain that a pass saw whole under the lock: each of its slots once; where the pass is alone, it is what the
+-- pass's own changes make
 pub record IsChain (v : View) (bucket : ℕ) (xs : List Seen) : Type 0 where
   pub once : (i : ℕ) → stands i xs ≤ 1
   pub sole : IsSole v → xs ≡ chain_from v.book.closed bucket
@@ -64,15 +64,15 @@ IsOut (Some x) v = IsIn x v.chain.walked × MayUnhash x.slot v
 abbrev pub FourDrawn : View → View → Type 0
 FourDrawn v w = (more : ℕ) → HasShares (more + 4) v → HasShares more w
 
--- a slot was claimed, in which nobody of the chain stands: of a pass that is alone and has no count out, the first that is
--- free from one on
+-- a slot was claimed, in which nobody of the chain stands: of a pass that is alone and has no count out, the first
+-- that is free from one on
 pub record IsFree (layout : Layout) (v : View) (xs : List Seen) (from slot : ℕ) : Type 0 where
   pub inside : slot < layout.shape.slots
   pub far : stands slot xs ≡ 0
   pub first : IsBare v → FirstFree v.book.closed layout.shape.slots from slot
 
--- no slot was free: each was read as owned or as held alone, and of the change only the number of its beginning is gone;
--- of a pass that is alone and has no count out, all are used
+-- no slot was free: each was read as owned or as held alone, and of the change only the number of its beginning is
+-- gone; of a pass that is alone and has no count out, all are used
 pub record FindsNone (layout : Layout) (v w : View) (f : Full) : Type 0 where
   pub begin : ℕ
   pub later : v.seen ≤ begin

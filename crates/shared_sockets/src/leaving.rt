@@ -22,8 +22,8 @@ use table_rule::{Chains, Pass};
 
 /// Takes out the socket at that place.
 ///
-/// As `inet_unhash` of net/ipv4/inet_hashtables.c. Only the pass that hashed a connected socket, a request or a listener
-/// takes it out.
+/// As `inet_unhash` of net/ipv4/inet_hashtables.c. Only the pass that hashed a connected socket, a request or a
+/// listener takes it out.
 pub fn remove<R: Wait>(chains: &Chains, rt: &R, pass: &mut Pass, place: Place)
     requires table { IsPassOf chains.now pass.old }
     requires bucket { place.bucket < bucket_count (layout_of chains.now) }

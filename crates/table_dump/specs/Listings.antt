@@ -16,8 +16,8 @@ use Rattle.table_rule.specs.Plays.{settled}
 use Rattle.table_rule.specs.Words.{bucket_count}
 use Rattle.table_rule.specs.declared.view.Seen.{Seen}
 
--- All of a worker is as it was, but for what it has seen: its entries and its groups, its changes and the room for more,
--- its slots and its lookups. So is all that its sockets stand by.
+-- All of a worker is as it was, but for what it has seen: its entries and its groups, its changes and the room for
+-- more, its slots and its lookups. So is all that its sockets stand by.
 pub record KeepsAll (t : Tables) (w u : Worker) : Type 0 where
   pub turns : u.turns ≡ w.turns
   pub groups : u.groups ≡ w.groups

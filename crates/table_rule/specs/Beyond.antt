@@ -118,7 +118,8 @@ pub record SightOk (clock : ℕ) (lives : ℕ → List Life) (s : Sight) : Type 
   pub since : s.since ≤ clock
   pub until : (s.until ≤ clock) ⊎ (s.until ≡ open-end)
   pub listed : (n : ℕ) (e : Seen) → get_elem? s.listed n ≡ some e → StoodAs lives s e
-  -- each life of the bucket that was hashed before the sighting began, and that nobody began to unhash before its second number
+  -- each life of the bucket that was hashed before the sighting began, and that nobody began to unhash before its
+  -- second number
   pub whole : s.whole ≡ 1 → (b : ℕ) → s.bucket ≡ b ∷ [] → (i n : ℕ) (x : Life) → get_elem? (lives i) n ≡ some x → x.bucket ≡ b → x.linked < s.since → s.until ≤ x.leaving → Listed s i x
 
 pub record SightsOk (clock : ℕ) (lives : ℕ → List Life) (v : View) : Type 0 where

@@ -74,7 +74,8 @@ beside (s ∷ ss) = others_of s.words ss
 abbrev pub NoneTwice : List Seen → Type 0
 NoneTwice xs = (t : ℕ) → all_claims t xs ≤ 1
 
--- s has another four-tuple than a full socket's card that begins with the words a and b, or is no full socket's, or is slot i itself
+-- s has another four-tuple than a full socket's card that begins with the words a and b, or is no full socket's, or
+-- is slot i itself
 pub record Differs (i a b : ℕ) (s : Seen) : Type 0 where
   pub ends : ℕ
   pub ports : ℕ
@@ -82,7 +83,8 @@ pub record Differs (i a b : ℕ) (s : Seen) : Type 0 where
   pub has-ports : get_elem? s.words 1 ≡ some ports
   pub apart : s.slot ≢ i → bears (tuple a b) ends ports ≡ 0
 
--- slot i may be lit at the head of this list: where its card is a full socket's, no other of the list has its four-tuple
+-- slot i may be lit at the head of this list: where its card is a full socket's, no other of the list has its
+-- four-tuple
 pub record MayLight (i : ℕ) (xs : List Seen) : Type 0 where
   pub nth : ℕ
   pub seen : Seen

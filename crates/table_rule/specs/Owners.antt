@@ -15,7 +15,8 @@ pub record HasChange (b : BookView) (c : Change) : Type 0 where
   pub nth : ℕ
   pub is : (get_elem? b.closed nth ≡ some c) ⊎ (get_elem? b.opened nth ≡ some c)
 
--- each own closed hash of a card that is no TIME_WAIT's is of a life that nobody began to unhash, or whose unhash is the pass's own
+-- each own closed hash of a card that is no TIME_WAIT's is of a life that nobody began to unhash, or whose unhash is
+-- the pass's own
 abbrev pub OwnUnhash : (ℕ → List Life) → BookView → Type 0
 OwnUnhash lives b = (m i n : ℕ) (x : Life) → get_elem? (lives i) n ≡ some x → get_elem? b.closed m ≡ some (hash_of i x) → time_waits x.card ≡ 0 → (x.leaving ≡ open-end) ⊎ HasChange b (unhash_of i x)
 

@@ -19,7 +19,8 @@ use Rattle.table_rule.specs.declared.view.Sighted.{Sighted}
 use Rattle.table_rule.specs.declared.view.Stop.{Stop}
 use Rattle.table_rule.specs.declared.view.Whole.{Whole}
 
--- a receipt that began at this number or later says that the bucket had no card with a rank of at least this, and above the best
+-- a receipt that began at this number or later says that the bucket had no card with a rank of at least this, and
+-- above the best
 pub record Clears (v : ReadView) (key : Packet) (from bucket least best : ℕ) : Type 0 where
   pub nth : ℕ
   pub receipt : Receipt

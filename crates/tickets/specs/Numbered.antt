@@ -1,4 +1,5 @@
--- The rule of the table, which holds between any two steps of any passes: our own. Its one word is the count of all draws.
+-- The rule of the table, which holds between any two steps of any passes: our own. Its one word is the count of all
+-- draws.
 use Rattle.std.specs.Prelude.{◌≡◌, ℕ, ◌+◌, ◌<◌, ◌≤◌, List, [], length, min, slice_index, nat_le, if◌then◌else◌}
 use mathlib.Core.Option.{some}
 use lib.ListN.{get_elem?}

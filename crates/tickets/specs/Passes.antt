@@ -1,4 +1,5 @@
--- Words for what a pass is between two calls, and for what its table is: our own. A pass's knowledge is `known`, and the other words are read off it.
+-- Words for what a pass is between two calls, and for what its table is: our own. A pass's knowledge is `known`, and
+-- the other words are read off it.
 use Rattle.std.specs.Prelude.{◌≡◌, ℕ, ◌<◌, ◌≤◌, List, length}
 use Rattle.list_words.specs.Lists.{Each}
 use Rattle.tickets.specs.declared.view.TicketView.{TicketView}
@@ -24,11 +25,13 @@ limit p = (known p).limit
 abbrev pub drawn : TicketPass → List ℕ
 drawn p = (known p).drawn
 
--- the numbers that it drew in vain, since they aren't below the limit, and behind them those of the passes that it joined
+-- the numbers that it drew in vain, since they aren't below the limit, and behind them those of the passes that it
+-- joined
 abbrev pub vain : TicketPass → List ℕ
 vain p = (known p).vain
 
--- how far it has seen the numbers go: one more than the last that it drew, and no less than what each pass had seen that it joined, or that split it off
+-- how far it has seen the numbers go: one more than the last that it drew, and no less than what each pass had seen
+-- that it joined, or that split it off
 abbrev pub seen : TicketPass → ℕ
 seen p = (known p).seen
 

@@ -40,7 +40,8 @@ module _ {E : Type 0} where
   abbrev pub HasAllAt : ℕ → List (Placed E) → List (Note E) → Type 0
   HasAllAt i given journal = Each (Contains journal) (notes_at i given)
 
-  -- the journal begins as it was found, and what came later has later numbers: so what was found had each entry with a number below `since`
+  -- the journal begins as it was found, and what came later has later numbers: so what was found had each entry with
+  -- a number below `since`
   pub record Begins (x : Find E) (journal : List (Note E)) : Type 0 where
     pub more : List (Note E)
     pub is : journal ≡ x.notes ++ more

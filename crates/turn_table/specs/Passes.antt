@@ -1,4 +1,5 @@
--- Words for what a pass is between two calls, and for what its table is: our own. A pass's knowledge is `known`, and the other words are read off it.
+-- Words for what a pass is between two calls, and for what its table is: our own. A pass's knowledge is `known`, and
+-- the other words are read off it.
 use Rattle.std.specs.Prelude.{◌≡◌, ℕ, ◌+◌, ◌<◌, List, [], ◌∷◌, Option, None}
 use Rattle.turn_table.specs.declared.note.Note.{Note}
 use Rattle.turn_table.specs.declared.note.Placed.{Placed}

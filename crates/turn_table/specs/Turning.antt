@@ -1,5 +1,6 @@
--- The rule of a table of turns, which holds between any two steps: our own. Word 0 is the count of the numbers that were drawn, and word 1 + i is 1 while the turn of the place i is out.
--- It has five parts. Each reads the journals (which exist in the rule alone, also of a value that is out) and, of the table, only what it names.
+-- The rule of a table of turns, which holds between any two steps: our own. Word 0 is the count of the numbers that
+-- were drawn, and word 1 + i is 1 while the turn of the place i is out. It has five parts. Each reads the journals
+-- (which exist in the rule alone, also of a value that is out) and, of the table, only what it names.
 use Rattle.std.specs.Prelude.{◌≡◌, ◌≢◌, ℕ, zero, suc, ◌+◌, ◌*◌, ◌<◌, ◌≤◌, List, [], ◌∷◌, ◌++◌, map, length, slice_index, cond, ◌==◌, Option, Some}
 use mathlib.Core.Option.{Option as Maybe, some}
 use lib.ListN.{get_elem?}
@@ -21,7 +22,8 @@ abbrev pub start : ℕ → ℕ
 start zero = 16384
 start (suc caller) = 1
 
--- A pass draws at most 2^48 numbers. Only the first splits, at most 2^14 - 2 times, and gives a part away each time. So the numbers that a pass and those that it joined drew are within 2^48 for each of its parts
+-- A pass draws at most 2^48 numbers. Only the first splits, at most 2^14 - 2 times, and gives a part away each time.
+-- So the numbers that a pass and those that it joined drew are within 2^48 for each of its parts
 pub record HasShare (caller parts splits draws tickets : ℕ) : Type 0 where
   pub own : draws ≤ 281474976710656
   pub few : splits ≤ 16382
@@ -89,12 +91,14 @@ module _ {E H : Type 0} where
     pub nth : ℕ
     pub is : get_elem? view.finds nth ≡ some x
 
-  -- Fourth part: what each pass knows is so, and what is drawn at a place after some pass's find there is not below that find's count
+  -- Fourth part: what each pass knows is so, and what is drawn at a place after some pass's find there is not below
+  -- that find's count
   pub record KnowledgeOk (key : H) (count places : ℕ) (journals : ℕ → List (Note E)) (views : List (TurnView E H)) : Type 0 where
     pub knows : (k : ℕ) (v : TurnView E H) → get_elem? views k ≡ some v → Knows key journals count places v
     pub ahead : (x : Find E) → Found views x → (l : ℕ) (u : TurnView E H) → get_elem? views l ≡ some u → u.at ≡ x.place + 1 → Each (λ (y : ℕ). x.since ≤ y) u.drawn
 
-  -- Fifth part: one seat keeps the entries of a caller, whole and in order. A pass with a part keeps those of its own number, and the first pass those of the callers to come, who have none
+  -- Fifth part: one seat keeps the entries of a caller, whole and in order. A pass with a part keeps those of its own
+  -- number, and the first pass those of the callers to come, who have none
   pub record CallersOk (places : ℕ) (journals : ℕ → List (Note E)) (views : List (TurnView E H)) : Type 0 where
     pub keeper : ℕ → ℕ
     pub inside : (c : ℕ) → keeper c < length views
