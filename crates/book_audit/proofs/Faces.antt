@@ -24,7 +24,7 @@ use Rattle.book_audit.specs.declared.index.Index.{Index}
 use Rattle.book_audit.specs.Lines.{passes, is_out}
 use Rattle.book_audit.specs.Stays.{is_below, begin_of}
 use Rattle.book_audit.specs.Tried.{was_throughout, beats, is_beaten}
-use Rattle.book_audit.specs.Index.{face_as, connected, listening, mark, outlasts, StandsFor, IsMarked, AreOrdered, AreMarked, IsIndex, GoneAt, RulesOut}
+use Rattle.book_audit.specs.Index.{face_as, connected_face, listening_face, mark, outlasts, StandsFor, IsMarked, AreOrdered, AreMarked, IsIndex, GoneAt, RulesOut}
 use Rattle.book_audit.proofs.Order.{no_truth}
 use Rattle.book_audit.proofs.Looked.{Passing, any_is}
 
@@ -42,18 +42,18 @@ module _ (stays : List Stay) (look : PrintedLook) (least : ℕ) (low : 0 < least
     | inr p ↦ inr (eqb-true c.dev P.dev p)
   ]
 
-  connected_is : (c : Card) (d : ℕ) → has_tuple c P ≡ true → c.dev ≡ d → face_as kinds.Full c ≡ connected P d
+  connected_is : (c : Card) (d : ℕ) → has_tuple c P ≡ true → c.dev ≡ d → face_as kinds.Full c ≡ connected_face P d
   connected_is c d e q =
       let t : PartsAgree (tuple_of c) (packet_tuple P) = parts_agree (tuple_of c) (packet_tuple P) e in
       λ i. record { local = t.local i; lport = t.lport i; remote = t.remote i; rport = t.rport i; dev = q i; net = t.net i; kind = kinds.Full; name = 0; extra = 0 }
 
-  listening_is : (c : Card) (a d : ℕ) → c.kind ≡ kinds.Listen → takes_port c P ≡ true → c.local ≡ a → c.dev ≡ d → face_as kinds.Listen c ≡ listening P a d
+  listening_is : (c : Card) (a d : ℕ) → c.kind ≡ kinds.Listen → takes_port c P ≡ true → c.local ≡ a → c.dev ≡ d → face_as kinds.Listen c ≡ listening_face P a d
   listening_is c a d k e p q =
       let n : c.net ≡ P.net = eqb-true c.net P.net (and_left (c.net == P.net) (c.lport == P.dport) e) in
       let t : c.lport ≡ P.dport = eqb-true c.lport P.dport (and_right (c.net == P.net) (c.lport == P.dport) e) in
       λ i. record { local = p i; lport = t i; remote = 0; rport = 0; dev = q i; net = n i; kind = k i; name = 0; extra = 0 }
 
-  module _ (plain : GoneFrom 5 (connected P 0)) (here : GoneFrom 5 (connected P P.dev)) (exact_here : GoneFrom 4 (listening P P.dst P.dev)) (exact : GoneFrom 3 (listening P P.dst 0)) (any_here : GoneFrom 2 (listening P 0 P.dev)) (any : GoneFrom 1 (listening P 0 0)) where
+  module _ (plain : GoneFrom 5 (connected_face P 0)) (here : GoneFrom 5 (connected_face P P.dev)) (exact_here : GoneFrom 4 (listening_face P P.dst P.dev)) (exact : GoneFrom 3 (listening_face P P.dst 0)) (any_here : GoneFrom 2 (listening_face P 0 P.dev)) (any : GoneFrom 1 (listening_face P 0 0)) where
     by_tuple : (c : Card) (b : Bool) → (has_tuple c P && takes_device c P) ≡ b → least ≤ (if b then 5 else 0) → GoneAt stays look (face_as kinds.Full c)
     by_tuple c false e l = absurd (omega (arith, low, l))
     by_tuple c true e l =

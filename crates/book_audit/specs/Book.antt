@@ -1,4 +1,4 @@
--- The book of printed lives: each life is a hash, and an unhash where it has one.
+-- The book of printed lives: each life is a hash, and an unhash where it has one. Our own.
 use Rattle.std.specs.Prelude.{List, [], ◌∷◌, Option, None, Some}
 use Rattle.std.specs.List.{flat_map}
 use Rattle.chain_book.specs.declared.book.Act.{Act}

@@ -1,4 +1,4 @@
--- What the judge of a printed race finds: which test is the first that fails, and at which line.
+-- What the judge of a printed race finds: which test is the first that fails, and at which line. Our own.
 use Rattle.std.specs.Prelude.{◌≡◌, ℕ, ◌+◌, ◌*◌, ◌<◌, List, take, length}
 use Rattle.list_words.specs.Lists.{Each}
 use Rattle.book_audit.specs.declared.printed.Printed.{Printed}

@@ -1,4 +1,5 @@
--- An index of lives by what lookups tell of their cards: whether one was there throughout a call.
+-- An index of lives by what lookups tell of their cards: whether one was there throughout a call. Our own; what a
+-- lookup tells is inet_match's and compute_score's of the kernel's net/ipv4/inet_hashtables.c, by sock_card's words.
 use Rattle.std.specs.Prelude.{◌≡◌, ℕ, ◌<◌, ◌≤◌, ◌==◌, ◌&&◌, ◌||◌, not, nat_lt, nat_le, Bool, true, false, IsTrue, List, Option, None, Some}
 use Rattle.list_words.specs.Lists.{Each, Pairs}
 use Rattle.sock_card.specs.declared.card.Card.{Card}
@@ -24,8 +25,8 @@ abbrev pub face : Card → Card
 face c = face_as c.kind c
 
 -- the face of a connected socket or a request that takes a packet, with that device
-abbrev pub connected : Packet → ℕ → Card
-connected p dev = record {
+abbrev pub connected_face : Packet → ℕ → Card
+connected_face p dev = record {
   local = p.dst;
   lport = p.dport;
   remote = p.src;
@@ -38,8 +39,8 @@ connected p dev = record {
 }
 
 -- a listener that takes it, at that address and with that device
-abbrev pub listening : Packet → ℕ → ℕ → Card
-listening p local dev = record {
+abbrev pub listening_face : Packet → ℕ → ℕ → Card
+listening_face p local dev = record {
   local = local;
   lport = p.dport;
   remote = 0;

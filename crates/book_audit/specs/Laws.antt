@@ -1,4 +1,4 @@
--- What follows from the tests of a printed race.
+-- What follows from the tests of a printed race. Our own.
 use Rattle.std.specs.Prelude.{◌≡◌}
 use Rattle.race_book.specs.Among.{Among}
 use Rattle.race_book.specs.Listed.{StampsDiffer}

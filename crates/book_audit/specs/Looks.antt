@@ -1,4 +1,4 @@
--- Whether printed lives explain what came of a packet, in the words of race_book.
+-- Whether printed lives explain what came of a packet, in the words of race_book. Our own.
 use Rattle.std.specs.Prelude.{◌≡◌, ℕ, List}
 use Rattle.chain_book.specs.declared.book.PassEnd.{PassEnd}
 use Rattle.chain_book.specs.declared.book.PassEnd.TheVariants as ends

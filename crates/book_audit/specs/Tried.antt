@@ -1,4 +1,4 @@
--- How the judge tries whether lives explain what came of a packet, one life after the other.
+-- How the judge tries whether lives explain what came of a packet, one life after the other. Our own.
 use Rattle.std.specs.Prelude.{ℕ, ◌+◌, ◌==◌, ◌&&◌, ◌||◌, not, nat_lt, nat_le, Bool, true, List}
 use Rattle.std.specs.List.{list_any}
 use Rattle.sock_card.specs.declared.card.Kind.{Kind}

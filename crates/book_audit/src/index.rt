@@ -171,7 +171,7 @@ fn is_gone(stays: &[Stay], card: &Card, look: &PrintedLook) -> bool
 }
 
 fn connected(packet: &Packet, dev: u16) -> Card
-    ensures { result ≡ spec.connected packet.now dev }
+    ensures { result ≡ spec.connected_face packet.now dev }
 {
     Card {
         local: packet.dst,
@@ -187,7 +187,7 @@ fn connected(packet: &Packet, dev: u16) -> Card
 }
 
 fn listening(packet: &Packet, local: u32, dev: u16) -> Card
-    ensures { result ≡ spec.listening packet.now local dev }
+    ensures { result ≡ spec.listening_face packet.now local dev }
 {
     Card {
         local,

@@ -1,2 +1,3 @@
 pub mod RankHomes
 pub mod Powers
+pub mod HashFits

@@ -1,4 +1,4 @@
--- What a call does: it carries out one command on the flat list, as a script's section does.
+-- What a call does: it carries out one command on the flat list, as a script's section does. Our own.
 use Rattle.std.specs.Prelude.{◌≡◌, ◌⊎◌, ℕ, ◌+◌, ◌-◌, ◌<◌, ◌≤◌, ◌^◌, true, length}
 use Rattle.flat_list.specs.declared.command.Command.{Command}
 use Rattle.flat_list.specs.declared.command.Reply.{Reply}

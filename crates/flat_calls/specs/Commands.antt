@@ -1,4 +1,4 @@
--- The commands of calls: those of scripts, on sockets named by numbers.
+-- The commands of calls: those of scripts, on sockets named by numbers. Our own.
 use Rattle.std.specs.Prelude.{ℕ, Option}
 use Rattle.flat_list.specs.declared.command.Command.{Command}
 use Rattle.flat_list.specs.declared.command.Command.TheVariants as commands

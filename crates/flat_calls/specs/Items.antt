@@ -1,4 +1,4 @@
--- What a list tells: the sockets of the flat list's own list, by their numbers.
+-- What a list tells: the sockets of the flat list's own list, by their numbers. Our own.
 use Rattle.std.specs.Prelude.{◌/◌, ◌^◌, List, map}
 use Rattle.sock_card.specs.declared.card.Card.{Card}
 use Rattle.flat_list.specs.Listed.{listed}

@@ -17,3 +17,4 @@ pub mod Refusals
 pub mod SlotsStay
 pub mod LabelKeys
 pub mod SectionsStay
+pub mod CardsOf

@@ -1,8 +1,6 @@
 -- A label as numbers, to find it among others: a format of our own.
 use Rattle.std.specs.Prelude.{◌≡◌, ℕ, List, ◌++◌, length, take, drop}
 use Rattle.std.specs.Int.{w64, to_be_bytes, from_be_bytes}
-use Rattle.std.specs.Ordering.{nat_cmp, ordering_then}
-use Rattle.std.specs.declared.cmp.Ordering.{Ordering}
 use Rattle.flat_list.specs.declared.command.LabelKey.{LabelKey}
 use Rattle.flat_list.specs.Padded.{padded}
 
@@ -22,7 +20,3 @@ text_of key = take key.length (to_be_bytes w64 key.high ++ to_be_bytes w64 key.l
 -- the text's numbers tell the text: so of each label
 abbrev pub IsLabel : List ℕ → Type 0
 IsLabel text = text_of (key_of text) ≡ text
-
--- by the first half, then by the second, then by the length
-abbrev pub key_cmp : LabelKey → LabelKey → Ordering
-key_cmp a b = ordering_then (nat_cmp a.high b.high) (ordering_then (nat_cmp a.low b.low) (nat_cmp a.length b.length))

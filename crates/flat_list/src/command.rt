@@ -30,9 +30,8 @@ impl Model for Label {
     ghost inverse_ok = { λ l h i. record { bytes = bytes_back l.bytes l.used h i; used = length_back l.bytes l.used h i } };
 }
 
-/// A label as numbers, which compare faster than bytes: by them labels stand in the order of their
-/// bytes.
-#[derive(Clone, Copy, Debug, PartialEq, Eq, PartialOrd, Ord, Hash)]
+/// A label as numbers, which compare and hash faster than bytes.
+#[derive(Clone, Copy, Debug, PartialEq, Eq, Hash)]
 pub struct LabelKey {
     /// The first eight bytes, the first of them highest.
     high: u64,

@@ -49,8 +49,8 @@ abbrev pub reusing : ℕ → Owner
 reusing name =
     bound_at (new_owner name (record plain { reuseaddr = true })) 0x0A000001 90
 
-abbrev pub connected : Owner → Card
-connected owner = card_as kinds.Full (connected_to owner 0x0A000001 (two 80)) 0
+abbrev pub full_card : Owner → Card
+full_card owner = card_as kinds.Full (connected_to owner 0x0A000001 (two 80)) 0
 
 abbrev pub owner_a : Owner
 owner_a = reusing (name_at 1 0)
@@ -65,13 +65,13 @@ abbrev pub owner_d : Owner
 owner_d = bound (name_at 1 1) 0x0A000001 92
 
 abbrev pub hash_a : Change
-hash_a = change 0 0 (connected owner_a) acts.Hash 0 1
+hash_a = change 0 0 (full_card owner_a) acts.Hash 0 1
 
 abbrev pub hash_d : Change
-hash_d = change 0 1 (connected owner_d) acts.Hash 2 3
+hash_d = change 0 1 (full_card owner_d) acts.Hash 2 3
 
 abbrev pub unhash_d : Change
-unhash_d = change 0 1 (connected owner_d) acts.Unhash 4 5
+unhash_d = change 0 1 (full_card owner_d) acts.Unhash 4 5
 
 abbrev pub bind_a : Note Entry
 bind_a = note 0 1 (requests.Bind owner_a) answers.Done
@@ -95,7 +95,7 @@ abbrev pub remove_d : Note Entry
 remove_d = note 6 1 (requests.Remove (name_at 1 1)) answers.Done
 
 abbrev pub wished : Owner → Wish
-wished owner = record { card = connected owner; moment = 0; rule = rules.Never }
+wished owner = record { card = full_card owner; moment = 0; rule = rules.Never }
 
 -- the slot of d as it is held by a lookup alone
 abbrev pub held_d : Sighting

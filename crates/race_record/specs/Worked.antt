@@ -1,4 +1,5 @@
 -- Worked records: one listener by itself, the same with a dump, two sections beside each other, and a handshake.
+-- Our own.
 use Rattle.std.specs.Prelude.{ℕ, false, true, List, [], ◌∷◌, None, Some}
 use Rattle.sock_card.specs.declared.owner.Owner.{Owner}
 use Rattle.sock_card.specs.declared.card.Card.{Card}

@@ -1,4 +1,4 @@
--- Records that aren't lawful, each but for one thing like one that is.
+-- Records that aren't lawful, each but for one thing like one that is. Our own.
 use Rattle.std.specs.Prelude.{ℕ, List, [], ◌∷◌, ◌++◌, false, None}
 use Rattle.capture_reader.specs.declared.packet.Item.TheVariants as items
 use Rattle.capture_reader.specs.Captures.{Capture}
@@ -101,7 +101,7 @@ twins_script =
     }
 
 abbrev pub twin_b : Change
-twin_b = change 0 1 (refused.connected refused.owner_b) acts.Hash 2 3
+twin_b = change 0 1 (refused.full_card refused.owner_b) acts.Hash 2 3
 
 abbrev pub connect_b : Note Entry
 connect_b = note 3 2 (requests.ConnectBound (name_at 2 0) 0x0A000001 0x0A000002 80) answers.Done

@@ -1,4 +1,4 @@
--- The rule of the table, which holds between any two steps of any passes.
+-- The rule of the table, which holds between any two steps of any passes. Our own.
 use Rattle.std.specs.Prelude.{◌≡◌, ℕ, ◌+◌, ◌*◌, ◌<◌, ◌≤◌, true, List, [], length, slice_index}
 use mathlib.Core.Option.{some}
 use lib.ListN.{get_elem?}

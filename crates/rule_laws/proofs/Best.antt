@@ -13,8 +13,9 @@ use Rattle.flat_list.specs.Groups.{Group, has_member}
 use Rattle.flat_list.specs.Look.{best_rank, is_best, member_of, chosen, group_of, cards_of}
 use Rattle.flat_list.specs.Sound.{IsSound}
 use Rattle.rule_laws.specs.Finds.{IsBestOf, NoneMatches, FindsTheBest}
-use Rattle.rule_laws.proofs.Items.{In, in_each, found_in, contains_in, fold_least, fold_one}
-use Rattle.rule_laws.proofs.Cards.{hash_fits, chosen_card}
+use Rattle.list_words.proofs.Items.{In, in_each, found_in, contains_in, fold_least, fold_one}
+use Rattle.chain_book.proofs.HashFits.{hash_fits}
+use Rattle.rule_laws.proofs.Cards.{chosen_card}
 
 in_map : {A B : Type 0} (f : A → B) (x : A) (xs : List A) → In x xs → In (f x) (map f xs)
 in_map f x [] i = absurd i

@@ -1,11 +1,10 @@
 -- Cards of a sound list: the member of a group that a hash chooses has a card, which matches as each of its mates does.
-use Rattle.std.proofs.Common.{◌≡◌, ℕ, ◌%◌, ◌^◌, ◌<◌, ◌≤◌, Bool, true, false, ◌&&◌, ◌==◌, cond, List, [], ◌∷◌, length, find, Option, Some, None, refl, sym, ap, ◌∙◌, subst, inl, inr, arith}
+use Rattle.std.proofs.Common.{◌≡◌, ℕ, ◌^◌, ◌<◌, ◌≤◌, Bool, true, false, ◌&&◌, ◌==◌, cond, List, [], ◌∷◌, length, find, Option, Some, refl, sym, ap, ◌∙◌, inl, inr, arith}
 use Rattle.std.specs.Prelude.{count_by}
 use Rattle.std.specs.List.{list_any}
 use Rattle.std.specs.Option.{option_map}
-use Rattle.std.proofs.Math.Nat.{div-lt_iff_lt-mul}
 use Rattle.std.proofs.lemmas.Bool.{and_parts, and_from, eqb-true, eq-eqb}
-use Rattle.list_words.proofs.EachLemmas.{some_same, found_passes}
+use Rattle.list_words.proofs.EachLemmas.{found_passes}
 use Rattle.sock_card.specs.declared.card.Card.{Card}
 use Rattle.sock_card.specs.declared.card.Kind.{Kind}
 use Rattle.sock_card.specs.declared.card.Kind.TheVariants as kinds
@@ -13,83 +12,19 @@ use Rattle.sock_card.specs.declared.card.Packet.{Packet}
 use Rattle.sock_card.specs.declared.owner.Owner.{Owner}
 use Rattle.sock_card.specs.declared.owner.State.{State}
 use Rattle.sock_card.specs.declared.owner.State.TheVariants as states
-use Rattle.sock_card.specs.Conflict.{same_port, is_listening, both_reuse_port}
+use Rattle.sock_card.specs.Conflict.{is_listening}
 use Rattle.sock_card.specs.Rank.{rank, rank_as, listen_rank}
-use Rattle.jhash_words.specs.Jhash.{mixed, final_mix, started_mix, jhash_3words}
-use Rattle.jhash_words.specs.Places.{tuple_hash, scale}
-use Rattle.chain_book.specs.Homes.{packet_hash}
+use Rattle.jhash_words.specs.Places.{scale}
 use Rattle.flat_list.specs.declared.socket.Socket.{Socket}
 use Rattle.flat_list.specs.Flat.{Flat}
 use Rattle.flat_list.specs.Groups.{Group, has_member}
 use Rattle.flat_list.specs.Look.{card_of, cards_of, extra_as, chosen}
 use Rattle.flat_list.specs.Owned.{card_as}
-use Rattle.flat_list.specs.Sockets.{kind_of, has_name, is_mate}
+use Rattle.flat_list.specs.Sockets.{kind_of, has_name}
 use Rattle.flat_list.specs.Sound.{IsSound, IsInOneGroup, IsGroupOf, GroupsAreOfMates, is_sharing, are_together}
-use Rattle.rule_laws.proofs.Items.{In, each_in, pairs_in, any_item, any_in, found_in, place_in, count_in, made_in, comes_in}
-
-rest_fits : (x : ℕ) → x % 2 ^ 32 < 2 ^ 32
-rest_fits x = omega arith
-
-mixed_fits : (x y by : ℕ) → mixed x y by < 2 ^ 32
-unfolding mixed
-mixed_fits x y by = rest_fits _
-
-final_fits : (a b c : ℕ) → final_mix a b c < 2 ^ 32
-unfolding final_mix
-final_fits a b c = mixed_fits _ _ 24
-
-started_fits : (a b c start : ℕ) → started_mix a b c start < 2 ^ 32
-unfolding started_mix
-started_fits a b c start = final_fits _ _ _
-
-words_fit : (a b c initial : ℕ) → jhash_3words a b c initial < 2 ^ 32
-unfolding jhash_3words
-words_fit a b c initial = started_fits _ _ _ _
-
--- a hash has 32 bits
-pub hash_fits : (packet : Packet) (seed : ℕ) → packet_hash packet seed < 2 ^ 32
-unfolding tuple_hash
-hash_fits packet seed = words_fit _ _ _ _
-
--- and so it is scaled to one of the places
-scale_below : (hash n : ℕ) → hash < 2 ^ 32 → 1 ≤ n → scale hash n < n
-scale_below hash n h some = grind (arith, div-lt_iff_lt-mul)
-
--- what a socket's card says of the socket
-pub record Says (groups : List Group) (s : Socket) (c : Card) : Type 0 where
-  pub name : s.owner.name ≡ c.name
-  pub kind : kind_of s.owner.state ≡ Some c.kind
-  pub is : card_as c.kind s.owner (extra_as c.kind groups s) ≡ c
-
-says_at : (groups : List Group) (s : Socket) (c : Card) (o : Option Kind) → kind_of s.owner.state ≡ o → option_map (λ (k : Kind). card_as k s.owner (extra_as k groups s)) o ≡ Some c → Says groups s c
-says_at groups s c None e h = absurd (cc)
-says_at groups s c (Some k) e h =
-    let is : card_as k s.owner (extra_as k groups s) ≡ c = some_same (card_as k s.owner (extra_as k groups s)) c h in
-    record {
-      name = ap (λ (d : Card). d.name) is;
-      kind = e ∙ ap (λ (d : Card). Some d.kind) is;
-      is = subst (λ (d : Card). card_as d.kind s.owner (extra_as d.kind groups s) ≡ d) is refl;
-    }
-
--- the socket of a card of the list
-pub record OfSocket (groups : List Group) (sockets : List Socket) (c : Card) : Type 0 where
-  pub socket : Socket
-  pub within : In socket sockets
-  pub card : card_of groups socket ≡ Some c
-  pub says : Says groups socket c
-
-pub of_socket : (groups : List Group) (sockets : List Socket) (c : Card) → In c (cards_of groups sockets) → OfSocket groups sockets c
-of_socket groups sockets c i =
-    let m = made_in (card_of groups) c sockets i in
-    record { socket = m.item; within = m.within; card = m.is; says = says_at groups m.item c (kind_of m.item.owner.state) refl m.is }
-
-listening_kind : (st : State) (k : Kind) → is_listening st ≡ true → kind_of st ≡ Some k → k ≡ kinds.Listen
-listening_kind states.Listening k h e = sym (some_same kinds.Listen k e)
-listening_kind states.Full k h e = absurd (cc)
-listening_kind states.TimeWait k h e = absurd (cc)
-listening_kind states.Request k h e = absurd (cc)
-listening_kind states.Bound k h e = absurd (cc)
-listening_kind states.Unbound k h e = absurd (cc)
+use Rattle.chain_book.proofs.HashFits.{scale_below}
+use Rattle.flat_list.proofs.CardsOf.{Says, of_socket, listening_kind, AtOneEnd, by_mates}
+use Rattle.list_words.proofs.Items.{In, each_in, pairs_in, any_item, any_in, found_in, place_in, count_in, comes_in}
 
 a_kind : (st : State) → is_listening st ≡ true → kind_of st ≡ Some kinds.Listen
 a_kind states.Listening h = refl
@@ -102,27 +37,6 @@ a_kind states.Unbound h = absurd (cc)
 sharing_at : (b : Bool) (n : ℕ) → n ≡ cond {A = ℕ} b 1 0 → 1 ≤ n → b ≡ true
 sharing_at true n h l = refl
 sharing_at false n h l = absurd (omega (arith, h, l))
-
-mate_parts : (a b c d e f : Bool) → (a && b && c && d && e && f) ≡ true → (c ≡ true) × (d ≡ true) × (f ≡ true)
-mate_parts a b c d e f h =
-    let last = and_parts (a && b && c && d && e) f h in
-    let user = and_parts (a && b && c && d) e last.0 in
-    let dev = and_parts (a && b && c) d user.0 in
-    let port = and_parts (a && b) c dev.0 in
-    (port.1, dev.1, last.1)
-
--- two owners at one end and device of a namespace
-record AtOneEnd (a b : Owner) : Type 0 where
-  net : a.net ≡ b.net
-  addr : a.addr ≡ b.addr
-  port : a.port ≡ b.port
-  dev : a.dev ≡ b.dev
-
-by_mates : (a : Owner) (s : Socket) → is_mate a s ≡ true → AtOneEnd a s.owner
-by_mates a s h =
-    let p = mate_parts (is_listening s.owner.state) (both_reuse_port a s.owner) (same_port a s.owner) (a.dev == s.owner.dev) (a.uid == s.owner.uid) (a.addr == s.owner.addr) h in
-    let port = and_parts (a.net == s.owner.net) (a.port == s.owner.port) p.0 in
-    record { net = eqb-true _ _ port.0; addr = eqb-true _ _ p.2; port = eqb-true _ _ port.1; dev = eqb-true _ _ p.1 }
 
 -- a listener's rank hangs on its end and device alone
 rank_of : (a : Card) (packet : Packet) → a.kind ≡ kinds.Listen → rank a packet ≡ listen_rank a packet

@@ -2,7 +2,6 @@
 pub mod Walk
 pub mod Own
 pub mod Counted
-pub mod Items
 pub mod Cards
 pub mod Best
 pub mod Dumps

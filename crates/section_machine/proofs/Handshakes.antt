@@ -46,7 +46,7 @@ use Rattle.section_machine.proofs.Places.{none_last, none_set, each_placed}
 use Rattle.section_machine.proofs.Rolls.{IsThere, with_next, others_of, still_there, comes_instead}
 use Rattle.section_machine.proofs.Settled.{of_header, then_ends, stands_typed}
 use Rattle.section_machine.proofs.Stays.{GoesOn, Asks, may_tell}
-use Rattle.section_machine.proofs.Told.{find_filtered}
+use Rattle.bind_buckets.proofs.Filtered.{find_filtered}
 
 -- A request isn't its own listener
 

@@ -1,5 +1,4 @@
 mod Places
-mod Told
 pub mod Names
 pub mod Asked
 pub mod Stays

@@ -20,7 +20,8 @@ use Rattle.bind_buckets.specs.OwnerStep.{has_name}
 use Rattle.bind_buckets.specs.OwnTold.{KeepsOpen, removes_waiting, is_told, own_given, told_next}
 use Rattle.bind_buckets.specs.Turned.{View, Gave}
 use Rattle.shared_ops.specs.Stands.{Knows}
-use Rattle.section_machine.proofs.Told.{find_filtered, named_mine, told_seen}
+use Rattle.bind_buckets.proofs.Filtered.{find_filtered}
+use Rattle.bind_buckets.proofs.ToldByOwn.{named_mine, told_seen}
 
 -- the owners of some names, as notes tell them
 abbrev pub told_by : (ℕ → Bool) → List Note → List Owner

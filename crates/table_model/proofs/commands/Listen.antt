@@ -14,7 +14,7 @@ use Rattle.bind_buckets.specs.declared.request.Answer.TheVariants as answers
 use Rattle.bind_buckets.specs.declared.request.Request.TheVariants as requests
 use Rattle.bind_buckets.specs.First.{change_first}
 use Rattle.bind_buckets.specs.Journal.{Standing}
-use Rattle.bind_buckets.specs.Members.{has_member as is_member, left_by as left_in}
+use Rattle.bind_buckets.specs.Members.{has_member as is_member, without_member as left_in}
 use Rattle.bind_buckets.specs.OwnerStep.{After}
 use Rattle.chain_book.specs.declared.outcome.Place.{Place}
 use Rattle.flat_list.specs.declared.header.First.TheVariants as firsts

@@ -6,7 +6,7 @@ use Rattle.std.proofs.lemmas.List.{length-map, take-map, get_or-map, get_or_past
 use Rattle.list_words.specs.Lists.{Each, Pairs}
 use Rattle.list_words.proofs.EachLemmas.{each_weaken}
 use Rattle.bind_buckets.specs.First.{change_first}
-use Rattle.bind_buckets.specs.Members.{is_named, has_member as is_member, left_by as left_in}
+use Rattle.bind_buckets.specs.Members.{is_named, has_member as is_member, without_member as left_in}
 use Rattle.flat_list.specs.Groups.{Group, has_member, has_members, left_by, leave_group, leave}
 use Rattle.flat_list.specs.Sound.{NumbersDiffer}
 use Rattle.table_model.specs.Means.{names_in, members_of}

@@ -11,7 +11,7 @@ use Rattle.bind_buckets.specs.declared.request.Request.{Request}
 use Rattle.bind_buckets.specs.declared.request.Request.TheVariants as requests
 use Rattle.bind_buckets.specs.First.{change_first}
 use Rattle.bind_buckets.specs.Journal.{Standing, asked}
-use Rattle.bind_buckets.specs.Members.{member, is_named, has_member as is_member, left_by as left_in}
+use Rattle.bind_buckets.specs.Members.{member, is_named, has_member as is_member, without_member as left_in}
 use Rattle.bind_buckets.specs.OwnerStep.{Held, After, with_member, place_for}
 use Rattle.chain_book.specs.Chains.{Chains}
 use Rattle.flat_list.specs.declared.socket.Socket.{Socket}

@@ -2,7 +2,7 @@
 use Rattle.std.proofs.Common.{◌≡◌, ℕ, ◌<◌, ◌≤◌, Bool, true, false, ◌||◌, cond, List, [], ◌∷◌, find, length, get_or, zero, suc, Option, Some, None, refl, sym, ap, ◌∙◌, subst, ◌⊎◌, inl, inr, arith, max}
 use Rattle.std.specs.Prelude.{count_by, fold}
 use Rattle.std.specs.List.{list_any, filter_map, cons_option, Contains}
-use Rattle.std.proofs.lemmas.Bool.{or_left, or_right, cases_lt}
+use Rattle.std.proofs.lemmas.Bool.{cond-true, cond-false, or_left, or_right, cases_Bool, cases_lt}
 use Rattle.std.proofs.lemmas.List.Sums.{sum_by-cons}
 use Rattle.list_words.specs.Lists.{Each, Pairs}
 
@@ -52,14 +52,36 @@ module _ {A : Type 0} where
   any_in p x (y ∷ ys) (inl e) h = or_left (p y) (list_any p ys) (ap p e ∙ h)
   any_in p x (y ∷ ys) (inr i) h = or_right (p y) (list_any p ys) (any_in p x ys i h)
 
-  found_at : (p : A → Bool) (x s : A) (xs : List A) (b : Bool) → cond b (Some x) (find p xs) ≡ Some s → (find p xs ≡ Some s → In s xs) → In s (x ∷ xs)
-  found_at p x s xs true h next = inl (cc)
-  found_at p x s xs false h next = inr (next h)
+  -- what is found is within the list, and passes
+  pub record Found (p : A → Bool) (xs : List A) : Type 0 where
+    pub item : A
+    pub is : find p xs ≡ Some item
+    pub within : In item xs
+    pub passes : p item ≡ true
+
+  found_at : (p : A → Bool) (x : A) (xs : List A) → (p x ≡ true) ⊎ (p x ≡ false) → Found p xs → Found p (x ∷ xs)
+  found_at p x xs (inl e) f = record { item = x; is = cond-true (p x) (Some x) (find p xs) e; within = inl refl; passes = e }
+  found_at p x xs (inr e) f = record { item = f.item; is = cond-false (p x) (Some x) (find p xs) e ∙ f.is; within = inr f.within; passes = f.passes }
+
+  -- where an item passes one is found
+  pub finds : (p : A → Bool) (x : A) (xs : List A) → In x xs → p x ≡ true → Found p xs
+  finds p x [] i h = absurd i
+  finds p x (y ∷ ys) (inl e) h = record { item = y; is = cond-true (p y) (Some y) (find p ys) (ap p e ∙ h); within = inl refl; passes = ap p e ∙ h }
+  finds p x (y ∷ ys) (inr i) h = found_at p y ys (cases_Bool (p y)) (finds p x ys i h)
+
+  found_in_at : (p : A → Bool) (x s : A) (xs : List A) (b : Bool) → cond b (Some x) (find p xs) ≡ Some s → (find p xs ≡ Some s → In s xs) → In s (x ∷ xs)
+  found_in_at p x s xs true h next = inl (cc)
+  found_in_at p x s xs false h next = inr (next h)
 
   -- what is found is within
   pub found_in : (p : A → Bool) (xs : List A) (s : A) → find p xs ≡ Some s → In s xs
   found_in p [] s h = absurd (cc)
-  found_in p (x ∷ xs) s h = found_at p x s xs (p x) h (found_in p xs s)
+  found_in p (x ∷ xs) s h = found_in_at p x s xs (p x) h (found_in p xs s)
+
+  -- none is found where none passes
+  pub finds_none : (p : A → Bool) (xs : List A) → Each (λ x. p x ≡ false) xs → find p xs ≡ None
+  finds_none p [] h = refl
+  finds_none p (x ∷ xs) h = cond-false (p x) (Some x) (find p xs) h.0 ∙ finds_none p xs h.1
 
   -- the item at a place is within
   pub place_in : (xs : List A) (k : ℕ) (d : A) → k < length xs → In (get_or xs k d) xs
@@ -124,6 +146,14 @@ fold_from (y ∷ ys) a x (inr i) = fold_from ys (max a y) x i
 -- the greatest is at least each
 pub fold_least : (xs : List ℕ) (x : ℕ) → In x xs → x ≤ fold max 0 xs
 fold_least xs x i = fold_from xs 0 x i
+
+fold_below : (xs : List ℕ) (a most : ℕ) → a ≤ most → Each (λ x. x ≤ most) xs → fold max a xs ≤ most
+fold_below [] a most h e = h
+fold_below (x ∷ xs) a most h e = fold_below xs (max a x) most (omega (arith, h, e.0)) e.1
+
+-- and no more than what each is no more than
+pub fold_most : (xs : List ℕ) (most : ℕ) → Each (λ x. x ≤ most) xs → fold max 0 xs ≤ most
+fold_most xs most e = fold_below xs 0 most (omega arith) e
 
 max_is : (a x : ℕ) → (max a x ≡ a) ⊎ (max a x ≡ x)
 max_is a x = elim (cases_lt a x) [
