@@ -75,7 +75,7 @@ many_digits text count is inside digits small =
     }
 
 -- more digits than a number has aren't followed by none
-no_more : (xs r : List ℕ) (k : ℕ) → NoDigit r → length xs < k → k ≤ length (xs ++ r) → AllDigits 10 (take k (xs ++ r)) → ⊥
+pub no_more : (xs r : List ℕ) (k : ℕ) → NoDigit r → length xs < k → k ≤ length (xs ++ r) → AllDigits 10 (take k (xs ++ r)) → ⊥
 no_more xs r zero ends past within digits = omega arith
 no_more [] [] (suc k) ends past within digits = omega arith
 no_more [] (b ∷ r) (suc k) ends past within digits = both b digits.0 ends
@@ -92,7 +92,7 @@ many_is_none text most n rest many h =
     (subst (λ t. AllDigits 10 (take 11 t)) h.spelled many.digits)
 
 -- a number's text is plain
-decimal_plain : (n : ℕ) → n < 2 ^ 64 → IsPlain (decimal n)
+pub decimal_plain : (n : ℕ) → n < 2 ^ 64 → IsPlain (decimal n)
 decimal_plain zero small = let one = ap length (decimal_digit 0 (omega arith)) in (omega (arith, one), λ e. one)
 decimal_plain (suc n) small =
     (decimal_nonempty (suc n) small, λ e. omega (arith, e, first_decimal (suc n) (omega arith) small))

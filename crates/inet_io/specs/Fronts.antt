@@ -1,4 +1,4 @@
--- What the digits at a text's front spell. No public contract cites this file.
+-- What the digits at a text's front spell. Our own; no public contract cites this file.
 use Rattle.std.specs.Prelude.{◌≡◌, ℕ, ◌^◌, ◌<◌, ◌≤◌, ◌++◌, List, [], ◌∷◌, length, take, drop, get_or, decimal, false}
 use Rattle.std.specs.Char.{is_ascii_digit}
 use Rattle.std.specs.Str.Parse.{AllDigits, digits_value}

@@ -3,7 +3,7 @@
 ghost use Rattle.std.specs.Prelude.{◌≡◌, ◌↔◌, ℕ, ◌+◌, ◌^◌, ◌<◌, ◌≤◌, ◌++◌, ◌∷◌, List, length, decimal, IsTrue, IfSome, IfNone};
 ghost use Rattle.std.specs.List.{list_all};
 ghost use Rattle.inet_io.specs.Labels as labels;
-ghost use Rattle.inet_io.specs.Fronts.{HasDigits, HasMany, IsPlain, BeginsWith, BeginsWithAddress};
+ghost use Rattle.inet_io.specs.Fronts.{HasDigits, HasMany, IsPlain, NoDigit, BeginsWith, BeginsWithAddress};
 ghost use Rattle.inet_io.specs.Texts.{addr_text, IsNumber, IsEndText, PutsAt, AddrTextsDiffer, EndTextsDiffer};
 
 use itoa::Buffer;
@@ -110,13 +110,51 @@ fn behind(stop: u8, text: &[u8]) -> Option<&[u8]>
     (*first == stop).then_some(rest)
 }
 
-/// Reads a number to 255 with a dot behind it, and gives what stands behind the dot.
+/// The digit that a text begins with, and what stands behind it.
+fn digit_first(text: &[u8]) -> Option<(u32, &[u8])>
+    ensures some { IfSome result (λ r. (r.0 < 10) × (text.now ≡ (48 + r.0) ∷ r.1.now)) }
+    ensures none { IfNone result (NoDigit text.now) }
+{
+    let (first, rest) = text.split_first()?;
+    if !first.is_ascii_digit() {
+        return None;
+    }
+    Some((u32::from(*first - b'0'), rest))
+}
+
+/// Reads the number to 255 that a text begins with, and gives what stands behind its digits. It has three at most, so
+/// each is read by itself.
 fn octet_first(text: &[u8]) -> Option<(u32, &[u8])>
+    ensures some { IfSome result (λ r. BeginsWith 255 text.now r.0 r.1.now) }
+    ensures none { IfNone result ((n : ℕ) (rest : List ℕ) → BeginsWith 255 text.now n rest → ⊥) }
+{
+    let (a, after_a) = digit_first(text)?;
+    let Some((b, after_b)) = digit_first(after_a) else {
+        return Some((a, after_a));
+    };
+    if a == 0 {
+        return None;
+    }
+    let Some((c, after_c)) = digit_first(after_b) else {
+        return Some((a * 10 + b, after_b));
+    };
+    if digit_first(after_c).is_some() {
+        return None;
+    }
+    let n = a * 100 + b * 10 + c;
+    if n > 255 {
+        return None;
+    }
+    Some((n, after_c))
+}
+
+/// Reads a number to 255 with a dot behind it, and gives what stands behind the dot.
+fn octet_and_dot(text: &[u8]) -> Option<(u32, &[u8])>
     ensures some { IfSome result (λ r. (r.0 < 256) × (text.now ≡ decimal r.0 ++ 46 ∷ r.1.now)) }
     ensures none { IfNone result ((n : ℕ) (rest : List ℕ) → n < 256 → text.now ≡ decimal n ++ 46 ∷ rest → ⊥) }
 {
-    let (n, rest) = number_first(text, 255)?;
-    Some((n as u32, behind(b'.', rest)?))
+    let (n, rest) = octet_first(text)?;
+    Some((n, behind(b'.', rest)?))
 }
 
 /// Reads the address that a text begins with, and gives what stands behind its digits.
@@ -124,11 +162,11 @@ fn address_first(text: &[u8]) -> Option<(u32, &[u8])>
     ensures some { IfSome result (λ r. BeginsWithAddress text.now r.0 r.1.now) }
     ensures none { IfNone result ((addr : ℕ) (rest : List ℕ) → BeginsWithAddress text.now addr rest → ⊥) }
 {
-    let (a, text) = octet_first(text)?;
-    let (b, text) = octet_first(text)?;
-    let (c, text) = octet_first(text)?;
-    let (d, rest) = number_first(text, 255)?;
-    Some((a * 0x100_0000 + b * 0x1_0000 + c * 0x100 + d as u32, rest))
+    let (a, text) = octet_and_dot(text)?;
+    let (b, text) = octet_and_dot(text)?;
+    let (c, text) = octet_and_dot(text)?;
+    let (d, rest) = octet_first(text)?;
+    Some((a * 0x100_0000 + b * 0x1_0000 + c * 0x100 + d, rest))
 }
 
 /// Reads an address: four numbers to 255, with no leading zeros, joined by dots. Any other text is

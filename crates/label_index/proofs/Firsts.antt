@@ -1,5 +1,5 @@
 -- The map of the first places, with one label more.
-use Rattle.std.proofs.Common.{◌≡◌, ℕ, List, [], ◌∷◌, ◌++◌, length, Option, Some, None, Bool, true, false, cond, ◌&&◌, nat_eq, bytes_eq, refl, sym, ap, ◌∙◌}
+use Rattle.std.proofs.Common.{◌≡◌, ℕ, List, Option, Some, None, Bool, true, false, cond, ◌&&◌, nat_eq, bytes_eq, not, is_some, refl, sym, ap, ◌∙◌}
 use Rattle.std.specs.HashMap.{HashMap, get, Updates}
 use Rattle.std.proofs.lemmas.Bool.{eqb-true, eq-eqb}
 use Rattle.std.proofs.lemmas.Slice.Eq.{bytes_eq-Decides}
@@ -7,7 +7,7 @@ use Rattle.flat_list.specs.declared.command.LabelKey.{LabelKey}
 use Rattle.flat_list.specs.Labels.{IsLabel, key_of, text_of}
 use Rattle.label_index.specs.declared.seed.LabelSeed.{LabelSeed}
 use Rattle.label_index.specs.Places.{place_in}
-use Rattle.label_index.specs.Firsts.{NotesPlace, TellsPlaces, key_eq}
+use Rattle.label_index.specs.Firsts.{NotesPlace, TellsNew, key_eq}
 use Rattle.label_index.proofs.Places.{given_new, given_again}
 
 -- two keys are one exactly where their labels are
@@ -74,3 +74,9 @@ noted_again old between new label place i v is l at puts back labels count tells
     ∙ twice (bytes_eq label text) (Some i) (Some place) (get key_eq old (key_of text))
     ∙ ap (λ (o : Option ℕ). cond (bytes_eq label text) (Some i) o) (tells text m)
     ∙ sym (given_again labels label text i (bytes_eq label text) refl there)
+
+-- what the map has at a label's key tells whether the label is new
+pub told_new : (firsts : Firsts) (label : List ℕ) (v : LabelKey) (o : Option ℕ) → v ≡ key_of label → IsLabel label → o ≡ get key_eq firsts v
+    → TellsNew firsts label (not (is_some o))
+told_new firsts label v o is l at labels tells =
+    ap (λ (p : Option ℕ). not (is_some p)) (at ∙ ap (get key_eq firsts) is ∙ tells label l)

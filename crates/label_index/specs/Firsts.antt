@@ -1,5 +1,5 @@
 -- What an index keeps of its labels. No public contract cites this file.
-use Rattle.std.specs.Prelude.{◌≡◌, ℕ, Bool, ◌&&◌, nat_eq, List, [], ◌∷◌, ◌++◌, length}
+use Rattle.std.specs.Prelude.{◌≡◌, ℕ, Bool, ◌&&◌, nat_eq, List, [], ◌∷◌, ◌++◌, length, not, is_some}
 use Rattle.std.specs.HashMap.{HashMap, get}
 use Rattle.flat_list.specs.declared.command.LabelKey.{LabelKey}
 use Rattle.flat_list.specs.Labels.{IsLabel, key_of}
@@ -8,9 +8,9 @@ use Rattle.label_index.specs.declared.seed.LabelSeed.{LabelSeed}
 use Rattle.label_index.specs.Places.{place_in}
 
 -- the labels of a log, oldest first
-abbrev pub labels_of : Log → List (List ℕ)
-labels_of Empty = []
-labels_of (After' label shape before) = labels_of before ++ label ∷ []
+abbrev pub labels_in : Log → List (List ℕ)
+labels_in Empty = []
+labels_in (After' label shape before) = labels_in before ++ label ∷ []
 
 -- two keys are one
 abbrev pub key_eq : LabelKey → LabelKey → Bool
@@ -25,6 +25,11 @@ TellsPlaces firsts labels =
 abbrev pub NotesPlace : HashMap LabelKey ℕ LabelSeed → List ℕ → ℕ → HashMap LabelKey ℕ LabelSeed → Type 0
 NotesPlace old label place new =
     (labels : List (List ℕ)) → length labels ≡ place → TellsPlaces old labels → TellsPlaces new (labels ++ label ∷ [])
+
+-- whether a label is new is what the map tells
+abbrev pub TellsNew : HashMap LabelKey ℕ LabelSeed → List ℕ → Bool → Type 0
+TellsNew firsts label new =
+    (labels : List (List ℕ)) → TellsPlaces firsts labels → new ≡ not (is_some (place_in labels label))
 
 -- the map and the count are those of the labels
 pub record AreFirsts (firsts : HashMap LabelKey ℕ LabelSeed) (count : ℕ) (labels : List (List ℕ)) : Type 0 where

@@ -1,8 +1,8 @@
 //! Labels by the places where they were given first.
 
-ghost use Rattle.std.specs.Prelude.{◌≡◌, ◌<◌, ◌++◌, ◌∷◌, [], length, IfSome, OnOk, OnErr};
+ghost use Rattle.std.specs.Prelude.{◌≡◌, ◌<◌, ◌++◌, ◌∷◌, [], length, not, is_some, IfOk, IfSome, OnOk, OnErr};
 ghost use Rattle.label_index.specs.Places.{place_in};
-ghost use Rattle.label_index.specs.Firsts.{NotesPlace};
+ghost use Rattle.label_index.specs.Firsts.{NotesPlace, TellsNew};
 
 use crate::seed::LabelSeed;
 use flat_list::{Label, LabelKey};
@@ -29,29 +29,31 @@ pub struct LabelIndex {
 
 impl Model for LabelIndex {
     ghost use Rattle.std.specs.Prelude.{List, ℕ};
-    ghost use Rattle.label_index.specs.Firsts.{AreFirsts, labels_of};
+    ghost use Rattle.label_index.specs.Firsts.{AreFirsts, labels_in};
 
     ghost Value = { List (List ℕ) };
 
-    ghost view = { λ l. labels_of l.log.value };
+    ghost view = { λ l. labels_in l.log.value };
 
-    ghost invariant = { λ l. AreFirsts l.firsts l.count (labels_of l.log.value) };
+    ghost invariant = { λ l. AreFirsts l.firsts l.count (labels_in l.log.value) };
 }
 
-/// Notes the place of a label, unless it was given before.
+/// Notes the place of a label, unless it was given before, and tells whether it is new.
 fn note_place(
     firsts: &mut HashMap<LabelKey, usize, LabelSeed>,
     label: &Label,
     place: usize,
-) -> Result<(), AllocError>
+) -> Result<bool, AllocError>
     ensures noted { OnOk result (NotesPlace firsts.old label.now place firsts.new) }
+    ensures told { IfOk result (TellsNew firsts.old label.now) }
     ensures err { OnErr result (firsts.new.entries ≡ firsts.old.entries) }
 {
     let key = label.key();
     if let Some(first) = firsts.insert(key, place)? {
         firsts.insert(key, first)?;
+        return Ok(false);
     }
-    Ok(())
+    Ok(true)
 }
 
 impl LabelIndex {
@@ -87,16 +89,26 @@ impl LabelIndex {
         ensures given { OnOk result (self.new ≡ self.old ++ label.now ∷ []) }
         ensures err { OnErr result (self.new ≡ self.old) }
     {
+        self.give_and_tell(label)?;
+        Ok(())
+    }
+
+    /// Gives a label as `give` does, and tells whether it is new, at the same cost.
+    pub fn give_and_tell(&mut self, label: &Label) -> Result<bool, AllocError>
+        ensures given { OnOk result (self.new ≡ self.old ++ label.now ∷ []) }
+        ensures told { IfOk result (λ new. new ≡ not (is_some (place_in self.old label.now))) }
+        ensures err { OnErr result (self.new ≡ self.old) }
+    {
         let Some(count) = self.count.checked_add(1) else {
             return Err(AllocError);
         };
-        note_place(&mut self.firsts, label, self.count)?;
+        let new = note_place(&mut self.firsts, label, self.count)?;
         let before = mem::replace(&mut self.log, Snapshot::of(&Log::Empty));
         self.log = Snapshot::of(&Log::After {
             label: *label,
             before,
         });
         self.count = count;
-        Ok(())
+        Ok(new)
     }
 }

@@ -30,8 +30,8 @@ fn check_places(rt: &impl Abort, alloc: Global, seed: LabelSeed) -> Result<(), F
     let second = label(rt, b"listener-10-0-80");
     assert_eq!(rt; given.place_of(&first), None);
     given.give(&first)?;
-    given.give(&second)?;
-    given.give(&first)?;
+    assert!(rt; given.give_and_tell(&second)?);
+    assert!(rt; !given.give_and_tell(&first)?);
     assert_eq!(rt; given.len(), 3);
     assert_eq!(rt; given.place_of(&first), Some(0));
     assert_eq!(rt; given.place_of(&second), Some(1));
