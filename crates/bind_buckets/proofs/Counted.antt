@@ -52,6 +52,11 @@ pub count_anew : {A : Type 0} (is q : A → Bool) (f : A → A) (xs : List A) (o
 count_anew is q f xs o y h e =
     omega (arith, count_come q (drop_first is xs) y, count_change is q f xs o h, ap (λ z. one_if (q z)) e)
 
+-- where one changes that passes as it did before, as many pass
+pub count_kept : {A : Type 0} (is q : A → Bool) (f : A → A) (xs : List A) (o y : A) → find is xs ≡ Some o → f o ≡ y → q o ≡ q y → count_by q xs ≡ count_by q (change_first is f xs)
+count_kept is q f xs o y h e same =
+    omega (arith, count_go is q xs o h, count_change is q f xs o h, ap (λ z. one_if (q z)) e, ap one_if same)
+
 uncounted : (b : Bool) → one_if b ≡ 0 → b ≡ false
 uncounted true e = absurd (omega arith)
 uncounted false e = refl

@@ -2,7 +2,7 @@ mod FirstPlace
 mod Beside
 mod LeftOut
 mod Named
-mod LeftBy
+mod WithoutMember
 mod CanListen
 mod FirstPairs
 mod FreePort
@@ -14,8 +14,8 @@ mod StaysGrouped
 mod Told
 mod RoomToGo
 mod RoomLeft
-mod Filtered
-mod ToldByOwn
+pub mod Filtered
+pub mod ToldByOwn
 mod GroupNumber
 mod Counted
 mod Tallied

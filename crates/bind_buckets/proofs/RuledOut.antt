@@ -5,8 +5,8 @@ use Rattle.std.proofs.lemmas.Bool.{eqb-true, eq-eqb, both_ways, false_from_ne_tr
 use Rattle.sock_card.specs.declared.owner.Owner.{Owner}
 use Rattle.sock_card.specs.Conflict.{has_port, same_port, holds, is_mate, overlap, refuses, is_listening, is_time_wait}
 use Rattle.bind_buckets.specs.declared.tally.Tally.{Tally}
-use Rattle.bind_buckets.specs.OwnerCounts.{port_place, end_place, place_by_port, place_by_end, both_rule_out}
-use Rattle.bind_buckets.specs.Tally.{Counts, has_place, is_exclusive, is_held, is_grouped, is_unshared, rules_out}
+use Rattle.bind_buckets.specs.OwnerCounts.{port_place, end_place, place_by_port, place_by_end, is_held, is_grouped, both_rule_out}
+use Rattle.bind_buckets.specs.Tally.{Counts, has_place, is_exclusive, is_unshared, rules_out}
 use Rattle.bind_buckets.proofs.Counted.{none_counted, none_where, none_of_both}
 use Rattle.bind_buckets.proofs.Tallied.{none_of}
 use Rattle.bind_buckets.proofs.WantedBy.{port_wanted, end_wanted, overlaps_if_refused}
@@ -30,7 +30,7 @@ no_overlap : (stride : ℕ) (a b : Owner) → beside stride a.port b ≡ false �
 unfolding overlap
 no_overlap stride a b out = rw (no_port stride a b out) refl
 
-pub none_overlaps_it : (stride : ℕ) (a : Owner) (t : Tally) (owners : List Owner) → eqb t.owners 0 ≡ true → Counts (beside stride a.port) t owners → find (overlap a) owners ≡ None
+pub none_overlaps_it : (stride : ℕ) (a : Owner) (t : Tally) (owners : List Owner) → eqb t.owners 0 ≡ true → Counts (beside stride a.port) is_held t owners → find (overlap a) owners ≡ None
 none_overlaps_it stride a t owners none k =
     none_counted (beside stride a.port) (overlap a) owners (no_overlap stride a) (none_of t.owners _ (eqb-true t.owners 0 none) k.owners)
 
@@ -67,8 +67,8 @@ shares_port uid a b e same shared =
     by_user _ a.reuseport b.reuseport (a.uid == b.uid) (is_time_wait b.state) e user.0 (eq-eqb a.uid b.uid (same ∙ sym user.1))
 
 -- of the owners that the tally counts, none refuses this one
-pub ruled_out : (at : Owner → Bool) (a : Owner) (t : Tally) (owners : List Owner) → rules_out t a ≡ true → Counts at t owners → find (λ b. at b && refuses a b) owners ≡ None
-ruled_out at a t owners told k =
+pub ruled_out : (at has_mark : Owner → Bool) (a : Owner) (t : Tally) (owners : List Owner) → rules_out t a ≡ true → Counts at has_mark t owners → find (λ b. at b && refuses a b) owners ≡ None
+ruled_out at has_mark a t owners told k =
     let here : Owner → Bool = λ b. at b && refuses a b in
     ⊎_elim
     (λ first. ⊎_elim
@@ -87,9 +87,9 @@ its_port a b r = eqb-true b.port a.port (port_wanted a b (overlaps_if_refused a 
 beside_it : (stride : ℕ) (a b : Owner) → refuses a b ≡ true → beside stride a.port b ≡ true
 beside_it stride a b r = eq-eqb _ _ (ap (port_place stride) (its_port a b r))
 
-pub none_refuses_there : (stride : ℕ) (a : Owner) (t : Tally) (owners : List Owner) → rules_out t a ≡ true → Counts (beside stride a.port) t owners → find (refuses a) owners ≡ None
+pub none_refuses_there : (stride : ℕ) (a : Owner) (t : Tally) (owners : List Owner) → rules_out t a ≡ true → Counts (beside stride a.port) is_held t owners → find (refuses a) owners ≡ None
 none_refuses_there stride a t owners told k =
-    none_where (beside stride a.port) (refuses a) owners (beside_it stride a) (ruled_out (beside stride a.port) a t owners told k)
+    none_where (beside stride a.port) (refuses a) owners (beside_it stride a) (ruled_out (beside stride a.port) is_held a t owners told k)
 
 pub beside_own : (stride : ℕ) (a : Owner) → beside stride a.port a ≡ true
 beside_own stride a = eq-eqb _ _ refl
@@ -114,13 +114,13 @@ at_either stride a b some r =
     (or_cases (b.addr == a.addr) (b.addr == 0) end.1)
 
 -- none at either of its places refuses it: neither those that the one tally counts, nor any at the other place
-pub none_refuses_at : (stride : ℕ) (a : Owner) (there any : Tally) (owners : List Owner) → both_rule_out there any a ≡ true → Counts (about stride a.port a.addr) there owners
+pub none_refuses_at : (stride : ℕ) (a : Owner) (there any : Tally) (owners : List Owner) → both_rule_out there any a ≡ true → Counts (about stride a.port a.addr) is_grouped there owners
     → (rules_out any a ≡ true → find (λ b. about stride a.port 0 b && refuses a b) owners ≡ None) → find (refuses a) owners ≡ None
 none_refuses_at stride a there any owners told k none_any =
     let last = and_parts (not (a.addr == 0) && rules_out there a) (rules_out any a) told in
     let first = and_parts (not (a.addr == 0)) (rules_out there a) last.0 in
     none_of_both (about stride a.port a.addr) (about stride a.port 0) (refuses a) owners (λ b. at_either stride a b (λ zero. both_ways (a.addr == 0) (not-true (a.addr == 0) first.0) zero))
-    (ruled_out (about stride a.port a.addr) a there owners first.1 k) (none_any last.1)
+    (ruled_out (about stride a.port a.addr) is_grouped a there owners first.1 k) (none_any last.1)
 
 unheld : (stride port net : ℕ) (b : Owner) → (beside stride port b && is_held b) ≡ false → holds port net b ≡ false
 unheld stride port net b out =
@@ -128,21 +128,26 @@ unheld stride port net b out =
     (λ chosen. and_right (has_port port net b) (is_held b) chosen)
     (and_cases (beside stride port b) (is_held b) out)
 
-pub none_holds_it : (stride port net : ℕ) (t : Tally) (owners : List Owner) → eqb t.held 0 ≡ true → Counts (beside stride port) t owners → find (holds port net) owners ≡ None
+pub none_holds_it : (stride port net : ℕ) (t : Tally) (owners : List Owner) → eqb t.marked 0 ≡ true → Counts (beside stride port) is_held t owners → find (holds port net) owners ≡ None
 none_holds_it stride port net t owners none k =
-    none_counted (λ b. beside stride port b && is_held b) (holds port net) owners (unheld stride port net) (none_of t.held _ (eqb-true t.held 0 none) k.held)
+    none_counted (λ b. beside stride port b && is_held b) (holds port net) owners (unheld stride port net) (none_of t.marked _ (eqb-true t.marked 0 none) k.marked)
 
-by_group : (l x y p d u i : Bool) → (p ≡ false) ⊎ ((l && y) ≡ false) → (l && (x && y) && p && d && u && i) ≡ false
-by_group l x y p d u i (inl e) = rw (e, and_right (l && (x && y)) false refl) refl
-by_group false x y p d u i (inr e) = refl
-by_group true false y p d u i (inr e) = refl
-by_group true true y p d u i (inr e) = rw e refl
+by_group : (l x y n p d u i : Bool) → (p ≡ true → i ≡ true → ⊥) ⊎ ((l && y) ≡ false) → (l && (x && y) && (n && p) && d && u && i) ≡ false
+by_group l x y n true d u true (inl apart_from) = absurd (apart_from refl refl)
+by_group l x y n false d u true (inl apart_from) = rw (and_right n false refl, and_right (l && (x && y)) false refl) refl
+by_group l x y n p d u false (inl apart_from) = and_right _ false refl
+by_group false x y n p d u i (inr e) = refl
+by_group true false y n p d u i (inr e) = refl
+by_group true true y n p d u i (inr e) = rw e refl
 
-no_mate_of : (stride : ℕ) (a b : Owner) → (beside stride a.port b && is_grouped b) ≡ false → is_mate a b ≡ false
+no_mate_of : (stride : ℕ) (a b : Owner) → (about stride a.port a.addr b && is_grouped b) ≡ false → is_mate a b ≡ false
 no_mate_of stride a b out =
-    by_group (is_listening b.state) a.reuseport b.reuseport (same_port a b) (a.dev == b.dev) (a.uid == b.uid) (a.addr == b.addr)
-    (⊎_elim (λ apart_from. inl (no_port stride a b apart_from)) (λ ungrouped. inr ungrouped) (and_cases (beside stride a.port b) (is_grouped b) out))
+    by_group (is_listening b.state) a.reuseport b.reuseport (a.net == b.net) (a.port == b.port) (a.dev == b.dev) (a.uid == b.uid) (a.addr == b.addr)
+    (⊎_elim
+    (λ apart_from. inl (λ port addr. both_ways (about stride a.port a.addr b) apart_from (about_it stride a b a.addr (sym (eqb-true a.port b.port port)) (eq-eqb b.addr a.addr (sym (eqb-true a.addr b.addr addr))))))
+    (λ ungrouped. inr ungrouped)
+    (and_cases (about stride a.port a.addr b) (is_grouped b) out))
 
-pub no_mate_there : (stride : ℕ) (a : Owner) (t : Tally) (owners : List Owner) → eqb t.grouped 0 ≡ true → Counts (beside stride a.port) t owners → find (is_mate a) owners ≡ None
+pub no_mate_there : (stride : ℕ) (a : Owner) (t : Tally) (owners : List Owner) → eqb t.marked 0 ≡ true → Counts (about stride a.port a.addr) is_grouped t owners → find (is_mate a) owners ≡ None
 no_mate_there stride a t owners none k =
-    none_counted (λ b. beside stride a.port b && is_grouped b) (is_mate a) owners (no_mate_of stride a) (none_of t.grouped _ (eqb-true t.grouped 0 none) k.grouped)
+    none_counted (λ b. about stride a.port a.addr b && is_grouped b) (is_mate a) owners (no_mate_of stride a) (none_of t.marked _ (eqb-true t.marked 0 none) k.marked)

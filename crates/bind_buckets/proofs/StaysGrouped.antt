@@ -12,7 +12,7 @@ use Rattle.bind_buckets.specs.declared.request.Request.TheVariants as requests
 use Rattle.bind_buckets.specs.declared.request.Answer.TheVariants as answers
 use Rattle.bind_buckets.specs.Limits.{group_places}
 use Rattle.bind_buckets.specs.First.{change_first}
-use Rattle.bind_buckets.specs.Members.{member, has_member, joined_by, left_by}
+use Rattle.bind_buckets.specs.Members.{member, has_member, joined_by, without_member}
 use Rattle.sock_card.specs.Became.{connected, child, as_waiting}
 use Rattle.bind_buckets.specs.OwnerStep.{Held, After, owner_step, has_name, admitted, spoken, may_listen, listener_answer, group_answer, listening, with_member, place_for, members_at, changed, with_owner, removed, without_waiting, waits_as, others}
 use Rattle.bind_buckets.specs.Bucket.{Bucket, IsAllowed, IsGroup, step_of}
@@ -32,7 +32,7 @@ each_read P (x ∷ xs) (suc i) d p q = each_read P xs i d p.1 q
 abbrev pub Fits : List ℕ → Type 0
 Fits members = length members ≤ group_room
 
-fits_left : (name : ℕ) (members : List ℕ) → Fits members → Fits (left_by name members)
+fits_left : (name : ℕ) (members : List ℕ) → Fits members → Fits (without_member name members)
 fits_left name members p = simp length-take (omega arith)
 
 room_if_group : (b : Bool) (x : Option ℕ) (n : ℕ) → b ≡ ltb n group_room → IsGroup (cond b (answers.Group x) answers.GroupFull) → n < group_room
@@ -92,7 +92,7 @@ step_fits b (requests.RemoveWaiting name) allowed p =
 step_fits b (requests.Remove name) allowed p =
     let h = b.held in
     spoken_keeps (Each Fits) h name (λ _. removed h name) (find (has_name name) h.owners) p
-    (λ a e. each_change (has_member name) Fits (left_by name) h.groups (fits_left name) p)
+    (λ a e. each_change (has_member name) Fits (without_member name) h.groups (fits_left name) p)
 
 length_changed_by : {A : Type 0} (x y : A) (xs rest : List A) (b : Bool) → length rest ≡ length xs → length (cond b (y ∷ xs) (x ∷ rest)) ≡ suc (length xs)
 length_changed_by x y xs rest true e = refl
@@ -140,4 +140,4 @@ step_places b (requests.RemoveWaiting name) p =
 step_places b (requests.Remove name) p =
     let h = b.held in
     spoken_keeps HasPlaces h name (λ _. removed h name) (find (has_name name) h.owners) p
-    (λ a e. length-change_first (has_member name) (left_by name) h.groups ∙ p)
+    (λ a e. length-change_first (has_member name) (without_member name) h.groups ∙ p)

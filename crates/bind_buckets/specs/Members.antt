@@ -19,6 +19,6 @@ abbrev pub joined_by : ℕ → List ℕ → List ℕ
 joined_by m members = members ++ m ∷ []
 
 -- the last member takes the leaver's place
-abbrev pub left_by : ℕ → List ℕ → List ℕ
-left_by name members =
+abbrev pub without_member : ℕ → List ℕ → List ℕ
+without_member name members =
     let last = length members - 1 in take last (change_first (is_named name) (λ _. slice_index members last) members)

@@ -16,7 +16,7 @@ use Rattle.bind_buckets.specs.declared.request.Answer.{Answer}
 use Rattle.bind_buckets.specs.declared.request.Answer.TheVariants as answers
 use Rattle.bind_buckets.specs.Limits.{group_places}
 use Rattle.bind_buckets.specs.First.{change_first, drop_first}
-use Rattle.bind_buckets.specs.Members.{member, has_member, joined_by, left_by}
+use Rattle.bind_buckets.specs.Members.{member, has_member, joined_by, without_member}
 
 -- the owners, oldest first, and the members at each place for a group: a place without any is free
 pub record Held : Type 0 where
@@ -120,7 +120,7 @@ removed h name =
     record {
       held = record {
         owners = drop_first (has_name name) h.owners;
-        groups = change_first (has_member name) (left_by name) h.groups;
+        groups = change_first (has_member name) (without_member name) h.groups;
       };
       answer = answers.Done;
     }

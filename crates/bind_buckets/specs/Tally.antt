@@ -6,6 +6,7 @@ use Rattle.std.specs.List.{slice_index_or}
 use Rattle.sock_card.specs.declared.owner.Owner.{Owner}
 use Rattle.sock_card.specs.Conflict.{is_listening}
 use Rattle.bind_buckets.specs.declared.tally.Tally.{Tally}
+use Rattle.bind_buckets.specs.declared.tally.Spot.{Spot}
 
 -- the owner's place is that one
 abbrev pub has_place : (Owner → ℕ) → ℕ → Owner → Bool
@@ -15,20 +16,12 @@ has_place place_of place a = place_of a == place
 abbrev pub is_exclusive : Owner → Bool
 is_exclusive a = not a.reuseaddr || is_listening a.state
 
--- `connect` didn't choose its port
-abbrev pub is_held : Owner → Bool
-is_held a = not a.by_connect
-
--- it may have mates in a group
-abbrev pub is_grouped : Owner → Bool
-is_grouped a = is_listening a.state && a.reuseport
-
 -- it doesn't share its port by reuseport with that user
 abbrev pub is_unshared : ℕ → Owner → Bool
 is_unshared uid a = not (a.reuseport && (a.uid == uid))
 
 abbrev pub empty_tally : Tally
-empty_tally = record { owners = 0; exclusive = 0; held = 0; grouped = 0; unshared = 0; uid = 0 }
+empty_tally = record { owners = 0; exclusive = 0; unshared = 0; marked = 0; uid = 0 }
 
 -- a count that reaches this stays there
 abbrev pub count_limit : ℕ
@@ -46,13 +39,22 @@ more count counts = min (count + (if counts then 1 else 0)) count_limit
 abbrev pub less : ℕ → Bool → ℕ
 less count counted = if nat_lt count count_limit then count - (if counted then 1 else 0) else count
 
--- of the owners that pass the test, the tally counts what it says
-pub record Counts (at : Owner → Bool) (t : Tally) (all : List Owner) : Type 0 where
+-- of the owners that pass the first test, the tally counts what it says: those that pass the second are marked
+pub record Counts (at has_mark : Owner → Bool) (t : Tally) (all : List Owner) : Type 0 where
   pub owners : IsCount t.owners (count_by at all)
   pub exclusive : IsCount t.exclusive (count_by (λ a. at a && is_exclusive a) all)
-  pub held : IsCount t.held (count_by (λ a. at a && is_held a) all)
-  pub grouped : IsCount t.grouped (count_by (λ a. at a && is_grouped a) all)
   pub unshared : IsCount t.unshared (count_by (λ a. at a && is_unshared t.uid a) all)
+  pub marked : IsCount t.marked (count_by (λ a. at a && has_mark a) all)
+
+-- both count alike, but for their places and marks
+pub record CountAlike (a b : Owner) : Type 0 where
+  pub exclusive : is_exclusive a ≡ is_exclusive b
+  pub reuseport : a.reuseport ≡ b.reuseport
+  pub uid : a.uid ≡ b.uid
+
+-- where the owner is counted, and how
+abbrev pub spot_of : (Owner → ℕ) → (Owner → Bool) → Owner → Spot
+spot_of place_of has_mark a = record { place = place_of a; marked = has_mark a }
 
 -- the counts tell that none of the owners refuses this one: there is none, or all share the port with it
 abbrev pub rules_out : Tally → Owner → Bool
@@ -69,7 +71,10 @@ tally_at tallies place = slice_index_or tallies place empty_tally
 abbrev pub AreMade : List Tally → Type 0
 AreMade tallies = 256 ≤ length tallies
 
--- the tallies are of these owners, by their places
-pub record IsTallyOf (place_of : Owner → ℕ) (tallies : List Tally) (owners : List Owner) : Type 0 where
+abbrev pub is_made : List Tally → Bool
+is_made tallies = not (nat_lt (length tallies) 256)
+
+-- the tallies are of these owners, by their places and marks
+pub record IsTallyOf (place_of : Owner → ℕ) (has_mark : Owner → Bool) (tallies : List Tally) (owners : List Owner) : Type 0 where
   pub made : 0 < length owners → AreMade tallies
-  pub counts : (place : ℕ) → Counts (has_place place_of place) (tally_at tallies place) owners
+  pub counts : (place : ℕ) → Counts (has_place place_of place) has_mark (tally_at tallies place) owners

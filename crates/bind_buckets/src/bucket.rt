@@ -8,7 +8,7 @@ ghost use Rattle.bind_buckets.specs.Limits.{group_places};
 ghost use Rattle.bind_buckets.specs.HeldBy.{held_by};
 ghost use Rattle.bind_buckets.specs.OwnerStep.{has_name, with_last, waits_as, empty};
 ghost use Rattle.bind_buckets.specs.First.{change_first, drop_first};
-ghost use Rattle.bind_buckets.specs.Members.{has_member, left_by};
+ghost use Rattle.bind_buckets.specs.Members.{has_member, without_member};
 ghost use Rattle.bind_buckets.specs.Bucket as spec;
 ghost use Rattle.bind_buckets.specs.Bucket.{called, answer_to, CanListen, CanConnect, NamesOne};
 ghost use Rattle.bind_buckets.specs.Answers.{answer_of_bind, answer_of_free, answer_of_name, answer_of_listen, IsOfBind, IsOfFree, IsOfName, IsOfListen, told_of, holder_told, refusal, overlapping, holder, AllByConnect, KnowsOrSays, KnowsWaitingOrSays, TakesIfOk, TakesIfErr, IsWhy};
@@ -476,7 +476,7 @@ impl Bucket {
         ensures gone { OnOk result (self.new.held.owners
             ≡ drop_first (has_name name) self.old.held.owners) }
         ensures left { OnOk result (self.new.held.groups
-            ≡ change_first (has_member name) (left_by name) self.old.held.groups) }
+            ≡ change_first (has_member name) (without_member name) self.old.held.groups) }
         ensures kept { OnErr result (self.new.held ≡ self.old.held) }
         ensures strange { KnowsOrSays name self.old.held.owners result }
         ensures entries { TakesIfErr result self.old.entries self.new.entries }

@@ -88,7 +88,7 @@ impl Group {
     /// Takes out the member of that name, in whose place the last one stands then.
     pub fn leave(&mut self, name: u32)
         requires { spec.has_member name self.old ≡ true }
-        ensures { self.new ≡ spec.left_by name self.old }
+        ensures { self.new ≡ spec.without_member name self.old }
     {
         if let Some(place) = place_of(name, self.members.as_slice()) {
             self.members.swap_remove(place);

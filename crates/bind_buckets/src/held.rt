@@ -49,6 +49,7 @@ impl Held {
         }
     }
 
+    #[inline(always)]
     fn admit(&mut self, owner: Owner) -> Answer
         requires { 1 ≤ self.old.owners.room }
         ensures step { IsStep (spec.with_owner (held_by self.old) owner) self.new result }
@@ -214,7 +215,7 @@ impl Held {
     /// Takes the member of that name out of its group, if it is in one.
     fn leave(&mut self, name: u32)
         ensures groups { self.new.groups
-            ≡ change_first (members_spec.has_member name) (members_spec.left_by name) self.old.groups }
+            ≡ change_first (members_spec.has_member name) (members_spec.without_member name) self.old.groups }
         ensures owners { self.new.owners ≡ self.old.owners }
     {
         if let Some(place) = group_place(name, &self.groups) {

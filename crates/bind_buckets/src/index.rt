@@ -86,6 +86,7 @@ fn has_at(asked: &Asked, but: Option<usize>, place: usize, slots: &[Slot]) -> bo
 }
 
 /// The first slot of which that holds, but for one, where it holds only under these keys.
+#[inline(always)]
 fn first_at(
     asked: &Asked,
     but: Option<usize>,
@@ -154,6 +155,7 @@ impl Index {
     }
 
     /// Files a slot more. Constant cost.
+    #[inline(always)]
     pub fn push(&mut self, slot: &Slot)
         requires { 1 ≤ self.old.room }
         ensures { self.new ≡ record {
@@ -173,6 +175,7 @@ impl Index {
     ///
     /// It looks at the slots that are filed under the same name, or the same port, or the same port and
     /// address or 0.0.0.0, up to the first of which it holds.
+    #[inline(always)]
     pub fn first(&self, asked: &Asked, but: Option<usize>, slots: &[Slot]) -> Option<usize>
         requires { AreFiled slots.now self.now }
         ensures place { result ≡ position (has asked.now) (beside but slots.now) }

@@ -42,6 +42,7 @@ mod owner_list;
 mod owners;
 mod places;
 pub mod request;
+mod room;
 mod slot;
 mod tally;
 #[cfg(test)]

@@ -5,6 +5,7 @@ ghost use Rattle.bind_buckets.specs.Links as spec;
 ghost use Rattle.bind_buckets.specs.Links.{keys_in, newers_in, place_after, is_key, is_home, IsFirstIn, AreLinked, IsAfter};
 
 use crate::maybe_place::{MOST_PLACES, MaybePlace};
+use crate::room;
 use std::alloc::{AllocError, Global};
 use std::marker::Model;
 
@@ -188,7 +189,7 @@ impl Links {
             self.homes.resize(homes, no_ends())?;
             link_all(&mut self.places, &mut self.homes);
         }
-        self.places.reserve(more)
+        room::reserve(&mut self.places, more)
     }
 
     /// Forgets all places, whose room stays.

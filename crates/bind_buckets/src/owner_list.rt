@@ -9,6 +9,7 @@ ghost use Rattle.bind_buckets.specs.Change.{becomes, CanBecome};
 
 use crate::change::Change;
 use crate::index::Index;
+use crate::room;
 use crate::slot::{Asked, Slot};
 use sock_card::Owner;
 use std::alloc::{AllocError, Global};
@@ -91,6 +92,13 @@ impl OwnerList {
         self.slots.len() - self.gone
     }
 
+    /// The slots, of owners that are here and of those that left.
+    pub fn slots(&self) -> &[Slot]
+        ensures { owners_in result.now ≡ self.now.owners }
+    {
+        &self.slots
+    }
+
     /// Whether most slots are of owners that left.
     fn is_sparse(&self) -> bool {
         self.slots.len() >= 16 && self.gone > self.slots.len() / 2
@@ -118,7 +126,7 @@ impl OwnerList {
         if self.is_sparse() {
             self.tidy();
         }
-        self.slots.reserve(more)?;
+        room::reserve(&mut self.slots, more)?;
         self.index.reserve(more)
     }
 

@@ -16,6 +16,10 @@ use sock_card::Owner;
 use std::alloc::{AllocError, Global};
 use std::marker::Model;
 
+/// From how many owners on they are counted by port and address, too: before, a look at those of a port
+/// costs less than the memory for such counts.
+const MANY: usize = 64;
+
 /// The owners of a bucket's ports, oldest first, and counts of them.
 ///
 /// The counts answer most questions about a port. Where they don't, the list is asked, which looks at
@@ -55,6 +59,9 @@ impl Owners {
         ensures kept { self.old.room ≤ self.new.room }
     {
         self.counts.reserve()?;
+        if self.list.len() >= MANY && !self.counts.has_ends() {
+            self.counts.count_ends(self.list.slots())?;
+        }
         self.list.reserve(more)
     }
 
@@ -83,6 +90,7 @@ impl Owners {
     }
 
     /// Changes the first owner of that name, and tells what it was.
+    #[inline(always)]
     pub fn change(&mut self, name: u32, change: Change) -> Option<Owner>
         requires { CanBecome change (find (spec.has_name name) self.old.owners) }
         ensures was { result ≡ find (spec.has_name name) self.old.owners }
@@ -94,6 +102,7 @@ impl Owners {
         Some(was)
     }
 
+    #[inline(always)]
     fn take(&mut self, asked: Asked) -> Option<Owner>
         ensures gone { result ≡ find (answers asked) self.old.owners }
         ensures owners { self.new.owners ≡ drop_first (answers asked) self.old.owners }

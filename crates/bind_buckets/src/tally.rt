@@ -5,10 +5,10 @@
 //! tally, and a count that has reached 255 stays there: either may cost a scan, and never changes an
 //! answer.
 
-ghost use Rattle.std.specs.Prelude.{◌≡◌, ℕ, ◌+◌, ◌-◌, ◌<◌, Bool, true, List, [], ◌∷◌, ◌++◌, find, Some, OnOk, OnErr, slice_set, nat_eq, if◌then◌else◌};
+ghost use Rattle.std.specs.Prelude.{◌≡◌, ℕ, ◌+◌, ◌-◌, ◌<◌, Bool, true, List, [], ◌∷◌, ◌++◌, find, length, Some, OnOk, OnErr, slice_set, nat_eq, if◌then◌else◌};
 ghost use Rattle.bind_buckets.specs.First.{change_first, drop_first};
 ghost use Rattle.bind_buckets.specs.Tally as spec;
-ghost use Rattle.bind_buckets.specs.Tally.{Counts, IsTallyOf, AreMade};
+ghost use Rattle.bind_buckets.specs.Tally.{Counts, CountAlike, IsTallyOf, AreMade, spot_of};
 
 use sock_card::{Owner, State};
 use std::alloc::{AllocError, Global};
@@ -20,27 +20,39 @@ pub const PLACES: usize = 256;
 const EMPTY: Tally = Tally {
     owners: 0,
     exclusive: 0,
-    held: 0,
-    grouped: 0,
     unshared: 0,
+    marked: 0,
     uid: 0,
 };
 
 /// Counts of the owners at one place.
 ///
-/// `exclusive` are those that listen or lack `reuseaddr`, `held` those whose port `connect` didn't
-/// choose, `grouped` those that listen with `reuseport`, and `unshared` those that lack `reuseport` or
-/// aren't of the user `uid`, of whom the first owner was that came to the empty place.
+/// `exclusive` are those that listen or lack `reuseaddr`, `unshared` those that lack `reuseport` or
+/// aren't of the user `uid`, of whom the first owner was that came to the empty place, and `marked`
+/// those that have the mark which these tallies count.
 ///
-/// A count that has reached 255 stays there, since nobody knows any more when none is left.
+/// A count that has reached 255 stays there, since nobody knows any more when none is left. A tally
+/// takes eight bytes.
 #[derive(Clone, Copy, Debug)]
 pub struct Tally {
     pub owners: u8,
     exclusive: u8,
-    pub held: u8,
-    pub grouped: u8,
     unshared: u8,
+    pub marked: u8,
     uid: u32,
+}
+
+/// Where an owner is counted, and whether it has the mark that is counted there.
+#[derive(Clone, Copy)]
+pub struct Spot {
+    pub place: usize,
+    pub marked: bool,
+}
+
+fn is_same(a: Spot, b: Spot) -> bool
+    ensures { result ≡ true → a ≡ b }
+{
+    a.place == b.place && a.marked == b.marked
 }
 
 fn is_exclusive(owner: &Owner) -> bool
@@ -49,16 +61,17 @@ fn is_exclusive(owner: &Owner) -> bool
     !owner.reuseaddr || matches!(owner.state, State::Listening)
 }
 
-fn is_grouped(owner: &Owner) -> bool
-    ensures { result ≡ spec.is_grouped owner.now }
-{
-    matches!(owner.state, State::Listening) && owner.reuseport
-}
-
 fn is_unshared(uid: u32, owner: &Owner) -> bool
     ensures { result ≡ spec.is_unshared uid owner.now }
 {
     !(owner.reuseport && owner.uid == uid)
+}
+
+/// Whether both count alike at one place.
+fn count_alike(a: &Owner, b: &Owner) -> bool
+    ensures { result ≡ true → CountAlike a.now b.now }
+{
+    is_exclusive(a) == is_exclusive(b) && a.reuseport == b.reuseport && a.uid == b.uid
 }
 
 /// One more where the owner counts.
@@ -91,34 +104,34 @@ impl Tally {
         }
     }
 
-    /// With one owner more.
-    fn with(self, owner: &Owner) -> Tally
-        ensures { (at : Owner → Bool) (owners : List Owner) → at owner.now ≡ true → Counts at self owners
-            → Counts at result (owners ++ owner.now ∷ []) }
+    /// With one owner more, which is marked or isn't.
+    fn with(self, marked: bool, owner: &Owner) -> Tally
+        ensures { (at has_mark : Owner → Bool) (owners : List Owner) → at owner.now ≡ true
+            → has_mark owner.now ≡ marked → Counts at has_mark self owners
+            → Counts at has_mark result (owners ++ owner.now ∷ []) }
     {
         let uid = self.user_with(owner);
         Tally {
             owners: more(self.owners, true),
             exclusive: more(self.exclusive, is_exclusive(owner)),
-            held: more(self.held, !owner.by_connect),
-            grouped: more(self.grouped, is_grouped(owner)),
             unshared: more(self.unshared, is_unshared(uid, owner)),
+            marked: more(self.marked, marked),
             uid,
         }
     }
 
-    /// Without one of its owners.
-    pub fn without(self, owner: &Owner) -> Tally
+    /// Without one of its owners, which is marked or isn't.
+    pub fn without(self, marked: bool, owner: &Owner) -> Tally
         ensures fewer { result.owners ≡ spec.less self.owners true }
-        ensures counts { (at : Owner → Bool) (is : Owner → Bool) (owners : List Owner) → at owner.now ≡ true
-            → find is owners ≡ Some owner.now → Counts at self owners → Counts at result (drop_first is owners) }
+        ensures counts { (at has_mark is : Owner → Bool) (owners : List Owner) → at owner.now ≡ true
+            → has_mark owner.now ≡ marked → find is owners ≡ Some owner.now → Counts at has_mark self owners
+            → Counts at has_mark result (drop_first is owners) }
     {
         Tally {
             owners: less(self.owners, true),
             exclusive: less(self.exclusive, is_exclusive(owner)),
-            held: less(self.held, !owner.by_connect),
-            grouped: less(self.grouped, is_grouped(owner)),
             unshared: less(self.unshared, is_unshared(self.uid, owner)),
+            marked: less(self.marked, marked),
             uid: self.uid,
         }
     }
@@ -135,8 +148,8 @@ impl Tally {
 
 /// Tallies of owners, one for each of 256 places.
 ///
-/// Where an owner's place is the caller says, who keeps the list of owners: [`Tallies::come`],
-/// [`Tallies::go`] and [`Tallies::change`] follow its changes.
+/// Where an owner's place is, and which owners are marked, the caller says, who keeps the list of
+/// owners: [`Tallies::come`], [`Tallies::go`] and [`Tallies::change`] follow its changes.
 #[derive(Drop)]
 pub struct Tallies {
     tallies: Vec<Tally>,
@@ -155,7 +168,7 @@ impl Tallies {
     /// Tallies of no owners. It takes no memory.
     pub fn new(alloc: Global) -> Self
         ensures none { result ≡ [] }
-        ensures empty { (place_of : Owner → ℕ) → IsTallyOf place_of result [] }
+        ensures empty { (place_of : Owner → ℕ) (has_mark : Owner → Bool) → IsTallyOf place_of has_mark result [] }
     {
         Tallies {
             tallies: Vec::new(alloc),
@@ -167,14 +180,21 @@ impl Tallies {
     /// An `Err`, for want of memory, changes nothing.
     pub fn reserve(&mut self) -> Result<(), AllocError>
         ensures made { OnOk result (AreMade self.new) }
-        ensures stays { OnOk result ((place_of : Owner → ℕ) (owners : List Owner)
-            → IsTallyOf place_of self.old owners → IsTallyOf place_of self.new owners) }
+        ensures stays { OnOk result ((place_of : Owner → ℕ) (has_mark : Owner → Bool) (owners : List Owner)
+            → IsTallyOf place_of has_mark self.old owners → IsTallyOf place_of has_mark self.new owners) }
         ensures err { OnErr result (self.new ≡ self.old) }
     {
         if self.tallies.len() < PLACES {
             self.tallies.resize(PLACES, EMPTY)?;
         }
         Ok(())
+    }
+
+    /// Whether the memory for all tallies is there.
+    pub fn is_made(&self) -> bool
+        ensures { result ≡ spec.is_made self.now }
+    {
+        self.tallies.len() >= PLACES
     }
 
     /// What is counted at that place.
@@ -192,43 +212,48 @@ impl Tallies {
         }
     }
 
-    /// Counts one owner more, at its place, once [`Tallies::reserve`] has answered `Ok`. Constant cost.
-    pub fn come(&mut self, place: usize, owner: &Owner)
-        requires made { AreMade self.old }
-        requires place { place < 256 }
-        ensures made { AreMade self.new }
-        ensures stays { (place_of : Owner → ℕ) (owners : List Owner) → place_of owner.now ≡ place
-            → IsTallyOf place_of self.old owners → IsTallyOf place_of self.new (owners ++ owner.now ∷ []) }
+    /// Counts one owner more, once [`Tallies::reserve`] has answered `Ok`. Constant cost.
+    pub fn come(&mut self, spot: Spot, owner: &Owner)
+        requires place { spot.place < 256 }
+        ensures len { length self.new ≡ length self.old }
+        ensures stays { AreMade self.old → (place_of : Owner → ℕ) (has_mark : Owner → Bool) (owners : List Owner)
+            → spot_of place_of has_mark owner.now ≡ spot → IsTallyOf place_of has_mark self.old owners
+            → IsTallyOf place_of has_mark self.new (owners ++ owner.now ∷ []) }
     {
-        let tally = self.tally_at(place);
-        self.put(place, tally.with(owner));
+        let tally = self.tally_at(spot.place);
+        self.put(spot.place, tally.with(spot.marked, owner));
     }
 
-    /// Counts an owner no longer, which was counted at its place. Constant cost.
-    pub fn go(&mut self, place: usize, owner: &Owner)
-        requires place { place < 256 }
-        ensures made { AreMade self.old → AreMade self.new }
-        ensures stays { (place_of : Owner → ℕ) (is : Owner → Bool) (owners : List Owner) → place_of owner.now ≡ place
-            → find is owners ≡ Some owner.now → IsTallyOf place_of self.old owners
-            → IsTallyOf place_of self.new (drop_first is owners) }
+    /// Counts an owner no longer, which was counted there. Constant cost.
+    pub fn go(&mut self, spot: Spot, owner: &Owner)
+        requires place { spot.place < 256 }
+        ensures len { length self.new ≡ length self.old }
+        ensures stays { (place_of : Owner → ℕ) (has_mark is : Owner → Bool) (owners : List Owner)
+            → spot_of place_of has_mark owner.now ≡ spot → find is owners ≡ Some owner.now
+            → IsTallyOf place_of has_mark self.old owners
+            → IsTallyOf place_of has_mark self.new (drop_first is owners) }
     {
-        let tally = self.tally_at(place);
-        self.put(place, tally.without(owner));
+        let tally = self.tally_at(spot.place);
+        self.put(spot.place, tally.without(spot.marked, owner));
     }
 
-    /// Counts an owner as it is now, at its place, which was counted as it was. Constant cost.
-    pub fn change(&mut self, was_place: usize, was: &Owner, place: usize, owner: &Owner)
-        requires was_place { was_place < 256 }
-        requires place { place < 256 }
-        ensures made { AreMade self.old → AreMade self.new }
-        ensures stays { (place_of : Owner → ℕ) (is : Owner → Bool) (become : Owner → Owner) (owners : List Owner)
-            → place_of was.now ≡ was_place → place_of owner.now ≡ place
-            → find is owners ≡ Some was.now → become was.now ≡ owner.now
-            → IsTallyOf place_of self.old owners → IsTallyOf place_of self.new (change_first is become owners) }
+    /// Counts an owner as it is now, which was counted as it was. Constant cost.
+    pub fn change(&mut self, was_spot: Spot, was: &Owner, spot: Spot, owner: &Owner)
+        requires was_place { was_spot.place < 256 }
+        requires place { spot.place < 256 }
+        ensures len { length self.new ≡ length self.old }
+        ensures stays { (place_of : Owner → ℕ) (has_mark is : Owner → Bool) (become : Owner → Owner)
+            (owners : List Owner) → spot_of place_of has_mark was.now ≡ was_spot
+            → spot_of place_of has_mark owner.now ≡ spot → find is owners ≡ Some was.now
+            → become was.now ≡ owner.now → IsTallyOf place_of has_mark self.old owners
+            → IsTallyOf place_of has_mark self.new (change_first is become owners) }
     {
-        let rest = self.tally_at(was_place).without(was);
-        self.put(was_place, rest);
-        let tally = self.tally_at(place);
-        self.put(place, tally.with(owner));
+        if is_same(was_spot, spot) && count_alike(was, owner) {
+            return;
+        }
+        let rest = self.tally_at(was_spot.place).without(was_spot.marked, was);
+        self.put(was_spot.place, rest);
+        let tally = self.tally_at(spot.place);
+        self.put(spot.place, tally.with(spot.marked, owner));
     }
 }

@@ -38,6 +38,14 @@ fn sharing(name: u32, port: u16) -> Owner {
     }
 }
 
+fn reusing(name: u32, addr: u32) -> Owner {
+    Owner {
+        addr,
+        reuseaddr: true,
+        ..socket(name, 80)
+    }
+}
+
 /// A socket for which `connect` chose a port.
 fn connecting(name: u32, port: u16) -> Owner {
     Owner {
@@ -220,6 +228,30 @@ fn a_search_honours_no_option(rt: HostRuntime) -> Result<(), AllocError> {
         (Call::BindAuto(sharing(2, 81)), Answer::Done),
     ];
     check(&rt, rt.alloc(), &calls)
+}
+
+#[test]
+fn many_owners_at_one_end_refuse_none_at_another(rt: HostRuntime) -> Result<(), AllocError> {
+    let mut bucket = Bucket::new(rt.alloc(), 0, 1);
+    let apart = Owner {
+        addr: THERE,
+        ..socket(100, 80)
+    };
+    run(&rt, &mut bucket, &[(Call::Bind(apart), Answer::Done)])?;
+    for name in 1..71 {
+        run(
+            &rt,
+            &mut bucket,
+            &[(Call::Bind(reusing(name, HERE)), Answer::Done)],
+        )?;
+    }
+    let calls = [
+        (Call::Bind(socket(71, 80)), Answer::InUse(1)),
+        (Call::Bind(reusing(72, 0)), Answer::InUse(100)),
+        (Call::Remove(100), Answer::Done),
+        (Call::Bind(reusing(72, 0)), Answer::Done),
+    ];
+    run(&rt, &mut bucket, &calls)
 }
 
 /// A socket is bound to the port that it shares, and wants to listen there.

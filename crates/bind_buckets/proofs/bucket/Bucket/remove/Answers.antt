@@ -1,7 +1,7 @@
 use Rattle.std.proofs.Common.{◌≡◌, find, refl, ◌∙◌, arith}
 use Rattle.bind_buckets.specs.OwnerStep.{owner_step, After, has_name, removed}
 use Rattle.bind_buckets.specs.First.{change_first, drop_first}
-use Rattle.bind_buckets.specs.Members.{has_member, left_by}
+use Rattle.bind_buckets.specs.Members.{has_member, without_member}
 use Rattle.bind_buckets.proofs.Told.{name_answers, spoken_ok, spoken_err, strange_by}
 use Rattle.std.proofs.lemmas.Bool.{false≢true}
 use Rattle.bind_buckets.proofs.RoomToGo.{room_to_go, spoken_settled, gone, length-drop_first}
@@ -32,7 +32,7 @@ unfolding owner_step
 returns-clause-left c =
     let h = c.args.self.now.held in
     rw c.carry_out.ensures.after
-    (spoken_ok h c.args.name (λ _. removed h c.args.name) (λ a. refl) (λ (after : After). after.held.groups ≡ change_first (has_member c.args.name) (left_by c.args.name) h.groups)
+    (spoken_ok h c.args.name (λ _. removed h c.args.name) (λ a. refl) (λ (after : After). after.held.groups ≡ change_first (has_member c.args.name) (without_member c.args.name) h.groups)
     (find (has_name c.args.name) h.owners) c.name_result.result (λ a q. refl) (c.name_result.ensures ∙ c.carry_out.ensures.answer))
 
 pub returns-clause-kept : goal.returns-clause-kept

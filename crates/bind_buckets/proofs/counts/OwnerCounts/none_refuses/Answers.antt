@@ -1,5 +1,7 @@
 use Rattle.std.proofs.Common.{◌∙◌, sym}
-use Rattle.bind_buckets.specs.OwnerCounts.{end_tally}
+use Rattle.bind_buckets.specs.OwnerCounts.{end_tally, is_grouped, has_ends, both_rule_out}
+use Rattle.std.proofs.lemmas.Bool.{and_parts}
+use Rattle.bind_buckets.proofs.Tallied.{made_if}
 use Rattle.bind_buckets.proofs.RuledOut.{about, ruled_out, none_refuses_there, none_refuses_at}
 use Rattle.bind_buckets.proofs.counts.OwnerCounts.none_refuses.Goals as goal
 
@@ -12,5 +14,7 @@ pub returns-else-none_refuses-clause-none : goal.returns-else-none_refuses-claus
 returns-else-none_refuses-clause-none c = λ told owners counted.
     let s = c.args.self.now in
     let a = c.args.owner.now in
-    none_refuses_at s.stride a c.at_end-there.result (end_tally s a.port 0) owners (sym c.both_rule_out.ensures ∙ told) (rw c.at_end-there.ensures (counted.ends.counts _))
-    (λ any. ruled_out (about s.stride a.port 0) a _ owners any (counted.ends.counts _))
+    let parts = and_parts (has_ends s) (both_rule_out c.at_end-there.result (end_tally s a.port 0) a) (sym c.both_rule_out.ensures ∙ told) in
+    let ends = counted.ends (made_if s.by_end parts.0) in
+    none_refuses_at s.stride a c.at_end-there.result (end_tally s a.port 0) owners parts.1 (rw c.at_end-there.ensures (ends.counts _))
+    (λ any. ruled_out (about s.stride a.port 0) is_grouped a _ owners any (ends.counts _))

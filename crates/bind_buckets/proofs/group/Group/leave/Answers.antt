@@ -1,7 +1,7 @@
 use Rattle.std.proofs.Common.{◌≡◌, sym, ◌∙◌, position, Some, None, true}
 use Rattle.std.proofs.lemmas.Bool.{true≢false}
 use Rattle.bind_buckets.specs.Members.{is_named, has_member}
-use Rattle.bind_buckets.proofs.LeftBy.{leaves_at}
+use Rattle.bind_buckets.proofs.WithoutMember.{leaves_at}
 use Rattle.bind_buckets.proofs.FirstPlace.{none_passes}
 use Rattle.bind_buckets.proofs.group.Group.leave.Goals as goal
 
