@@ -1,7 +1,8 @@
 //! The lock of a bucket: who holds it changes the bucket's chain, and nobody else does.
 //!
-//! [`lock`] waits, and takes the lock by one exchange of the bucket's lock word; [`unlock`] gives it back by one store.
-//! A [`Locked`] stands for as much of the chain as was walked since. Lookups ask for no lock.
+//! [`try_lock`] takes the lock by one exchange of the bucket's lock word, where nobody has it, and [`lock`] tries
+//! until it has it; [`unlock`] gives it back by one store. A [`Locked`] stands for as much of the chain as was walked
+//! since. Lookups ask for no lock.
 //!
 //! ```text
 //! let locked = lock(&chains, &rt, &mut pass.steps, bucket);
@@ -10,5 +11,7 @@
 #![tactic(auto)]
 
 mod locks;
+#[cfg(test)]
+mod tests;
 
-pub use locks::{Locked, lock, unlock};
+pub use locks::{Locked, lock, try_lock, unlock};

@@ -1,5 +1,5 @@
-ghost use Rattle.std.specs.Prelude.{◌≡◌, ◌<◌, ◌∷◌, [], false};
-ghost use Rattle.table_rule.specs.Calls.{IsOf, view, Becomes, MayUnlock, layout_of};
+ghost use Rattle.std.specs.Prelude.{◌≡◌, ◌<◌, ◌∷◌, [], false, IfSome, IfNone};
+ghost use Rattle.table_rule.specs.Calls.{IsOf, view, Becomes, Stays, MayUnlock, layout_of};
 ghost use Rattle.bucket_locks.specs.Locks.{IsAt, WalkKnown};
 ghost use Rattle.table_rule.specs.Plays.{locking, unlocking};
 ghost use Rattle.table_rule.specs.Words.{bucket_count};
@@ -16,7 +16,33 @@ pub struct Locked {
     pub link: u64,
 }
 
-/// Waits until nobody has the bucket's lock, and takes it by one exchange of its lock word.
+/// Takes the bucket's lock where nobody has it, by one exchange of its lock word.
+///
+/// It is one try: where another pass has the lock, the answer is None, and nothing has changed. It waits for nobody.
+pub fn try_lock(chains: &Chains, steps: &mut Steps, bucket: u32) -> Option<Locked>
+    requires table { IsOf chains.now steps.old }
+    requires bucket { bucket < bucket_count (layout_of chains.now) }
+    requires closed { (view steps.old).book.opened ≡ [] }
+    requires free { ((view steps.old).chain.locked ≡ []) × ((view steps.old).slot.tied ≡ []) }
+    ensures table { IsOf chains.now steps.new }
+    ensures view { IfSome result (λ locked. Becomes steps.old steps.new (locking (view steps.old) bucket)) }
+    ensures at { IfSome result (λ locked. IsAt (layout_of chains.now) locked (view steps.new)) }
+    ensures fresh { IfSome result (λ locked. locked.started ≡ false) }
+    ensures known { IfSome result (λ locked. WalkKnown (layout_of chains.now) (view steps.new)) }
+    ensures none { IfNone result (Stays steps.old steps.new) }
+{
+    if chains.step_lock(steps, bucket) == 0 {
+        Some(Locked {
+            bucket,
+            started: false,
+            link: 0,
+        })
+    } else {
+        None
+    }
+}
+
+/// Waits until nobody has the bucket's lock, and takes it.
 ///
 /// From then on this pass alone changes the bucket's chain, until it gives the lock back. A pass has one bucket
 /// locked at most.
@@ -32,12 +58,8 @@ pub fn lock<R: Wait>(chains: &Chains, rt: &R, steps: &mut Steps, bucket: u32) ->
     ensures known { WalkKnown (layout_of chains.now) (view steps.new) }
 {
     for _ in rt.forever() {
-        if chains.step_lock(steps, bucket) == 0 {
-            return Locked {
-                bucket,
-                started: false,
-                link: 0,
-            };
+        if let Some(locked) = try_lock(chains, steps, bucket) {
+            return locked;
         }
     }
     unreachable!()

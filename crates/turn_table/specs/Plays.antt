@@ -1,4 +1,4 @@
--- What each step tells: of the step, the seat before, the number found and the seat after.
+-- What each step tells: of the step, the seat before, the number found and the seat after. Our own.
 use Rattle.std.specs.Prelude.{◌≡◌, ◌≢◌, ℕ, ◌+◌, ◌-◌, ◌≤◌, List, [], ◌∷◌, map, length, Option, Some, None}
 use Rattle.atomic_table.specs.Table.{Me, Step, rest}
 use Rattle.turn_table.specs.Journals.{Ascends, number, by_caller, notes_at, AsFound, HasAllAt}

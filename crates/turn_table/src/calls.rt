@@ -1,6 +1,6 @@
 //! The steps that passes make.
 
-ghost use Rattle.std.specs.Prelude.{◌≡◌, ℕ, ◌+◌, ◌-◌, ◌^◌, ◌<◌, ◌≤◌, [], ◌∷◌, ◌++◌, length, map, None};
+ghost use Rattle.std.specs.Prelude.{◌≡◌, ℕ, ◌+◌, ◌-◌, ◌^◌, ◌<◌, ◌≤◌, [], ◌∷◌, ◌++◌, length, map, None, IfSome, IfNone};
 ghost use Rattle.list_words.specs.Lists.{Each};
 ghost use Rattle.turn_table.specs.declared.note.Note.{Note};
 ghost use Rattle.turn_table.specs.Values.{Fits};
@@ -16,6 +16,37 @@ use std::sync::Wait;
 use std::thread::yield_now;
 
 impl<V: Journaled> Turns<V> {
+    /// Takes the turn of a place where nobody has it, and its value out.
+    ///
+    /// It is one try: where another pass has the turn, the answer is None, and this pass is as it was. It takes no
+    /// memory, and waits for nobody.
+    pub fn try_take_turn(&self, pass: &mut TurnPass<V>, place: usize) -> Option<Turn<V>>
+        requires table { IsPassOf self.now pass.old }
+        requires place { place < words.places self.now }
+        requires free { IsFree pass.old }
+        requires part { 0 < words.parts pass.old }
+        ensures table { IsPassOf self.now pass.new }
+        ensures turn { IfSome result (λ turn. HasTurn pass.new place × (turn.place ≡ place)) }
+        ensures value { IfSome result (λ turn. Fits V.notes V.is_replay V.made_for V.may_make (words.home self.now) place (words.places self.now) turn.value) }
+        ensures view { IfSome result (λ turn. known pass.new ≡ taking (known pass.old) place (words.seen pass.new) (V.notes turn.value)) }
+        ensures later { IfSome result (λ turn. words.seen pass.old ≤ words.seen pass.new) }
+        ensures rising { IfSome result (λ turn. Ascends (words.seen pass.new) (map number (V.notes turn.value))) }
+        ensures own { IfSome result (λ turn. by_caller (words.caller pass.old) (V.notes turn.value) ≡ by_caller (words.caller pass.old) (notes_at place (words.given pass.old))) }
+        ensures sole { IfSome result (λ turn. words.caller pass.old ≡ 0 → words.splits pass.old ≡ 0 → V.notes turn.value ≡ notes_at place (words.given pass.old)) }
+        ensures before { IfSome result (λ turn. AsFound (words.finds pass.old) place (V.notes turn.value)) }
+        ensures all { IfSome result (λ turn. HasAllAt place (words.given pass.old) (V.notes turn.value)) }
+        ensures none { IfNone result (IsFree pass.new × (known pass.new ≡ known pass.old)) }
+    {
+        let shared = &self.table.shared;
+        let found = shared.compare_exchange::<Take<V>>(&mut pass.seat, 1 + place, 0, 1);
+        if found == 0 {
+            let value = shared.exchange(&mut pass.seat, place, None).unwrap();
+            Some(Turn { value, place })
+        } else {
+            None
+        }
+    }
+
     /// Waits for the turn of a place, and takes its value out.
     ///
     /// What the pass has seen afterwards is the count at that moment. It takes no memory.
@@ -36,17 +67,8 @@ impl<V: Journaled> Turns<V> {
         ensures all { HasAllAt place (words.given pass.old) (V.notes result.value) }
     {
         for _ in rt.forever() {
-            let found = self
-                .table
-                .shared
-                .compare_exchange::<Take<V>>(&mut pass.seat, 1 + place, 0, 1);
-            if found == 0 {
-                let value = self
-                    .table
-                    .shared
-                    .exchange(&mut pass.seat, place, None)
-                    .unwrap();
-                return Turn { value, place };
+            if let Some(turn) = self.try_take_turn(pass, place) {
+                return turn;
             }
             yield_now();
         }

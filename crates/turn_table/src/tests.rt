@@ -261,6 +261,40 @@ fn four_threads_take_turns(rt: HostRuntime) -> Result<(), Fail> {
     Ok(())
 }
 
+/// Whether nobody has the turn of a place. Where that is so, it is taken and given back.
+fn is_free(turns: &Turns<Tally>, pass: &mut TurnPass<Tally>, place: usize) -> bool
+    requires table { IsPassOf turns.now pass.old × IsFree pass.old }
+    requires part { 0 < words.parts pass.old }
+    requires place { place < words.places turns.now }
+    ensures table { IsPassOf turns.now pass.new × IsFree pass.new }
+    ensures part { words.parts pass.new ≡ words.parts pass.old }
+{
+    match turns.try_take_turn(pass, place) {
+        None => false,
+        Some(turn) => {
+            turns.give(pass, turn);
+            true
+        }
+    }
+}
+
+#[test]
+fn a_turn_that_is_out_is_not_taken(rt: HostRuntime) -> Result<(), Fail> {
+    let (turns, mut first) = two_turns(rt.alloc())?;
+    let mut second = first.split(&turns);
+    let Some(turn) = turns.try_take_turn(&mut first, 0) else {
+        panic!(rt; "nobody has the turn")
+    };
+    let meanwhile = (
+        is_free(&turns, &mut second, 0),
+        is_free(&turns, &mut second, 1),
+    );
+    turns.give(&mut first, turn);
+    let afterwards = is_free(&turns, &mut second, 0);
+    assert_eq!(rt; (meanwhile, afterwards), ((false, true), true));
+    Ok(())
+}
+
 #[test]
 fn each_call_on_one_thread(rt: HostRuntime) -> Result<(), Fail> {
     let alloc = rt.alloc();

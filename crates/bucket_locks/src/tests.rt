@@ -1,0 +1,54 @@
+//! Tries for a lock that another pass has.
+
+ghost use Rattle.std.specs.Prelude.{◌≡◌, ◌<◌, []};
+ghost use Rattle.table_rule.specs.Calls.{IsIdle, layout_of};
+ghost use Rattle.table_rule.specs.Passes.{IsPassOf, known};
+ghost use Rattle.table_rule.specs.Words.{bucket_count};
+
+use crate::locks::{try_lock, unlock};
+use chain_book::Shape;
+use std::test::Fail;
+use table_rule::{Chains, Pass};
+
+const SHAPE: Shape = Shape {
+    slots: 1,
+    bind: 1,
+    hash: 1,
+    listen: 1,
+};
+
+/// Whether nobody has the lock of a bucket. Where that is so, it is taken and given back.
+fn is_free(chains: &Chains, pass: &mut Pass, bucket: u32) -> bool
+    requires table { IsPassOf chains.now pass.old }
+    requires bucket { bucket < bucket_count (layout_of chains.now) }
+    requires idle { IsIdle (known pass.old).slot × ((known pass.old).book.opened ≡ []) }
+    requires free { (known pass.old).chain.locked ≡ [] }
+    ensures table { IsPassOf chains.now pass.new }
+    ensures idle { IsIdle (known pass.new).slot × ((known pass.new).book.opened ≡ []) }
+    ensures free { (known pass.new).chain.locked ≡ [] }
+{
+    match try_lock(chains, &mut pass.steps, bucket) {
+        None => false,
+        Some(locked) => {
+            unlock(chains, &mut pass.steps, locked);
+            true
+        }
+    }
+}
+
+#[test]
+fn a_lock_that_is_held_is_not_taken(rt: HostRuntime) -> Result<(), Fail> {
+    let (chains, mut first) = Chains::new(rt.alloc(), SHAPE, 7)?;
+    let mut second = chains.split(rt.alloc(), &mut first);
+    let Some(locked) = try_lock(&chains, &mut first.steps, 0) else {
+        panic!(rt; "nobody has the lock")
+    };
+    let meanwhile = (
+        is_free(&chains, &mut second, 0),
+        is_free(&chains, &mut second, 1),
+    );
+    unlock(&chains, &mut first.steps, locked);
+    let afterwards = is_free(&chains, &mut second, 0);
+    assert_eq!(rt; (meanwhile, afterwards), ((false, true), true));
+    Ok(())
+}
