@@ -1,10 +1,11 @@
 -- What a pass at shared chains knows, as operations on sockets go by it: our own.
-use Rattle.std.specs.Prelude.{◌≡◌, ℕ, ◌+◌, ◌≤◌, ◌==◌, cond, List, [], map, vec_len, vec_capacity}
+use Rattle.std.specs.Prelude.{◌≡◌, ℕ, ◌+◌, ◌≤◌, ◌==◌, cond, List, [], map}
 use Rattle.chain_book.specs.declared.book.Act.{Act}
 use Rattle.chain_book.specs.declared.book.Act.TheVariants as acts
 use Rattle.chain_book.specs.declared.book.Change.{Change}
 use Rattle.chain_book.specs.Chains.{Chains}
 use Rattle.chain_book.specs.Homes.{home}
+use Rattle.table_rule.specs.Changes.{are_kept, len_of, capacity_of}
 use Rattle.table_rule.specs.Words.{card_from}
 use Rattle.table_rule.specs.Calls.{IsIdle, me}
 use Rattle.table_rule.specs.Passes.{IsPassOf, known}
@@ -42,7 +43,8 @@ changes_by c = map change_of c.view.book.closed
 abbrev pub chains_by : Side → Chains
 chains_by c = chains_of c.layout c.next c.view.book.closed
 
--- it is a pass of that table, with no change under way, no bucket locked and no slot at home in its hand
+-- it is a pass of that table, with no change under way, no bucket locked and no slot at home in its hand, and keeps
+-- its changes where that table's passes do
 pub record IsResting (t : ChainTable) (p : ChainPass) : Type 0 where
   pub table : IsPassOf t.chains p.pass
   pub idle : IsIdle (known p.pass).slot
@@ -50,6 +52,7 @@ pub record IsResting (t : ChainTable) (p : ChainPass) : Type 0 where
   pub free : (known p.pass).chain.locked ≡ []
   pub hand : (me p.pass.steps).1 ≡ []
   pub next : p.next ≤ t.layout.shape.slots
+  pub kept : are_kept p.pass.changes ≡ t.keeps_changes
 
 -- a pass that knows this has no count out, keeps no card and is in no lookup: at rest, another may take it in
 pub record HoldsNothing (v : View) : Type 0 where
@@ -59,9 +62,9 @@ pub record HoldsNothing (v : View) : Type 0 where
 
 -- it has room for so many changes more
 abbrev pub HasRoom : ℕ → ChainPass → Type 0
-HasRoom n p = vec_len p.pass.changes + n ≤ vec_capacity p.pass.changes
+HasRoom n p = len_of p.pass.changes + n ≤ capacity_of p.pass.changes
 
--- so many changes were kept at most: what else there was room for there still is
+-- so many changes were made at most: what else there was room for there still is
 abbrev pub TakesRoom : ℕ → ChainPass → ChainPass → Type 0
 TakesRoom n p q = (more : ℕ) → HasRoom (more + n) p → HasRoom more q
 

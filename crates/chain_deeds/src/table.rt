@@ -9,11 +9,13 @@ use sock_card::Card;
 use std::alloc::{AllocError, Global};
 use table_rule::{Chains, Layout, Pass};
 
-/// The chain table, and what it is laid out for: its sizes, and the seed by which cards have their chains.
+/// The chain table, what it is laid out for, which is its sizes and the seed by which cards have their chains, and
+/// whether its passes keep their changes or count them.
 #[derive(Drop)]
 pub struct ChainTable {
     pub chains: Chains,
     pub layout: Layout,
+    pub keeps_changes: bool,
     ghost laid: { layout ≡ layout_of chains },
     ghost sized: { IsSized layout.shape },
 }
@@ -26,16 +28,17 @@ pub struct ChainPass {
 }
 
 impl ChainTable {
-    ghost use Rattle.std.specs.Prelude.{◌≤◌, vec_len, vec_capacity};
+    ghost use Rattle.std.specs.Prelude.{◌≤◌, true, false};
     ghost use Rattle.chain_book.specs.Homes.{chain_count};
     ghost use Rattle.chain_book.specs.Homes as homes;
     ghost use Rattle.chain_deeds.specs.Sides.{IsResting, HasRoom, HoldsNothing};
+    ghost use Rattle.table_rule.specs.Changes.{len_of, capacity_of};
     ghost use Rattle.table_rule.specs.Passes.{known, HasShareLeft};
     ghost use Rattle.table_rule.specs.Plays.{both, cut, newcomer, seeing};
     ghost use Rattle.table_rule.specs.Rule.{first, drawn};
     ghost use Rattle.table_rule.specs.Sole.{WholeBook, AllSettled};
 
-    /// A table in which all chains are empty, and its first pass.
+    /// A table in which all chains are empty, and its first pass. Its passes keep their changes.
     ///
     /// It takes memory for eight bytes a word, six words a slot, and as much again while it is made.
     ///
@@ -53,10 +56,40 @@ impl ChainTable {
         ensures rests { IfOk result (λ t. IsResting t.0 t.1) }
         ensures first { IfOk result (λ t. known t.1.pass ≡ first t.0.layout) }
         ensures next { IfOk result (λ t. t.1.next ≡ 0) }
+        ensures keeps { IfOk result (λ t. t.0.keeps_changes ≡ true) }
     {
         let (chains, pass) = Chains::new(alloc, shape, seed)?;
         let layout = Layout { shape, seed };
-        Ok((ChainTable { chains, layout }, ChainPass { pass, next: 0 }))
+        let table = ChainTable {
+            chains,
+            layout,
+            keeps_changes: true,
+        };
+        Ok((table, ChainPass { pass, next: 0 }))
+    }
+
+    /// Such a table whose passes count their changes, and keep none.
+    ///
+    /// # Errors
+    ///
+    /// Memory ran out.
+    pub fn counting(
+        alloc: Global,
+        shape: Shape,
+        seed: u32,
+    ) -> Result<(ChainTable, ChainPass), AllocError>
+        requires sized { IsSized shape }
+        requires small { shape.slots + 1 < 2 ^ 32 }
+        ensures layout { IfOk result (λ t. t.0.layout ≡ record { shape = shape; seed = seed }) }
+        ensures rests { IfOk result (λ t. IsResting t.0 t.1) }
+        ensures first { IfOk result (λ t. known t.1.pass ≡ first t.0.layout) }
+        ensures next { IfOk result (λ t. t.1.next ≡ 0) }
+        ensures counts { IfOk result (λ t. t.0.keeps_changes ≡ false) }
+    {
+        let (mut table, mut pass) = ChainTable::new(alloc, shape, seed)?;
+        table.keeps_changes = false;
+        pass.pass.count_only();
+        Ok((table, pass))
     }
 
     /// The chain in which a card belongs.
@@ -96,12 +129,12 @@ impl ChainTable {
         requires rests { IsResting self.now pass.old }
         requires other { IsResting self.now other }
         requires nothing { HoldsNothing (known other.pass) }
-        requires room { HasRoom (vec_len other.pass.changes) pass.old }
+        requires room { HasRoom (len_of other.pass.changes) pass.old }
         ensures rests { IsResting self.now pass.new }
         ensures both { known pass.new.pass ≡ both (known pass.old.pass) (known other.pass) }
         ensures next { pass.new.next ≡ pass.old.next }
-        ensures len { vec_len pass.new.pass.changes ≡ vec_len pass.old.pass.changes + vec_len other.pass.changes }
-        ensures room { vec_capacity pass.new.pass.changes ≡ vec_capacity pass.old.pass.changes }
+        ensures len { len_of pass.new.pass.changes ≡ len_of pass.old.pass.changes + len_of other.pass.changes }
+        ensures room { capacity_of pass.new.pass.changes ≡ capacity_of pass.old.pass.changes }
     {
         self.chains.join(&mut pass.pass, other.pass);
     }

@@ -169,13 +169,13 @@ fn listen_again<R: Wait>(table: &ChainTable, rt: &R, pass: &mut ChainPass) -> Ca
     }
 }
 
-/// A socket comes by another pass, which is then taken in: how many changes there are.
+/// A socket comes by another pass, which is then taken in: how many changes there are, and how many of them are kept.
 fn come_and_join<R: Wait>(
     table: &ChainTable,
     rt: &R,
     pass: &mut ChainPass,
     mut other: ChainPass,
-) -> Result<usize, AllocError>
+) -> Result<(usize, usize), AllocError>
     requires rests { IsResting table.now pass.old }
     requires other { IsResting table.now other }
     requires nothing { HoldsNothing (known other.pass) }
@@ -185,7 +185,7 @@ fn come_and_join<R: Wait>(
     come(table, rt, &mut other, Replace::Never);
     pass.reserve(table, other.pass.changes.len())?;
     table.join(pass, other);
-    Ok(pass.pass.changes().len())
+    Ok((pass.pass.changes.len(), pass.pass.changes().len()))
 }
 
 #[test]
@@ -254,6 +254,15 @@ fn a_second_pass_is_taken_in(rt: HostRuntime) -> Result<(), Fail> {
     let (table, mut pass) = ChainTable::new(rt.alloc(), SHAPE, 7)?;
     let mut other = table.split(rt.alloc(), &mut pass);
     other.reserve(&table, 2)?;
-    assert_eq!(rt; come_and_join(&table, &rt, &mut pass, other)?, 1);
+    assert_eq!(rt; come_and_join(&table, &rt, &mut pass, other)?, (1, 1));
+    Ok(())
+}
+
+#[test]
+fn a_table_counts_its_changes(rt: HostRuntime) -> Result<(), Fail> {
+    let (table, mut pass) = ChainTable::counting(rt.alloc(), SHAPE, 7)?;
+    let mut other = table.split(rt.alloc(), &mut pass);
+    other.reserve(&table, 2)?;
+    assert_eq!(rt; come_and_join(&table, &rt, &mut pass, other)?, (1, 0));
     Ok(())
 }

@@ -1,5 +1,6 @@
--- What the tests ask of a pass between two of its calls.
-use Rattle.std.specs.Prelude.{◌≡◌, ℕ, ◌+◌, ◌<◌, ◌≤◌, [], vec_len, vec_capacity}
+-- What the tests ask of a pass between two of its calls. Our own.
+use Rattle.std.specs.Prelude.{◌≡◌, ℕ, ◌+◌, ◌<◌, ◌≤◌, []}
+use Rattle.table_rule.specs.Changes.{len_of, capacity_of}
 use Rattle.table_rule.specs.declared.table.Chains.{Chains}
 use Rattle.table_rule.specs.declared.pass.Pass.{Pass}
 use Rattle.table_rule.specs.Calls.{IsIdle, HasShares, layout_of}
@@ -13,7 +14,7 @@ use Rattle.nulls_chain.specs.Changes.{IsPlaced}
 
 -- it is in the middle of nothing, and can make so many changes more
 abbrev pub IsReady : Chains → Pass → ℕ → Type 0
-IsReady t pass changes = IsPassOf t pass × IsIdle (known pass).slot × ((known pass).book.opened ≡ []) × ((known pass).chain.locked ≡ []) × HasShares (changes + changes) (known pass) × (vec_len pass.changes + changes ≤ vec_capacity pass.changes)
+IsReady t pass changes = IsPassOf t pass × IsIdle (known pass).slot × ((known pass).book.opened ≡ []) × ((known pass).chain.locked ≡ []) × HasShares (changes + changes) (known pass) × (len_of pass.changes + changes ≤ capacity_of pass.changes)
 
 -- it may unhash the place
 abbrev pub CanUnhash : Chains → Pass → Place → Type 0

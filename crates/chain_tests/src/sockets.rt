@@ -1,6 +1,6 @@
 //! Threads that replace, close and reap sockets, beside threads that look their packets up.
 
-ghost use Rattle.std.specs.Prelude.{◌≡◌, ◌+◌, ◌<◌, OnOk, IfSome};
+ghost use Rattle.std.specs.Prelude.{◌≡◌, ◌+◌, ◌<◌, true, OnOk, IfSome};
 ghost use Rattle.chain_book.specs.Homes.{home};
 ghost use Rattle.null_reader.specs.Looked.{HasTwo};
 ghost use Rattle.reuseport_group.specs.Passes as group_words;
@@ -374,7 +374,7 @@ impl<'a> Job<'a> {
         let Server { pass, .. } = server;
         let Pass { changes, .. } = pass;
         Done {
-            changes,
+            changes: changes.into_list(alloc),
             looks: Vec::new(alloc),
         }
     }
@@ -410,7 +410,10 @@ impl<'a> Job<'a> {
             looker.turn()?;
         }
         let Looker { looks, .. } = looker;
-        Ok(Done { changes, looks })
+        Ok(Done {
+            changes: changes.into_list(alloc),
+            looks,
+        })
     }
 
     fn run<R: Wait + Clock>(
@@ -483,7 +486,11 @@ fn race<R: Threads + Wait + Clock + Sync>(
     course: Course,
 ) -> Result<Done, AllocError> {
     let gate = AtomicU64::new(0);
-    let done = thread::map_vec(rt, jobs, &|job| job.run(alloc, rt, &gate, course))?;
+    // The clause says nothing, but with one of its own the closure is proved apart from the call.
+    let run = |job: Job| -> Result<Done, AllocError>
+        ensures { true ≡ true }
+    { job.run(alloc, rt, &gate, course) };
+    let done = thread::map_vec(rt, jobs, &run)?;
     gather(alloc, done)
 }
 

@@ -1,6 +1,6 @@
 //! Threads that hash and unhash cards, beside threads that look for them.
 
-ghost use Rattle.std.specs.Prelude.{◌≡◌, ◌+◌, ◌<◌, false, OnOk};
+ghost use Rattle.std.specs.Prelude.{◌≡◌, ◌+◌, ◌<◌, false, true, OnOk};
 ghost use Rattle.sock_card.specs.Words.{packed};
 ghost use Rattle.table_rule.specs.Calls.{IsOf, view, layout_of};
 ghost use Rattle.table_rule.specs.CardsOk.{has_tuple};
@@ -308,7 +308,7 @@ impl<'a> Job<'a> {
         let Changer { pass, .. } = changer;
         let Pass { changes, .. } = pass;
         Done {
-            changes,
+            changes: changes.into_list(alloc),
             looks: Vec::new(alloc),
         }
     }
@@ -336,7 +336,10 @@ impl<'a> Job<'a> {
             looker.turn()?;
         }
         let Looker { looks, .. } = looker;
-        Ok(Done { changes, looks })
+        Ok(Done {
+            changes: changes.into_list(alloc),
+            looks,
+        })
     }
 
     fn run<R: Wait + Clock>(
@@ -399,7 +402,11 @@ fn race<R: Threads + Wait + Clock + Sync>(
     course: Course,
 ) -> Result<Done, AllocError> {
     let gate = AtomicU64::new(0);
-    let done = thread::map_vec(rt, jobs, &|job| job.run(alloc, rt, &gate, course))?;
+    // The clause says nothing, but with one of its own the closure is proved apart from the call.
+    let run = |job: Job| -> Result<Done, AllocError>
+        ensures { true ≡ true }
+    { job.run(alloc, rt, &gate, course) };
+    let done = thread::map_vec(rt, jobs, &run)?;
     gather(alloc, done)
 }
 

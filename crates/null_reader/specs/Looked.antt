@@ -1,4 +1,5 @@
--- What a lookup's parts ask and say.
+-- What a lookup's parts ask and say. The lookup is that of __inet_lookup_established and inet_lhash2_lookup of the
+-- kernel's net/ipv4/inet_hashtables.c.
 use Rattle.std.specs.Prelude.{◌≡◌, ◌≢◌, ℕ, ◌+◌, ◌*◌, ◌/◌, ◌%◌, ◌<◌, ◌≤◌, ◌⊎◌, List, [], ◌∷◌, ◌++◌, length, Option, Some, None, Result, Ok, Err}
 use Rattle.sock_card.specs.Words.{word_rank as rank}
 use Rattle.table_rule.specs.ReadersOk.{rank_of}

@@ -1,6 +1,7 @@
-ghost use Rattle.std.specs.Prelude.{◌+◌, length, vec_len, vec_capacity, ◌≡◌, ◌<◌, ◌≤◌, [], ℕ, true, IfOk, IfErr};
+ghost use Rattle.std.specs.Prelude.{◌+◌, length, ◌≡◌, ◌<◌, ◌≤◌, [], ℕ, true, IfOk, IfErr};
 ghost use Rattle.chain_book.specs.Homes.{home};
 ghost use Rattle.sock_card.specs.Words.{packed};
+ghost use Rattle.table_rule.specs.Changes.{len_of, capacity_of};
 ghost use Rattle.table_rule.specs.declared.view.View.{View};
 ghost use Rattle.table_rule.specs.Lists.{stands};
 ghost use Rattle.table_rule.specs.Owners.{time_waits};
@@ -34,7 +35,7 @@ pub struct Place {
 /// Hashes a card into its bucket, whose chain was walked to its end: from then on its slot is first in the chain.
 ///
 /// A number is drawn from the clock, a slot claimed from `from` on and round to it, its card written, its link stored,
-/// the head stored, the slot lit, and a second number drawn. The change is kept in room that was made before. `Full`:
+/// the head stored, the slot lit, and a second number drawn. The change goes into room that was made before. `Full`:
 /// no slot is free, and of the change only its first number is gone.
 ///
 /// A connected socket comes beside no other of its four-tuple, but it may come beside a request for it: then the lock
@@ -52,7 +53,7 @@ pub fn hash(
     requires at { IsAt (layout_of chains.now) locked.now (known pass.old) × (locked.now.started ≡ true) }
     requires idle { IsIdle (known pass.old).slot × ((known pass.old).book.opened ≡ []) }
     requires from { from ≤ (layout_of chains.now).shape.slots }
-    requires room { vec_len pass.old.changes < vec_capacity pass.old.changes }
+    requires room { len_of pass.old.changes < capacity_of pass.old.changes }
     requires share { HasShares 2 (known pass.old) }
     requires whole { ((known pass.old).chain.met ≡ 1) × ((known pass.old).chain.ahead ≡ []) }
     requires twin { HasNoTwin (packed card.now) (known pass.old).chain.walked }
@@ -77,8 +78,8 @@ pub fn hash(
     ensures hand { pass.new.steps.seat.me.1 ≡ pass.old.steps.seat.me.1 }
     ensures full { IfErr result (λ f. (b : ℕ) × (w : View) × IsFull (layout_of chains.now) (beginning (known pass.old) b) w f × ((known pass.old).seen ≤ b) × ((known pass.new) ≡ dropping_beginning w)) }
     ensures same { IfErr result (λ f. (known pass.new).book.closed ≡ (known pass.old).book.closed) }
-    ensures room { vec_capacity pass.new.changes ≡ vec_capacity pass.old.changes }
-    ensures len { vec_len pass.new.changes ≤ vec_len pass.old.changes + 1 }
+    ensures room { capacity_of pass.new.changes ≡ capacity_of pass.old.changes }
+    ensures len { len_of pass.new.changes ≤ len_of pass.old.changes + 1 }
 {
     hash_with(chains, pass, locked, from, card, &mut Unhalted)
 }
@@ -96,7 +97,7 @@ pub fn hash_with<H: Halt>(
     requires at { IsAt (layout_of chains.now) locked.now (known pass.old) × (locked.now.started ≡ true) }
     requires idle { IsIdle (known pass.old).slot × ((known pass.old).book.opened ≡ []) }
     requires from { from ≤ (layout_of chains.now).shape.slots }
-    requires room { vec_len pass.old.changes < vec_capacity pass.old.changes }
+    requires room { len_of pass.old.changes < capacity_of pass.old.changes }
     requires share { HasShares 2 (known pass.old) }
     requires whole { ((known pass.old).chain.met ≡ 1) × ((known pass.old).chain.ahead ≡ []) }
     requires twin { HasNoTwin (packed card.now) (known pass.old).chain.walked }
@@ -121,8 +122,8 @@ pub fn hash_with<H: Halt>(
     ensures hand { pass.new.steps.seat.me.1 ≡ pass.old.steps.seat.me.1 }
     ensures full { IfErr result (λ f. (b : ℕ) × (w : View) × IsFull (layout_of chains.now) (beginning (known pass.old) b) w f × ((known pass.old).seen ≤ b) × ((known pass.new) ≡ dropping_beginning w)) }
     ensures same { IfErr result (λ f. (known pass.new).book.closed ≡ (known pass.old).book.closed) }
-    ensures room { vec_capacity pass.new.changes ≡ vec_capacity pass.old.changes }
-    ensures len { vec_len pass.new.changes ≤ vec_len pass.old.changes + 1 }
+    ensures room { capacity_of pass.new.changes ≡ capacity_of pass.old.changes }
+    ensures len { len_of pass.new.changes ≤ len_of pass.old.changes + 1 }
 {
     let words = pack(card);
     match hash_numbered(chains, &mut pass.steps, locked, from, &words, halt) {
@@ -148,8 +149,8 @@ pub fn hash_with<H: Halt>(
 /// Unhashes a slot of a chain that was walked to its end.
 ///
 /// Its predecessor is found by the links alone, from the head on. Then a number is drawn from the clock, the slot
-/// dimmed, passed over and released, and a second number drawn. The change is kept in room that was made before. A card
-/// that is no TIME_WAIT's is unhashed by the pass that hashed it alone.
+/// dimmed, passed over and released, and a second number drawn. The change goes into room that was made before. A
+/// card that is no TIME_WAIT's is unhashed by the pass that hashed it alone.
 ///
 /// As `inet_unhash` of net/ipv4/inet_hashtables.c does by `hlist_nulls_del_init_rcu`.
 pub fn unhash_slot(chains: &Chains, pass: &mut Pass, locked: &Locked, slot: u32, card: &Card)
@@ -159,7 +160,7 @@ pub fn unhash_slot(chains: &Chains, pass: &mut Pass, locked: &Locked, slot: u32,
     requires idle { IsIdle (known pass.old).slot × ((known pass.old).book.opened ≡ []) }
     requires share { HasShares 2 (known pass.old) }
     requires card { card_in slot (known pass.old).chain.walked ≡ words_of (packed card.now) }
-    requires room { vec_len pass.old.changes < vec_capacity pass.old.changes }
+    requires room { len_of pass.old.changes < capacity_of pass.old.changes }
     requires own { MayUnhash slot (known pass.old) }
     requires whole { ((known pass.old).chain.met ≡ 1) × ((known pass.old).chain.ahead ≡ []) }
     requires known { WalkKnown (layout_of chains.now) (known pass.old) }
@@ -175,8 +176,8 @@ pub fn unhash_slot(chains: &Chains, pass: &mut Pass, locked: &Locked, slot: u32,
     ensures hand { pass.new.steps.seat.me.1 ≡ pass.old.steps.seat.me.1 }
     ensures at { IsAt (layout_of chains.now) locked.now (known pass.new) }
     ensures gone { (known pass.new).chain ≡ record (known pass.old).chain { walked = without slot (known pass.old).chain.walked } }
-    ensures room { vec_capacity pass.new.changes ≡ vec_capacity pass.old.changes }
-    ensures len { vec_len pass.new.changes ≡ vec_len pass.old.changes + 1 }
+    ensures room { capacity_of pass.new.changes ≡ capacity_of pass.old.changes }
+    ensures len { len_of pass.new.changes ≡ len_of pass.old.changes + 1 }
 {
     unhash_slot_with(chains, pass, locked, slot, card, &mut Unhalted);
 }
@@ -196,7 +197,7 @@ pub(crate) fn unhash_slot_with<H: Halt>(
     requires idle { IsIdle (known pass.old).slot × ((known pass.old).book.opened ≡ []) }
     requires share { HasShares 2 (known pass.old) }
     requires card { card_in slot (known pass.old).chain.walked ≡ words_of (packed card.now) }
-    requires room { vec_len pass.old.changes < vec_capacity pass.old.changes }
+    requires room { len_of pass.old.changes < capacity_of pass.old.changes }
     requires own { MayUnhash slot (known pass.old) }
     requires whole { ((known pass.old).chain.met ≡ 1) × ((known pass.old).chain.ahead ≡ []) }
     requires known { WalkKnown (layout_of chains.now) (known pass.old) }
@@ -212,8 +213,8 @@ pub(crate) fn unhash_slot_with<H: Halt>(
     ensures hand { pass.new.steps.seat.me.1 ≡ pass.old.steps.seat.me.1 }
     ensures at { IsAt (layout_of chains.now) locked.now (known pass.new) }
     ensures gone { (known pass.new).chain ≡ record (known pass.old).chain { walked = without slot (known pass.old).chain.walked } }
-    ensures room { vec_capacity pass.new.changes ≡ vec_capacity pass.old.changes }
-    ensures len { vec_len pass.new.changes ≡ vec_len pass.old.changes + 1 }
+    ensures room { capacity_of pass.new.changes ≡ capacity_of pass.old.changes }
+    ensures len { len_of pass.new.changes ≡ len_of pass.old.changes + 1 }
 {
     let before = slot_before(chains, &mut pass.steps, locked.bucket, slot);
     let done = unhash_numbered(chains, &mut pass.steps, locked, before, slot, halt);

@@ -1,5 +1,6 @@
-ghost use Rattle.std.specs.Prelude.{◌≡◌, ◌+◌, ◌≤◌, ◌<◌, [], false, true, vec_len, vec_capacity, IfSome, IfNone, ◌⊎◌};
+ghost use Rattle.std.specs.Prelude.{◌≡◌, ◌+◌, ◌≤◌, ◌<◌, [], false, true, IfSome, IfNone, ◌⊎◌};
 ghost use Rattle.sock_card.specs.Words.{packed};
+ghost use Rattle.table_rule.specs.Changes.{len_of, capacity_of};
 ghost use Rattle.table_rule.specs.Calls.{IsIdle, HasShares, layout_of};
 ghost use Rattle.table_rule.specs.Passes.{IsPassOf, known};
 ghost use Rattle.table_rule.specs.Plays.{without};
@@ -24,7 +25,7 @@ pub fn unhash(chains: &Chains, pass: &mut Pass, locked: &mut Locked, place: Plac
     requires place { IsPlaced place (known pass.old).book × (place.bucket ≡ locked.old.bucket) }
     requires idle { IsIdle (known pass.old).slot × ((known pass.old).book.opened ≡ []) }
     requires share { HasShares 2 (known pass.old) }
-    requires room { vec_len pass.old.changes < vec_capacity pass.old.changes }
+    requires room { len_of pass.old.changes < capacity_of pass.old.changes }
     ensures table { IsPassOf chains.now pass.new }
     ensures idle { IsIdle (known pass.new).slot × ((known pass.new).book.opened ≡ []) }
     ensures change { Adds (known pass.old) (known pass.new) 0 locked.old.bucket place.slot (words_of (packed place.card)) }
@@ -40,8 +41,8 @@ pub fn unhash(chains: &Chains, pass: &mut Pass, locked: &mut Locked, place: Plac
     ensures at { IsAt (layout_of chains.now) locked.new (known pass.new) × (locked.new.started ≡ true) × (locked.new.bucket ≡ locked.old.bucket) }
     ensures whole { ((known pass.new).chain.met ≡ 1) × ((known pass.new).chain.ahead ≡ []) }
     ensures gone { (known pass.old).chain.met ≡ 1 → (known pass.new).chain ≡ record (known pass.old).chain { walked = without place.slot (known pass.old).chain.walked } }
-    ensures room { vec_capacity pass.new.changes ≡ vec_capacity pass.old.changes }
-    ensures len { vec_len pass.new.changes ≡ vec_len pass.old.changes + 1 }
+    ensures room { capacity_of pass.new.changes ≡ capacity_of pass.old.changes }
+    ensures len { len_of pass.new.changes ≡ len_of pass.old.changes + 1 }
 {
     unhash_with(chains, pass, locked, place, &mut Unhalted);
 }
@@ -60,7 +61,7 @@ pub fn unhash_with<H: Halt>(
     requires place { IsPlaced place (known pass.old).book × (place.bucket ≡ locked.old.bucket) }
     requires idle { IsIdle (known pass.old).slot × ((known pass.old).book.opened ≡ []) }
     requires share { HasShares 2 (known pass.old) }
-    requires room { vec_len pass.old.changes < vec_capacity pass.old.changes }
+    requires room { len_of pass.old.changes < capacity_of pass.old.changes }
     ensures table { IsPassOf chains.now pass.new }
     ensures idle { IsIdle (known pass.new).slot × ((known pass.new).book.opened ≡ []) }
     ensures change { Adds (known pass.old) (known pass.new) 0 locked.old.bucket place.slot (words_of (packed place.card)) }
@@ -76,8 +77,8 @@ pub fn unhash_with<H: Halt>(
     ensures at { IsAt (layout_of chains.now) locked.new (known pass.new) × (locked.new.started ≡ true) × (locked.new.bucket ≡ locked.old.bucket) }
     ensures whole { ((known pass.new).chain.met ≡ 1) × ((known pass.new).chain.ahead ≡ []) }
     ensures gone { (known pass.old).chain.met ≡ 1 → (known pass.new).chain ≡ record (known pass.old).chain { walked = without place.slot (known pass.old).chain.walked } }
-    ensures room { vec_capacity pass.new.changes ≡ vec_capacity pass.old.changes }
-    ensures len { vec_len pass.new.changes ≡ vec_len pass.old.changes + 1 }
+    ensures room { capacity_of pass.new.changes ≡ capacity_of pass.old.changes }
+    ensures len { len_of pass.new.changes ≡ len_of pass.old.changes + 1 }
 {
     walk_to_end(chains, &mut pass.steps, locked);
     unhash_slot_with(chains, pass, locked, place.slot, &place.card, halt);
@@ -94,7 +95,7 @@ pub fn unhash_tw(chains: &Chains, pass: &mut Pass, locked: &mut Locked, name: u3
     requires known { WalkKnown (layout_of chains.now) (known pass.old) }
     requires idle { IsIdle (known pass.old).slot × ((known pass.old).book.opened ≡ []) }
     requires share { HasShares 2 (known pass.old) }
-    requires room { vec_len pass.old.changes < vec_capacity pass.old.changes }
+    requires room { len_of pass.old.changes < capacity_of pass.old.changes }
     ensures table { IsPassOf chains.now pass.new }
     ensures idle { IsIdle (known pass.new).slot × ((known pass.new).book.opened ≡ []) }
     ensures took { IfSome result (λ slot. TookWait name locked.old.bucket slot (known pass.old) (known pass.new)) }
@@ -104,8 +105,8 @@ pub fn unhash_tw(chains: &Chains, pass: &mut Pass, locked: &mut Locked, name: u3
     ensures twice { (known pass.new).twice ≡ (known pass.old).twice }
     ensures hand { pass.new.steps.seat.me.1 ≡ pass.old.steps.seat.me.1 }
     ensures at { IsAt (layout_of chains.now) locked.new (known pass.new) × (locked.new.bucket ≡ locked.old.bucket) }
-    ensures room { vec_capacity pass.new.changes ≡ vec_capacity pass.old.changes }
-    ensures len { vec_len pass.new.changes ≤ vec_len pass.old.changes + 1 }
+    ensures room { capacity_of pass.new.changes ≡ capacity_of pass.old.changes }
+    ensures len { len_of pass.new.changes ≤ len_of pass.old.changes + 1 }
 {
     let (slot, card) = find_wait(chains, &mut pass.steps, locked, name)?;
     walk_to_end(chains, &mut pass.steps, locked);

@@ -1,8 +1,9 @@
 //! A socket's card in a chain, and out of it again.
 
-ghost use Rattle.std.specs.Prelude.{◌≡◌, ◌+◌, ◌<◌, ◌≤◌, [], true, vec_len, vec_capacity};
+ghost use Rattle.std.specs.Prelude.{◌≡◌, ◌+◌, ◌<◌, ◌≤◌, [], true};
 ghost use Rattle.chain_book.specs.Homes.{home};
 ghost use Rattle.sock_card.specs.declared.card.Kind.TheVariants as kinds;
+ghost use Rattle.table_rule.specs.Changes.{len_of, capacity_of};
 ghost use Rattle.table_rule.specs.Calls.{HasShares, IsIdle, layout_of};
 ghost use Rattle.table_rule.specs.Passes.{IsPassOf, known};
 ghost use Rattle.bucket_locks.specs.Locks.{IsAt, WalkKnown};
@@ -48,7 +49,7 @@ fn come_and_go(chains: &Chains, pass: &mut Pass, locked: &mut Locked, card: &Car
     requires home { home (layout_of chains.now).shape (layout_of chains.now).seed card.now ≡ locked.old.bucket }
     requires share { HasShares 4 (known pass.old) }
     requires listens { card.now.kind ≡ kinds.Listen }
-    requires room { vec_len pass.old.changes + 2 ≤ vec_capacity pass.old.changes }
+    requires room { len_of pass.old.changes + 2 ≤ capacity_of pass.old.changes }
     ensures table { IsPassOf chains.now pass.new }
     ensures idle { IsIdle (known pass.new).slot × ((known pass.new).book.opened ≡ []) }
     ensures at { IsAt (layout_of chains.now) locked.new (known pass.new) }
@@ -79,7 +80,7 @@ fn come_and_go_in<R: Wait>(
     requires free { (known pass.old).chain.locked ≡ [] }
     requires share { HasShares 4 (known pass.old) }
     requires listens { card.now.kind ≡ kinds.Listen }
-    requires room { vec_len pass.old.changes + 2 ≤ vec_capacity pass.old.changes }
+    requires room { len_of pass.old.changes + 2 ≤ capacity_of pass.old.changes }
 {
     let mut locked = lock(chains, rt, &mut pass.steps, bucket);
     let slot = match walk(chains, &mut pass.steps, &mut locked) {

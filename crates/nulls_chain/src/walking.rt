@@ -11,6 +11,7 @@ use bucket_locks::Locked;
 use sock_card::CardWords;
 use table_rule::{Chains, Steps};
 
+#[inline(always)]
 fn read_card(chains: &Chains, steps: &mut Steps, slot: u32) -> CardWords
     requires table { IsOf chains.now steps.old }
     requires slot { slot < (layout_of chains.now).shape.slots }
@@ -32,6 +33,7 @@ fn read_card(chains: &Chains, steps: &mut Steps, slot: u32) -> CardWords
     }
 }
 
+#[inline(always)]
 fn step(chains: &Chains, steps: &mut Steps, locked: &Locked) -> u64
     requires table { IsOf chains.now steps.old }
     requires at { IsAt (layout_of chains.now) locked.now (view steps.old) }
@@ -53,6 +55,8 @@ fn step(chains: &Chains, steps: &mut Steps, locked: &Locked) -> u64
 }
 
 /// The next slot of the chain and its card, where the walk has not met the end. None at the end.
+// Inlined, so that a card's words stay in registers: a walk goes by most cards at a look at one of them.
+#[inline(always)]
 pub fn walk(chains: &Chains, steps: &mut Steps, locked: &mut Locked) -> Option<(u32, CardWords)>
     requires table { IsOf chains.now steps.old }
     requires at { IsAt (layout_of chains.now) locked.old (view steps.old) }

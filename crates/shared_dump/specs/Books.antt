@@ -1,4 +1,4 @@
--- What a dump comes to by a book of changes: which lives its items are.
+-- What a dump comes to by a book of changes: which lives its items are. Our own.
 use Rattle.std.specs.Prelude.{◌≡◌, ℕ, ◌<◌, ◌⊎◌, List, [], ◌∷◌, map}
 use Rattle.sock_card.specs.declared.card.Card.{Card}
 use Rattle.table_rule.specs.Book.{Part, InBook}

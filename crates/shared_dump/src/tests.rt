@@ -1,9 +1,10 @@
 //! What is listed of an empty table, and of one with a listener.
 
-ghost use Rattle.std.specs.Prelude.{◌≡◌, ◌<◌, [], true, vec_len, vec_capacity};
+ghost use Rattle.std.specs.Prelude.{◌≡◌, ◌<◌, [], true};
 ghost use Rattle.bucket_locks.specs.Locks.{IsAt};
 ghost use Rattle.chain_book.specs.Homes.{home};
 ghost use Rattle.sock_card.specs.declared.card.Kind.TheVariants as kinds;
+ghost use Rattle.table_rule.specs.Changes.{len_of, capacity_of};
 ghost use Rattle.table_rule.specs.Calls.{HasShares, IsIdle, layout_of};
 ghost use Rattle.table_rule.specs.Passes.{IsPassOf, known};
 ghost use Rattle.table_rule.specs.Words.{bucket_count};
@@ -46,7 +47,7 @@ fn come_alone(chains: &Chains, pass: &mut Pass, locked: &Locked, card: &Card) ->
     requires home { home (layout_of chains.now).shape (layout_of chains.now).seed card.now ≡ locked.now.bucket }
     requires share { HasShares 2 (known pass.old) }
     requires listens { card.now.kind ≡ kinds.Listen }
-    requires room { vec_len pass.old.changes < vec_capacity pass.old.changes }
+    requires room { len_of pass.old.changes < capacity_of pass.old.changes }
     ensures table { IsPassOf chains.now pass.new }
     ensures idle { IsIdle (known pass.new).slot × ((known pass.new).book.opened ≡ []) }
     ensures at { IsAt (layout_of chains.now) locked.now (known pass.new) }
@@ -67,7 +68,7 @@ fn come<R: Wait>(chains: &Chains, rt: &R, pass: &mut Pass, bucket: u32, card: &C
     requires free { (known pass.old).chain.locked ≡ [] }
     requires share { HasShares 2 (known pass.old) }
     requires listens { card.now.kind ≡ kinds.Listen }
-    requires room { vec_len pass.old.changes < vec_capacity pass.old.changes }
+    requires room { len_of pass.old.changes < capacity_of pass.old.changes }
     ensures table { IsPassOf chains.now pass.new }
     ensures idle { IsIdle (known pass.new).slot × ((known pass.new).book.opened ≡ []) }
     ensures free { (known pass.new).chain.locked ≡ [] }

@@ -1,4 +1,4 @@
--- What lookups leave of all that a pass knows.
+-- What lookups leave of all that a pass knows. Our own.
 use Rattle.std.specs.Prelude.{◌≡◌, ℕ, ◌≤◌, List, [], ◌∷◌}
 use mathlib.Core.Option.{some}
 use lib.ListN.{get_elem?}

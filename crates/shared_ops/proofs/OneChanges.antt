@@ -8,7 +8,7 @@ use Rattle.bind_buckets.specs.First.{change_first}
 use Rattle.bind_buckets.specs.declared.request.Request.TheVariants as requests
 use Rattle.bind_buckets.specs.declared.request.Answer.TheVariants as answers
 use Rattle.bind_buckets.specs.Bucket.{Bucket, IsSound, answer_to}
-use Rattle.bind_buckets.specs.Members.{member, has_member, left_by, joined_by}
+use Rattle.bind_buckets.specs.Members.{member, has_member, without_member, joined_by}
 use Rattle.bind_buckets.specs.OwnerStep.{Held, has_name, owner_step, listener_answer, group_answer, group_number, place_for, members_at, others, with_member, listening, removed, spoken}
 use Rattle.reuseport_group.specs.declared.pass.GroupPasses.{GroupPasses}
 use Rattle.reuseport_group.specs.Passes as lists
@@ -53,7 +53,7 @@ module _ (is : List ℕ → Bool) (f : List ℕ → List ℕ) where
       keep_later (is x) x xs (change_first is f xs) (f x ∷ xs) (none zero (omega arith)) (change_none xs (λ i low. none (suc i) (omega arith)))
 
 -- the groups after an owner that is there left
-pub left_groups : (n : ℕ) (h : Held) (a : Owner) → find (has_name a.name) h.owners ≡ Some a → (owner_step n h (requests.Remove a.name)).held.groups ≡ change_first (has_member a.name) (left_by a.name) h.groups
+pub left_groups : (n : ℕ) (h : Held) (a : Owner) → find (has_name a.name) h.owners ≡ Some a → (owner_step n h (requests.Remove a.name)).held.groups ≡ change_first (has_member a.name) (without_member a.name) h.groups
 unfolding owner_step
 left_groups n h a there = ap (λ o. (spoken h a.name o (λ _. removed h a.name)).held.groups) there
 
@@ -105,11 +105,11 @@ pub joined_one : (b k : Bucket) (a : Owner) (slot : ℕ) (group : Option ℕ) �
 joined_one b k a slot group sound there said next =
     subst (λ (h : Held). OneChanges b.number group b.held.groups h.groups) (sym next) (joins b a slot group sound there said)
 
-leaves_one : (n : ℕ) (h : Held) (name : ℕ) (o : Option ℕ) → length h.groups ≡ 8 → IsGroupOf n h name o → OneChanges n o h.groups (change_first (has_member name) (left_by name) h.groups)
+leaves_one : (n : ℕ) (h : Held) (name : ℕ) (o : Option ℕ) → length h.groups ≡ 8 → IsGroupOf n h name o → OneChanges n o h.groups (change_first (has_member name) (without_member name) h.groups)
 leaves_one n h name None eight none =
-    change_none (has_member name) (left_by name) h.groups (λ i low. none i (subst (λ k. i < k) eight low))
+    change_none (has_member name) (without_member name) h.groups (λ i low. none i (subst (λ k. i < k) eight low))
 leaves_one n h name (Some group) eight first =
-    (first.0, λ j other. change_else (has_member name) (left_by name) h.groups (group % 8) j first.2 first.1 other)
+    (first.0, λ j other. change_else (has_member name) (without_member name) h.groups (group % 8) j first.2 first.1 other)
 
 pub left_one : (b k : Bucket) (a : Owner) (o : Option ℕ) → IsSound b → find (has_name a.name) b.held.owners ≡ Some a → IsGroupOf b.number b.held a.name o
     → k.held ≡ (owner_step b.number b.held (requests.Remove a.name)).held → OneChanges b.number o b.held.groups k.held.groups

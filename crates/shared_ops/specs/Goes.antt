@@ -31,7 +31,9 @@ GivesUp count name [] = Unit {0}
 GivesUp count name (x ∷ []) = (key : ℕ) × IsAsked (key % count) (requests.Remove name) answers.Done x
 GivesUp count name _ = ⊥
 
--- for want of memory the plan was left off somewhere, and a port that it had taken was given up
+-- For want of memory the plan was left off somewhere, and then the owner left its port, or nothing more was asked. That
+-- no port stays taken is said by each call's clause on what it kept. How much of the plan is left isn't said: `rest`
+-- may be its end, so a plan that went to its end meets this, too.
 pub record LeftOff {R : Type 0} (count name : ℕ) (plan : Asking R) (v w : View) (c d : Side) : Type 0 where
   pub rest : Asking R
   pub deeds : List Deed

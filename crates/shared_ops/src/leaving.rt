@@ -458,8 +458,8 @@ fn close_as<R: Wait>(
 ///
 /// # Errors
 ///
-/// `Memory`: a bucket or the worker's list of changes wanted memory, before anything was done. The socket comes back
-/// as it was.
+/// `Memory`: a bucket, or the worker's changes where they are kept, wanted memory, before anything was done. The
+/// socket comes back as it was.
 pub fn close<R: Wait>(
     rt: &R,
     tables: &Tables,

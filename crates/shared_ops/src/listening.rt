@@ -375,8 +375,8 @@ fn listen_shared<R: Wait>(
 ///
 /// `Inval`: it is connected, or a request. `InUse`: the owner of that name keeps it from listening. `NoPort`: each of
 /// the ports was refused, at its own turn. `GroupFull` and `GroupsFull`: no place in a group of listeners. `Full`: no
-/// slot was free. `Memory`: a bucket or the worker's list of changes wanted memory; the ports that were refused
-/// before stay told. A refused socket comes back as it was; a port that this call took for it is given up.
+/// slot was free. `Memory`: a bucket, or the worker's changes where they are kept, wanted memory; the ports that were
+/// refused before stay told. A refused socket comes back as it was; a port that this call took for it is given up.
 pub fn listen<R: Wait>(
     rt: &R,
     tables: &Tables,

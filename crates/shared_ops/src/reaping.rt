@@ -84,7 +84,7 @@ fn reap_in<R: Wait>(
 ///
 /// # Errors
 ///
-/// A bucket or the worker's list of changes wanted memory. Nothing has changed.
+/// A bucket, or the worker's changes where they are kept, wanted memory. Nothing has changed.
 pub fn reap_one<R: Wait>(
     rt: &R,
     tables: &Tables,

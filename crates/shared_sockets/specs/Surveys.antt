@@ -1,7 +1,9 @@
 -- What one walk over a locked chain finds: our own.
-use Rattle.std.specs.Prelude.{◌≡◌, Option, None, Some, List, find, cond, Bool, false}
+use Rattle.std.specs.Prelude.{◌≡◌, ◌==◌, ◌&&◌, ◌+◌, ◌*◌, ◌/◌, ◌%◌, ◌^◌, Option, None, Some, List, find, cond, Bool, false}
 use Rattle.chain_book.specs.declared.outcome.Hashed.{Hashed}
 use Rattle.chain_book.specs.Chains.{keeps, waits, waits_as}
+use Rattle.sock_card.specs.declared.card.Card.{Card}
+use Rattle.sock_card.specs.declared.words.CardWords.{CardWords}
 use Rattle.table_rule.specs.Lists.{Each}
 use Rattle.table_rule.specs.declared.view.Seen.{Seen}
 use Rattle.shared_sockets.specs.Rows.{row_of, HasCard}
@@ -9,6 +11,8 @@ use Rattle.shared_sockets.specs.declared.survey.Newcomer.{Newcomer}
 use Rattle.shared_sockets.specs.declared.survey.Sought.{Sought}
 use Rattle.shared_sockets.specs.declared.survey.Sought.TheVariants as seeks
 use Rattle.shared_sockets.specs.declared.survey.Survey.{Survey}
+use Rattle.shared_sockets.specs.declared.survey.Sign.{Sign}
+use Rattle.shared_sockets.specs.declared.survey.Sign.TheVariants as signs
 
 -- the first of a chain that keeps the newcomer's four-tuple from it
 abbrev pub keeper_in : Newcomer → List Hashed → Option Hashed
@@ -44,3 +48,16 @@ noted sought survey x =
       keeper = first_of survey.keeper (keeps_out sought x) x;
       waiting = first_of survey.waiting (goes_out sought x) x;
     }
+
+-- what the words of a card have that keeps a newcomer's four-tuple from it or waits as is sought: both addresses and
+-- both ports, or the name
+abbrev pub ends_sign : Card → Sign
+ends_sign card = signs.Ends (card.local * 2 ^ 32 + card.remote) (card.lport * 2 ^ 16 + card.rport)
+
+abbrev pub sign_of : Sought → Sign
+sign_of (seeks.Room new) = ends_sign new.card
+sign_of (seeks.Waiting name) = signs.Name name
+
+abbrev pub has_sign : Sign → CardWords → Bool
+has_sign (signs.Ends addresses ports) w = (w.ends == addresses) && (w.ports / 2 ^ 32 == ports)
+has_sign (signs.Name name) w = w.name % 2 ^ 32 == name

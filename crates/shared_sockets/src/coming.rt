@@ -1,6 +1,6 @@
 //! Sockets that come into their chains.
 
-ghost use Rattle.std.specs.Prelude.{◌≡◌, ◌+◌, ◌<◌, ◌≤◌, ◌^◌, [], true, Some, vec_len, vec_capacity, IfOk};
+ghost use Rattle.std.specs.Prelude.{◌≡◌, ◌+◌, ◌<◌, ◌≤◌, ◌^◌, [], true, Some, IfOk};
 ghost use Rattle.bucket_locks.specs.Locks.{IsAt, WalkKnown};
 ghost use Rattle.chain_book.specs.Homes.{home};
 ghost use Rattle.chain_book.specs.Tuples.{claims_tuple};
@@ -14,6 +14,7 @@ ghost use Rattle.shared_sockets.specs.declared.survey.Sought.TheVariants as seek
 ghost use Rattle.sock_card.specs.Words.{packed, unpacked};
 ghost use Rattle.sock_card.specs.declared.card.Kind.TheVariants as kinds;
 ghost use Rattle.std.specs.Option.{option_map};
+ghost use Rattle.table_rule.specs.Changes.{len_of, capacity_of};
 ghost use Rattle.table_rule.specs.Calls.{IsIdle, HasShares, layout_of};
 ghost use Rattle.table_rule.specs.Passes.{IsPassOf, known};
 ghost use Rattle.table_rule.specs.Plays.{PlacesApart};
@@ -49,7 +50,7 @@ pub fn take_out(chains: &Chains, pass: &mut Pass, locked: &Locked, found: &Optio
     requires table { IsPassOf chains.now pass.old }
     requires at { IsAt (layout_of chains.now) locked.now (known pass.old) × (locked.now.started ≡ true) }
     requires idle { IsIdle (known pass.old).slot × ((known pass.old).book.opened ≡ []) }
-    requires room { vec_len pass.old.changes < vec_capacity pass.old.changes }
+    requires room { len_of pass.old.changes < capacity_of pass.old.changes }
     requires share { HasShares 2 (known pass.old) }
     requires whole { ((known pass.old).chain.met ≡ 1) × ((known pass.old).chain.ahead ≡ []) }
     requires known { WalkKnown (layout_of chains.now) (known pass.old) }
@@ -62,8 +63,8 @@ pub fn take_out(chains: &Chains, pass: &mut Pass, locked: &Locked, found: &Optio
     ensures stay { (x : Stood) → found.now ≡ Some x → OthersStay x.slot (known pass.old) (known pass.new) }
     ensures share { TwoDrawn (known pass.old) (known pass.new) }
     ensures hand { pass.new.steps.seat.me.1 ≡ pass.old.steps.seat.me.1 }
-    ensures room { vec_capacity pass.new.changes ≡ vec_capacity pass.old.changes }
-    ensures len { vec_len pass.new.changes ≤ vec_len pass.old.changes + 1 }
+    ensures room { capacity_of pass.new.changes ≡ capacity_of pass.old.changes }
+    ensures len { len_of pass.new.changes ≤ len_of pass.old.changes + 1 }
 {
     if let Some(found) = found {
         unhash_slot(chains, pass, locked, found.slot, &found.card);
@@ -97,7 +98,7 @@ fn admit(
     requires at { IsAt (layout_of chains.now) locked.now (known pass.old) × (locked.now.started ≡ true) }
     requires idle { IsIdle (known pass.old).slot × ((known pass.old).book.opened ≡ []) }
     requires from { from ≤ (layout_of chains.now).shape.slots }
-    requires room { vec_len pass.old.changes + 2 ≤ vec_capacity pass.old.changes }
+    requires room { len_of pass.old.changes + 2 ≤ capacity_of pass.old.changes }
     requires share { HasShares 4 (known pass.old) }
     requires whole { ((known pass.old).chain.met ≡ 1) × ((known pass.old).chain.ahead ≡ []) }
     requires known { WalkKnown (layout_of chains.now) (known pass.old) }
@@ -114,8 +115,8 @@ fn admit(
     ensures stay { PlacesStay (known pass.old) (known pass.new) }
     ensures share { FourDrawn (known pass.old) (known pass.new) }
     ensures hand { pass.new.steps.seat.me.1 ≡ pass.old.steps.seat.me.1 }
-    ensures room { vec_capacity pass.new.changes ≡ vec_capacity pass.old.changes }
-    ensures len { vec_len pass.new.changes ≤ vec_len pass.old.changes + 2 }
+    ensures room { capacity_of pass.new.changes ≡ capacity_of pass.old.changes }
+    ensures len { len_of pass.new.changes ≤ len_of pass.old.changes + 2 }
 {
     if let Some(keeper) = survey.keeper {
         return Err(InsertEnd::Taken(keeper.card.name));
@@ -154,7 +155,7 @@ pub fn insert<R: Wait>(
     requires idle { IsIdle (known pass.old).slot × ((known pass.old).book.opened ≡ []) }
     requires free { (known pass.old).chain.locked ≡ [] }
     requires from { from ≤ (layout_of chains.now).shape.slots }
-    requires room { vec_len pass.old.changes + 2 ≤ vec_capacity pass.old.changes }
+    requires room { len_of pass.old.changes + 2 ≤ capacity_of pass.old.changes }
     requires share { HasShares 4 (known pass.old) }
     ensures table { IsPassOf chains.now pass.new }
     ensures idle { IsIdle (known pass.new).slot × ((known pass.new).book.opened ≡ []) }
@@ -165,8 +166,8 @@ pub fn insert<R: Wait>(
     ensures stay { PlacesStay (known pass.old) (known pass.new) }
     ensures share { FourDrawn (known pass.old) (known pass.new) }
     ensures hand { pass.new.steps.seat.me.1 ≡ pass.old.steps.seat.me.1 }
-    ensures room { vec_capacity pass.new.changes ≡ vec_capacity pass.old.changes }
-    ensures len { vec_len pass.new.changes ≤ vec_len pass.old.changes + 2 }
+    ensures room { capacity_of pass.new.changes ≡ capacity_of pass.old.changes }
+    ensures len { len_of pass.new.changes ≤ len_of pass.old.changes + 2 }
 {
     let mut locked = lock(chains, rt, &mut pass.steps, bucket);
     let survey = survey_chain(chains, &mut pass.steps, &mut locked, &Sought::Room(*new));
@@ -194,7 +195,7 @@ pub fn add<R: Wait>(
     requires idle { IsIdle (known pass.old).slot × ((known pass.old).book.opened ≡ []) }
     requires free { (known pass.old).chain.locked ≡ [] }
     requires from { from ≤ (layout_of chains.now).shape.slots }
-    requires room { vec_len pass.old.changes < vec_capacity pass.old.changes }
+    requires room { len_of pass.old.changes < capacity_of pass.old.changes }
     requires share { HasShares 2 (known pass.old) }
     ensures table { IsPassOf chains.now pass.new }
     ensures idle { IsIdle (known pass.new).slot × ((known pass.new).book.opened ≡ []) }
@@ -205,8 +206,8 @@ pub fn add<R: Wait>(
     ensures stay { PlacesStay (known pass.old) (known pass.new) }
     ensures share { TwoDrawn (known pass.old) (known pass.new) }
     ensures hand { pass.new.steps.seat.me.1 ≡ pass.old.steps.seat.me.1 }
-    ensures room { vec_capacity pass.new.changes ≡ vec_capacity pass.old.changes }
-    ensures len { vec_len pass.new.changes ≤ vec_len pass.old.changes + 1 }
+    ensures room { capacity_of pass.new.changes ≡ capacity_of pass.old.changes }
+    ensures len { len_of pass.new.changes ≤ len_of pass.old.changes + 1 }
 {
     let mut locked = lock(chains, rt, &mut pass.steps, bucket);
     walk_to_end(chains, &mut pass.steps, &mut locked);

@@ -1,6 +1,6 @@
 //! A handshake that is over: the request's socket comes in its stead.
 
-ghost use Rattle.std.specs.Prelude.{◌≡◌, ◌+◌, ◌<◌, ◌≤◌, [], length, true, vec_len, vec_capacity, IfOk, IfErr};
+ghost use Rattle.std.specs.Prelude.{◌≡◌, ◌+◌, ◌<◌, ◌≤◌, [], length, true, IfOk, IfErr};
 ghost use Rattle.bucket_locks.specs.Locks.{IsAt, WalkKnown};
 ghost use Rattle.chain_book.specs.Homes.{home};
 ghost use Rattle.chain_book.specs.Tuples.{same_cards};
@@ -9,6 +9,7 @@ ghost use Rattle.shared_sockets.specs.Alone.{HandsAlone};
 ghost use Rattle.shared_sockets.specs.Comings.{FourDrawn};
 ghost use Rattle.shared_sockets.specs.Handovers.{HandsOver, HandsTo};
 ghost use Rattle.sock_card.specs.declared.card.Kind.TheVariants as kinds;
+ghost use Rattle.table_rule.specs.Changes.{len_of, capacity_of};
 ghost use Rattle.table_rule.specs.Calls.{IsIdle, HasShares, MayUnlock, layout_of};
 ghost use Rattle.table_rule.specs.Passes.{IsPassOf, known};
 ghost use Rattle.table_rule.specs.Plays.{PlacesApart, TuplesListed};
@@ -40,7 +41,7 @@ fn replace_request(
     requires tuple { same_cards card.now request.card ≡ true }
     requires idle { IsIdle (known pass.old).slot × ((known pass.old).book.opened ≡ []) }
     requires from { from ≤ (layout_of chains.now).shape.slots }
-    requires room { vec_len pass.old.changes + 2 ≤ vec_capacity pass.old.changes }
+    requires room { len_of pass.old.changes + 2 ≤ capacity_of pass.old.changes }
     requires share { HasShares 4 (known pass.old) }
     requires whole { ((known pass.old).chain.met ≡ 1) × ((known pass.old).chain.ahead ≡ []) }
     requires known { WalkKnown (layout_of chains.now) (known pass.old) }
@@ -59,8 +60,8 @@ fn replace_request(
     ensures all { IfErr result (λ e. PlacesStay (known pass.old) (known pass.new)) }
     ensures share { FourDrawn (known pass.old) (known pass.new) }
     ensures hand { pass.new.steps.seat.me.1 ≡ pass.old.steps.seat.me.1 }
-    ensures room { vec_capacity pass.new.changes ≡ vec_capacity pass.old.changes }
-    ensures len { vec_len pass.new.changes ≤ vec_len pass.old.changes + 2 }
+    ensures room { capacity_of pass.new.changes ≡ capacity_of pass.old.changes }
+    ensures len { len_of pass.new.changes ≤ len_of pass.old.changes + 2 }
 {
     is_told(card);
     is_told(&request.card);
@@ -99,7 +100,7 @@ pub fn hand_over<R: Wait>(
     requires idle { IsIdle (known pass.old).slot × ((known pass.old).book.opened ≡ []) }
     requires free { (known pass.old).chain.locked ≡ [] }
     requires from { from ≤ (layout_of chains.now).shape.slots }
-    requires room { vec_len pass.old.changes + 2 ≤ vec_capacity pass.old.changes }
+    requires room { len_of pass.old.changes + 2 ≤ capacity_of pass.old.changes }
     requires share { HasShares 4 (known pass.old) }
     ensures table { IsPassOf chains.now pass.new }
     ensures idle { IsIdle (known pass.new).slot × ((known pass.new).book.opened ≡ []) }
@@ -114,8 +115,8 @@ pub fn hand_over<R: Wait>(
     ensures all { IfErr result (λ e. PlacesStay (known pass.old) (known pass.new)) }
     ensures share { FourDrawn (known pass.old) (known pass.new) }
     ensures hand { pass.new.steps.seat.me.1 ≡ pass.old.steps.seat.me.1 }
-    ensures room { vec_capacity pass.new.changes ≡ vec_capacity pass.old.changes }
-    ensures len { vec_len pass.new.changes ≤ vec_len pass.old.changes + 2 }
+    ensures room { capacity_of pass.new.changes ≡ capacity_of pass.old.changes }
+    ensures len { len_of pass.new.changes ≤ len_of pass.old.changes + 2 }
 {
     let mut locked = lock(chains, rt, &mut pass.steps, place.bucket);
     walk_to_end(chains, &mut pass.steps, &mut locked);

@@ -1,12 +1,13 @@
 //! Sockets that leave their chains, and the TIME_WAITs that they leave there.
 
-ghost use Rattle.std.specs.Prelude.{◌≡◌, ◌+◌, ◌<◌, ◌≤◌, [], vec_len, vec_capacity};
+ghost use Rattle.std.specs.Prelude.{◌≡◌, ◌+◌, ◌<◌, ◌≤◌, []};
 ghost use Rattle.chain_book.specs.Homes.{home};
 ghost use Rattle.nulls_chain.specs.Changes.{IsPlaced, OthersStay, OtherPlacesStay, PlacesStay, TwoDrawn};
 ghost use Rattle.shared_sockets.specs.Alone.{LeavesAlone, ReapsAlone, WaitsAlone};
 ghost use Rattle.shared_sockets.specs.Comings.{FourDrawn};
 ghost use Rattle.shared_sockets.specs.Leavings.{Leaves, Reaps, Waits};
 ghost use Rattle.sock_card.specs.declared.card.Kind.TheVariants as kinds;
+ghost use Rattle.table_rule.specs.Changes.{len_of, capacity_of};
 ghost use Rattle.table_rule.specs.Calls.{IsIdle, HasShares, layout_of};
 ghost use Rattle.table_rule.specs.Passes.{IsPassOf, known};
 ghost use Rattle.table_rule.specs.Words.{bucket_count};
@@ -30,7 +31,7 @@ pub fn remove<R: Wait>(chains: &Chains, rt: &R, pass: &mut Pass, place: Place)
     requires place { IsPlaced place (known pass.old).book }
     requires idle { IsIdle (known pass.old).slot × ((known pass.old).book.opened ≡ []) }
     requires free { (known pass.old).chain.locked ≡ [] }
-    requires room { vec_len pass.old.changes < vec_capacity pass.old.changes }
+    requires room { len_of pass.old.changes < capacity_of pass.old.changes }
     requires share { HasShares 2 (known pass.old) }
     ensures table { IsPassOf chains.now pass.new }
     ensures idle { IsIdle (known pass.new).slot × ((known pass.new).book.opened ≡ []) }
@@ -41,8 +42,8 @@ pub fn remove<R: Wait>(chains: &Chains, rt: &R, pass: &mut Pass, place: Place)
     ensures others { OtherPlacesStay place (known pass.old) (known pass.new) }
     ensures share { TwoDrawn (known pass.old) (known pass.new) }
     ensures hand { pass.new.steps.seat.me.1 ≡ pass.old.steps.seat.me.1 }
-    ensures room { vec_capacity pass.new.changes ≡ vec_capacity pass.old.changes }
-    ensures len { vec_len pass.new.changes ≡ vec_len pass.old.changes + 1 }
+    ensures room { capacity_of pass.new.changes ≡ capacity_of pass.old.changes }
+    ensures len { len_of pass.new.changes ≡ len_of pass.old.changes + 1 }
 {
     let mut locked = lock(chains, rt, &mut pass.steps, place.bucket);
     unhash(chains, pass, &mut locked, place);
@@ -71,7 +72,7 @@ pub fn time_wait<R: Wait>(
     requires idle { IsIdle (known pass.old).slot × ((known pass.old).book.opened ≡ []) }
     requires free { (known pass.old).chain.locked ≡ [] }
     requires from { from ≤ (layout_of chains.now).shape.slots }
-    requires room { vec_len pass.old.changes + 2 ≤ vec_capacity pass.old.changes }
+    requires room { len_of pass.old.changes + 2 ≤ capacity_of pass.old.changes }
     requires share { HasShares 4 (known pass.old) }
     ensures table { IsPassOf chains.now pass.new }
     ensures idle { IsIdle (known pass.new).slot × ((known pass.new).book.opened ≡ []) }
@@ -82,8 +83,8 @@ pub fn time_wait<R: Wait>(
     ensures others { OtherPlacesStay place (known pass.old) (known pass.new) }
     ensures share { FourDrawn (known pass.old) (known pass.new) }
     ensures hand { pass.new.steps.seat.me.1 ≡ pass.old.steps.seat.me.1 }
-    ensures room { vec_capacity pass.new.changes ≡ vec_capacity pass.old.changes }
-    ensures len { vec_len pass.new.changes ≤ vec_len pass.old.changes + 2 }
+    ensures room { capacity_of pass.new.changes ≡ capacity_of pass.old.changes }
+    ensures len { len_of pass.new.changes ≤ len_of pass.old.changes + 2 }
 {
     let mut locked = lock(chains, rt, &mut pass.steps, place.bucket);
     walk_to_end(chains, &mut pass.steps, &mut locked);
@@ -110,7 +111,7 @@ pub fn remove_tw<R: Wait>(
     requires bucket { bucket < bucket_count (layout_of chains.now) }
     requires idle { IsIdle (known pass.old).slot × ((known pass.old).book.opened ≡ []) }
     requires free { (known pass.old).chain.locked ≡ [] }
-    requires room { vec_len pass.old.changes < vec_capacity pass.old.changes }
+    requires room { len_of pass.old.changes < capacity_of pass.old.changes }
     requires share { HasShares 2 (known pass.old) }
     ensures table { IsPassOf chains.now pass.new }
     ensures idle { IsIdle (known pass.new).slot × ((known pass.new).book.opened ≡ []) }
@@ -120,8 +121,8 @@ pub fn remove_tw<R: Wait>(
     ensures stay { PlacesStay (known pass.old) (known pass.new) }
     ensures share { TwoDrawn (known pass.old) (known pass.new) }
     ensures hand { pass.new.steps.seat.me.1 ≡ pass.old.steps.seat.me.1 }
-    ensures room { vec_capacity pass.new.changes ≡ vec_capacity pass.old.changes }
-    ensures len { vec_len pass.new.changes ≤ vec_len pass.old.changes + 1 }
+    ensures room { capacity_of pass.new.changes ≡ capacity_of pass.old.changes }
+    ensures len { len_of pass.new.changes ≤ len_of pass.old.changes + 1 }
 {
     let mut locked = lock(chains, rt, &mut pass.steps, bucket);
     let survey = survey_chain(chains, &mut pass.steps, &mut locked, &Sought::Waiting(name));

@@ -5,13 +5,14 @@ ghost use Rattle.bucket_locks.specs.Locks.{IsAt, WalkKnown};
 ghost use Rattle.nulls_chain.specs.Changes.{WasChain};
 ghost use Rattle.shared_sockets.specs.Surveys as spec;
 ghost use Rattle.shared_sockets.specs.Surveys.{Surveyed, noted};
+ghost use Rattle.sock_card.specs.Words.{unpacked};
 ghost use Rattle.table_rule.specs.Calls.{IsOf, IsIdle, Becomes, view, layout_of};
 ghost use Rattle.table_rule.specs.Plays.{PlacesApart};
 
 use bucket_locks::Locked;
 use chain_book::{Hashed, Replace, keeps_from, waits_at};
 use nulls_chain::walk;
-use sock_card::{Card, Kind, unpack};
+use sock_card::{Card, CardWords, Kind, unpack};
 use table_rule::{Chains, Steps};
 
 /// A card that is to come at a moment, in seconds, and the rule on which TIME_WAIT gives way to it.
@@ -36,6 +37,48 @@ pub enum Sought {
 pub struct Survey {
     pub keeper: Option<Hashed>,
     pub waiting: Option<Hashed>,
+}
+
+/// What a card's words have where it may be what is sought: by it most cards are passed over without being unpacked.
+#[derive(Clone, Copy)]
+pub enum Sign {
+    /// A four-tuple's addresses, the local one above the remote one, and so its ports.
+    Ends(u64, u64),
+    Name(u64),
+}
+
+/// Where the upper half of a word begins.
+const UPPER: u64 = 1 << 32;
+
+/// Where the local port begins, above the remote one.
+const LOCAL_PORT: u64 = 1 << 16;
+
+fn ends_sign(card: &Card) -> Sign
+    ensures { result ≡ spec.ends_sign card.now }
+{
+    Sign::Ends(
+        u64::from(card.local) * UPPER + u64::from(card.remote),
+        u64::from(card.lport) * LOCAL_PORT + u64::from(card.rport),
+    )
+}
+
+fn sign_of(sought: &Sought) -> Sign
+    ensures { result ≡ spec.sign_of sought.now }
+{
+    match sought {
+        Sought::Room(new) => ends_sign(&new.card),
+        Sought::Waiting(name) => Sign::Name(u64::from(*name)),
+    }
+}
+
+#[inline(always)]
+fn has_sign(sign: Sign, words: &CardWords) -> bool
+    ensures { result ≡ spec.has_sign sign words.now }
+{
+    match sign {
+        Sign::Ends(addresses, ports) => words.ends == addresses && words.ports / UPPER == ports,
+        Sign::Name(name) => words.name % UPPER == name,
+    }
 }
 
 fn keeps_out(sought: &Sought, stood: &Hashed) -> bool
@@ -75,6 +118,29 @@ fn note(survey: &Survey, sought: &Sought, stood: Hashed) -> Survey
     Survey { keeper, waiting }
 }
 
+// Not inlined, since it comes so seldom: so a walk keeps its own numbers in registers.
+#[inline(never)]
+fn note_words(survey: &mut Survey, sought: &Sought, slot: u32, words: CardWords)
+    ensures { survey.new ≡ noted sought.now survey.old (record { slot = slot; card = unpacked words }) }
+{
+    let stood = Hashed {
+        slot,
+        card: unpack(&words),
+    };
+    *survey = note(survey, sought, stood);
+}
+
+/// What is known once the words of a further card were read.
+#[inline(always)]
+fn visit(survey: &mut Survey, sought: &Sought, sign: Sign, slot: u32, words: CardWords)
+    requires { sign ≡ spec.sign_of sought.now }
+    ensures { survey.new ≡ noted sought.now survey.old (record { slot = slot; card = unpacked words }) }
+{
+    if has_sign(sign, &words) {
+        note_words(survey, sought, slot, words);
+    }
+}
+
 /// Walks the whole chain of a bucket that was just locked.
 pub fn survey_chain(
     chains: &Chains,
@@ -100,16 +166,20 @@ pub fn survey_chain(
         keeper: None,
         waiting: None,
     };
+    let sign = sign_of(sought);
+    // How far the walk has come, in registers, which the caller is told at the end.
+    let mut here = Locked {
+        bucket: locked.bucket,
+        started: false,
+        link: 0,
+    };
     for _count in 0..u64::from(chains.slot_count()) + 1 {
-        match walk(chains, steps, locked) {
-            None => return survey,
-            Some((slot, words)) => {
-                let stood = Hashed {
-                    slot,
-                    card: unpack(&words),
-                };
-                survey = note(&survey, sought, stood);
+        match walk(chains, steps, &mut here) {
+            None => {
+                *locked = here;
+                return survey;
             }
+            Some((slot, words)) => visit(&mut survey, sought, sign, slot, words),
         }
     }
     unreachable!()

@@ -1,10 +1,11 @@
 //! A connected socket comes into a shared chain, keeps its twin out, and leaves a TIME_WAIT that gives way to it; and a
 //! request hands over to its socket.
 
-ghost use Rattle.std.specs.Prelude.{◌≡◌, ◌+◌, ◌≤◌, ◌<◌, [], true, vec_len, vec_capacity};
+ghost use Rattle.std.specs.Prelude.{◌≡◌, ◌+◌, ◌≤◌, ◌<◌, [], true};
 ghost use Rattle.chain_book.specs.Homes.{home};
 ghost use Rattle.chain_book.specs.Tuples.{claims_tuple, same_cards};
 ghost use Rattle.sock_card.specs.declared.card.Kind.TheVariants as kinds;
+ghost use Rattle.table_rule.specs.Changes.{len_of, capacity_of};
 ghost use Rattle.table_rule.specs.Calls.{HasShares, IsIdle, layout_of};
 ghost use Rattle.table_rule.specs.Passes.{IsPassOf, known};
 ghost use Rattle.table_rule.specs.Words.{bucket_count};
@@ -74,7 +75,7 @@ fn come<R: Wait>(chains: &Chains, rt: &R, pass: &mut Pass, bucket: u32, new: &Ne
     requires idle { IsIdle (known pass.old).slot × ((known pass.old).book.opened ≡ []) }
     requires free { (known pass.old).chain.locked ≡ [] }
     requires share { HasShares 4 (known pass.old) }
-    requires room { vec_len pass.old.changes + 2 ≤ vec_capacity pass.old.changes }
+    requires room { len_of pass.old.changes + 2 ≤ capacity_of pass.old.changes }
 {
     match insert(chains, rt, pass, bucket, 0, new) {
         Ok(inserted) if inserted.replaced.is_some() => 2,
@@ -101,7 +102,7 @@ fn come_after<R: Wait>(
     requires idle { IsIdle (known pass.old).slot × ((known pass.old).book.opened ≡ []) }
     requires free { (known pass.old).chain.locked ≡ [] }
     requires share { HasShares 12 (known pass.old) }
-    requires room { vec_len pass.old.changes + 6 ≤ vec_capacity pass.old.changes }
+    requires room { len_of pass.old.changes + 6 ≤ capacity_of pass.old.changes }
 {
     match insert(chains, rt, pass, bucket, 0, new) {
         Ok(inserted) => match time_wait(chains, rt, pass, inserted.place, 0, waiting) {
@@ -131,7 +132,7 @@ fn shake_hands<R: Wait>(
     requires idle { IsIdle (known pass.old).slot × ((known pass.old).book.opened ≡ []) }
     requires free { (known pass.old).chain.locked ≡ [] }
     requires share { HasShares 12 (known pass.old) }
-    requires room { vec_len pass.old.changes + 6 ≤ vec_capacity pass.old.changes }
+    requires room { len_of pass.old.changes + 6 ≤ capacity_of pass.old.changes }
 {
     let Ok(inserted) = insert(chains, rt, pass, bucket, 0, request) else {
         return 5;

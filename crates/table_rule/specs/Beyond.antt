@@ -1,4 +1,4 @@
--- What lives are to each other, in which order chains have them, and that what was seen stays true.
+-- What lives are to each other, in which order chains have them, and that what was seen stays true. Our own.
 use Rattle.std.specs.Prelude.{◌≡◌, ℕ, ◌+◌, ◌<◌, ◌≤◌, List, [], ◌∷◌, ◌++◌, ◌⊎◌, slice_set}
 use mathlib.Core.Option.{some}
 use Rattle.sock_card.specs.Words.{packed, unpacked}

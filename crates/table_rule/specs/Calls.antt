@@ -1,4 +1,4 @@
--- What the calls ask and say.
+-- What the calls ask and say. Our own.
 use Rattle.std.specs.Prelude.{◌≡◌, ℕ, ◌<◌, ◌≤◌, ◌+◌, ◌*◌, ◌%◌, ◌⊎◌, List, [], ◌∷◌, ◌++◌, length}
 use Rattle.table_rule.specs.declared.view.SlotView.{SlotView}
 use Rattle.sock_card.specs.declared.words.CardWords.{CardWords}

@@ -1,4 +1,4 @@
--- What views know of card words, and that no chain has two lit cards of one four-tuple.
+-- What views know of card words, and that no chain has two lit cards of one four-tuple. Our own.
 use Rattle.std.specs.Prelude.{◌≡◌, ◌≢◌, ℕ, ◌+◌, ◌*◌, ◌/◌, ◌%◌, ◌<◌, ◌≤◌, List, [], ◌∷◌, Bool, true, cond, ◌==◌}
 use mathlib.Core.Option.{some}
 use lib.ListN.{get_elem?}

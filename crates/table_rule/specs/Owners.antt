@@ -1,4 +1,4 @@
--- Who unhashes what: a card that is no TIME_WAIT's is unhashed by the pass that hashed it, and by no other.
+-- Who unhashes what: a card that is no TIME_WAIT's is unhashed by the pass that hashed it, and by no other. Our own.
 use Rattle.std.specs.Prelude.{◌≡◌, ℕ, ◌<◌, ◌%◌, ◌⊎◌, List, cond, ◌==◌, slice_index}
 use mathlib.Core.Option.{some}
 use lib.ListN.{get_elem?}

@@ -1,10 +1,11 @@
--- Words for passes: what they know, and what splitting and joining make of it.
-use Rattle.std.specs.Prelude.{ℕ, ◌*◌, ◌-◌, ◌≤◌, List, [], length, vec_len, vec_capacity}
+-- Words for passes: what they know, and what splitting and joining make of it. Our own.
+use Rattle.std.specs.Prelude.{ℕ, ◌*◌, ◌-◌, ◌≤◌, List, [], length}
 use Rattle.atomic_table.specs.Table.{Me}
 use Rattle.table_rule.specs.declared.view.View.{View}
 use Rattle.table_rule.specs.declared.view.Change.{Change}
 use Rattle.table_rule.specs.declared.table.Chains.{Chains}
 use Rattle.table_rule.specs.declared.pass.Pass.{Pass}
+use Rattle.table_rule.specs.Changes.{capacity_of, len_of}
 use Rattle.table_rule.specs.Rule.{drawn}
 use Rattle.table_rule.specs.Plays.{cut, newcomer, both}
 use Rattle.table_rule.specs.Calls.{view, IsOf}
@@ -25,9 +26,9 @@ drawn_by pass = drawn (known pass)
 abbrev pub changed_by : Pass → List Change
 changed_by pass = (known pass).book.closed
 
--- how many changes more it can keep without growth
+-- how many changes more it can have without growth
 abbrev pub room_of : Pass → ℕ
-room_of pass = vec_capacity pass.changes - vec_len pass.changes
+room_of pass = capacity_of pass.changes - len_of pass.changes
 
 -- it is a pass of this table
 abbrev pub IsPassOf : Chains → Pass → Type 0

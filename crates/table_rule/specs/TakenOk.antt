@@ -1,4 +1,4 @@
--- Counts taken: a state with a count is read only where some pass has taken one.
+-- Counts taken: a state with a count is read only where some pass has taken one. Our own.
 use Rattle.std.specs.Prelude.{◌≡◌, ℕ, ◌<◌, ◌≤◌, List, length}
 use mathlib.Core.Option.{some}
 use lib.ListN.{get_elem?}

@@ -1,4 +1,4 @@
--- How the receipt of a whole lookup follows from a pass's own receipts and sightings.
+-- How the receipt of a whole lookup follows from a pass's own receipts and sightings. Our own.
 use Rattle.std.specs.Prelude.{◌≡◌, ℕ, ◌<◌, ◌≤◌, List, [], ◌∷◌, ◌⊎◌, ◌++◌, length}
 use mathlib.Core.Option.{some}
 use lib.ListN.{get_elem?}

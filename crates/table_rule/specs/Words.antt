@@ -1,5 +1,5 @@
 -- Where the words lie: the clock at 0, a head and a lock for each bucket, and for each slot its state, link and four
--- card words.
+-- card words. Our own.
 use Rattle.std.specs.Prelude.{ℕ, ◌+◌, ◌*◌, List, [], ◌∷◌, slice_index}
 use Rattle.chain_book.specs.Homes.{chain_count, home}
 use Rattle.sock_card.specs.Words.{unpacked}

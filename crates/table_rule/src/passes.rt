@@ -1,40 +1,52 @@
-ghost use Rattle.std.specs.Prelude.{◌≡◌, ◌+◌, ◌-◌, ◌*◌, ◌≤◌, ◌<◌, ◌^◌, [], ◌++◌, map, length, vec_len, vec_capacity, OnOk, IfOk};
+ghost use Rattle.std.specs.Prelude.{◌≡◌, ◌+◌, ◌-◌, ◌≤◌, ◌<◌, ◌^◌, [], map, true, false, OnOk, IfOk};
+ghost use Rattle.table_rule.specs.Changes.{are_kept, list_of, len_of, capacity_of};
 ghost use Rattle.table_rule.specs.Closes.{change_of};
-ghost use Rattle.table_rule.specs.Calls.{view, IsOf};
+ghost use Rattle.table_rule.specs.Calls.{view};
 ghost use Rattle.table_rule.specs.Rule.{first};
 ghost use Rattle.table_rule.specs.Passes.{known, seen_by, drawn_by, changed_by, room_of, IsPassOf, HasShareLeft, cut_of, new_of, joined_of};
 ghost use Rattle.table_rule.specs.Plays.{IsFree};
 
+use super::changes::Changes;
 use super::pass::Pass;
 use super::table::Chains;
 use chain_book::{Change, Shape};
 use std::alloc::{AllocError, Global};
 
 impl Pass {
-    /// All changes that it closed, and those of the passes that it joined.
+    /// All changes that it closed, and those of the passes that it joined: none where it only counts them.
     pub fn changes(&self) -> &[Change]
-        ensures { map change_of result.now ≡ changed_by self.now }
+        ensures list { result.now ≡ list_of self.now.changes }
+        ensures all { are_kept self.now.changes ≡ true → map change_of result.now ≡ changed_by self.now }
     {
         self.changes.as_slice()
     }
 
-    /// Makes room for so many changes more.
+    /// Makes room for so many changes more, which takes memory where they are kept.
     ///
     /// Where memory is wanting nothing has changed.
     pub fn reserve(&mut self, count: usize) -> Result<(), AllocError>
         ensures steps { self.new.steps ≡ self.old.steps }
-        ensures changes { self.new.changes.items ≡ self.old.changes.items }
-        ensures len { vec_len self.new.changes ≡ vec_len self.old.changes }
-        ensures room { OnOk result (vec_len self.old.changes + count ≤ vec_capacity self.new.changes) }
+        ensures kept { are_kept self.new.changes ≡ are_kept self.old.changes }
+        ensures list { list_of self.new.changes ≡ list_of self.old.changes }
+        ensures len { len_of self.new.changes ≡ len_of self.old.changes }
+        ensures room { OnOk result (len_of self.old.changes + count ≤ capacity_of self.new.changes) }
     {
         self.changes.reserve(count)
     }
 
-    /// How many changes can still be kept without growth.
+    /// From now on it counts its changes and keeps none. Those that it kept so far are let go.
+    pub fn count_only(&mut self)
+        ensures steps { self.new.steps ≡ self.old.steps }
+        ensures kept { are_kept self.new.changes ≡ false }
+    {
+        self.changes.count_only();
+    }
+
+    /// How many changes there can still be without growth.
     pub fn room(&self) -> usize
         ensures { result ≡ room_of self.now }
     {
-        self.changes.capacity() - self.changes.len()
+        self.changes.room()
     }
 
     /// The greatest value of the clock that it knows.
@@ -57,19 +69,8 @@ impl Pass {
     }
 }
 
-fn append_reserved(all: &mut Vec<Change>, more: &[Change])
-    requires { vec_len all.old + length more.now ≤ vec_capacity all.old }
-    ensures items { all.new.items ≡ all.old.items ++ more.now }
-    ensures len { vec_len all.new ≡ vec_len all.old + length more.now }
-    ensures room { vec_capacity all.new ≡ vec_capacity all.old }
-{
-    for change in more {
-        all.push_reserved(*change);
-    }
-}
-
 impl Chains {
-    /// A table in which all slots are free and all chains empty, and its first pass.
+    /// A table in which all slots are free and all chains empty, and its first pass, which keeps its changes.
     ///
     /// The seed is that of the hashes by which cards have their buckets. It takes memory for eight bytes a word, and
     /// as much again while it is made.
@@ -78,15 +79,17 @@ impl Chains {
         ensures pass { IfOk result (λ t. IsPassOf t.0 t.1) }
         ensures layout { IfOk result (λ t. t.0.layout ≡ record { shape = shape; seed = seed }) }
         ensures first { IfOk result (λ t. t.1.steps.seat.me ≡ (first t.0.layout, [])) }
+        ensures kept { IfOk result (λ t. are_kept t.1.changes ≡ true) }
     {
         let (chains, steps) = Chains::of_shape(alloc, shape, seed)?;
-        let changes = Vec::new(alloc);
+        let changes = Changes::new(alloc);
         Ok((chains, Pass { steps, changes }))
     }
 
     /// A second pass, with one part of the first one's right to know the whole table.
     ///
-    /// It has seen what the first has seen, and has no changes. It takes no memory.
+    /// It has seen what the first has seen, has no changes, and keeps those to come where the first does. It takes no
+    /// memory.
     pub fn split(&self, alloc: Global, pass: &mut Pass) -> Pass
         requires table { IsPassOf self.now pass.old }
         requires parts { 1 < (known pass.old).slot.parts }
@@ -95,10 +98,11 @@ impl Chains {
         ensures old { pass.new.steps.seat.me ≡ cut_of pass.old }
         ensures new { result.steps.seat.me ≡ new_of pass.old }
         ensures changes { pass.new.changes ≡ pass.old.changes }
+        ensures kept { are_kept result.changes ≡ are_kept pass.old.changes }
     {
         Pass {
             steps: self.split_steps(&mut pass.steps),
-            changes: Vec::new(alloc),
+            changes: pass.changes.none_yet(alloc),
         }
     }
 
@@ -108,14 +112,16 @@ impl Chains {
     pub fn join(&self, pass: &mut Pass, other: Pass)
         requires table { IsPassOf self.now pass.old }
         requires other { IsPassOf self.now other × (other.steps.seat.me.1 ≡ []) × IsFree (known other) }
-        requires room { vec_len pass.old.changes + vec_len other.changes ≤ vec_capacity pass.old.changes }
+        requires kept { are_kept other.changes ≡ are_kept pass.old.changes }
+        requires room { len_of pass.old.changes + len_of other.changes ≤ capacity_of pass.old.changes }
         ensures table { IsPassOf self.now pass.new }
         ensures view { pass.new.steps.seat.me ≡ joined_of pass.old other }
-        ensures len { vec_len pass.new.changes ≡ vec_len pass.old.changes + vec_len other.changes }
-        ensures room { vec_capacity pass.new.changes ≡ vec_capacity pass.old.changes }
+        ensures kept { are_kept pass.new.changes ≡ are_kept pass.old.changes }
+        ensures len { len_of pass.new.changes ≡ len_of pass.old.changes + len_of other.changes }
+        ensures room { capacity_of pass.new.changes ≡ capacity_of pass.old.changes }
     {
         let Pass { steps, changes } = other;
-        append_reserved(&mut pass.changes, changes.as_slice());
+        pass.changes.append(changes);
         self.join_steps(&mut pass.steps, steps);
     }
 }

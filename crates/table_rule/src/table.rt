@@ -16,7 +16,11 @@ use std::alloc::Global;
 pub struct Chains {
     pub(crate) table: Table<(), View, Layout, Rule, Global>,
     pub(crate) layout: Layout,
+    /// Where the words of the slots begin.
+    pub(crate) first_slot: usize,
     ghost keyed: { layout ≡ table.shared.key },
+    ghost placed: { first_slot ≡ 1 + 2 * bucket_count layout },
+    ghost low: { first_slot < 2 ^ 35 },
     ghost small: { layout.shape.slots + 1 < 2 ^ 32 },
     ghost sized: { table.shared.table_id.words ≡ 1 + 2 * bucket_count layout + 6 * layout.shape.slots },
 }

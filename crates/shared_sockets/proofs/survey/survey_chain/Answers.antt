@@ -3,9 +3,8 @@ use Rattle.table_rule.specs.Plays.{Sat}
 use Rattle.table_rule.specs.Calls.{seen_of, view}
 use Rattle.table_rule.specs.declared.view.ChainView.{ChainView}
 use Rattle.table_rule.specs.declared.view.Seen.{Seen}
-use Rattle.sock_card.specs.declared.card.Card.{Card}
 use Rattle.nulls_chain.proofs.Found.{was_chain}
-use Rattle.shared_sockets.specs.Surveys.{Surveyed, noted}
+use Rattle.shared_sockets.specs.Surveys.{Surveyed}
 use Rattle.shared_sockets.specs.declared.survey.Survey.{Survey}
 use Rattle.shared_sockets.proofs.Noted.{noted_ok, length-more}
 use Rattle.shared_sockets.proofs.survey.survey_chain.Goals as goal
@@ -32,10 +31,9 @@ loop-count-preserved c =
       known = e.walked i.known;
       count = longer;
       few = omega (arith, longer, e.fits.0);
-      surveyed = subst (λ (l : List Seen). Surveyed new c.note-survey.result l) (sym list)
-          (subst (λ (x : Survey). Surveyed new x read) (sym c.note-survey.ensures)
-          (subst (λ (x : Card). Surveyed new (noted new c.loop-count.survey (record { slot = c.in-Some.slot; card = x })) read) (sym c.unpack.ensures)
-          (noted_ok new c.loop-count.survey (old.walked ++ old.ahead) next (c.in-Some.ensures.cards (search rules), c.in-Some.ensures.near.2) i.surveyed)));
+      surveyed = subst (λ (l : List Seen). Surveyed new c.visit.new.survey l) (sym list)
+          (subst (λ (x : Survey). Surveyed new x read) (sym c.visit.ensures)
+          (noted_ok new c.loop-count.survey (old.walked ++ old.ahead) next (c.in-Some.ensures.cards (search rules), c.in-Some.ensures.near.2) i.surveyed));
     }
 
 pub returns-in-None-clause-sole : goal.returns-in-None-clause-sole

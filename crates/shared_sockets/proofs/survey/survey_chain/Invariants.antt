@@ -7,10 +7,10 @@ use Rattle.shared_sockets.proofs.survey.survey_chain.Given as goal
 abbrev pub invariant-loop-count : goal.invariant-loop-count
 invariant-loop-count l = record {
   table : IsOf l.chains l.steps;
-  at : IsAt l.chains.layout l.locked (view l.steps);
-  bucket : l.locked.bucket ≡ l.initial.locked.bucket;
+  at : IsAt l.chains.layout l.here (view l.steps);
+  bucket : l.here.bucket ≡ l.initial.locked.bucket;
   kept : Becomes l.initial.steps l.steps (record (view l.initial.steps) { chain = (view l.steps).chain });
-  on : l.locked.started ≡ true → l.locked.link % 2 ≡ 0;
+  on : l.here.started ≡ true → l.here.link % 2 ≡ 0;
   known : WalkKnown l.chains.layout (view l.steps);
   count : length (view l.steps).chain.walked + length (view l.steps).chain.ahead ≡ l._count;
   few : l._count ≤ l.chains.layout.shape.slots;
