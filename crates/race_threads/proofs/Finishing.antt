@@ -20,6 +20,7 @@ use Rattle.tickets.specs.declared.pass.Tickets.{Tickets}
 use Rattle.turn_table.specs.Journals.{numbers_below}
 use Rattle.turn_table.specs.Ends.{HoldsWhatWasGiven, IsInTheOrderOfEach}
 use Rattle.list_words.specs.Lists.{SameItems, total}
+use Rattle.table_rule.specs.Changes.{are_kept}
 use Rattle.table_rule.specs.Passes as chain_words
 use Rattle.table_rule.specs.Plays.{seeing}
 use Rattle.table_rule.specs.Sole.{WholeBook}
@@ -247,9 +248,9 @@ pub finished : (script : Script) (all : List Item) (lookers : ℕ) (t : Tables) 
     → 0 < lookers → length done ≡ length script.sections + lookers → AreTables script.header t → IsFirst t (length done) first → AllWorked script all t q (length done) done → tickets q ≡ length all
     → IsAtRest t w → HasAllParts w → HasDrawnAll q done given p → (parts p ≡ all_parts → HasMissed p → SameItems (drawn p) (numbers_below (tickets q))) → ((other : Part) → IsGathered (part_in other done) 0 (length done) (part_of w)) → given ≡ outcomes_in done → length given ≡ length done → e.outcomes.items ≡ given
     → (part_of w).chain.seen ≤ e.clock → chain_words.known e.chain.pass ≡ seeing (part_of w).chain e.clock → WholeBook (chain_words.known e.chain.pass) e.clock
-    → length e.buckets.items ≡ buckets_of t → AreLeft 0 (buckets_of t) e.buckets.items → HoldsWhatWasGiven notes_in (part_of w).turns e.buckets.items → IsInTheOrderOfEach notes_in (part_of w).turns e.buckets.items
+    → are_kept e.chain.pass.changes ≡ t.chains.keeps_changes → length e.buckets.items ≡ buckets_of t → AreLeft 0 (buckets_of t) e.buckets.items → HoldsWhatWasGiven notes_in (part_of w).turns e.buckets.items → IsInTheOrderOfEach notes_in (part_of w).turns e.buckets.items
     → HasFinished script all lookers e
-finished script all lookers t q first w p done given e some count tables fresh work many_items rest whole drew counted gathered are many outcomes later sees book long left given_all in_order =
+finished script all lookers t q first w p done given e some count tables fresh work many_items rest whole drew counted gathered are many outcomes later sees book kept long left given_all in_order =
     let oks = all_ok done (sym (ap length are) ∙ many) in
     let js : List Job = oks.0 in
     let len : length js ≡ length script.sections + lookers = sym (len_map {B = Result Job AllocError} Ok js) ∙ sym (ap length oks.1) ∙ count in
@@ -272,6 +273,7 @@ finished script all lookers t q first w p done given e some count tables fresh w
       says = map said_by (take (length script.sections) js);
       tooks = tooks;
       sees = sees;
+      kept = kept ∙ tables.keeps;
       ended = record {
         order = g.order;
         each_once = λ f. g.once f ∙ ap (λ k. total f (range_with_len 1 k)) (let q : length js - 0 ≡ length script.sections + length tooks = omega (arith, len, runs) in q);

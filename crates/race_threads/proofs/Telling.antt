@@ -16,6 +16,7 @@ use Rattle.turn_table.specs.Journals.{numbers_below}
 use Rattle.race_record.specs.Lawful.{Lawful, looked_at}
 use Rattle.race_record.specs.Record.{Race}
 use Rattle.race_record.specs.declared.record.Looked.{Looked}
+use Rattle.table_rule.specs.Changes.{list_of}
 use Rattle.table_rule.specs.Closes as closes
 use Rattle.table_rule.specs.Plays.{seeing}
 use Rattle.table_rule.specs.declared.view.View.{View}
@@ -63,7 +64,7 @@ module _ (script : Script) (capture : Capture) (lookers passes : ℕ) (e : Ended
   lawful = looks_too script capture h.part h.tooks looked passes h.turns h.chain e.buckets.items h.says e.clock h.ended told h.looked fits.small.commands
 
   pub tells_race : (header : Header) (cut : Bool) (replies : List Reply) (listings : List Listing) (journals : List ℕ) (book : List Change)
-      → header ≡ script.header → cut ≡ capture.cut → replies ≡ flat_map replies_in e.outcomes.items → listings ≡ flat_map listings_in e.outcomes.items → journals ≡ map count_in e.buckets.items → book ≡ e.chain.pass.changes.items → map as_known book ≡ book
+      → header ≡ script.header → cut ≡ capture.cut → replies ≡ flat_map replies_in e.outcomes.items → listings ≡ flat_map listings_in e.outcomes.items → journals ≡ map count_in e.buckets.items → book ≡ list_of e.chain.pass.changes → map as_known book ≡ book
       → IsToldOf script capture lookers passes (record {
         lookers = lookers;
         passes = passes;
@@ -81,7 +82,7 @@ module _ (script : Script) (capture : Capture) (lookers passes : ℕ) (e : Ended
       let replies_are = p ∙ h.replied ∙ sym (ap (flat_map (λ (x : List Reply). x)) lawful.1.replies ∙ flat_of_all h.says) in
       let listings_are = l ∙ h.listed ∙ sym lawful.1.listings in
       let journals_are = q ∙ counts_are e.buckets.items in
-      let closed = ap (λ l. map closes.change_of l) r ∙ e.chain.pass.kept ∙ ap (λ (y : View). y.book.closed) h.sees in
+      let closed = ap (λ l. map closes.change_of l) r ∙ e.chain.pass.told.0 h.kept ∙ ap (λ (y : View). y.book.closed) h.sees in
       let book_is = sym known ∙ as_known_all book ∙ ap (map change_of) closed in
       record {
         race = race;

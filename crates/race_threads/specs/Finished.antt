@@ -1,5 +1,5 @@
 -- A race at its end: all workers joined, the clock loaded, the bind buckets taken. Our own.
-use Rattle.std.specs.Prelude.{◌≡◌, ℕ, ◌+◌, List, length, map}
+use Rattle.std.specs.Prelude.{◌≡◌, ℕ, ◌+◌, true, List, length, map}
 use Rattle.std.specs.List.{flat_map}
 use Rattle.list_words.specs.Lists.{SameItems}
 use Rattle.turn_table.specs.Journals.{numbers_below}
@@ -10,6 +10,7 @@ use Rattle.chain_deeds.specs.Sides.{change_of}
 use Rattle.flat_list.specs.Script.{Script}
 use Rattle.flat_list.specs.declared.command.Reply.{Reply}
 use Rattle.socket_list.specs.Listing.{Listing}
+use Rattle.table_rule.specs.Changes.{are_kept}
 use Rattle.table_rule.specs.Closes as closes
 use Rattle.table_rule.specs.Passes.{known}
 use Rattle.table_rule.specs.Plays.{seeing}
@@ -32,7 +33,7 @@ abbrev pub told_in : Outcome → List Look
 told_in o = o.told.items
 
 -- This is what the script's sections and so many lookers of these items left: the chain pass into which all others
--- were joined, the buckets, and what came of each job.
+-- were joined, with all changes, the buckets, and what came of each job.
 pub record HasFinished (script : Script) (all : List Item) (lookers : ℕ) (e : Ended) : Type 0 where
   pub part : ℕ → Part
   pub turns : BindView
@@ -40,6 +41,7 @@ pub record HasFinished (script : Script) (all : List Item) (lookers : ℕ) (e : 
   pub says : List Said
   pub tooks : List (List Look)
   pub sees : known e.chain.pass ≡ seeing chain e.clock
+  pub kept : are_kept e.chain.pass.changes ≡ true
   pub ended : HasEnded script.header script.sections part (length tooks) turns chain e.buckets.items says e.clock
   pub looked : AllLooked script.header all part (length script.sections + 1) tooks
   pub lookers_are : length tooks ≡ lookers

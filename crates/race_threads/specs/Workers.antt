@@ -1,5 +1,5 @@
 -- What workers are between two calls: our own.
-use Rattle.std.specs.Prelude.{◌≡◌, ℕ, ◌+◌, ◌≤◌, []}
+use Rattle.std.specs.Prelude.{◌≡◌, ℕ, ◌+◌, ◌≤◌, true, []}
 use Rattle.bind_buckets.specs.declared.request.Sharing.TheVariants as sharings
 use Rattle.chain_deeds.specs.Sides.{IsResting, HoldsNothing}
 use Rattle.flat_list.specs.declared.header.Header.{Header}
@@ -13,12 +13,13 @@ use Rattle.shared_ops.specs.Stands.{HasGroups, IsReady, buckets_of, turned, chai
 use Rattle.race_threads.specs.Joins.{Part, IsBlank}
 use Rattle.race_threads.specs.Sections.{HasNothing, layout_in}
 
--- the tables are those of that header, and each section has a caller of its own
+-- the tables are those of that header, each section has a caller of its own, and changes are kept
 pub record AreTables (header : Header) (t : Tables) : Type 0 where
   pub layout : t.chains.layout ≡ layout_in header
   pub buckets : buckets_of t ≡ header.shape.bind
   pub some : 1 ≤ buckets_of t
   pub shared : words.home t.buckets ≡ sharings.Shared
+  pub keeps : t.chains.keeps_changes ≡ true
 
 -- what a worker has done
 abbrev pub part_of : Worker → Part

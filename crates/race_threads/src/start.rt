@@ -1,7 +1,7 @@
 //! The tables with which a race starts.
 
 ghost use Rattle.std.specs.Prelude.{◌≡◌, IfOk};
-ghost use Rattle.race_threads.specs.Scripts.{FitsRace};
+ghost use Rattle.sock_script.specs.Fits.{FitsTables};
 ghost use Rattle.race_threads.specs.Workers.{AreTables, IsFirst};
 
 use bind_buckets::{Sharing, turning};
@@ -17,7 +17,7 @@ use std::alloc::{AllocError, Global};
 ///
 /// Memory ran out.
 pub fn start(alloc: Global, header: &Header) -> Result<(Tables, Worker), AllocError>
-    requires { FitsRace header.now }
+    requires { FitsTables header.now }
     ensures tables { IfOk result (λ t. AreTables header.now t.0) }
     ensures first { IfOk result (λ t. IsFirst t.0 0 t.1) }
 {

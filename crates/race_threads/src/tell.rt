@@ -133,10 +133,11 @@ pub fn tell(
     } = ended;
     let ChainPass { pass, .. } = chain;
     let Pass { changes, .. } = pass;
+    let book = changes.into_list(alloc);
     let replies = all_replies(alloc, &outcomes)?;
     let looked = all_told(alloc, capture.items().len(), &outcomes)?;
     let journals = counts_of(alloc, &buckets)?;
-    know_changes(&changes);
+    know_changes(&book);
     let listings = all_listings(alloc, outcomes)?;
     Ok(Record {
         lookers,
@@ -146,7 +147,7 @@ pub fn tell(
         replies,
         listings,
         journals,
-        book: changes,
+        book,
         looked,
         cut: capture.is_cut(),
         clock,

@@ -13,8 +13,9 @@ use Rattle.flat_list.specs.Groups.{Group, has_member}
 use Rattle.flat_list.specs.Look.{look, best_rank, is_best, member_of, chosen, group_of}
 use Rattle.flat_list.specs.Sound.{IsSound, are_together}
 use Rattle.flat_list.proofs.OneBest.{one_or_one_group}
-use Rattle.script_run.proofs.Items.{In, in_each, pairs_in, finds, finds_none, any_item, fold_least, fold_most}
-use Rattle.script_run.proofs.CardsOf.{cards, only_group, of_socket}
+use Rattle.list_words.proofs.Items.{In, in_each, pairs_in, finds, finds_none, any_item, fold_least, fold_most}
+use Rattle.flat_list.proofs.CardsOf.{of_socket}
+use Rattle.script_run.proofs.CardsOf.{cards, only_group}
 
 in_map : {A B : Type 0} (f : A → B) (x : A) (xs : List A) → In x xs → In (f x) (map f xs)
 in_map f x [] i = absurd i

@@ -1,7 +1,7 @@
 -- The cards of a sound list: each name has one card, and a card says in which group its listener is.
-use Rattle.std.proofs.Common.{◌≡◌, ◌≢◌, ℕ, ◌+◌, ◌-◌, ◌*◌, ◌/◌, ◌%◌, ◌<◌, ◌≤◌, Bool, true, false, ◌&&◌, ◌||◌, ◌==◌, nat_lt, cond, List, [], ◌∷◌, Option, Some, None, refl, sym, ap, ◌∙◌, subst, inl, inr, arith}
+use Rattle.std.proofs.Common.{◌≡◌, ◌≢◌, ℕ, ◌+◌, ◌-◌, ◌*◌, ◌/◌, ◌%◌, ◌<◌, ◌≤◌, Bool, true, false, ◌&&◌, ◌||◌, ◌==◌, nat_lt, cond, List, [], ◌∷◌, Option, Some, None, refl, sym, ap, ◌∙◌, inl, inr, arith}
 use Rattle.std.specs.Prelude.{count_by}
-use Rattle.std.specs.Option.{option_map, option_map_or}
+use Rattle.std.specs.Option.{option_map_or}
 use Rattle.std.proofs.lemmas.Bool.{both_ways, le-ltb}
 use Rattle.std.proofs.lemmas.Bool.Decides.{nat_tests}
 use Rattle.list_words.proofs.EachLemmas.{some_same, found_passes}
@@ -16,43 +16,12 @@ use Rattle.flat_list.specs.declared.socket.Socket.{Socket}
 use Rattle.flat_list.specs.Flat.{Flat}
 use Rattle.flat_list.specs.Groups.{Group, has_member, bucket_of}
 use Rattle.flat_list.specs.Look.{card_of, cards_of, extra_as, group_of}
-use Rattle.flat_list.specs.Owned.{card_as}
 use Rattle.flat_list.specs.Sockets.{kind_of}
 use Rattle.flat_list.specs.Sound.{IsSound, NamesDiffer, IsInOneGroup, IsGroupOf, is_sharing}
 use Rattle.shared_demux.specs.Chosen.{group_as, group_in}
 use Rattle.table_model.proofs.parts.GroupPlaces.{count_none, count_cons, one_only}
-use Rattle.script_run.proofs.Items.{In, each_in, pairs_in, made_in, finds, finds_none, found_in}
-
--- what a socket's card says of the socket
-pub record Says (groups : List Group) (s : Socket) (c : Card) : Type 0 where
-  pub name : s.owner.name ≡ c.name
-  pub kind : kind_of s.owner.state ≡ Some c.kind
-  pub is : card_as c.kind s.owner (extra_as c.kind groups s) ≡ c
-
-says_at : (groups : List Group) (s : Socket) (c : Card) (o : Option Kind) → kind_of s.owner.state ≡ o → option_map (λ (k : Kind). card_as k s.owner (extra_as k groups s)) o ≡ Some c → Says groups s c
-says_at groups s c None e h = absurd (cc)
-says_at groups s c (Some k) e h =
-    let is : card_as k s.owner (extra_as k groups s) ≡ c = some_same (card_as k s.owner (extra_as k groups s)) c h in
-    record {
-      name = ap (λ (d : Card). d.name) is;
-      kind = e ∙ ap (λ (d : Card). Some d.kind) is;
-      is = subst (λ (d : Card). card_as d.kind s.owner (extra_as d.kind groups s) ≡ d) is refl;
-    }
-
-pub says : (groups : List Group) (s : Socket) (c : Card) → card_of groups s ≡ Some c → Says groups s c
-says groups s c h = says_at groups s c (kind_of s.owner.state) refl h
-
--- the socket of a card of the list
-pub record OfSocket (groups : List Group) (sockets : List Socket) (c : Card) : Type 0 where
-  pub socket : Socket
-  pub within : In socket sockets
-  pub card : card_of groups socket ≡ Some c
-  pub says : Says groups socket c
-
-pub of_socket : (groups : List Group) (sockets : List Socket) (c : Card) → In c (cards_of groups sockets) → OfSocket groups sockets c
-of_socket groups sockets c i =
-    let m = made_in (card_of groups) c sockets i in
-    record { socket = m.item; within = m.within; card = m.is; says = says groups m.item c m.is }
+use Rattle.flat_list.proofs.CardsOf.{OfSocket, of_socket, says}
+use Rattle.list_words.proofs.Items.{In, each_in, pairs_in, finds, finds_none, found_in}
 
 -- no group has the name
 abbrev pub NoGroup : List Group → ℕ → Type 0

@@ -11,7 +11,7 @@ use Rattle.flat_list.specs.Look.{cards_of}
 use Rattle.table_model.specs.Means.{ChainsMean, weigh_cards}
 use Rattle.table_model.proofs.lists.Passing.{Weighs, ind, any_weighs, same_answer}
 use Rattle.table_model.proofs.lists.Rows.{weigh}
-use Rattle.script_run.proofs.Items.{In, each_in, any_in, any_item}
+use Rattle.list_words.proofs.Items.{In, each_in, any_in, any_item}
 use Rattle.script_run.proofs.CardsSame.{is_card, card_is, card_itself}
 
 weighs_or : (b c : Bool) (n m : ℕ) → Weighs b n → Weighs c m → Weighs (b || c) (n + m)

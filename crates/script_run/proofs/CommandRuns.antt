@@ -6,6 +6,7 @@ use Rattle.flat_list.specs.declared.command.Command.TheVariants as commands
 use Rattle.flat_list.specs.declared.command.Reply.{Reply}
 use Rattle.flat_list.specs.Step.{step}
 use Rattle.sock_script.specs.Output.{Replies}
+use Rattle.sock_script.specs.Shown.{shown}
 use Rattle.sock_script.specs.Steps.{takes_items}
 use Rattle.socket_list.specs.Listing.{Listing}
 use Rattle.sock_script.proofs.Events.{ran_packets, ran_asked}
@@ -27,7 +28,7 @@ packets_run m t count xs next left before out front back answers flat header mea
 
 -- any other command lists and replies as the list does
 pub command_run : (m : Kept) (t t_after : Tables) (command : Command) (own : Own) (xs : List Item) (reply : Reply) (before : Replies) (out : List Reply) (listings : List Listing)
-    → takes_items command ≡ false → ListsFor t command before.listings listings → RefinesEach m t command t_after own reply → out ≡ before.each ++ reply ∷ []
+    → takes_items command ≡ false → ListsFor t command before.listings listings → RefinesEach m t command t_after own reply → out ≡ before.each ++ shown reply ∷ []
     → RunsEach m t command xs xs before (record { each = out; listings = listings }) own t_after
 command_run m t t_after command own xs reply before out listings other lists refines is flat header means =
     let r = refines flat header means in

@@ -1,5 +1,3 @@
-pub mod HeadersFit
-mod Items
 mod CardsSame
 mod CardsOf
 mod CardsBest

@@ -33,7 +33,7 @@ use Rattle.table_rule.specs.declared.view.Layout.{Layout}
 use Rattle.table_rule.specs.declared.view.Seen.{Seen}
 use Rattle.script_run.specs.Sole.{tables_of}
 use Rattle.script_run.specs.Steps.{ListsFor}
-use Rattle.script_run.proofs.CardsOf.{says}
+use Rattle.flat_list.proofs.CardsOf.{says}
 
 -- What stands in the chains weighs as the list's cards
 

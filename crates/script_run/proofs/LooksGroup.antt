@@ -1,23 +1,18 @@
 -- The member that a packet's hash chooses of a group's words is that of the list's group.
-use Rattle.std.proofs.Common.{◌≡◌, ℕ, ◌+◌, ◌*◌, ◌/◌, ◌%◌, ◌^◌, ◌<◌, ◌≤◌, Bool, true, ◌&&◌, ◌==◌, List, [], ◌∷◌, length, get_or, find, Option, Some, None, refl, sym, ap, ◌∙◌, subst, inl, inr, arith}
+use Rattle.std.proofs.Common.{◌≡◌, ℕ, ◌+◌, ◌*◌, ◌/◌, ◌%◌, ◌^◌, ◌<◌, ◌≤◌, true, ◌&&◌, ◌==◌, List, [], ◌∷◌, length, get_or, find, Option, Some, None, refl, sym, ap, ◌∙◌, subst, inl, inr, arith}
 use Rattle.std.specs.List.{list_any}
 use Rattle.std.specs.Option.{option_map_or}
-use Rattle.std.proofs.Math.Nat.{div-lt_iff_lt-mul}
 use Rattle.std.proofs.lemmas.Bool.{and_parts, and_from, eqb-true, eq-eqb}
 use Rattle.std.proofs.lemmas.List.{length-map}
 use Rattle.list_words.specs.Lists.{Each}
 use Rattle.list_words.proofs.EachLemmas.{some_same, found_passes}
 use Rattle.sock_card.specs.declared.card.Card.{Card}
-use Rattle.sock_card.specs.declared.card.Kind.{Kind}
 use Rattle.sock_card.specs.declared.card.Kind.TheVariants as kinds
 use Rattle.sock_card.specs.declared.card.Packet.{Packet}
 use Rattle.sock_card.specs.declared.owner.Owner.{Owner}
-use Rattle.sock_card.specs.declared.owner.State.{State}
-use Rattle.sock_card.specs.declared.owner.State.TheVariants as states
-use Rattle.sock_card.specs.Conflict.{same_port, is_listening, both_reuse_port}
+use Rattle.sock_card.specs.Conflict.{is_listening}
 use Rattle.sock_card.specs.Rank.{rank, rank_as, listen_rank}
-use Rattle.jhash_words.specs.Jhash.{mixed, final_mix, started_mix, jhash_3words}
-use Rattle.jhash_words.specs.Places.{tuple_hash, scale}
+use Rattle.jhash_words.specs.Places.{scale}
 use Rattle.reuseport_group.specs.Member.{AreMembers}
 use Rattle.reuseport_group.specs.Pick.{pick}
 use Rattle.reuseport_group.specs.Pick as choices
@@ -31,7 +26,6 @@ use Rattle.flat_list.specs.declared.socket.Socket.{Socket}
 use Rattle.flat_list.specs.Flat.{Flat}
 use Rattle.flat_list.specs.Groups.{Group, has_member}
 use Rattle.flat_list.specs.Look.{chosen, member_of, group_of}
-use Rattle.flat_list.specs.Sockets.{kind_of, is_mate}
 use Rattle.flat_list.specs.Sound.{IsSound, IsGiven, IsGroupOf, GroupsAreOfMates, are_together}
 use Rattle.table_model.specs.Tables.{Tables}
 use Rattle.table_model.specs.Means.{TablesMean, IsShape, names_in, members_of, stands_in_some}
@@ -39,74 +33,19 @@ use Rattle.table_model.specs.Means as means
 use Rattle.table_model.proofs.parts.GroupPlaces.{found_number}
 use Rattle.table_model.proofs.parts.GroupPlaces as places
 use Rattle.table_model.proofs.parts.Groups.{read_map}
-use Rattle.script_run.proofs.Items.{In, each_in, in_each, pairs_in, found_in, finds, any_in, place_in}
-use Rattle.script_run.proofs.CardsOf.{cards, OfSocket, of_socket, HasNumber, same_name, grouped_shares}
+use Rattle.list_words.proofs.Items.{In, each_in, in_each, pairs_in, found_in, finds, any_in, place_in}
+use Rattle.chain_book.proofs.HashFits.{hash_fits, scale_below}
+use Rattle.flat_list.proofs.CardsOf.{OfSocket, of_socket, listening_kind, AtOneEnd, by_mates}
+use Rattle.script_run.proofs.CardsOf.{cards, HasNumber, same_name, grouped_shares}
 use Rattle.script_run.proofs.CardsBest.{named_group}
 use Rattle.script_run.proofs.CardsStand.{in_row, stands_of}
-
-rest_fits : (x : ℕ) → x % 2 ^ 32 < 2 ^ 32
-rest_fits x = omega arith
-
-mixed_fits : (x y by : ℕ) → mixed x y by < 2 ^ 32
-unfolding mixed
-mixed_fits x y by = rest_fits _
-
-final_fits : (a b c : ℕ) → final_mix a b c < 2 ^ 32
-unfolding final_mix
-final_fits a b c = mixed_fits _ _ 24
-
-started_fits : (a b c start : ℕ) → started_mix a b c start < 2 ^ 32
-unfolding started_mix
-started_fits a b c start = final_fits _ _ _
-
-words_fit : (a b c initial : ℕ) → jhash_3words a b c initial < 2 ^ 32
-unfolding jhash_3words
-words_fit a b c initial = started_fits _ _ _ _
-
--- a hash has 32 bits
-hash_fits : (packet : Packet) (seed : ℕ) → packet_hash packet seed < 2 ^ 32
-unfolding tuple_hash
-hash_fits packet seed = words_fit _ _ _ _
-
--- and so it is scaled to one of the places
-scale_below : (hash n : ℕ) → hash < 2 ^ 32 → 1 ≤ n → scale hash n < n
-scale_below hash n h some = grind (arith, div-lt_iff_lt-mul)
 
 pub some_pick : (ms : List ℕ) (hash : ℕ) → 1 ≤ length ms → pick ms hash ≡ Some (choices.chosen ms hash)
 some_pick [] hash h = absurd (omega arith)
 some_pick (m ∷ ms) hash h = refl
 
-mate_parts : (a b c d e f : Bool) → (a && b && c && d && e && f) ≡ true → (c ≡ true) × (d ≡ true) × (f ≡ true)
-mate_parts a b c d e f h =
-    let last = and_parts (a && b && c && d && e) f h in
-    let user = and_parts (a && b && c && d) e last.0 in
-    let dev = and_parts (a && b && c) d user.0 in
-    let port = and_parts (a && b) c dev.0 in
-    (port.1, dev.1, last.1)
-
--- two owners at one end and device of a namespace
-record AtOneEnd (a b : Owner) : Type 0 where
-  net : a.net ≡ b.net
-  addr : a.addr ≡ b.addr
-  port : a.port ≡ b.port
-  dev : a.dev ≡ b.dev
-
-by_mates : (a : Owner) (s : Socket) → is_mate a s ≡ true → AtOneEnd a s.owner
-by_mates a s h =
-    let p = mate_parts (is_listening s.owner.state) (both_reuse_port a s.owner) (same_port a s.owner) (a.dev == s.owner.dev) (a.uid == s.owner.uid) (a.addr == s.owner.addr) h in
-    let port = and_parts (a.net == s.owner.net) (a.port == s.owner.port) p.0 in
-    record { net = eqb-true _ _ port.0; addr = eqb-true _ _ p.2; port = eqb-true _ _ port.1; dev = eqb-true _ _ p.1 }
-
 other_way : (a b : Owner) → AtOneEnd a b → AtOneEnd b a
 other_way a b e = record { net = sym e.net; addr = sym e.addr; port = sym e.port; dev = sym e.dev }
-
-listening_kind : (st : State) (k : Kind) → is_listening st ≡ true → kind_of st ≡ Some k → k ≡ kinds.Listen
-listening_kind states.Listening k h e = sym (some_same kinds.Listen k e)
-listening_kind states.Full k h e = absurd (cc)
-listening_kind states.TimeWait k h e = absurd (cc)
-listening_kind states.Request k h e = absurd (cc)
-listening_kind states.Bound k h e = absurd (cc)
-listening_kind states.Unbound k h e = absurd (cc)
 
 -- a listener at that end and device of a namespace
 abbrev listener_at : ℕ → ℕ → ℕ → ℕ → Card

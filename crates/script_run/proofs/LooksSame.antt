@@ -60,7 +60,7 @@ use Rattle.table_rule.specs.declared.view.Layout.{Layout}
 use Rattle.table_rule.specs.declared.view.View.{View}
 use Rattle.table_rule.specs.declared.view.Whole.{Whole}
 use Rattle.script_run.specs.Looks.{card_of, IsTold}
-use Rattle.script_run.proofs.Items.{In}
+use Rattle.list_words.proofs.Items.{In}
 use Rattle.script_run.proofs.CardsOf.{cards, count_in, no_group, some_group, HasNumber}
 use Rattle.script_run.proofs.CardsBest.{top, look_best, look_alone, look_none}
 use Rattle.script_run.proofs.LooksGroup.{Member, words, are_members, some_words, some_pick, word, member_there, member_is, member_like}

@@ -15,7 +15,9 @@ use Rattle.flat_list.specs.declared.command.Command.TheVariants as commands
 use Rattle.flat_list.specs.declared.command.Query.{Query}
 use Rattle.flat_list.specs.declared.command.Reply.{Reply}
 use Rattle.flat_list.specs.declared.command.Reply.TheVariants as replies
-use Rattle.sock_script.specs.Output.{Replies, item_reply}
+use Rattle.sock_script.specs.Output.{Replies}
+use Rattle.sock_script.specs.Shown.{shown}
+use Rattle.sock_script.specs.Steps.{item_shown}
 use Rattle.table_model.specs.Means.{Means}
 use Rattle.table_model.specs.Tables.{Tables as Plain}
 use Rattle.turn_table.specs.Passes as words
@@ -130,14 +132,14 @@ module _ (t : Tables) (w u : Worker) (l : Looked t w u) where
 
 -- none were looked up yet
 pub answers_none : (t : Plain) (items : List Item) (out : List Reply) → items ≡ [] → AnswersAll t items out out
-answers_none t items out none flat shape sound mean = sym (append-nil out) ∙ ap (λ (l : List Item). out ++ map (item_reply flat) l) (sym none)
+answers_none t items out none flat shape sound mean = sym (append-nil out) ∙ ap (λ (l : List Item). out ++ map (item_shown flat) l) (sym none)
 
 -- and one more
 pub answers_more : (t : Plain) (items more : List Item) (item : Item) (before out new : List Reply) (reply : Reply) → AnswersAll t items before out → AnswersItem t item reply
-    → more ≡ items ++ item ∷ [] → new ≡ out ++ reply ∷ [] → AnswersAll t more before new
+    → more ≡ items ++ item ∷ [] → new ≡ out ++ shown reply ∷ [] → AnswersAll t more before new
 answers_more t items more item before out new reply all one is pushed flat shape sound mean =
     pushed
-    ∙ (λ i. all flat shape sound mean i ++ one flat shape sound mean i ∷ [])
-    ∙ append_assoc before (map (item_reply flat) items) (item_reply flat item ∷ [])
-    ∙ ap (λ (l : List Reply). before ++ l) (sym (map-append (item_reply flat) items (item ∷ [])))
-    ∙ ap (λ (l : List Item). before ++ map (item_reply flat) l) (sym is)
+    ∙ (λ i. all flat shape sound mean i ++ shown (one flat shape sound mean i) ∷ [])
+    ∙ append_assoc before (map (item_shown flat) items) (item_shown flat item ∷ [])
+    ∙ ap (λ (l : List Reply). before ++ l) (sym (map-append (item_shown flat) items (item ∷ [])))
+    ∙ ap (λ (l : List Item). before ++ map (item_shown flat) l) (sym is)

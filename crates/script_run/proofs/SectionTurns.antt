@@ -11,14 +11,14 @@ use Rattle.flat_list.specs.Sections.{Section as ListSection, has_number, section
 use Rattle.flat_list.specs.Step.{step}
 use Rattle.flat_list.proofs.LabelsGrow.{gives_at_one, labels_stay}
 use Rattle.flat_list.proofs.Soundness.{starts as starts_sound}
-use Rattle.sock_script.specs.Steps.{issue, RunsCommand, RunsSection}
-use Rattle.sock_script.specs.Output.{Replies, issued_from, events_from, item_reply, listings_from, replies_from}
+use Rattle.sock_script.specs.Steps.{issue, item_shown, shown_from, RunsCommand, RunsSection}
+use Rattle.sock_script.specs.Output.{Replies, issued_from, events_from, listings_from}
 use Rattle.sock_script.proofs.RunTurns.{RanSoFar, ran_start, ran_more, ran_all, RanSections, sections_start, sections_next, sections_replied, sections_listed}
 use Rattle.table_model.specs.Tables.{Tables, new_tables}
 use Rattle.table_model.specs.Own.{new_own}
 use Rattle.table_model.specs.Means.{Means, IsShape}
 use Rattle.table_model.proofs.parts.Start.{new_mean_empty, starts_meant}
-use Rattle.script_run.specs.Fits.{FitsTables}
+use Rattle.sock_script.specs.Fits.{FitsTables}
 use Rattle.section_machine.specs.Sections.{Kept, kept, KeepsHeader}
 use Rattle.script_run.specs.Steps.{AnswersAll, StartsAt, RunsAs, RunsOne, RunsEach}
 use Rattle.flat_list.proofs.SectionsStay.{step_stays}
@@ -132,11 +132,11 @@ ran_next header all items left left_after out new i t t_after commands below her
 module _ (header : Header) (all : List (List Command)) (items left : List Item) (out : Replies) (new : List Reply) (i : ℕ) (t : Tables) (past : length all ≤ i)
     (r : Ran header all items left out i t) (answers : AnswersAll t left out.each new)
   where
-    last : record out { each = new } ≡ record out { each = out.each ++ map (item_reply r.flat) left }
+    last : record out { each = new } ≡ record out { each = out.each ++ map (item_shown r.flat) left }
     last = ap (λ (l : List Reply). record out { each = l })
         (answers r.flat (subst IsShape (sym r.starts.header_is) r.starts.shape) r.starts.sound r.starts.tables)
 
-    pub every_replied : new ≡ replies_from (new_flat header) (events_from items (issued_from 1 all))
+    pub every_replied : new ≡ shown_from (new_flat header) (events_from items (issued_from 1 all))
     every_replied = sections_replied (new_flat header) r.flat all items left out (record out { each = new }) i past r.ran last
 
     pub every_listed : out.listings ≡ listings_from (new_flat header) (events_from items (issued_from 1 all))

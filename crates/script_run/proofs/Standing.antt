@@ -33,7 +33,7 @@ use Rattle.flat_list.specs.Flat.{Flat}
 use Rattle.flat_list.specs.Look.{cards_of}
 use Rattle.table_model.specs.Means.{ChainsMean, IsShape}
 use Rattle.table_model.proofs.parts.Chains.{home_below}
-use Rattle.script_run.proofs.Items.{In}
+use Rattle.list_words.proofs.Items.{In}
 use Rattle.script_run.proofs.CardsStand.{stands_of, of_stands}
 
 -- a card's first two words tell its rank

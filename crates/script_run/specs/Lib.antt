@@ -1,5 +1,4 @@
 -- What the contracts of this crate and of those above it cite.
-pub mod Fits
 pub mod Sole
 pub mod Looks
 pub mod Steps

@@ -15,8 +15,8 @@ use Rattle.socket_list.specs.Listing.{Listing}
 use Rattle.shared_ops.specs.declared.tables.Tables.{Tables as Shared}
 use Rattle.shared_ops.specs.declared.tables.Worker.{Worker}
 use Rattle.shared_ops.specs.Stands.{MayEnter, MayDraw, turned}
-use Rattle.sock_script.specs.Output.{Replies, item_reply, listings_at}
-use Rattle.sock_script.specs.Steps.{issue, RunsCommand, RunsSection}
+use Rattle.sock_script.specs.Output.{Replies, listings_at}
+use Rattle.sock_script.specs.Steps.{issue, item_shown, RunsCommand, RunsSection}
 use Rattle.table_model.specs.Commands.{answers}
 use Rattle.table_model.specs.Means.{IsShape, Means, Refines, TablesMean}
 use Rattle.table_model.specs.Own.{Own}
@@ -56,11 +56,11 @@ RefinesEach kept old command new own reply =
     (flat : Flat) → flat.header ≡ kept.header → Means kept.own.number kept.own old flat
     → Refines kept.own.number (record { tables = new; result = answers own reply }) flat command
 
--- whatever sound list the tables mean, the replies to some items were appended
+-- whatever sound list the tables mean, what is shown of the replies to some items was appended
 abbrev pub AnswersAll : Tables → List Item → List Reply → List Reply → Type 0
 AnswersAll t items before out =
     (flat : Flat) → IsShape flat.header → IsSound flat → TablesMean t flat
-    → out ≡ before ++ map (item_reply flat) items
+    → out ≡ before ++ map (item_shown flat) items
 
 -- and so was what the command lists
 abbrev pub ListsFor : Tables → Command → List Listing → List Listing → Type 0
@@ -68,8 +68,8 @@ ListsFor t command before out =
     (flat : Flat) → IsShape flat.header → IsSound flat → TablesMean t flat
     → out ≡ before ++ listings_at flat command
 
--- From whatever list the tables and the section's own meant, the command was run: what is replied to it and to the
--- items that it comes to, and what it lists, is the list's, and what the list leaves is meant now.
+-- From whatever list the tables and the section's own meant, the command was run: what is shown of the replies to it
+-- and to the items that it comes to, and what it lists, is the list's, and what the list leaves is meant now.
 pub record RunsOne (number : ℕ) (flat : Flat) (command : Command) (items left : List Item) (before out : Replies) (own : Own) (new : Tables) : Type 0 where
   pub runs : RunsCommand flat (step flat number command).flat number command items left before out
   pub means : Means number own new (step flat number command).flat
@@ -87,8 +87,8 @@ pub record StartsAt (header : Header) (n : ℕ) (t : Tables) (flat : Flat) : Typ
   pub tables : TablesMean t flat
   pub fresh : (m : ℕ) → n ≤ m → find (has_number m) flat.sections ≡ None
 
--- section n was run from that list on: what was replied and listed is the list's, and the tables mean what the list
--- has become
+-- section n was run from that list on: what was shown and listed is the list's, and the tables mean what the list has
+-- become
 pub record RanSection (header : Header) (n : ℕ) (t : Tables) (first : Flat) (commands : List Command) (items left : List Item) (before out : Replies) : Type 0 where
   pub runs : RunsSection first (after first (issue n commands)) n commands items left before out
   pub starts : StartsAt header (n + 1) t (after first (issue n commands))

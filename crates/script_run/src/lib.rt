@@ -1,8 +1,8 @@
 //! The run of a script by one worker.
 //!
-//! [`run`] replies to a script's commands, and to the packets of its capture, what the flat list replies to
-//! them, and lists what it lists. It runs over the tables that threads can share, by one worker that is never split off another;
-//! [`headers_fit`] says that it can be asked of each script that a text is.
+//! [`run`] gives what lines show of the flat list's replies to a script's commands, and to the packets of its
+//! capture, and lists what it lists. It runs over the tables that threads can share, by one worker that is never
+//! split off another; `headers_fit` of `sock_script` says that it can be asked of each script that a text is.
 //! It stands on `section_machine`, whose machines run the sections, on `shared_demux`, which looks packets up, and on
 //! `table_dump`.
 //!
@@ -11,7 +11,6 @@
 //! ```
 #![tactic(auto)]
 
-pub mod laws;
 mod listing;
 mod look;
 pub mod running;
@@ -19,5 +18,4 @@ mod start;
 #[cfg(test)]
 mod tests;
 
-pub use laws::headers_fit;
 pub use running::run;

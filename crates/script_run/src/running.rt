@@ -1,8 +1,8 @@
 //! The run of a script: its sections one after the other, by one worker.
 
-ghost use Rattle.std.specs.Prelude.{◌≡◌, ◌<◌, ◌+◌, ◌-◌, ◌≤◌, ◌^◌, [], false, length, IfOk, OnOk};
+ghost use Rattle.std.specs.Prelude.{◌≡◌, ◌<◌, ◌+◌, ◌-◌, ◌≤◌, ◌^◌, [], false, length, map, IfOk, OnOk};
 ghost use Rattle.flat_list.specs.Script.{IsSmall};
-ghost use Rattle.script_run.specs.Fits.{FitsTables};
+ghost use Rattle.sock_script.specs.Fits.{FitsTables};
 ghost use Rattle.script_run.specs.Looks.{AnswersItem, Looked};
 ghost use Rattle.script_run.specs.Sole.{IsSole, tables_of};
 ghost use Rattle.script_run.specs.Steps.{AnswersAll, AreUnspoken, IsRunning, MayCarry, RefinesEach, RunsAs, RunsEach, commands_after};
@@ -10,6 +10,7 @@ ghost use Rattle.section_machine.specs.Carried.{HasEnough, Spends};
 ghost use Rattle.section_machine.specs.Sections.{KeepsHeader};
 ghost use Rattle.section_machine.specs.Standing.{AreOf};
 ghost use Rattle.sock_script.specs.Output.{flat_listings, flat_replies};
+ghost use Rattle.sock_script.specs.Shown.{shown};
 ghost use Rattle.sock_script.specs.Steps.{takes_items};
 
 use crate::listing::list;
@@ -21,7 +22,7 @@ use flat_list::{Command, Header, Reply, Script};
 use label_index::LabelSeed;
 use section_machine::{Machine, laws};
 use shared_ops::{Tables, Worker};
-use sock_script::Replies;
+use sock_script::{Replies, Shown};
 use std::alloc::{AllocError, Global};
 use std::sync::Wait;
 
@@ -39,11 +40,11 @@ fn reply_to(tables: &Tables, worker: &mut Worker, item: &Item) -> Reply
     }
 }
 
-/// Appends the replies to some items.
+/// Appends what is shown of the replies to some items.
 fn look_up(
     tables: &Tables,
     worker: &mut Worker,
-    replies: &mut Vec<Reply>,
+    replies: &mut Vec<Shown>,
     items: &[Item],
 ) -> Result<(), AllocError>
     requires sole { IsSole tables.now worker.old }
@@ -53,7 +54,7 @@ fn look_up(
         items.now replies.old.items replies.new.items) }
 {
     for item in items {
-        replies.push(reply_to(tables, worker, item))?;
+        replies.push(Shown::of(&reply_to(tables, worker, item)))?;
     }
     Ok(())
 }
@@ -114,7 +115,7 @@ fn run_command<'a, R: Wait>(
     }
     list(rt, alloc, tables, worker, &mut replies.listings, command)?;
     let reply = step(rt, tables, worker, machine, command)?;
-    replies.each.push(reply)?;
+    replies.each.push(Shown::of(&reply))?;
     Ok(items)
 }
 
@@ -181,7 +182,7 @@ fn no_replies(alloc: Global, script: &Script, capture: &Capture) -> Result<Repli
 }
 
 /// Runs a script's sections one after the other over new tables, looks up the packets of its capture that no
-/// command took, and gives what is replied to each command and each item, and what each `dump` lists.
+/// command took, and gives what is shown of the reply to each command and each item, and what each `dump` lists.
 ///
 /// Takes memory for the tables, the sockets, the replies and the listings. The hashes of labels begin with the seed.
 ///
@@ -197,7 +198,7 @@ pub fn run<R: Wait>(
 ) -> Result<Replies, AllocError>
     requires small { IsSmall script.now }
     requires header { FitsTables script.now.header }
-    ensures replied { IfOk result (λ replies. replies.each ≡ flat_replies script.now capture.now.items) }
+    ensures replied { IfOk result (λ replies. replies.each ≡ map shown (flat_replies script.now capture.now.items)) }
     ensures listed { IfOk result (λ replies. replies.listings ≡ flat_listings script.now capture.now.items) }
 {
     let header = script.header();

@@ -1,7 +1,7 @@
 //! The tables with which a run starts.
 
 ghost use Rattle.std.specs.Prelude.{◌≡◌, IfOk};
-ghost use Rattle.script_run.specs.Fits.{FitsTables};
+ghost use Rattle.sock_script.specs.Fits.{FitsTables};
 ghost use Rattle.script_run.specs.Sole.{IsSole, tables_of};
 ghost use Rattle.script_run.specs.Steps.{AreUnspoken, MayCarry, commands_after};
 ghost use Rattle.section_machine.specs.Standing.{AreOf};
@@ -28,7 +28,7 @@ pub(crate) fn start(alloc: Global, header: &Header) -> Result<(Tables, Worker), 
     ensures may { IfOk result (λ t. MayCarry (commands_after 0) t.1) }
 {
     let (buckets, turns) = turning::with_buckets(alloc, header.shape.bind, Sharing::Alone)?;
-    let (chains, chain) = ChainTable::new(alloc, header.shape, header.seed)?;
+    let (chains, chain) = ChainTable::counting(alloc, header.shape, header.seed)?;
     let (groups, passes) = Groups::new(alloc, 8 * header.shape.bind)?;
     let tables = Tables {
         buckets,

@@ -4,11 +4,10 @@ ghost use Rattle.std.specs.Prelude.{◌≡◌, length, IfOk};
 
 use crate::run;
 use capture_reader::Capture;
-use flat_list::{
-    Command, End, Header, Label, NONE_RESERVED, Options, Query, Range, Reply, Script, Shape,
-};
+use flat_list::{Command, End, Header, Label, NONE_RESERVED, Options, Query, Range, Script, Shape};
 use label_index::LabelSeed;
 use sock_card::{Card, Kind};
+use sock_script::output::text;
 use std::alloc::{AllocError, Global};
 use std::test::Fail;
 
@@ -82,14 +81,10 @@ fn nothing_is_found_in_new_tables(rt: HostRuntime) -> Result<(), Fail> {
     let mut sections = Vec::new(alloc);
     sections.push(looking(alloc)?)?;
     let script = Script::new(HEADER, sections, None);
-    let replies = run(
-        &rt,
-        alloc,
-        LabelSeed::fixed(),
-        &script,
-        &Capture::new(alloc),
-    )?;
-    assert_eq!(rt; replies.each.as_slice(), [Reply::Found(None)].as_slice());
+    let capture = Capture::new(alloc);
+    let replies = run(&rt, alloc, LabelSeed::fixed(), &script, &capture)?;
+    let lines = text(alloc, &script, &capture, &replies.each, &replies.listings)?;
+    assert!(rt; lines.as_slice() == b"1 look none\n".as_slice());
     Ok(())
 }
 
@@ -99,13 +94,8 @@ fn a_listener_is_listed(rt: HostRuntime) -> Result<(), Fail> {
     let mut sections = Vec::new(alloc);
     sections.push(listening(alloc)?)?;
     let script = Script::new(HEADER, sections, None);
-    let replies = run(
-        &rt,
-        alloc,
-        LabelSeed::fixed(),
-        &script,
-        &Capture::new(alloc),
-    )?;
+    let capture = Capture::new(alloc);
+    let replies = run(&rt, alloc, LabelSeed::fixed(), &script, &capture)?;
     let card = Card {
         local: HERE.addr,
         lport: HERE.port,
@@ -122,6 +112,9 @@ fn a_listener_is_listed(rt: HostRuntime) -> Result<(), Fail> {
         .first()
         .map(|l| (l.cards.len(), l.cards.first().copied(), l.span));
     assert_eq!(rt; told, Some((1, Some(card), None)));
-    assert_eq!(rt; replies.each.last().copied(), Some(Reply::Ok));
+    let lines = text(alloc, &script, &capture, &replies.each, &replies.listings)?;
+    let wanted = b"1 socket a ok\n1 bind a ok 80\n1 listen a ok 80\n1 dump 1\n\
+          1 item listen 1.a 10.0.0.1:80 0.0.0.0:0 dev 0\n";
+    assert!(rt; lines.as_slice() == wanted.as_slice());
     Ok(())
 }

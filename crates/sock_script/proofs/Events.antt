@@ -8,8 +8,9 @@ use Rattle.flat_list.specs.declared.command.Reply.{Reply}
 use Rattle.flat_list.specs.Flat.{Flat}
 use Rattle.flat_list.specs.Run.{Issued}
 use Rattle.flat_list.specs.Step.{step}
-use Rattle.sock_script.specs.Output.{Replies, Event, asked, stored, events_at, events_from, items_after, replies_from, listings_from, listings_at, item_reply, is_dump}
-use Rattle.sock_script.specs.Steps.{takes_items, RunsCommand}
+use Rattle.sock_script.specs.Output.{Replies, Event, asked, stored, events_at, events_from, items_after, listings_from, listings_at, is_dump}
+use Rattle.sock_script.specs.Shown.{shown}
+use Rattle.sock_script.specs.Steps.{item_shown, shown_from, takes_items, RunsCommand}
 
 -- a command that isn't `packets` takes none
 pub takes_none : (command : Command) → ((count : ℕ) → command ≡ commands.Packets count → ⊥) → takes_items command ≡ false
@@ -38,15 +39,15 @@ take_least count xs = grind (arith, common_steps)
 pub drop_least : {A : Type 0} (count : ℕ) (xs : List A) → drop (min count (length xs)) xs ≡ drop count xs
 drop_least count xs = grind (arith, common_steps)
 
--- items are replied to as the list stands
-pub items_replied : (flat : Flat) (xs : List Item) (rest : List Event) → replies_from flat (map stored xs ++ rest) ≡ map (item_reply flat) xs ++ replies_from flat rest
+-- what is shown of replies to items, as the list stands
+pub items_replied : (flat : Flat) (xs : List Item) (rest : List Event) → shown_from flat (map stored xs ++ rest) ≡ map (item_shown flat) xs ++ shown_from flat rest
 items_replied flat [] rest = refl
-items_replied flat (x ∷ xs) rest = ap (λ r. item_reply flat x ∷ r) (items_replied flat xs rest)
+items_replied flat (x ∷ xs) rest = ap (λ r. item_shown flat x ∷ r) (items_replied flat xs rest)
 
 -- so are those that are left at the end
-pub last_replied : (flat : Flat) (xs : List Item) → replies_from flat (events_from xs []) ≡ map (item_reply flat) xs
+pub last_replied : (flat : Flat) (xs : List Item) → shown_from flat (events_from xs []) ≡ map (item_shown flat) xs
 last_replied flat [] = refl
-last_replied flat (x ∷ xs) = ap (λ r. item_reply flat x ∷ r) (last_replied flat xs)
+last_replied flat (x ∷ xs) = ap (λ r. item_shown flat x ∷ r) (last_replied flat xs)
 
 -- and items list nothing
 pub items_listed : (flat : Flat) (xs : List Item) (rest : List Event) → listings_from flat (map stored xs ++ rest) ≡ listings_from flat rest
@@ -64,15 +65,15 @@ same_replies r s e l = λ k. record { each = e k; listings = l k }
 -- `packets` was run: the next items were looked up
 pub ran_packets : (flat : Flat) (n count : ℕ) (items next left : List Item) (before out : Replies)
     → next ≡ take (min count (length items)) items → left ≡ drop (min count (length items)) items
-    → out ≡ record before { each = before.each ++ map (item_reply flat) next }
+    → out ≡ record before { each = before.each ++ map (item_shown flat) next }
     → RunsCommand flat flat n (commands.Packets count) items left before out
 unfolding step
 ran_packets flat n count items next left before out front back is = record {
   replied = λ later.
-      ap (λ (o : Replies). o.each ++ replies_from flat (events_from left later)) is
+      ap (λ (o : Replies). o.each ++ shown_from flat (events_from left later)) is
       ∙ append_assoc before.each _ _
       ∙ ap (λ r. before.each ++ r) (sym (items_replied flat next (events_from left later)))
-      ∙ ap₂ (λ x y. before.each ++ replies_from flat (map stored x ++ events_from y later)) (front ∙ take_least count items) (back ∙ drop_least count items);
+      ∙ ap₂ (λ x y. before.each ++ shown_from flat (map stored x ++ events_from y later)) (front ∙ take_least count items) (back ∙ drop_least count items);
   listed = λ later.
       ap (λ (o : Replies). o.listings ++ listings_from flat (events_from left later)) is
       ∙ ap (λ l. before.listings ++ l) (sym (items_listed flat next (events_from left later)))
@@ -83,15 +84,15 @@ ran_packets flat n count items next left before out front back is = record {
 -- any other command was run: its reply was appended, and what it lists
 pub ran_asked : (old new : Flat) (n : ℕ) (command : Command) (items : List Item) (reply : Reply) (before out : Replies)
     → takes_items command ≡ false → reply ≡ (step old n command).reply → new ≡ (step old n command).flat
-    → out ≡ record { each = before.each ++ reply ∷ []; listings = before.listings ++ listings_at old command }
+    → out ≡ record { each = before.each ++ shown reply ∷ []; listings = before.listings ++ listings_at old command }
     → RunsCommand old new n command items items before out
 ran_asked old new n command items reply before out other replied flat is = record {
   replied = λ later.
       let c : Issued = record { section = n; command = command } in
-      ap (λ (o : Replies). o.each ++ replies_from new (events_from items later)) is
-      ∙ append_assoc before.each (reply ∷ []) _
-      ∙ ap₂ (λ r f. before.each ++ r ∷ replies_from f (events_from items later)) replied flat
-      ∙ sym (ap₂ (λ e l. before.each ++ replies_from old (e ++ events_from l later)) (asks_alone c command items other) (leaves_all command items other));
+      ap (λ (o : Replies). o.each ++ shown_from new (events_from items later)) is
+      ∙ append_assoc before.each (shown reply ∷ []) _
+      ∙ ap₂ (λ r f. before.each ++ shown r ∷ shown_from f (events_from items later)) replied flat
+      ∙ sym (ap₂ (λ e l. before.each ++ shown_from old (e ++ events_from l later)) (asks_alone c command items other) (leaves_all command items other));
   listed = λ later.
       let c : Issued = record { section = n; command = command } in
       ap (λ (o : Replies). o.listings ++ listings_from new (events_from items later)) is

@@ -1,5 +1,5 @@
 -- The last of some sections, which is still being read.
-use Rattle.std.proofs.Common.{◌≡◌, ◌∙◌, List, [], ◌∷◌, ◌++◌, map, Option, Some, None, IfNone, IsTrue, sym, refl, ap, subst, true, false}
+use Rattle.std.proofs.Common.{◌≡◌, ◌∙◌, List, [], ◌∷◌, ◌++◌, map, Bool, Option, Some, None, Result, Ok, Err, IfNone, IfOk, OnOk, IsTrue, sym, refl, ap, subst, true, false}
 use Rattle.std.proofs.lemmas.Bool.{both_ways}
 use Rattle.std.specs.Option.{option_to_list}
 use Rattle.std.specs.declared.vec.Vec.{Vec}
@@ -42,3 +42,14 @@ module _ (mode : Mode) (c : Command) where
     subst (λ ss. MayCome mode ss c) (sym (ap (made finished) e) ∙ is) (MayCome-last (map (λ v. v.items) finished) s granted),
     ap (λ l. made finished (Some l)) more ∙ sym (with_command-last c (map (λ v. v.items) finished) s) ∙ ap (with_command c) (sym (ap (made finished) e) ∙ is),
   )
+
+-- what holds of each answer where another fact does
+pub when_told : {E : Type 0} (r : Result Bool E) (P Q : Bool → Type 0) → (P true → Q true) → (P false → Q false) → IfOk r P → IfOk r Q
+when_told (Ok true) P Q f g h = f h
+when_told (Ok false) P Q f g h = g h
+when_told (Err e) P Q f g h = tt
+
+-- two facts at once
+pub both_told : {A E : Type 0} (r : Result A E) (P : Type 0) (Q : A → Type 0) → OnOk r P → IfOk r Q → IfOk r (λ a. P × Q a)
+both_told (Ok a) P Q h k = (h, k)
+both_told (Err e) P Q h k = tt

@@ -29,4 +29,6 @@ pub mod CountTurns
 pub mod Heads
 pub mod Printed
 pub mod Reprinted
+pub mod HeadersFit
 pub mod Inside
+pub mod ShownTexts

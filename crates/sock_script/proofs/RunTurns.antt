@@ -13,15 +13,15 @@ use Rattle.flat_list.specs.Flat.{Flat}
 use Rattle.flat_list.specs.Sections.{labels_of, GivesOneAtMost, KeepsOthers}
 use Rattle.flat_list.specs.declared.header.Header.{Header}
 use Rattle.flat_list.specs.Run.{Issued, after}
-use Rattle.sock_script.specs.Output.{Replies, issued_from, events_from, replies_from, listings_from, item_reply, new_flat}
-use Rattle.sock_script.specs.Steps.{issue, RunsCommand, RunsSection}
+use Rattle.sock_script.specs.Output.{Replies, issued_from, events_from, listings_from, new_flat}
+use Rattle.sock_script.specs.Steps.{issue, item_shown, shown_from, RunsCommand, RunsSection}
 use Rattle.sock_script.proofs.Events.{last_replied, last_listed}
 
--- what was replied, with what will be to the rest of the commands and to later ones, is what is replied to all of
--- them, and so is what was listed
+-- what was shown, with what will be of the replies to the rest of the commands and to later ones, is what is shown of
+-- those to all of them; and so of what was listed
 pub record RanSoFar (n : ℕ) (first flat : Flat) (rest all : List Command) (items left : List Item) (before out : Replies) (i : ℕ) : Type 0 where
   pub replied : (later : List Issued)
-      → out.each ++ replies_from flat (events_from left (issue n rest ++ later)) ≡ before.each ++ replies_from first (events_from items (issue n all ++ later))
+      → out.each ++ shown_from flat (events_from left (issue n rest ++ later)) ≡ before.each ++ shown_from first (events_from items (issue n all ++ later))
   pub listed : (later : List Issued)
       → out.listings ++ listings_from flat (events_from left (issue n rest ++ later)) ≡ before.listings ++ listings_from first (events_from items (issue n all ++ later))
   pub last : after flat (issue n rest) ≡ after first (issue n all)
@@ -51,10 +51,10 @@ module _ (n : ℕ) (first flat next : Flat) (items left left_after : List Item) 
 pub ran_all : (n : ℕ) (first flat : Flat) (all : List Command) (items left : List Item) (before out : Replies) (i : ℕ) → RanSoFar n first flat [] all items left before out i → RunsSection first flat n all items left before out
 ran_all n first flat all items left before out i h = record { replied = h.replied; listed = h.listed; flat = h.last; others = h.others }
 
--- what was replied, with what will be to the rest of the sections, is what is replied to all of them, and so is what
--- was listed
+-- what was shown, with what will be of the replies to the rest of the sections, is what is shown of those to all of
+-- them; and so of what was listed
 pub record RanSections (first flat : Flat) (all : List (List Command)) (items left : List Item) (out : Replies) (i : ℕ) : Type 0 where
-  pub replied : out.each ++ replies_from flat (events_from left (issued_from (i + 1) (drop i all))) ≡ replies_from first (events_from items (issued_from 1 all))
+  pub replied : out.each ++ shown_from flat (events_from left (issued_from (i + 1) (drop i all))) ≡ shown_from first (events_from items (issued_from 1 all))
   pub listed : out.listings ++ listings_from flat (events_from left (issued_from (i + 1) (drop i all))) ≡ listings_from first (events_from items (issued_from 1 all))
   pub fresh : (m : ℕ) → i < m → labels_of m flat.sections ≡ []
 
@@ -71,7 +71,7 @@ sections_next first flat next all items left left_after out new i commands lt he
     let rest : drop i all ≡ commands ∷ drop (i + 1) all = next_drop all i commands lt here in
     record {
       replied = r.replied (issued_from (i + 1 + 1) (drop (i + 1) all))
-          ∙ sym (ap (λ l. out.each ++ replies_from flat (events_from left (issued_from (i + 1) l))) rest) ∙ h.replied;
+          ∙ sym (ap (λ l. out.each ++ shown_from flat (events_from left (issued_from (i + 1) l))) rest) ∙ h.replied;
       listed = r.listed (issued_from (i + 1 + 1) (drop (i + 1) all))
           ∙ sym (ap (λ l. out.listings ++ listings_from flat (events_from left (issued_from (i + 1) l))) rest) ∙ h.listed;
       fresh = λ m late. r.others m (λ e. omega arith) ∙ h.fresh m (omega arith);
@@ -79,14 +79,14 @@ sections_next first flat next all items left left_after out new i commands lt he
 
 -- all sections were run, and the items that were left were looked up
 module _ (first flat : Flat) (all : List (List Command)) (items left : List Item) (out new : Replies) (i : ℕ) (le : length all ≤ i) (h : RanSections first flat all items left out i)
-    (is : new ≡ record out { each = out.each ++ map (item_reply flat) left }) where
+    (is : new ≡ record out { each = out.each ++ map (item_shown flat) left }) where
   none : drop i all ≡ []
   none = grind (arith, common_steps)
 
-  pub sections_replied : new.each ≡ replies_from first (events_from items (issued_from 1 all))
+  pub sections_replied : new.each ≡ shown_from first (events_from items (issued_from 1 all))
   sections_replied =
       ap (λ (a : Replies). a.each) is ∙ ap (λ r. out.each ++ r) (sym (last_replied flat left))
-      ∙ ap (λ l. out.each ++ replies_from flat (events_from left (issued_from (i + 1) l))) (sym none) ∙ h.replied
+      ∙ ap (λ l. out.each ++ shown_from flat (events_from left (issued_from (i + 1) l))) (sym none) ∙ h.replied
 
   pub sections_listed : new.listings ≡ listings_from first (events_from items (issued_from 1 all))
   sections_listed =

@@ -1,4 +1,4 @@
--- How commands are counted one after the other. No public contract cites this file.
+-- How commands are counted one after the other. Our own; no public contract cites this file.
 use Rattle.std.specs.Prelude.{ℕ, ◌+◌, if◌then◌else◌, bytes_eq, List, [], ◌∷◌, codes}
 use Rattle.flat_list.specs.declared.command.Command.{Command}
 use Rattle.sock_script.specs.declared.counts.Counts.{Counts}

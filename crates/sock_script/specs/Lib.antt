@@ -4,11 +4,14 @@ pub mod Forms
 pub mod Seen
 pub mod Pieces
 pub mod Grammar
+pub mod Fits
 pub mod Reading
 pub mod Output
+pub mod Shown
 pub mod Steps
 pub mod Make
 pub mod MadeCommands
 pub mod MadeRows
 pub mod Counts
 pub mod CountSteps
+pub mod ShownAlike

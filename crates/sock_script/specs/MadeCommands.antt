@@ -1,4 +1,4 @@
--- The commands of generated scripts, as the code makes them. No public contract cites this file.
+-- The commands of generated scripts, as the code makes them. Our own; no public contract cites this file.
 use Rattle.std.specs.Prelude.{ℕ, ◌+◌, ◌*◌, ◌%◌, ◌^◌, List, [], ◌∷◌, ◌++◌, Bool, true, false, Some, None}
 use Rattle.std.specs.List.{slice_index_or}
 use Rattle.flat_list.specs.declared.command.End.{End}

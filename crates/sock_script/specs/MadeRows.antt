@@ -1,4 +1,4 @@
--- A generated text, line by line: what the definitions must give.
+-- A generated text, line by line: what the definitions must give. Our own.
 use Rattle.std.specs.Prelude.{◌≡◌, ◌++◌, List, ℕ, codes}
 use Rattle.sock_script.specs.Make.{made_text}
 

@@ -187,7 +187,7 @@ listings_from flat (stored item ∷ rest) = listings_from flat rest
 abbrev pub flat_listings : Script → List Item → List Listing
 flat_listings script left = listings_from (new_flat script.header) (events_from left (issued script))
 
--- what a run replies to each command and to each item of the capture, and what each `dump` lists
+-- what is shown of what a run replies to each command and to each item of the capture, and what each `dump` lists
 pub record Replies : Type 0 where
   pub each : List Reply
   pub listings : List Listing

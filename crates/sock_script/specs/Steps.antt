@@ -1,6 +1,7 @@
--- What the steps of reading, of running and of writing a script answer. No public contract cites this file.
-use Rattle.std.specs.Prelude.{◌≡◌, ℕ, ◌+◌, ◌/◌, ◌%◌, ◌^◌, Bool, true, false, Some, if◌then◌else◌, unwrap_or, slice_get, List, [], ◌∷◌, ◌++◌, ◌≤◌, map, take, drop, min, length}
-use Rattle.std.specs.List.{flat_map, slice_index_or}
+-- What the steps of reading, of running and of writing a script answer: our own. Of public contracts, that of
+-- `other_of` cites `IsCommand`, those of `Labels` cite `label_table` and `label_at`, and no other cites this file.
+use Rattle.std.specs.Prelude.{◌≡◌, ℕ, ◌+◌, ◌/◌, ◌%◌, ◌^◌, Bool, true, false, not, bytes_eq, Option, Some, None, if◌then◌else◌, unwrap_or, slice_get, List, [], ◌∷◌, ◌++◌, ◌≤◌, map, take, drop, min, length}
+use Rattle.std.specs.List.{flat_map, list_any, slice_index_or}
 use Rattle.capture_reader.specs.declared.packet.Item.{Item}
 use Rattle.flat_list.specs.declared.command.Command.{Command}
 use Rattle.flat_list.specs.declared.command.Command.TheVariants as commands
@@ -18,7 +19,8 @@ use Rattle.sock_script.specs.declared.line.Line.{Line}
 use Rattle.sock_script.specs.declared.line.Line.TheVariants as lines
 use Rattle.sock_script.specs.Grammar.{IsFirstOutside, given_labels}
 use Rattle.sock_script.specs.Reading.{Draft, Follows, ReadsLine}
-use Rattle.sock_script.specs.Output.{Replies, Event, asked, stored, events_from, replies_from, listings_from, line_with, item_line, is_dump, listing_text, listings_after}
+use Rattle.sock_script.specs.Shown.{shown}
+use Rattle.sock_script.specs.Output.{Replies, Event, asked, stored, events_from, item_reply, replies_from, listings_from, line_with, item_line, is_dump, listing_text, listings_after}
 
 -- the line is one of a command
 abbrev pub IsCommand : Line → Type 0
@@ -29,6 +31,11 @@ IsCommand _ = ⊥
 abbrev pub Adds : Mode → Draft → Line → Draft → Bool → Type 0
 Adds mode old line new true = Follows mode old line new
 Adds mode old line new false = (next : Draft) → Follows mode old line next → ⊥
+
+-- no label, or one that isn't among those
+abbrev pub is_new_among : Option (List ℕ) → List (List ℕ) → Bool
+is_new_among None labels = true
+is_new_among (Some label) labels = not (list_any (bytes_eq label) labels)
 
 -- what reading a line answers: whether it is in the grammar after the others, and what they have made then
 abbrev pub LineAnswer : Mode → Draft → List ℕ → Draft → Bool → Type 0
@@ -49,12 +56,21 @@ takes_items _ = false
 abbrev pub issue : ℕ → List Command → List Issued
 issue n commands = map (λ command. record { section = n; command = command }) commands
 
--- Events were come to from the list `old` with these items on, and replied to: what was replied, with what will be to
--- whatever commands come later, is what the list replies to these commands and those later ones.
+-- what is shown of what is replied to an item, as the list stands
+abbrev pub item_shown : Flat → Item → Reply
+item_shown flat item = shown (item_reply flat item)
+
+-- what is shown of what the flat list replies to events, one after the other
+abbrev pub shown_from : Flat → List Event → List Reply
+shown_from flat events = map shown (replies_from flat events)
+
+-- Events were come to from the list `old` with these items on, and replied to: what was shown, with what will be of
+-- the replies to whatever commands come later, is what is shown of the list's replies to these commands and those
+-- later ones.
 abbrev pub RepliesSo : Flat → Flat → List Issued → List Item → List Item → List Reply → List Reply → Type 0
 RepliesSo old new commands items left before out =
     (later : List Issued)
-    → out ++ replies_from new (events_from left later) ≡ before ++ replies_from old (events_from items (commands ++ later))
+    → out ++ shown_from new (events_from left later) ≡ before ++ shown_from old (events_from items (commands ++ later))
 
 -- the same of what they list
 abbrev pub ListsSo : Flat → Flat → List Issued → List Item → List Item → List Listing → List Listing → Type 0

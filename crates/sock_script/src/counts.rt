@@ -7,8 +7,10 @@ ghost use Rattle.sock_script.specs.Steps.{issue};
 ghost use Rattle.flat_list.specs.declared.command.Command.{Command as AnyCommand};
 ghost use Rattle.sock_script.specs.Output as output;
 ghost use Rattle.sock_script.specs.Output.{reply_with};
+ghost use Rattle.sock_script.specs.Shown.{kept_reply};
 
-use flat_list::{Command, Reply, Script};
+use crate::shown::{Brief, Shown};
+use flat_list::{Command, Script};
 use inet_io::put_num;
 use std::alloc::{AllocError, Global};
 
@@ -48,25 +50,25 @@ fn is_dump(command: &Command) -> bool
 }
 
 /// Whether a command was done, by its reply.
-fn is_done(reply: &Reply) -> bool
-    ensures { (label : List ℕ) → result ≡ spec.begins_with_ok (reply_with label reply.now) }
+fn is_done(reply: Brief) -> bool
+    ensures { (label : List ℕ) → result ≡ spec.begins_with_ok (reply_with label (kept_reply reply)) }
 {
     match reply {
-        Reply::Ok
-        | Reply::Port(_)
-        | Reply::End(_)
-        | Reply::TimeWait
-        | Reply::NoSlot { .. }
-        | Reply::Count(_) => true,
+        Brief::Ok
+        | Brief::Port(_)
+        | Brief::End(_)
+        | Brief::TimeWait
+        | Brief::NoSlot { .. }
+        | Brief::Count(_) => true,
         _ => false,
     }
 }
 
 /// Whether a lookup found no socket, by its reply.
-fn is_none(reply: &Reply) -> bool
-    ensures { (label : List ℕ) → result ≡ bytes_eq (reply_with label reply.now) (codes "none") }
+fn is_none(reply: Brief) -> bool
+    ensures { (label : List ℕ) → result ≡ bytes_eq (reply_with label (kept_reply reply)) (codes "none") }
 {
-    matches!(reply, Reply::Found(None))
+    matches!(reply, Brief::None)
 }
 
 /// Appends a word, a number and a line feed.
@@ -83,19 +85,19 @@ fn put_line(out: &mut Vec<u8>, word: &[u8], n: u64) -> Result<(), AllocError>
 
 impl Counts {
     /// Counts one command more.
-    fn add(&mut self, command: &Command, reply: &Reply)
+    fn add(&mut self, command: &Command, reply: &Shown)
         requires { weight self.old + 2 < 2 ^ 64 }
         ensures { (label : List ℕ) → self.new ≡ one_more self.old command.now (reply_with label reply.now) }
     {
         if is_look(command) {
-            if is_none(reply) {
+            if is_none(reply.brief()) {
                 self.none += 1;
             } else {
                 self.found += 1;
             }
         } else if !is_dump(command) {
             self.commands += 1;
-            if is_done(reply) {
+            if is_done(reply.brief()) {
                 self.ok += 1;
             } else {
                 self.refused += 1;
@@ -104,7 +106,7 @@ impl Counts {
     }
 
     /// Counts the commands of a section, as far as there are replies.
-    fn add_section(&mut self, commands: &[Command], replies: &[Reply])
+    fn add_section(&mut self, commands: &[Command], replies: &[Shown])
         requires { weight self.old + 2 * length replies.now < 2 ^ 64 }
         ensures counted { (sections : List (List AnyCommand)) (n : ℕ) →
             self.new ≡ with_answered self.old (spec.answered sections (issue n commands.now) replies.now) }
@@ -117,7 +119,7 @@ impl Counts {
 
     /// What is counted of a script and its replies, one for each command in the order in which they are
     /// run: the script has no `packets`, whose items have replies too. A command without a reply isn't counted.
-    pub fn of(script: &Script, replies: &[Reply]) -> Counts
+    pub fn of(script: &Script, replies: &[Shown]) -> Counts
         ensures counted { result ≡ script_counts script.now replies.now }
         ensures whole { result.commands ≡ result.ok + result.refused }
     {

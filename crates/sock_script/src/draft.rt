@@ -1,17 +1,14 @@
-ghost use Rattle.std.specs.Prelude.{◌≡◌, ◌↔◌, ◌+◌, ◌<◌, ◌^◌, ◌++◌, ◌∷◌, [], IsTrue, true, is_some, bytes_eq, length, map, IfOk, OnOk, OnErr};
-ghost use Rattle.std.specs.List.{list_any};
+ghost use Rattle.std.specs.Prelude.{◌≡◌, ◌↔◌, ◌+◌, ◌<◌, ◌^◌, ◌++◌, ◌∷◌, [], IsTrue, true, is_some, length, map, IfOk, OnOk, OnErr};
 ghost use Rattle.std.specs.Option.{option_to_list};
 ghost use Rattle.sock_script.specs.declared.parse.Mode.{Mode as AnyMode};
 ghost use Rattle.sock_script.specs.Grammar as law;
 ghost use Rattle.sock_script.specs.Reading as spec;
-ghost use Rattle.sock_script.specs.Steps.{Adds};
+ghost use Rattle.sock_script.specs.Steps.{Adds, is_new_among};
 
 use crate::label::given_label;
 use crate::line::Line;
 use crate::parse::Mode;
-use flat_list::{
-    CapturePlace, Command, Header, Label, NONE_RESERVED, Range, Reserved, Script, Shape,
-};
+use flat_list::{CapturePlace, Command, Header, NONE_RESERVED, Range, Reserved, Script, Shape};
 use label_index::{LabelIndex, LabelSeed};
 use std::alloc::{AllocError, Global};
 use std::marker::Model;
@@ -25,15 +22,16 @@ fn is_allowed(mode: Mode, command: &Command) -> bool
         && matches!(command, Command::Look { .. } | Command::Packets { .. }))
 }
 
-/// Puts the label that a command gives behind the others.
-fn note_label(labels: &mut LabelIndex, command: &Command) -> Result<(), AllocError>
+/// Puts the label that a command gives behind the others, and tells whether it is new. So is none.
+fn note_label(labels: &mut LabelIndex, command: &Command) -> Result<bool, AllocError>
     ensures noted { OnOk result (labels.new ≡ labels.old ++ option_to_list (law.given_label command.now)) }
+    ensures told { IfOk result (λ new. new ≡ is_new_among (law.given_label command.now) labels.old) }
     ensures err { OnErr result (labels.new ≡ labels.old) }
 {
-    if let Some(label) = given_label(command) {
-        labels.give(label)?;
+    match given_label(command) {
+        None => Ok(true),
+        Some(label) => labels.give_and_tell(label),
     }
-    Ok(())
 }
 
 /// The section whose commands are being read.
@@ -67,37 +65,18 @@ impl OpenSection {
         }
     }
 
-    fn has_given(&self, label: &Label) -> bool
-        ensures { result ≡ list_any (bytes_eq label.now) (law.given_labels self.now) }
-    {
-        self.labels.place_of(label).is_some()
-    }
-
-    fn is_new(&self, command: &Command) -> bool
-        ensures { result ≡ spec.is_new (law.given_label command.now) self.now }
-    {
-        match given_label(command) {
-            None => true,
-            Some(label) => !self.has_given(label),
-        }
-    }
-
-    /// Whether a command may stand at the section's end.
-    fn may_stand(&self, mode: Mode, command: &Command) -> bool
-        ensures { result ≡ spec.may_stand mode self.now command.now }
-    {
-        is_allowed(mode, command) && self.is_new(command)
-    }
-
-    /// Adds a command. An `Err` changes nothing.
-    fn add(&mut self, command: Command) -> Result<(), AllocError>
+    /// Adds a command, and says whether it may stand at the section's end; a section with one that may not is none of
+    /// a script's. An `Err` changes nothing.
+    fn add(&mut self, mode: Mode, command: Command) -> Result<bool, AllocError>
         ensures added { OnOk result (self.new ≡ self.old ++ command ∷ []) }
+        ensures told { IfOk result (λ stands. stands ≡ spec.may_stand mode self.old command) }
         ensures err { OnErr result (self.new ≡ self.old) }
     {
         self.commands.reserve(1)?;
-        note_label(&mut self.labels, &command)?;
+        let new = note_label(&mut self.labels, &command)?;
+        let stands = is_allowed(mode, &command) && new;
         self.commands.push(command)?;
-        Ok(())
+        Ok(stands)
     }
 
     fn into_commands(self) -> Vec<Command>
@@ -312,18 +291,15 @@ impl Draft {
         });
     }
 
-    /// Adds a command to the last section, where it may stand there.
+    /// Adds a command to the last section, and says whether it may stand there. Where it may not, the lines are no
+    /// script's, and the draft is of no more use.
     pub fn add_command(&mut self, mode: Mode, command: Command) -> Result<bool, AllocError>
         ensures { IfOk result (λ follows. Adds mode self.old (Line.Command command) self.new follows) }
     {
         let Some(section) = &mut self.last else {
             return Ok(false);
         };
-        if !section.may_stand(mode, &command) {
-            return Ok(false);
-        }
-        section.add(command)?;
-        Ok(true)
+        section.add(mode, command)
     }
 
     /// Adds a line, where it may follow, and says whether.

@@ -413,6 +413,9 @@ pub fn command_of(words: &[&[u8]]) -> Option<Command>
     if let Some(words) = after(b"socket", words) {
         return socket_of(words);
     }
+    if let Some(words) = after(b"look", words) {
+        return look_of(words);
+    }
     if let Some(words) = after(b"bind", words) {
         return bind_of(words);
     }
@@ -442,9 +445,6 @@ pub fn command_of(words: &[&[u8]]) -> Option<Command>
     }
     if let Some(words) = after(b"reap", words) {
         return reap_of(words);
-    }
-    if let Some(words) = after(b"look", words) {
-        return look_of(words);
     }
     if let Some(words) = after(b"packets", words) {
         return packets_of(words);

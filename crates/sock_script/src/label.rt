@@ -2,9 +2,9 @@ ghost use Rattle.std.specs.Prelude.{◌≡◌, ◌∷◌, [], IfOk, unwrap_or, s
 ghost use Rattle.std.specs.Option.{option_copied};
 ghost use Rattle.sock_script.specs.Grammar as spec;
 ghost use Rattle.sock_script.specs.Seen.{texts, tables};
-ghost use Rattle.sock_script.specs.Steps.{label_table, label_at, found_at};
+ghost use Rattle.sock_script.specs.Steps.{label_table, label_at};
 
-use flat_list::{Command, Label, Reply, Script};
+use flat_list::{Command, Label, Script};
 use std::alloc::{AllocError, Global};
 
 /// The label that a command gives to a new socket.
@@ -68,16 +68,6 @@ impl<'a> Labels<'a> {
         match self.by_section.get((name >> 24) as usize) {
             Some(row) => label_in(row, (name % 0x100_0000) as usize),
             None => &[],
-        }
-    }
-
-    /// The label of the socket that a reply names, or none.
-    pub fn found(&self, reply: &Reply) -> &'a [u8]
-        ensures { result.now ≡ found_at (tables self.now.by_section.items) reply.now }
-    {
-        match reply {
-            Reply::Found(Some(card)) => self.of_name(card.name),
-            _ => &[],
         }
     }
 }

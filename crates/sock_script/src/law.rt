@@ -1,9 +1,11 @@
 //! What the grammar implies of every text, and the output's definition of every script.
 
 ghost use Rattle.sock_script.specs.Grammar as law;
+ghost use Rattle.sock_script.specs.Fits.{ScriptsFit};
 ghost use Rattle.sock_script.specs.MadeRows.{IsSixteenSteps};
 ghost use Rattle.sock_script.specs.Make.{TextsAreScripts};
 ghost use Rattle.sock_script.specs.Output.{ListsSound, TextsSound};
+ghost use Rattle.sock_script.specs.ShownAlike.{CountsAlike, TextsAlike};
 
 /// A text is one script at most.
 pub fn one_script()
@@ -15,6 +17,11 @@ pub fn one_script()
 pub fn one_bad_line()
     ensures no_script { law.ExcludesScripts }
     ensures one { law.HasOneFirst }
+{}
+
+/// Tables can be made of the header of each script that a text is.
+pub fn headers_fit()
+    ensures { ScriptsFit }
 {}
 
 /// Each list between a script's commands is sound: no two bound sockets of different origin conflict,
@@ -29,4 +36,10 @@ pub fn sound_lists()
 pub fn made_scripts()
     ensures scripts { TextsAreScripts }
     ensures row { IsSixteenSteps }
+{}
+
+/// What is written of replies, and counted of them, is what is written and counted of what is shown of them.
+pub fn shown_alike()
+    ensures texts { TextsAlike }
+    ensures counts { CountsAlike }
 {}

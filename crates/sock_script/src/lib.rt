@@ -7,10 +7,11 @@
 //! [`parse::parse`] reads a text as a script, or names the first line that is outside the grammar.
 //! Both answers are exact: `specs/Grammar.antt` says which script a text is, and the laws in [`law`]
 //! that it is one at most. A script may end in a capture, which [`capture::read`] reads.
-//! [`run::replies`] runs a script on `flat_list`, the plain engine, and gives the reply to each command
-//! and to each item of its capture, and what each `dump` lists; [`output::text`] writes them, a line for each reply
-//! and for each socket listed, as `specs/Output.antt` says. [`make::script`] makes a script from a seed, and [`Counts`] tells how many of its
-//! commands were done. It stands on `flat_list`, `label_index`, `capture_reader`, and the texts of `inet_io`.
+//! [`run::replies`] runs a script on `flat_list`, the plain engine, and gives what is [`Shown`] of the reply to each
+//! command and to each item of its capture, and what each `dump` lists; [`output::text`] writes them, a line for each
+//! reply and for each socket listed, as `specs/Output.antt` says. [`make::script`] makes a script from a seed, and
+//! [`Counts`] tells how many of its commands were done. It stands on `flat_list`, `label_index`, `capture_reader`,
+//! and the texts of `inet_io`.
 //!
 //! ```text
 //! let text = b"script 1\nsocket a\nbind a 0.0.0.0:80\n";
@@ -35,6 +36,7 @@ pub mod output;
 pub mod parse;
 pub mod replies;
 pub mod run;
+pub mod shown;
 #[cfg(test)]
 mod tests;
 mod unwritten;
@@ -44,3 +46,4 @@ pub use counts::Counts;
 pub use line::Line;
 pub use parse::{Mode, ScriptEnd};
 pub use replies::Replies;
+pub use shown::{Brief, Shown};

@@ -1,15 +1,17 @@
-ghost use Rattle.std.specs.Prelude.{◌≡◌, ◌+◌, ◌<◌, ◌≤◌, ◌^◌, ◌∷◌, ◌++◌, [], ℕ, length, IfOk, OnOk, decimal, codes, map, Some, None, slice_get, unwrap_or};
+ghost use Rattle.std.specs.Prelude.{◌≡◌, ◌+◌, ◌/◌, ◌<◌, ◌≤◌, ◌^◌, ◌∷◌, ◌++◌, [], ℕ, length, IfOk, OnOk, decimal, codes, map, Some, None, slice_get, unwrap_or};
 ghost use Rattle.std.specs.List.{flat_map};
 ghost use Rattle.inet_io.specs.Texts.{end_text};
 ghost use Rattle.sock_script.specs.Output as spec;
 ghost use Rattle.sock_script.specs.Output.{script_text};
 ghost use Rattle.sock_script.specs.Seen.{tables};
-ghost use Rattle.sock_script.specs.Steps.{issue, item_lines, label_at, Writes, WritesDump, WritesItems};
+ghost use Rattle.sock_script.specs.Shown.{kept_reply};
+ghost use Rattle.sock_script.specs.Steps.{found_at, issue, item_lines, label_at, Writes, WritesDump, WritesItems};
 
 use crate::label::Labels;
+use crate::shown::{Brief, Shown};
 use crate::unwritten::Unwritten;
 use capture_reader::Capture;
-use flat_list::{Command, End, Label, Reply, Script};
+use flat_list::{Command, End, Label, Script};
 use inet_io::put_addr;
 use itoa::write_digits;
 use sock_card::{Card, Kind};
@@ -85,6 +87,18 @@ fn put_kind(out: &mut Vec<u8>, kind: Kind) -> Result<(), AllocError>
     }
 }
 
+/// Appends the kind and the name of a socket that was found; the label is that of its name.
+fn put_found(out: &mut Vec<u8>, kind: Kind, name: u32, label: &[u8]) -> Result<(), AllocError>
+    ensures { OnOk result (out.new.items ≡ out.old.items
+        ++ (spec.kind_word kind ++ codes " " ++ decimal (name / 2 ^ 24) ++ codes "." ++ label.now)) }
+{
+    put_kind(out, kind)?;
+    put_byte(out, b' ')?;
+    put_number(out, (name >> 24) as u64)?;
+    put_byte(out, b'.')?;
+    put_copy(out, label)
+}
+
 /// Appends the answer of a look.
 pub fn put_answer(out: &mut Vec<u8>, answer: Option<Card>, label: &[u8]) -> Result<(), AllocError>
     ensures { OnOk result (out.new.items ≡ out.old.items ++ spec.answer_with label.now answer) }
@@ -92,11 +106,7 @@ pub fn put_answer(out: &mut Vec<u8>, answer: Option<Card>, label: &[u8]) -> Resu
     let Some(card) = answer else {
         return put(out, b"none");
     };
-    put_kind(out, card.kind)?;
-    put_byte(out, b' ')?;
-    put_number(out, (card.name >> 24) as u64)?;
-    put_byte(out, b'.')?;
-    put_copy(out, label)
+    put_found(out, card.kind, card.name, label)
 }
 
 /// Appends a device, and the namespace if it isn't the first one.
@@ -205,41 +215,61 @@ fn put_two_numbers(out: &mut Vec<u8>, owned: u32, held: u32) -> Result<(), Alloc
 }
 
 /// Appends a reply; the label is that of the socket that a look found.
-fn put_reply(out: &mut Vec<u8>, reply: &Reply, label: &[u8]) -> Result<(), AllocError>
-    ensures { OnOk result (out.new.items ≡ out.old.items ++ spec.reply_with label.now reply.now) }
+fn put_brief(out: &mut Vec<u8>, reply: Brief, label: &[u8]) -> Result<(), AllocError>
+    ensures { OnOk result (out.new.items ≡ out.old.items ++ spec.reply_with label.now (kept_reply reply)) }
 {
     match reply {
-        Reply::Ok => put(out, b"ok"),
-        Reply::Port(port) => {
+        Brief::Ok => put(out, b"ok"),
+        Brief::Port(port) => {
             put(out, b"ok ")?;
-            put_number(out, *port as u64)
+            put_number(out, port as u64)
         }
-        Reply::End(end) => {
+        Brief::End(end) => {
             put(out, b"ok ")?;
-            put_end(out, *end)
+            put_end(out, end)
         }
-        Reply::TimeWait => put(out, b"ok time-wait"),
-        Reply::NoSlot { owned, held } => {
+        Brief::TimeWait => put(out, b"ok time-wait"),
+        Brief::NoSlot { owned, held } => {
             put(out, b"ok no-slot")?;
-            put_two_numbers(out, *owned, *held)
+            put_two_numbers(out, owned, held)
         }
-        Reply::Count(count) => {
+        Brief::Count(count) => {
             put(out, b"ok ")?;
-            put_number(out, *count)
+            put_number(out, count)
         }
-        Reply::Found(answer) => put_answer(out, *answer, label),
-        Reply::Skip => put(out, b"skip"),
-        Reply::Short => put(out, b"short"),
-        Reply::Ebadf => put(out, b"EBADF"),
-        Reply::Einval => put(out, b"EINVAL"),
-        Reply::Eisconn => put(out, b"EISCONN"),
-        Reply::Eaddrinuse => put(out, b"EADDRINUSE"),
-        Reply::Eaddrnotavail => put(out, b"EADDRNOTAVAIL"),
-        Reply::Emfile => put(out, b"EMFILE"),
-        Reply::Enfile { owned, held } => {
+        Brief::Found { kind, name } => put_found(out, kind, name, label),
+        Brief::None => put(out, b"none"),
+        Brief::Skip => put(out, b"skip"),
+        Brief::Short => put(out, b"short"),
+        Brief::Ebadf => put(out, b"EBADF"),
+        Brief::Einval => put(out, b"EINVAL"),
+        Brief::Eisconn => put(out, b"EISCONN"),
+        Brief::Eaddrinuse => put(out, b"EADDRINUSE"),
+        Brief::Eaddrnotavail => put(out, b"EADDRNOTAVAIL"),
+        Brief::Emfile => put(out, b"EMFILE"),
+        Brief::Enfile { owned, held } => {
             put(out, b"ENFILE")?;
-            put_two_numbers(out, *owned, *held)
+            put_two_numbers(out, owned, held)
         }
+    }
+}
+
+/// Appends a reply, and the label of the socket that a look found.
+fn put_reply(out: &mut Vec<u8>, labels: &Labels<'_>, reply: &Shown) -> Result<(), AllocError>
+    ensures { OnOk result (out.new.items ≡ out.old.items
+        ++ spec.reply_with (found_at (tables labels.now.by_section.items) reply.now) reply.now) }
+{
+    let brief = reply.brief();
+    put_brief(out, brief, found_label(labels, brief))
+}
+
+/// The label of the socket that a reply names, or none.
+fn found_label<'a>(labels: &Labels<'a>, reply: Brief) -> &'a [u8]
+    ensures { result.now ≡ found_at (tables labels.now.by_section.items) (kept_reply reply) }
+{
+    match reply {
+        Brief::Found { name, .. } => labels.of_name(name),
+        _ => &[],
     }
 }
 
@@ -275,32 +305,39 @@ fn put_labelled(out: &mut Vec<u8>, verb: &[u8], label: &Label) -> Result<(), All
     put_copy(out, label.as_bytes())
 }
 
-/// Appends the line of a command of section `n`; the label is that of the socket that a look found.
+/// Appends the line of a command of section `n`.
 fn put_line(
     out: &mut Vec<u8>,
+    labels: &Labels<'_>,
     n: u64,
     command: &Command,
-    reply: &Reply,
-    label: &[u8],
+    reply: &Shown,
 ) -> Result<(), AllocError>
-    ensures { OnOk result (out.new.items ≡ out.old.items ++ spec.line_with n command.now label.now reply.now) }
+    ensures { OnOk result (out.new.items ≡ out.old.items
+        ++ spec.line_with n command.now (found_at (tables labels.now.by_section.items) reply.now) reply.now) }
 {
     put_number(out, n)?;
     put_byte(out, b' ')?;
     put_subject(out, command)?;
     put_byte(out, b' ')?;
-    put_reply(out, reply, label)?;
+    put_reply(out, labels, reply)?;
     put_byte(out, b'\n')
 }
 
-/// Appends the line of the capture's item of that number; the label is that of the socket that its packet found.
-fn put_item(out: &mut Vec<u8>, number: u64, reply: &Reply, label: &[u8]) -> Result<(), AllocError>
-    ensures { OnOk result (out.new.items ≡ out.old.items ++ spec.item_line number label.now reply.now) }
+/// Appends the line of the capture's item of that number.
+fn put_item(
+    out: &mut Vec<u8>,
+    labels: &Labels<'_>,
+    number: u64,
+    reply: &Shown,
+) -> Result<(), AllocError>
+    ensures { OnOk result (out.new.items ≡ out.old.items
+        ++ spec.item_line number (found_at (tables labels.now.by_section.items) reply.now) reply.now) }
 {
     put(out, b"packet ")?;
     put_number(out, number)?;
     put_byte(out, b' ')?;
-    put_reply(out, reply, label)?;
+    put_reply(out, labels, reply)?;
     put_byte(out, b'\n')
 }
 
@@ -309,13 +346,13 @@ fn put_items(
     out: &mut Vec<u8>,
     labels: &Labels<'_>,
     number: u64,
-    replies: &[Reply],
+    replies: &[Shown],
 ) -> Result<(), AllocError>
     requires { number + length replies.now < 2 ^ 64 }
     ensures { OnOk result (out.new.items ≡ out.old.items ++ item_lines (tables labels.now.by_section.items) number replies.now) }
 {
     for (i, reply) in replies.iter().enumerate() {
-        put_item(out, number + i as u64, reply, labels.found(reply))?;
+        put_item(out, labels, number + i as u64, reply)?;
     }
     Ok(())
 }
@@ -371,7 +408,7 @@ fn put_command<'a>(
     if let Command::Dump = command {
         return put_dump(out, labels, n, left);
     }
-    put_line(out, n, command, reply, labels.found(reply))?;
+    put_line(out, labels, n, command, reply)?;
     Ok(left)
 }
 
@@ -405,7 +442,7 @@ fn put_cut(out: &mut Vec<u8>, is_cut: bool) -> Result<(), AllocError>
 
 /// How many bytes the lines are likely to take: as many as most lines have at most, for each reply and each socket that
 /// is listed.
-fn typical_room(replies: &[Reply], listings: &[Listing]) -> usize {
+fn typical_room(replies: &[Shown], listings: &[Listing]) -> usize {
     let mut room = replies.len().saturating_mul(32);
     for listing in listings {
         room = room.saturating_add(listing.cards.len().saturating_mul(64));
@@ -416,15 +453,15 @@ fn typical_room(replies: &[Reply], listings: &[Listing]) -> usize {
 /// The lines of a script's commands and of its capture's items, in the order in which they are come to, each
 /// with its reply; a `dump` has the lines of the next listing.
 ///
-/// Whoever ran the script hands in the replies and the listings. Takes memory for the lines and for a reference to
-/// each label that the script gives, and time in proportion to the script and the lines: the label of
+/// Whoever ran the script hands in what is shown of the replies, and the listings. Takes memory for the lines and for
+/// a reference to each label that the script gives, and time in proportion to the script and the lines: the label of
 /// a socket that a packet found is found by its name, without a search. Where there are fewer replies
 /// than commands and items, or more, or fewer listings than dumps, those that have no partner are left out.
 pub fn text(
     alloc: Global,
     script: &Script,
     capture: &Capture,
-    replies: &[Reply],
+    replies: &[Shown],
     listings: &[Listing],
 ) -> Result<Vec<u8>, AllocError>
     ensures { IfOk result (λ text. text.items ≡ script_text script.now capture.now replies.now listings.now) }

@@ -1,17 +1,17 @@
-//! What a run replies and lists.
+//! What is shown of a run's replies, and what it lists.
 
 ghost use Rattle.std.specs.Prelude.{◌≡◌, []};
 
-use flat_list::Reply;
+use crate::shown::Shown;
 use socket_list::Listing;
 use std::alloc::Global;
 use std::marker::Model;
 
-/// What a run replies and lists.
+/// What is shown of a run's replies, and what it lists.
 #[derive(Debug, Drop)]
 pub struct Replies {
-    /// The reply to each command, and to each item of the capture.
-    pub each: Vec<Reply>,
+    /// What is shown of the reply to each command, and to each item of the capture.
+    pub each: Vec<Shown>,
     /// What each `dump` lists.
     pub listings: Vec<Listing>,
 }

@@ -4,9 +4,11 @@ ghost use Rattle.flat_list.specs.Script.{IsSmall};
 ghost use Rattle.flat_list.specs.Sound.{IsSound};
 ghost use Rattle.list_words.specs.Lists.{Each};
 ghost use Rattle.sock_script.specs.Output.{flat_listings, flat_replies, item_reply, listings_at, lists_of};
-ghost use Rattle.sock_script.specs.Steps.{RunsCommand, RunsSection};
+ghost use Rattle.sock_script.specs.Shown.{shown};
+ghost use Rattle.sock_script.specs.Steps.{item_shown, RunsCommand, RunsSection};
 
 use crate::replies::Replies;
+use crate::shown::Shown;
 use capture_reader::Item;
 use flat_list::{Command, Flat, Reply, Script};
 use socket_list::Listing;
@@ -23,12 +25,13 @@ fn reply_to(flat: &Flat, item: Item) -> Reply
     }
 }
 
-/// Appends the replies to some items.
-fn look_up(flat: &Flat, replies: &mut Vec<Reply>, items: &[Item]) -> Result<(), AllocError>
-    ensures { OnOk result (replies.new.items ≡ replies.old.items ++ map (item_reply flat.now) items.now) }
+/// Appends what is shown of the replies to some items.
+fn look_up(flat: &Flat, replies: &mut Vec<Shown>, items: &[Item]) -> Result<(), AllocError>
+    ensures { OnOk result (replies.new.items
+        ≡ replies.old.items ++ map (item_shown flat.now) items.now) }
 {
     for item in items {
-        replies.push(reply_to(flat, *item))?;
+        replies.push(Shown::of(&reply_to(flat, *item)))?;
     }
     Ok(())
 }
@@ -65,7 +68,7 @@ fn run_command<'a>(
     }
     list(flat, &mut replies.listings, command)?;
     let reply = flat.apply(n, command)?;
-    replies.each.push(reply)?;
+    replies.each.push(Shown::of(&reply))?;
     Ok(items)
 }
 
@@ -88,14 +91,15 @@ fn run_section<'a>(
     Ok(left)
 }
 
-/// What the flat list replies to a script whose capture has these items, and what it lists: the sections are run
-/// one after the other on an empty list of sockets, and the items that no command took are looked up last.
+/// What is shown of the flat list's replies to a script whose capture has these items, and what it lists: the
+/// sections are run one after the other on an empty list of sockets, and the items that no command took are looked up
+/// last.
 ///
 /// Takes memory for the sockets, the replies and the listings. What `parse` gives for a text of 16 MiB at most is
 /// small enough to be run.
 pub fn replies(alloc: Global, script: &Script, items: &[Item]) -> Result<Replies, AllocError>
     requires { IsSmall script.now }
-    ensures replied { IfOk result (λ replies. replies.each ≡ flat_replies script.now items.now) }
+    ensures replied { IfOk result (λ replies. replies.each ≡ map shown (flat_replies script.now items.now)) }
     ensures listed { IfOk result (λ replies. replies.listings ≡ flat_listings script.now items.now) }
     // Whatever list the script runs through is sound.
     ensures sound { Each IsSound (lists_of script.now) }

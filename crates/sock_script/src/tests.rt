@@ -1,7 +1,7 @@
 ghost use Rattle.std.specs.Prelude.{◌≤◌, ◌^◌, length};
 
 use crate::parse::{Mode, ScriptEnd, parse};
-use crate::{capture, output, run};
+use crate::{Shown, capture, output, run};
 use capture_reader::Capture;
 use flat_list::Reply;
 use label_index::LabelSeed;
@@ -592,7 +592,7 @@ fn a_dump_without_a_listing_has_no_line(rt: HostRuntime) -> Result<(), Fail> {
         Mode::Run,
     )?;
     let capture = Capture::new(alloc);
-    let replies = [Reply::Ok, Reply::Count(0)];
+    let replies = Shown::of_each(alloc, &[Reply::Ok, Reply::Count(0)])?;
     let out = output::text(alloc, &script, &capture, &replies, &[])?;
     assert!(rt; out.as_slice() == b"1 reap ok 0\n".as_slice());
     Ok(())

@@ -3,8 +3,8 @@
 ghost use Rattle.std.specs.Prelude.{◌≡◌, ◌+◌, ◌<◌, ◌≤◌, ◌^◌, length, [], MatchOption};
 ghost use Rattle.sock_script.specs.Steps.{NextListingOf, NextOf, TakenOf};
 
+use crate::shown::Shown;
 use capture_reader::Item;
-use flat_list::Reply;
 use socket_list::Listing;
 use std::marker::Model;
 
@@ -13,7 +13,7 @@ use std::marker::Model;
 pub struct Unwritten<'a> {
     number: u64,
     items: &'a [Item],
-    replies: &'a [Reply],
+    replies: &'a [Shown],
     listings: &'a [Listing],
 }
 
@@ -27,7 +27,7 @@ impl<'a> Model for Unwritten<'a> {
 
 impl<'a> Unwritten<'a> {
     /// Before the first line.
-    pub fn new(items: &'a [Item], replies: &'a [Reply], listings: &'a [Listing]) -> Self
+    pub fn new(items: &'a [Item], replies: &'a [Shown], listings: &'a [Listing]) -> Self
         ensures { result ≡ record { number = 1; items = items.now; replies = replies.now; listings = listings.now } }
     {
         Unwritten {
@@ -53,7 +53,7 @@ impl<'a> Unwritten<'a> {
     }
 
     /// The next reply, and what is left after it.
-    pub fn next(&self) -> Option<(&'a Reply, Self)>
+    pub fn next(&self) -> Option<(&'a Shown, Self)>
         ensures { MatchOption result (self.now.replies ≡ []) (λ r. NextOf self.now r.0.now r.1) }
     {
         let (reply, replies) = self.replies.split_first()?;
@@ -81,7 +81,7 @@ impl<'a> Unwritten<'a> {
     }
 
     /// The replies to the next items, as many as that or as are left, and what is left after them.
-    pub fn take(&self, count: usize) -> (&'a [Reply], Self)
+    pub fn take(&self, count: usize) -> (&'a [Shown], Self)
         requires { self.now.number + length self.now.items < 2 ^ 63 }
         ensures { TakenOf self.now count result.0.now result.1 }
     {

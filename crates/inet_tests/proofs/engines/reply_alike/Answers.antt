@@ -1,5 +1,5 @@
 use Rattle.sock_script.specs.declared.parse.Mode.TheVariants as modes
-use Rattle.script_run.proofs.HeadersFit.{scripts_fit}
+use Rattle.sock_script.proofs.HeadersFit.{scripts_fit}
 use Rattle.inet_tests.proofs.engines.reply_alike.Goals as goal
 
 pub run-requires-clause-header : goal.run-requires-clause-header

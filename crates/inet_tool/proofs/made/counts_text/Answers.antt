@@ -2,7 +2,7 @@ use Rattle.std.proofs.Common.{◌∙◌, ap}
 use Rattle.sock_script.specs.declared.parse.Mode.TheVariants as modes
 use Rattle.sock_script.specs.Make.{made_text}
 use Rattle.sock_script.specs.Output.{Replies}
-use Rattle.script_run.proofs.HeadersFit.{scripts_fit}
+use Rattle.sock_script.proofs.HeadersFit.{scripts_fit}
 use Rattle.inet_tool.proofs.CountsTold.{counted}
 use Rattle.inet_tool.proofs.made.counts_text.Goals as goal
 

@@ -10,4 +10,4 @@ returns c =
     finished c.args.script.now c.args.capture.now.items c.args.lookers c.args.tables c.args.tickets.now c.args.first c.gather.new.first c.gather.new.draws c.args.done.items c.in_ok-outcomes.outcomes.items
     (record { chain = c.now-clock.new.pass; buckets = c.in_ok-buckets.buckets; clock = c.now-clock.result; outcomes = c.in_ok-outcomes.outcomes })
     c.requires.some c.requires.count c.requires.tables c.requires.first c.requires.worked c.requires.tickets o.rest o.parts o.draws c.count-count.ensures.once o.joined o.outcomes o.count refl
-    n.later n.sees n.whole b.long b.left b.given b.in_order
+    n.later n.sees n.whole n.rests.kept b.long b.left b.given b.in_order

@@ -12,7 +12,7 @@ returns c =
     let x = t.first in
     let l = c.in_ok-groups.ensures in
     record {
-      tables = record { layout = t.layout; buckets = b.places; some = omega (arith, b.places, c.requires.bind); shared = b.home };
+      tables = record { layout = t.layout; buckets = b.places; some = omega (arith, b.places, c.requires.bind); shared = b.home; keeps = t.keeps };
       first = record {
         rest = record {
           turns = b.pass.0;

@@ -28,10 +28,10 @@ returns c =
     let there = subst (λ (l : List Outcome). Each (λ k. looked_at looked k.item ≡ k.looked) (flat_map told_in l)) c.deref-2.ensures.value c.in_ok-looked.ensures.told in
     tells_race c.args.script.now c.args.capture.now c.args.lookers c.args.passes e looked c.requires.script c.requires.ended
     (c.in_ok-looked.ensures.count ∙ ap (λ (l : List Item). length l) c.items.ensures) there
-    c.header-header.result.now c.is_cut.result c.in_ok-replies.replies.items c.in_ok-listings.listings.items c.in_ok-journals.journals.items e.chain.pass.changes.items
+    c.header-header.result.now c.is_cut.result c.in_ok-replies.replies.items c.in_ok-listings.listings.items c.in_ok-journals.journals.items c.into_list-book.result.items
     c.header-header.ensures c.is_cut.ensures
     (c.in_ok-replies.ensures ∙ ap (flat_map replies_in) c.deref.ensures.value)
     c.in_ok-listings.ensures
     (c.in_ok-journals.ensures ∙ ap (map count_in) c.deref-3.ensures.value)
-    refl
+    c.into_list-book.ensures
     known

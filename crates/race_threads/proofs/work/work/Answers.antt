@@ -5,7 +5,8 @@ use Rattle.flat_list.specs.Ports.{size}
 use Rattle.flat_list.specs.declared.header.Header.{Header}
 use Rattle.flat_list.specs.declared.command.Command.{Command}
 use Rattle.race_threads.specs.declared.jobs.Job.{Job}
-use Rattle.race_threads.specs.Scripts.{FitsRace, LooksNothingUp}
+use Rattle.race_threads.specs.Scripts.{LooksNothingUp}
+use Rattle.sock_script.specs.Fits.{FitsTables}
 use Rattle.race_threads.specs.Lookers.{HasLooked}
 use Rattle.race_threads.specs.Workers.{AreTables, IsFresh, part_of}
 use Rattle.race_threads.proofs.Working.{commands_at, count_is, few_in, looks_in, worked_section, worked_looker, told_none, ran}
@@ -30,13 +31,13 @@ run_section-requires-clause-number g c =
 
 pub run_section-requires-clause-range : goal.run_section-requires-clause-range
 run_section-requires-clause-range g c =
-    let it : FitsRace c.header.result.now = subst FitsRace (sym c.header.ensures) c.requires.script.header in
+    let it : FitsTables c.header.result.now = subst FitsTables (sym c.header.ensures) c.requires.script.header in
     let range = it.range in
     omega (arith, range)
 
 pub run_section-requires-clause-even : goal.run_section-requires-clause-even
 run_section-requires-clause-even g c =
-    let it : FitsRace c.header.result.now = subst FitsRace (sym c.header.ensures) c.requires.script.header in
+    let it : FitsTables c.header.result.now = subst FitsTables (sym c.header.ensures) c.requires.script.header in
     let even : size c.header.result.now.range % 2 ≡ 0 = it.even in
     search rules
 

@@ -1,7 +1,8 @@
-use Rattle.std.proofs.Common.{◌≡◌, ◌+◌, take, get_or, refl, subst}
+use Rattle.std.proofs.Common.{◌≡◌, ◌+◌, ◌∙◌, [], ◌∷◌, ◌++◌, take, get_or, refl, ap, subst}
 use Rattle.std.proofs.lemmas.List.{take_more, take_all}
 use Rattle.capture_reader.specs.declared.packet.Item.{Item}
 use Rattle.capture_reader.specs.declared.packet.Item.TheVariants as items
+use Rattle.flat_list.specs.declared.command.Reply.{Reply}
 use Rattle.script_run.specs.Looks.{AnswersItem}
 use Rattle.script_run.specs.Sole.{tables_of}
 use Rattle.script_run.specs.Steps.{AnswersAll}
@@ -31,7 +32,8 @@ loop-item-preserved c =
       sole = c.reply_to.ensures.sole;
       looked = looked_both t w u c.reply_to.new.worker i.looked c.reply_to.ensures.looked;
       answers = answers_more (tables_of t w) (take at c.args.items.now) (take (at + 1) c.args.items.now) item c.args.replies.now.items c.loop-item.replies.items c.push.new.self.items c.reply_to.result
-          i.answers (subst (λ x. AnswersItem x item c.reply_to.result) (tables_same t w u i.looked) c.reply_to.ensures.answers) (take_more c.args.items.now at no_item c.loop-item-test.true) c.in_ok-push.ensures.items;
+          i.answers (subst (λ x. AnswersItem x item c.reply_to.result) (tables_same t w u i.looked) c.reply_to.ensures.answers) (take_more c.args.items.now at no_item c.loop-item-test.true)
+          (c.in_ok-push.ensures.items ∙ ap (λ (r : Reply). c.loop-item.replies.items ++ r ∷ []) c.of.ensures);
     }
 
 pub returns : goal.returns

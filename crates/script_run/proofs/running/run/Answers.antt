@@ -1,9 +1,10 @@
 use Rattle.std.proofs.Common.{◌≡◌, ℕ, ◌+◌, ◌-◌, ◌∙◌, [], length, ap, subst, sym, arith}
 use Rattle.std.proofs.lemmas.List.{length-map}
-use Rattle.sock_script.specs.Output.{Replies, listings_from, replies_from, events_from, issued_from}
+use Rattle.sock_script.specs.Output.{Replies, listings_from, events_from, issued_from}
+use Rattle.sock_script.specs.Steps.{shown_from}
 use Rattle.flat_list.specs.Flat.{new_flat}
 use Rattle.sock_script.proofs.RunTurns.{commands_at, has_room}
-use Rattle.script_run.specs.Fits.{FitsTables}
+use Rattle.sock_script.specs.Fits.{FitsTables}
 use Rattle.script_run.specs.Sole.{tables_of}
 use Rattle.script_run.specs.Steps.{MayCarry, commands_after}
 use Rattle.script_run.proofs.SectionTurns.{Ran, ran_none, ran_next, every_replied, every_listed}
@@ -66,7 +67,7 @@ returns-clause-replied g c =
     subst (λ (r : Replies). Ran header sections items left r c.loop-i.i t) (sym c.replies-2.view_is) c.loop-i.invariant.ran in
     every_replied header sections items left out c.look_up.new.replies.items c.loop-i.i t
     (omega (arith, ap length c.sections-commands-items.ensures, length-map c.sections-commands-items.result.now (λ v. v.items))) ran c.in_ok-look_up.ensures.answers
-    ∙ ap (λ h. replies_from (new_flat h) (events_from items (issued_from 1 sections))) c.header-header.ensures
+    ∙ ap (λ h. shown_from (new_flat h) (events_from items (issued_from 1 sections))) c.header-header.ensures
 
 pub returns-clause-listed : goal.returns-clause-listed
 returns-clause-listed g c =

@@ -1,5 +1,6 @@
-use Rattle.std.proofs.Common.{rules, refl, sym, subst, arith}
+use Rattle.std.proofs.Common.{rules, [], ◌∷◌, ◌++◌, ◌∙◌, refl, sym, ap, subst, arith}
 use Rattle.flat_list.specs.declared.command.Command.{Command}
+use Rattle.flat_list.specs.declared.command.Reply.{Reply}
 use Rattle.sock_script.specs.Output.{Replies}
 use Rattle.table_model.specs.Tables.{Tables as Plain}
 use Rattle.script_run.specs.Sole.{tables_of}
@@ -57,4 +58,4 @@ returns-clause-runs g c =
     subst (λ (x : Plain). RefinesEach k x c.args.command.now (tables_of t y) m.own reply) (tables_same t w u l.looked) c.in_ok-reply.ensures.refines in
     subst (λ (b : Replies). RunsEach k (tables_of t w) c.args.command.now c.args.items.now c.args.items.now b out m.own (tables_of t y)) c.replies.view_is
     (command_run k (tables_of t w) (tables_of t y) c.args.command.now m.own c.args.items.now reply before c.push.new.self.items c.list.new.listings.items
-    (search rules) l.lists refines c.in_ok-push.ensures.items)
+    (search rules) l.lists refines (c.in_ok-push.ensures.items ∙ ap (λ (r : Reply). before.each ++ r ∷ []) c.of.ensures))

@@ -1,7 +1,6 @@
-use Rattle.std.proofs.Common.{[], ◌∷◌, ◌∙◌, ◌++◌, ap, subst, sym, IfOk}
+use Rattle.std.proofs.Common.{[], ◌∷◌, subst, sym, IfOk}
 use Rattle.std.proofs.lemmas.Result.{IfOk-weaker}
 use Rattle.flat_list.specs.declared.command.Command.TheVariants as commands
-use Rattle.sock_script.specs.Output.{line_with}
 use Rattle.sock_script.specs.Seen.{tables}
 use Rattle.sock_script.specs.Steps.{issue, Writes, WritesDump}
 use Rattle.sock_script.proofs.Events.{takes_none, lists_none}
@@ -25,4 +24,4 @@ pub returns : goal.returns
 returns c =
     wrote_asked (tables c.args.labels.now.by_section.items) c.args.unwritten c.in-Some.left c.args.out.now.items c.put_line.new.out.items c.args.n c.args.command.now c.in-Some.reply.now
     (takes_none c.args.command.now c.in_default.not-Packets) (lists_none c.args.command.now c.in_default-command.not-Dump) c.in-Some.ensures
-    (c.in_ok-put_line.ensures ∙ ap (λ l. c.args.out.now.items ++ line_with c.args.n c.args.command.now l c.in-Some.reply.now) c.found.ensures)
+    c.in_ok-put_line.ensures

@@ -1,6 +1,7 @@
 use Rattle.std.proofs.Common.{◌++◌, ◌∙◌, length, map, ap, arith}
 use Rattle.std.proofs.lemmas.List.{length-map}
-use Rattle.sock_script.specs.Output.{Replies, item_reply, new_flat}
+use Rattle.sock_script.specs.Output.{Replies, new_flat}
+use Rattle.sock_script.specs.Steps.{item_shown}
 use Rattle.sock_script.proofs.Events.{same_replies}
 use Rattle.sock_script.proofs.RunTurns.{commands_at, has_room, sections_next, sections_replied, sections_listed}
 use Rattle.sock_script.proofs.SoundLists.{lists_sound}
@@ -31,7 +32,7 @@ pub returns-clause-replied : goal.returns-clause-replied
 returns-clause-replied c =
     let ran = c.loop-i.replies in
     let out : Replies = record { each = c.look_up.new.replies.items; listings = c.replies-2.inside.listings.items } in
-    let looked = map (item_reply c.loop-i.flat) c.loop-i.left.now in
+    let looked = map (item_shown c.loop-i.flat) c.loop-i.left.now in
     sections_replied (new_flat c.args.script.now.header) c.loop-i.flat c.args.script.now.sections c.args.items.now c.loop-i.left.now ran out c.loop-i.i
     (omega (arith, ap length c.sections-commands-items.ensures, length-map c.sections-commands-items.result.now (λ v. v.items))) c.loop-i.invariant
     (same_replies out (record ran { each = ran.each ++ looked })
@@ -41,7 +42,7 @@ pub returns-clause-listed : goal.returns-clause-listed
 returns-clause-listed c =
     let ran = c.loop-i.replies in
     let out : Replies = record { each = c.look_up.new.replies.items; listings = c.replies-2.inside.listings.items } in
-    let looked = map (item_reply c.loop-i.flat) c.loop-i.left.now in
+    let looked = map (item_shown c.loop-i.flat) c.loop-i.left.now in
     sections_listed (new_flat c.args.script.now.header) c.loop-i.flat c.args.script.now.sections c.args.items.now c.loop-i.left.now ran out c.loop-i.i
     (omega (arith, ap length c.sections-commands-items.ensures, length-map c.sections-commands-items.result.now (λ v. v.items))) c.loop-i.invariant
     (same_replies out (record ran { each = ran.each ++ looked })

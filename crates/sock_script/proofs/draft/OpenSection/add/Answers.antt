@@ -7,7 +7,7 @@ use Rattle.sock_script.proofs.draft.OpenSection.add.Goals as goal
 
 pub invariant_of-self-2 : goal.invariant_of-self-2
 invariant_of-self-2 c =
-    c.in_ok-note_label.ensures.noted
+    c.in_ok-new.ensures.noted
     ∙ ap (λ labels. labels ++ option_to_list (given_label c.args.command)) c.self.invariant
     ∙ sym (given_more c.self.inside.commands.items c.args.command)
     ∙ ap given_labels (sym (c.in_ok-push.ensures.items ∙ ap (λ (commands : List Command). commands ++ c.args.command ∷ []) c.reserve.ensures.items))
