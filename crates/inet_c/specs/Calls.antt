@@ -1,4 +1,4 @@
--- What a call through a handle does.
+-- What a call through a handle does. Our own.
 use Rattle.std.specs.Prelude.{◌≡◌, ℕ, Option, None, Some}
 use Rattle.flat_list.specs.declared.command.Command.{Command}
 use Rattle.flat_calls.specs.declared.outcome.Outcome.{Outcome}

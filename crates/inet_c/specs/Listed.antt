@@ -1,4 +1,4 @@
--- What a list through a handle tells.
+-- What a list through a handle tells. Our own.
 use Rattle.std.specs.Prelude.{◌≡◌, ℕ, List, ◌++◌, length, take, drop, Option, None, Some}
 use Rattle.flat_calls.specs.Calls.{Numbered}
 use Rattle.flat_calls.specs.Items.{items_of}

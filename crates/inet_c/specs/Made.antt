@@ -1,4 +1,4 @@
--- What tables are made of, and which sizes they may have: those that a script may name.
+-- What tables are made of, and which sizes they may have: those that a script may name. Our own.
 use Rattle.std.specs.Prelude.{◌≡◌, ◌≢◌, ℕ, Option, None, Some}
 use Rattle.flat_list.specs.declared.header.Header.{Header}
 use Rattle.flat_list.specs.declared.header.TheConstants.{NONE_RESERVED}

@@ -1,4 +1,4 @@
--- What a handle owns: what a `Box` of its tables owns, or nothing where its pointer is null.
+-- What a handle owns: what a `Box` of its tables owns, or nothing where its pointer is null. Our own.
 use base.Fml.{Fml, ftrue, ffalse}
 use denote.RawPtr.{Ptr, block_ptr, null_ptr}
 use Rattle.std.specs.Box.Ownership.{box_owns}

@@ -1,4 +1,4 @@
--- What a lookup through a handle tells.
+-- What a lookup through a handle tells. Our own.
 use Rattle.std.specs.Prelude.{◌≡◌, ℕ, Option, None, Some}
 use Rattle.sock_card.specs.declared.card.Packet.{Packet}
 use Rattle.flat_calls.specs.Calls.{Numbered}

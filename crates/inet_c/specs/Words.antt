@@ -1,4 +1,4 @@
--- What the numbers of a call stand for.
+-- What the numbers of a call stand for. Our own.
 use Rattle.std.specs.Prelude.{ℕ, ◌==◌, ◌/◌, ◌%◌, if◌then◌else◌, Option, None, Some}
 use Rattle.flat_list.specs.declared.owned.Options.{Options}
 

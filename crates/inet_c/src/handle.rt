@@ -26,6 +26,17 @@ impl Model for InetTables {
     ghost also_owns = { λ h. owned h.alloc h.ptr h.tables };
 }
 
+// What lies behind the pointer is plain data, of which nothing belongs to a thread.
+unsafe impl Send for InetTables {}
+
+/// Only a value that may go to another thread gets through. A handle goes through it so that this is proved of handles
+/// here, and not first where somebody sends one.
+fn sendable<T: Send>(value: T) -> T
+    ensures { result ≡ value }
+{
+    value
+}
+
 impl InetTables {
     /// A handle without tables.
     fn empty(alloc: Global) -> Self
@@ -65,7 +76,7 @@ impl InetTables {
     pub fn of(tables: Box<Tables>) -> Self
         ensures { result.tables ≡ Some tables.value }
     {
-        InetTables::of_parts(Parts::of(tables))
+        sendable(InetTables::of_parts(Parts::of(tables)))
     }
 
     /// What the handle holds.
