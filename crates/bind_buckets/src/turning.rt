@@ -1,10 +1,10 @@
 //! Buckets that threads share, each asked in its turn.
 //!
-//! An operation has one bucket in its hand: [`take`] waits for the turn of a key's bucket, the calls
+//! An operation has one bucket in its hand: [`take`] takes the turn of a key's bucket, the calls
 //! named as those of [`Bucket`] ask it, each with a number of its own, and [`give`] gives it back. What
 //! the turn moves is a box. [`with_buckets`] makes the table; [`into_buckets`] ends it.
 
-ghost use Rattle.std.specs.Prelude.{◌≡◌, ◌+◌, ◌%◌, ◌^◌, ◌-◌, ◌<◌, ◌≤◌, ◌++◌, ◌∷◌, [], true, length, map, find, None, OnOk, OnErr, IfOk};
+ghost use Rattle.std.specs.Prelude.{◌≡◌, ◌+◌, ◌%◌, ◌^◌, ◌-◌, ◌<◌, ◌≤◌, ◌++◌, ◌∷◌, [], true, length, map, find, None, OnOk, OnErr, IfOk, IfSome, IfNone};
 ghost use Rattle.turn_table.specs.Passes as words;
 ghost use Rattle.turn_table.specs.Passes.{known, IsPassOf, IsFree};
 ghost use Rattle.turn_table.specs.Ends.{HoldsWhatWasGiven, IsInTheOrderOfEach, NumbersAll, AllAscend};
@@ -22,9 +22,9 @@ ghost use Rattle.bind_buckets.specs.Answers.{answer_of_bind, answer_of_free, ans
 
 use crate::bucket::{Bucket, bind_result, free_result, listen_result, name_result};
 use crate::request::{Answer, InUse, ListenEnd, NotFree, Request, Sharing, Strange};
+use patience::Patience;
 use sock_card::{Owner, State};
 use std::alloc::{AllocError, Global};
-use std::sync::Wait;
 use turn_table::{Turn, TurnPass, Turns};
 
 /// Empty buckets in boxes, of each number below the count.
@@ -81,23 +81,29 @@ pub fn split(turns: &Turns<Box<Bucket>>, pass: &mut TurnPass<Box<Bucket>>) -> Tu
     pass.split(turns)
 }
 
-/// Waits for the turn of a key's bucket.
-pub fn take<R: Wait>(
-    rt: &R,
+/// Takes the turn of a key's bucket, and tries until nobody has it, as long as the caller's patience lasts.
+///
+/// None: another pass had the turn for so long, and this one is as it was; with a [`Patience`] that is endless, this
+/// doesn't come.
+pub fn take<P: Patience>(
+    patience: &P,
     turns: &Turns<Box<Bucket>>,
     pass: &mut TurnPass<Box<Bucket>>,
     key: u32,
-) -> Turn<Box<Bucket>>
+) -> Option<Turn<Box<Bucket>>>
     requires idle { IsIdle turns.now pass.old }
-    ensures out { IsOut turns.now pass.new result }
-    ensures place { result.place ≡ key % words.places turns.now }
-    ensures none { made pass.new result ≡ [] }
+    ensures out { IfSome result (λ turn. IsOut turns.now pass.new turn) }
+    ensures place { IfSome result (λ turn. turn.place ≡ key % words.places turns.now) }
+    ensures none { IfSome result (λ turn. made pass.new turn ≡ []) }
     ensures draws { words.draws pass.new ≡ words.draws pass.old }
     ensures caller { words.caller pass.new ≡ words.caller pass.old }
-    ensures within { Within (known pass.old) (known pass.new) }
+    ensures within { IfSome result (λ turn. Within (known pass.old) (known pass.new)) }
+    ensures idle { IfNone result (IsIdle turns.now pass.new) }
+    ensures same { IfNone result (known pass.new ≡ known pass.old) }
+    ensures had { P.endless ≡ true → IfNone result ⊥ }
 {
     let place = key as usize % turns.places();
-    turns.take_turn(rt, pass, place)
+    turns.take_turn(patience, pass, place)
 }
 
 /// Makes room in a bucket that is out, as much as an operation on a socket takes.

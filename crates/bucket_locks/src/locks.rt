@@ -1,10 +1,10 @@
-ghost use Rattle.std.specs.Prelude.{◌≡◌, ◌<◌, ◌∷◌, [], false, IfSome, IfNone};
+ghost use Rattle.std.specs.Prelude.{◌≡◌, ◌<◌, ◌∷◌, [], true, false, IfSome, IfNone};
 ghost use Rattle.table_rule.specs.Calls.{IsOf, view, Becomes, Stays, MayUnlock, layout_of};
 ghost use Rattle.bucket_locks.specs.Locks.{IsAt, WalkKnown};
 ghost use Rattle.table_rule.specs.Plays.{locking, unlocking};
 ghost use Rattle.table_rule.specs.Words.{bucket_count};
 
-use std::sync::Wait;
+use patience::Patience;
 use table_rule::{Chains, Steps};
 
 /// A bucket that a pass has locked, and how far its walk has come.
@@ -42,27 +42,38 @@ pub fn try_lock(chains: &Chains, steps: &mut Steps, bucket: u32) -> Option<Locke
     }
 }
 
-/// Waits until nobody has the bucket's lock, and takes it.
+/// Takes the bucket's lock, and tries until it is free, as long as the caller's patience lasts.
 ///
 /// From then on this pass alone changes the bucket's chain, until it gives the lock back. A pass has one bucket
-/// locked at most.
-pub fn lock<R: Wait>(chains: &Chains, rt: &R, steps: &mut Steps, bucket: u32) -> Locked
+/// locked at most. None: another pass had it for so long, and nothing has changed; with a [`Patience`] that is endless,
+/// this doesn't come.
+pub fn lock<P: Patience>(
+    chains: &Chains,
+    patience: &P,
+    steps: &mut Steps,
+    bucket: u32,
+) -> Option<Locked>
     requires table { IsOf chains.now steps.old }
     requires bucket { bucket < bucket_count (layout_of chains.now) }
     requires closed { (view steps.old).book.opened ≡ [] }
     requires free { ((view steps.old).chain.locked ≡ []) × ((view steps.old).slot.tied ≡ []) }
     ensures table { IsOf chains.now steps.new }
-    ensures view { Becomes steps.old steps.new (locking (view steps.old) bucket) }
-    ensures at { IsAt (layout_of chains.now) result (view steps.new) }
-    ensures fresh { result.started ≡ false }
-    ensures known { WalkKnown (layout_of chains.now) (view steps.new) }
+    ensures view { IfSome result (λ locked. Becomes steps.old steps.new (locking (view steps.old) bucket)) }
+    ensures at { IfSome result (λ locked. IsAt (layout_of chains.now) locked (view steps.new)) }
+    ensures fresh { IfSome result (λ locked. locked.started ≡ false) }
+    ensures known { IfSome result (λ locked. WalkKnown (layout_of chains.now) (view steps.new)) }
+    ensures none { IfNone result (Stays steps.old steps.new) }
+    ensures had { P.endless ≡ true → IfNone result ⊥ }
 {
-    for _ in rt.forever() {
+    for tries in 0..=u64::MAX {
         if let Some(locked) = try_lock(chains, steps, bucket) {
-            return locked;
+            return Some(locked);
+        }
+        if !patience.lasts(tries) {
+            return None;
         }
     }
-    unreachable!()
+    None
 }
 
 /// Gives the lock back. What was walked of the chain is what the pass saw of it, from the lock on.

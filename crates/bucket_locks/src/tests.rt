@@ -1,12 +1,13 @@
-//! Tries for a lock that another pass has.
+//! Tries for a lock that another pass has, once, for a while, and for good once it was given back.
 
 ghost use Rattle.std.specs.Prelude.{◌≡◌, ◌<◌, []};
 ghost use Rattle.table_rule.specs.Calls.{IsIdle, layout_of};
 ghost use Rattle.table_rule.specs.Passes.{IsPassOf, known};
 ghost use Rattle.table_rule.specs.Words.{bucket_count};
 
-use crate::locks::{try_lock, unlock};
+use crate::locks::{lock, try_lock, unlock};
 use chain_book::Shape;
+use patience::{Patience, Tries, Waits};
 use std::test::Fail;
 use table_rule::{Chains, Pass};
 
@@ -17,8 +18,8 @@ const SHAPE: Shape = Shape {
     listen: 1,
 };
 
-/// Whether nobody has the lock of a bucket. Where that is so, it is taken and given back.
-fn is_free(chains: &Chains, pass: &mut Pass, bucket: u32) -> bool
+/// Whether the lock of a bucket is had before the patience ends. Where that is so, it is given back.
+fn is_had<P: Patience>(chains: &Chains, patience: &P, pass: &mut Pass, bucket: u32) -> bool
     requires table { IsPassOf chains.now pass.old }
     requires bucket { bucket < bucket_count (layout_of chains.now) }
     requires idle { IsIdle (known pass.old).slot × ((known pass.old).book.opened ≡ []) }
@@ -27,7 +28,7 @@ fn is_free(chains: &Chains, pass: &mut Pass, bucket: u32) -> bool
     ensures idle { IsIdle (known pass.new).slot × ((known pass.new).book.opened ≡ []) }
     ensures free { (known pass.new).chain.locked ≡ [] }
 {
-    match try_lock(chains, &mut pass.steps, bucket) {
+    match lock(chains, patience, &mut pass.steps, bucket) {
         None => false,
         Some(locked) => {
             unlock(chains, &mut pass.steps, locked);
@@ -44,11 +45,14 @@ fn a_lock_that_is_held_is_not_taken(rt: HostRuntime) -> Result<(), Fail> {
         panic!(rt; "nobody has the lock")
     };
     let meanwhile = (
-        is_free(&chains, &mut second, 0),
-        is_free(&chains, &mut second, 1),
+        is_had(&chains, &Tries(3), &mut second, 0),
+        is_had(&chains, &Tries(3), &mut second, 1),
     );
     unlock(&chains, &mut first.steps, locked);
-    let afterwards = is_free(&chains, &mut second, 0);
-    assert_eq!(rt; (meanwhile, afterwards), ((false, true), true));
+    let afterwards = (
+        is_had(&chains, &Tries(0), &mut second, 0),
+        is_had(&chains, &Waits::by(&rt), &mut second, 0),
+    );
+    assert_eq!(rt; (meanwhile, afterwards), ((false, true), (true, true)));
     Ok(())
 }

@@ -1,6 +1,6 @@
 //! The steps that passes make.
 
-ghost use Rattle.std.specs.Prelude.{◌≡◌, ℕ, ◌+◌, ◌-◌, ◌^◌, ◌<◌, ◌≤◌, [], ◌∷◌, ◌++◌, length, map, None, IfSome, IfNone};
+ghost use Rattle.std.specs.Prelude.{◌≡◌, ℕ, ◌+◌, ◌-◌, ◌^◌, ◌<◌, ◌≤◌, [], ◌∷◌, ◌++◌, length, map, true, None, IfSome, IfNone};
 ghost use Rattle.list_words.specs.Lists.{Each};
 ghost use Rattle.turn_table.specs.declared.note.Note.{Note};
 ghost use Rattle.turn_table.specs.Values.{Fits};
@@ -12,8 +12,7 @@ ghost use Rattle.turn_table.specs.Passes.{IsPassOf, IsFree, HasTurn, known};
 use crate::journaled::Journaled;
 use crate::pass::{Turn, TurnPass, Turns};
 use crate::rule::{Both, Cut, Draw, Give, See, Take, Tell};
-use std::sync::Wait;
-use std::thread::yield_now;
+use patience::Patience;
 
 impl<V: Journaled> Turns<V> {
     /// Takes the turn of a place where nobody has it, and its value out.
@@ -47,32 +46,43 @@ impl<V: Journaled> Turns<V> {
         }
     }
 
-    /// Waits for the turn of a place, and takes its value out.
+    /// Takes the turn of a place, and its value out, and tries until nobody has it, as long as the caller's patience
+    /// lasts.
     ///
-    /// What the pass has seen afterwards is the count at that moment. It takes no memory.
-    pub fn take_turn<R: Wait>(&self, rt: &R, pass: &mut TurnPass<V>, place: usize) -> Turn<V>
+    /// What the pass has seen afterwards is the count at that moment. None: another pass had the turn for so long, and
+    /// this pass is as it was; with a [`Patience`] that is endless, this doesn't come. It takes no memory.
+    pub fn take_turn<P: Patience>(
+        &self,
+        patience: &P,
+        pass: &mut TurnPass<V>,
+        place: usize,
+    ) -> Option<Turn<V>>
         requires table { IsPassOf self.now pass.old }
         requires place { place < words.places self.now }
         requires free { IsFree pass.old }
         requires part { 0 < words.parts pass.old }
         ensures table { IsPassOf self.now pass.new }
-        ensures turn { HasTurn pass.new place × (result.place ≡ place) }
-        ensures value { Fits V.notes V.is_replay V.made_for V.may_make (words.home self.now) place (words.places self.now) result.value }
-        ensures view { known pass.new ≡ taking (known pass.old) place (words.seen pass.new) (V.notes result.value) }
-        ensures later { words.seen pass.old ≤ words.seen pass.new }
-        ensures rising { Ascends (words.seen pass.new) (map number (V.notes result.value)) }
-        ensures own { by_caller (words.caller pass.old) (V.notes result.value) ≡ by_caller (words.caller pass.old) (notes_at place (words.given pass.old)) }
-        ensures sole { words.caller pass.old ≡ 0 → words.splits pass.old ≡ 0 → V.notes result.value ≡ notes_at place (words.given pass.old) }
-        ensures before { AsFound (words.finds pass.old) place (V.notes result.value) }
-        ensures all { HasAllAt place (words.given pass.old) (V.notes result.value) }
+        ensures turn { IfSome result (λ turn. HasTurn pass.new place × (turn.place ≡ place)) }
+        ensures value { IfSome result (λ turn. Fits V.notes V.is_replay V.made_for V.may_make (words.home self.now) place (words.places self.now) turn.value) }
+        ensures view { IfSome result (λ turn. known pass.new ≡ taking (known pass.old) place (words.seen pass.new) (V.notes turn.value)) }
+        ensures later { IfSome result (λ turn. words.seen pass.old ≤ words.seen pass.new) }
+        ensures rising { IfSome result (λ turn. Ascends (words.seen pass.new) (map number (V.notes turn.value))) }
+        ensures own { IfSome result (λ turn. by_caller (words.caller pass.old) (V.notes turn.value) ≡ by_caller (words.caller pass.old) (notes_at place (words.given pass.old))) }
+        ensures sole { IfSome result (λ turn. words.caller pass.old ≡ 0 → words.splits pass.old ≡ 0 → V.notes turn.value ≡ notes_at place (words.given pass.old)) }
+        ensures before { IfSome result (λ turn. AsFound (words.finds pass.old) place (V.notes turn.value)) }
+        ensures all { IfSome result (λ turn. HasAllAt place (words.given pass.old) (V.notes turn.value)) }
+        ensures none { IfNone result (IsFree pass.new × (known pass.new ≡ known pass.old)) }
+        ensures had { P.endless ≡ true → IfNone result ⊥ }
     {
-        for _ in rt.forever() {
+        for tries in 0..=u64::MAX {
             if let Some(turn) = self.try_take_turn(pass, place) {
-                return turn;
+                return Some(turn);
             }
-            yield_now();
+            if !patience.lasts(tries) {
+                return None;
+            }
         }
-        unreachable!()
+        None
     }
 
     /// The number of the next entry of the value that is out. It takes no memory.

@@ -12,7 +12,7 @@
 //!
 //! ```text
 //! let (turns, mut pass) = Turns::new(alloc, values)?;
-//! let mut turn = turns.take_turn(rt, &mut pass, place);    // or try_take_turn, which waits for nobody
+//! let mut turn = turns.take_turn(&Waits::by(rt), &mut pass, place).unwrap();    // or Tries(1_000), and None
 //! let number = turns.draw(&mut pass, &turn);
 //! turn.value.add(number, caller, amount);
 //! turns.give(&mut pass, turn);

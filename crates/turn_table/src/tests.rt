@@ -6,6 +6,7 @@ ghost use Rattle.turn_table.specs.Passes as words;
 ghost use Rattle.turn_table.specs.Passes.{IsPassOf, IsFree};
 
 use crate::{Journaled, Note, TurnPass, Turns};
+use patience::Waits;
 use std::alloc::{AllocError, Global};
 use std::sync::Wait;
 use std::test::Fail;
@@ -87,7 +88,7 @@ fn call_once<R: Wait>(
     ensures same { (words.parts pass.new ≡ words.parts pass.old) × (words.caller pass.new ≡ words.caller pass.old) × (words.splits pass.new ≡ words.splits pass.old) }
     ensures draws { words.draws pass.new ≤ words.draws pass.old + 1 }
 {
-    let mut turn = turns.take_turn(rt, pass, place);
+    let mut turn = turns.take_turn(&Waits::by(rt), pass, place).unwrap();
     match turn.value.reserve() {
         Ok(()) => {
             let number = turns.draw(pass, &turn);
