@@ -1,4 +1,5 @@
 mod PortsLeft
+mod ComesFirst
 pub mod Standings
 pub mod TurnSearch
 pub mod TurnConnect

@@ -16,8 +16,11 @@ use Rattle.bind_buckets.specs.Bucket.{entries_of}
 use Rattle.bind_buckets.specs.Turned.{View, Hash, Pass, Gave}
 use Rattle.port_search.specs.declared.ends.Attempt.{Attempt}
 use Rattle.port_search.specs.declared.ends.Attempt.TheVariants as attempts
+use Rattle.port_search.specs.declared.ends.SearchEnd.{SearchEnd}
+use Rattle.port_search.specs.declared.ends.SearchEnd.TheVariants as ends
 use Rattle.port_search.specs.Search.{chosen_at}
-use Rattle.port_search.specs.TurnedConnect.{Tries, MayTry, IsFree, IsPassed, AllPassed, ComesTo, CameAt, MakesAt, MakesNone, MakesNotYet, IsLeftOff, FindsFull, ClosedAt}
+use Rattle.port_search.specs.Turned.{IsLeavingOff}
+use Rattle.port_search.specs.TurnedConnect.{Tries, MayTry, IsFree, IsPassed, AllPassed, ComesTo, CameAt, MakesAt, MakesNone, MakesNotYet, IsLeftOff, FindsBusy, FindsFull, SaysFull, ClosedAt}
 use Rattle.port_search.proofs.TurnSearch.{gave_none, gave_both}
 
 -- the entries of a turn in which an owner came
@@ -114,6 +117,17 @@ module _ {C T : Type 0} (step : C → ℕ → Attempt T → C → Type 0) (count
       gave = gave_both v w u s.passed xs s.gave gave;
     }
 
+    pub finds_busy : (u : View) (port : ℕ) (left : List ℕ) → rest ≡ port ∷ left → Gave w u [] → FindsBusy step count net ports v u old state
+    finds_busy u port left here gave = record {
+      before = s.before;
+      port = port;
+      after = left;
+      split = s.split ∙ ap (λ xs. s.before ++ xs) here;
+      passed = s.passed;
+      all = s.all;
+      gave = subst (Gave v u) (append-nil s.passed) (gave_both v w u s.passed [] s.gave gave);
+    }
+
     pub makes_none : rest ≡ [] → MakesNone step count net ports v w old state
     makes_none none =
         let all : s.before ≡ ports = sym (s.split ∙ ap (λ xs. s.before ++ xs) none ∙ append-nil s.before) in
@@ -158,3 +172,10 @@ module _ {C T : Type 0} (step : C → ℕ → Attempt T → C → Type 0) (count
   pub still_there : (rest left : List ℕ) (port : ℕ) (state : C) → rest ≡ port ∷ left → IsLeftOff step count net rest [] state state
   still_there [] left port state here = absurd (cc)
   still_there (p ∷ rest) left port state here = refl
+
+  -- a search that is left off before a port found no lack of slots
+  pub leaves_full : (ports : List ℕ) (v w : View) (old new : C) (end : SearchEnd) → IsLeavingOff end → SaysFull step count net ports v w old end new
+  leaves_full ports v w old new ends.NoPort off = tt
+  leaves_full ports v w old new (ends.Full owned held) off = absurd off
+  leaves_full ports v w old new ends.Memory off = tt
+  leaves_full ports v w old new ends.Busy off = tt

@@ -1,11 +1,12 @@
 -- How a search through shared buckets goes on, and what it comes to where nobody shares them.
-use Rattle.std.proofs.Common.{◌≡◌, ℕ, ◌+◌, ◌%◌, ◌≤◌, Bool, true, false, cond, List, [], ◌∷◌, ◌++◌, length, map, Some, None, Result, Ok, Err, refl, sym, ap, subst, ◌∙◌, arith, append_assoc, append-nil, length-append}
-use Rattle.std.specs.Result.{is_ok}
+use Rattle.std.proofs.Common.{◌≡◌, ℕ, ◌+◌, ◌%◌, ◌≤◌, cond, List, [], ◌∷◌, ◌++◌, length, map, Some, None, refl, sym, ap, subst, ◌∙◌, arith, append_assoc, append-nil, length-append}
 use Rattle.sock_card.specs.declared.owner.Owner.{Owner}
 use Rattle.sock_card.specs.Conflict.{bind_key}
 use Rattle.list_words.proofs.EachLemmas.{each_append, each_weaken}
 use Rattle.turn_table.specs.declared.note.Placed.{Placed}
 use Rattle.turn_table.specs.Journals.{placed, number_of}
+use Rattle.turn_table.specs.Passes as words
+use Rattle.turn_table.specs.Passes.{known}
 use Rattle.bind_buckets.specs.declared.request.Request.{Request}
 use Rattle.bind_buckets.specs.declared.request.Request.TheVariants as requests
 use Rattle.bind_buckets.specs.declared.request.Answer.{Answer}
@@ -13,14 +14,15 @@ use Rattle.bind_buckets.specs.declared.request.Answer.TheVariants as answers
 use Rattle.bind_buckets.specs.declared.request.Entry.{Entry}
 use Rattle.bind_buckets.specs.declared.request.InUse.{InUse}
 use Rattle.bind_buckets.specs.Notes.{Note}
-use Rattle.bind_buckets.specs.Answers.{answer_of_bind}
 use Rattle.bind_buckets.specs.Journal.{Standing}
 use Rattle.bind_buckets.specs.BindHash.{asked_at, answer_at}
 use Rattle.bind_buckets.specs.Bucket.{entries_of}
-use Rattle.bind_buckets.specs.Turned.{View, Gave, OneAsked, IsAlone, AreLawful, KnowsAll, hash_of}
+use Rattle.bind_buckets.specs.Turned.{View, Hash, Pass, Out, Within, Gave, OneAsked, IsAlone, AreLawful, KnowsAll, hash_of, made}
 use Rattle.bind_buckets.proofs.HashSteps.{answered_by, asked_by, lawful_front}
-use Rattle.port_search.specs.Search.{Found, FindsNone, is_done, at_port, searched}
-use Rattle.port_search.specs.Turned.{IsRefusal, AllRefuse, TakenAt, RefusedAt, TriedAt, BindsAt, BindsNowhere, BindsNotYet}
+use Rattle.port_search.specs.declared.ends.SearchEnd.{SearchEnd}
+use Rattle.port_search.specs.declared.ends.SearchEnd.TheVariants as ends
+use Rattle.port_search.specs.Search.{Found, FindsNone, IsNotFull, is_done, at_port, searched}
+use Rattle.port_search.specs.Turned.{IsRefusal, AllRefuse, RefusedAt, TakenIn, IsLeavingOff, BindsAt, BindsIn, BindsNowhere, BindsNotYet}
 
 -- a pass that gave nothing
 pub gave_none : (v : View) → Gave v v []
@@ -51,9 +53,8 @@ one_asked place at request answer v w (m ∷ []) same e g =
     record { entry = placed at m; asked = record { place_is = same; entry = is }; gave = g }
 one_asked place at request answer v w (m ∷ n ∷ ms) same e g = absurd (cc)
 
-pub tried_by : (count port : ℕ) (a : Owner) (v w : View) (r : Result (Unit {0}) InUse) → OneAsked (bind_key port a.net % count) (requests.BindAuto (at_port a port)) (answer_of_bind r) v w → TriedAt count a port v w (is_ok r)
-tried_by count port a v w (Ok done) o = record { entry = o.entry; taken = o.asked; gave = o.gave }
-tried_by count port a v w (Err end) o = record { entry = o.entry; refusal = record { name = end.0; asked = o.asked }; gave = o.gave }
+pub refused_by : (count port : ℕ) (a : Owner) (v w : View) (end : InUse) → OneAsked (bind_key port a.net % count) (requests.BindAuto (at_port a port)) (answers.InUse end.0) v w → RefusedAt count a port v w
+refused_by count port a v w end o = record { entry = o.entry; refusal = record { name = end.0; asked = o.asked }; gave = o.gave }
 
 -- all ports before those that are left were refused
 pub record Searching (count : ℕ) (a : Owner) (v w : View) (ports rest : List ℕ) : Type 0 where
@@ -82,18 +83,6 @@ module _ (count : ℕ) (a : Owner) (v w : View) (ports rest : List ℕ) (s : Sea
     gave = gave_both v w u s.refused (r.entry ∷ []) s.gave r.gave;
   }
 
-  pub found : (u : View) (port : ℕ) (left : List ℕ) → rest ≡ port ∷ left → TakenAt count a port w u → BindsAt count a ports v u port
-  found u port left here t = record {
-    before = s.before;
-    after = left;
-    split = s.split ∙ ap (λ xs. s.before ++ xs) here;
-    refused = s.refused;
-    last = t.entry;
-    refusals = s.refusals;
-    taken = t.taken;
-    gave = gave_both v w u s.refused (t.entry ∷ []) s.gave t.gave;
-  }
-
   pub nowhere : rest ≡ [] → BindsNowhere count a ports v w
   nowhere none =
       let all : s.before ≡ ports = sym (s.split ∙ ap (λ xs. s.before ++ xs) none ∙ append-nil s.before) in
@@ -109,6 +98,36 @@ module _ (count : ℕ) (a : Owner) (v w : View) (ports rest : List ℕ) (s : Sea
     refusals = s.refusals;
     gave = subst (Gave v u) (append-nil s.refused) (gave_both v w u s.refused [] s.gave g);
   }
+
+-- the bucket of the port that was found is out
+pub found_in : (t : Hash) (a : Owner) (v w : View) (ports rest : List ℕ) → Searching (words.places t) a v w ports rest
+    → (q : Pass) (port : ℕ) (left : List ℕ) (turn : Out) → rest ≡ port ∷ left → TakenIn t a port w q turn → BindsIn t a ports v q port turn
+found_in t a v w ports rest s q port left turn here taken = record {
+  before = s.before;
+  after = left;
+  split = s.split ∙ ap (λ xs. s.before ++ xs) here;
+  refused = s.refused;
+  refusals = s.refusals;
+  begun = w;
+  gave = s.gave;
+  taken = taken;
+}
+
+-- and it is given back
+pub found : (t : Hash) (a : Owner) (ports : List ℕ) (v w : View) (q : Pass) (port : ℕ) (turn : Out) → BindsIn t a ports v q port turn
+    → ((u : View) → Within u (known q) → Gave u w (map (placed turn.place) (made q turn))) → BindsAt (words.places t) a ports v w port
+found t a ports v w q port turn b gives =
+    let o = one_asked (bind_key port a.net % words.places t) turn.place (requests.BindAuto (at_port a port)) answers.Done b.begun w (made q turn) b.taken.place b.taken.made_is (gives b.begun b.taken.within) in
+    record {
+      before = b.before;
+      after = b.after;
+      split = b.split;
+      refused = b.refused;
+      last = o.entry;
+      refusals = b.refusals;
+      taken = o.asked;
+      gave = gave_both v b.begun w b.refused (o.entry ∷ []) b.gave o.gave;
+    }
 
 -- where nobody shares the buckets
 finds_by : (hash new : List Standing) (a : Owner) (port : ℕ) (rest : List ℕ) (answer : Answer) → answer_at hash (bind_key port a.net) (requests.BindAuto (at_port a port)) ≡ answer → asked_at hash (bind_key port a.net) (requests.BindAuto (at_port a port)) ≡ new
@@ -158,14 +177,18 @@ pub nothing_made : (at : ℕ) (v w : View) (ms : List Note) → ms ≡ [] → Ga
 nothing_made at v w [] e g = g
 nothing_made at v w (m ∷ ms) e g = absurd (cc)
 
--- what a try came to, told by the answer
-pub taken_then : (count port : ℕ) (a : Owner) (v w : View) (b : Bool) → b ≡ true → TriedAt count a port v w b → TakenAt count a port v w
-taken_then count port a v w true e t = t
-taken_then count port a v w false e t = absurd (cc)
+-- a search that is left off before a port had slots and ports enough
+pub leaves_ports : {X : Type 0} (end : SearchEnd) → IsLeavingOff end → end ≡ ends.NoPort → X
+leaves_ports ends.NoPort off same = absurd off
+leaves_ports (ends.Full owned held) off same = absurd off
+leaves_ports ends.Memory off same = absurd (cc)
+leaves_ports ends.Busy off same = absurd (cc)
 
-pub refused_then : (count port : ℕ) (a : Owner) (v w : View) (b : Bool) → b ≡ false → TriedAt count a port v w b → RefusedAt count a port v w
-refused_then count port a v w true e t = absurd (cc)
-refused_then count port a v w false e t = t
+pub leaves_slots : (end : SearchEnd) → IsLeavingOff end → IsNotFull end
+leaves_slots ends.NoPort off = tt
+leaves_slots (ends.Full owned held) off = absurd off
+leaves_slots ends.Memory off = tt
+leaves_slots ends.Busy off = tt
 
 -- the numbers that may be drawn are enough for the ports that are left
 pub enough : (most d e : ℕ) (rest left : List ℕ) (port : ℕ) → rest ≡ port ∷ left → e ≡ d + 1 → d + length rest ≤ most → e + length left ≤ most

@@ -18,6 +18,7 @@ use Rattle.port_search.specs.declared.ends.Attempt.TheVariants as attempts
 use Rattle.port_search.specs.declared.ends.SearchEnd.{SearchEnd}
 use Rattle.port_search.specs.declared.ends.SearchEnd.TheVariants as ends
 use Rattle.port_search.specs.Search.{chosen_at, SaysTaken}
+use Rattle.port_search.specs.Turned.{GivenUp}
 
 -- `connect` may choose the port in that namespace
 abbrev pub IsFree : ℕ → ℕ → ℕ → Placed Entry → Type 0
@@ -131,6 +132,16 @@ module _ {C T : Type 0} (step : C → ℕ → Attempt T → C → Type 0) (count
     pub off : IsLeftOff after entries state new
     pub gave : Gave v w (passed ++ entries)
 
+  -- another had the turn of the next port's bucket, and all ports before it were passed over
+  pub record FindsBusy (ports : List ℕ) (v w : View) (old new : C) : Type 0 where
+    pub before : List ℕ
+    pub port : ℕ
+    pub after : List ℕ
+    pub split : ports ≡ before ++ port ∷ after
+    pub passed : List (Placed Entry)
+    pub all : AllPassed step count net before passed old new
+    pub gave : Gave v w passed
+
 -- a bucket that is out, of whose port `connect` may choose in that namespace
 pub record OpenAt (t : Hash) (net port : ℕ) (p q : Pass) (turn : Out) : Type 0 where
   pub out : IsOut t q turn
@@ -149,12 +160,6 @@ pub record ClosedAt (t : Hash) (net port : ℕ) (p q : Pass) : Type 0 where
   pub entry : Placed Entry
   pub held : IsHeld (words.places t) net port entry
   pub gave : Gave (known p) (known q) (entry ∷ [])
-
--- there was no memory
-pub record GivenUp (t : Hash) (p q : Pass) (end : SearchEnd) : Type 0 where
-  pub idle : IsIdle t q
-  pub gave : Gave (known p) (known q) []
-  pub memory : end ≡ ends.Memory
 
 abbrev pub Opened : Hash → ℕ → ℕ → Pass → Pass → Result (Option Out) SearchEnd → Type 0
 Opened t net port p q (Ok (Some turn)) = OpenAt t net port p q turn

@@ -5,6 +5,7 @@ ghost use Rattle.turn_table.specs.Passes as words;
 ghost use Rattle.bind_buckets.specs.Turned.{IsIdle, IsOut};
 
 use bind_buckets::{Bucket, InUse, ListenEnd, Sharing, Strange, turning};
+use patience::Waits;
 use sock_card::{Owner, State, bind_key};
 use std::alloc::{AllocError, Global};
 use std::process::Abort;
@@ -84,7 +85,12 @@ fn bind<R: Wait>(
     ensures pass { IsIdle turns.now pass.new × (words.caller pass.new ≡ 0) }
     ensures draws { words.draws pass.new ≤ words.draws pass.old + 3 }
 {
-    let mut turn = turning::take(rt, turns, pass, bind_key(owner.port, owner.net));
+    let mut turn = turning::take(
+        &Waits::by(rt),
+        turns,
+        pass,
+        bind_key(owner.port, owner.net),
+    ).unwrap();
     match turning::reserve(turns, pass, &mut turn) {
         Ok(()) => match turning::bind(turns, pass, &mut turn, owner) {
             Ok(()) => {
@@ -120,7 +126,7 @@ fn remove<R: Wait>(
     ensures pass { IsIdle turns.now pass.new × (words.caller pass.new ≡ 0) }
     ensures draws { words.draws pass.new ≤ words.draws pass.old + 3 }
 {
-    let mut turn = turning::take(rt, turns, pass, key);
+    let mut turn = turning::take(&Waits::by(rt), turns, pass, key).unwrap();
     match turning::reserve(turns, pass, &mut turn) {
         Ok(()) => {
             let removed = turning::remove(turns, pass, &mut turn, name);

@@ -9,6 +9,8 @@ pub enum SearchEnd {
     Full { owned: u32, held: u32 },
     /// For want of memory.
     Memory,
+    /// Another had a bucket's turn for longer than the caller tries. The ports that were refused before stay told.
+    Busy,
 }
 
 /// What became of a connection at one port.

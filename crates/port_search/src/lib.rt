@@ -17,7 +17,7 @@
 //!
 //! ```text
 //! let ports = Ports::new(range, offset, First::Odd);
-//! let port = turning::find_bind(&rt, &turns, &mut pass, ports, owner)?;
+//! let port = turning::find_bind(&Waits::by(rt), &turns, &mut pass, ports, owner)?;    // or Tries(1_000), and Busy
 //! ```
 #![tactic(auto)]
 

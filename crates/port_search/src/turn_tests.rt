@@ -1,15 +1,16 @@
 //! Searches through buckets under turns: of one pass that is alone, and of four threads beside each other.
 
-ghost use Rattle.std.specs.Prelude.{◌≡◌, ◌+◌, ◌^◌, ◌<◌, ◌≤◌, length};
+ghost use Rattle.std.specs.Prelude.{◌≡◌, ◌+◌, ◌^◌, ◌<◌, ◌≤◌, ◌/◌, length};
 ghost use Rattle.turn_table.specs.Passes as words;
 ghost use Rattle.bind_buckets.specs.Turned.{IsIdle};
 
 use crate::ends::{Attempt, SearchEnd};
 use crate::ports::Ports;
-use crate::turning::{find_bind, find_connect};
-use bind_buckets::{Bucket, Sharing, turning};
+use crate::turning::{find_bind, find_bind_turn, find_connect};
+use bind_buckets::{Bucket, ListenEnd, Sharing, turning};
 use flat_list::{First, NONE_RESERVED, Range};
-use sock_card::{Owner, State};
+use patience::{Tries, Waits};
+use sock_card::{Owner, State, bind_key};
 use std::alloc::{AllocError, Global};
 use std::process::Abort;
 use std::sync::Wait;
@@ -92,7 +93,7 @@ fn connect<R: Wait>(
     ensures draws { words.draws pass.new ≤ words.draws pass.old + length ports + 2 }
 {
     let found = find_connect(
-        rt,
+        &Waits::by(rt),
         turns,
         pass,
         ports,
@@ -134,7 +135,7 @@ fn find<R: Wait>(
     match search {
         Search::Bind(net) => {
             let ports = ports(four, offset, First::Odd);
-            find_bind(rt, turns, pass, ports, socket(1, net))
+            find_bind(&Waits::by(rt), turns, pass, ports, socket(1, net))
         }
         Search::Connect(rport) => {
             let ports = ports(four, offset, First::Even);
@@ -252,7 +253,7 @@ fn bind_ten<R: Wait>(
     let mut found = Vec::new(alloc);
     for number in 0..10u32 {
         let owner = socket(section * 0x100_0000 + number, 0);
-        if let Ok(port) = find_bind(rt, turns, &mut pass, forty(), owner) {
+        if let Ok(port) = find_bind(&Waits::by(rt), turns, &mut pass, forty(), owner) {
             found.push(port)?;
         }
     }
@@ -319,5 +320,96 @@ fn four_threads_find_each_port_once(rt: HostRuntime) -> Result<(), Fail> {
     found.sort()?;
     let each: Vec<u16> = (40000..40040u16).collect(rt.alloc())?;
     assert_eq!(rt; found.as_slice(), each.as_slice());
+    Ok(())
+}
+
+/// Searches the ports 40001 and 40000 for the socket of that name, with three tries at each turn.
+fn bind_soon(
+    turns: &Turns<Box<Bucket>>,
+    pass: &mut TurnPass<Box<Bucket>>,
+    name: u32,
+) -> Result<u16, SearchEnd>
+    requires pass { IsIdle turns.now pass.old × (words.caller pass.old ≡ 2) }
+    requires name { name / 2 ^ 24 ≡ 2 }
+    requires few { words.draws pass.old + 4 ≤ 2 ^ 48 }
+    ensures pass { IsIdle turns.now pass.new × (words.caller pass.new ≡ 2) }
+    ensures draws { words.draws pass.new ≤ words.draws pass.old + 4 }
+{
+    find_bind(
+        &Tries(2),
+        turns,
+        pass,
+        ports(false, 0, First::Odd),
+        socket(name, 0),
+    )
+}
+
+/// What two searches tell while another pass has the turn of that port's bucket, and a third afterwards.
+fn bind_beside<R: Wait>(
+    rt: &R,
+    alloc: Global,
+    held: u16,
+) -> Result<[Result<u16, SearchEnd>; 3], AllocError> {
+    let (turns, mut first) = turning::with_buckets(alloc, 2, Sharing::Shared)?;
+    let mut one = turning::split(&turns, &mut first);
+    let mut two = turning::split(&turns, &mut first);
+    let turn = turning::take(&Waits::by(rt), &turns, &mut one, bind_key(held, 0)).unwrap();
+    let before = bind_soon(&turns, &mut two, 0x200_0001);
+    let again = bind_soon(&turns, &mut two, 0x200_0002);
+    turning::give(&turns, &mut one, turn);
+    let afterwards = bind_soon(&turns, &mut two, 0x200_0003);
+    Ok([before, again, afterwards])
+}
+
+#[test]
+fn a_search_gives_up_where_another_has_the_turn(rt: HostRuntime) -> Result<(), AllocError> {
+    const BUSY: Result<u16, SearchEnd> = Err(SearchEnd::Busy);
+    let first_port = bind_beside(&rt, rt.alloc(), 40001)?;
+    assert_eq!(rt; first_port, [BUSY, BUSY, Ok(40001)]);
+    let second_port = bind_beside(&rt, rt.alloc(), 40000)?;
+    assert_eq!(rt; second_port, [Ok(40001), BUSY, Ok(40000)]);
+    Ok(())
+}
+
+/// What a socket's bucket says to it in the turn in which it was bound, and what another pass's search tells in the
+/// meantime.
+type InOneTurn = Option<(u16, Result<u16, SearchEnd>, Result<Option<u32>, ListenEnd>)>;
+
+/// Binds the first section's socket, which may then listen, and meanwhile the second's.
+fn bind_and_ask(
+    turns: &Turns<Box<Bucket>>,
+    one: &mut TurnPass<Box<Bucket>>,
+    two: &mut TurnPass<Box<Bucket>>,
+) -> InOneTurn
+    requires one { IsIdle turns.now one.old × (words.caller one.old ≡ 1) × (words.draws one.old ≡ 0) }
+    requires two { IsIdle turns.now two.old × (words.caller two.old ≡ 2) × (words.draws two.old ≡ 0) }
+{
+    let name = 0x100_0001;
+    let ports = ports(false, 0, First::Odd);
+    match find_bind_turn(&Tries(2), turns, one, ports, socket(name, 0)) {
+        Ok((port, turn)) => {
+            let meanwhile = bind_soon(turns, two, 0x200_0001);
+            let mut turn = turn;
+            let group = turning::may_listen(turns, one, &mut turn, name);
+            turning::give(turns, one, turn);
+            Some((port, meanwhile, group))
+        }
+        Err(_) => None,
+    }
+}
+
+/// That of new buckets.
+fn ask_in_one_turn(alloc: Global) -> Result<InOneTurn, AllocError> {
+    let (turns, mut first) = turning::with_buckets(alloc, 2, Sharing::Shared)?;
+    let mut one = turning::split(&turns, &mut first);
+    let mut two = turning::split(&turns, &mut first);
+    Ok(bind_and_ask(&turns, &mut one, &mut two))
+}
+
+#[test]
+fn a_socket_is_bound_and_asked_in_one_turn(rt: HostRuntime) -> Result<(), AllocError> {
+    let told = ask_in_one_turn(rt.alloc())?;
+    let expected: InOneTurn = Some((40001, Err(SearchEnd::Busy), Ok(Some(8))));
+    assert_eq!(rt; told, expected);
     Ok(())
 }

@@ -1,6 +1,6 @@
 //! The searches of `bind` and `connect` through buckets that threads share, each port in its own turn.
 
-ghost use Rattle.std.specs.Prelude.{◌≡◌, ◌+◌, ◌%◌, ◌^◌, ◌<◌, ◌≤◌, length, OnErr, IfOk, IfErr, Some, Err, [], ◌∷◌};
+ghost use Rattle.std.specs.Prelude.{◌≡◌, ◌+◌, ◌%◌, ◌^◌, ◌<◌, ◌≤◌, length, OnErr, IfOk, IfErr, Some, Err, true, [], ◌∷◌};
 ghost use Rattle.sock_card.specs.Conflict as conflict;
 ghost use Rattle.turn_table.specs.Passes as words;
 ghost use Rattle.turn_table.specs.Passes.{known};
@@ -8,17 +8,17 @@ ghost use Rattle.bind_buckets.specs.Callers.{MayName};
 ghost use Rattle.bind_buckets.specs.Bucket.{CanConnect, entries_of};
 ghost use Rattle.bind_buckets.specs.Turned.{View, IsIdle, IsOut, IsAlone, Within, Gave, hash_of, made};
 ghost use Rattle.port_search.specs.Search as spec;
-ghost use Rattle.port_search.specs.Search.{IsNotFull, FindsNone, ConnectsAt, ConnectsNowhere, searched};
-ghost use Rattle.port_search.specs.Turned.{TriedAt, BindsAt, BindsNowhere, BindsNotYet};
-ghost use Rattle.port_search.specs.TurnedConnect.{Opened, CameAt, Tries, MayTry, MakesAt, MakesNone, MakesNotYet, SaysFull};
+ghost use Rattle.port_search.specs.Search.{IsNotBusy, IsNotFull, FindsNone, ConnectsAt, ConnectsNowhere, searched};
+ghost use Rattle.port_search.specs.Turned.{TriedAt, BindsAt, BindsIn, BindsNowhere, BindsNotYet};
+ghost use Rattle.port_search.specs.TurnedConnect.{Opened, CameAt, Tries, MayTry, MakesAt, MakesNone, MakesNotYet, FindsBusy, SaysFull};
 ghost use Rattle.bind_buckets.specs.declared.request.Request.TheVariants as requests;
 ghost use Rattle.bind_buckets.specs.declared.request.Answer.TheVariants as answers;
 
 use crate::ends::{Attempt, SearchEnd};
 use crate::ports::Ports;
 use bind_buckets::{Bucket, turning};
+use patience::Patience;
 use sock_card::{Owner, bind_key};
-use std::sync::Wait;
 use turn_table::{Turn, TurnPass, Turns};
 
 /// The owner, at that port.
@@ -28,31 +28,35 @@ fn at_port(owner: Owner, port: u16) -> Owner
     Owner { port, ..owner }
 }
 
-/// Asks the port's bucket in the owner's namespace to take it in, where no other overlaps it; whether it
-/// did.
-fn bind_at<R: Wait>(
-    rt: &R,
+/// Takes the turn of the port's bucket in the owner's namespace, makes room there and asks it to take the owner in,
+/// where no other overlaps it; where it did, the bucket stays out.
+fn bind_at<P: Patience>(
+    patience: &P,
     turns: &Turns<Box<Bucket>>,
     pass: &mut TurnPass<Box<Bucket>>,
     owner: Owner,
     port: u16,
-) -> Result<bool, SearchEnd>
+) -> Result<Option<Turn<Box<Bucket>>>, SearchEnd>
     requires idle { IsIdle turns.now pass.old }
     requires few { words.draws pass.old < 2 ^ 48 }
     requires may { MayName (words.caller pass.old) owner.name }
-    ensures idle { IsIdle turns.now pass.new }
-    ensures caller { words.caller pass.new ≡ words.caller pass.old }
-    ensures tried { IfOk result (TriedAt (words.places turns.now) owner port (known pass.old) (known pass.new)) }
-    ensures nothing { OnErr result (Gave (known pass.old) (known pass.new) []) }
-    ensures end { IfErr result (λ end. end ≡ SearchEnd.Memory) }
+    ensures tried { TriedAt turns.now owner port pass.old pass.new result }
+    ensures patient { P.endless ≡ true → IfErr result IsNotBusy }
 {
-    let mut turn = turning::take(rt, turns, pass, bind_key(port, owner.net));
+    let Some(mut turn) = turning::take(patience, turns, pass, bind_key(port, owner.net)) else {
+        return Err(SearchEnd::Busy);
+    };
     match turning::reserve(turns, pass, &mut turn) {
-        Ok(()) => {
-            let bound = turning::bind_auto(turns, pass, &mut turn, at_port(owner, port));
-            turning::give(turns, pass, turn);
-            Ok(bound.is_ok())
-        }
+        Ok(()) => match turning::bind_auto(turns, pass, &mut turn, at_port(owner, port)) {
+            Ok(()) => {
+                turn.value.recall();
+                Ok(Some(turn))
+            }
+            Err(_) => {
+                turning::give(turns, pass, turn);
+                Ok(None)
+            }
+        },
         Err(_) => {
             turning::give(turns, pass, turn);
             Err(SearchEnd::Memory)
@@ -60,14 +64,59 @@ fn bind_at<R: Wait>(
     }
 }
 
+/// [`find_bind`], with the turn in which the owner was bound: the port's bucket is still out.
+///
+/// The owner's entry is the only one of that turn so far. The bucket has room for two more, and for one newcomer.
+/// Where the search fails, no bucket is out.
+pub fn find_bind_turn<P: Patience>(
+    patience: &P,
+    turns: &Turns<Box<Bucket>>,
+    pass: &mut TurnPass<Box<Bucket>>,
+    ports: Ports,
+    owner: Owner,
+) -> Result<(u16, Turn<Box<Bucket>>), SearchEnd>
+    requires idle { IsIdle turns.now pass.old }
+    requires few { words.draws pass.old + length ports ≤ 2 ^ 48 }
+    requires may { MayName (words.caller pass.old) owner.name }
+    ensures bound { IfOk result (λ found. BindsIn turns.now owner ports (known pass.old) pass.new found.0 found.1) }
+    ensures out { IfOk result (λ found. IsOut turns.now pass.new found.1) }
+    ensures place { IfOk result (λ found. found.1.place ≡ conflict.bind_key found.0 owner.net % words.places turns.now) }
+    ensures entries { IfOk result (λ found. 2 ≤ found.1.value.value.entries) }
+    ensures newcomer { IfOk result (λ found. 1 ≤ found.1.value.value.newcomers) }
+    ensures idle { OnErr result (IsIdle turns.now pass.new) }
+    ensures caller { words.caller pass.new ≡ words.caller pass.old }
+    ensures no_port { result ≡ Err SearchEnd.NoPort
+        → BindsNowhere (words.places turns.now) owner ports (known pass.old) (known pass.new) }
+    ensures memory { result ≡ Err SearchEnd.Memory
+        → BindsNotYet (words.places turns.now) owner ports (known pass.old) (known pass.new) }
+    ensures busy { result ≡ Err SearchEnd.Busy
+        → BindsNotYet (words.places turns.now) owner ports (known pass.old) (known pass.new) }
+    ensures end { IfErr result IsNotFull }
+    ensures patient { P.endless ≡ true → IfErr result IsNotBusy }
+    ensures draws { words.draws pass.new ≤ words.draws pass.old + length ports }
+    ensures alone_none { IsAlone (known pass.old) → result ≡ Err SearchEnd.NoPort
+        → FindsNone (hash_of (words.places turns.now) (words.given pass.old)) owner ports
+        (hash_of (words.places turns.now) (words.given pass.new)) }
+{
+    for port in ports {
+        match bind_at(patience, turns, pass, owner, port) {
+            Err(end) => return Err(end),
+            Ok(None) => {}
+            Ok(Some(turn)) => return Ok((port, turn)),
+        }
+    }
+    Err(SearchEnd::NoPort)
+}
+
 /// Binds the owner to the first of the ports at which no owner of its namespace overlaps it as its turn
 /// comes, whatever their options (`inet_csk_find_open_port`).
 ///
 /// Each port that is tried adds one entry to its bucket, with a number of its own. `NoPort` says that
-/// each of the ports, at its own turn in this call, was refused. Where nobody else was ever split off,
-/// the search and what it leaves are those of buckets that are not shared.
-pub fn find_bind<R: Wait>(
-    rt: &R,
+/// each of the ports, at its own turn in this call, was refused. `Busy`: another had the turn of the next port's
+/// bucket for longer than the caller's patience lasts; with a [`Patience`] that is endless, this doesn't come. Where
+/// nobody else was ever split off, the search and what it leaves are those of buckets that are not shared.
+pub fn find_bind<P: Patience>(
+    patience: &P,
     turns: &Turns<Box<Bucket>>,
     pass: &mut TurnPass<Box<Bucket>>,
     ports: Ports,
@@ -83,7 +132,10 @@ pub fn find_bind<R: Wait>(
         → BindsNowhere (words.places turns.now) owner ports (known pass.old) (known pass.new) }
     ensures memory { result ≡ Err SearchEnd.Memory
         → BindsNotYet (words.places turns.now) owner ports (known pass.old) (known pass.new) }
+    ensures busy { result ≡ Err SearchEnd.Busy
+        → BindsNotYet (words.places turns.now) owner ports (known pass.old) (known pass.new) }
     ensures end { IfErr result IsNotFull }
+    ensures patient { P.endless ≡ true → IfErr result IsNotBusy }
     ensures draws { words.draws pass.new ≤ words.draws pass.old + length ports }
     ensures alone { IsAlone (known pass.old) → IfOk result (λ port.
         searched (hash_of (words.places turns.now) (words.given pass.old)) owner ports
@@ -92,18 +144,19 @@ pub fn find_bind<R: Wait>(
         → FindsNone (hash_of (words.places turns.now) (words.given pass.old)) owner ports
         (hash_of (words.places turns.now) (words.given pass.new)) }
 {
-    for port in ports {
-        if bind_at(rt, turns, pass, owner, port)? {
-            return Ok(port);
+    match find_bind_turn(patience, turns, pass, ports, owner) {
+        Ok((port, turn)) => {
+            turning::give(turns, pass, turn);
+            Ok(port)
         }
+        Err(end) => Err(end),
     }
-    Err(SearchEnd::NoPort)
 }
 
 /// Takes the turn of the port's bucket in that namespace, makes room there and asks whether `connect`
 /// may choose the port there; where it may, the bucket stays out.
-fn open_at<R: Wait>(
-    rt: &R,
+fn open_at<P: Patience>(
+    patience: &P,
     turns: &Turns<Box<Bucket>>,
     pass: &mut TurnPass<Box<Bucket>>,
     port: u16,
@@ -111,9 +164,12 @@ fn open_at<R: Wait>(
 ) -> Result<Option<Turn<Box<Bucket>>>, SearchEnd>
     requires idle { IsIdle turns.now pass.old }
     requires few { words.draws pass.old < 2 ^ 48 }
-    ensures { Opened turns.now net port pass.old pass.new result }
+    ensures opened { Opened turns.now net port pass.old pass.new result }
+    ensures patient { P.endless ≡ true → IfErr result IsNotBusy }
 {
-    let mut turn = turning::take(rt, turns, pass, bind_key(port, net));
+    let Some(mut turn) = turning::take(patience, turns, pass, bind_key(port, net)) else {
+        return Err(SearchEnd::Busy);
+    };
     match turning::reserve(turns, pass, &mut turn) {
         Ok(()) => match turning::free(turns, pass, &mut turn, port, net) {
             Ok(()) => Ok(Some(turn)),
@@ -187,9 +243,11 @@ fn connect_at(
 ///
 /// `NoPort`: each of the ports, at its own turn in this call, was held or answered `Taken`. `Full`: so
 /// `insert` answered at a free port, where the search ended. `Memory`: a bucket's room or `insert` wanted
-/// memory; the entries of the ports that were tried stay, and no bucket is out.
-pub fn find_connect<R: Wait, T, C, F: Fn(&mut C, u16) -> Attempt<T>>(
-    rt: &R,
+/// memory; the entries of the ports that were tried stay, and no bucket is out. `Busy`: another had the turn of the
+/// next port's bucket for longer than the caller's patience lasts, and likewise; with a [`Patience`] that is endless,
+/// this doesn't come.
+pub fn find_connect<P: Patience, T, C, F: Fn(&mut C, u16) -> Attempt<T>>(
+    patience: &P,
     turns: &Turns<Box<Bucket>>,
     pass: &mut TurnPass<Box<Bucket>>,
     ports: Ports,
@@ -212,6 +270,9 @@ pub fn find_connect<R: Wait, T, C, F: Fn(&mut C, u16) -> Attempt<T>>(
         owner.net ports (known pass.old) (known pass.new) context.old end context.new) }
     ensures memory { result ≡ Err SearchEnd.Memory → MakesNotYet (Tries (F.post insert)) (words.places turns.now)
         owner.net ports (known pass.old) (known pass.new) context.old context.new }
+    ensures busy { result ≡ Err SearchEnd.Busy → FindsBusy (Tries (F.post insert)) (words.places turns.now)
+        owner.net ports (known pass.old) (known pass.new) context.old context.new }
+    ensures patient { P.endless ≡ true → IfErr result IsNotBusy }
     ensures alone { IsAlone (known pass.old) → IfOk result (λ found.
         ConnectsAt (Tries (F.post insert)) (hash_of (words.places turns.now) (words.given pass.old))
         (hash_of (words.places turns.now) (words.given pass.new)) context.old owner ports found.0 found.1) }
@@ -220,7 +281,7 @@ pub fn find_connect<R: Wait, T, C, F: Fn(&mut C, u16) -> Attempt<T>>(
         (hash_of (words.places turns.now) (words.given pass.new)) context.old owner.net ports }
 {
     for port in ports {
-        match open_at(rt, turns, pass, port, owner.net) {
+        match open_at(patience, turns, pass, port, owner.net) {
             Err(end) => return Err(end),
             Ok(None) => {}
             Ok(Some(turn)) => match insert(context, port) {

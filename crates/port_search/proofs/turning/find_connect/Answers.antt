@@ -4,15 +4,16 @@ use Rattle.turn_table.specs.Passes as words
 use Rattle.turn_table.specs.Passes.{known}
 use Rattle.bind_buckets.specs.declared.request.Request.TheVariants as requests
 use Rattle.bind_buckets.specs.declared.request.Answer.TheVariants as answers
-use Rattle.port_search.specs.TurnedConnect.{Tries, Opened, OpenAt, ClosedAt, GivenUp}
-use Rattle.port_search.proofs.TurnSearch.{one_asked, enough}
-use Rattle.port_search.proofs.TurnConnect.{passed_on, makes, makes_none, not_yet_made, free_front, still_there, finds_full, held_on, enough_left, connect_begins, may_now, may_again}
+use Rattle.port_search.specs.Turned.{GivenUp}
+use Rattle.port_search.specs.TurnedConnect.{Tries, Opened, OpenAt, ClosedAt}
+use Rattle.port_search.proofs.TurnSearch.{one_asked, enough, leaves_ports}
+use Rattle.port_search.proofs.TurnConnect.{passed_on, makes, makes_none, not_yet_made, free_front, still_there, finds_busy, finds_full, leaves_full, held_on, enough_left, connect_begins, may_now, may_again}
 use Rattle.port_search.proofs.ConnectAlone.{makes_alone, makes_none_alone}
 use Rattle.port_search.proofs.turning.find_connect.Goals as goal
 
 pub loop-port-preserved-in-Ok-None : goal.loop-port-preserved-in-Ok-None
 loop-port-preserved-in-Ok-None g c =
-    let k : ClosedAt c.args.turns.now c.args.owner.net c.in-Some.port c.loop-port.pass c.open_at.new.pass = subst (λ r. Opened c.args.turns.now c.args.owner.net c.in-Some.port c.loop-port.pass c.open_at.new.pass (Ok r)) c.in-Ok-None.field-0-is c.in-Ok-None.ensures in
+    let k : ClosedAt c.args.turns.now c.args.owner.net c.in-Some.port c.loop-port.pass c.open_at.new.pass = subst (λ r. Opened c.args.turns.now c.args.owner.net c.in-Some.port c.loop-port.pass c.open_at.new.pass (Ok r)) c.in-Ok-None.field-0-is c.in-Ok-None.ensures.opened in
     let n = words.places c.args.turns.now in
     let v = known c.args.pass.now in
     let w = known c.loop-port.pass in
@@ -31,7 +32,7 @@ loop-port-preserved-in-Ok-None g c =
 
 pub loop-port-preserved : goal.loop-port-preserved
 loop-port-preserved g c =
-    let k : OpenAt c.args.turns.now c.args.owner.net c.in-Some.port c.loop-port.pass c.open_at.new.pass c.in-Ok-Some.turn = subst (λ r. Opened c.args.turns.now c.args.owner.net c.in-Some.port c.loop-port.pass c.open_at.new.pass (Ok r)) c.in-Ok-Some.field-0-is c.in-Ok-Some.ensures in
+    let k : OpenAt c.args.turns.now c.args.owner.net c.in-Some.port c.loop-port.pass c.open_at.new.pass c.in-Ok-Some.turn = subst (λ r. Opened c.args.turns.now c.args.owner.net c.in-Some.port c.loop-port.pass c.open_at.new.pass (Ok r)) c.in-Ok-Some.field-0-is c.in-Ok-Some.ensures.opened in
     let n = words.places c.args.turns.now in
     let v = known c.args.pass.now in
     let w = known c.loop-port.pass in
@@ -51,7 +52,7 @@ loop-port-preserved g c =
 
 pub returns-in-Done-clause-made : goal.returns-in-Done-clause-made
 returns-in-Done-clause-made g c =
-    let k : OpenAt c.args.turns.now c.args.owner.net c.in-Some.port c.loop-port.pass c.open_at.new.pass c.in-Ok-Some.turn = subst (λ r. Opened c.args.turns.now c.args.owner.net c.in-Some.port c.loop-port.pass c.open_at.new.pass (Ok r)) c.in-Ok-Some.field-0-is c.in-Ok-Some.ensures in
+    let k : OpenAt c.args.turns.now c.args.owner.net c.in-Some.port c.loop-port.pass c.open_at.new.pass c.in-Ok-Some.turn = subst (λ r. Opened c.args.turns.now c.args.owner.net c.in-Some.port c.loop-port.pass c.open_at.new.pass (Ok r)) c.in-Ok-Some.field-0-is c.in-Ok-Some.ensures.opened in
     let n = words.places c.args.turns.now in
     let v = known c.args.pass.now in
     let w = known c.loop-port.pass in
@@ -61,7 +62,7 @@ returns-in-Done-clause-made g c =
 
 pub returns-in-Full-clause-full : goal.returns-in-Full-clause-full
 returns-in-Full-clause-full g c =
-    let k : OpenAt c.args.turns.now c.args.owner.net c.in-Some.port c.loop-port.pass c.open_at.new.pass c.in-Ok-Some.turn = subst (λ r. Opened c.args.turns.now c.args.owner.net c.in-Some.port c.loop-port.pass c.open_at.new.pass (Ok r)) c.in-Ok-Some.field-0-is c.in-Ok-Some.ensures in
+    let k : OpenAt c.args.turns.now c.args.owner.net c.in-Some.port c.loop-port.pass c.open_at.new.pass c.in-Ok-Some.turn = subst (λ r. Opened c.args.turns.now c.args.owner.net c.in-Some.port c.loop-port.pass c.open_at.new.pass (Ok r)) c.in-Ok-Some.field-0-is c.in-Ok-Some.ensures.opened in
     let n = words.places c.args.turns.now in
     let v = known c.args.pass.now in
     let w = known c.loop-port.pass in
@@ -71,7 +72,7 @@ returns-in-Full-clause-full g c =
 
 pub returns-in-Done-clause-alone : goal.returns-in-Done-clause-alone
 returns-in-Done-clause-alone g c =
-    let k : OpenAt c.args.turns.now c.args.owner.net c.in-Some.port c.loop-port.pass c.open_at.new.pass c.in-Ok-Some.turn = subst (λ r. Opened c.args.turns.now c.args.owner.net c.in-Some.port c.loop-port.pass c.open_at.new.pass (Ok r)) c.in-Ok-Some.field-0-is c.in-Ok-Some.ensures in
+    let k : OpenAt c.args.turns.now c.args.owner.net c.in-Some.port c.loop-port.pass c.open_at.new.pass c.in-Ok-Some.turn = subst (λ r. Opened c.args.turns.now c.args.owner.net c.in-Some.port c.loop-port.pass c.open_at.new.pass (Ok r)) c.in-Ok-Some.field-0-is c.in-Ok-Some.ensures.opened in
     let n = words.places c.args.turns.now in
     let v = known c.args.pass.now in
     let w = known c.loop-port.pass in
@@ -93,12 +94,29 @@ returns-in-Err-clause-memory g c =
     let n = words.places c.args.turns.now in
     let v = known c.args.pass.now in
     let w = known c.loop-port.pass in
-    let k : GivenUp c.args.turns.now c.loop-port.pass c.open_at.new.pass c.in-Err.end = c.in-Err.ensures in
+    let k : GivenUp c.args.turns.now c.loop-port.pass c.open_at.new.pass c.in-Err.end = c.in-Err.ensures.opened in
     λ same. not_yet_made (Tries (goal.F-post g c.args.insert)) n c.args.owner.net v w c.args.context.now c.loop-port.context c.args.ports c.loop-port.port-iterator c.loop-port.invariant.7 (known c.open_at.new.pass) [] c.loop-port.context (still_there (Tries (goal.F-post g c.args.insert)) n c.args.owner.net c.loop-port.port-iterator c.next.new.self c.in-Some.port c.loop-port.context c.in-Some.ensures.steps) k.gave
+
+pub returns-in-Err-clause-busy : goal.returns-in-Err-clause-busy
+returns-in-Err-clause-busy g c =
+    let n = words.places c.args.turns.now in
+    let v = known c.args.pass.now in
+    let w = known c.loop-port.pass in
+    λ same. finds_busy (Tries (goal.F-post g c.args.insert)) n c.args.owner.net v w c.args.context.now c.loop-port.context c.args.ports c.loop-port.port-iterator c.loop-port.invariant.7 (known c.open_at.new.pass) c.in-Some.port c.next.new.self c.in-Some.ensures.steps c.in-Err.ensures.opened.gave
+
+pub returns-in-Err-clause-none : goal.returns-in-Err-clause-none
+returns-in-Err-clause-none g c = λ same. leaves_ports c.in-Err.end c.in-Err.ensures.opened.leaving (cc)
+
+pub returns-in-Err-clause-alone_none : goal.returns-in-Err-clause-alone_none
+returns-in-Err-clause-alone_none g c = λ alone same. leaves_ports c.in-Err.end c.in-Err.ensures.opened.leaving (cc)
+
+pub returns-in-Err-clause-full : goal.returns-in-Err-clause-full
+returns-in-Err-clause-full g c =
+    leaves_full (Tries (goal.F-post g c.args.insert)) (words.places c.args.turns.now) c.args.owner.net c.args.ports (known c.args.pass.now) (known c.open_at.new.pass) c.args.context.now c.loop-port.context c.in-Err.end c.in-Err.ensures.opened.leaving
 
 pub returns-in-Memory-clause-memory : goal.returns-in-Memory-clause-memory
 returns-in-Memory-clause-memory g c =
-    let k : OpenAt c.args.turns.now c.args.owner.net c.in-Some.port c.loop-port.pass c.open_at.new.pass c.in-Ok-Some.turn = subst (λ r. Opened c.args.turns.now c.args.owner.net c.in-Some.port c.loop-port.pass c.open_at.new.pass (Ok r)) c.in-Ok-Some.field-0-is c.in-Ok-Some.ensures in
+    let k : OpenAt c.args.turns.now c.args.owner.net c.in-Some.port c.loop-port.pass c.open_at.new.pass c.in-Ok-Some.turn = subst (λ r. Opened c.args.turns.now c.args.owner.net c.in-Some.port c.loop-port.pass c.open_at.new.pass (Ok r)) c.in-Ok-Some.field-0-is c.in-Ok-Some.ensures.opened in
     let n = words.places c.args.turns.now in
     let v = known c.args.pass.now in
     let w = known c.loop-port.pass in
@@ -123,6 +141,6 @@ insert-requires g c = may_now (goal.F-pre g c.args.insert) (goal.F-post g c.args
 
 pub returns-in-Done-clause-caller : goal.returns-in-Done-clause-caller
 returns-in-Done-clause-caller g c =
-    let k : OpenAt c.args.turns.now c.args.owner.net c.in-Some.port c.loop-port.pass c.open_at.new.pass c.in-Ok-Some.turn = subst (λ r. Opened c.args.turns.now c.args.owner.net c.in-Some.port c.loop-port.pass c.open_at.new.pass (Ok r)) c.in-Ok-Some.field-0-is c.in-Ok-Some.ensures in
+    let k : OpenAt c.args.turns.now c.args.owner.net c.in-Some.port c.loop-port.pass c.open_at.new.pass c.in-Ok-Some.turn = subst (λ r. Opened c.args.turns.now c.args.owner.net c.in-Some.port c.loop-port.pass c.open_at.new.pass (Ok r)) c.in-Ok-Some.field-0-is c.in-Ok-Some.ensures.opened in
     let w = known c.loop-port.pass in
     (c.connect_at.ensures.came w k.within k.made_is).gave.caller ∙ c.loop-port.invariant.6

@@ -3,7 +3,7 @@ use Rattle.turn_table.specs.Passes as words
 use Rattle.turn_table.specs.Passes.{known}
 use Rattle.bind_buckets.specs.Turned.{IsIdle}
 use Rattle.port_search.proofs.TurnSearch.{Searching}
-use Rattle.port_search.proofs.turning.find_bind.Given as goal
+use Rattle.port_search.proofs.turning.find_bind_turn.Given as goal
 
 abbrev pub invariant-loop-port : goal.invariant-loop-port
 invariant-loop-port g l =
