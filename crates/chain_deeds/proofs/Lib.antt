@@ -8,4 +8,5 @@ pub mod Goes
 pub mod Hands
 pub mod Reaps
 pub mod Rooms
+pub mod Homes
 pub mod Holds

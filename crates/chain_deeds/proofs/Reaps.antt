@@ -1,5 +1,5 @@
 -- TIME_WAITs that are reaped, as deeds.
-use Rattle.std.proofs.Common.{◌≡◌, ℕ, ◌==◌, ◌&&◌, Bool, true, false, cond, List, [], ◌∷◌, Option, None, Some, find, refl, sym, ap, ◌∙◌, subst}
+use Rattle.std.proofs.Common.{◌≡◌, ℕ, ◌==◌, ◌&&◌, Bool, true, false, cond, List, [], ◌∷◌, Option, None, Some, IfSome, find, refl, sym, ap, ◌∙◌, subst}
 use Rattle.std.specs.Option.{option_map}
 use Rattle.std.proofs.lemmas.Bool.{eqb-true}
 use Rattle.sock_card.specs.TimeWait.{is_time_wait_kind}
@@ -144,3 +144,10 @@ module _ (layout : Layout) (next bucket : ℕ) (card : Card) (result : Option �
 
   pub reaps_of : Reaps card result (side layout v next) (side layout w next)
   reaps_of = by_found (waiting_as card.name (row_of h.chain)) refl
+
+-- the same where the lock was had, if it was
+pub reaps_if : (layout : Layout) (next bucket : ℕ) (card : Card) (result : Option (Option ℕ)) (v w : View) → card.kind ≡ kinds.TimeWait → home layout.shape layout.seed card ≡ bucket
+    → IfSome result (λ slot. spec.Reaps bucket card.name slot v w) → IfSome result (λ slot. ReapsAlone layout bucket card.name slot v w) → PlacesStay v w
+    → IfSome result (λ slot. Reaps card slot (side layout v next) (side layout w next))
+reaps_if layout next bucket card None v w wait at h alone stay = tt
+reaps_if layout next bucket card (Some slot) v w wait at h alone stay = reaps_of layout next bucket card slot v w wait at h alone stay

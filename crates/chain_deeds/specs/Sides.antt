@@ -12,7 +12,9 @@ use Rattle.table_rule.specs.Passes.{IsPassOf, known}
 use Rattle.table_rule.specs.declared.view.Layout.{Layout}
 use Rattle.table_rule.specs.declared.view.View.{View}
 use Rattle.table_rule.specs.declared.view.Change.{Change as Closed}
+use Rattle.bucket_locks.specs.declared.locks.Locked.{Locked}
 use Rattle.nulls_chain.specs.declared.keeping.Place.{Place}
+use Rattle.shared_sockets.specs.Leavings as locks
 use Rattle.shared_sockets.specs.Alone.{chains_of}
 use Rattle.chain_deeds.specs.declared.table.ChainTable.{ChainTable}
 use Rattle.chain_deeds.specs.declared.table.ChainPass.{ChainPass}
@@ -71,3 +73,14 @@ TakesRoom n p q = (more : ℕ) → HasRoom (more + n) p → HasRoom more q
 -- the place is in the chain in which its card belongs
 abbrev pub IsAtHome : ChainTable → Place → Type 0
 IsAtHome t place = place.bucket ≡ home t.layout.shape t.layout.seed place.card
+
+-- a pass that rested on that side has locked the place's bucket since, and has done nothing else
+pub record HasLockSince (c : Side) (t : ChainTable) (locked : Locked) (place : Place) (p : ChainPass) : Type 0 where
+  pub table : IsPassOf t.chains p.pass
+  pub side_is : c ≡ record { layout = t.layout; view = c.view; next = p.next }
+  pub lock : locks.HasLockSince c.view locked place.bucket (known p.pass)
+  pub idle : IsIdle c.view.slot
+  pub opened : c.view.book.opened ≡ []
+  pub hand : (me p.pass.steps).1 ≡ []
+  pub next : p.next ≤ t.layout.shape.slots
+  pub kept : are_kept p.pass.changes ≡ t.keeps_changes

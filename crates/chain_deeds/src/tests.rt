@@ -8,9 +8,10 @@ ghost use Rattle.table_rule.specs.Passes.{known};
 
 use crate::coming::{add, insert};
 use crate::handover::hand_over;
-use crate::leaving::{remove, time_wait};
+use crate::leaving::{lock_chain_of, remove, time_wait};
 use crate::table::{ChainPass, ChainTable};
 use chain_book::{Replace, Shape};
+use patience::Waits;
 use shared_sockets::InsertEnd;
 use sock_card::{Card, Kind};
 use std::alloc::AllocError;
@@ -94,7 +95,7 @@ fn come<R: Wait>(table: &ChainTable, rt: &R, pass: &mut ChainPass, rule: Replace
     ensures rests { IsResting table.now pass.new }
     ensures nothing { HoldsNothing (known pass.old.pass) → HoldsNothing (known pass.new.pass) }
 {
-    match insert(table, rt, pass, &FULL, 6, rule) {
+    match insert(table, &Waits::by(rt), pass, &FULL, 6, rule).unwrap() {
         Ok(inserted) => match inserted.replaced {
             Some(name) => Came::For(inserted.place.slot, name),
             None => Came::At(inserted.place.slot),
@@ -112,8 +113,9 @@ fn come_again<R: Wait>(table: &ChainTable, rt: &R, pass: &mut ChainPass, rule: R
     requires room { HasRoom 6 pass.old }
     requires share { HasShares 12 (known pass.old.pass) }
 {
-    match insert(table, rt, pass, &FULL, 6, rule) {
-        Ok(inserted) => match time_wait(table, rt, pass, inserted.place, &WAITING) {
+    let waits = Waits::by(rt);
+    match insert(table, &waits, pass, &FULL, 6, rule).unwrap() {
+        Ok(inserted) => match time_wait(table, &waits, pass, inserted.place, &WAITING).unwrap() {
             Ok(_) => come(table, rt, pass, rule),
             Err(full) => Came::Full(full.owned),
         },
@@ -128,13 +130,15 @@ fn shake_hands<R: Wait>(table: &ChainTable, rt: &R, pass: &mut ChainPass) -> (Ca
     requires room { HasRoom 6 pass.old }
     requires share { HasShares 14 (known pass.old.pass) }
 {
-    let Ok(inserted) = insert(table, rt, pass, &REQUEST, 0, Replace::Always) else {
+    let waits = Waits::by(rt);
+    let Ok(inserted) = insert(table, &waits, pass, &REQUEST, 0, Replace::Always).unwrap() else {
         return (Came::Never, Came::Never);
     };
-    match hand_over(table, rt, pass, inserted.place, &FULL) {
+    match hand_over(table, &waits, pass, inserted.place, &FULL).unwrap() {
         Ok(child) => (Came::At(child.slot), come(table, rt, pass, Replace::Never)),
         Err((request, full)) => {
-            remove(table, rt, pass, request);
+            let locked = lock_chain_of(table, &waits, pass, &request).unwrap();
+            remove(table, pass, locked, request);
             (
                 Came::Full(full.owned),
                 come(table, rt, pass, Replace::Never),
@@ -148,7 +152,7 @@ fn listen<R: Wait>(table: &ChainTable, rt: &R, pass: &mut ChainPass) -> Came
     requires room { HasRoom 1 pass.old }
     requires share { HasShares 2 (known pass.old.pass) }
 {
-    match add(table, rt, pass, &LISTENER) {
+    match add(table, &Waits::by(rt), pass, &LISTENER).unwrap() {
         Ok(place) => Came::At(place.slot),
         Err(full) => Came::Full(full.owned),
     }
@@ -160,9 +164,11 @@ fn listen_again<R: Wait>(table: &ChainTable, rt: &R, pass: &mut ChainPass) -> Ca
     requires room { HasRoom 3 pass.old }
     requires share { HasShares 6 (known pass.old.pass) }
 {
-    match add(table, rt, pass, &LISTENER) {
+    let waits = Waits::by(rt);
+    match add(table, &waits, pass, &LISTENER).unwrap() {
         Ok(place) => {
-            remove(table, rt, pass, place);
+            let locked = lock_chain_of(table, &waits, pass, &place).unwrap();
+            remove(table, pass, locked, place);
             listen(table, rt, pass)
         }
         Err(_) => Came::Never,

@@ -14,6 +14,7 @@ use chain_book::{Shape, home};
 use null_reader::answers::Look;
 use null_reader::{LookEnd, Pace, PassEnd, look};
 use nulls_chain::{Halt, Place, hash_with, unhash_tw, unhash_with, walk, walk_to_end};
+use patience::Waits;
 use shared_slots::{Full, claim, put, write_card};
 use sock_card::{Card, Packet, pack};
 use std::sync::Wait;
@@ -45,7 +46,7 @@ pub fn hash_in<R: Wait, H: Halt>(
     ensures others { (place : Place) → CanUnhash chains.now pass.old place → CanUnhash chains.now pass.new place }
 {
     let bucket = home(&plan.shape, plan.seed, card);
-    let mut locked = lock(chains, rt, &mut pass.steps, bucket);
+    let mut locked = lock(chains, &Waits::by(rt), &mut pass.steps, bucket).unwrap();
     walk_to_end(chains, &mut pass.steps, &mut locked);
     let answer = hash_with(chains, pass, &locked, 0, card, halt);
     unlock(chains, &mut pass.steps, locked);
@@ -65,7 +66,7 @@ pub fn unhash_in<R: Wait, H: Halt>(
     requires ready { IsReady chains.now pass.old (rest + 1) }
     ensures ready { IsReady chains.now pass.new rest }
 {
-    let mut locked = lock(chains, rt, &mut pass.steps, place.bucket);
+    let mut locked = lock(chains, &Waits::by(rt), &mut pass.steps, place.bucket).unwrap();
     unhash_with(chains, pass, &mut locked, place, halt);
     unlock(chains, &mut pass.steps, locked);
 }
@@ -83,7 +84,7 @@ pub fn unhash_wait_in<R: Wait>(
     requires ready { IsReady chains.now pass.old (rest + 1) }
     ensures ready { IsReady chains.now pass.new rest }
 {
-    let mut locked = lock(chains, rt, &mut pass.steps, bucket);
+    let mut locked = lock(chains, &Waits::by(rt), &mut pass.steps, bucket).unwrap();
     let slot = unhash_tw(chains, pass, &mut locked, name);
     unlock(chains, &mut pass.steps, locked);
     slot
@@ -101,7 +102,7 @@ pub fn fill_in<R: Wait>(
     requires bucket { bucket < bucket_count (layout_of chains.now) }
     requires ready { IsReady chains.now pass.old (rest + 1) }
 {
-    let _locked = lock(chains, rt, &mut pass.steps, bucket);
+    let _locked = lock(chains, &Waits::by(rt), &mut pass.steps, bucket).unwrap();
     chains.step_begin_hash(&mut pass.steps);
     let slot = claim(chains, &mut pass.steps, 0).ok()?;
     write_card(chains, &mut pass.steps, slot, &pack(card));
@@ -136,7 +137,7 @@ pub fn names_in<R: Wait>(chains: &Chains, rt: &R, pass: &mut Pass, bucket: u32, 
     requires ready { IsReady chains.now pass.old rest }
     ensures ready { IsReady chains.now pass.new rest }
 {
-    let mut locked = lock(chains, rt, &mut pass.steps, bucket);
+    let mut locked = lock(chains, &Waits::by(rt), &mut pass.steps, bucket).unwrap();
     let names = walked_names(chains, &mut pass.steps, &mut locked);
     unlock(chains, &mut pass.steps, locked);
     names

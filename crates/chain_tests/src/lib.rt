@@ -2,9 +2,9 @@
 //!
 //! A contract says which answers of a lookup are lawful beside others; these tests show which it gives. Some stop a
 //! change before each of its steps, or a lookup between two of its own, and let the other come there; others let
-//! threads hash and unhash, or replace, close and reap sockets, beside threads that look, sleeping between their steps.
-//! `judge` then finds the lookups that the changes of all passes don't explain, of which there is to be none. It is
-//! test code, written after the rule in plain words.
+//! threads hash and unhash, or replace, close and reap sockets, beside threads that look, sleeping between their
+//! steps. `judge` then finds the lookups that the changes of all passes don't explain, of which there is to be none.
+//! It is test code, written after the rule in plain words.
 //!
 //! There is nothing here but tests: no crate stands on this one.
 #![tactic(auto)]

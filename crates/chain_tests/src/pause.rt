@@ -6,8 +6,8 @@ use std::sync::atomic::{AtomicU64, Ordering};
 use std::thread;
 use std::time::{Clock, Duration};
 
-/// How a race goes: whether threads sleep between their steps, and whether cards of the packet come before the race and
-/// stay.
+/// How a race goes: whether threads sleep between their steps,
+/// and whether cards of the packet come before the race and stay.
 #[derive(Clone, Copy)]
 pub struct Course {
     pub sleeps: bool,

@@ -13,6 +13,7 @@ use crate::sockets::{close, shut};
 use chain_book::{PacketAnswer, Replace, Shape, home};
 use null_reader::Still;
 use nulls_chain::Place;
+use patience::Waits;
 use reuseport_group::{GroupPasses, Groups, member_of};
 use shared_demux::{Lookups, look_packet};
 use shared_sockets::{InsertEnd, Newcomer, add, insert, remove_tw};
@@ -124,7 +125,7 @@ fn come<R: Wait>(
     ensures place { IfSome result.1 (λ place. CanUnhash chains.now pass.new place) }
     ensures others { (place : Place) → CanUnhash chains.now pass.old place → CanUnhash chains.now pass.new place }
 {
-    match insert(chains, rt, pass, bucket, 0, new) {
+    match insert(chains, &Waits::by(rt), pass, bucket, 0, new).unwrap() {
         Ok(inserted) => (Came::In(inserted.replaced), Some(inserted.place)),
         Err(InsertEnd::Taken(name)) => (Came::Taken(name), None),
         Err(InsertEnd::Full(full)) => (Came::Full(full.owned, full.held), None),
@@ -148,7 +149,9 @@ fn open<R: Wait>(
     ensures place { IfSome result (λ place. CanUnhash chains.now pass.new place) }
     ensures others { (place : Place) → CanUnhash chains.now pass.old place → CanUnhash chains.now pass.new place }
 {
-    add(chains, rt, pass, bucket, 0, card).ok()
+    add(chains, &Waits::by(rt), pass, bucket, 0, card)
+        .unwrap()
+        .ok()
 }
 
 /// Looks packets up, and has the lists of groups.
@@ -234,7 +237,9 @@ fn reap<R: Wait>(
     requires ready { IsReady chains.now pass.old (rest + 1) }
     ensures ready { IsReady chains.now pass.new rest }
 {
-    remove_tw(chains, rt, pass, bucket, name).is_some()
+    remove_tw(chains, &Waits::by(rt), pass, bucket, name)
+        .unwrap()
+        .is_some()
 }
 
 /// What came of two newcomers, whom a packet found then, and whether a TIME_WAIT was left.

@@ -12,8 +12,10 @@ ghost use Rattle.chain_tests.specs.Ready.{IsReady, CanLook, CanDeal, CanUnhash};
 
 use crate::judge::{Done, Looked, gather, unexplained};
 use crate::pause::{Course, Pause, course_of, meet};
+use bucket_locks::lock;
 use chain_book::{Replace, Shape, home};
 use nulls_chain::Place;
+use patience::Waits;
 use reuseport_group::{GroupPasses, Groups};
 use shared_demux::{Lookups, look_packet};
 use shared_sockets::{Newcomer, add, insert, remove, remove_tw, time_wait};
@@ -123,7 +125,7 @@ fn come<R: Wait>(
         moment: 1,
         replace: Replace::Always,
     };
-    match insert(chains, rt, pass, bucket, 0, &new) {
+    match insert(chains, &Waits::by(rt), pass, bucket, 0, &new).unwrap() {
         Ok(inserted) => Some(inserted.place),
         Err(_) => None,
     }
@@ -144,7 +146,9 @@ pub fn close<R: Wait>(
     requires ready { IsReady chains.now pass.old (rest + 2) }
     ensures ready { IsReady chains.now pass.new rest }
 {
-    time_wait(chains, rt, pass, place, 0, card).is_ok()
+    time_wait(chains, &Waits::by(rt), pass, place, 0, card)
+        .unwrap()
+        .is_ok()
 }
 
 /// A TIME_WAIT is over.
@@ -160,7 +164,7 @@ fn reap<R: Wait>(
     requires ready { IsReady chains.now pass.old (rest + 1) }
     ensures ready { IsReady chains.now pass.new rest }
 {
-    remove_tw(chains, rt, pass, bucket, name)
+    remove_tw(chains, &Waits::by(rt), pass, bucket, name).unwrap()
 }
 
 /// A listener comes, if a slot is free.
@@ -179,7 +183,9 @@ fn open<R: Wait>(
     ensures ready { IsReady chains.now pass.new rest }
     ensures place { IfSome result (λ place. CanUnhash chains.now pass.new place) }
 {
-    add(chains, rt, pass, bucket, 0, card).ok()
+    add(chains, &Waits::by(rt), pass, bucket, 0, card)
+        .unwrap()
+        .ok()
 }
 
 /// And it goes.
@@ -188,7 +194,8 @@ pub fn shut<R: Wait>(rt: &R, chains: &Chains, pass: &mut Pass, place: Place, res
     requires ready { IsReady chains.now pass.old (rest + 1) }
     ensures ready { IsReady chains.now pass.new rest }
 {
-    remove(chains, rt, pass, place);
+    let locked = lock(chains, &Waits::by(rt), &mut pass.steps, place.bucket).unwrap();
+    remove(chains, pass, locked, place);
 }
 
 /// Lets sockets come and go.

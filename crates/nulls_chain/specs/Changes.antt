@@ -1,5 +1,5 @@
--- What hashing and unhashing a card in a locked chain may answer, and what the pass knows then: __sk_nulls_add_node_rcu
--- and __sk_nulls_del_node_init_rcu of include/net/sock.h, under the chain's lock.
+-- What hashing and unhashing a card in a locked chain may answer, and what the pass knows then:
+-- __sk_nulls_add_node_rcu and __sk_nulls_del_node_init_rcu of include/net/sock.h, under the chain's lock.
 use Rattle.std.specs.Prelude.{true, ◌+◌, ◌≡◌, ◌≢◌, ◌==◌, ℕ, ◌<◌, ◌≤◌, ◌%◌, List, [], ◌∷◌, ◌++◌, Option, None, Some, Bool, cond, false, find, slice_index, ◌⊎◌}
 use mathlib.Core.Option.{some}
 use lib.ListN.{get_elem?}

@@ -23,8 +23,8 @@ use shared_slots::Full;
 use sock_card::{Card, pack};
 use table_rule::{Chains, Pass};
 
-/// Where a card stands that a pass hashed: the bucket, the slot, and the card, which nobody reads again once the chain
-/// was walked.
+/// Where a card stands that a pass hashed: the bucket, the slot, and the card,
+/// which nobody reads again once the chain was walked.
 #[derive(Debug, Drop)]
 pub struct Place {
     pub bucket: u32,
@@ -34,9 +34,9 @@ pub struct Place {
 
 /// Hashes a card into its bucket, whose chain was walked to its end: from then on its slot is first in the chain.
 ///
-/// A number is drawn from the clock, a slot claimed from `from` on and round to it, its card written, its link stored,
-/// the head stored, the slot lit, and a second number drawn. The change goes into room that was made before. `Full`:
-/// no slot is free, and of the change only its first number is gone.
+/// A number is drawn from the clock, a slot claimed from `from` on and round to it, its card written, its link
+/// stored, the head stored, the slot lit, and a second number drawn. The change goes into room that was made before.
+/// `Full`: no slot is free, and of the change only its first number is gone.
 ///
 /// A connected socket comes beside no other of its four-tuple, but it may come beside a request for it: then the lock
 /// is given back only when the request is gone.

@@ -14,6 +14,7 @@ use crate::leaving::unhash;
 use crate::walking::walk;
 use bucket_locks::{Locked, lock, unlock};
 use chain_book::{Shape, home};
+use patience::Waits;
 use sock_card::{Card, Kind};
 use std::process::Abort;
 use std::sync::Wait;
@@ -82,7 +83,7 @@ fn come_and_go_in<R: Wait>(
     requires listens { card.now.kind ≡ kinds.Listen }
     requires room { len_of pass.old.changes + 2 ≤ capacity_of pass.old.changes }
 {
-    let mut locked = lock(chains, rt, &mut pass.steps, bucket);
+    let mut locked = lock(chains, &Waits::by(rt), &mut pass.steps, bucket).unwrap();
     let slot = match walk(chains, &mut pass.steps, &mut locked) {
         Some(_) => None,
         None => come_and_go(chains, pass, &mut locked, card),

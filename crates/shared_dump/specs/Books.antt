@@ -29,8 +29,8 @@ IsAmong h (g ∷ more) = (HaveOnePlace g h × (life_card g ≡ life_card h)) ⊎
 abbrev pub IsLife : List Part → (t0 t1 : ℕ) → Change → Type 0
 IsLife views t0 t1 h = InBook views h × (h.kind ≡ 1) × Stood views h t0 t1
 
--- each item is the card of a life that stood at some time, no two of one life, and each life that was there throughout
--- has its card listed
+-- each item is the card of a life that stood at some time, no two of one life, and each life that was there
+-- throughout has its card listed
 pub record AreTold (views : List Part) (buckets t0 t1 : ℕ) (items : List Card) : Type 0 where
   pub lives : List Change
   pub cards : items ≡ map life_card lives

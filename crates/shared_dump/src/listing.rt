@@ -10,6 +10,7 @@ ghost use Rattle.table_rule.specs.Words.{bucket_count};
 
 use bucket_locks::{Locked, lock, unlock};
 use nulls_chain::walk;
+use patience::Waits;
 use sock_card::{Card, unpack};
 use std::sync::Wait;
 use table_rule::{Chains, Steps};
@@ -58,7 +59,7 @@ pub(crate) fn list_bucket<R: Wait>(
     ensures lists { Lists bucket items.old.items items.new.items (view steps.old) (view steps.new) }
     ensures hand { steps.new.seat.me.1 ≡ steps.old.seat.me.1 }
 {
-    let mut locked = lock(chains, rt, steps, bucket);
+    let mut locked = lock(chains, &Waits::by(rt), steps, bucket).unwrap();
     list(chains, steps, &mut locked, items);
     unlock(chains, steps, locked);
 }

@@ -13,6 +13,7 @@ use crate::dumping::dump_sockets;
 use bucket_locks::{Locked, lock, unlock};
 use chain_book::{Shape, home};
 use nulls_chain::{hash, walk};
+use patience::Waits;
 use sock_card::{Card, Kind};
 use std::process::Abort;
 use std::sync::Wait;
@@ -73,7 +74,7 @@ fn come<R: Wait>(chains: &Chains, rt: &R, pass: &mut Pass, bucket: u32, card: &C
     ensures idle { IsIdle (known pass.new).slot × ((known pass.new).book.opened ≡ []) }
     ensures free { (known pass.new).chain.locked ≡ [] }
 {
-    let mut locked = lock(chains, rt, &mut pass.steps, bucket);
+    let mut locked = lock(chains, &Waits::by(rt), &mut pass.steps, bucket).unwrap();
     let came = match walk(chains, &mut pass.steps, &mut locked) {
         Some(_) => false,
         None => come_alone(chains, pass, &locked, card),

@@ -1,18 +1,19 @@
 -- What it comes to that a socket leaves a shared chain: inet_unhash of net/ipv4/inet_hashtables.c, and
 -- inet_twsk_hashdance_schedule of net/ipv4/inet_timewait_sock.c, where the TIME_WAIT comes under the same lock;
 -- inet_twsk_kill of the same file.
-use Rattle.std.specs.Prelude.{◌≡◌, ℕ, List, Option, Result, find}
+use Rattle.std.specs.Prelude.{◌≡◌, ℕ, List, Option, Result, false, find}
 use Rattle.std.specs.Option.{option_map}
 use Rattle.sock_card.specs.declared.card.Card.{Card}
 use Rattle.chain_book.specs.declared.outcome.Hashed.{Hashed}
 use Rattle.chain_book.specs.Chains.{waits_as}
 use Rattle.table_rule.specs.Lists.{Each}
-use Rattle.table_rule.specs.Plays.{unlocking}
+use Rattle.table_rule.specs.Plays.{locking, unlocking}
 use Rattle.table_rule.specs.declared.view.View.{View}
 use Rattle.table_rule.specs.declared.view.Layout.{Layout}
 use Rattle.table_rule.specs.declared.view.Seen.{Seen}
 use Rattle.shared_slots.specs.declared.fresh.Full.{Full}
 use Rattle.nulls_chain.specs.Changes.{Adds, Sees}
+use Rattle.bucket_locks.specs.declared.locks.Locked.{Locked}
 use Rattle.nulls_chain.specs.declared.keeping.Place.{Place}
 use Rattle.shared_sockets.specs.Rows.{row_of, card_words, HasCard}
 use Rattle.shared_sockets.specs.Comings.{walking, IsChain, Departs, Goes, HashesTo}
@@ -20,6 +21,12 @@ use Rattle.shared_sockets.specs.Comings.{walking, IsChain, Departs, Goes, Hashes
 -- what a call leaves of all else that its pass knows: the numbers that it lost, the counts that it took, its lookups
 abbrev pub Quiet : View → View → Type 0
 Quiet v w = (w.book.lost ≡ v.book.lost) × (w.slot.taken ≡ v.slot.taken) × (w.read ≡ v.read)
+
+-- a pass that knew v has locked this bucket since, and has done nothing else: it has not begun to walk the chain
+pub record HasLockSince (v : View) (locked : Locked) (bucket : ℕ) (w : View) : Type 0 where
+  pub view : w ≡ locking v bucket
+  pub bucket_is : locked.bucket ≡ bucket
+  pub fresh : locked.started ≡ false
 
 -- one change: who stood at the place is gone
 pub record Leaves (place : Place) (v w : View) : Type 0 where

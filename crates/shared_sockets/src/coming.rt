@@ -1,6 +1,6 @@
 //! Sockets that come into their chains.
 
-ghost use Rattle.std.specs.Prelude.{◌≡◌, ◌+◌, ◌<◌, ◌≤◌, ◌^◌, [], true, Some, IfOk};
+ghost use Rattle.std.specs.Prelude.{◌≡◌, ◌+◌, ◌<◌, ◌≤◌, ◌^◌, [], true, Some, IfOk, IfSome, IfNone};
 ghost use Rattle.bucket_locks.specs.Locks.{IsAt, WalkKnown};
 ghost use Rattle.chain_book.specs.Homes.{home};
 ghost use Rattle.chain_book.specs.Tuples.{claims_tuple};
@@ -24,9 +24,9 @@ use super::survey::{Newcomer, Sought, Survey, survey_chain};
 use bucket_locks::{Locked, lock, unlock};
 use chain_book::Hashed;
 use nulls_chain::{Place, hash, unhash_slot, walk_to_end};
+use patience::Patience;
 use shared_slots::Full;
 use sock_card::{Card, pack};
-use std::sync::Wait;
 use table_rule::{Chains, Pass};
 
 /// A card that came: where it stands, and the name of the TIME_WAIT whose place it took.
@@ -139,15 +139,17 @@ fn admit(
 /// A TIME_WAIT of its four-tuple gives way where the newcomer's rule lets it at its moment. The newcomer comes before
 /// that goes, so it needs a slot of its own; it is sought from the slot `from` on and round to it.
 ///
+/// None: another pass had the bucket's lock for as long as the caller's patience lasts, and nothing has changed.
+///
 /// As `inet_ehash_insert` of net/ipv4/inet_hashtables.c, with `__inet_check_established` under the same lock.
-pub fn insert<R: Wait>(
+pub fn insert<P: Patience>(
     chains: &Chains,
-    rt: &R,
+    patience: &P,
     pass: &mut Pass,
     bucket: u32,
     from: u32,
     new: &Newcomer,
-) -> Result<Inserted, InsertEnd>
+) -> Option<Result<Inserted, InsertEnd>>
     requires table { IsPassOf chains.now pass.old }
     requires bucket { bucket < bucket_count (layout_of chains.now) }
     requires home { home (layout_of chains.now).shape (layout_of chains.now).seed new.now.card ≡ bucket }
@@ -160,34 +162,38 @@ pub fn insert<R: Wait>(
     ensures table { IsPassOf chains.now pass.new }
     ensures idle { IsIdle (known pass.new).slot × ((known pass.new).book.opened ≡ []) }
     ensures free { (known pass.new).chain.locked ≡ [] }
-    ensures answer { Inserts (layout_of chains.now) from bucket new.now result (known pass.old) (known pass.new) }
-    ensures alone { InsertsAlone (layout_of chains.now) from bucket new.now result (known pass.old) (known pass.new) }
-    ensures place { IfOk result (λ i. IsPlaced i.place (known pass.new).book) }
+    ensures answer { IfSome result (λ answer. Inserts (layout_of chains.now) from bucket new.now answer (known pass.old) (known pass.new)) }
+    ensures alone { IfSome result (λ answer. InsertsAlone (layout_of chains.now) from bucket new.now answer (known pass.old) (known pass.new)) }
+    ensures place { IfSome result (λ answer. IfOk answer (λ i. IsPlaced i.place (known pass.new).book)) }
+    ensures none { IfNone result (known pass.new ≡ known pass.old) }
+    ensures kept { IfNone result (pass.new.changes ≡ pass.old.changes) }
+    ensures had { P.endless ≡ true → IfNone result ⊥ }
     ensures stay { PlacesStay (known pass.old) (known pass.new) }
     ensures share { FourDrawn (known pass.old) (known pass.new) }
     ensures hand { pass.new.steps.seat.me.1 ≡ pass.old.steps.seat.me.1 }
     ensures room { capacity_of pass.new.changes ≡ capacity_of pass.old.changes }
     ensures len { len_of pass.new.changes ≤ len_of pass.old.changes + 2 }
 {
-    let mut locked = lock(chains, rt, &mut pass.steps, bucket);
+    let mut locked = lock(chains, patience, &mut pass.steps, bucket)?;
     let survey = survey_chain(chains, &mut pass.steps, &mut locked, &Sought::Room(*new));
     let answer = admit(chains, pass, &locked, from, new, &survey);
     unlock(chains, &mut pass.steps, locked);
-    answer
+    Some(answer)
 }
 
 /// Hashes a listener into its chain, whatever stands there. `Full`: no slot is free, and of the change only its first
-/// number is gone.
+/// number is gone. None: another pass had the bucket's lock for as long as the caller's patience lasts, and nothing has
+/// changed.
 ///
 /// As `__inet_hash` of net/ipv4/inet_hashtables.c.
-pub fn add<R: Wait>(
+pub fn add<P: Patience>(
     chains: &Chains,
-    rt: &R,
+    patience: &P,
     pass: &mut Pass,
     bucket: u32,
     from: u32,
     card: &Card,
-) -> Result<Place, Full>
+) -> Option<Result<Place, Full>>
     requires table { IsPassOf chains.now pass.old }
     requires bucket { bucket < bucket_count (layout_of chains.now) }
     requires home { home (layout_of chains.now).shape (layout_of chains.now).seed card.now ≡ bucket }
@@ -200,19 +206,22 @@ pub fn add<R: Wait>(
     ensures table { IsPassOf chains.now pass.new }
     ensures idle { IsIdle (known pass.new).slot × ((known pass.new).book.opened ≡ []) }
     ensures free { (known pass.new).chain.locked ≡ [] }
-    ensures answer { Adds (layout_of chains.now) from bucket card.now result (known pass.old) (known pass.new) }
-    ensures alone { AddsAlone (layout_of chains.now) from bucket card.now result (known pass.old) (known pass.new) }
-    ensures place { IfOk result (λ place. IsPlaced place (known pass.new).book) }
+    ensures answer { IfSome result (λ answer. Adds (layout_of chains.now) from bucket card.now answer (known pass.old) (known pass.new)) }
+    ensures alone { IfSome result (λ answer. AddsAlone (layout_of chains.now) from bucket card.now answer (known pass.old) (known pass.new)) }
+    ensures place { IfSome result (λ answer. IfOk answer (λ place. IsPlaced place (known pass.new).book)) }
+    ensures none { IfNone result (known pass.new ≡ known pass.old) }
+    ensures kept { IfNone result (pass.new.changes ≡ pass.old.changes) }
+    ensures had { P.endless ≡ true → IfNone result ⊥ }
     ensures stay { PlacesStay (known pass.old) (known pass.new) }
     ensures share { TwoDrawn (known pass.old) (known pass.new) }
     ensures hand { pass.new.steps.seat.me.1 ≡ pass.old.steps.seat.me.1 }
     ensures room { capacity_of pass.new.changes ≡ capacity_of pass.old.changes }
     ensures len { len_of pass.new.changes ≤ len_of pass.old.changes + 1 }
 {
-    let mut locked = lock(chains, rt, &mut pass.steps, bucket);
+    let mut locked = lock(chains, patience, &mut pass.steps, bucket)?;
     walk_to_end(chains, &mut pass.steps, &mut locked);
     is_told(card);
     let answer = hash(chains, pass, &locked, from, card);
     unlock(chains, &mut pass.steps, locked);
-    answer
+    Some(answer)
 }

@@ -1,9 +1,10 @@
-//! A connected socket comes into a shared chain, keeps its twin out, and leaves a TIME_WAIT that gives way to it; and a
-//! request hands over to its socket.
+//! A connected socket comes into a shared chain, keeps its twin out, and leaves a TIME_WAIT that gives way to it; a
+//! request hands over to its socket; and one whose patience ends comes once the lock was given back.
 
 ghost use Rattle.std.specs.Prelude.{◌≡◌, ◌+◌, ◌≤◌, ◌<◌, [], true};
 ghost use Rattle.chain_book.specs.Homes.{home};
 ghost use Rattle.chain_book.specs.Tuples.{claims_tuple, same_cards};
+ghost use Rattle.nulls_chain.specs.Changes.{IsPlaced};
 ghost use Rattle.sock_card.specs.declared.card.Kind.TheVariants as kinds;
 ghost use Rattle.table_rule.specs.Changes.{len_of, capacity_of};
 ghost use Rattle.table_rule.specs.Calls.{HasShares, IsIdle, layout_of};
@@ -14,7 +15,10 @@ use crate::coming::{InsertEnd, insert};
 use crate::handover::hand_over;
 use crate::leaving::{remove, time_wait};
 use crate::survey::Newcomer;
+use bucket_locks::{lock, unlock};
 use chain_book::{Replace, Shape, home};
+use nulls_chain::Place;
+use patience::{Tries, Waits};
 use sock_card::{Card, Kind};
 use std::alloc::Global;
 use std::process::Abort;
@@ -77,7 +81,7 @@ fn come<R: Wait>(chains: &Chains, rt: &R, pass: &mut Pass, bucket: u32, new: &Ne
     requires share { HasShares 4 (known pass.old) }
     requires room { len_of pass.old.changes + 2 ≤ capacity_of pass.old.changes }
 {
-    match insert(chains, rt, pass, bucket, 0, new) {
+    match insert(chains, &Waits::by(rt), pass, bucket, 0, new).unwrap() {
         Ok(inserted) if inserted.replaced.is_some() => 2,
         Ok(_) => 1,
         Err(InsertEnd::Taken(_)) => 0,
@@ -104,13 +108,35 @@ fn come_after<R: Wait>(
     requires share { HasShares 12 (known pass.old) }
     requires room { len_of pass.old.changes + 6 ≤ capacity_of pass.old.changes }
 {
-    match insert(chains, rt, pass, bucket, 0, new) {
-        Ok(inserted) => match time_wait(chains, rt, pass, inserted.place, 0, waiting) {
+    match insert(chains, &Waits::by(rt), pass, bucket, 0, new).unwrap() {
+        Ok(inserted) => match time_wait(
+            chains,
+            &Waits::by(rt),
+            pass,
+            inserted.place,
+            0,
+            waiting,
+        ).unwrap()
+        {
             Ok(_) => come(chains, rt, pass, bucket, new),
             Err(_) => 4,
         },
         Err(_) => 5,
     }
+}
+
+/// The socket at that place goes, under its bucket's lock.
+fn take_out<R: Wait>(chains: &Chains, rt: &R, pass: &mut Pass, place: Place)
+    requires table { IsPassOf chains.now pass.old }
+    requires bucket { place.bucket < bucket_count (layout_of chains.now) }
+    requires place { IsPlaced place (known pass.old).book }
+    requires idle { IsIdle (known pass.old).slot × ((known pass.old).book.opened ≡ []) }
+    requires free { (known pass.old).chain.locked ≡ [] }
+    requires room { len_of pass.old.changes < capacity_of pass.old.changes }
+    requires share { HasShares 2 (known pass.old) }
+{
+    let locked = lock(chains, &Waits::by(rt), &mut pass.steps, place.bucket).unwrap();
+    remove(chains, pass, locked, place);
 }
 
 /// A request comes, and then its socket in its stead, and then that socket's twin: 4 where no slot was free for the
@@ -134,16 +160,64 @@ fn shake_hands<R: Wait>(
     requires share { HasShares 12 (known pass.old) }
     requires room { len_of pass.old.changes + 6 ≤ capacity_of pass.old.changes }
 {
-    let Ok(inserted) = insert(chains, rt, pass, bucket, 0, request) else {
+    let Ok(inserted) = insert(chains, &Waits::by(rt), pass, bucket, 0, request).unwrap() else {
         return 5;
     };
-    match hand_over(chains, rt, pass, inserted.place, 0, &full.card) {
+    match hand_over(chains, &Waits::by(rt), pass, inserted.place, 0, &full.card).unwrap() {
         Ok(_) => come(chains, rt, pass, bucket, full),
         Err((place, _)) => {
-            remove(chains, rt, pass, place);
+            take_out(chains, rt, pass, place);
             4
         }
     }
+}
+
+/// It tries for a while to come, as the first pass has the lock, and again once that is given back: how many changes
+/// it had made before, and whether it came then. None: the lock was taken twice.
+fn come_late(
+    chains: &Chains,
+    first: &mut Pass,
+    second: &mut Pass,
+    bucket: u32,
+    new: &Newcomer,
+) -> Option<(usize, bool)>
+    requires table { IsPassOf chains.now first.old × IsPassOf chains.now second.old }
+    requires bucket { bucket < bucket_count (layout_of chains.now) }
+    requires home { home (layout_of chains.now).shape (layout_of chains.now).seed new.now.card ≡ bucket }
+    requires claims { claims_tuple new.now.card.kind ≡ true }
+    requires first { IsIdle (known first.old).slot × ((known first.old).book.opened ≡ []) × ((known first.old).chain.locked ≡ []) }
+    requires second { IsIdle (known second.old).slot × ((known second.old).book.opened ≡ []) × ((known second.old).chain.locked ≡ []) }
+    requires share { HasShares 4 (known second.old) }
+    requires room { len_of second.old.changes + 2 ≤ capacity_of second.old.changes }
+{
+    let locked = lock(chains, &Tries(0), &mut first.steps, bucket)?;
+    let early = insert(chains, &Tries(3), second, bucket, 0, new);
+    unlock(chains, &mut first.steps, locked);
+    match early {
+        Some(_) => None,
+        None => {
+            let changes = second.changes().len();
+            let late = insert(chains, &Tries(0), second, bucket, 0, new)?;
+            Some((changes, late.is_ok()))
+        }
+    }
+}
+
+#[test]
+fn nothing_changes_where_patience_ends(rt: HostRuntime) -> Result<(), Fail> {
+    let (chains, mut first) = Chains::new(rt.alloc(), SHAPE, 7)?;
+    let mut second = chains.split(rt.alloc(), &mut first);
+    second.reserve(2)?;
+    let new = Newcomer {
+        card: FULL,
+        moment: 6,
+        replace: Replace::Never,
+    };
+    let bucket = home(&SHAPE, 7, &FULL);
+    let came = come_late(&chains, &mut first, &mut second, bucket, &new);
+    assert_eq!(rt; came, Some((0, true)));
+    assert_eq!(rt; second.changes().len(), 1);
+    Ok(())
 }
 
 #[test]

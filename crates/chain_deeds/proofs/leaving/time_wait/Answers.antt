@@ -1,6 +1,4 @@
-use Rattle.std.proofs.Common.{◌≡◌, ℕ, ◌<◌, ap, sym, subst}
-use Rattle.chain_book.specs.Homes.{chain_count}
-use Rattle.table_model.proofs.parts.Chains.{home_below}
+use Rattle.std.proofs.Common.{◌≡◌, ℕ, ap, sym, subst}
 use Rattle.table_rule.specs.Calls.{layout_of}
 use Rattle.table_rule.specs.Passes.{known}
 use Rattle.table_rule.specs.declared.view.Layout.{Layout}
@@ -8,18 +6,14 @@ use Rattle.table_rule.specs.declared.view.View.{View}
 use Rattle.shared_sockets.specs.Leavings as spec
 use Rattle.shared_sockets.specs.Alone.{WaitsAlone}
 use Rattle.chain_deeds.specs.Answers.{Waits}
+use Rattle.chain_deeds.proofs.Homes.{near_of}
 use Rattle.chain_deeds.proofs.Left.{side}
 use Rattle.chain_deeds.proofs.Comes.{next_after_add}
 use Rattle.chain_deeds.proofs.Goes.{waits_of}
 use Rattle.chain_deeds.proofs.leaving.time_wait.Goals as goal
 
-pub time_wait-answer-requires-clause-bucket : goal.time_wait-answer-requires-clause-bucket
-time_wait-answer-requires-clause-bucket g c =
-    let t = c.args.table.now in
-    let p = c.args.place in
-    let near : p.bucket < chain_count t.layout.shape =
-    subst (λ (b : ℕ). b < chain_count t.layout.shape) (sym c.requires.home) (home_below t.layout.shape t.layout.seed p.card t.sized.hash t.sized.listen) in
-    subst (λ (l : Layout). p.bucket < chain_count l.shape) t.laid near
+pub time_wait-requires-clause-bucket : goal.time_wait-requires-clause-bucket
+time_wait-requires-clause-bucket g c = near_of c.args.table.now c.args.place c.requires.home
 
 pub returns-in-Ok-clause-waits : goal.returns-in-Ok-clause-waits
 returns-in-Ok-clause-waits g c =
@@ -27,14 +21,14 @@ returns-in-Ok-clause-waits g c =
     let p = c.args.place in
     let from : ℕ = c.args.pass.now.next in
     let card = c.args.card.now in
-    let r = c.time_wait-answer.result in
+    let r = c.in_ok-answer.answer in
     let v : View = known c.args.pass.now.pass in
-    let w : View = known c.time_wait-answer.new.pass in
+    let w : View = known c.time_wait.new.pass in
     let laid : layout_of t.chains ≡ t.layout = sym t.laid in
-    let answer = subst (λ (l : Layout). spec.Waits l from p card r v w) laid c.time_wait-answer.ensures.answer in
-    let alone = subst (λ (l : Layout). WaitsAlone l from p card r v w) laid c.time_wait-answer.ensures.alone in
+    let answer = subst (λ (l : Layout). spec.Waits l from p card r v w) laid c.in_ok-answer.ensures.answer in
+    let alone = subst (λ (l : Layout). WaitsAlone l from p card r v w) laid c.in_ok-answer.ensures.alone in
     subst (λ (n : ℕ). Waits p card r (side t.layout v from) (side t.layout w n)) (ap (next_after_add from) c.in-Ok.is)
-    (waits_of t.layout from p card r v w c.is_told.ensures c.requires.chain answer alone c.time_wait-answer.ensures.others)
+    (waits_of t.layout from p card r v w c.is_told.ensures c.requires.chain answer alone c.in_ok-answer.ensures.others)
 
 pub returns-in_default-clause-waits : goal.returns-in_default-clause-waits
 returns-in_default-clause-waits g c =
@@ -42,11 +36,11 @@ returns-in_default-clause-waits g c =
     let p = c.args.place in
     let from : ℕ = c.args.pass.now.next in
     let card = c.args.card.now in
-    let r = c.time_wait-answer.result in
+    let r = c.in_ok-answer.answer in
     let v : View = known c.args.pass.now.pass in
-    let w : View = known c.time_wait-answer.new.pass in
+    let w : View = known c.time_wait.new.pass in
     let laid : layout_of t.chains ≡ t.layout = sym t.laid in
-    let answer = subst (λ (l : Layout). spec.Waits l from p card r v w) laid c.time_wait-answer.ensures.answer in
-    let alone = subst (λ (l : Layout). WaitsAlone l from p card r v w) laid c.time_wait-answer.ensures.alone in
+    let answer = subst (λ (l : Layout). spec.Waits l from p card r v w) laid c.in_ok-answer.ensures.answer in
+    let alone = subst (λ (l : Layout). WaitsAlone l from p card r v w) laid c.in_ok-answer.ensures.alone in
     subst (λ (n : ℕ). Waits p card r (side t.layout v from) (side t.layout w n)) (ap (next_after_add from) c.in_default.is)
-    (waits_of t.layout from p card r v w c.is_told.ensures c.requires.chain answer alone c.time_wait-answer.ensures.others)
+    (waits_of t.layout from p card r v w c.is_told.ensures c.requires.chain answer alone c.in_ok-answer.ensures.others)

@@ -16,7 +16,7 @@ returns-clause-ready g c =
     let n = c.args.rest in
     let e = c.hash_with-answer.ensures in
     let lent = shares_split (view c.args.pass.now.steps) n c.requires.ready.4 in
-    let share = e.share (n + n) (subst (λ (s : Sat). HasShares ((n + n) + 2) s.0) (sym c.walk_to_end.ensures.kept) (subst (λ (s : Sat). HasShares ((n + n) + 2) s.0) (sym c.lock-locked.ensures.view) lent)) in
+    let share = e.share (n + n) (subst (λ (s : Sat). HasShares ((n + n) + 2) s.0) (sym c.walk_to_end.ensures.kept) (subst (λ (s : Sat). HasShares ((n + n) + 2) s.0) (sym (rw c.unwrap-locked.ensures at c.lock.ensures.view)) lent)) in
     let r = unlocked_ready (view c.hash_with-answer.new.pass.steps) (view c.unlock.new.steps) (n + n) (ap (λ (s : Sat). s.0) c.unlock.ensures.view) e.idle.0 e.idle.1 share in
     (c.unlock.ensures.table, r.0, r.1, r.2, r.3, omega (arith, c.requires.ready.5, e.len, e.room))
 
@@ -28,4 +28,4 @@ pub hash_with-answer-requires-clause-twin : goal.hash_with-answer-requires-claus
 hash_with-answer-requires-clause-twin g c = no_twin (packed c.args.card.now) (view c.walk_to_end.new.steps).chain.walked (alone (packed c.args.card.now) (view c.walk_to_end.new.steps).chain.walked c.requires.kind)
 
 pub unlock-requires-clause-alone : goal.unlock-requires-clause-alone
-unlock-requires-clause-alone g c = inl (c.hash_with-answer.ensures.twice (alone (packed c.args.card.now) (view c.walk_to_end.new.steps).chain.walked c.requires.kind) ∙ (ap (λ (s : Sat). s.0.twice) c.walk_to_end.ensures.kept ∙ ap (λ (s : Sat). s.0.twice) c.lock-locked.ensures.view))
+unlock-requires-clause-alone g c = inl (c.hash_with-answer.ensures.twice (alone (packed c.args.card.now) (view c.walk_to_end.new.steps).chain.walked c.requires.kind) ∙ (ap (λ (s : Sat). s.0.twice) c.walk_to_end.ensures.kept ∙ ap (λ (s : Sat). s.0.twice) (rw c.unwrap-locked.ensures at c.lock.ensures.view)))

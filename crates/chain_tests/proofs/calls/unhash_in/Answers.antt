@@ -9,9 +9,9 @@ returns g c =
     let n = c.args.rest in
     let e = c.unhash_with.ensures in
     let lent = shares_split (view c.args.pass.now.steps) n c.requires.ready.4 in
-    let share = e.share (n + n) (subst (λ (s : Sat). HasShares ((n + n) + 2) s.0) (sym c.lock-locked.ensures.view) lent) in
+    let share = e.share (n + n) (subst (λ (s : Sat). HasShares ((n + n) + 2) s.0) (sym (rw c.unwrap-locked.ensures at c.lock.ensures.view)) lent) in
     let r = unlocked_ready (view c.unhash_with.new.pass.steps) (view c.unlock.new.steps) (n + n) (ap (λ (s : Sat). s.0) c.unlock.ensures.view) e.idle.0 e.idle.1 share in
     record { ready = (c.unlock.ensures.table, r.0, r.1, r.2, r.3, omega (arith, c.requires.ready.5, e.len, e.room)) }
 
 pub unlock-requires-clause-alone : goal.unlock-requires-clause-alone
-unlock-requires-clause-alone g c = inl (c.unhash_with.ensures.twice ∙ ap (λ (s : Sat). s.0.twice) c.lock-locked.ensures.view)
+unlock-requires-clause-alone g c = inl (c.unhash_with.ensures.twice ∙ ap (λ (s : Sat). s.0.twice) (rw c.unwrap-locked.ensures at c.lock.ensures.view))

@@ -6,5 +6,5 @@ use Rattle.chain_tests.proofs.sockets.come.Goals as goal
 pub returns-in-Ok-clause-ready : goal.returns-in-Ok-clause-ready
 returns-in-Ok-clause-ready g c =
     let n = c.args.rest in
-    let e = c.in-Ok.ensures in
+    let e = c.insert.ensures in
     (e.table, e.idle.0, e.idle.1, e.free, e.share (n + n) (shares_split_two (view c.args.pass.now.steps) n c.requires.ready.4), omega (arith, c.requires.ready.5, e.len, e.room))

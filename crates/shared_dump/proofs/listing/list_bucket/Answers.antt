@@ -10,12 +10,14 @@ use Rattle.shared_dump.proofs.listing.list_bucket.Goals as goal
 pub returns-clause-lists : goal.returns-clause-lists
 returns-clause-lists g c =
     let v : View = view c.args.steps.now in
-    let u : View = view c.lock-locked.new.steps in
+    let u : View = view c.lock.new.steps in
     let w : View = view c.list.new.steps in
     let b : ℕ = c.args.bucket in
     let s = c.list.ensures in
-    let lv : u ≡ locking v b = ap (λ (y : Sat). y.0) c.lock-locked.ensures.view in
-    let b0 : c.lock-locked.result.bucket ≡ b = cons_is c.lock-locked.result.bucket b (sym c.lock-locked.ensures.at.0 ∙ ap (λ (y : View). y.chain.locked) lv) in
+    let had = c.unwrap-locked.ensures in
+    let lv : u ≡ locking v b = ap (λ (y : Sat). y.0) (rw had at c.lock.ensures.view) in
+    let at = rw had at c.lock.ensures.at in
+    let b0 : c.unwrap-locked.result.bucket ≡ b = cons_is c.unwrap-locked.result.bucket b (sym at.0 ∙ ap (λ (y : View). y.chain.locked) lv) in
     let b1 : c.list.new.locked.bucket ≡ b = s.at.2 ∙ b0 in
     record {
       chain = w.chain.walked;

@@ -21,14 +21,14 @@ pub returns-clause-answer : goal.returns-clause-answer
 returns-clause-answer g c =
     let layout = layout_of c.args.chains.now in
     let v : View = known c.args.pass.now in
-    let u : View = view c.lock-locked.new.steps in
+    let u : View = view c.lock.new.steps in
     let w : View = view c.walk_to_end.new.steps in
     let x : View = known c.hash-answer.new.pass in
     let b : ℕ = c.args.bucket in
     let s = c.walk_to_end.ensures in
     let e = c.hash-answer.ensures in
-    let lv : u ≡ locking v b = ap (λ (y : Sat). y.0) c.lock-locked.ensures.view in
-    let b0 : c.lock-locked.result.bucket ≡ b = cons_is c.lock-locked.result.bucket b (sym c.lock-locked.ensures.at.0 ∙ ap (λ (y : View). y.chain.locked) lv) in
+    let lv : u ≡ locking v b = ap (λ (y : Sat). y.0) c.in_ok-locked.ensures.view in
+    let b0 : c.in_ok-locked.locked.bucket ≡ b = cons_is c.in_ok-locked.locked.bucket b (sym c.in_ok-locked.ensures.at.0 ∙ ap (λ (y : View). y.chain.locked) lv) in
     let b1 : c.walk_to_end.new.locked.bucket ≡ b = s.at.2 ∙ b0 in
     let is = walking_is v u w b lv (ap (λ (y : Sat). y.0) s.kept) (s.at.0.0 ∙ ap (λ (n : ℕ). n ∷ []) b1) s.whole.0 s.whole.1 in
     let said : Said layout c.args.from c.walk_to_end.new.locked.bucket c.args.card.now w x c.hash-answer.result = record { told = c.is_told.ensures.told; some = e.some; far = e.far; first = e.first; chain = e.chain; change = e.change; rest = e.rest; saw = e.saw; full = e.full; all = e.all } in
@@ -54,7 +54,7 @@ returns-clause-stay g c = λ hash place.
     let v : View = known c.args.pass.now in
     let w : View = view c.walk_to_end.new.steps in
     let is : w ≡ record (locking v c.args.bucket) { chain = w.chain } =
-    ap (λ (x : Sat). x.0) c.walk_to_end.ensures.kept ∙ ap (λ (x : Sat). record x.0 { chain = w.chain }) c.lock-locked.ensures.view in
+    ap (λ (x : Sat). x.0) c.walk_to_end.ensures.kept ∙ ap (λ (x : Sat). record x.0 { chain = w.chain }) c.in_ok-locked.ensures.view in
     subst (λ (y : View). IsPlace y.book hash) (sym (ap (λ (y : Sat). y.0) c.unlock.ensures.view)) (c.hash-answer.ensures.stay hash (subst (λ (y : View). IsPlace y.book hash) (sym is) place))
 
 pub returns-clause-share : goal.returns-clause-share
@@ -62,8 +62,8 @@ returns-clause-share g c = λ more share.
     let v : View = known c.args.pass.now in
     let w : View = view c.walk_to_end.new.steps in
     let is : w ≡ record (locking v c.args.bucket) { chain = w.chain } =
-    ap (λ (x : Sat). x.0) c.walk_to_end.ensures.kept ∙ ap (λ (x : Sat). record x.0 { chain = w.chain }) c.lock-locked.ensures.view in
+    ap (λ (x : Sat). x.0) c.walk_to_end.ensures.kept ∙ ap (λ (x : Sat). record x.0 { chain = w.chain }) c.in_ok-locked.ensures.view in
     subst (HasShares more) (sym (ap (λ (x : Sat). x.0) c.unlock.ensures.view)) (c.hash-answer.ensures.share more (subst (HasShares (more + 2)) (sym is) share))
 
 pub unlock-requires-clause-alone : goal.unlock-requires-clause-alone
-unlock-requires-clause-alone g c = inl (c.hash-answer.ensures.twice (listens_alone c.args.card.now (view c.walk_to_end.new.steps).chain.walked c.requires.listens) ∙ (ap (λ (x : Sat). x.0.twice) c.walk_to_end.ensures.kept ∙ ap (λ (x : Sat). x.0.twice) c.lock-locked.ensures.view))
+unlock-requires-clause-alone g c = inl (c.hash-answer.ensures.twice (listens_alone c.args.card.now (view c.walk_to_end.new.steps).chain.walked c.requires.listens) ∙ (ap (λ (x : Sat). x.0.twice) c.walk_to_end.ensures.kept ∙ ap (λ (x : Sat). x.0.twice) c.in_ok-locked.ensures.view))

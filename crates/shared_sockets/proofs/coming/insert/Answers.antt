@@ -14,12 +14,12 @@ pub returns-clause-answer : goal.returns-clause-answer
 returns-clause-answer g c =
     let layout = layout_of c.args.chains.now in
     let v : View = known c.args.pass.now in
-    let u : View = view c.lock-locked.new.steps in
+    let u : View = view c.lock.new.steps in
     let w : View = view c.survey_chain-survey.new.steps in
     let b : ℕ = c.args.bucket in
     let s = c.survey_chain-survey.ensures in
-    let lv : u ≡ locking v b = ap (λ (x : Sat). x.0) c.lock-locked.ensures.view in
-    let b0 : c.lock-locked.result.bucket ≡ b = cons_is c.lock-locked.result.bucket b (sym c.lock-locked.ensures.at.0 ∙ ap (λ (x : View). x.chain.locked) lv) in
+    let lv : u ≡ locking v b = ap (λ (x : Sat). x.0) c.in_ok-locked.ensures.view in
+    let b0 : c.in_ok-locked.locked.bucket ≡ b = cons_is c.in_ok-locked.locked.bucket b (sym c.in_ok-locked.ensures.at.0 ∙ ap (λ (x : View). x.chain.locked) lv) in
     let b1 : c.survey_chain-survey.new.locked.bucket ≡ b = s.at.2 ∙ b0 in
     let is = walking_is v u w b lv (ap (λ (x : Sat). x.0) s.kept) (s.at.0.0 ∙ ap (λ (n : ℕ). n ∷ []) b1) s.whole.0 s.whole.1 in
     let left = known c.admit-answer.new.pass in
@@ -39,11 +39,11 @@ returns-clause-alone g c = insert_alone (layout_of c.args.chains.now) c.args.fro
 pub returns-clause-share : goal.returns-clause-share
 returns-clause-share g c = λ more share.
     let v : View = known c.args.pass.now in
-    let u : View = view c.lock-locked.new.steps in
+    let u : View = view c.lock.new.steps in
     let w : View = view c.survey_chain-survey.new.steps in
     let is : w ≡ record (locking v c.args.bucket) { chain = w.chain } =
-    ap (λ (x : Sat). x.0) c.survey_chain-survey.ensures.kept ∙ ap (λ (x : Sat). record x.0 { chain = w.chain }) c.lock-locked.ensures.view in
+    ap (λ (x : Sat). x.0) c.survey_chain-survey.ensures.kept ∙ ap (λ (x : Sat). record x.0 { chain = w.chain }) c.in_ok-locked.ensures.view in
     subst (HasShares more) (sym (ap (λ (x : Sat). x.0) c.unlock.ensures.view)) (c.admit-answer.ensures.share more (subst (HasShares (more + 4)) (sym is) share))
 
 pub unlock-requires-clause-alone : goal.unlock-requires-clause-alone
-unlock-requires-clause-alone g c = inl (c.admit-answer.ensures.twice ∙ (ap (λ (x : Sat). x.0.twice) c.survey_chain-survey.ensures.kept ∙ ap (λ (x : Sat). x.0.twice) c.lock-locked.ensures.view))
+unlock-requires-clause-alone g c = inl (c.admit-answer.ensures.twice ∙ (ap (λ (x : Sat). x.0.twice) c.survey_chain-survey.ensures.kept ∙ ap (λ (x : Sat). x.0.twice) c.in_ok-locked.ensures.view))

@@ -23,20 +23,20 @@ pub take_out-requires-clause-share : goal.take_out-requires-clause-share
 take_out-requires-clause-share g c =
     let w : View = view c.survey_chain-survey.new.steps in
     let is : w ≡ record (locking (known c.args.pass.now) c.args.bucket) { chain = w.chain } =
-    ap (λ (x : Sat). x.0) c.survey_chain-survey.ensures.kept ∙ ap (λ (x : Sat). record x.0 { chain = w.chain }) c.lock-locked.ensures.view in
+    ap (λ (x : Sat). x.0) c.survey_chain-survey.ensures.kept ∙ ap (λ (x : Sat). record x.0 { chain = w.chain }) c.in_ok-locked.ensures.view in
     subst (HasShares 2) (sym is) c.requires.share
 
 pub returns-clause-answer : goal.returns-clause-answer
 returns-clause-answer g c =
     let v : View = known c.args.pass.now in
-    let u : View = view c.lock-locked.new.steps in
+    let u : View = view c.lock.new.steps in
     let w : View = view c.survey_chain-survey.new.steps in
     let x : View = known c.take_out.new.pass in
     let b : ℕ = c.args.bucket in
     let s = c.survey_chain-survey.ensures in
     let found : Option Hashed = c.survey_chain-survey.result.waiting in
-    let lv : u ≡ locking v b = ap (λ (y : Sat). y.0) c.lock-locked.ensures.view in
-    let b0 : c.lock-locked.result.bucket ≡ b = cons_is c.lock-locked.result.bucket b (sym c.lock-locked.ensures.at.0 ∙ ap (λ (y : View). y.chain.locked) lv) in
+    let lv : u ≡ locking v b = ap (λ (y : Sat). y.0) c.in_ok-locked.ensures.view in
+    let b0 : c.in_ok-locked.locked.bucket ≡ b = cons_is c.in_ok-locked.locked.bucket b (sym c.in_ok-locked.ensures.at.0 ∙ ap (λ (y : View). y.chain.locked) lv) in
     let b1 : c.survey_chain-survey.new.locked.bucket ≡ b = s.at.2 ∙ b0 in
     let is = walking_is v u w b lv (ap (λ (y : Sat). y.0) s.kept) (s.at.0.0 ∙ ap (λ (n : ℕ). n ∷ []) b1) s.whole.0 s.whole.1 in
     record {
@@ -59,7 +59,7 @@ returns-clause-stay g c = λ hash place.
     let w : View = view c.survey_chain-survey.new.steps in
     let s = c.survey_chain-survey.ensures in
     let is : w ≡ record (locking v c.args.bucket) { chain = w.chain } =
-    ap (λ (x : Sat). x.0) s.kept ∙ ap (λ (x : Sat). record x.0 { chain = w.chain }) c.lock-locked.ensures.view in
+    ap (λ (x : Sat). x.0) s.kept ∙ ap (λ (x : Sat). record x.0 { chain = w.chain }) c.in_ok-locked.ensures.view in
     let listed : PlacesListed w = ⊎_elim (λ z. absurd (omega (arith, z, s.whole.0))) (λ z. z) s.known.3 in
     subst (λ (y : View). IsPlace y.book hash) (sym (ap (λ (y : Sat). y.0) c.unlock.ensures.view))
     (stay_of (seeks.Waiting c.args.name) c.survey_chain-survey.result w (known c.take_out.new.pass) s.surveyed s.known.2 c.survey_chain-survey.new.locked.bucket s.at.0.0 s.whole.0 (is_read w.chain.walked s.surveyed.cards) listed s.apart
@@ -69,8 +69,8 @@ pub returns-clause-share : goal.returns-clause-share
 returns-clause-share g c = λ more share.
     let w : View = view c.survey_chain-survey.new.steps in
     let is : w ≡ record (locking (known c.args.pass.now) c.args.bucket) { chain = w.chain } =
-    ap (λ (x : Sat). x.0) c.survey_chain-survey.ensures.kept ∙ ap (λ (x : Sat). record x.0 { chain = w.chain }) c.lock-locked.ensures.view in
+    ap (λ (x : Sat). x.0) c.survey_chain-survey.ensures.kept ∙ ap (λ (x : Sat). record x.0 { chain = w.chain }) c.in_ok-locked.ensures.view in
     subst (HasShares more) (sym (ap (λ (x : Sat). x.0) c.unlock.ensures.view)) (c.take_out.ensures.share more (subst (HasShares (more + 2)) (sym is) share))
 
 pub unlock-requires-clause-alone : goal.unlock-requires-clause-alone
-unlock-requires-clause-alone g c = inl (c.take_out.ensures.twice ∙ (ap (λ (x : Sat). x.0.twice) c.survey_chain-survey.ensures.kept ∙ ap (λ (x : Sat). x.0.twice) c.lock-locked.ensures.view))
+unlock-requires-clause-alone g c = inl (c.take_out.ensures.twice ∙ (ap (λ (x : Sat). x.0.twice) c.survey_chain-survey.ensures.kept ∙ ap (λ (x : Sat). x.0.twice) c.in_ok-locked.ensures.view))

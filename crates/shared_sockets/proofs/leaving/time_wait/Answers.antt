@@ -24,17 +24,17 @@ unhash-requires-clause-known g c =
     let e = c.hash-answer.ensures in
     known_after (layout_of c.args.chains.now) c.args.from c.walk_to_end.new.locked.bucket c.args.card.now (view c.walk_to_end.new.steps) (known c.hash-answer.new.pass) c.hash-answer.result
     (record { told = c.is_told.ensures.told; some = e.some; far = e.far; first = e.first; chain = e.chain; change = e.change; rest = e.rest; saw = e.saw; full = e.full; all = e.all })
-    (ap (λ (x : Sat). x.0.book.opened) c.walk_to_end.ensures.kept ∙ (ap (λ (x : Sat). x.0.book.opened) c.lock-locked.ensures.view ∙ c.requires.idle.1)) e.known e.same c.walk_to_end.ensures.known
+    (ap (λ (x : Sat). x.0.book.opened) c.walk_to_end.ensures.kept ∙ (ap (λ (x : Sat). x.0.book.opened) c.in_ok-locked.ensures.view ∙ c.requires.idle.1)) e.known e.same c.walk_to_end.ensures.known
 
 pub unhash-requires-clause-place : goal.unhash-requires-clause-place
 unhash-requires-clause-place g c =
     let v : View = known c.args.pass.now in
     let p = c.args.place in
     let w : View = view c.walk_to_end.new.steps in
-    let lv : view c.lock-locked.new.steps ≡ locking v p.bucket = ap (λ (x : Sat). x.0) c.lock-locked.ensures.view in
-    let b0 : c.lock-locked.result.bucket ≡ p.bucket = cons_is c.lock-locked.result.bucket p.bucket (sym c.lock-locked.ensures.at.0 ∙ ap (λ (x : View). x.chain.locked) lv) in
+    let lv : view c.lock.new.steps ≡ locking v p.bucket = ap (λ (x : Sat). x.0) c.in_ok-locked.ensures.view in
+    let b0 : c.in_ok-locked.locked.bucket ≡ p.bucket = cons_is c.in_ok-locked.locked.bucket p.bucket (sym c.in_ok-locked.ensures.at.0 ∙ ap (λ (x : View). x.chain.locked) lv) in
     let is : w ≡ record (locking v p.bucket) { chain = w.chain } =
-    ap (λ (x : Sat). x.0) c.walk_to_end.ensures.kept ∙ ap (λ (x : Sat). record x.0 { chain = w.chain }) c.lock-locked.ensures.view in
+    ap (λ (x : Sat). x.0) c.walk_to_end.ensures.kept ∙ ap (λ (x : Sat). record x.0 { chain = w.chain }) c.in_ok-locked.ensures.view in
     (placed_still p w (known c.hash-answer.new.pass) c.hash-answer.ensures.stay (subst (λ (x : View). IsPlaced p x.book) (sym is) c.requires.place), sym (c.walk_to_end.ensures.at.2 ∙ b0))
 
 pub unhash-requires-clause-share : goal.unhash-requires-clause-share
@@ -42,22 +42,22 @@ unhash-requires-clause-share g c =
     let v : View = known c.args.pass.now in
     let w : View = view c.walk_to_end.new.steps in
     let is : w ≡ record (locking v c.args.place.bucket) { chain = w.chain } =
-    ap (λ (x : Sat). x.0) c.walk_to_end.ensures.kept ∙ ap (λ (x : Sat). record x.0 { chain = w.chain }) c.lock-locked.ensures.view in
+    ap (λ (x : Sat). x.0) c.walk_to_end.ensures.kept ∙ ap (λ (x : Sat). record x.0 { chain = w.chain }) c.in_ok-locked.ensures.view in
     c.hash-answer.ensures.share 2 (subst (HasShares 4) (sym is) c.requires.share)
 
 pub returns-clause-answer : goal.returns-clause-answer
 returns-clause-answer g c =
     let layout = layout_of c.args.chains.now in
     let v : View = known c.args.pass.now in
-    let u : View = view c.lock-locked.new.steps in
+    let u : View = view c.lock.new.steps in
     let w : View = view c.walk_to_end.new.steps in
     let x : View = known c.hash-answer.new.pass in
     let p = c.args.place in
     let b : ℕ = p.bucket in
     let s = c.walk_to_end.ensures in
     let e = c.hash-answer.ensures in
-    let lv : u ≡ locking v b = ap (λ (y : Sat). y.0) c.lock-locked.ensures.view in
-    let b0 : c.lock-locked.result.bucket ≡ b = cons_is c.lock-locked.result.bucket b (sym c.lock-locked.ensures.at.0 ∙ ap (λ (y : View). y.chain.locked) lv) in
+    let lv : u ≡ locking v b = ap (λ (y : Sat). y.0) c.in_ok-locked.ensures.view in
+    let b0 : c.in_ok-locked.locked.bucket ≡ b = cons_is c.in_ok-locked.locked.bucket b (sym c.in_ok-locked.ensures.at.0 ∙ ap (λ (y : View). y.chain.locked) lv) in
     let b1 : c.walk_to_end.new.locked.bucket ≡ b = s.at.2 ∙ b0 in
     let is = walking_is v u w b lv (ap (λ (y : Sat). y.0) s.kept) (s.at.0.0 ∙ ap (λ (n : ℕ). n ∷ []) b1) s.whole.0 s.whole.1 in
     let said : Said layout c.args.from c.walk_to_end.new.locked.bucket c.args.card.now w x c.hash-answer.result = record { told = c.is_told.ensures.told; some = e.some; far = e.far; first = e.first; chain = e.chain; change = e.change; rest = e.rest; saw = e.saw; full = e.full; all = e.all } in
@@ -87,18 +87,18 @@ returns-clause-stay g c = λ hash ne place.
     let v : View = known c.args.pass.now in
     let w : View = view c.walk_to_end.new.steps in
     let is : w ≡ record (locking v c.args.place.bucket) { chain = w.chain } =
-    ap (λ (x : Sat). x.0) c.walk_to_end.ensures.kept ∙ ap (λ (x : Sat). record x.0 { chain = w.chain }) c.lock-locked.ensures.view in
+    ap (λ (x : Sat). x.0) c.walk_to_end.ensures.kept ∙ ap (λ (x : Sat). record x.0 { chain = w.chain }) c.in_ok-locked.ensures.view in
     subst (λ (y : View). IsPlace y.book hash) (sym (ap (λ (y : Sat). y.0) c.unlock.ensures.view)) (c.unhash.ensures.stay hash ne (c.hash-answer.ensures.stay hash (subst (λ (y : View). IsPlace y.book hash) (sym is) place)))
 
 pub returns-clause-others : goal.returns-clause-others
 returns-clause-others g c = λ hash other place.
     let v : View = known c.args.pass.now in
     let p = c.args.place in
-    let u : View = view c.lock-locked.new.steps in
+    let u : View = view c.lock.new.steps in
     let w : View = view c.walk_to_end.new.steps in
     let s = c.walk_to_end.ensures in
-    let lv : u ≡ locking v p.bucket = ap (λ (y : Sat). y.0) c.lock-locked.ensures.view in
-    let b0 : c.lock-locked.result.bucket ≡ p.bucket = cons_is c.lock-locked.result.bucket p.bucket (sym c.lock-locked.ensures.at.0 ∙ ap (λ (y : View). y.chain.locked) lv) in
+    let lv : u ≡ locking v p.bucket = ap (λ (y : Sat). y.0) c.in_ok-locked.ensures.view in
+    let b0 : c.in_ok-locked.locked.bucket ≡ p.bucket = cons_is c.in_ok-locked.locked.bucket p.bucket (sym c.in_ok-locked.ensures.at.0 ∙ ap (λ (y : View). y.chain.locked) lv) in
     let is : w ≡ record (locking v p.bucket) { chain = w.chain } = ap (λ (y : Sat). y.0) s.kept ∙ ap (λ (y : View). record y { chain = w.chain }) lv in
     let locked : w.chain.locked ≡ p.bucket ∷ [] = s.at.0.0 ∙ ap (λ (n : ℕ). n ∷ []) (s.at.2 ∙ b0) in
     let placed : IsPlaced p w.book = subst (λ (y : View). IsPlaced p y.book) (sym is) c.requires.place in
@@ -110,8 +110,8 @@ returns-clause-share g c = λ more share.
     let v : View = known c.args.pass.now in
     let w : View = view c.walk_to_end.new.steps in
     let is : w ≡ record (locking v c.args.place.bucket) { chain = w.chain } =
-    ap (λ (x : Sat). x.0) c.walk_to_end.ensures.kept ∙ ap (λ (x : Sat). record x.0 { chain = w.chain }) c.lock-locked.ensures.view in
+    ap (λ (x : Sat). x.0) c.walk_to_end.ensures.kept ∙ ap (λ (x : Sat). record x.0 { chain = w.chain }) c.in_ok-locked.ensures.view in
     subst (HasShares more) (sym (ap (λ (x : Sat). x.0) c.unlock.ensures.view)) (c.unhash.ensures.share more (c.hash-answer.ensures.share (more + 2) (let z = subst (HasShares (more + 4)) (sym is) share in omega (arith, z))))
 
 pub unlock-requires-clause-alone : goal.unlock-requires-clause-alone
-unlock-requires-clause-alone g c = inl (c.unhash.ensures.twice ∙ (c.hash-answer.ensures.twice (alone_where_waits c.args.card.now (view c.walk_to_end.new.steps).chain.walked c.requires.waits) ∙ (ap (λ (x : Sat). x.0.twice) c.walk_to_end.ensures.kept ∙ ap (λ (x : Sat). x.0.twice) c.lock-locked.ensures.view)))
+unlock-requires-clause-alone g c = inl (c.unhash.ensures.twice ∙ (c.hash-answer.ensures.twice (alone_where_waits c.args.card.now (view c.walk_to_end.new.steps).chain.walked c.requires.waits) ∙ (ap (λ (x : Sat). x.0.twice) c.walk_to_end.ensures.kept ∙ ap (λ (x : Sat). x.0.twice) c.in_ok-locked.ensures.view)))

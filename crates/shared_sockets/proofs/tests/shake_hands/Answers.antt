@@ -7,5 +7,5 @@ hand_over-requires-clause-share g c = let z = c.insert.ensures.share 8 c.require
 pub come-requires-clause-share : goal.come-requires-clause-share
 come-requires-clause-share g c = c.hand_over.ensures.share 4 (c.insert.ensures.share 8 c.requires.share)
 
-pub remove-requires-clause-share : goal.remove-requires-clause-share
-remove-requires-clause-share g c = let z = c.hand_over.ensures.share 4 (c.insert.ensures.share 8 c.requires.share) in omega (arith, z)
+pub take_out-requires-clause-share : goal.take_out-requires-clause-share
+take_out-requires-clause-share g c = let z = c.hand_over.ensures.share 4 (c.insert.ensures.share 8 c.requires.share) in omega (arith, z)
