@@ -16,6 +16,7 @@ use Rattle.flat_list.specs.declared.header.Header.{Header}
 use Rattle.port_search.proofs.TurnSearch.{gave_none}
 use Rattle.race_record.specs.Deeds.{Deed, entered, inserted, added, left, reaped, entries_in}
 use Rattle.table_model.specs.declared.operation.OpEnd.{OpEnd}
+use Rattle.table_model.specs.declared.operation.Cause.TheVariants as causes
 use Rattle.table_model.specs.declared.operation.OpEnd.TheVariants as errors
 use Rattle.table_model.specs.Asking.{Asking, ends, asks, inserts, adds, unhashes, reaps, and_then}
 use Rattle.table_model.specs.Own.{Own, Mine, Offsets, open_socket, open_named as socket_of, with_label, without, next_name, is_over, ports_of}
@@ -58,13 +59,13 @@ leads_then next (reaps card then_) rest (reaped c unhash ∷ deeds) l =
 leads_then next p rest (deed ∷ deeds) l = absurd l.1
 
 -- an operation that memory kept from its end
-pub wanted_left : {X R : Type 0} (did : X → R) (not_done : OpEnd → R) (count name : ℕ) (p : Asking R) (v u : View) (c d : Side) (end : OpEnd) → end ≡ errors.Memory → CarriedOut did not_done count name p v u c d (Err end) → ops.LeftOff count name p v u c d
+pub wanted_left : {X R : Type 0} (did : X → R) (not_done : OpEnd → R) (count name : ℕ) (p : Asking R) (v u : View) (c d : Side) (end : OpEnd) → end ≡ errors.LeftOff causes.Memory → CarriedOut did not_done count name p v u c d (Err end) → ops.LeftOff count name p v u c d
 wanted_left did not_done count name p v u c d end is h =
     subst (λ (e : OpEnd). CarriedOut did not_done count name p v u c d (Err e)) is h
 
 -- nothing else keeps one from its end that lets a socket go
 pub unclosed_left : {X : Type 0} (did : X → plans.Closed) (count name : ℕ) (p : Asking plans.Closed) (v u : View) (c d : Side) (end : OpEnd) → ClosedBy did count name p v u c d (Err end) → ops.LeftOff count name p v u c d
-unclosed_left did count name p v u c d errors.Memory h = h
+unclosed_left did count name p v u c d (errors.LeftOff cause) h = h
 unclosed_left did count name p v u c d (errors.InUse n) h = absurd h
 unclosed_left did count name p v u c d errors.NoPort h = absurd h
 unclosed_left did count name p v u c d (errors.Taken n) h = absurd h

@@ -29,7 +29,7 @@ use Rattle.shared_ops.specs.Goes.{Went, CarriedOut}
 use Rattle.shared_ops.specs.Socks.{mine_of, FitsState}
 use Rattle.shared_ops.specs.Stands.{IsReady, MayTell, StandsAs, buckets_of, turned, chained}
 use Rattle.shared_ops.proofs.Goes.{goes_by, does_none}
-use Rattle.section_machine.specs.Carried.{Carries, is_memory}
+use Rattle.section_machine.specs.Carried.{Carries, is_left_off}
 use Rattle.section_machine.specs.Places.{Labelled, HaveNames, at_place, those, IsUnnamed, Takes, with_place, own_of}
 use Rattle.section_machine.specs.Searches as searches
 use Rattle.section_machine.specs.Sections.{Kept, kept}
@@ -63,8 +63,8 @@ of_header header t f v u c d rest are went =
     (subst (λ (n : ℕ). Went (buckets_of t) (f header.shape n) v u c d rest) are.seed
     (subst (λ (x : Shape). Went (buckets_of t) (f x t.chains.layout.seed) v u c d rest) are.shape went))
 
--- a refusal that isn't want of memory
-pub refused_went : {X : Type 0} (did : X → Did) (count name : ℕ) (p : Asking Did) (v u : View) (c d : Side) (end : OpEnd) → is_memory end ≡ false → CarriedOut did refused count name p v u c d (Err end) → Went count p v u c d (ends (refused end))
+-- a refusal by which nothing was left off
+pub refused_went : {X : Type 0} (did : X → Did) (count name : ℕ) (p : Asking Did) (v u : View) (c d : Side) (end : OpEnd) → is_left_off end ≡ false → CarriedOut did refused count name p v u c d (Err end) → Went count p v u c d (ends (refused end))
 refused_went did count name p v u c d (errors.InUse n) told h = h
 refused_went did count name p v u c d errors.NoPort told h = h
 refused_went did count name p v u c d (errors.Taken n) told h = h
@@ -73,7 +73,7 @@ refused_went did count name p v u c d errors.IsConn told h = h
 refused_went did count name p v u c d errors.GroupFull told h = h
 refused_went did count name p v u c d errors.GroupsFull told h = h
 refused_went did count name p v u c d (errors.Full owned held) told h = h
-refused_went did count name p v u c d errors.Memory told h = absurd (cc)
+refused_went did count name p v u c d (errors.LeftOff cause) told h = absurd (cc)
 
 -- whatever holds anyway holds where the answer is an error
 pub on_err : {T E P : Type 0} (r : Result T E) → P → OnErr r P

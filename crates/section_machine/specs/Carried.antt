@@ -40,14 +40,14 @@ pub record Spends (old new : Kept) (w u : Worker) : Type 0 where
   pub entered : words.draws u.turns + length new.own.waits ≤ words.draws w.turns + length old.own.waits + 65540
   pub drawn : (more : ℕ) → MayDraw (more + 6 + 2 * length old.own.waits) w → MayDraw (more + 2 * length new.own.waits) u
 
-abbrev pub is_memory : OpEnd → Bool
-is_memory errors.Memory = true
-is_memory _ = false
+abbrev pub is_left_off : OpEnd → Bool
+is_left_off (errors.LeftOff cause) = true
+is_left_off _ = false
 
--- that end, which isn't want of memory
+-- that end, by which nothing was left off
 pub record Keeps (end given : OpEnd) : Type 0 where
   pub same : given ≡ end
-  pub told : is_memory end ≡ false
+  pub told : is_left_off end ≡ false
 
 -- how a socket's end is called, and the TIME_WAITs then
 abbrev pub close_answer : plans.Closed → Reply

@@ -14,6 +14,7 @@ ghost use Rattle.section_machine.specs.Standing.{IsSection};
 
 use crate::machine::Machine;
 use flat_list::{Label, Reply};
+use patience::Waits;
 use shared_ops::{Tables, Worker, drop_sock};
 use std::alloc::AllocError;
 use std::sync::Wait;
@@ -78,7 +79,7 @@ impl Machine {
         let Some((place, socket)) = self.labels.take(label) else {
             return Ok(Reply::Ebadf);
         };
-        match drop_sock(rt, tables, worker, socket) {
+        match drop_sock(&Waits::by(rt), tables, worker, socket) {
             Ok(()) => Ok(Reply::Ok),
             Err((socket, _)) => {
                 self.labels.put(place, socket);

@@ -16,6 +16,7 @@ ghost use Rattle.section_machine.specs.Standing.{IsSection};
 use crate::machine::{Machine, refusal};
 use crate::meeting::connect_error;
 use flat_list::{End, Label, Reply};
+use patience::Waits;
 use shared_ops::{Tables, Worker, ack, syn};
 use std::alloc::AllocError;
 use std::sync::Wait;
@@ -55,7 +56,7 @@ impl Machine {
         let Some(socket) = self.labels.at(listener) else {
             return Ok(Reply::Ebadf);
         };
-        match syn(rt, tables, worker, socket, name, from, at) {
+        match syn(&Waits::by(rt), tables, worker, socket, name, from, at) {
             Ok(request) => {
                 self.labels.put(place, request);
                 Ok(Reply::Ok)
@@ -96,7 +97,7 @@ impl Machine {
             return Ok(Reply::Ebadf);
         };
         let listener = self.labels.named(socket.owner().origin);
-        match ack(rt, tables, worker, socket, listener, name) {
+        match ack(&Waits::by(rt), tables, worker, socket, listener, name) {
             Ok(child) => {
                 self.labels.put(child_place, child);
                 Ok(Reply::Ok)

@@ -9,7 +9,9 @@ ghost use Rattle.table_model.specs.Own as own;
 ghost use Rattle.table_model.specs.Own.{open_socket};
 ghost use Rattle.table_model.specs.Commands as commands;
 ghost use Rattle.table_model.specs.Means.{is_lookup};
+ghost use Rattle.table_model.specs.declared.operation.Cause.TheVariants as causes;
 ghost use Rattle.table_model.specs.declared.operation.OpEnd.TheVariants as errors;
+ghost use Rattle.shared_ops.specs.Goes.{NotBusy};
 ghost use Rattle.shared_ops.specs.Groups.{KeepsLists};
 ghost use Rattle.shared_ops.specs.Socks.{mine_of};
 ghost use Rattle.shared_ops.specs.Stands.{IsReady, turned, chained};
@@ -23,7 +25,7 @@ use crate::offsets::Offsets;
 use crate::waits::Waits;
 use flat_list::{Command, End, First, Header, Label, Options, Reply};
 use label_index::LabelSeed;
-use shared_ops::{OpEnd, Sock, Tables, Unbound, Worker, bind, listen};
+use shared_ops::{Cause, OpEnd, Sock, Tables, Unbound, Worker, bind, listen};
 use sock_card::State;
 use std::alloc::{AllocError, Global};
 use std::marker::Model;
@@ -51,13 +53,15 @@ impl Model for Machine {
     ghost invariant = { λ m. AreBefore m.moment m.waits };
 }
 
-/// A refusal, unless it is want of memory.
+/// A refusal, unless it is want of memory, by which alone an operation is left off that waits for good.
 pub(crate) fn refusal(end: OpEnd) -> Result<OpEnd, AllocError>
+    requires patient { NotBusy end }
     ensures kept { IfOk result (λ kept. Keeps end kept) }
-    ensures wanted { OnErr result (end ≡ errors.Memory) }
+    ensures wanted { OnErr result (end ≡ errors.LeftOff causes.Memory) }
 {
     match end {
-        OpEnd::Memory => Err(AllocError),
+        OpEnd::LeftOff(Cause::Memory) => Err(AllocError),
+        OpEnd::LeftOff(Cause::Busy) => unreachable!(),
         _ => Ok(end),
     }
 }
@@ -173,7 +177,7 @@ impl Machine {
         };
         let begins = searches_bind(&socket, end);
         let ports = self.offsets.ports(begins, First::Odd);
-        match bind(rt, tables, worker, socket, end, ports) {
+        match bind(&patience::Waits::by(rt), tables, worker, socket, end, ports) {
             Ok((socket, port)) => {
                 self.labels.put(place, socket);
                 Ok(Reply::Port(port))
@@ -212,7 +216,7 @@ impl Machine {
         };
         let begins = is_unbound(&socket);
         let ports = self.offsets.ports(begins, First::Odd);
-        match listen(rt, tables, worker, socket, ports) {
+        match listen(&patience::Waits::by(rt), tables, worker, socket, ports) {
             Ok((socket, port)) => {
                 self.labels.put(place, socket);
                 Ok(Reply::Port(port))

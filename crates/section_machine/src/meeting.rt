@@ -18,6 +18,7 @@ ghost use Rattle.section_machine.specs.Standing.{IsSection};
 use crate::machine::{Machine, is_unbound, refusal};
 use chain_book::Replace;
 use flat_list::{End, First, Header, Label, Reply, owned};
+use patience::Waits;
 use shared_ops::{OpEnd, Sock, Tables, Worker, accept, connect};
 use std::alloc::AllocError;
 use std::sync::Wait;
@@ -86,7 +87,17 @@ impl Machine {
         let ports = self.offsets.ports(begins, First::Even);
         let rule = connect_rule(&self.header);
         let moment = self.moment;
-        match connect(rt, tables, worker, socket, from, to, moment, rule, ports) {
+        match connect(
+            &Waits::by(rt),
+            tables,
+            worker,
+            socket,
+            from,
+            to,
+            moment,
+            rule,
+            ports,
+        ) {
             Ok((socket, end)) => {
                 self.labels.put(place, socket);
                 Ok(Reply::End(end))
@@ -132,7 +143,7 @@ impl Machine {
         let Some(socket) = self.labels.at(listener) else {
             return Ok(Reply::Ebadf);
         };
-        match accept(rt, tables, worker, socket, name, from, at) {
+        match accept(&Waits::by(rt), tables, worker, socket, name, from, at) {
             Ok(child) => {
                 self.labels.put(place, child);
                 Ok(Reply::Ok)

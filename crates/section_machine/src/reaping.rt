@@ -71,7 +71,10 @@ fn reap_first<R: Wait>(
 {
     let mut count = 0;
     while let Some(waiting) = first_over(items, moment) {
-        let found = reap_one(rt, tables, worker, waiting)?;
+        let found = match reap_one(&patience::Waits::by(rt), tables, worker, waiting) {
+            Ok(found) => found,
+            Err(_) => return Err(AllocError),
+        };
         count = counted(count, found);
         let _reaped = items.pop_front();
     }

@@ -105,7 +105,7 @@ impl Waits {
             Ok(()) => {}
             Err(_) => return Err(socket),
         }
-        match close(rt, tables, worker, socket, moment) {
+        match close(&patience::Waits::by(rt), tables, worker, socket, moment) {
             Ok(closed) => Ok(keep(&mut self.items, closed)),
             Err((socket, _)) => Err(socket),
         }

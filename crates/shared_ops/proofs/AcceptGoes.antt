@@ -1,5 +1,5 @@
 -- How the plan of `accept` goes on.
-use Rattle.std.proofs.Common.{◌≡◌, ℕ, ◌+◌, ◌%◌, ◌||◌, Bool, true, false, List, [], ◌∷◌, ◌++◌, map, Option, Err, refl, sym, ap, subst, ◌∙◌, if◌then◌else◌}
+use Rattle.std.proofs.Common.{◌≡◌, ℕ, ◌+◌, ◌%◌, ◌||◌, Bool, true, false, List, [], ◌∷◌, ◌++◌, map, Option, Result, Ok, Err, refl, sym, ap, subst, ◌∙◌, if◌then◌else◌}
 use Rattle.std.specs.Option.{option_map}
 use Rattle.sock_card.specs.declared.owner.Owner.{Owner}
 use Rattle.std.proofs.lemmas.Bool.{false≢true, not-false}
@@ -24,6 +24,7 @@ use Rattle.chain_book.specs.declared.outcome.Place.{Place}
 use Rattle.chain_book.specs.declared.outcome.Hashed.{Hashed}
 use Rattle.chain_book.specs.declared.outcome.Replace.TheVariants as rules
 use Rattle.chain_book.specs.Chains.{Outcome, put}
+use Rattle.table_model.specs.declared.operation.Cause.TheVariants as causes
 use Rattle.table_model.specs.declared.operation.OpEnd.{OpEnd}
 use Rattle.table_model.specs.declared.operation.OpEnd.TheVariants as errors
 use Rattle.table_model.specs.Own.{Mine}
@@ -34,7 +35,7 @@ use Rattle.race_record.specs.Goes.{outcome_of, hashed_of}
 use Rattle.chain_deeds.specs.Sides.{Side}
 use Rattle.chain_deeds.specs.Made.{Does}
 use Rattle.shared_ops.specs.Leads.{Leads}
-use Rattle.shared_ops.specs.Goes.{Went, LeftOff, CarriedOut, AreAsked, AskedAll, gone_of}
+use Rattle.shared_ops.specs.Goes.{Went, CarriedOut, AreAsked, AskedAll, gone_of}
 use Rattle.shared_ops.specs.Hashing.{InsertsAs, PutsIn, wish_for}
 use Rattle.shared_ops.specs.declared.sock.Sock.{Sock}
 use Rattle.shared_ops.specs.declared.sock.Sock.TheVariants as socks
@@ -100,10 +101,8 @@ module _ (count : ℕ) (l a : Owner) (port : owner_key a ≡ owner_key l) (v w :
   accept_refused errors.IsConn ins gave = absurd ins
   accept_refused errors.GroupFull ins gave = absurd ins
   accept_refused errors.GroupsFull ins gave = absurd ins
-  accept_refused errors.Memory ins gave = absurd ins
-
-  pub accept_left : c ≡ d → Gave v w [] → LeftOff count a.name plan v w c d
-  accept_left same gave = left_nowhere count a.name plan v w c d same gave
+  accept_refused (errors.LeftOff causes.Memory) ins gave = absurd ins
+  accept_refused (errors.LeftOff causes.Busy) ins gave = left_nowhere count a.name plan v w c d ins gave
 
 module _ (l a : Owner) (place : ℕ) (v w : View) (replaced : Option ℕ) (answer : Answer) (stands : StandsOwn l place v) (all : AskedAll place (child_entry l a ∷ gone_of replaced answer) v w) where
   -- the child stands

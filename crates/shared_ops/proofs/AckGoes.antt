@@ -16,6 +16,7 @@ use Rattle.flat_list.specs.Owned.{heir_owner, is_no_ack}
 use Rattle.nulls_chain.specs.Changes.{OtherPlacesStay}
 use Rattle.table_rule.specs.Words.{words_of}
 use Rattle.table_rule.specs.declared.view.Layout.{Layout}
+use Rattle.table_model.specs.declared.operation.Cause.TheVariants as causes
 use Rattle.table_model.specs.declared.operation.OpEnd.TheVariants as errors
 use Rattle.table_model.specs.declared.operation.OpEnd.{OpEnd}
 use Rattle.table_model.specs.Own.{Mine, card_of}
@@ -32,7 +33,7 @@ use Rattle.shared_ops.specs.declared.sock.Sock.TheVariants as socks
 use Rattle.shared_ops.specs.declared.tables.Tables.{Tables}
 use Rattle.shared_ops.specs.Socks.{FitsState, full_at, mine_of, without_socket}
 use Rattle.shared_ops.specs.Stands.{IsHashed, IsOwner, StandsAs, place_in}
-use Rattle.shared_ops.proofs.Goes.{deed_at, by_added, by_entry, by_left, does_both, does_entry, all_one, same_err}
+use Rattle.shared_ops.proofs.Goes.{deed_at, by_added, by_entry, by_left, does_both, does_entry, left_nowhere, all_one, same_err}
 use Rattle.shared_ops.proofs.CloseGoes.{gave_one}
 use Rattle.shared_ops.proofs.AcceptGoes.{child_entry}
 
@@ -77,7 +78,7 @@ module _ (count : ℕ) (r : Mine) (l a : Owner) (v w : View) (c d : Side) where
         does = does_both (added (full_card a) tried ∷ left p.unhash ∷ []) last c d d p.does (does_entry (owner_key l) one.x d);
       }
 
-  -- no slot was free for it
+  -- no slot was free for it, or its chain wasn't had
   pub ack_refused : (end : OpEnd) → HandsOver (place_in kinds.Request r) (full_card a) c d (Err end) → Gave v w [] → CarriedOut {X = Mine} done refused count a.name plan v w c d (Err end)
   ack_refused (errors.Full owned held) none gave =
       let tried : Tried = no_slot none.number owned held in
@@ -95,7 +96,8 @@ module _ (count : ℕ) (r : Mine) (l a : Owner) (v w : View) (c d : Side) where
   ack_refused errors.IsConn none gave = absurd none
   ack_refused errors.GroupFull none gave = absurd none
   ack_refused errors.GroupsFull none gave = absurd none
-  ack_refused errors.Memory none gave = absurd none
+  ack_refused (errors.LeftOff causes.Memory) none gave = absurd none
+  ack_refused (errors.LeftOff causes.Busy) none gave = left_nowhere count a.name plan v w c d none gave
 
 -- what is handed back beside the answer
 pub ack_answers : (count name : ℕ) (p : Asking Did) (v w : View) (c d : Side) (s : Sock) (r : Result Mine OpEnd) → CarriedOut {X = Mine} done refused count name p v w c d r → CarriedOut accepted refused count name p v w c d (without_socket (ack_answer s r))

@@ -19,7 +19,7 @@ use Rattle.flat_list.specs.declared.command.End.{End}
 use Rattle.flat_list.specs.Owned.{addressed, bound_at}
 use Rattle.port_search.specs.declared.ends.SearchEnd.{SearchEnd}
 use Rattle.port_search.specs.declared.ends.SearchEnd.TheVariants as searches
-use Rattle.port_search.specs.Search.{IsNotFull, at_port}
+use Rattle.port_search.specs.Search.{IsNotBusy, IsNotFull, at_port}
 use Rattle.port_search.specs.Turned.{AllRefuse, BindsAt, BindsNowhere, BindsNotYet}
 use Rattle.table_model.specs.declared.operation.OpEnd.{OpEnd}
 use Rattle.table_model.specs.declared.operation.OpEnd.TheVariants as errors
@@ -32,7 +32,7 @@ use Rattle.chain_deeds.specs.Made.{Does}
 use Rattle.shared_ops.specs.declared.sock.Sock.{Sock}
 use Rattle.shared_ops.specs.Binding.{end_of_bind, end_of_search, bound_to, bound_answer}
 use Rattle.shared_ops.specs.Leads.{Leads}
-use Rattle.shared_ops.specs.Goes.{Went, LeftOff, CarriedOut}
+use Rattle.shared_ops.specs.Goes.{Went, LeftOff, CarriedOut, NotBusy}
 use Rattle.shared_ops.specs.Socks.{first_mine, without_socket}
 use Rattle.shared_ops.specs.Stands.{IsAway}
 use Rattle.shared_ops.proofs.Goes.{deed_at, entry_is, by_entry, leads_both, entries_both, does_both, does_none, does_entry, went_nowhere, same_err}
@@ -169,22 +169,32 @@ module _ (count : ℕ) (a : Owner) (v w : View) where
           does = does_each a.net at.before at.refused c;
         }
 
-  pub searched_goes : (addr : ℕ) (ports : List ℕ) (r : Result ℕ SearchEnd) (c : Side) → IfOk r (BindsAt count (bound_at a addr 0) ports v w) → (r ≡ Err searches.NoPort → BindsNowhere count (bound_at a addr 0) ports v w) → (r ≡ Err searches.Memory → BindsNotYet count (bound_at a addr 0) ports v w) → IfErr r IsNotFull
+  pub searched_goes : (addr : ℕ) (ports : List ℕ) (r : Result ℕ SearchEnd) (c : Side) → IfOk r (BindsAt count (bound_at a addr 0) ports v w) → (r ≡ Err searches.NoPort → BindsNowhere count (bound_at a addr 0) ports v w) → (r ≡ Err searches.Memory → BindsNotYet count (bound_at a addr 0) ports v w) → (r ≡ Err searches.Busy → BindsNotYet count (bound_at a addr 0) ports v w) → IfErr r IsNotFull
       → CarriedOut (bound_to a addr) refused count a.name (search_bind a addr (bound a addr) (ends (refused errors.NoPort)) ports) v w c c (end_of_search r)
-  searched_goes addr ports (Ok port) c at none yet end = search_finds addr (bound a addr) (ends (refused errors.NoPort)) ports port c at
-  searched_goes addr ports (Err searches.NoPort) c at none yet end = search_fails addr (bound a addr) (ends (refused errors.NoPort)) ports c (none refl)
-  searched_goes addr ports (Err searches.Memory) c at none yet end = search_stops addr (bound a addr) (ends (refused errors.NoPort)) ports c (yet refl)
-  searched_goes addr ports (Err (searches.Full owned held)) c at none yet end = absurd end
+  searched_goes addr ports (Ok port) c at none yet busy end = search_finds addr (bound a addr) (ends (refused errors.NoPort)) ports port c at
+  searched_goes addr ports (Err searches.NoPort) c at none yet busy end = search_fails addr (bound a addr) (ends (refused errors.NoPort)) ports c (none refl)
+  searched_goes addr ports (Err searches.Memory) c at none yet busy end = search_stops addr (bound a addr) (ends (refused errors.NoPort)) ports c (yet refl)
+  searched_goes addr ports (Err searches.Busy) c at none yet busy end = search_stops addr (bound a addr) (ends (refused errors.NoPort)) ports c (busy refl)
+  searched_goes addr ports (Err (searches.Full owned held)) c at none yet busy end = absurd end
 
   pub searched_stands : (addr : ℕ) (ports : List ℕ) (r : Result ℕ SearchEnd) → IfOk r (BindsAt count (bound_at a addr 0) ports v w) → IsAway a.name v → IfOk (end_of_search r) (λ port. StandsOwn (bound_at a addr port) (bind_key port a.net % count) w)
   searched_stands addr ports (Ok port) at away = came_stands (bound_at a addr port) (bind_key port a.net % count) w (search_came count (bound_at a addr 0) v w ports port refl away at)
   searched_stands addr ports (Err end) at away = tt
 
-  pub searched_kept : (addr : ℕ) (ports : List ℕ) (r : Result ℕ SearchEnd) → (r ≡ Err searches.NoPort → BindsNowhere count (bound_at a addr 0) ports v w) → (r ≡ Err searches.Memory → BindsNotYet count (bound_at a addr 0) ports v w) → IfErr r IsNotFull → IsAway a.name v → OnErr (end_of_search r) (IsAway a.name w)
-  searched_kept addr ports (Ok port) none yet end away = tt
-  searched_kept addr ports (Err searches.NoPort) none yet end away = search_away count (bound_at a addr 0) v w ports refl away (none refl)
-  searched_kept addr ports (Err searches.Memory) none yet end away = stop_away count (bound_at a addr 0) v w ports refl away (yet refl)
-  searched_kept addr ports (Err (searches.Full owned held)) none yet end away = absurd end
+  pub searched_kept : (addr : ℕ) (ports : List ℕ) (r : Result ℕ SearchEnd) → (r ≡ Err searches.NoPort → BindsNowhere count (bound_at a addr 0) ports v w) → (r ≡ Err searches.Memory → BindsNotYet count (bound_at a addr 0) ports v w) → (r ≡ Err searches.Busy → BindsNotYet count (bound_at a addr 0) ports v w) → IfErr r IsNotFull → IsAway a.name v → OnErr (end_of_search r) (IsAway a.name w)
+  searched_kept addr ports (Ok port) none yet busy end away = tt
+  searched_kept addr ports (Err searches.NoPort) none yet busy end away = search_away count (bound_at a addr 0) v w ports refl away (none refl)
+  searched_kept addr ports (Err searches.Memory) none yet busy end away = stop_away count (bound_at a addr 0) v w ports refl away (yet refl)
+  searched_kept addr ports (Err searches.Busy) none yet busy end away = stop_away count (bound_at a addr 0) v w ports refl away (busy refl)
+  searched_kept addr ports (Err (searches.Full owned held)) none yet busy end away = absurd end
+
+-- whoever waits for good isn't told that it was busy
+pub search_patient : (r : Result ℕ SearchEnd) → IfErr r IsNotBusy → IfErr (end_of_search r) NotBusy
+search_patient (Ok port) h = tt
+search_patient (Err searches.NoPort) h = tt
+search_patient (Err searches.Memory) h = tt
+search_patient (Err searches.Busy) h = absurd h
+search_patient (Err (searches.Full owned held)) h = tt
 
 -- what is handed back beside the answer
 module _ (count : ℕ) (m : Mine) (end : End) (ports : List ℕ) (v w : View) (c : Side) (s : Sock) where
@@ -239,3 +249,8 @@ pub has_port : (count : ℕ) (m : Mine) (end : End) (ports : List ℕ) (v : View
 has_port count m end ports v c state is plan =
     subst (λ (st : State). Went count (bind_as st m end ports) v v c c (ends (refused errors.Inval))) (sym is)
     (subst (λ p. Went count p v v c c (ends (refused errors.Inval))) (sym plan) (went_nowhere count (ends (refused errors.Inval)) v c))
+
+-- and is handed back so
+pub answer_patient : (s : Sock) (owner : Owner) (addr : ℕ) (r : Result ℕ OpEnd) → IfErr r NotBusy → IfErr (bound_answer s owner addr r) (λ refusal. NotBusy refusal.1)
+answer_patient s owner addr (Ok port) h = tt
+answer_patient s owner addr (Err end) h = h

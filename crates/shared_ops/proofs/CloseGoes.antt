@@ -1,10 +1,11 @@
 -- How the plans of `close` and `drop` go on.
-use Rattle.std.proofs.Common.{◌≡◌, ℕ, ◌+◌, ◌≤◌, ◌%◌, List, [], ◌∷◌, None, Result, Ok, Err, refl, sym, ap, subst, ◌∙◌, arith}
+use Rattle.std.proofs.Common.{◌≡◌, ℕ, ◌+◌, ◌≤◌, ◌%◌, List, [], ◌∷◌, map, None, Result, Ok, Err, IfErr, IfOk, OnErr, OnOk, refl, sym, ap, subst, ◌∙◌, arith}
 use Rattle.std.specs.Result.{IsErr}
 use Rattle.sock_card.specs.Conflict.{owner_key}
 use Rattle.sock_card.specs.declared.owner.Owner.{Owner}
 use Rattle.sock_card.specs.declared.owner.State.{State}
 use Rattle.sock_card.specs.declared.card.Card.{Card}
+use Rattle.sock_card.specs.declared.card.Kind.{Kind}
 use Rattle.sock_card.specs.declared.card.Kind.TheVariants as kinds
 use Rattle.sock_card.specs.Became.{as_waiting}
 use Rattle.turn_table.specs.declared.note.Placed.{Placed}
@@ -12,7 +13,10 @@ use Rattle.turn_table.specs.Journals.{placed}
 use Rattle.bind_buckets.specs.declared.request.Request.TheVariants as requests
 use Rattle.bind_buckets.specs.declared.request.Answer.TheVariants as answers
 use Rattle.bind_buckets.specs.declared.request.Entry.{Entry}
-use Rattle.bind_buckets.specs.Turned.{View, Gave, IsAlone, KnowsAll}
+use Rattle.bind_buckets.specs.Notes.{Note}
+use Rattle.bind_buckets.specs.OwnTold.{StandsOwn}
+use Rattle.bind_buckets.specs.Turned.{View, Gave, IsAlone, KnowsAll, Within}
+use Rattle.reuseport_group.specs.declared.pass.GroupPasses.{GroupPasses}
 use Rattle.chain_book.specs.declared.book.Change.{Change}
 use Rattle.chain_book.specs.declared.outcome.Place.{Place}
 use Rattle.chain_book.specs.declared.shape.Shape.{Shape}
@@ -22,6 +26,8 @@ use Rattle.nulls_chain.specs.declared.keeping.Place.{Place as Stood}
 use Rattle.table_rule.specs.Sole.{IsNow}
 use Rattle.table_rule.specs.Calls.{HasShares}
 use Rattle.table_rule.specs.declared.view.View.{View as ChainView}
+use Rattle.table_model.specs.declared.operation.Cause.{Cause}
+use Rattle.table_model.specs.declared.operation.Cause.TheVariants as causes
 use Rattle.table_model.specs.declared.operation.OpEnd.{OpEnd}
 use Rattle.table_model.specs.declared.operation.OpEnd.TheVariants as errors
 use Rattle.table_model.specs.Own.{Mine, card_of}
@@ -33,15 +39,20 @@ use Rattle.race_record.specs.Deeds as deeds
 use Rattle.race_record.specs.Goes.{IsUnhashAt}
 use Rattle.chain_deeds.specs.Sides.{Side}
 use Rattle.chain_deeds.specs.Made.{Does}
+use Rattle.chain_deeds.specs.Answers.{Removes}
+use Rattle.port_search.proofs.TurnSearch.{gave_none}
 use Rattle.shared_ops.specs.declared.sock.Sock.{Sock}
 use Rattle.shared_ops.specs.declared.sock.Sock.TheVariants as socks
 use Rattle.shared_ops.specs.declared.leaving.Closed.{Closed}
 use Rattle.shared_ops.specs.Socks.{mine_of, FitsState, without_socket}
 use Rattle.shared_ops.specs.Closes.{Replaces, GoesAlone, ClosedBy, ClosedByAlone, Leaves, became, close_answer, drop_answer, is_gone, leave_entry, spot_of}
-use Rattle.shared_ops.specs.Goes.{Went, LeftOff, AskedAll, AreAsked}
+use Rattle.shared_ops.specs.Goes.{Went, LeftOff, AskedAll, AreAsked, NotBusy}
 use Rattle.shared_ops.specs.Leads.{Leads}
-use Rattle.shared_ops.specs.Stands.{place_in}
-use Rattle.shared_ops.proofs.Goes.{deed_at, entry_is, by_entry, by_added, by_left, does_both, does_entry, does_none, One, all_one, went_alone}
+use Rattle.shared_ops.specs.Stands.{IsHashed, place_in}
+use Rattle.shared_ops.specs.Groups.{KeepsListed, LeavesAs, ListsOfLeave}
+use Rattle.shared_ops.proofs.Goes.{deed_at, entry_is, by_entry, by_added, by_left, does_both, does_entry, One, all_one, went_alone, left_nowhere}
+use Rattle.shared_ops.proofs.Knows.{grows, stands_on}
+use Rattle.shared_ops.proofs.Lists.{sparing_same}
 
 abbrev pub wait_entry : Owner → Entry
 wait_entry a = record { request = requests.ToTimeWait a.name; answer = answers.Done }
@@ -61,11 +72,6 @@ all_none place v w all = none_of place v w all.xs all.asked all.gave
 
 pub gave_one : (count port : ℕ) (e : Entry) (v w : View) (one : One (port % count) e v w) → Gave v w (placed (port % count) one.x.note ∷ [])
 gave_one count port e v w one = subst (λ (p : Placed Entry). Gave v w (p ∷ [])) (sym (entry_is count port e.request e.answer one.x one.is)) one.gave
-
--- a plan was left off before its first question
-pub left_first : {R : Type 0} (count name place : ℕ) (p : Asking R) (v w : View) (c d : Side) → c ≡ d → AskedAll place [] v w → LeftOff count name p v w c d
-left_first count name place p v w c d same all =
-    record { rest = p; deeds = []; leads = refl; back = []; gives = tt; gave = all_none place v w all; does = subst (λ (k : Side). Does [] c k) same (does_none c) }
 
 module _ (count : ℕ) (m : Mine) (moment : ℕ) (v w : View) (c d : Side) where
   abbrev closing : Asking plan.Closed
@@ -150,11 +156,16 @@ module _ (count : ℕ) (a : Owner) (v w : View) where
         does = does_both (left u ∷ []) last c d d does (does_entry (owner_key a) one.x d);
       }
 
+-- a request, of which no bucket knows
+pub request_leaves : (count : ℕ) (m : Mine) (v : View) (c d : Side) → Removes (place_in kinds.Request m) c d → Went count (unhashes m.place (card_of kinds.Request m) (ends plan.gone)) v v c d (ends plan.gone)
+request_leaves count m v c d r =
+    record { deeds = left r.unhash ∷ []; leads = by_left m.place (card_of kinds.Request m) (ends plan.gone) r.unhash [] (ends plan.gone) r.is refl; gave = gave_none v; does = r.does }
+
 -- where nobody else is at the tables
 pub closed_alone : {X : Type 0} (did : X → plan.Closed) (count name : ℕ) (p : Asking plan.Closed) (v w : View) (c d : Side) (r : Result X OpEnd) → 1 ≤ count → KnowsAll count w → IsAlone v → IsNow c.view
     → ClosedBy did count name p v w c d r → ClosedByAlone did count p v.mine w.mine c d r
 closed_alone did count name p v w c d (Ok x) some knows alone now went = went_alone count p (ends (did x)) v w c d some went alone knows now
-closed_alone did count name p v w c d (Err errors.Memory) some knows alone now went = refl
+closed_alone did count name p v w c d (Err (errors.LeftOff cause)) some knows alone now went = (cause, refl)
 closed_alone did count name p v w c d (Err (errors.InUse n)) some knows alone now went = absurd went
 closed_alone did count name p v w c d (Err errors.NoPort) some knows alone now went = absurd went
 closed_alone did count name p v w c d (Err (errors.Taken n)) some knows alone now went = absurd went
@@ -184,12 +195,68 @@ pub leaves_err : {X E : Type 0} (did : X → plan.Closed) (count name : ℕ) (p 
 leaves_err did count name p v w c d (Ok x) is k = absurd (cc)
 leaves_err did count name p v w c d (Err end) is k = k
 
+-- where nothing was given and done in its turn if that is an error
+pub turn_leaves : {X E : Type 0} (did : X → plan.Closed) (count name : ℕ) (p : Asking plan.Closed) (u v w : View) (c d : Side) (r : Result X E) → Within v u
+    → IfOk r (λ x. (k : View) → Within k u → Went count p k w c d (ends (did x))) → OnErr r ((k : View) → Within k u → Gave k w []) → OnErr r (d ≡ c) → Leaves did count name p v w c d r
+turn_leaves did count name p u v w c d (Ok x) within went nothing same = went v within
+turn_leaves did count name p u v w c d (Err end) within went nothing same = left_nowhere count name p v w c d (sym same) (nothing v within)
+
+-- Where nothing was given
+
+pub none_given : (place : ℕ) (v w : View) (ms : List Note) → ms ≡ [] → Gave v w (map (placed place) ms) → Gave v w []
+none_given place v w ms none gave = subst (λ (xs : List Note). Gave v w (map (placed place) xs)) none gave
+
+-- no list of groups changed
+pub none_listed : (count : ℕ) (v w : View) (p q : GroupPasses) → q ≡ p → Gave v w [] → KeepsListed count v w p q
+none_listed count v w p q same gave = sparing_same count v w p q same (record { new = []; gave = gave; spares = tt })
+
+-- an owner stands as before
+pub none_stands : (a : Owner) (place : ℕ) (v w : View) → StandsOwn a place v → Gave v w [] → StandsOwn a place w
+none_stands a place v w stands gave = stands_on a place v w [] stands (grows v w [] gave) tt
+
+-- its owner stands as before then, and so does its card
+pub turn_kept : {X E : Type 0} (kind : Kind) (m : Mine) (place : ℕ) (u v w : View) (c d : Side) (r : Result X E) → Within v u → StandsOwn m.owner place v → IsHashed kind m c
+    → OnErr r ((k : View) → Within k u → Gave k w []) → OnErr r (d ≡ c) → OnErr r (StandsOwn m.owner place w × IsHashed kind m d)
+turn_kept kind m place u v w c d (Ok x) within stands stood nothing same = tt
+turn_kept kind m place u v w c d (Err end) within stands stood nothing same =
+    (none_stands m.owner place v w stands (nothing v within), subst (IsHashed kind m) (sym same) stood)
+
+-- a bound socket left its port, or nothing was done
+pub port_leaves : {E : Type 0} (count : ℕ) (m : Mine) (v w : View) (c : Side) (p q : GroupPasses) (r : Result (Unit {0}) E)
+    → OnOk r (AskedAll (owner_key m.owner % count) (leave_entry m.owner ∷ []) v w) → OnErr r ((w ≡ v) × (q ≡ p)) → Leaves is_gone count m.owner.name (leave m.owner plan.gone) v w c c r
+port_leaves count m v w c p q (Ok done) asked same = bound_leaves count m.owner v w c asked
+port_leaves count m v w c p q (Err end) asked same = left_nowhere count m.owner.name (leave m.owner plan.gone) v w c c refl (subst (λ (k : View). Gave v k []) (sym same.0) (gave_none v))
+
+pub port_kept : {E : Type 0} (m : Mine) (place : ℕ) (v w : View) (p q : GroupPasses) (r : Result (Unit {0}) E) → StandsOwn m.owner place v → OnErr r ((w ≡ v) × (q ≡ p)) → OnErr r (StandsOwn m.owner place w)
+port_kept m place v w p q (Ok done) stands same = tt
+port_kept m place v w p q (Err end) stands same = subst (StandsOwn m.owner place) (sym same.0) stands
+
+pub port_lists : {E : Type 0} (count : ℕ) (m : Mine) (v w : View) (p q : GroupPasses) (r : Result (Unit {0}) E)
+    → OnOk r (LeavesAs (owner_key m.owner % count) m.owner w p q) → OnErr r ((w ≡ v) × (q ≡ p)) → ListsOfLeave count (socks.Bound m) w p q r
+port_lists count m v w p q (Ok done) leaves same = leaves
+port_lists count m v w p q (Err end) leaves same = same.1
+
+-- what does not fail for want of patience fails for want of memory, if at all
+pub never_fails : {X E : Type 0} (r : Result X E) (P : E → Type 0) → OnErr r ⊥ → IfErr r P
+never_fails (Ok x) P none = tt
+never_fails (Err end) P none = absurd none
+
+pub close_patient : (s : Sock) (r : Result Closed Cause) → IfErr r (λ cause. cause ≡ causes.Memory) → IfErr (close_answer s r) (λ refusal. NotBusy refusal.1)
+close_patient s (Ok closed) memory = tt
+close_patient s (Err causes.Memory) memory = tt
+close_patient s (Err causes.Busy) memory = absurd (cc)
+
+pub drop_patient : (s : Sock) (r : Result (Unit {0}) Cause) → IfErr r (λ cause. cause ≡ causes.Memory) → IfErr (drop_answer s r) (λ refusal. NotBusy refusal.1)
+drop_patient s (Ok done) memory = tt
+drop_patient s (Err causes.Memory) memory = tt
+drop_patient s (Err causes.Busy) memory = absurd (cc)
+
 -- what is handed back beside the answer
-module _ {E : Type 0} (count name : ℕ) (p : Asking plan.Closed) (v w : View) (c d : Side) (s : Sock) where
-  pub close_answers : (r : Result Closed E) → Leaves became count name p v w c d r → ClosedBy became count name p v w c d (without_socket (close_answer s r))
+module _ (count name : ℕ) (p : Asking plan.Closed) (v w : View) (c d : Side) (s : Sock) where
+  pub close_answers : (r : Result Closed Cause) → Leaves became count name p v w c d r → ClosedBy became count name p v w c d (without_socket (close_answer s r))
   close_answers (Ok closed) k = k
   close_answers (Err end) k = k
 
-  pub drop_answers : (r : Result (Unit {0}) E) → Leaves is_gone count name p v w c d r → ClosedBy is_gone count name p v w c d (without_socket (drop_answer s r))
+  pub drop_answers : (r : Result (Unit {0}) Cause) → Leaves is_gone count name p v w c d r → ClosedBy is_gone count name p v w c d (without_socket (drop_answer s r))
   drop_answers (Ok done) k = k
   drop_answers (Err end) k = k

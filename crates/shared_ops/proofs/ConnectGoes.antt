@@ -1,5 +1,5 @@
 -- How the plan of `connect` of a bound socket goes on.
-use Rattle.std.proofs.Common.{◌≡◌, ℕ, ◌%◌, List, [], ◌∷◌, map, Option, Some, None, Err, refl, sym, ap, subst, ◌∙◌}
+use Rattle.std.proofs.Common.{◌≡◌, ℕ, ◌%◌, List, [], ◌∷◌, map, Option, Some, None, Result, Ok, Err, refl, sym, ap, subst, ◌∙◌}
 use Rattle.std.specs.Option.{option_map}
 use Rattle.sock_card.specs.Conflict.{owner_key, bind_key}
 use Rattle.sock_card.specs.declared.owner.Owner.{Owner}
@@ -20,6 +20,7 @@ use Rattle.chain_book.specs.declared.outcome.Replace.{Replace}
 use Rattle.chain_book.specs.Chains.{Outcome, put}
 use Rattle.chain_book.specs.Homes.{home}
 use Rattle.nulls_chain.specs.Changes.{PlacesStay}
+use Rattle.table_model.specs.declared.operation.Cause.TheVariants as causes
 use Rattle.table_model.specs.declared.operation.OpEnd.{OpEnd}
 use Rattle.table_model.specs.declared.operation.OpEnd.TheVariants as errors
 use Rattle.table_rule.specs.declared.view.Layout.{Layout}
@@ -31,11 +32,11 @@ use Rattle.race_record.specs.Goes.{outcome_of, hashed_of}
 use Rattle.chain_deeds.specs.Sides.{Side}
 use Rattle.chain_deeds.specs.Made.{Does}
 use Rattle.shared_ops.specs.Leads.{Leads}
-use Rattle.shared_ops.specs.Goes.{Went, LeftOff, CarriedOut, AreAsked, AskedAll, gone_of}
+use Rattle.shared_ops.specs.Goes.{Went, CarriedOut, AreAsked, AskedAll, gone_of}
 use Rattle.shared_ops.specs.Hashing.{InsertsAs, PutsIn, wish_for}
 use Rattle.shared_ops.specs.Socks.{full_at}
 use Rattle.shared_ops.specs.Stands.{IsHashed}
-use Rattle.shared_ops.proofs.Goes.{deed_at, by_entry, by_inserted, all_entries, does_both, does_none, does_entries, all_first}
+use Rattle.shared_ops.proofs.Goes.{deed_at, by_entry, by_inserted, all_entries, does_both, does_entries, all_first, left_nowhere}
 use Rattle.shared_ops.proofs.Inserted.{grants_of, put_outcome, keys_of, names_of}
 use Rattle.shared_ops.proofs.Knows.{AllQuiet, after, grows, grows_first, grows_rest, all_pass, asked_quiet, connects, stands_on}
 
@@ -133,11 +134,8 @@ module _ (count : ℕ) (a : Owner) (moment : ℕ) (rule : Replace) (v w : View) 
   connect_refused errors.IsConn ins gave = absurd ins
   connect_refused errors.GroupFull ins gave = absurd ins
   connect_refused errors.GroupsFull ins gave = absurd ins
-  connect_refused errors.Memory ins gave = absurd ins
-
-  pub connect_left : c ≡ d → Gave v w [] → LeftOff count a.name plan v w c d
-  connect_left same gave =
-      record { rest = plan; deeds = []; leads = refl; back = []; gives = tt; gave = gave; does = subst (Does [] c) same (does_none c) }
+  connect_refused (errors.LeftOff causes.Busy) ins gave = left_nowhere count a.name plan v w c d ins gave
+  connect_refused (errors.LeftOff causes.Memory) ins gave = absurd ins
 
 -- the connected owner stands
 pub connect_stands : (count : ℕ) (bound a : Owner) (v w : View) (replaced : Option ℕ) (answer : Answer) → a ≡ connected a.addr a.remote a.rport bound → StandsOwn bound (owner_key bound % count) v

@@ -1,5 +1,5 @@
 -- How plans go on by deeds.
-use Rattle.std.proofs.Common.{◌≡◌, ℕ, ◌%◌, ◌≤◌, List, [], ◌∷◌, ◌++◌, map, Result, Ok, Err, refl, sym, ap, subst, ◌∙◌, append-nil, append_assoc}
+use Rattle.std.proofs.Common.{◌≡◌, ℕ, ◌%◌, ◌≤◌, List, [], ◌∷◌, ◌++◌, map, Result, Ok, Err, IsErrAnd, refl, sym, ap, subst, ◌∙◌, append-nil, append_assoc}
 use Rattle.std.proofs.lemmas.List.{map-append}
 use Rattle.std.proofs.lemmas.List.Concat.{flat_map-append}
 use Rattle.sock_card.specs.declared.card.Card.{Card}
@@ -16,6 +16,7 @@ use Rattle.chain_book.specs.declared.outcome.Place.{Place}
 use Rattle.chain_book.specs.declared.outcome.Replace.{Replace}
 use Rattle.chain_book.specs.Chains.{Chains, hashed, unhashed, waiting}
 use Rattle.table_rule.specs.Sole.{IsNow}
+use Rattle.table_model.specs.declared.operation.Cause.{Cause}
 use Rattle.table_model.specs.declared.operation.OpEnd.{OpEnd}
 use Rattle.table_model.specs.declared.operation.OpEnd.TheVariants as errors
 use Rattle.table_model.specs.Asking.{Asking, ends, asks, inserts, adds, unhashes, reaps}
@@ -234,10 +235,17 @@ pub left_nowhere : {R : Type 0} (count name : ℕ) (p : Asking R) (v w : View) (
 left_nowhere count name p v w c d same gave =
     record { rest = p; deeds = []; leads = refl; back = []; gives = tt; gave = gave; does = subst (Does [] c) same (does_none c) }
 
+-- a turn or room wasn't had: the plan is left off where it begins
+pub begun_not : {X R : Type 0} (did : X → R) (not_done : OpEnd → R) (count name : ℕ) (p : Asking R) (v w : View) (c d : Side) (cause : Cause) (r : Result X OpEnd)
+    → IsErrAnd r (λ end. end ≡ errors.LeftOff cause) → d ≡ c → Gave v w [] → CarriedOut did not_done count name p v w c d r
+begun_not did not_done count name p v w c d cause (Ok x) is same gave = absurd is
+begun_not did not_done count name p v w c d cause (Err end) is same gave =
+    subst (λ (e : OpEnd). CarriedOut did not_done count name p v w c d (Err e)) (sym is) (left_nowhere count name p v w c d (sym same) gave)
+
 module _ {X R : Type 0} (did : X → R) (not_done : OpEnd → R) (count name : ℕ) (p q : Asking R) (u v w : View) (c d e : Side) (a : Went count p u v c d q) where
   pub carried_both : (r : Result X OpEnd) → CarriedOut did not_done count name q v w d e r → CarriedOut did not_done count name p u w c e r
   carried_both (Ok x) b = went_both count p q (ends (did x)) u v w c d e a b
-  carried_both (Err errors.Memory) b = left_both count name p q u v w c d e a b
+  carried_both (Err (errors.LeftOff cause)) b = left_both count name p q u v w c d e a b
   carried_both (Err (errors.InUse n)) b = went_both count p q (ends (not_done (errors.InUse n))) u v w c d e a b
   carried_both (Err errors.NoPort) b = went_both count p q (ends (not_done errors.NoPort)) u v w c d e a b
   carried_both (Err (errors.Taken n)) b = went_both count p q (ends (not_done (errors.Taken n))) u v w c d e a b
@@ -250,7 +258,7 @@ module _ {X R : Type 0} (did : X → R) (not_done : OpEnd → R) (count name : �
 -- what is handed back beside the answer
 module _ {X Y R : Type 0} (did : X → R) (its : Y → R) (not_done : OpEnd → R) (count name : ℕ) (p : Asking R) (v w : View) (c d : Side) where
   pub same_err : (end : OpEnd) → CarriedOut {X = X} did not_done count name p v w c d (Err end) → CarriedOut {X = Y} its not_done count name p v w c d (Err end)
-  same_err errors.Memory k = k
+  same_err (errors.LeftOff cause) k = k
   same_err (errors.InUse n) k = k
   same_err errors.NoPort k = k
   same_err (errors.Taken n) k = k
@@ -275,7 +283,7 @@ went_alone count plan rest v w c d some went alone knows now =
 pub carried_alone : {X R : Type 0} (did : X → R) (not_done : OpEnd → R) (count name : ℕ) (plan : Asking R) (v w : View) (c d : Side) (r : Result X OpEnd) → 1 ≤ count → KnowsAll count w → IsAlone v → IsNow c.view
     → CarriedOut did not_done count name plan v w c d r → CarriedOutAlone did not_done count plan v.mine w.mine c d r
 carried_alone did not_done count name plan v w c d (Ok x) some knows alone now went = went_alone count plan (ends (did x)) v w c d some went alone knows now
-carried_alone did not_done count name plan v w c d (Err errors.Memory) some knows alone now went = tt
+carried_alone did not_done count name plan v w c d (Err (errors.LeftOff cause)) some knows alone now went = tt
 carried_alone did not_done count name plan v w c d (Err (errors.InUse n)) some knows alone now went = went_alone count plan (ends (not_done (errors.InUse n))) v w c d some went alone knows now
 carried_alone did not_done count name plan v w c d (Err errors.NoPort) some knows alone now went = went_alone count plan (ends (not_done errors.NoPort)) v w c d some went alone knows now
 carried_alone did not_done count name plan v w c d (Err (errors.Taken n)) some knows alone now went = went_alone count plan (ends (not_done (errors.Taken n))) v w c d some went alone knows now

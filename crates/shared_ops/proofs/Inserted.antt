@@ -1,7 +1,7 @@
 -- What hashing a connected socket came to.
-use Rattle.std.proofs.Common.{◌≡◌, true, ◌==◌, ◌&&◌, Option, Some, None, Result, Ok, Err, [], ◌∷◌, refl, sym, ap, subst, ◌∙◌, arith}
+use Rattle.std.proofs.Common.{◌≡◌, true, Option, Some, None, Result, Ok, Err, [], ◌∷◌, refl, sym, ap, subst, ◌∙◌, arith}
 use Rattle.std.specs.Option.{option_map}
-use Rattle.std.proofs.lemmas.Bool.{and_parts, eqb-true}
+use Rattle.std.proofs.lemmas.Bool.{and_parts}
 use Rattle.sock_card.specs.Conflict.{bind_key}
 use Rattle.sock_card.specs.declared.card.Card.{Card}
 use Rattle.sock_card.specs.TimeWait.{is_time_wait_kind}
@@ -90,7 +90,7 @@ drawn_four (Err errors.Inval) v w k = k
 drawn_four (Err errors.IsConn) v w k = k
 drawn_four (Err errors.GroupFull) v w k = k
 drawn_four (Err errors.GroupsFull) v w k = k
-drawn_four (Err errors.Memory) v w k = k
+drawn_four (Err (errors.LeftOff cause)) v w k = k
 
 -- the outcome by which a plan goes on
 pub put_outcome : (hash : Change) (old : Option Change) → outcome_of (hashed hash old) ≡ put hash.slot (option_map hashed_of old)

@@ -19,3 +19,4 @@ mod ReapGoes
 pub mod Listed
 mod Lists
 mod ListTurns
+mod AskedFirst

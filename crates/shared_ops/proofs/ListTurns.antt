@@ -55,32 +55,51 @@ left_keeps count place a v w p q all l =
 
 -- An owner listens
 
-pub listens_in : (t : Hash) (p : Pass) (turn : Out) (q : Pass) (after : Out) (a : Owner) (slot : ℕ) (v w : View) (group : Option ℕ) (g0 g1 : GroupPasses)
+-- the last note of those that a turn made
+record LastNote (e : Entry) (ms : List Note) : Type 0 where
+  front : List Note
+  last : Note
+  split : ms ≡ front ++ last ∷ []
+  is : last.entry ≡ e
+
+last_note : (es : List Entry) (e : Entry) (ms : List Note) → entries_of ms ≡ es ++ e ∷ [] → LastNote e ms
+last_note [] e [] told = absurd (cc)
+last_note [] e (m ∷ []) told = record { front = []; last = m; split = refl; is = cc }
+last_note [] e (m ∷ n ∷ ms) told = absurd (cc)
+last_note (f ∷ es) e [] told = absurd (cc)
+last_note (f ∷ es) e (m ∷ ms) told =
+    let rest : entries_of ms ≡ es ++ e ∷ [] = cc in
+    let more = last_note es e ms rest in
+    record { front = m ∷ more.front; last = more.last; split = ap (λ ns. m ∷ ns) more.split; is = more.is }
+
+pub listens_in : (t : Hash) (p : Pass) (turn : Out) (q : Pass) (after : Out) (a : Owner) (slot : ℕ) (v w : View) (group : Option ℕ) (es : List Entry) (g0 g1 : GroupPasses)
     → IsSound turn.value.value → IsSound after.value.value → IsOut t p turn → Asks t p turn q after (requests.Listen a.name slot) answers.Done
-    → entries_of (made p turn) ≡ asked_listen a (answers.Group group) ∷ []
+    → entries_of (made p turn) ≡ es ++ asked_listen a (answers.Group group) ∷ []
     → Within v (known q) → Gave v w (map (placed after.place) (made q after)) → Follows turn.place group turn.value.value.held after.value.value.held g0 g1
     → ListsIn turn.place (asked_listen a (answers.Group group) ∷ said_listen a slot ∷ []) group w g0 g1
-listens_in t p turn q after a slot v w group g0 g1 sound ended out asks only within gave follows =
+listens_in t p turn q after a slot v w group es g0 g1 sound ended out asks only within gave follows =
     let b = turn.value.value in
     let k = after.value.value in
     let asked = asked_listen a (answers.Group group) in
-    let es = asked ∷ said_listen a slot ∷ [] in
-    let before = words.found p in
-    let ms = made p turn in
+    let two = asked ∷ said_listen a slot ∷ [] in
+    let n = last_note es asked (made p turn) only in
+    let before : List Note = words.found p ++ n.front in
     let more = one_more t p turn q after (requests.Listen a.name slot) answers.Done asks in
     let at = asks.place in
     let i = after.place in
-    let journal : k.journal ≡ before ++ (ms ++ more.note ∷ []) =
-    more.journal ∙ ap (λ (xs : List Note). xs ++ more.note ∷ []) out.grown ∙ append_assoc before ms (more.note ∷ []) in
-    let told : entries_of (ms ++ more.note ∷ []) ≡ es =
-    map-append entry_of ms (more.note ∷ []) ∙ ap (λ (xs : List Entry). xs ++ more.note.entry ∷ []) only ∙ ap (λ (e : Entry). asked ∷ e ∷ []) more.entry_is in
+    let grown : b.journal ≡ before ++ n.last ∷ [] =
+    out.grown ∙ ap (λ (xs : List Note). words.found p ++ xs) n.split ∙ sym (append_assoc (words.found p) n.front (n.last ∷ [])) in
+    let journal : k.journal ≡ before ++ (n.last ∷ more.note ∷ []) =
+    more.journal ∙ ap (λ (xs : List Note). xs ++ more.note ∷ []) grown ∙ append_assoc before (n.last ∷ []) (more.note ∷ []) in
+    let told : entries_of (n.last ∷ more.note ∷ []) ≡ two =
+    ap (λ (e : Entry). e ∷ more.note.entry ∷ []) n.is ∙ ap (λ (e : Entry). asked ∷ e ∷ []) more.entry_is in
     let began : b.held ≡ replayed i (entries_of before) =
-    held_by b i (before ++ ms) sound (out.number_is ∙ sym at) out.grown
-    ∙ ap (replayed i) (map-append entry_of before ms ∙ ap (λ (xs : List Entry). entries_of before ++ xs) only)
+    held_by b i (before ++ n.last ∷ []) sound (out.number_is ∙ sym at) grown
+    ∙ ap (replayed i) (map-append entry_of before (n.last ∷ []) ∙ ap (λ (e : Entry). entries_of before ++ e ∷ []) n.is)
     ∙ replayed_both i empty (entries_of before) (asked ∷ []) ∙ listens_held i (replayed i (entries_of before)) a.name in
-    subst (λ n. ListsIn n es group w g0 g1) at
-    (lists_in t q after v w b.held before (ms ++ more.note ∷ []) es group g0 g1 asks.out ended within gave began journal told
-    (subst (λ n. Follows n group b.held k.held g0 g1) (sym at) follows))
+    subst (λ m. ListsIn m two group w g0 g1) at
+    (lists_in t q after v w b.held before (n.last ∷ more.note ∷ []) two group g0 g1 asks.out ended within gave began journal told
+    (subst (λ m. Follows m group b.held k.held g0 g1) (sym at) follows))
 
 pub listens_as : (place : ℕ) (a : Owner) (l : Mine) (listener : Owner) (extra : ℕ) (at : Place) (group : Option ℕ) (w : View) (p q : GroupPasses)
     → listener ≡ as_listener a → extra ≡ option_map_or (λ (number : ℕ). number + 1) group 0 → l ≡ listening_at listener extra at

@@ -16,6 +16,7 @@ use Rattle.bind_buckets.specs.Turned.{View, Gave}
 use Rattle.chain_book.specs.declared.outcome.Place.{Place}
 use Rattle.chain_book.specs.Homes.{home}
 use Rattle.flat_list.specs.Owned.{card_as}
+use Rattle.table_model.specs.declared.operation.Cause.TheVariants as causes
 use Rattle.table_model.specs.declared.operation.OpEnd.{OpEnd}
 use Rattle.table_model.specs.declared.operation.OpEnd.TheVariants as errors
 use Rattle.table_model.specs.Own.{Mine, card_of}
@@ -111,6 +112,20 @@ module _ (count : ℕ) (a : Owner) (took : Bool) (v w : View) (c d : Side) where
             (does_both (added known tried ∷ []) last c d d (subst (λ (k : Card). Does (added k tried ∷ []) c d) card_is finds.does) (does_entries (owner_key a) f.zs d));
       }
 
+  -- its chain wasn't had
+  busy_goes : (group : Option ℕ) → c ≡ d → First (owner_key a % count) (asked_listen a (answers.Group group)) (gone_if took a) v w → LeftOff count a.name plan v w c d
+  busy_goes group same f =
+      let there : Asking Did = listen_answered c.layout.shape c.layout.seed took a (answers.Group group) in
+      record {
+        rest = there;
+        deeds = deed_at (owner_key a) f.x ∷ [];
+        leads = by_entry count (owner_key a) (requests.MayListen a.name) (answers.Group group) (listen_answered c.layout.shape c.layout.seed took a) f.x [] there f.is refl;
+        back = f.zs;
+        gives = gave_up took f.zs f.more;
+        gave = subst (λ (p : Placed Entry). Gave v w (p ∷ f.zs)) (sym (entry_is count (owner_key a) (requests.MayListen a.name) (answers.Group group) f.x f.is)) f.gave;
+        does = subst (λ (k : Side). Does (deed_at (owner_key a) f.x ∷ []) c k) same (does_entry (owner_key a) f.x c);
+      }
+
   pub listen_full : (group : Option ℕ) (l : Owner) (extra : ℕ) (card : Card) (end : OpEnd)
       → l ≡ as_listener a → extra ≡ option_map_or (λ (n : ℕ). n + 1) group 0 → card ≡ card_as kinds.Listen l extra
       → AddsAs card c d (Err end) → AskedAll (owner_key a % count) (asked_listen a (answers.Group group) ∷ gone_if took a) v w
@@ -125,7 +140,9 @@ module _ (count : ℕ) (a : Owner) (took : Bool) (v w : View) (c d : Side) where
   listen_full group l extra card errors.IsConn l_is extra_is card_is adds all = absurd adds
   listen_full group l extra card errors.GroupFull l_is extra_is card_is adds all = absurd adds
   listen_full group l extra card errors.GroupsFull l_is extra_is card_is adds all = absurd adds
-  listen_full group l extra card errors.Memory l_is extra_is card_is adds all = absurd adds
+  listen_full group l extra card (errors.LeftOff causes.Memory) l_is extra_is card_is adds all = absurd adds
+  listen_full group l extra card (errors.LeftOff causes.Busy) l_is extra_is card_is adds all =
+      busy_goes group adds (all_first (owner_key a % count) (asked_listen a (answers.Group group)) (gone_if took a) v w all)
 
   -- the bucket refused it
   refuses_goes : (answer : Answer) (end : OpEnd) → listen_answered c.layout.shape c.layout.seed took a answer ≡ give_up took a end → c ≡ d
@@ -152,7 +169,7 @@ module _ (count : ℕ) (a : Owner) (took : Bool) (v w : View) (c d : Side) where
   listen_refused answer (errors.Taken name) says same all = absurd says
   listen_refused answer errors.Inval says same all = absurd says
   listen_refused answer errors.IsConn says same all = absurd says
-  listen_refused answer errors.Memory says same all = absurd says
+  listen_refused answer (errors.LeftOff cause) says same all = absurd says
 
   -- there was no memory
   pub listen_left : c ≡ d → AskedAll (owner_key a % count) (gone_if took a) v w → LeftOff count a.name plan v w c d

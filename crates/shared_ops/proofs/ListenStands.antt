@@ -126,7 +126,7 @@ module _ (count : ℕ) (a : Owner) (v u w : View) (ports : List ℕ) (port : ℕ
   came : Came taken (bind_key port a.net % count) u
   came = search_came count (bound_at a a.addr 0) v u ports port refl away at
 
-  pub search_stands : StandsOwn taken (bind_key port a.net % count) u
+  search_stands : StandsOwn taken (bind_key port a.net % count) u
   search_stands = came_stands taken (bind_key port a.net % count) u came
 
   elsewhere : (other : ℕ) → other ≢ bind_key port a.net % count → Knows a.name None other u

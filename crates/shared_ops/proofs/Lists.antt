@@ -347,11 +347,12 @@ nowhere_spares n a ports v w b = record { new = b.refused; gave = b.gave; spares
 pub not_yet_spares : (n : ℕ) (a : Owner) (ports : List ℕ) (v w : View) → BindsNotYet n a ports v w → GaveSparing v w
 not_yet_spares n a ports v w b = record { new = b.refused; gave = b.gave; spares = refusals_spare n a b.before b.refused b.refusals }
 
-pub search_spares : (n : ℕ) (a : Owner) (ports : List ℕ) (v w : View) (r : Result ℕ SearchEnd) → IfOk r (BindsAt n a ports v w) → (r ≡ Err searches.NoPort → BindsNowhere n a ports v w) → (r ≡ Err searches.Memory → BindsNotYet n a ports v w) → IfErr r IsNotFull → GaveSparing v w
-search_spares n a ports v w (Ok port) at none yet end = bound_spares n a ports v w port at
-search_spares n a ports v w (Err searches.NoPort) at none yet end = nowhere_spares n a ports v w (none refl)
-search_spares n a ports v w (Err searches.Memory) at none yet end = not_yet_spares n a ports v w (yet refl)
-search_spares n a ports v w (Err (searches.Full owned held)) at none yet end = absurd end
+pub search_spares : (n : ℕ) (a : Owner) (ports : List ℕ) (v w : View) (r : Result ℕ SearchEnd) → IfOk r (BindsAt n a ports v w) → (r ≡ Err searches.NoPort → BindsNowhere n a ports v w) → (r ≡ Err searches.Memory → BindsNotYet n a ports v w) → (r ≡ Err searches.Busy → BindsNotYet n a ports v w) → IfErr r IsNotFull → GaveSparing v w
+search_spares n a ports v w (Ok port) at none yet busy end = bound_spares n a ports v w port at
+search_spares n a ports v w (Err searches.NoPort) at none yet busy end = nowhere_spares n a ports v w (none refl)
+search_spares n a ports v w (Err searches.Memory) at none yet busy end = not_yet_spares n a ports v w (yet refl)
+search_spares n a ports v w (Err searches.Busy) at none yet busy end = not_yet_spares n a ports v w (busy refl)
+search_spares n a ports v w (Err (searches.Full owned held)) at none yet busy end = absurd end
 
 -- lists are kept past entries that change none
 pub kept_past : (count : ℕ) (u v w : View) (p q : GroupPasses) → GaveSparing u v → KeepsListed count v w p q → KeepsListed count u w p q

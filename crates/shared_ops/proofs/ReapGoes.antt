@@ -1,5 +1,5 @@
 -- How the plan of `reap` goes on by one TIME_WAIT.
-use Rattle.std.proofs.Common.{◌≡◌, ℕ, ◌+◌, ◌%◌, List, [], ◌∷◌, Option, Some, None, refl, sym, subst}
+use Rattle.std.proofs.Common.{◌≡◌, ℕ, ◌+◌, ◌%◌, Bool, List, [], ◌∷◌, Option, Some, None, Result, Ok, Err, IfOk, OnErr, refl, sym, subst}
 use Rattle.std.specs.Option.{option_map}
 use Rattle.sock_card.specs.Conflict.{owner_key}
 use Rattle.sock_card.specs.declared.card.Card.{Card}
@@ -8,7 +8,7 @@ use Rattle.turn_table.specs.declared.note.Placed.{Placed}
 use Rattle.bind_buckets.specs.declared.request.Request.TheVariants as requests
 use Rattle.bind_buckets.specs.declared.request.Answer.{Answer}
 use Rattle.bind_buckets.specs.declared.request.Entry.{Entry}
-use Rattle.bind_buckets.specs.Turned.{View, Gave}
+use Rattle.bind_buckets.specs.Turned.{View, Gave, Within}
 use Rattle.chain_book.specs.declared.book.Change.{Change}
 use Rattle.chain_deeds.specs.Sides.{Side}
 use Rattle.chain_deeds.specs.Answers.{Reaps, slot_in}
@@ -20,6 +20,7 @@ use Rattle.race_record.specs.Deeds.{Deed, reaped}
 use Rattle.race_record.specs.Goes.{IsReapOf, was_there}
 use Rattle.shared_ops.specs.Goes.{Went, AskedAll}
 use Rattle.shared_ops.specs.Leads.{Leads}
+use Rattle.shared_ops.specs.Reaping.{ReapsOne}
 use Rattle.shared_ops.proofs.CloseGoes.{all_none}
 use Rattle.shared_ops.proofs.Goes.{deed_at, entry_is, by_entry, does_both, does_entry, all_one}
 
@@ -75,3 +76,13 @@ module _ (count : ℕ) (w : Mine) (rest : List Mine) (n : ℕ) (v u : View) (c d
   reap_none place k same reaps_as all =
       let r : Reaps card None c d = subst (λ (x : Card). Reaps x None c d) same reaps_as in
       none_by r.unhash r.answer r.does (all_none place v u all)
+
+-- as far as a turn that was begun says it
+module _ {E : Type 0} (u v z : View) (within : Within v u) where
+  pub turn_reaps : (count : ℕ) (w : Mine) (c d : Side) (r : Result Bool E) → IfOk r (λ found. (k : View) → Within k u → ReapsOne count w found k z c d) → IfOk r (λ found. ReapsOne count w found v z c d)
+  turn_reaps count w c d (Ok found) goes = goes v within
+  turn_reaps count w c d (Err end) goes = tt
+
+  pub turn_nothing : (r : Result Bool E) → OnErr r ((k : View) → Within k u → Gave k z []) → OnErr r (Gave v z [])
+  turn_nothing (Ok found) nothing = tt
+  turn_nothing (Err end) nothing = nothing v within

@@ -1,5 +1,5 @@
 -- How the plan of `connect` goes on that searches for a port.
-use Rattle.std.proofs.Common.{◌≡◌, ℕ, ◌+◌, ◌≤◌, ◌%◌, List, [], ◌∷◌, map, length, Option, Some, None, Result, Ok, Err, false, refl, sym, ap, subst, ◌∙◌, arith}
+use Rattle.std.proofs.Common.{◌≡◌, ℕ, ◌+◌, ◌≤◌, ◌%◌, List, [], ◌∷◌, map, length, Option, Some, None, Result, Ok, Err, IsErrAnd, false, refl, sym, ap, subst, ◌∙◌, arith}
 use Rattle.std.specs.Option.{option_map}
 use Rattle.sock_card.specs.declared.owner.Owner.{Owner}
 use Rattle.sock_card.specs.Conflict.{owner_key, is_time_wait}
@@ -16,6 +16,8 @@ use Rattle.chain_book.specs.declared.outcome.Replace.{Replace}
 use Rattle.chain_book.specs.Chains.{Outcome, put}
 use Rattle.flat_list.specs.declared.command.End.{End}
 use Rattle.flat_list.specs.Owned.{connected_at}
+use Rattle.table_model.specs.declared.operation.Cause.{Cause}
+use Rattle.table_model.specs.declared.operation.Cause.TheVariants as causes
 use Rattle.table_model.specs.declared.operation.OpEnd.{OpEnd}
 use Rattle.table_model.specs.declared.operation.OpEnd.TheVariants as errors
 use Rattle.table_model.specs.Own.{Mine}
@@ -26,7 +28,7 @@ use Rattle.race_record.specs.Goes.{outcome_of, hashed_of}
 use Rattle.chain_deeds.specs.Sides.{Side}
 use Rattle.chain_deeds.specs.Made.{Does}
 use Rattle.shared_ops.specs.Leads.{Leads}
-use Rattle.shared_ops.specs.Goes.{Went, CarriedOut, AreAsked, AskedAll, gone_of}
+use Rattle.shared_ops.specs.Goes.{Went, LeftOff, CarriedOut, AreAsked, AskedAll, gone_of}
 use Rattle.shared_ops.specs.Hashing.{InsertsAs, DrawnAs, PutsIn, wish_for}
 use Rattle.shared_ops.specs.Searching.{free_entry, port_plan, TriesAt, TryLeaves, KeepsDraws, next_or}
 use Rattle.shared_ops.specs.Socks.{full_at}
@@ -34,9 +36,9 @@ use Rattle.shared_ops.specs.Stands.{IsAway, MayDraw}
 use Rattle.shared_ops.specs.declared.tables.Tables.{Tables}
 use Rattle.shared_ops.specs.declared.tables.Worker.{Worker}
 use Rattle.table_rule.specs.Passes as chain_words
-use Rattle.shared_ops.proofs.Goes.{deed_at, entry_is, by_entry, by_inserted, all_entries, does_both, does_none, does_entry, does_entries, One, all_one, went_both, went_nowhere, carried_both}
+use Rattle.shared_ops.proofs.Goes.{deed_at, entry_is, by_entry, by_inserted, all_entries, does_both, does_entry, does_entries, One, all_one, went_both, went_nowhere, left_there, left_nowhere, carried_both}
 use Rattle.shared_ops.proofs.Inserted.{grants_of, put_outcome, keys_of, names_of}
-use Rattle.shared_ops.proofs.ConnectGoes.{replaced_leads, all_none, full_is, gone_quiet}
+use Rattle.shared_ops.proofs.ConnectGoes.{replaced_leads, full_is, gone_quiet}
 use Rattle.shared_ops.proofs.Knows.{AllQuiet, after, grows, grows_first, grows_rest, all_pass, asked_quiet, away_on, came_on, came_stands, comes, knows_on}
 
 abbrev pub come_entry : Owner → Entry
@@ -106,44 +108,50 @@ module _ (count : ℕ) (a : Owner) (moment : ℕ) (rule : Replace) (v w : View) 
         does = does_both (deed_at (owner_key a) o.x ∷ []) (inserted wish tried ∷ []) c c d (does_entry (owner_key a) o.x c) does;
       }
 
+  -- the port's bucket was asked whether it is free, and no more
+  asked_goes : (answer : Answer) → c ≡ d → One (owner_key a % count) (record { request = requests.Free a.port a.net; answer = answer }) v w → (next : Asking Did)
+      → Went count (port_plan c.layout a moment rule next) v w c d (connect_free c.layout.shape c.layout.seed a moment rule next answer)
+  asked_goes answer same o next =
+      let free = connect_free c.layout.shape c.layout.seed a moment rule next in
+      record {
+        deeds = deed_at (owner_key a) o.x ∷ [];
+        leads = by_entry count (owner_key a) (requests.Free a.port a.net) answer free o.x [] (free answer) o.is refl;
+        gave = subst (λ (x : Placed Entry). Gave v w (x ∷ [])) (sym (entry_is count (owner_key a) (requests.Free a.port a.net) answer o.x o.is)) o.gave;
+        does = subst (Does (deed_at (owner_key a) o.x ∷ []) c) same (does_entry (owner_key a) o.x c);
+      }
+
+  pub tries_held : (name : ℕ) → c ≡ d → AskedAll (owner_key a % count) (held_entry a name ∷ []) v w → TriesAt count c.layout a moment rule v w c d (Ok None)
+  tries_held name same all = asked_goes (answers.NotFree name) same (all_one (owner_key a % count) (held_entry a name) v w all)
+
+  -- the chain was another's for too long: the plan stands where the four-tuple was to be had
+  tries_busy : c ≡ d → One (owner_key a % count) (free_entry a) v w → (next : Asking Did) → LeftOff count a.name (port_plan c.layout a moment rule next) v w c d
+  tries_busy same o next =
+      left_there count a.name (port_plan c.layout a moment rule next) (connect_free c.layout.shape c.layout.seed a moment rule next answers.Done) v w c d
+      (asked_goes answers.Done same o next)
+
   pub tries_refused : (end : OpEnd) → InsertsAs (wish_for a moment rule) c d (Err end) → AskedAll (owner_key a % count) (free_entry a ∷ []) v w → TriesAt count c.layout a moment rule v w c d (next_or end)
   tries_refused (errors.Taken name) ins all = λ next.
       refused_goes (kept_out name) next next refl ins (all_one (owner_key a % count) (free_entry a) v w all)
   tries_refused (errors.Full owned held) ins all = λ next.
       refused_goes (no_slot ins.number owned held) next (ends (refused (errors.Full owned held))) refl ins.does (all_one (owner_key a % count) (free_entry a) v w all)
+  tries_refused (errors.LeftOff causes.Busy) ins all = tries_busy ins (all_one (owner_key a % count) (free_entry a) v w all)
+  tries_refused (errors.LeftOff causes.Memory) ins all = absurd ins
   tries_refused (errors.InUse name) ins all = absurd ins
   tries_refused errors.NoPort ins all = absurd ins
   tries_refused errors.Inval ins all = absurd ins
   tries_refused errors.IsConn ins all = absurd ins
   tries_refused errors.GroupFull ins all = absurd ins
   tries_refused errors.GroupsFull ins all = absurd ins
-  tries_refused errors.Memory ins all = absurd ins
 
-  pub tries_held : (name : ℕ) → c ≡ d → AskedAll (owner_key a % count) (held_entry a name ∷ []) v w → TriesAt count c.layout a moment rule v w c d (Ok None)
-  tries_held name same all = λ next.
-      let o = all_one (owner_key a % count) (held_entry a name) v w all in
-      record {
-        deeds = deed_at (owner_key a) o.x ∷ [];
-        leads = by_entry count (owner_key a) (requests.Free a.port a.net) (answers.NotFree name) (connect_free c.layout.shape c.layout.seed a moment rule next) o.x [] next o.is refl;
-        gave = subst (λ (x : Placed Entry). Gave v w (x ∷ [])) (sym (entry_is count (owner_key a) (requests.Free a.port a.net) (answers.NotFree name) o.x o.is)) o.gave;
-        does = subst (Does (deed_at (owner_key a) o.x ∷ []) c) same (does_entry (owner_key a) o.x c);
-      }
-
-  pub tries_left : c ≡ d → AskedAll (owner_key a % count) [] v w → TriesAt count c.layout a moment rule v w c d (Err errors.Memory)
-  tries_left same all = λ next.
-      record {
-        rest = port_plan c.layout a moment rule next;
-        deeds = [];
-        leads = refl;
-        back = [];
-        gives = tt;
-        gave = all_none (owner_key a % count) v w all;
-        does = subst (Does [] c) same (does_none c);
-      }
+  -- a try that could not begin
+  pub tries_not : (cause : Cause) (r : Result (Option Mine) OpEnd) → IsErrAnd r (λ end. end ≡ errors.LeftOff cause) → d ≡ c → Gave v w [] → TriesAt count c.layout a moment rule v w c d r
+  tries_not cause (Ok found) is same gave = absurd is
+  tries_not cause (Err end) is same gave =
+      subst (λ (e : OpEnd). TriesAt count c.layout a moment rule v w c d (Err e)) (sym is) (λ next. left_nowhere count a.name (port_plan c.layout a moment rule next) v w c d (sym same) gave)
 
   -- a search that ends here
   pub tried_err : (next : Asking Did) (end : OpEnd) → TriesAt count c.layout a moment rule v w c d (Err end) → CarriedOut {X = Mine} done refused count a.name (port_plan c.layout a moment rule next) v w c d (Err end)
-  tried_err next errors.Memory k = k next
+  tried_err next (errors.LeftOff cause) k = k next
   tried_err next (errors.InUse n) k = k next
   tried_err next errors.NoPort k = k next
   tried_err next (errors.Taken n) k = k next
@@ -184,7 +192,7 @@ next_away t name w d errors.Inval away = away
 next_away t name w d errors.IsConn away = away
 next_away t name w d errors.GroupFull away = away
 next_away t name w d errors.GroupsFull away = away
-next_away t name w d errors.Memory away = away
+next_away t name w d (errors.LeftOff cause) away = away
 
 -- one whose four-tuple was taken cost no number of the clock
 pub next_keeps : (end : OpEnd) (w u : Worker) → DrawnAs (Err end) (chain_words.known w.chain.pass) (chain_words.known u.chain.pass) → KeepsDraws w u (next_or end)
@@ -196,15 +204,17 @@ next_keeps errors.Inval w u k = tt
 next_keeps errors.IsConn w u k = tt
 next_keeps errors.GroupFull w u k = tt
 next_keeps errors.GroupsFull w u k = tt
-next_keeps errors.Memory w u k = tt
+next_keeps (errors.LeftOff cause) w u k = tt
 
 pub keeps_from : (w x u : Worker) (r : Result (Option Mine) OpEnd) → ((n : ℕ) → MayDraw n w → MayDraw n x) → KeepsDraws x u r → KeepsDraws w u r
 keeps_from w x u (Ok (Some m)) same k = tt
 keeps_from w x u (Ok None) same k = λ n has. k n (same n has)
 keeps_from w x u (Err end) same k = tt
 
-pub still_away : (name place : ℕ) (v w : View) → IsAway name v → AskedAll place [] v w → IsAway name w
-still_away name place v w away all = away_on name v w [] away (all_none place v w all) tt
+-- a try that could not begin leaves a name away
+pub still_away : (t : Tables) (name : ℕ) (v w : View) (d : Side) (P : OpEnd → Type 0) (r : Result (Option Mine) OpEnd) → IsErrAnd r P → IsAway name v → Gave v w [] → TryLeaves t name w d r
+still_away t name v w d P (Ok found) is away gave = absurd is
+still_away t name v w d P (Err end) is away gave = away_on name v w [] away gave tt
 
 module _ (count : ℕ) (a : Owner) (source : ℕ) (to : End) (moment : ℕ) (rule : Replace) (v : View) (c : Side) (ports : List ℕ) where
   abbrev search : List ℕ → Asking Did

@@ -16,6 +16,7 @@ use Rattle.chain_book.specs.Homes.{home}
 use Rattle.flat_list.specs.declared.command.End.{End}
 use Rattle.flat_list.specs.Owned.{is_no_accept, request_owner}
 use Rattle.table_rule.specs.declared.view.Layout.{Layout}
+use Rattle.table_model.specs.declared.operation.Cause.TheVariants as causes
 use Rattle.table_model.specs.declared.operation.OpEnd.{OpEnd}
 use Rattle.table_model.specs.declared.operation.OpEnd.TheVariants as errors
 use Rattle.table_model.specs.Own.{Mine}
@@ -34,7 +35,7 @@ use Rattle.shared_ops.specs.declared.sock.Sock.TheVariants as socks
 use Rattle.shared_ops.specs.declared.tables.Tables.{Tables}
 use Rattle.shared_ops.specs.Socks.{FitsState, mine_of, request_at}
 use Rattle.shared_ops.specs.Stands.{IsHashed, IsOwner, StandsAs, buckets_of}
-use Rattle.shared_ops.proofs.Goes.{deed_at, by_inserted, all_entries, does_both, does_entries}
+use Rattle.shared_ops.proofs.Goes.{deed_at, by_inserted, all_entries, does_both, does_entries, left_nowhere}
 use Rattle.shared_ops.proofs.Inserted.{grants_of, put_outcome, keys_of, names_of}
 use Rattle.shared_ops.proofs.ConnectGoes.{replaced_leads, gone_quiet, stands_still}
 use Rattle.shared_ops.proofs.Knows.{grows, all_pass, stands_on}
@@ -99,7 +100,8 @@ module _ (count : ℕ) (r : Owner) (v w : View) (c d : Side) where
   syn_refused errors.IsConn ins gave = absurd ins
   syn_refused errors.GroupFull ins gave = absurd ins
   syn_refused errors.GroupsFull ins gave = absurd ins
-  syn_refused errors.Memory ins gave = absurd ins
+  syn_refused (errors.LeftOff causes.Memory) ins gave = absurd ins
+  syn_refused (errors.LeftOff causes.Busy) ins gave = left_nowhere count r.name plan v w c d ins gave
 
 -- who stands in a bucket stays, whichever TIME_WAIT's owner leaves
 pub owners_stay : (t : Tables) (place : ℕ) (replaced : Option ℕ) (answer : Answer) (v w : View) → AskedAll place (gone_of replaced answer) v w → OwnersStay t v w

@@ -1,5 +1,5 @@
 -- Calls on an owner that its bucket has.
-use Rattle.std.proofs.Common.{◌≡◌, ℕ, ◌<◌, Bool, true, false, cond, List, [], ◌∷◌, ◌++◌, find, Some, None, Option, Result, Ok, Err, ltb, length, refl, sym, ap, subst, ◌∙◌, append_assoc, arith}
+use Rattle.std.proofs.Common.{◌≡◌, ℕ, ◌<◌, Bool, true, false, cond, List, [], ◌∷◌, ◌++◌, find, Some, None, Option, Result, Ok, Err, IfOk, ltb, length, refl, sym, ap, subst, ◌∙◌, append_assoc, arith}
 use Rattle.std.proofs.lemmas.List.{map-append}
 use Rattle.sock_card.specs.Limits.{group_room}
 use Rattle.sock_card.specs.declared.owner.Owner.{Owner}
@@ -96,3 +96,9 @@ asked_there b a there =
 
 pub few_buckets : (b : Bucket) → IsSound b → b.number < 256
 few_buckets b s = omega (arith, s.number, s.buckets)
+
+-- where the turn was had
+pub there_if : {E : Type 0} (t : Hash) (p : Pass) (a : Owner) (place : ℕ) (v : View) (r : Result Out E) → IfOk r (λ turn. IsOut t p turn) → IfOk r (λ turn. IsSound turn.value.value)
+    → IfOk r (λ turn. made p turn ≡ []) → IfOk r (λ turn. turn.place ≡ place) → IfOk r (λ turn. Within v (known p)) → StandsOwn a place v → IfOk r (λ turn. IsThere turn a)
+there_if t p a place v (Ok turn) out sound none at within stands = there_now t p turn a place v out sound none at within stands
+there_if t p a place v (Err end) out sound none at within stands = tt

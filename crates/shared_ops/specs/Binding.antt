@@ -5,6 +5,7 @@ use Rattle.bind_buckets.specs.declared.request.InUse.{InUse}
 use Rattle.flat_list.specs.Owned.{bound_at}
 use Rattle.port_search.specs.declared.ends.SearchEnd.{SearchEnd}
 use Rattle.port_search.specs.declared.ends.SearchEnd.TheVariants as searches
+use Rattle.table_model.specs.declared.operation.Cause.TheVariants as causes
 use Rattle.table_model.specs.declared.operation.OpEnd.{OpEnd}
 use Rattle.table_model.specs.declared.operation.OpEnd.TheVariants as errors
 use Rattle.table_model.specs.Operations.{Did, done, plain}
@@ -19,7 +20,8 @@ end_of_bind (Err end) = Err (errors.InUse end.0)
 abbrev pub search_error : SearchEnd → OpEnd
 search_error searches.NoPort = errors.NoPort
 search_error (searches.Full owned held) = errors.Full owned held
-search_error searches.Memory = errors.Memory
+search_error searches.Memory = errors.LeftOff causes.Memory
+search_error searches.Busy = errors.LeftOff causes.Busy
 
 abbrev pub end_of_search : {A : Type 0} → Result A SearchEnd → Result A OpEnd
 end_of_search (Ok x) = Ok x

@@ -14,6 +14,7 @@ use Rattle.nulls_chain.specs.declared.keeping.Place.{Place as Stood}
 use Rattle.nulls_chain.specs.Changes.{OthersStay, PlacesStay}
 use Rattle.table_rule.specs.declared.view.View.{View as ChainView}
 use Rattle.shared_slots.specs.declared.fresh.Full.{Full}
+use Rattle.table_model.specs.declared.operation.Cause.{Cause}
 use Rattle.table_model.specs.declared.operation.OpEnd.{OpEnd}
 use Rattle.table_model.specs.declared.operation.OpEnd.TheVariants as errors
 use Rattle.table_model.specs.Asking.{Asking, ends}
@@ -59,20 +60,20 @@ became closes.Plain = plan.gone
 became (closes.TimeWait m) = plan.waiting m
 became (closes.NoSlot owned held) = plan.no_slot owned held
 
--- the plan of a socket of that name went on to its end, or was left off for want of memory
+-- the plan of a socket of that name went on to its end, or was left off
 abbrev pub Leaves : {X E : Type 0} → (X → plan.Closed) → ℕ → ℕ → Asking plan.Closed → View → View → Side → Side → Result X E → Type 0
 Leaves did count name p v w c d (Ok x) = Went count p v w c d (ends (did x))
 Leaves did count name p v w c d (Err end) = LeftOff count name p v w c d
 
--- want of memory is the only refusal
+-- there is no refusal but that it was left off
 abbrev pub ClosedBy : {X : Type 0} → (X → plan.Closed) → ℕ → ℕ → Asking plan.Closed → View → View → Side → Side → Result X OpEnd → Type 0
 ClosedBy did count name p v w c d (Ok x) = Went count p v w c d (ends (did x))
-ClosedBy did count name p v w c d (Err errors.Memory) = LeftOff count name p v w c d
+ClosedBy did count name p v w c d (Err (errors.LeftOff cause)) = LeftOff count name p v w c d
 ClosedBy did count name p v w c d (Err end) = ⊥
 
 abbrev pub ClosedByAlone : {X : Type 0} → (X → plan.Closed) → ℕ → Asking plan.Closed → List (Placed Entry) → List (Placed Entry) → Side → Side → Result X OpEnd → Type 0
 ClosedByAlone did count p old new c d (Ok x) = Comes count p old new c d (did x)
-ClosedByAlone did count p old new c d (Err end) = end ≡ errors.Memory
+ClosedByAlone did count p old new c d (Err end) = (cause : Cause) × (end ≡ errors.LeftOff cause)
 
 -- what an owner asks that leaves its port
 abbrev pub leave_entry : Owner → Entry
@@ -81,14 +82,14 @@ leave_entry a = record { request = requests.Remove a.name; answer = answers.Done
 abbrev pub is_gone : Unit {0} → plan.Closed
 is_gone done = plan.gone
 
--- what `close` and `drop` hand back: the socket, where there was no memory
-abbrev pub close_answer : {E : Type 0} → Sock → Result Closed E → Result Closed (Sock × OpEnd)
+-- what `close` and `drop` hand back: the socket, where they were left off
+abbrev pub close_answer : Sock → Result Closed Cause → Result Closed (Sock × OpEnd)
 close_answer socket (Ok closed) = Ok closed
-close_answer socket (Err end) = Err (socket, errors.Memory)
+close_answer socket (Err cause) = Err (socket, errors.LeftOff cause)
 
-abbrev pub drop_answer : {E : Type 0} → Sock → Result (Unit {0}) E → Result (Unit {0}) (Sock × OpEnd)
+abbrev pub drop_answer : Sock → Result (Unit {0}) Cause → Result (Unit {0}) (Sock × OpEnd)
 drop_answer socket (Ok done) = Ok done
-drop_answer socket (Err end) = Err (socket, errors.Memory)
+drop_answer socket (Err cause) = Err (socket, errors.LeftOff cause)
 
 -- each other place of the pass stays one
 abbrev pub OthersKept : Sock → ChainView → ChainView → Type 0

@@ -9,6 +9,7 @@ use Rattle.bind_buckets.specs.declared.request.Answer.TheVariants as answers
 use Rattle.bind_buckets.specs.Turned.{View, Gave, IsAsked}
 use Rattle.chain_deeds.specs.Sides.{Side, chains_by}
 use Rattle.chain_deeds.specs.Made.{Does}
+use Rattle.table_model.specs.declared.operation.Cause.TheVariants as causes
 use Rattle.table_model.specs.declared.operation.OpEnd.{OpEnd}
 use Rattle.table_model.specs.declared.operation.OpEnd.TheVariants as errors
 use Rattle.table_model.specs.Asking.{Asking, ends}
@@ -31,8 +32,8 @@ GivesUp count name [] = Unit {0}
 GivesUp count name (x ∷ []) = (key : ℕ) × IsAsked (key % count) (requests.Remove name) answers.Done x
 GivesUp count name _ = ⊥
 
--- For want of memory the plan was left off somewhere, and then the owner left its port, or nothing more was asked. That
--- no port stays taken is said by each call's clause on what it kept. How much of the plan is left isn't said: `rest`
+-- For want of memory or of patience the plan was left off somewhere, and then the owner left its port, or nothing more
+-- was asked. That no port stays taken is said by each call's clause on what it kept. How much of the plan is left isn't said: `rest`
 -- may be its end, so a plan that went to its end meets this, too.
 pub record LeftOff {R : Type 0} (count name : ℕ) (plan : Asking R) (v w : View) (c d : Side) : Type 0 where
   pub rest : Asking R
@@ -43,10 +44,15 @@ pub record LeftOff {R : Type 0} (count name : ℕ) (plan : Asking R) (v w : View
   pub gave : Gave v w (entries_in count deeds ++ back)
   pub does : Does deeds c d
 
+-- it wasn't left off since another had a bucket or a chain for too long
+abbrev pub NotBusy : OpEnd → Type 0
+NotBusy (errors.LeftOff causes.Busy) = ⊥
+NotBusy end = Unit {0}
+
 -- the plan of a socket of that name went on to the end that the result says, whoever else was there
 abbrev pub CarriedOut : {X R : Type 0} → (X → R) → (OpEnd → R) → ℕ → ℕ → Asking R → View → View → Side → Side → Result X OpEnd → Type 0
 CarriedOut did not_done count name plan v w c d (Ok x) = Went count plan v w c d (ends (did x))
-CarriedOut did not_done count name plan v w c d (Err errors.Memory) = LeftOff count name plan v w c d
+CarriedOut did not_done count name plan v w c d (Err (errors.LeftOff cause)) = LeftOff count name plan v w c d
 CarriedOut did not_done count name plan v w c d (Err end) = Went count plan v w c d (ends (not_done end))
 
 -- the plan comes to that on the tables that the old entries and changes make, and leaves those that all of them make
@@ -56,7 +62,7 @@ Comes count plan old new c d did =
 
 abbrev pub CarriedOutAlone : {X R : Type 0} → (X → R) → (OpEnd → R) → ℕ → Asking R → List (Placed Entry) → List (Placed Entry) → Side → Side → Result X OpEnd → Type 0
 CarriedOutAlone did not_done count plan old new c d (Ok x) = Comes count plan old new c d (did x)
-CarriedOutAlone did not_done count plan old new c d (Err errors.Memory) = Unit {0}
+CarriedOutAlone did not_done count plan old new c d (Err (errors.LeftOff cause)) = Unit {0}
 CarriedOutAlone did not_done count plan old new c d (Err end) = Comes count plan old new c d (not_done end)
 
 -- the bucket of that place was asked so in turn
@@ -70,6 +76,12 @@ pub record AskedAll (place : ℕ) (es : List Entry) (v w : View) : Type 0 where
   pub xs : List (Placed Entry)
   pub asked : AreAsked place es xs
   pub gave : Gave v w xs
+
+-- In one turn the bucket of that place was asked so first, and this holds of the view as these questions left it.
+pub record HoldsAfter (place : ℕ) (es : List Entry) (v : View) (Holds : View → Type 0) : Type 0 where
+  pub then_ : View
+  pub asked : AskedAll place es v then_
+  pub holds : Holds then_
 
 -- what an owner asks that gives up a port which this call took
 abbrev pub gone_if : Bool → Owner → List Entry

@@ -75,7 +75,7 @@ pub record IsLeft (place : ℕ) (v : View) (journal : List Note) : Type 0 where
 -- end of the turn, by its journal, and no other list of the bucket changed; or no list changed, and nothing was
 -- published.
 pub record ListsIn (place : ℕ) (es : List Entry) (group : Option ℕ) (v : View) (p q : GroupPasses) : Type 0 where
-  -- the journal as the turn began, and what was added to it
+  -- the journal before that, and what was added to it
   pub before : List Note
   pub added : List Note
   pub asked : entries_of added ≡ es

@@ -1,7 +1,7 @@
 -- What `syn` and `ack` come to, and hand back: inet_csk_complete_hashdance of net/ipv4/inet_connection_sock.c and
 -- inet_ehash_insert of net/ipv4/inet_hashtables.c, which puts a child in its request's place. That a plan goes on so is
 -- our own.
-use Rattle.std.specs.Prelude.{◌∷◌, [], None, Option, Result, Ok, Err}
+use Rattle.std.specs.Prelude.{◌≡◌, ◌∷◌, [], None, Option, Result, Ok, Err}
 use Rattle.std.specs.Borrow.{Bor}
 use Rattle.std.specs.Option.{option_map}
 use Rattle.sock_card.specs.declared.card.Card.{Card}
@@ -11,6 +11,7 @@ use Rattle.bind_buckets.specs.Turned.{View}
 use Rattle.chain_book.specs.declared.outcome.Place.{Place}
 use Rattle.nulls_chain.specs.Changes.{IsPlaced}
 use Rattle.nulls_chain.specs.declared.keeping.Place.{Place as Stood}
+use Rattle.table_model.specs.declared.operation.Cause.TheVariants as causes
 use Rattle.table_model.specs.declared.operation.OpEnd.{OpEnd}
 use Rattle.table_model.specs.declared.operation.OpEnd.TheVariants as errors
 use Rattle.table_model.specs.Own.{Mine}
@@ -36,10 +37,11 @@ pub record TakesOver (old : Stood) (card : Card) (place : Place) (c d : Side) : 
   pub replaces : Replaces old card place c d
   pub placed : IsPlaced (record { bucket = place.bucket; slot = place.slot; card = card }) d.view.book
 
--- or no slot was free for the child, and the request stands
+-- or no slot was free for the child, or the chain was another's for too long, and the request stands
 abbrev pub HandsOver : Stood → Card → Side → Side → Result Place OpEnd → Type 0
 HandsOver old card c d (Ok place) = TakesOver old card place c d
 HandsOver old card c d (Err (errors.Full owned held)) = FindsNoSlot card owned held c d
+HandsOver old card c d (Err (errors.LeftOff causes.Busy)) = c ≡ d
 HandsOver old card c d (Err end) = ⊥
 
 -- the child, or the request as it was

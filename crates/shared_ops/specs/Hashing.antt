@@ -15,6 +15,7 @@ use Rattle.shared_sockets.specs.Comings.{FourDrawn}
 use Rattle.shared_sockets.specs.declared.coming.InsertEnd.{InsertEnd}
 use Rattle.shared_sockets.specs.declared.coming.InsertEnd.TheVariants as inserts
 use Rattle.race_record.specs.Deeds.{Wish, hashed, kept_out, no_slot, inserted}
+use Rattle.table_model.specs.declared.operation.Cause.TheVariants as causes
 use Rattle.table_model.specs.declared.operation.OpEnd.{OpEnd}
 use Rattle.table_model.specs.declared.operation.OpEnd.TheVariants as errors
 use Rattle.table_model.specs.Operations.{full_card, request_card}
@@ -50,11 +51,13 @@ pub record PutsNowhere (wish : Wish) (owned held : ℕ) (c d : Side) : Type 0 wh
   pub number : ℕ
   pub does : Does (inserted wish (no_slot number owned held) ∷ []) c d
 
--- it was hashed; or the socket of that name keeps its four-tuple from it; or no slot was free
+-- it was hashed; or the socket of that name keeps its four-tuple from it; or no slot was free; or the chain was
+-- another's for too long, and nothing has changed
 abbrev pub InsertsAs : Wish → Side → Side → Result Came OpEnd → Type 0
 InsertsAs wish c d (Ok came) = PutsIn wish came.place came.replaced c d
 InsertsAs wish c d (Err (errors.Taken name)) = Does (inserted wish (kept_out name) ∷ []) c d
 InsertsAs wish c d (Err (errors.Full owned held)) = PutsNowhere wish owned held c d
+InsertsAs wish c d (Err (errors.LeftOff causes.Busy)) = c ≡ d
 InsertsAs wish c d (Err end) = ⊥
 
 -- why it wasn't, in an operation's words

@@ -14,6 +14,7 @@ use Rattle.chain_book.specs.declared.book.Change.{Change}
 use Rattle.chain_book.specs.declared.outcome.Place.{Place}
 use Rattle.chain_book.specs.Homes.{home}
 use Rattle.nulls_chain.specs.Changes.{IsPlaced}
+use Rattle.table_model.specs.declared.operation.Cause.TheVariants as causes
 use Rattle.table_model.specs.declared.operation.OpEnd.{OpEnd}
 use Rattle.table_model.specs.declared.operation.OpEnd.TheVariants as errors
 use Rattle.race_record.specs.Deeds.{hashed, no_slot, added}
@@ -51,10 +52,11 @@ pub record FindsNoSlot (card : Card) (owned held : ℕ) (c d : Side) : Type 0 wh
   pub number : ℕ
   pub does : Does (added card (no_slot number owned held) ∷ []) c d
 
--- a listener's card was hashed at that place, or found no slot
+-- a listener's card was hashed at that place, or found no slot, or its chain wasn't had
 abbrev pub AddsAs : Card → Side → Side → Result Place OpEnd → Type 0
 AddsAs card c d (Ok place) = ComesTo card place c d
 AddsAs card c d (Err (errors.Full owned held)) = FindsNoSlot card owned held c d
+AddsAs card c d (Err (errors.LeftOff causes.Busy)) = c ≡ d
 AddsAs card c d (Err end) = ⊥
 
 -- what an owner asks that would listen, and that listens

@@ -35,7 +35,7 @@ TriesAt count layout a moment rule v w c d (Ok (Some m)) =
     (next : Asking Did) → Went count (port_plan layout a moment rule next) v w c d (ends (done m))
 TriesAt count layout a moment rule v w c d (Ok None) =
     (next : Asking Did) → Went count (port_plan layout a moment rule next) v w c d next
-TriesAt count layout a moment rule v w c d (Err errors.Memory) =
+TriesAt count layout a moment rule v w c d (Err (errors.LeftOff cause)) =
     (next : Asking Did) → LeftOff count a.name (port_plan layout a moment rule next) v w c d
 TriesAt count layout a moment rule v w c d (Err end) =
     (next : Asking Did) → Went count (port_plan layout a moment rule next) v w c d (ends (refused end))

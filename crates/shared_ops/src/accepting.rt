@@ -1,6 +1,6 @@
 //! `accept`: a listener's child is connected.
 
-ghost use Rattle.std.specs.Prelude.{◌≡◌, ◌+◌, ◌≤◌, ◌==◌, ◌||◌, true, IfOk};
+ghost use Rattle.std.specs.Prelude.{◌≡◌, ◌+◌, ◌≤◌, ◌==◌, ◌||◌, true, IfOk, IfErr};
 ghost use Rattle.sock_card.specs.Became as became;
 ghost use Rattle.turn_table.specs.Passes as words;
 ghost use Rattle.bind_buckets.specs.Turned.{IsAlone};
@@ -11,7 +11,7 @@ ghost use Rattle.table_rule.specs.Sole.{IsNow};
 ghost use Rattle.shared_ops.specs.Accepting.{accepted};
 ghost use Rattle.shared_ops.specs.Connecting.{StandsFull};
 ghost use Rattle.shared_ops.specs.Groups.{GaveSparing, KeepsLists};
-ghost use Rattle.shared_ops.specs.Goes.{CarriedOut, CarriedOutAlone};
+ghost use Rattle.shared_ops.specs.Goes.{CarriedOut, CarriedOutAlone, NotBusy};
 ghost use Rattle.shared_ops.specs.Socks.{mine_of};
 ghost use Rattle.shared_ops.specs.Spends.{Draws};
 ghost use Rattle.shared_ops.specs.Stands.{IsOwner, IsReady, MayDraw, MayEnter, MayTell, StandsAs};
@@ -21,20 +21,20 @@ ghost use Rattle.shared_ops.specs.There.{IsNew};
 use crate::asking;
 use crate::connecting::end_turn;
 use crate::hashing::insert;
-use crate::room::make_room;
+use crate::room::begin_with;
 use crate::sock::{Connected, Sock};
 use crate::tables::{Tables, Worker};
 use bind_buckets::turning;
 use chain_book::Replace;
 use flat_list::{End, owned};
+use patience::Patience;
 use sock_card::{Owner, State};
-use std::sync::Wait;
 use table_model::OpEnd;
 
 /// Connects the child of a listener: it is hashed, and then it comes into the listener's port, in the same turn, in
 /// which the owner of a TIME_WAIT that it replaced leaves.
-fn accept_as<R: Wait>(
-    rt: &R,
+fn accept_as<P: Patience>(
+    patience: &P,
     tables: &Tables,
     worker: &mut Worker,
     listener: &Owner,
@@ -62,43 +62,38 @@ fn accept_as<R: Wait>(
         (turned worker.old) (turned worker.new) (chained tables.now worker.old) (chained tables.now worker.new) result }
     ensures stands { IfOk result (StandsFull tables.now (turned worker.new) (chained tables.now worker.new)) }
     ensures listener { IsOwner tables.now listener.now (turned worker.new) }
+    ensures patient { P.endless ≡ true → IfErr result NotBusy }
 {
-    let mut turn = asking::take(rt, &tables.buckets, &mut worker.turns, listener);
-    match make_room(tables, worker, &mut turn, 2) {
-        Ok(()) => match insert(
-            rt,
-            &tables.chains,
-            &mut worker.chain,
-            &child,
-            0,
-            Replace::Always,
-        ) {
-            Ok(came) => {
-                asking::inherit(
-                    &tables.buckets,
-                    &mut worker.turns,
-                    &mut turn,
-                    listener,
-                    &child,
-                );
-                end_turn(&tables.buckets, &mut worker.turns, turn, came.replaced);
-                Ok(Connected::at_place(child, came.place))
-            }
-            Err(end) => {
-                turning::give(&tables.buckets, &mut worker.turns, turn);
-                Err(end)
-            }
-        },
-        Err(_) => {
+    let mut turn = begin_with(patience, tables, worker, listener, 2)?;
+    match insert(
+        patience,
+        &tables.chains,
+        &mut worker.chain,
+        &child,
+        0,
+        Replace::Always,
+    ) {
+        Ok(came) => {
+            asking::inherit(
+                &tables.buckets,
+                &mut worker.turns,
+                &mut turn,
+                listener,
+                &child,
+            );
+            end_turn(&tables.buckets, &mut worker.turns, turn, came.replaced);
+            Ok(Connected::at_place(child, came.place))
+        }
+        Err(end) => {
             turning::give(&tables.buckets, &mut worker.turns, turn);
-            Err(OpEnd::Memory)
+            Err(end)
         }
     }
 }
 
 /// [`accept`], among others.
-fn accept_shared<R: Wait>(
-    rt: &R,
+fn accept_shared<P: Patience>(
+    patience: &P,
     tables: &Tables,
     worker: &mut Worker,
     listener: &Sock,
@@ -126,13 +121,14 @@ fn accept_shared<R: Wait>(
     ensures stands { IfOk result (λ child.
         StandsAs tables.now child (turned worker.new) (chained tables.now worker.new)) }
     ensures listener { StandsAs tables.now listener.now (turned worker.new) (chained tables.now worker.new) }
+    ensures patient { P.endless ≡ true → IfErr result NotBusy }
 {
     let owner = *listener.owner();
     if owned::is_no_accept(&owner, from, at) {
         return Err(OpEnd::Inval);
     }
     let child = owned::child_owner(owner, name, from, at);
-    match accept_as(rt, tables, worker, &owner, child) {
+    match accept_as(patience, tables, worker, &owner, child) {
         Ok(child) => Ok(Sock::Full(child)),
         Err(end) => Err(end),
     }
@@ -148,9 +144,10 @@ fn accept_shared<R: Wait>(
 /// # Errors
 ///
 /// `Inval`: it is no listener of that end. `Taken`: a full socket or a request has the four-tuple. `Full`: no slot was
-/// free. `Memory`: memory was wanting, and nothing has changed.
-pub fn accept<R: Wait>(
-    rt: &R,
+/// free. `LeftOff`: memory was wanting, or another had a bucket or a chain for longer than the caller tries; nothing
+/// has changed.
+pub fn accept<P: Patience>(
+    patience: &P,
     tables: &Tables,
     worker: &mut Worker,
     listener: &Sock,
@@ -183,6 +180,7 @@ pub fn accept<R: Wait>(
     ensures stands { IfOk result (λ child.
         StandsAs tables.now child (turned worker.new) (chained tables.now worker.new)) }
     ensures listener { StandsAs tables.now listener.now (turned worker.new) (chained tables.now worker.new) }
+    ensures patient { P.endless ≡ true → IfErr result NotBusy }
 {
-    accept_shared(rt, tables, worker, listener, name, from, at)
+    accept_shared(patience, tables, worker, listener, name, from, at)
 }

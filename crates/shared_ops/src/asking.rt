@@ -1,6 +1,6 @@
 //! Questions to the bucket of an owner that stands: its turn, and then calls that can't miss it.
 
-ghost use Rattle.std.specs.Prelude.{◌≡◌, ◌+◌, ◌%◌, ◌^◌, ◌<◌, ◌≤◌, ◌==◌, ◌||◌, [], true, IfOk, IfSome};
+ghost use Rattle.std.specs.Prelude.{◌≡◌, ◌+◌, ◌%◌, ◌^◌, ◌<◌, ◌≤◌, ◌==◌, ◌||◌, [], true, IfOk, IfSome, IfNone};
 ghost use Rattle.sock_card.specs.Conflict.{owner_key};
 ghost use Rattle.turn_table.specs.Passes as words;
 ghost use Rattle.turn_table.specs.Passes.{known};
@@ -15,31 +15,34 @@ ghost use Rattle.shared_ops.specs.Stands.{IsThere};
 ghost use Rattle.shared_ops.specs.There.{IsKnown};
 
 use bind_buckets::{Bucket, ListenEnd, turning};
+use patience::Patience;
 use sock_card::{Owner, State, bind_key};
-use std::sync::Wait;
 use turn_table::{Turn, TurnPass, Turns};
 
-/// Waits for the turn of the owner's bucket, which has it.
-pub(crate) fn take<R: Wait>(
-    rt: &R,
+/// The turn of the owner's bucket, which has it. None: another had it for longer than the caller tries.
+pub(crate) fn take<P: Patience>(
+    patience: &P,
     buckets: &Turns<Box<Bucket>>,
     pass: &mut TurnPass<Box<Bucket>>,
     owner: &Owner,
-) -> Turn<Box<Bucket>>
+) -> Option<Turn<Box<Bucket>>>
     requires idle { IsIdle buckets.now pass.old }
     requires stands { StandsOwn owner.now (owner_key owner.now % words.places buckets.now) (known pass.old) }
-    ensures out { IsOut buckets.now pass.new result }
-    ensures place { result.place ≡ owner_key owner.now % words.places buckets.now }
-    ensures none { made pass.new result ≡ [] }
-    ensures there { IsThere result owner.now }
-    ensures sound { IsSound result.value.value }
+    ensures out { IfSome result (λ turn. IsOut buckets.now pass.new turn) }
+    ensures place { IfSome result (λ turn. turn.place ≡ owner_key owner.now % words.places buckets.now) }
+    ensures none { IfSome result (λ turn. made pass.new turn ≡ []) }
+    ensures there { IfSome result (λ turn. IsThere turn owner.now) }
+    ensures sound { IfSome result (λ turn. IsSound turn.value.value) }
     ensures draws { words.draws pass.new ≡ words.draws pass.old }
     ensures caller { words.caller pass.new ≡ words.caller pass.old }
-    ensures within { Within (known pass.old) (known pass.new) }
+    ensures within { IfSome result (λ turn. Within (known pass.old) (known pass.new)) }
+    ensures idle { IfNone result (IsIdle buckets.now pass.new) }
+    ensures same { IfNone result (known pass.new ≡ known pass.old) }
+    ensures had { P.endless ≡ true → IfNone result ⊥ }
 {
-    let turn = turning::take(rt, buckets, pass, bind_key(owner.port, owner.net));
+    let turn = turning::take(patience, buckets, pass, bind_key(owner.port, owner.net))?;
     turn.value.recall();
-    turn
+    Some(turn)
 }
 
 /// [`turning::may_listen`], of a bucket that has the owner.

@@ -1,6 +1,6 @@
 //! `bind`.
 
-ghost use Rattle.std.specs.Prelude.{◌≡◌, ◌+◌, ◌%◌, ◌^◌, ◌<◌, ◌≤◌, ◌==◌, ◌&&◌, false, length, IfOk, IfErr, OnErr};
+ghost use Rattle.std.specs.Prelude.{◌≡◌, ◌+◌, ◌%◌, ◌^◌, ◌<◌, ◌≤◌, ◌==◌, ◌&&◌, false, length, IfOk, IfErr, OnErr, true};
 ghost use Rattle.sock_card.specs.Conflict.{bind_key};
 ghost use Rattle.turn_table.specs.Passes as words;
 ghost use Rattle.turn_table.specs.Passes.{known};
@@ -19,7 +19,7 @@ ghost use Rattle.table_rule.specs.Passes as chain_words;
 ghost use Rattle.table_rule.specs.Sole.{IsNow};
 ghost use Rattle.shared_ops.specs.Binding as spec;
 ghost use Rattle.shared_ops.specs.Binding.{bound_to};
-ghost use Rattle.shared_ops.specs.Goes.{CarriedOut, CarriedOutAlone};
+ghost use Rattle.shared_ops.specs.Goes.{CarriedOut, CarriedOutAlone, NotBusy};
 ghost use Rattle.shared_ops.specs.Groups.{GaveSparing, KeepsLists};
 ghost use Rattle.shared_ops.specs.Socks.{mine_of, first_mine, without_socket};
 ghost use Rattle.shared_ops.specs.Stands.{IsReady, MayEnter, MayTell, IsAway, StandsAs, buckets_of, chained, turned};
@@ -28,11 +28,11 @@ use crate::sock::{Bound, Sock};
 use crate::tables::{Tables, Worker};
 use bind_buckets::{Bucket, InUse, turning};
 use flat_list::{End, owned};
+use patience::Patience;
 use port_search::turning::find_bind;
 use port_search::{Ports, SearchEnd};
 use sock_card::{Owner, bind_key};
-use std::sync::Wait;
-use table_model::OpEnd;
+use table_model::{Cause, OpEnd};
 use turn_table::{TurnPass, Turns};
 
 fn end_of_bind(bound: Result<(), InUse>) -> Result<(), OpEnd>
@@ -51,13 +51,14 @@ pub(crate) fn end_of_search(found: Result<u16, SearchEnd>) -> Result<u16, OpEnd>
         Ok(port) => Ok(port),
         Err(SearchEnd::NoPort) => Err(OpEnd::NoPort),
         Err(SearchEnd::Full { owned, held }) => Err(OpEnd::Full { owned, held }),
-        Err(SearchEnd::Memory) => Err(OpEnd::Memory),
+        Err(SearchEnd::Memory) => Err(OpEnd::LeftOff(Cause::Memory)),
+        Err(SearchEnd::Busy) => Err(OpEnd::LeftOff(Cause::Busy)),
     }
 }
 
 /// Binds an owner without a port to the port that the end gives.
-fn bind_given<R: Wait>(
-    rt: &R,
+fn bind_given<P: Patience>(
+    patience: &P,
     buckets: &Turns<Box<Bucket>>,
     pass: &mut TurnPass<Box<Bucket>>,
     owner: Owner,
@@ -77,8 +78,12 @@ fn bind_given<R: Wait>(
         StandsOwn (bound_at owner end.addr end.port) (bind_key end.port owner.net % words.places buckets.now) (known pass.new)) }
     ensures kept { IsAway owner.name (known pass.old) → OnErr result (IsAway owner.name (known pass.new)) }
     ensures spares { GaveSparing (known pass.old) (known pass.new) }
+    ensures patient { P.endless ≡ true → IfErr result NotBusy }
 {
-    let mut turn = turning::take(rt, buckets, pass, bind_key(end.port, owner.net));
+    let key = bind_key(end.port, owner.net);
+    let Some(mut turn) = turning::take(patience, buckets, pass, key) else {
+        return Err(OpEnd::LeftOff(Cause::Busy));
+    };
     match turning::reserve(buckets, pass, &mut turn) {
         Ok(()) => {
             let bound_owner = owned::bound_at(owner, end.addr, end.port);
@@ -88,14 +93,14 @@ fn bind_given<R: Wait>(
         }
         Err(_) => {
             turning::give(buckets, pass, turn);
-            Err(OpEnd::Memory)
+            Err(OpEnd::LeftOff(Cause::Memory))
         }
     }
 }
 
 /// Binds it to a port that is searched for.
-fn bind_searched<R: Wait>(
-    rt: &R,
+fn bind_searched<P: Patience>(
+    patience: &P,
     buckets: &Turns<Box<Bucket>>,
     pass: &mut TurnPass<Box<Bucket>>,
     owner: Owner,
@@ -115,15 +120,16 @@ fn bind_searched<R: Wait>(
         StandsOwn (bound_at owner addr port) (bind_key port owner.net % words.places buckets.now) (known pass.new)) }
     ensures kept { IsAway owner.name (known pass.old) → OnErr result (IsAway owner.name (known pass.new)) }
     ensures spares { GaveSparing (known pass.old) (known pass.new) }
+    ensures patient { P.endless ≡ true → IfErr result NotBusy }
 {
     let bound = owned::bound_at(owner, addr, 0);
-    let found = find_bind(rt, buckets, pass, ports, bound);
+    let found = find_bind(patience, buckets, pass, ports, bound);
     end_of_search(found)
 }
 
 /// Binds an owner without a port that isn't taken late.
-fn bind_unbound<R: Wait>(
-    rt: &R,
+fn bind_unbound<P: Patience>(
+    patience: &P,
     buckets: &Turns<Box<Bucket>>,
     pass: &mut TurnPass<Box<Bucket>>,
     owner: Owner,
@@ -143,11 +149,12 @@ fn bind_unbound<R: Wait>(
         StandsOwn (bound_at owner end.addr port) (bind_key port owner.net % words.places buckets.now) (known pass.new)) }
     ensures kept { IsAway owner.name (known pass.old) → OnErr result (IsAway owner.name (known pass.new)) }
     ensures spares { GaveSparing (known pass.old) (known pass.new) }
+    ensures patient { P.endless ≡ true → IfErr result NotBusy }
 {
     if end.port == 0 {
-        return bind_searched(rt, buckets, pass, owner, end.addr, ports);
+        return bind_searched(patience, buckets, pass, owner, end.addr, ports);
     }
-    match bind_given(rt, buckets, pass, owner, end) {
+    match bind_given(patience, buckets, pass, owner, end) {
         Ok(()) => Ok(end.port),
         Err(refusal) => Err(refusal),
     }
@@ -171,8 +178,8 @@ fn bound_answer(
 }
 
 /// [`bind`], among others.
-fn bind_shared<R: Wait>(
-    rt: &R,
+fn bind_shared<P: Patience>(
+    patience: &P,
     tables: &Tables,
     worker: &mut Worker,
     socket: Sock,
@@ -197,6 +204,7 @@ fn bind_shared<R: Wait>(
     ensures stands { IfOk result (λ bound.
         StandsAs tables.now bound.0 (turned worker.new) (chained tables.now worker.new)) }
     ensures kept { OnErr result (StandsAs tables.now socket (turned worker.new) (chained tables.now worker.new)) }
+    ensures patient { P.endless ≡ true → IfErr result (λ refusal. NotBusy refusal.1) }
 {
     let owner = *socket.owner();
     match socket {
@@ -204,7 +212,14 @@ fn bind_shared<R: Wait>(
             if end.port == 0 && owner.noport {
                 return Ok((Sock::Unbound(unbound.at_address(end.addr)), 0));
             }
-            let bound = bind_unbound(rt, &tables.buckets, &mut worker.turns, owner, end, ports);
+            let bound = bind_unbound(
+                patience,
+                &tables.buckets,
+                &mut worker.turns,
+                owner,
+                end,
+                ports,
+            );
             bound_answer(Sock::Unbound(unbound), owner, end.addr, bound)
         }
         Sock::Bound(bound) => Err((Sock::Bound(bound), OpEnd::Inval)),
@@ -223,10 +238,10 @@ fn bind_shared<R: Wait>(
 /// # Errors
 ///
 /// `Inval`: it has a port already. `InUse`: the owner of that name keeps it from its port. `NoPort`: each of the ports
-/// was refused, at its own turn. `Memory`: a bucket wanted memory; the ports that were refused before stay told. A
-/// refused socket comes back as it was.
-pub fn bind<R: Wait>(
-    rt: &R,
+/// was refused, at its own turn. `LeftOff`: a bucket wanted memory, or another had its turn for longer than the caller
+/// tries; the ports that were refused before stay told. A refused socket comes back as it was.
+pub fn bind<P: Patience>(
+    patience: &P,
     tables: &Tables,
     worker: &mut Worker,
     socket: Sock,
@@ -255,6 +270,7 @@ pub fn bind<R: Wait>(
     ensures stands { IfOk result (λ bound.
         StandsAs tables.now bound.0 (turned worker.new) (chained tables.now worker.new)) }
     ensures kept { OnErr result (StandsAs tables.now socket (turned worker.new) (chained tables.now worker.new)) }
+    ensures patient { P.endless ≡ true → IfErr result (λ refusal. NotBusy refusal.1) }
 {
-    bind_shared(rt, tables, worker, socket, end, ports)
+    bind_shared(patience, tables, worker, socket, end, ports)
 }

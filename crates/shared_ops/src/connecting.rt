@@ -13,7 +13,7 @@ ghost use Rattle.table_rule.specs.Passes as chain_words;
 ghost use Rattle.table_rule.specs.Sole.{IsNow};
 ghost use Rattle.shared_ops.specs.Connecting as spec;
 ghost use Rattle.shared_ops.specs.Connecting.{StandsFull};
-ghost use Rattle.shared_ops.specs.Goes.{AskedAll, CarriedOut, CarriedOutAlone, gone_of};
+ghost use Rattle.shared_ops.specs.Goes.{AskedAll, CarriedOut, CarriedOutAlone, NotBusy, gone_of};
 ghost use Rattle.shared_ops.specs.Groups.{GaveSparing, KeepsLists};
 ghost use Rattle.shared_ops.specs.Socks as socks_spec;
 ghost use Rattle.shared_ops.specs.Socks.{mine_of, first_mine, without_socket, end_of};
@@ -23,16 +23,16 @@ ghost use Rattle.shared_ops.specs.Stands.{buckets_of, chained, turned};
 
 use crate::asking;
 use crate::hashing::insert;
-use crate::room::make_room;
+use crate::room::begin_with;
 use crate::searching::search_connect;
 use crate::sock::{Connected, Sock};
 use crate::tables::{Tables, Worker};
 use bind_buckets::{Bucket, turning};
 use chain_book::Replace;
 use flat_list::{End, owned};
+use patience::Patience;
 use port_search::Ports;
 use sock_card::{Owner, State};
-use std::sync::Wait;
 use table_model::OpEnd;
 use turn_table::{Turn, TurnPass, Turns};
 
@@ -64,8 +64,8 @@ pub(crate) fn end_turn(
 
 /// Connects a bound owner, which becomes `full`: it is hashed, and then its key's bucket knows, in the same turn, in
 /// which the owner of a TIME_WAIT that it replaced leaves.
-fn connect_bound<R: Wait>(
-    rt: &R,
+fn connect_bound<P: Patience>(
+    patience: &P,
     tables: &Tables,
     worker: &mut Worker,
     bound: &Owner,
@@ -93,23 +93,25 @@ fn connect_bound<R: Wait>(
         (turned worker.old) (turned worker.new) (chained tables.now worker.old) (chained tables.now worker.new) result }
     ensures stands { IfOk result (StandsFull tables.now (turned worker.new) (chained tables.now worker.new)) }
     ensures kept { OnErr result (IsOwner tables.now bound.now (turned worker.new)) }
+    ensures patient { P.endless ≡ true → IfErr result NotBusy }
 {
-    let mut turn = asking::take(rt, &tables.buckets, &mut worker.turns, bound);
-    match make_room(tables, worker, &mut turn, 2) {
-        Ok(()) => match insert(rt, &tables.chains, &mut worker.chain, &full, moment, rule) {
-            Ok(came) => {
-                asking::connect_bound(&tables.buckets, &mut worker.turns, &mut turn, bound, &full);
-                end_turn(&tables.buckets, &mut worker.turns, turn, came.replaced);
-                Ok(Connected::at_place(full, came.place))
-            }
-            Err(end) => {
-                turning::give(&tables.buckets, &mut worker.turns, turn);
-                Err(end)
-            }
-        },
-        Err(_) => {
+    let mut turn = begin_with(patience, tables, worker, bound, 2)?;
+    match insert(
+        patience,
+        &tables.chains,
+        &mut worker.chain,
+        &full,
+        moment,
+        rule,
+    ) {
+        Ok(came) => {
+            asking::connect_bound(&tables.buckets, &mut worker.turns, &mut turn, bound, &full);
+            end_turn(&tables.buckets, &mut worker.turns, turn, came.replaced);
+            Ok(Connected::at_place(full, came.place))
+        }
+        Err(end) => {
             turning::give(&tables.buckets, &mut worker.turns, turn);
-            Err(OpEnd::Memory)
+            Err(end)
         }
     }
 }
@@ -141,8 +143,8 @@ fn connect_answer(
 }
 
 /// [`connect`], among others.
-fn connect_shared<R: Wait>(
-    rt: &R,
+fn connect_shared<P: Patience>(
+    patience: &P,
     tables: &Tables,
     worker: &mut Worker,
     socket: Sock,
@@ -174,6 +176,7 @@ fn connect_shared<R: Wait>(
     ensures stands { IfOk result (λ full.
         StandsAs tables.now full.0 (turned worker.new) (chained tables.now worker.new)) }
     ensures kept { OnErr result (StandsAs tables.now socket (turned worker.new) (chained tables.now worker.new)) }
+    ensures patient { P.endless ≡ true → IfErr result (λ refusal. NotBusy refusal.1) }
 {
     let owner = *socket.owner();
     match socket {
@@ -181,7 +184,9 @@ fn connect_shared<R: Wait>(
             let Some(source) = source_to(owner.addr, from, to) else {
                 return Err((Sock::Unbound(unbound), OpEnd::Inval));
             };
-            let full = search_connect(rt, tables, worker, owner, source, to, moment, rule, ports);
+            let full = search_connect(
+                patience, tables, worker, owner, source, to, moment, rule, ports,
+            );
             connect_answer(Sock::Unbound(unbound), full)
         }
         Sock::Bound(bound) => {
@@ -189,7 +194,7 @@ fn connect_shared<R: Wait>(
                 return Err((Sock::Bound(bound), OpEnd::Inval));
             };
             let full = owned::connected_to(owner, source, to);
-            let full = connect_bound(rt, tables, worker, &owner, full, moment, rule);
+            let full = connect_bound(patience, tables, worker, &owner, full, moment, rule);
             connect_answer(Sock::Bound(bound), full)
         }
         Sock::Listening(listener) => Err((Sock::Listening(listener), OpEnd::IsConn)),
@@ -210,10 +215,10 @@ fn connect_shared<R: Wait>(
 ///
 /// `Inval`: there is no such end or no such source, or it is a request. `IsConn`: it listens or is connected. `Taken`:
 /// the socket of that name keeps its four-tuple from it. `Full`: no slot was free. `NoPort`: each of the ports, at its
-/// own turn, was held or had its four-tuple taken. `Memory`: memory was wanting; what a search was told before stays
-/// told. A refused socket comes back as it was.
-pub fn connect<R: Wait>(
-    rt: &R,
+/// own turn, was held or had its four-tuple taken. `LeftOff`: memory was wanting, or another had a bucket or a chain for
+/// longer than the caller tries; what a search was told before stays told. A refused socket comes back as it was.
+pub fn connect<P: Patience>(
+    patience: &P,
     tables: &Tables,
     worker: &mut Worker,
     socket: Sock,
@@ -251,6 +256,9 @@ pub fn connect<R: Wait>(
     ensures stands { IfOk result (λ full.
         StandsAs tables.now full.0 (turned worker.new) (chained tables.now worker.new)) }
     ensures kept { OnErr result (StandsAs tables.now socket (turned worker.new) (chained tables.now worker.new)) }
+    ensures patient { P.endless ≡ true → IfErr result (λ refusal. NotBusy refusal.1) }
 {
-    connect_shared(rt, tables, worker, socket, from, to, moment, rule, ports)
+    connect_shared(
+        patience, tables, worker, socket, from, to, moment, rule, ports,
+    )
 }

@@ -19,7 +19,7 @@ ghost use Rattle.shared_ops.specs.Accepting.{accepted};
 ghost use Rattle.shared_ops.specs.Closes.{OthersKept};
 ghost use Rattle.shared_ops.specs.Connecting.{StandsFull};
 ghost use Rattle.shared_ops.specs.Groups.{GaveSparing, KeepsLists};
-ghost use Rattle.shared_ops.specs.Goes.{CarriedOut, CarriedOutAlone};
+ghost use Rattle.shared_ops.specs.Goes.{CarriedOut, CarriedOutAlone, NotBusy};
 ghost use Rattle.shared_ops.specs.Handshaking as spec;
 ghost use Rattle.shared_ops.specs.Handshaking.{HandsOver, mine_found};
 ghost use Rattle.shared_ops.specs.Socks.{mine_of, without_socket};
@@ -30,20 +30,20 @@ ghost use Rattle.shared_ops.specs.There.{IsNew};
 
 use crate::asking;
 use crate::leaving::request_place;
-use crate::room::make_room;
+use crate::room::begin_with;
 use crate::sock::{Connected, Request, Sock};
 use crate::tables::{Tables, Worker};
 use bind_buckets::turning;
 use chain_book::Place;
 use chain_deeds::{ChainPass, ChainTable};
 use flat_list::owned;
+use patience::Patience;
 use sock_card::{Kind, Owner, State};
-use std::sync::Wait;
-use table_model::OpEnd;
+use table_model::{Cause, OpEnd};
 
 /// Hashes the child that a request was for, whose place comes with it, and then takes the request out.
-fn hand_over<R: Wait>(
-    rt: &R,
+fn hand_over<P: Patience>(
+    patience: &P,
     chains: &ChainTable,
     pass: &mut ChainPass,
     request: &Request,
@@ -61,9 +61,14 @@ fn hand_over<R: Wait>(
     ensures others { OtherPlacesStay (place_in kinds.Request request.now) (known pass.old.pass) (known pass.new.pass) }
     ensures all { OnErr result (PlacesStay (known pass.old.pass) (known pass.new.pass)) }
     ensures share { FourDrawn (known pass.old.pass) (known pass.new.pass) }
+    ensures patient { P.endless ≡ true → IfErr result NotBusy }
 {
     let card = owned::card_as(Kind::Full, child, 0);
-    match chain_deeds::hand_over(chains, rt, pass, request_place(request), &card) {
+    let Some(answer) = chain_deeds::hand_over(chains, patience, pass, request_place(request), &card)
+    else {
+        return Err(OpEnd::LeftOff(Cause::Busy));
+    };
+    match answer {
         Ok(place) => Ok(Place {
             bucket: place.bucket,
             slot: place.slot,
@@ -77,8 +82,8 @@ fn hand_over<R: Wait>(
 
 /// Connects the child of a listener in the place of a request, and then it comes into the listener's port, in the same
 /// turn.
-fn ack_as<R: Wait>(
-    rt: &R,
+fn ack_as<P: Patience>(
+    patience: &P,
     tables: &Tables,
     worker: &mut Worker,
     request: &Request,
@@ -113,36 +118,31 @@ fn ack_as<R: Wait>(
         (chained tables.now worker.old).view (chained tables.now worker.new).view }
     ensures others { OtherPlacesStay (place_in kinds.Request request.now)
         (chained tables.now worker.old).view (chained tables.now worker.new).view }
+    ensures patient { P.endless ≡ true → IfErr result NotBusy }
 {
-    let mut turn = asking::take(rt, &tables.buckets, &mut worker.turns, listener);
-    match make_room(tables, worker, &mut turn, 2) {
-        Ok(()) => match hand_over(rt, &tables.chains, &mut worker.chain, request, &child) {
-            Ok(place) => {
-                asking::inherit(
-                    &tables.buckets,
-                    &mut worker.turns,
-                    &mut turn,
-                    listener,
-                    &child,
-                );
-                turning::give(&tables.buckets, &mut worker.turns, turn);
-                Ok(Connected::at_place(child, place))
-            }
-            Err(end) => {
-                turning::give(&tables.buckets, &mut worker.turns, turn);
-                Err(end)
-            }
-        },
-        Err(_) => {
+    let mut turn = begin_with(patience, tables, worker, listener, 2)?;
+    match hand_over(patience, &tables.chains, &mut worker.chain, request, &child) {
+        Ok(place) => {
+            asking::inherit(
+                &tables.buckets,
+                &mut worker.turns,
+                &mut turn,
+                listener,
+                &child,
+            );
             turning::give(&tables.buckets, &mut worker.turns, turn);
-            Err(OpEnd::Memory)
+            Ok(Connected::at_place(child, place))
+        }
+        Err(end) => {
+            turning::give(&tables.buckets, &mut worker.turns, turn);
+            Err(end)
         }
     }
 }
 
 /// What [`ack`] comes to; the request stays where it is refused.
-fn ack_shared<R: Wait>(
-    rt: &R,
+fn ack_shared<P: Patience>(
+    patience: &P,
     tables: &Tables,
     worker: &mut Worker,
     request: &Sock,
@@ -173,6 +173,7 @@ fn ack_shared<R: Wait>(
         StandsAs tables.now l.now (turned worker.new) (chained tables.now worker.new)) }
     ensures kept { OnErr result (StandsAs tables.now request.now (turned worker.new) (chained tables.now worker.new)) }
     ensures stay { OthersKept request.now (chained tables.now worker.old).view (chained tables.now worker.new).view }
+    ensures patient { P.endless ≡ true → IfErr result NotBusy }
 {
     let _state = request.owner();
     let Sock::Request(request) = request else {
@@ -186,7 +187,7 @@ fn ack_shared<R: Wait>(
         return Err(OpEnd::Inval);
     }
     let child = owned::heir_owner(*owner, name, &request.owner);
-    ack_as(rt, tables, worker, request, owner, child)
+    ack_as(patience, tables, worker, request, owner, child)
 }
 
 fn ack_answer(request: Sock, child: Result<Connected, OpEnd>) -> Result<Sock, (Sock, OpEnd)>
@@ -209,9 +210,10 @@ fn ack_answer(request: Sock, child: Result<Connected, OpEnd>) -> Result<Sock, (S
 /// # Errors
 ///
 /// `Inval`: it is no request, or there is no listener that could accept at its ends. `Full`: no slot was free for the
-/// child beside the request. `Memory`: memory was wanting, and nothing has changed. The request comes back as it was.
-pub fn ack<R: Wait>(
-    rt: &R,
+/// child beside the request. `LeftOff`: memory was wanting, or another had a bucket or a chain for longer than the
+/// caller tries; nothing has changed. The request comes back as it was.
+pub fn ack<P: Patience>(
+    patience: &P,
     tables: &Tables,
     worker: &mut Worker,
     request: Sock,
@@ -251,7 +253,8 @@ pub fn ack<R: Wait>(
     ensures back { IfErr result (λ refusal. refusal.0 ≡ request) }
     ensures kept { OnErr result (StandsAs tables.now request (turned worker.new) (chained tables.now worker.new)) }
     ensures stay { OthersKept request (chained tables.now worker.old).view (chained tables.now worker.new).view }
+    ensures patient { P.endless ≡ true → IfErr result (λ refusal. NotBusy refusal.1) }
 {
-    let child = ack_shared(rt, tables, worker, &request, listener, name);
+    let child = ack_shared(patience, tables, worker, &request, listener, name);
     ack_answer(request, child)
 }

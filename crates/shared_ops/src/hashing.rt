@@ -1,6 +1,6 @@
 //! Connected sockets and requests that come into their chains.
 
-ghost use Rattle.std.specs.Prelude.{◌≡◌, true};
+ghost use Rattle.std.specs.Prelude.{◌≡◌, true, IfErr};
 ghost use Rattle.chain_book.specs.Tuples.{claims_tuple};
 ghost use Rattle.chain_deeds.specs.Sides.{HasRoom, IsResting, side_of};
 ghost use Rattle.nulls_chain.specs.Changes.{PlacesStay};
@@ -8,14 +8,15 @@ ghost use Rattle.table_rule.specs.Calls.{HasShares};
 ghost use Rattle.table_rule.specs.Passes.{known};
 ghost use Rattle.shared_ops.specs.Hashing as spec;
 ghost use Rattle.shared_ops.specs.Hashing.{DrawnAs, InsertsAs, request_wish, wish_for, wish_of};
+ghost use Rattle.shared_ops.specs.Goes.{NotBusy};
 
 use chain_book::{Place, Replace};
 use chain_deeds::{ChainPass, ChainTable};
 use flat_list::owned;
+use patience::Patience;
 use shared_sockets::InsertEnd;
 use sock_card::{Card, Kind, Owner};
-use std::sync::Wait;
-use table_model::OpEnd;
+use table_model::{Cause, OpEnd};
 
 /// A socket that came: where it is hashed, and the name of the TIME_WAIT that it replaced.
 #[derive(Debug, Drop)]
@@ -37,8 +38,8 @@ fn end_of(end: InsertEnd) -> OpEnd
 }
 
 /// Hashes a card at that moment; a TIME_WAIT of its four-tuple may give way by that rule.
-fn insert_card<R: Wait>(
-    rt: &R,
+fn insert_card<P: Patience>(
+    patience: &P,
     chains: &ChainTable,
     pass: &mut ChainPass,
     card: &Card,
@@ -54,8 +55,12 @@ fn insert_card<R: Wait>(
         (side_of chains.now pass.old) (side_of chains.now pass.new) result }
     ensures stay { PlacesStay (known pass.old.pass) (known pass.new.pass) }
     ensures share { DrawnAs result (known pass.old.pass) (known pass.new.pass) }
+    ensures patient { P.endless ≡ true → IfErr result NotBusy }
 {
-    match chain_deeds::insert(chains, rt, pass, card, moment, rule) {
+    let Some(answer) = chain_deeds::insert(chains, patience, pass, card, moment, rule) else {
+        return Err(OpEnd::LeftOff(Cause::Busy));
+    };
+    match answer {
         Ok(inserted) => Ok(Came {
             place: Place {
                 bucket: inserted.place.bucket,
@@ -68,8 +73,8 @@ fn insert_card<R: Wait>(
 }
 
 /// Hashes a full owner at that moment; a TIME_WAIT of its four-tuple may give way by that rule.
-pub(crate) fn insert<R: Wait>(
-    rt: &R,
+pub(crate) fn insert<P: Patience>(
+    patience: &P,
     chains: &ChainTable,
     pass: &mut ChainPass,
     full: &Owner,
@@ -84,14 +89,15 @@ pub(crate) fn insert<R: Wait>(
         (side_of chains.now pass.old) (side_of chains.now pass.new) result }
     ensures stay { PlacesStay (known pass.old.pass) (known pass.new.pass) }
     ensures share { DrawnAs result (known pass.old.pass) (known pass.new.pass) }
+    ensures patient { P.endless ≡ true → IfErr result NotBusy }
 {
     let card = owned::card_as(Kind::Full, full, 0);
-    insert_card(rt, chains, pass, &card, moment, rule)
+    insert_card(patience, chains, pass, &card, moment, rule)
 }
 
 /// Hashes a request; a TIME_WAIT of its four-tuple gives way.
-pub(crate) fn insert_request<R: Wait>(
-    rt: &R,
+pub(crate) fn insert_request<P: Patience>(
+    patience: &P,
     chains: &ChainTable,
     pass: &mut ChainPass,
     request: &Owner,
@@ -104,7 +110,8 @@ pub(crate) fn insert_request<R: Wait>(
         (side_of chains.now pass.old) (side_of chains.now pass.new) result }
     ensures stay { PlacesStay (known pass.old.pass) (known pass.new.pass) }
     ensures share { DrawnAs result (known pass.old.pass) (known pass.new.pass) }
+    ensures patient { P.endless ≡ true → IfErr result NotBusy }
 {
     let card = owned::card_as(Kind::Request, request, 0);
-    insert_card(rt, chains, pass, &card, 0, Replace::Always)
+    insert_card(patience, chains, pass, &card, 0, Replace::Always)
 }

@@ -1,6 +1,6 @@
 //! `close`, and `drop_sock` beside it, by which a socket is gone at once.
 
-ghost use Rattle.std.specs.Prelude.{◌≡◌, ◌+◌, ◌%◌, ◌^◌, ◌<◌, ◌≤◌, ◌∷◌, [], IfErr, OnErr, OnOk};
+ghost use Rattle.std.specs.Prelude.{◌≡◌, ◌+◌, ◌%◌, ◌^◌, ◌<◌, ◌≤◌, ◌∷◌, [], true, IfOk, IfErr, IfSome, IfNone, OnErr, OnOk};
 ghost use Rattle.sock_card.specs.Conflict.{owner_key};
 ghost use Rattle.sock_card.specs.declared.card.Kind.TheVariants as kinds;
 ghost use Rattle.turn_table.specs.Passes as words;
@@ -13,21 +13,22 @@ ghost use Rattle.nulls_chain.specs.Changes.{IsPlaced, OthersStay};
 ghost use Rattle.shared_sockets.specs.Comings.{FourDrawn};
 ghost use Rattle.bind_buckets.specs.Callers.{MayName};
 ghost use Rattle.bind_buckets.specs.OwnTold.{StandsOwn};
-ghost use Rattle.bind_buckets.specs.Turned.{View, IsIdle, IsOut, IsAlone, Within, made};
+ghost use Rattle.bind_buckets.specs.Turned.{View, Gave, IsIdle, IsOut, IsAlone, Within, made};
 ghost use Rattle.chain_deeds.specs.Sides.{HasRoom, IsResting, side_of};
 ghost use Rattle.table_model.specs.Asking.{ends, unhashes};
 ghost use Rattle.table_model.specs.Own.{card_of};
 ghost use Rattle.table_model.specs.Operations as plans;
 ghost use Rattle.shared_ops.specs.Closes as spec;
 ghost use Rattle.shared_ops.specs.Closes.{ClosedBy, ClosedByAlone, Leaves, OthersKept, WaitsAs, is_gone, leave_entry, spot_of};
-ghost use Rattle.shared_ops.specs.Goes.{AskedAll, Went};
+ghost use Rattle.shared_ops.specs.Goes.{AskedAll, NotBusy, Went};
 ghost use Rattle.shared_ops.specs.Groups.{KeepsListed, KeepsLists, LeavesAs, LeavesOrStays, ListsOfLeave};
 ghost use Rattle.reuseport_group.specs.Passes as words_of_groups;
 ghost use Rattle.shared_ops.specs.Socks.{mine_of, without_socket};
 ghost use Rattle.shared_ops.specs.Spends.{Draws};
 ghost use Rattle.shared_ops.specs.Stands.{HasGroups, IsHashed, IsOwner, IsReady, IsThere, MayDraw, MayEnter, MayTell, StandsAs, buckets_of, chained, place_in, turned};
+ghost use Rattle.table_model.specs.declared.operation.Cause.TheVariants as causes;
 
-use crate::room::make_room;
+use crate::room::begin_with;
 use crate::sock::{Connected, Listening, Request, Sock};
 use crate::tables::{Tables, Worker};
 use crate::{asking, group_lists};
@@ -35,13 +36,12 @@ use bind_buckets::{Bucket, turning};
 use chain_book::Place;
 use chain_deeds::{ChainPass, ChainTable};
 use flat_list::owned;
+use patience::Patience;
 use reuseport_group::GroupPasses;
 use shared_slots::Full;
 use sock_card::{Card, Kind, Owner, as_waiting};
-use std::alloc::AllocError;
 use std::marker::Model;
-use std::sync::Wait;
-use table_model::OpEnd;
+use table_model::{Cause, OpEnd};
 use turn_table::{Turn, TurnPass, Turns};
 
 /// A socket in TIME_WAIT, from the moment of its stamp on, and where it is hashed.
@@ -104,14 +104,15 @@ pub(crate) fn request_place(request: &Request) -> nulls_chain::Place
     }
 }
 
-/// Hashes a TIME_WAIT, and then takes out who stands at that place of the same chain.
-fn replace<R: Wait>(
-    rt: &R,
+/// Hashes a TIME_WAIT, and then takes out who stands at that place of the same chain. None: another had the chain for
+/// longer than the caller tries.
+fn replace<P: Patience>(
+    patience: &P,
     chains: &ChainTable,
     pass: &mut ChainPass,
     place: nulls_chain::Place,
     card: &Card,
-) -> Result<Place, Full>
+) -> Option<Result<Place, Full>>
     requires rests { IsResting chains.now pass.old }
     requires home { place.bucket ≡ home chains.now.layout.shape chains.now.layout.seed place.card }
     requires chain { home chains.now.layout.shape chains.now.layout.seed card.now ≡ place.bucket }
@@ -120,28 +121,31 @@ fn replace<R: Wait>(
     requires room { HasRoom 2 pass.old }
     requires share { HasShares 4 (chain_words.known pass.old.pass) }
     ensures rests { IsResting chains.now pass.new }
-    ensures waits { WaitsAs place card.now (side_of chains.now pass.old) (side_of chains.now pass.new) result }
+    ensures waits { IfSome result (λ answer.
+        WaitsAs place card.now (side_of chains.now pass.old) (side_of chains.now pass.new) answer) }
+    ensures none { IfNone result (side_of chains.now pass.new ≡ side_of chains.now pass.old) }
+    ensures had { P.endless ≡ true → IfNone result ⊥ }
     ensures stay { OthersStay place.slot (chain_words.known pass.old.pass) (chain_words.known pass.new.pass) }
     ensures share { FourDrawn (chain_words.known pass.old.pass) (chain_words.known pass.new.pass) }
 {
-    match chain_deeds::time_wait(chains, rt, pass, place, card) {
-        Ok(place) => Ok(Place {
+    match chain_deeds::time_wait(chains, patience, pass, place, card)? {
+        Ok(place) => Some(Ok(Place {
             bucket: place.bucket,
             slot: place.slot,
-        }),
-        Err(slots) => Err(slots),
+        })),
+        Err(slots) => Some(Err(slots)),
     }
 }
 
 /// Leaves a TIME_WAIT in the place of a connected socket, and then tells the bucket that is out.
-fn wait_in<R: Wait>(
-    rt: &R,
+fn wait_in<P: Patience>(
+    patience: &P,
     tables: &Tables,
     worker: &mut Worker,
     turn: Turn<Box<Bucket>>,
     full: &Connected,
     moment: u32,
-) -> Closed
+) -> Result<Closed, Cause>
     requires out { IsOut tables.now.buckets worker.old.turns turn }
     requires place { turn.place ≡ owner_key full.now.owner % buckets_of tables.now }
     requires made { made worker.old.turns turn ≡ [] }
@@ -158,9 +162,13 @@ fn wait_in<R: Wait>(
     ensures caller { words.caller worker.new.turns ≡ words.caller worker.old.turns }
     ensures entered { words.draws worker.new.turns ≤ words.draws worker.old.turns + 1 }
     ensures drawn { Draws 4 worker.old worker.new }
-    ensures went { (v : View) → Within v (turned worker.old) → Went (buckets_of tables.now)
+    ensures went { IfOk result (λ closed. (v : View) → Within v (turned worker.old) → Went (buckets_of tables.now)
         (plans.close_full tables.now.chains.layout.shape tables.now.chains.layout.seed full.now (plans.wait_of full.now moment))
-        v (turned worker.new) (chained tables.now worker.old) (chained tables.now worker.new) (ends (spec.became result)) }
+        v (turned worker.new) (chained tables.now worker.old) (chained tables.now worker.new) (ends (spec.became closed))) }
+    ensures nothing { OnErr result ((v : View) → Within v (turned worker.old) → Gave v (turned worker.new) []) }
+    ensures side { OnErr result (chained tables.now worker.new ≡ chained tables.now worker.old) }
+    ensures none { OnErr result (worker.new.groups ≡ worker.old.groups) }
+    ensures patient { P.endless ≡ true → OnErr result ⊥ }
     ensures lists { (v : View) → Within v (turned worker.old) → LeavesOrStays (owner_key full.now.owner % buckets_of tables.now)
         full.now.owner (turned worker.new) worker.old.groups worker.new.groups }
     ensures listed { (v : View) → Within v (turned worker.old) → KeepsListed (words_of_groups.groups tables.now.groups)
@@ -170,21 +178,25 @@ fn wait_in<R: Wait>(
     let waiting = as_waiting(full.owner);
     let card = owned::card_as(Kind::TimeWait, &waiting, moment);
     let mut turn = turn;
-    match replace(
-        rt,
+    let Some(answer) = replace(
+        patience,
         &tables.chains,
         &mut worker.chain,
         full_place(full),
         &card,
-    ) {
+    ) else {
+        turning::give(&tables.buckets, &mut worker.turns, turn);
+        return Err(Cause::Busy);
+    };
+    match answer {
         Ok(place) => {
             asking::to_time_wait(&tables.buckets, &mut worker.turns, &mut turn, &full.owner);
             turning::give(&tables.buckets, &mut worker.turns, turn);
-            Closed::TimeWait(Waiting {
+            Ok(Closed::TimeWait(Waiting {
                 owner: waiting,
                 stamp: moment,
                 place,
-            })
+            }))
         }
         Err(slots) => {
             group_lists::leave(
@@ -195,22 +207,22 @@ fn wait_in<R: Wait>(
                 &full.owner,
             );
             turning::give(&tables.buckets, &mut worker.turns, turn);
-            Closed::NoSlot {
+            Ok(Closed::NoSlot {
                 owned: slots.owned,
                 held: slots.held,
-            }
+            })
         }
     }
 }
 
 /// Closes a connected socket: its TIME_WAIT stands before it is gone, and then its key's bucket knows, in one turn.
-fn close_full<R: Wait>(
-    rt: &R,
+fn close_full<P: Patience>(
+    patience: &P,
     tables: &Tables,
     worker: &mut Worker,
     full: &Connected,
     moment: u32,
-) -> Result<Closed, AllocError>
+) -> Result<Closed, Cause>
     requires ready { IsReady tables.now worker.old }
     requires enters { MayEnter 1 worker.old }
     requires draws { MayDraw 4 worker.old }
@@ -232,25 +244,20 @@ fn close_full<R: Wait>(
     ensures none { OnErr result (worker.new.groups ≡ worker.old.groups) }
     ensures listed { KeepsLists tables.now worker.old worker.new }
     ensures stay { OthersStay full.now.place.slot (chained tables.now worker.old).view (chained tables.now worker.new).view }
+    ensures patient { P.endless ≡ true → IfErr result (λ cause. cause ≡ causes.Memory) }
 {
-    let mut turn = asking::take(rt, &tables.buckets, &mut worker.turns, &full.owner);
-    match make_room(tables, worker, &mut turn, 2) {
-        Ok(()) => Ok(wait_in(rt, tables, worker, turn, full, moment)),
-        Err(end) => {
-            turning::give(&tables.buckets, &mut worker.turns, turn);
-            Err(end)
-        }
-    }
+    let turn = begin_with(patience, tables, worker, &full.owner, 2)?;
+    wait_in(patience, tables, worker, turn, full, moment)
 }
 
-/// Lets a bound owner leave its port. It takes no memory.
-fn leave_port<R: Wait>(
-    rt: &R,
+/// Lets a bound owner leave its port. It takes no memory. `Busy`: nothing has changed.
+fn leave_port<P: Patience>(
+    patience: &P,
     tables: &Tables,
     pass: &mut TurnPass<Box<Bucket>>,
     passes: &mut GroupPasses,
     owner: &Owner,
-)
+) -> Result<(), Cause>
     requires idle { IsIdle tables.now.buckets pass.old }
     requires groups { HasGroups tables.now passes.old }
     requires few { words.draws pass.old < 2 ^ 48 }
@@ -260,24 +267,30 @@ fn leave_port<R: Wait>(
     ensures groups { HasGroups tables.now passes.new }
     ensures caller { words.caller pass.new ≡ words.caller pass.old }
     ensures draws { words.draws pass.new ≤ words.draws pass.old + 1 }
-    ensures gave { AskedAll (owner_key owner.now % buckets_of tables.now) (leave_entry owner.now ∷ []) (known pass.old) (known pass.new) }
-    ensures lists { LeavesAs (owner_key owner.now % buckets_of tables.now) owner.now (known pass.new) passes.old passes.new }
+    ensures gave { OnOk result (AskedAll (owner_key owner.now % buckets_of tables.now) (leave_entry owner.now ∷ [])
+        (known pass.old) (known pass.new)) }
+    ensures same { OnErr result ((known pass.new ≡ known pass.old) × (passes.new ≡ passes.old)) }
+    ensures lists { OnOk result (LeavesAs (owner_key owner.now % buckets_of tables.now) owner.now (known pass.new) passes.old passes.new) }
     ensures listed { KeepsListed (words_of_groups.groups tables.now.groups) (known pass.old) (known pass.new) passes.old passes.new }
+    ensures patient { P.endless ≡ true → OnErr result ⊥ }
 {
-    let mut turn = asking::take(rt, &tables.buckets, pass, owner);
+    let Some(mut turn) = asking::take(patience, &tables.buckets, pass, owner) else {
+        return Err(Cause::Busy);
+    };
     group_lists::leave(tables, pass, passes, &mut turn, owner);
     turning::give(&tables.buckets, pass, turn);
+    Ok(())
 }
 
 /// Takes an owner out of its key's bucket, where its group's list is published without it, and then its socket out of
 /// its chain, in one turn.
-fn leave_chain<R: Wait>(
-    rt: &R,
+fn leave_chain<P: Patience>(
+    patience: &P,
     tables: &Tables,
     worker: &mut Worker,
     owner: &Owner,
     place: nulls_chain::Place,
-) -> Result<(), AllocError>
+) -> Result<(), Cause>
     requires ready { IsReady tables.now worker.old }
     requires enters { MayEnter 1 worker.old }
     requires draws { MayDraw 2 worker.old }
@@ -300,35 +313,37 @@ fn leave_chain<R: Wait>(
     ensures none { OnErr result (worker.new.groups ≡ worker.old.groups) }
     ensures listed { KeepsLists tables.now worker.old worker.new }
     ensures stay { OthersStay place.slot (chained tables.now worker.old).view (chained tables.now worker.new).view }
+    ensures patient { P.endless ≡ true → IfErr result (λ cause. cause ≡ causes.Memory) }
 {
-    let mut turn = asking::take(rt, &tables.buckets, &mut worker.turns, owner);
-    match make_room(tables, worker, &mut turn, 1) {
-        Ok(()) => {
-            group_lists::leave(
-                tables,
-                &mut worker.turns,
-                &mut worker.groups,
-                &mut turn,
-                owner,
-            );
-            chain_deeds::remove(&tables.chains, rt, &mut worker.chain, place);
-            turning::give(&tables.buckets, &mut worker.turns, turn);
-            Ok(())
-        }
-        Err(end) => {
-            turning::give(&tables.buckets, &mut worker.turns, turn);
-            Err(end)
-        }
-    }
+    let mut turn = begin_with(patience, tables, worker, owner, 1)?;
+    let Some(locked) = chain_deeds::lock_chain_of(
+        &tables.chains,
+        patience,
+        &mut worker.chain,
+        &place,
+    ) else {
+        turning::give(&tables.buckets, &mut worker.turns, turn);
+        return Err(Cause::Busy);
+    };
+    group_lists::leave(
+        tables,
+        &mut worker.turns,
+        &mut worker.groups,
+        &mut turn,
+        owner,
+    );
+    chain_deeds::remove(&tables.chains, &mut worker.chain, locked, place);
+    turning::give(&tables.buckets, &mut worker.turns, turn);
+    Ok(())
 }
 
 /// Takes a request out of its chain; no bucket knows of it.
-fn leave_request<R: Wait>(
-    rt: &R,
+fn leave_request<P: Patience>(
+    patience: &P,
     tables: &Tables,
     worker: &mut Worker,
     request: &Request,
-) -> Result<(), AllocError>
+) -> Result<(), Cause>
     requires ready { IsReady tables.now worker.old }
     requires draws { MayDraw 2 worker.old }
     requires hashed { IsHashed kinds.Request request.now (chained tables.now worker.old) }
@@ -342,24 +357,29 @@ fn leave_request<R: Wait>(
         (chained tables.now worker.old) (chained tables.now worker.new) result }
     ensures side { OnErr result (chained tables.now worker.new ≡ chained tables.now worker.old) }
     ensures stay { OthersStay request.now.place.slot (chained tables.now worker.old).view (chained tables.now worker.new).view }
+    ensures patient { P.endless ≡ true → IfErr result (λ cause. cause ≡ causes.Memory) }
 {
     worker.chain.reserve(&tables.chains, 1)?;
-    chain_deeds::remove(
+    let place = request_place(request);
+    let Some(locked) = chain_deeds::lock_chain_of(
         &tables.chains,
-        rt,
+        patience,
         &mut worker.chain,
-        request_place(request),
-    );
+        &place,
+    ) else {
+        return Err(Cause::Busy);
+    };
+    chain_deeds::remove(&tables.chains, &mut worker.chain, locked, place);
     Ok(())
 }
 
 /// Lets a socket go at once, without TIME_WAIT.
-fn leave<R: Wait>(
-    rt: &R,
+fn leave<P: Patience>(
+    patience: &P,
     tables: &Tables,
     worker: &mut Worker,
     socket: &Sock,
-) -> Result<(), AllocError>
+) -> Result<(), Cause>
     requires ready { IsReady tables.now worker.old }
     requires enters { MayEnter 1 worker.old }
     requires draws { MayDraw 2 worker.old }
@@ -378,48 +398,52 @@ fn leave<R: Wait>(
         worker.old.groups worker.new.groups result }
     ensures listed { KeepsLists tables.now worker.old worker.new }
     ensures stay { OthersKept socket.now (chained tables.now worker.old).view (chained tables.now worker.new).view }
+    ensures patient { P.endless ≡ true → IfErr result (λ cause. cause ≡ causes.Memory) }
 {
     let owner = socket.owner();
     match socket {
         Sock::Unbound(_) => Ok(()),
-        Sock::Bound(_) => {
-            leave_port(rt, tables, &mut worker.turns, &mut worker.groups, owner);
-            Ok(())
-        }
+        Sock::Bound(_) => leave_port(
+            patience,
+            tables,
+            &mut worker.turns,
+            &mut worker.groups,
+            owner,
+        ),
         Sock::Listening(listener) => {
-            leave_chain(rt, tables, worker, owner, listener_place(listener))
+            leave_chain(patience, tables, worker, owner, listener_place(listener))
         }
-        Sock::Full(full) => leave_chain(rt, tables, worker, owner, full_place(full)),
-        Sock::Request(request) => leave_request(rt, tables, worker, request),
+        Sock::Full(full) => leave_chain(patience, tables, worker, owner, full_place(full)),
+        Sock::Request(request) => leave_request(patience, tables, worker, request),
     }
 }
 
-fn drop_answer(socket: Sock, left: Result<(), AllocError>) -> Result<(), (Sock, OpEnd)>
+fn drop_answer(socket: Sock, left: Result<(), Cause>) -> Result<(), (Sock, OpEnd)>
     ensures { result ≡ spec.drop_answer socket left }
 {
     match left {
         Ok(()) => Ok(()),
-        Err(_) => Err((socket, OpEnd::Memory)),
+        Err(cause) => Err((socket, OpEnd::LeftOff(cause))),
     }
 }
 
-fn close_answer(socket: Sock, closed: Result<Closed, AllocError>) -> Result<Closed, (Sock, OpEnd)>
+fn close_answer(socket: Sock, closed: Result<Closed, Cause>) -> Result<Closed, (Sock, OpEnd)>
     ensures { result ≡ spec.close_answer socket closed }
 {
     match closed {
         Ok(closed) => Ok(closed),
-        Err(_) => Err((socket, OpEnd::Memory)),
+        Err(cause) => Err((socket, OpEnd::LeftOff(cause))),
     }
 }
 
-/// What [`close`] comes to; the socket stays where memory is wanting.
-fn close_as<R: Wait>(
-    rt: &R,
+/// What [`close`] comes to; the socket stays where it is left off.
+fn close_as<P: Patience>(
+    patience: &P,
     tables: &Tables,
     worker: &mut Worker,
     socket: &Sock,
     moment: u32,
-) -> Result<Closed, AllocError>
+) -> Result<Closed, Cause>
     requires ready { IsReady tables.now worker.old }
     requires enters { MayEnter 1 worker.old }
     requires draws { MayDraw 4 worker.old }
@@ -438,12 +462,13 @@ fn close_as<R: Wait>(
         worker.old.groups worker.new.groups result }
     ensures listed { KeepsLists tables.now worker.old worker.new }
     ensures stay { OthersKept socket.now (chained tables.now worker.old).view (chained tables.now worker.new).view }
+    ensures patient { P.endless ≡ true → IfErr result (λ cause. cause ≡ causes.Memory) }
 {
     let _owner = socket.owner();
     if let Sock::Full(full) = socket {
-        return close_full(rt, tables, worker, full, moment);
+        return close_full(patience, tables, worker, full, moment);
     }
-    match leave(rt, tables, worker, socket) {
+    match leave(patience, tables, worker, socket) {
         Ok(()) => Ok(Closed::Plain),
         Err(end) => Err(end),
     }
@@ -458,10 +483,10 @@ fn close_as<R: Wait>(
 ///
 /// # Errors
 ///
-/// `Memory`: a bucket, or the worker's changes where they are kept, wanted memory, before anything was done. The
-/// socket comes back as it was.
-pub fn close<R: Wait>(
-    rt: &R,
+/// `LeftOff`: a bucket, or the worker's changes where they are kept, wanted memory, or another had a bucket or a chain
+/// for longer than the caller tries, before anything was done. The socket comes back as it was.
+pub fn close<P: Patience>(
+    patience: &P,
     tables: &Tables,
     worker: &mut Worker,
     socket: Sock,
@@ -491,8 +516,9 @@ pub fn close<R: Wait>(
         worker.old.groups worker.new.groups result }
     ensures listed { KeepsLists tables.now worker.old worker.new }
     ensures stay { OthersKept socket (chained tables.now worker.old).view (chained tables.now worker.new).view }
+    ensures patient { P.endless ≡ true → IfErr result (λ refusal. NotBusy refusal.1) }
 {
-    let closed = close_as(rt, tables, worker, &socket, moment);
+    let closed = close_as(patience, tables, worker, &socket, moment);
     close_answer(socket, closed)
 }
 
@@ -500,9 +526,9 @@ pub fn close<R: Wait>(
 ///
 /// # Errors
 ///
-/// `Memory`, as for [`close`].
-pub fn drop_sock<R: Wait>(
-    rt: &R,
+/// `LeftOff`, as for [`close`].
+pub fn drop_sock<P: Patience>(
+    patience: &P,
     tables: &Tables,
     worker: &mut Worker,
     socket: Sock,
@@ -530,7 +556,8 @@ pub fn drop_sock<R: Wait>(
         worker.old.groups worker.new.groups result }
     ensures listed { KeepsLists tables.now worker.old worker.new }
     ensures stay { OthersKept socket (chained tables.now worker.old).view (chained tables.now worker.new).view }
+    ensures patient { P.endless ≡ true → IfErr result (λ refusal. NotBusy refusal.1) }
 {
-    let left = leave(rt, tables, worker, &socket);
+    let left = leave(patience, tables, worker, &socket);
     drop_answer(socket, left)
 }

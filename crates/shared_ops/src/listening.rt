@@ -1,6 +1,6 @@
 //! `listen`.
 
-ghost use Rattle.std.specs.Prelude.{◌≡◌, ◌+◌, ◌%◌, ◌^◌, ◌<◌, ◌≤◌, ◌++◌, ◌∷◌, [], length, IfOk, IfErr, OnErr, IfSome};
+ghost use Rattle.std.specs.Prelude.{◌≡◌, ◌+◌, ◌%◌, ◌^◌, ◌<◌, ◌≤◌, ◌++◌, ◌∷◌, [], List, length, true, false, IfOk, IfErr, OnErr, IfSome};
 ghost use Rattle.std.specs.Option.{option_map_or};
 ghost use Rattle.sock_card.specs.Conflict.{owner_key};
 ghost use Rattle.sock_card.specs.declared.card.Kind.TheVariants as kinds;
@@ -11,6 +11,7 @@ ghost use Rattle.table_rule.specs.Calls.{HasShares};
 ghost use Rattle.table_rule.specs.Sole.{IsNow};
 ghost use Rattle.nulls_chain.specs.Changes.{PlacesStay, TwoDrawn};
 ghost use Rattle.bind_buckets.specs.declared.request.Answer.TheVariants as answers;
+ghost use Rattle.bind_buckets.specs.declared.request.Entry.{Entry};
 ghost use Rattle.bind_buckets.specs.declared.request.Request.TheVariants as requests;
 ghost use Rattle.bind_buckets.specs.Answers.{answer_of_end};
 ghost use Rattle.bind_buckets.specs.Bucket.{entries_of, answer_to};
@@ -19,7 +20,7 @@ ghost use Rattle.bind_buckets.specs.Turned.{View, IsIdle, IsOut, IsAlone, Within
 ghost use Rattle.chain_deeds.specs.Sides.{HasRoom, IsResting, side_of};
 ghost use Rattle.table_model.specs.Asking.{ends};
 ghost use Rattle.table_model.specs.Operations as plans;
-ghost use Rattle.shared_ops.specs.Goes.{AskedAll, CarriedOut, CarriedOutAlone, gone_if};
+ghost use Rattle.shared_ops.specs.Goes.{AskedAll, CarriedOut, CarriedOutAlone, HoldsAfter, NotBusy, gone_if};
 ghost use Rattle.shared_ops.specs.Groups.{GaveBack, KeepsLists, ListsOfListen, StartsLists, StartsUnbound};
 ghost use Rattle.shared_ops.specs.Listens as spec;
 ghost use Rattle.shared_ops.specs.Listens.{AddsAs, IsKnownEnd, SaysListen, TellsAs, asked_listen};
@@ -27,7 +28,7 @@ ghost use Rattle.shared_ops.specs.Socks.{mine_of, first_mine, without_socket};
 ghost use Rattle.shared_ops.specs.Stands.{HasGroups, IsAway, IsHashed, IsOwner, IsReady, IsThere, MayDraw, MayEnter, MayTell, StandsAs, buckets_of, chained, turned};
 ghost use Rattle.shared_ops.specs.Spends.{Draws};
 
-use crate::room::make_room;
+use crate::room::begin_with;
 use crate::sock::{Listening, Sock};
 use crate::tables::{Tables, Worker};
 use crate::{asking, group_lists};
@@ -35,12 +36,12 @@ use bind_buckets::{Bucket, ListenEnd, turning};
 use chain_book::Place;
 use chain_deeds::{ChainPass, ChainTable};
 use flat_list::owned;
-use port_search::turning::find_bind;
+use patience::Patience;
+use port_search::turning::find_bind_turn;
 use port_search::{Ports, SearchEnd};
 use reuseport_group::GroupPasses;
 use sock_card::{Card, Kind, Owner, as_listener};
-use std::sync::Wait;
-use table_model::OpEnd;
+use table_model::{Cause, OpEnd};
 use turn_table::{Turn, TurnPass, Turns};
 
 fn end_of(end: ListenEnd) -> OpEnd
@@ -66,9 +67,9 @@ fn extra_of(group: Option<u32>) -> u32
     }
 }
 
-/// Hashes a listener, whose place comes with it.
-fn hash<R: Wait>(
-    rt: &R,
+/// Hashes a listener, whose place comes with it. `LeftOff`: another had its chain for longer than the caller tries.
+fn hash<P: Patience>(
+    patience: &P,
     chains: &ChainTable,
     pass: &mut ChainPass,
     card: &Card,
@@ -81,8 +82,12 @@ fn hash<R: Wait>(
     ensures adds { AddsAs card.now (side_of chains.now pass.old) (side_of chains.now pass.new) result }
     ensures stay { PlacesStay (chain_words.known pass.old.pass) (chain_words.known pass.new.pass) }
     ensures share { TwoDrawn (chain_words.known pass.old.pass) (chain_words.known pass.new.pass) }
+    ensures patient { P.endless ≡ true → IfErr result NotBusy }
 {
-    match chain_deeds::add(chains, rt, pass, card) {
+    let Some(answer) = chain_deeds::add(chains, patience, pass, card) else {
+        return Err(OpEnd::LeftOff(Cause::Busy));
+    };
+    match answer {
         Ok(place) => Ok(Place {
             bucket: place.bucket,
             slot: place.slot,
@@ -126,9 +131,10 @@ fn give_back(
     }
 }
 
-/// Hashes the owner, which may listen as the bucket stands that is out, and tells the bucket.
-fn start_in<R: Wait>(
-    rt: &R,
+/// Hashes the owner, which may listen as the bucket stands that is out, and tells the bucket. Where it can't be hashed,
+/// the bucket is given back, by an owner whose port this call took as one that leaves it.
+fn start_in<P: Patience>(
+    patience: &P,
     tables: &Tables,
     worker: &mut Worker,
     turn: Turn<Box<Bucket>>,
@@ -152,25 +158,28 @@ fn start_in<R: Wait>(
     ensures caller { words.caller worker.new.turns ≡ words.caller worker.old.turns }
     ensures entered { words.draws worker.new.turns ≤ words.draws worker.old.turns + 1 }
     ensures drawn { Draws 2 worker.old worker.new }
-    ensures carried { (v : View) → Within v (turned worker.old)
-        → entries_of (made worker.old.turns turn) ≡ asked_listen owner.now (answers.Group group) ∷ []
-        → CarriedOut plans.done plans.refused (buckets_of tables.now) owner.now.name
+    ensures carried { (v : View) → (es : List Entry) → Within v (turned worker.old)
+        → entries_of (made worker.old.turns turn) ≡ es ++ asked_listen owner.now (answers.Group group) ∷ []
+        → HoldsAfter (owner_key owner.now % buckets_of tables.now) es v (λ u.
+        CarriedOut plans.done plans.refused (buckets_of tables.now) owner.now.name
         (plans.listen_at tables.now.chains.layout.shape tables.now.chains.layout.seed took owner.now)
-        v (turned worker.new) (chained tables.now worker.old) (chained tables.now worker.new) result }
-    ensures tells { (v : View) → Within v (turned worker.old)
-        → entries_of (made worker.old.turns turn) ≡ asked_listen owner.now (answers.Group group) ∷ []
-        → TellsAs (owner_key owner.now % buckets_of tables.now) owner.now took v (turned worker.new) result }
-    ensures lists { (v : View) → Within v (turned worker.old)
-        → entries_of (made worker.old.turns turn) ≡ asked_listen owner.now (answers.Group group) ∷ []
+        u (turned worker.new) (chained tables.now worker.old) (chained tables.now worker.new) result) }
+    ensures tells { (v : View) → (es : List Entry) → Within v (turned worker.old)
+        → entries_of (made worker.old.turns turn) ≡ es ++ asked_listen owner.now (answers.Group group) ∷ []
+        → HoldsAfter (owner_key owner.now % buckets_of tables.now) es v (λ u.
+        TellsAs (owner_key owner.now % buckets_of tables.now) owner.now took u (turned worker.new) result) }
+    ensures lists { (v : View) → (es : List Entry) → Within v (turned worker.old)
+        → entries_of (made worker.old.turns turn) ≡ es ++ asked_listen owner.now (answers.Group group) ∷ []
         → StartsLists took (owner_key owner.now % buckets_of tables.now) owner.now (turned worker.new)
         worker.old.groups worker.new.groups result }
     ensures hashed { IfOk result (λ l. IsHashed kinds.Listen l (chained tables.now worker.new)) }
     ensures stay { PlacesStay (chained tables.now worker.old).view (chained tables.now worker.new).view }
+    ensures patient { P.endless ≡ true → IfErr result NotBusy }
 {
     let listener = as_listener(*owner);
     let extra = extra_of(group);
     let card = owned::card_as(Kind::Listen, &listener, extra);
-    match hash(rt, &tables.chains, &mut worker.chain, &card) {
+    match hash(patience, &tables.chains, &mut worker.chain, &card) {
         Ok(place) => {
             let mut turn = turn;
             group_lists::join(
@@ -199,40 +208,49 @@ fn start_in<R: Wait>(
     }
 }
 
-/// Lets a bound owner listen: its key's bucket says whether it may and in which group, it is hashed, and then the
-/// bucket knows, all in one turn. One that is refused, and whose port this call took, leaves its port in that turn.
-fn start<R: Wait>(
-    rt: &R,
+/// Lets an owner listen whose bucket is out: room is made for its change, the bucket says whether it may and in which
+/// group, it is hashed, and then the bucket knows, all in that turn. One that can't listen, and whose port this call
+/// took, leaves its port in that turn.
+fn start_in_turn<P: Patience>(
+    patience: &P,
     tables: &Tables,
     worker: &mut Worker,
+    turn: Turn<Box<Bucket>>,
     owner: &Owner,
     took: bool,
 ) -> Result<Listening, OpEnd>
-    requires ready { IsReady tables.now worker.old }
+    requires out { IsOut tables.now.buckets worker.old.turns turn }
+    requires place { turn.place ≡ owner_key owner.now % buckets_of tables.now }
     requires enters { MayEnter 2 worker.old }
     requires draws { MayDraw 2 worker.old }
     requires may { MayTell worker.old owner.now.name }
-    requires stands { IsOwner tables.now owner.now (turned worker.old) }
+    requires there { IsThere turn owner.now }
+    requires entries { 2 ≤ turn.value.value.entries }
+    requires rests { IsResting tables.now.chains worker.old.chain }
+    requires groups { HasGroups tables.now worker.old.groups }
     ensures ready { IsReady tables.now worker.new }
     ensures caller { words.caller worker.new.turns ≡ words.caller worker.old.turns }
     ensures entered { words.draws worker.new.turns ≤ words.draws worker.old.turns + 2 }
     ensures drawn { Draws 2 worker.old worker.new }
-    ensures carried { CarriedOut plans.done plans.refused (buckets_of tables.now) owner.now.name
+    ensures carried { (v : View) → Within v (turned worker.old)
+        → HoldsAfter (owner_key owner.now % buckets_of tables.now) (entries_of (made worker.old.turns turn)) v (λ u.
+        CarriedOut plans.done plans.refused (buckets_of tables.now) owner.now.name
         (plans.listen_at tables.now.chains.layout.shape tables.now.chains.layout.seed took owner.now)
-        (turned worker.old) (turned worker.new)
-        (chained tables.now worker.old) (chained tables.now worker.new) result }
-    ensures tells { TellsAs (owner_key owner.now % buckets_of tables.now) owner.now took
-        (turned worker.old) (turned worker.new) result }
-    ensures lists { StartsLists took (owner_key owner.now % buckets_of tables.now) owner.now (turned worker.new)
+        u (turned worker.new) (chained tables.now worker.old) (chained tables.now worker.new) result) }
+    ensures tells { (v : View) → Within v (turned worker.old)
+        → HoldsAfter (owner_key owner.now % buckets_of tables.now) (entries_of (made worker.old.turns turn)) v (λ u.
+        TellsAs (owner_key owner.now % buckets_of tables.now) owner.now took u (turned worker.new) result) }
+    ensures lists { (v : View) → Within v (turned worker.old)
+        → StartsLists took (owner_key owner.now % buckets_of tables.now) owner.now (turned worker.new)
         worker.old.groups worker.new.groups result }
-    ensures listed { KeepsLists tables.now worker.old worker.new }
     ensures hashed { IfOk result (λ l. IsHashed kinds.Listen l (chained tables.now worker.new)) }
     ensures stay { PlacesStay (chained tables.now worker.old).view (chained tables.now worker.new).view }
+    ensures patient { P.endless ≡ true → IfErr result NotBusy }
 {
-    let mut turn = asking::take(rt, &tables.buckets, &mut worker.turns, owner);
-    match make_room(tables, worker, &mut turn, 1) {
+    let mut turn = turn;
+    match worker.chain.reserve(&tables.chains, 1) {
         Ok(()) => match asking::may_listen(&tables.buckets, &mut worker.turns, &mut turn, owner) {
-            Ok(group) => start_in(rt, tables, worker, turn, owner, took, group),
+            Ok(group) => start_in(patience, tables, worker, turn, owner, took, group),
             Err(end) => {
                 give_back(
                     tables,
@@ -254,14 +272,51 @@ fn start<R: Wait>(
                 owner,
                 took,
             );
-            Err(OpEnd::Memory)
+            Err(OpEnd::LeftOff(Cause::Memory))
         }
     }
 }
 
-/// Lets an owner without a port listen, at its address and the first port that it can have.
-fn start_unbound<R: Wait>(
-    rt: &R,
+/// Lets a bound owner listen, in a turn of its key's bucket.
+fn start<P: Patience>(
+    patience: &P,
+    tables: &Tables,
+    worker: &mut Worker,
+    owner: &Owner,
+) -> Result<Listening, OpEnd>
+    requires ready { IsReady tables.now worker.old }
+    requires enters { MayEnter 2 worker.old }
+    requires draws { MayDraw 2 worker.old }
+    requires may { MayTell worker.old owner.now.name }
+    requires stands { IsOwner tables.now owner.now (turned worker.old) }
+    ensures ready { IsReady tables.now worker.new }
+    ensures caller { words.caller worker.new.turns ≡ words.caller worker.old.turns }
+    ensures entered { words.draws worker.new.turns ≤ words.draws worker.old.turns + 2 }
+    ensures drawn { Draws 2 worker.old worker.new }
+    ensures carried { CarriedOut plans.done plans.refused (buckets_of tables.now) owner.now.name
+        (plans.listen_at tables.now.chains.layout.shape tables.now.chains.layout.seed false owner.now)
+        (turned worker.old) (turned worker.new)
+        (chained tables.now worker.old) (chained tables.now worker.new) result }
+    ensures tells { TellsAs (owner_key owner.now % buckets_of tables.now) owner.now false
+        (turned worker.old) (turned worker.new) result }
+    ensures lists { StartsLists false (owner_key owner.now % buckets_of tables.now) owner.now (turned worker.new)
+        worker.old.groups worker.new.groups result }
+    ensures listed { KeepsLists tables.now worker.old worker.new }
+    ensures hashed { IfOk result (λ l. IsHashed kinds.Listen l (chained tables.now worker.new)) }
+    ensures stay { PlacesStay (chained tables.now worker.old).view (chained tables.now worker.new).view }
+    ensures patient { P.endless ≡ true → IfErr result NotBusy }
+{
+    // Room for its change is made in the turn.
+    match begin_with(patience, tables, worker, owner, 0) {
+        Ok(turn) => start_in_turn(patience, tables, worker, turn, owner, false),
+        Err(cause) => Err(OpEnd::LeftOff(cause)),
+    }
+}
+
+/// Lets an owner without a port listen, at its address and the first port that it can have. It listens in the turn in
+/// which it took the port, or gives it up then.
+fn start_unbound<P: Patience>(
+    patience: &P,
     tables: &Tables,
     worker: &mut Worker,
     owner: Owner,
@@ -289,16 +344,18 @@ fn start_unbound<R: Wait>(
     ensures hashed { IfOk result (λ l. IsHashed kinds.Listen l (chained tables.now worker.new)) }
     ensures kept { OnErr result (IsAway owner.name (turned worker.new)) }
     ensures stay { PlacesStay (chained tables.now worker.old).view (chained tables.now worker.new).view }
+    ensures patient { P.endless ≡ true → IfErr result NotBusy }
 {
     let wanted = owned::bound_at(owner, owner.addr, 0);
-    match find_bind(rt, &tables.buckets, &mut worker.turns, ports, wanted) {
-        Ok(port) => {
+    match find_bind_turn(patience, &tables.buckets, &mut worker.turns, ports, wanted) {
+        Ok((port, turn)) => {
             let bound = owned::bound_at(owner, owner.addr, port);
-            start(rt, tables, worker, &bound, true)
+            start_in_turn(patience, tables, worker, turn, &bound, true)
         }
         Err(SearchEnd::NoPort) => Err(OpEnd::NoPort),
         Err(SearchEnd::Full { owned, held }) => Err(OpEnd::Full { owned, held }),
-        Err(SearchEnd::Memory) => Err(OpEnd::Memory),
+        Err(SearchEnd::Memory) => Err(OpEnd::LeftOff(Cause::Memory)),
+        Err(SearchEnd::Busy) => Err(OpEnd::LeftOff(Cause::Busy)),
     }
 }
 
@@ -318,8 +375,8 @@ fn listen_answer(
 }
 
 /// [`listen`], among others.
-fn listen_shared<R: Wait>(
-    rt: &R,
+fn listen_shared<P: Patience>(
+    patience: &P,
     tables: &Tables,
     worker: &mut Worker,
     socket: Sock,
@@ -346,15 +403,16 @@ fn listen_shared<R: Wait>(
         worker.old.groups worker.new.groups (without_socket result) }
     ensures listed { KeepsLists tables.now worker.old worker.new }
     ensures stay { PlacesStay (chained tables.now worker.old).view (chained tables.now worker.new).view }
+    ensures patient { P.endless ≡ true → IfErr result (λ refusal. NotBusy refusal.1) }
 {
     let owner = *socket.owner();
     match socket {
         Sock::Unbound(unbound) => {
-            let started = start_unbound(rt, tables, worker, owner, ports);
+            let started = start_unbound(patience, tables, worker, owner, ports);
             listen_answer(Sock::Unbound(unbound), started)
         }
         Sock::Bound(bound) => {
-            let started = start(rt, tables, worker, &owner, false);
+            let started = start(patience, tables, worker, &owner);
             listen_answer(Sock::Bound(bound), started)
         }
         Sock::Listening(listener) => Ok((Sock::Listening(listener), owner.port)),
@@ -375,10 +433,11 @@ fn listen_shared<R: Wait>(
 ///
 /// `Inval`: it is connected, or a request. `InUse`: the owner of that name keeps it from listening. `NoPort`: each of
 /// the ports was refused, at its own turn. `GroupFull` and `GroupsFull`: no place in a group of listeners. `Full`: no
-/// slot was free. `Memory`: a bucket, or the worker's changes where they are kept, wanted memory; the ports that were
-/// refused before stay told. A refused socket comes back as it was; a port that this call took for it is given up.
-pub fn listen<R: Wait>(
-    rt: &R,
+/// slot was free. `LeftOff`: a bucket, or the worker's changes where they are kept, wanted memory, or another had a
+/// bucket's turn or the lock of its chain for longer than the caller tries; the ports that were refused before stay
+/// told. A refused socket comes back as it was; a port that this call took for it is given up.
+pub fn listen<P: Patience>(
+    patience: &P,
     tables: &Tables,
     worker: &mut Worker,
     socket: Sock,
@@ -410,6 +469,7 @@ pub fn listen<R: Wait>(
         worker.old.groups worker.new.groups (without_socket result) }
     ensures listed { KeepsLists tables.now worker.old worker.new }
     ensures stay { PlacesStay (chained tables.now worker.old).view (chained tables.now worker.new).view }
+    ensures patient { P.endless ≡ true → IfErr result (λ refusal. NotBusy refusal.1) }
 {
-    listen_shared(rt, tables, worker, socket, ports)
+    listen_shared(patience, tables, worker, socket, ports)
 }

@@ -1,25 +1,26 @@
 //! `reap`, by which sockets in TIME_WAIT end, one after the other.
 
-ghost use Rattle.std.specs.Prelude.{◌≡◌, ◌+◌, ◌%◌, ◌≤◌, [], IfOk, OnErr};
+ghost use Rattle.std.specs.Prelude.{◌≡◌, ◌+◌, ◌%◌, ◌≤◌, [], IfErr, IfOk, OnErr, true};
 ghost use Rattle.sock_card.specs.Conflict.{owner_key};
 ghost use Rattle.turn_table.specs.Passes as words;
 ghost use Rattle.bind_buckets.specs.Turned.{View, Gave, IsOut, Within, made};
 ghost use Rattle.chain_deeds.specs.Sides.{HasRoom, IsResting};
 ghost use Rattle.nulls_chain.specs.Changes.{PlacesStay};
 ghost use Rattle.table_model.specs.Own as own;
+ghost use Rattle.table_model.specs.declared.operation.Cause.TheVariants as causes;
 ghost use Rattle.shared_ops.specs.Groups.{GaveSparing, KeepsLists};
 ghost use Rattle.shared_ops.specs.Reaping.{ReapsOne};
 ghost use Rattle.shared_ops.specs.Spends.{Draws};
 ghost use Rattle.shared_ops.specs.Stands.{HasGroups, IsReady, MayDraw, MayEnter, buckets_of, chained, turned};
 
 use crate::leaving::Waiting;
-use crate::room::make_room;
+use crate::room::begin;
 use crate::tables::{Tables, Worker};
 use bind_buckets::{Bucket, turning};
 use flat_list::owned;
+use patience::Patience;
 use sock_card::{Kind, bind_key, tw_expired};
-use std::alloc::AllocError;
-use std::sync::Wait;
+use table_model::Cause;
 use turn_table::Turn;
 
 impl Waiting {
@@ -32,13 +33,13 @@ impl Waiting {
 }
 
 /// Takes a TIME_WAIT out of its chain, and then tells the bucket that is out, if it was there.
-fn reap_in<R: Wait>(
-    rt: &R,
+fn reap_in<P: Patience>(
+    patience: &P,
     tables: &Tables,
     worker: &mut Worker,
     turn: Turn<Box<Bucket>>,
     waiting: &Waiting,
-) -> bool
+) -> Result<bool, Cause>
     requires out { IsOut tables.now.buckets worker.old.turns turn }
     requires place { turn.place ≡ owner_key waiting.now.owner % buckets_of tables.now }
     requires made { made worker.old.turns turn ≡ [] }
@@ -52,15 +53,24 @@ fn reap_in<R: Wait>(
     ensures caller { words.caller worker.new.turns ≡ words.caller worker.old.turns }
     ensures entered { words.draws worker.new.turns ≤ words.draws worker.old.turns + 1 }
     ensures drawn { Draws 2 worker.old worker.new }
-    ensures reaps { (v : View) → Within v (turned worker.old) → ReapsOne (buckets_of tables.now) waiting.now result
-        v (turned worker.new) (chained tables.now worker.old) (chained tables.now worker.new) }
+    ensures reaps { IfOk result (λ found. (v : View) → Within v (turned worker.old)
+        → ReapsOne (buckets_of tables.now) waiting.now found
+        v (turned worker.new) (chained tables.now worker.old) (chained tables.now worker.new)) }
+    ensures nothing { OnErr result ((v : View) → Within v (turned worker.old) → Gave v (turned worker.new) []) }
+    ensures side { OnErr result (chained tables.now worker.new ≡ chained tables.now worker.old) }
+    ensures patient { P.endless ≡ true → OnErr result ⊥ }
     ensures stay { PlacesStay (chained tables.now worker.old).view (chained tables.now worker.new).view }
     ensures groups { worker.new.groups ≡ worker.old.groups }
     ensures spares { (v : View) → Within v (turned worker.old) → GaveSparing v (turned worker.new) }
 {
     let card = owned::card_as(Kind::TimeWait, &waiting.owner, waiting.stamp);
     let mut turn = turn;
-    match chain_deeds::remove_tw(&tables.chains, rt, &mut worker.chain, &card) {
+    let Some(answer) = chain_deeds::remove_tw(&tables.chains, patience, &mut worker.chain, &card)
+    else {
+        turning::give(&tables.buckets, &mut worker.turns, turn);
+        return Err(Cause::Busy);
+    };
+    match answer {
         Some(_) => {
             let name = waiting.owner.name;
             let _known = turning::remove_waiting(
@@ -70,11 +80,11 @@ fn reap_in<R: Wait>(
                 name,
             );
             turning::give(&tables.buckets, &mut worker.turns, turn);
-            true
+            Ok(true)
         }
         None => {
             turning::give(&tables.buckets, &mut worker.turns, turn);
-            false
+            Ok(false)
         }
     }
 }
@@ -84,13 +94,14 @@ fn reap_in<R: Wait>(
 ///
 /// # Errors
 ///
-/// A bucket, or the worker's changes where they are kept, wanted memory. Nothing has changed.
-pub fn reap_one<R: Wait>(
-    rt: &R,
+/// A bucket, or the worker's changes where they are kept, wanted memory; or another had a bucket or a chain for longer
+/// than the caller tries. Nothing has changed.
+pub fn reap_one<P: Patience>(
+    patience: &P,
     tables: &Tables,
     worker: &mut Worker,
     waiting: &Waiting,
-) -> Result<bool, AllocError>
+) -> Result<bool, Cause>
     requires ready { IsReady tables.now worker.old }
     requires enters { MayEnter 1 worker.old }
     requires draws { MayDraw 2 worker.old }
@@ -105,14 +116,9 @@ pub fn reap_one<R: Wait>(
     ensures stay { PlacesStay (chained tables.now worker.old).view (chained tables.now worker.new).view }
     ensures groups { worker.new.groups ≡ worker.old.groups }
     ensures listed { KeepsLists tables.now worker.old worker.new }
+    ensures patient { P.endless ≡ true → IfErr result (λ cause. cause ≡ causes.Memory) }
 {
     let key = bind_key(waiting.owner.port, waiting.owner.net);
-    let mut turn = turning::take(rt, &tables.buckets, &mut worker.turns, key);
-    match make_room(tables, worker, &mut turn, 1) {
-        Ok(()) => Ok(reap_in(rt, tables, worker, turn, waiting)),
-        Err(end) => {
-            turning::give(&tables.buckets, &mut worker.turns, turn);
-            Err(end)
-        }
-    }
+    let turn = begin(patience, tables, worker, key, 1)?;
+    reap_in(patience, tables, worker, turn, waiting)
 }

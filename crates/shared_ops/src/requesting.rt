@@ -1,6 +1,6 @@
 //! `syn`: a request for a handshake with a listener.
 
-ghost use Rattle.std.specs.Prelude.{◌≡◌, ◌+◌, ◌≤◌, IfOk};
+ghost use Rattle.std.specs.Prelude.{◌≡◌, ◌+◌, ◌≤◌, IfOk, true, IfErr};
 ghost use Rattle.sock_card.specs.declared.card.Kind.TheVariants as kinds;
 ghost use Rattle.turn_table.specs.Passes as words;
 ghost use Rattle.bind_buckets.specs.Turned.{IsAlone};
@@ -10,7 +10,7 @@ ghost use Rattle.table_rule.specs.Passes as chain_words;
 ghost use Rattle.table_rule.specs.Sole.{IsNow};
 ghost use Rattle.shared_ops.specs.Accepting.{accepted};
 ghost use Rattle.shared_ops.specs.Groups.{GaveSparing, KeepsLists};
-ghost use Rattle.shared_ops.specs.Goes.{CarriedOut, CarriedOutAlone};
+ghost use Rattle.shared_ops.specs.Goes.{CarriedOut, CarriedOutAlone, NotBusy};
 ghost use Rattle.shared_ops.specs.Handshaking.{OwnersStay};
 ghost use Rattle.shared_ops.specs.Socks.{mine_of};
 ghost use Rattle.shared_ops.specs.Spends.{Draws};
@@ -19,18 +19,18 @@ ghost use Rattle.shared_ops.specs.Stands.{buckets_of, chained, turned};
 
 use crate::connecting::end_turn;
 use crate::hashing::insert_request;
-use crate::room::make_room;
+use crate::room::begin;
 use crate::sock::{Request, Sock};
 use crate::tables::{Tables, Worker};
 use bind_buckets::turning;
 use flat_list::{End, owned};
+use patience::Patience;
 use sock_card::{Owner, State, bind_key};
-use std::sync::Wait;
 use table_model::OpEnd;
 
 /// Hashes a request, in the turn of its port's bucket, in which the owner of a TIME_WAIT that it replaces leaves.
-fn syn_as<R: Wait>(
-    rt: &R,
+fn syn_as<P: Patience>(
+    patience: &P,
     tables: &Tables,
     worker: &mut Worker,
     request: Owner,
@@ -51,30 +51,25 @@ fn syn_as<R: Wait>(
         (turned worker.old) (turned worker.new) (chained tables.now worker.old) (chained tables.now worker.new) result }
     ensures stands { IfOk result (λ r. IsHashed kinds.Request r (chained tables.now worker.new)) }
     ensures owners { OwnersStay tables.now (turned worker.old) (turned worker.new) }
+    ensures patient { P.endless ≡ true → IfErr result NotBusy }
 {
     let key = bind_key(request.port, request.net);
-    let mut turn = turning::take(rt, &tables.buckets, &mut worker.turns, key);
-    match make_room(tables, worker, &mut turn, 2) {
-        Ok(()) => match insert_request(rt, &tables.chains, &mut worker.chain, &request) {
-            Ok(came) => {
-                end_turn(&tables.buckets, &mut worker.turns, turn, came.replaced);
-                Ok(Request::at_place(request, came.place))
-            }
-            Err(end) => {
-                turning::give(&tables.buckets, &mut worker.turns, turn);
-                Err(end)
-            }
-        },
-        Err(_) => {
+    let turn = begin(patience, tables, worker, key, 2)?;
+    match insert_request(patience, &tables.chains, &mut worker.chain, &request) {
+        Ok(came) => {
+            end_turn(&tables.buckets, &mut worker.turns, turn, came.replaced);
+            Ok(Request::at_place(request, came.place))
+        }
+        Err(end) => {
             turning::give(&tables.buckets, &mut worker.turns, turn);
-            Err(OpEnd::Memory)
+            Err(end)
         }
     }
 }
 
 /// [`syn`], among others.
-fn syn_shared<R: Wait>(
-    rt: &R,
+fn syn_shared<P: Patience>(
+    patience: &P,
     tables: &Tables,
     worker: &mut Worker,
     listener: &Sock,
@@ -99,13 +94,14 @@ fn syn_shared<R: Wait>(
     ensures stands { IfOk result (λ request.
         StandsAs tables.now request (turned worker.new) (chained tables.now worker.new)) }
     ensures listener { StandsAs tables.now listener.now (turned worker.new) (chained tables.now worker.new) }
+    ensures patient { P.endless ≡ true → IfErr result NotBusy }
 {
     let owner = *listener.owner();
     if owned::is_no_accept(&owner, from, at) {
         return Err(OpEnd::Inval);
     }
     let request = owned::request_owner(owner, name, from, at);
-    match syn_as(rt, tables, worker, request) {
+    match syn_as(patience, tables, worker, request) {
         Ok(request) => Ok(Sock::Request(request)),
         Err(end) => Err(end),
     }
@@ -122,9 +118,10 @@ fn syn_shared<R: Wait>(
 /// # Errors
 ///
 /// `Inval`: it is no listener of that end. `Taken`: a full socket or a request has the four-tuple. `Full`: no slot was
-/// free. `Memory`: memory was wanting, and nothing has changed.
-pub fn syn<R: Wait>(
-    rt: &R,
+/// free. `LeftOff`: memory was wanting, or another had a bucket or a chain for longer than the caller tries; nothing
+/// has changed.
+pub fn syn<P: Patience>(
+    patience: &P,
     tables: &Tables,
     worker: &mut Worker,
     listener: &Sock,
@@ -154,6 +151,7 @@ pub fn syn<R: Wait>(
     ensures stands { IfOk result (λ request.
         StandsAs tables.now request (turned worker.new) (chained tables.now worker.new)) }
     ensures listener { StandsAs tables.now listener.now (turned worker.new) (chained tables.now worker.new) }
+    ensures patient { P.endless ≡ true → IfErr result NotBusy }
 {
-    syn_shared(rt, tables, worker, listener, name, from, at)
+    syn_shared(patience, tables, worker, listener, name, from, at)
 }

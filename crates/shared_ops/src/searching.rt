@@ -1,6 +1,6 @@
 //! `connect` of a socket without a port, which searches for one.
 
-ghost use Rattle.std.specs.Prelude.{◌≡◌, ◌+◌, ◌%◌, ◌≤◌, ◌∷◌, [], true, length, IfOk, OnErr};
+ghost use Rattle.std.specs.Prelude.{◌≡◌, ◌+◌, ◌%◌, ◌≤◌, ◌∷◌, [], true, length, IfOk, OnErr, IfErr};
 ghost use Rattle.sock_card.specs.Conflict.{owner_key};
 ghost use Rattle.turn_table.specs.Passes as words;
 ghost use Rattle.bind_buckets.specs.Bucket.{CanConnect, entries_of};
@@ -10,7 +10,7 @@ ghost use Rattle.nulls_chain.specs.Changes.{PlacesStay};
 ghost use Rattle.table_model.specs.Operations as plans;
 ghost use Rattle.table_rule.specs.Passes as chain_words;
 ghost use Rattle.shared_ops.specs.Connecting.{StandsFull};
-ghost use Rattle.shared_ops.specs.Goes.{CarriedOut};
+ghost use Rattle.shared_ops.specs.Goes.{CarriedOut, NotBusy};
 ghost use Rattle.shared_ops.specs.Groups.{GaveSparing};
 ghost use Rattle.shared_ops.specs.Searching as spec;
 ghost use Rattle.shared_ops.specs.Searching.{KeepsDraws, PassesBy, TriesAt, TryLeaves, free_entry};
@@ -19,15 +19,15 @@ ghost use Rattle.shared_ops.specs.Stands.{HasGroups, IsAway, IsReady, MayDraw, M
 
 use crate::connecting::end_turn;
 use crate::hashing::insert;
-use crate::room::make_room;
+use crate::room::begin;
 use crate::sock::Connected;
 use crate::tables::{Tables, Worker};
 use bind_buckets::{Bucket, turning};
 use chain_book::Replace;
 use flat_list::{End, owned};
+use patience::Patience;
 use port_search::Ports;
 use sock_card::{Owner, State, bind_key};
-use std::sync::Wait;
 use table_model::OpEnd;
 use turn_table::Turn;
 
@@ -42,8 +42,8 @@ fn next_or(end: OpEnd) -> Result<Option<Connected>, OpEnd>
 }
 
 /// Hashes the owner, for which `connect` may choose its port as the bucket stands that is out, and tells the bucket.
-fn connect_in<R: Wait>(
-    rt: &R,
+fn connect_in<P: Patience>(
+    patience: &P,
     tables: &Tables,
     worker: &mut Worker,
     turn: Turn<Box<Bucket>>,
@@ -81,8 +81,16 @@ fn connect_in<R: Wait>(
     ensures leaves { (v : View) → Within v (turned worker.old)
         → entries_of (made worker.old.turns turn) ≡ free_entry full ∷ [] → IsAway full.name v
         → TryLeaves tables.now full.name (turned worker.new) (chained tables.now worker.new) result }
+    ensures patient { P.endless ≡ true → IfErr result NotBusy }
 {
-    match insert(rt, &tables.chains, &mut worker.chain, &full, moment, rule) {
+    match insert(
+        patience,
+        &tables.chains,
+        &mut worker.chain,
+        &full,
+        moment,
+        rule,
+    ) {
         Ok(came) => {
             let mut turn = turn;
             turning::connect_auto(&tables.buckets, &mut worker.turns, &mut turn, full);
@@ -98,8 +106,8 @@ fn connect_in<R: Wait>(
 
 /// Connects the owner at its port, if that is free and has the four-tuple, all in one turn; None where another port is
 /// to be tried.
-fn connect_at<R: Wait>(
-    rt: &R,
+fn connect_at<P: Patience>(
+    patience: &P,
     tables: &Tables,
     worker: &mut Worker,
     full: Owner,
@@ -125,34 +133,29 @@ fn connect_at<R: Wait>(
     ensures tries { TriesAt (buckets_of tables.now) tables.now.chains.layout full moment rule (turned worker.old)
         (turned worker.new) (chained tables.now worker.old) (chained tables.now worker.new) result }
     ensures leaves { TryLeaves tables.now full.name (turned worker.new) (chained tables.now worker.new) result }
+    ensures patient { P.endless ≡ true → IfErr result NotBusy }
 {
     let key = bind_key(full.port, full.net);
-    let mut turn = turning::take(rt, &tables.buckets, &mut worker.turns, key);
-    match make_room(tables, worker, &mut turn, 2) {
-        Ok(()) => match turning::free(
-            &tables.buckets,
-            &mut worker.turns,
-            &mut turn,
-            full.port,
-            full.net,
-        ) {
-            Ok(()) => connect_in(rt, tables, worker, turn, full, moment, rule),
-            Err(_) => {
-                turning::give(&tables.buckets, &mut worker.turns, turn);
-                Ok(None)
-            }
-        },
+    let mut turn = begin(patience, tables, worker, key, 2)?;
+    match turning::free(
+        &tables.buckets,
+        &mut worker.turns,
+        &mut turn,
+        full.port,
+        full.net,
+    ) {
+        Ok(()) => connect_in(patience, tables, worker, turn, full, moment, rule),
         Err(_) => {
             turning::give(&tables.buckets, &mut worker.turns, turn);
-            Err(OpEnd::Memory)
+            Ok(None)
         }
     }
 }
 
 /// Connects the owner from the first of the ports that is free as its turn comes and has the four-tuple
 /// (`__inet_hash_connect`).
-pub(crate) fn search_connect<R: Wait>(
-    rt: &R,
+pub(crate) fn search_connect<P: Patience>(
+    patience: &P,
     tables: &Tables,
     worker: &mut Worker,
     owner: Owner,
@@ -180,10 +183,11 @@ pub(crate) fn search_connect<R: Wait>(
         (turned worker.old) (turned worker.new) (chained tables.now worker.old) (chained tables.now worker.new) result }
     ensures stands { IfOk result (StandsFull tables.now (turned worker.new) (chained tables.now worker.new)) }
     ensures kept { OnErr result (IsAway owner.name (turned worker.new)) }
+    ensures patient { P.endless ≡ true → IfErr result NotBusy }
 {
     for port in ports {
         let full = owned::connected_at(owner, source, port, to);
-        match connect_at(rt, tables, worker, full, moment, rule) {
+        match connect_at(patience, tables, worker, full, moment, rule) {
             Ok(Some(connected)) => return Ok(connected),
             Ok(None) => {}
             Err(end) => return Err(end),

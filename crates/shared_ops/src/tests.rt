@@ -18,6 +18,7 @@ use bind_buckets::{Sharing, turning};
 use chain_book::{Replace, Shape};
 use chain_deeds::ChainTable;
 use flat_list::{End, First, NONE_RESERVED, Options, Range};
+use patience::Waits;
 use port_search::Ports;
 use reuseport_group::{GroupPasses, Groups, name_of};
 use std::alloc::{AllocError, Global};
@@ -119,8 +120,9 @@ fn listen_and_close<R: Wait>(rt: &R, tables: &Tables, worker: &mut Worker, socke
     requires draws { MayDraw 100 worker.old }
     requires stands { StandsAs tables.now socket (turned worker.old) (chained tables.now worker.old) }
 {
-    match listen(rt, tables, worker, socket, ports()) {
-        Ok((listener, port)) => match close(rt, tables, worker, listener, 5) {
+    let waits = Waits::by(rt);
+    match listen(&waits, tables, worker, socket, ports()) {
+        Ok((listener, port)) => match close(&waits, tables, worker, listener, 5) {
             Ok(Closed::Plain) => Went::From(port),
             _ => Went::Never,
         },
@@ -135,8 +137,9 @@ fn listen_and_drop<R: Wait>(rt: &R, tables: &Tables, worker: &mut Worker, socket
     requires draws { MayDraw 100 worker.old }
     requires stands { StandsAs tables.now socket (turned worker.old) (chained tables.now worker.old) }
 {
-    match listen(rt, tables, worker, socket, ports()) {
-        Ok((listener, port)) => match drop_sock(rt, tables, worker, listener) {
+    let waits = Waits::by(rt);
+    match listen(&waits, tables, worker, socket, ports()) {
+        Ok((listener, port)) => match drop_sock(&waits, tables, worker, listener) {
             Ok(()) => Went::From(port),
             Err(_) => Went::Never,
         },
@@ -167,10 +170,11 @@ fn choose_around<R: Wait>(
     requires draws { MayDraw 100 worker.old }
     requires stands { StandsAs tables.now socket (turned worker.old) (chained tables.now worker.old) }
 {
-    match listen(rt, tables, worker, socket, ports()) {
+    let waits = Waits::by(rt);
+    match listen(&waits, tables, worker, socket, ports()) {
         Ok((listener, _)) => {
             let before = chosen(tables, &mut worker.groups);
-            match drop_sock(rt, tables, worker, listener) {
+            match drop_sock(&waits, tables, worker, listener) {
                 Ok(()) => (before, chosen(tables, &mut worker.groups)),
                 Err(_) => (None, None),
             }
@@ -186,8 +190,9 @@ fn connect_and_close<R: Wait>(rt: &R, tables: &Tables, worker: &mut Worker, sock
     requires draws { MayDraw 100 worker.old }
     requires stands { StandsAs tables.now socket (turned worker.old) (chained tables.now worker.old) }
 {
+    let waits = Waits::by(rt);
     match connect(
-        rt,
+        &waits,
         tables,
         worker,
         socket,
@@ -197,7 +202,7 @@ fn connect_and_close<R: Wait>(rt: &R, tables: &Tables, worker: &mut Worker, sock
         Replace::Never,
         ports(),
     ) {
-        Ok((full, _)) => match close(rt, tables, worker, full, 5) {
+        Ok((full, _)) => match close(&waits, tables, worker, full, 5) {
             Ok(Closed::TimeWait(_)) => Went::Waits,
             Ok(Closed::NoSlot { owned, held }) => Went::NoSlot(owned, held),
             _ => Went::Never,
@@ -211,9 +216,10 @@ fn reap_twice<R: Wait>(rt: &R, tables: &Tables, worker: &mut Worker, waiting: &W
     requires enters { MayEnter 2 worker.old }
     requires draws { MayDraw 4 worker.old }
 {
+    let waits = Waits::by(rt);
     let was_over = waiting.is_over(64);
-    let first = reap_one(rt, tables, worker, waiting);
-    let second = reap_one(rt, tables, worker, waiting);
+    let first = reap_one(&waits, tables, worker, waiting);
+    let second = reap_one(&waits, tables, worker, waiting);
     match (was_over, waiting.is_over(65), first, second) {
         (false, true, Ok(true), Ok(false)) => Went::Reaped,
         _ => Went::Never,
@@ -227,8 +233,9 @@ fn connect_and_reap<R: Wait>(rt: &R, tables: &Tables, worker: &mut Worker, socke
     requires draws { MayDraw 100 worker.old }
     requires stands { StandsAs tables.now socket (turned worker.old) (chained tables.now worker.old) }
 {
+    let waits = Waits::by(rt);
     match connect(
-        rt,
+        &waits,
         tables,
         worker,
         socket,
@@ -238,7 +245,7 @@ fn connect_and_reap<R: Wait>(rt: &R, tables: &Tables, worker: &mut Worker, socke
         Replace::Never,
         ports(),
     ) {
-        Ok((full, _)) => match close(rt, tables, worker, full, 5) {
+        Ok((full, _)) => match close(&waits, tables, worker, full, 5) {
             Ok(Closed::TimeWait(waiting)) => reap_twice(rt, tables, worker, &waiting),
             _ => Went::Never,
         },
@@ -256,22 +263,23 @@ fn shake_hands<R: Wait>(rt: &R, tables: &Tables, worker: &mut Worker, socket: So
     requires name { (mine_of socket).owner.name ≡ 1 }
     requires stands { StandsAs tables.now socket (turned worker.old) (chained tables.now worker.old) }
 {
-    let Ok((listener, port)) = listen(rt, tables, worker, socket, ports()) else {
+    let waits = Waits::by(rt);
+    let Ok((listener, port)) = listen(&waits, tables, worker, socket, ports()) else {
         return Went::Never;
     };
     let at = End {
         addr: WEB.addr,
         port,
     };
-    let Ok(request) = syn(rt, tables, worker, &listener, 2, CLIENT, at) else {
+    let Ok(request) = syn(&waits, tables, worker, &listener, 2, CLIENT, at) else {
         return Went::Never;
     };
-    match ack(rt, tables, worker, request, Some(&listener), 3) {
-        Ok(child) => match close(rt, tables, worker, child, 5) {
+    match ack(&waits, tables, worker, request, Some(&listener), 3) {
+        Ok(child) => match close(&waits, tables, worker, child, 5) {
             Ok(Closed::TimeWait(_)) => Went::Waits,
             _ => Went::Never,
         },
-        Err((request, end)) => match (drop_sock(rt, tables, worker, request), end) {
+        Err((request, end)) => match (drop_sock(&waits, tables, worker, request), end) {
             (Ok(()), OpEnd::Full { owned, held }) => Went::NoSlot(owned, held),
             _ => Went::Never,
         },
@@ -288,28 +296,29 @@ fn outlive_listener<R: Wait>(rt: &R, tables: &Tables, worker: &mut Worker, socke
     requires name { (mine_of socket).owner.name ≡ 1 }
     requires stands { StandsAs tables.now socket (turned worker.old) (chained tables.now worker.old) }
 {
-    let Ok((listener, port)) = listen(rt, tables, worker, socket, ports()) else {
+    let waits = Waits::by(rt);
+    let Ok((listener, port)) = listen(&waits, tables, worker, socket, ports()) else {
         return Went::Never;
     };
     let at = End {
         addr: WEB.addr,
         port,
     };
-    let Ok(_request) = syn(rt, tables, worker, &listener, 2, CLIENT, at) else {
+    let Ok(_request) = syn(&waits, tables, worker, &listener, 2, CLIENT, at) else {
         return Went::Never;
     };
     if listener.owner().name != 1 {
         return Went::Never;
     }
-    let Ok(()) = drop_sock(rt, tables, worker, listener) else {
+    let Ok(()) = drop_sock(&waits, tables, worker, listener) else {
         return Went::Never;
     };
     let other = Sock::Unbound(Unbound::new(3, PLAIN));
-    let Ok((bound, _)) = bind(rt, tables, worker, other, at, ports()) else {
+    let Ok((bound, _)) = bind(&waits, tables, worker, other, at, ports()) else {
         return Went::Never;
     };
     match connect(
-        rt,
+        &waits,
         tables,
         worker,
         bound,
@@ -334,8 +343,9 @@ fn call_again<R: Wait>(rt: &R, tables: &Tables, worker: &mut Worker, socket: Soc
     requires name { (mine_of socket).owner.name ≡ 1 }
     requires stands { StandsAs tables.now socket (turned worker.old) (chained tables.now worker.old) }
 {
+    let waits = Waits::by(rt);
     let connected = connect(
-        rt,
+        &waits,
         tables,
         worker,
         socket,
@@ -351,18 +361,18 @@ fn call_again<R: Wait>(rt: &R, tables: &Tables, worker: &mut Worker, socket: Soc
     if full.owner().name != 1 {
         return Went::Never;
     }
-    let Ok(Closed::TimeWait(waiting)) = close(rt, tables, worker, full, 5) else {
+    let Ok(Closed::TimeWait(waiting)) = close(&waits, tables, worker, full, 5) else {
         return Went::Never;
     };
     let other = Sock::Unbound(Unbound::new(2, REUSING));
-    let Ok((bound, _)) = bind(rt, tables, worker, other, at, ports()) else {
+    let Ok((bound, _)) = bind(&waits, tables, worker, other, at, ports()) else {
         return Went::Never;
     };
-    let Ok((listener, _)) = listen(rt, tables, worker, bound, ports()) else {
+    let Ok((listener, _)) = listen(&waits, tables, worker, bound, ports()) else {
         return Went::Never;
     };
-    let request = syn(rt, tables, worker, &listener, 3, CLIENT, at);
-    match (request, reap_one(rt, tables, worker, &waiting)) {
+    let request = syn(&waits, tables, worker, &listener, 3, CLIENT, at);
+    match (request, reap_one(&waits, tables, worker, &waiting)) {
         (Ok(_), Ok(false)) => Went::Replaced,
         _ => Went::Never,
     }

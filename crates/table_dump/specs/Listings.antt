@@ -26,8 +26,8 @@ pub record KeepsAll (t : Tables) (w u : Worker) : Type 0 where
   pub view : Keeps (chained t w).view (chained t u).view
 
 -- The listing tells sockets in their order, and two loads of the clock: the first is no less than what the worker had
--- seen, and the second is what it has seen now. Between them it saw these chains whole, one of each bucket; and in each
--- book of changes in which that is true, so is what is listed.
+-- seen, and the second is what it has seen now. Between them it saw these chains whole, one of each bucket; and in
+-- each book of changes in which that is true, so is what is listed.
 pub record IsListing (t : Tables) (listing : Listing) (w u : Worker) : Type 0 where
   pub span : Span
   pub span-is : listing.span ≡ Some span

@@ -16,9 +16,9 @@ use std::sync::Wait;
 
 /// Lists all hashed sockets of the tables, ascending by name and then by kind, between two loads of the clock.
 ///
-/// Each is told once. A socket that was there throughout is told, and none that wasn't there at some time of the call.
-/// It takes memory for the cards, and for as many more as there are slots, but none under a lock, of which it holds one
-/// at a time.
+/// Each is told once. A socket that was there throughout is told, and none that wasn't there at some time of the
+/// call. It takes memory for the cards, and for as many more as there are slots, but none under a lock,
+/// of which it holds one at a time.
 ///
 /// As `inet_diag_dump_icsk` of net/ipv4/inet_diag.c, which makes no promise of this kind and has no order.
 ///

@@ -9,6 +9,7 @@ use bind_buckets::{Sharing, turning};
 use chain_book::Shape;
 use chain_deeds::ChainTable;
 use flat_list::{First, NONE_RESERVED, Options, Range};
+use patience::Waits;
 use port_search::Ports;
 use reuseport_group::Groups;
 use shared_ops::{Sock, Tables, Unbound, Worker, listen};
@@ -83,7 +84,7 @@ fn listen_and_dump<R: Wait>(
     requires draws { MayDraw 100 worker.old }
     requires stands { StandsAs tables.now socket (turned worker.old) (chained tables.now worker.old) }
 {
-    match listen(rt, tables, worker, socket, ports()) {
+    match listen(&Waits::by(rt), tables, worker, socket, ports()) {
         Ok(_) => Ok(Some(dump(rt, alloc, tables, worker)?)),
         Err(_) => Ok(None),
     }

@@ -1,5 +1,5 @@
--- What each operation on a socket asks of the tables. Sources: inet_bind, inet_listen, inet_stream_connect, inet_accept
--- and inet_release of net/ipv4/af_inet.c; inet_csk_get_port and inet_csk_listen_start of
+-- What each operation on a socket asks of the tables. Sources: inet_bind, inet_listen, inet_stream_connect,
+-- inet_accept and inet_release of net/ipv4/af_inet.c; inet_csk_get_port and inet_csk_listen_start of
 -- net/ipv4/inet_connection_sock.c; __inet_hash_connect, __inet_inherit_port, inet_put_port and inet_unhash of
 -- net/ipv4/inet_hashtables.c; inet_twsk_hashdance_schedule of net/ipv4/inet_timewait_sock.c; tcp_conn_request of
 -- net/ipv4/tcp_input.c and inet_csk_complete_hashdance of net/ipv4/inet_connection_sock.c. Our own: the order of the

@@ -12,4 +12,4 @@ pub mod laws;
 pub mod operation;
 pub mod rows;
 
-pub use operation::OpEnd;
+pub use operation::{Cause, OpEnd};

@@ -1,4 +1,5 @@
--- A full socket or a request comes into a chain, and to its port if it has one, and what it replaces is gone from both.
+-- A full socket or a request comes into a chain, and to its port if it has one,
+-- and what it replaces is gone from both.
 use Rattle.std.proofs.Common.{◌≡◌, ℕ, ◌+◌, ◌≤◌, true, List, find, Option, Some, None, refl, sym, ◌∙◌, subst}
 use Rattle.list_words.specs.Lists.{Each, Pairs, total}
 use Rattle.list_words.proofs.EachLemmas.{each_both, each_weaken}

@@ -8,7 +8,7 @@ use Rattle.flat_list.specs.declared.header.First.TheVariants as firsts
 use Rattle.flat_list.specs.declared.socket.Socket.{Socket}
 use Rattle.flat_list.specs.Connect as flat_connect
 use Rattle.flat_list.specs.Flat.{Flat}
-use Rattle.flat_list.specs.Outcome.{Outcome, unchanged}
+use Rattle.flat_list.specs.Outcome.{unchanged}
 use Rattle.flat_list.specs.Outcome as outcome
 use Rattle.flat_list.specs.Step.{step}
 use Rattle.table_model.specs.Asking.{Asking, ends, and_then}

@@ -1,4 +1,5 @@
--- The plans of `socket`, `bind`, `at` and `dump` beside the list's step, and the laws of plans from what each comes to.
+-- The plans of `socket`, `bind`, `at` and `dump` beside the list's step,
+-- and the laws of plans from what each comes to.
 use Rattle.std.proofs.Common.{◌≡◌, ℕ, ◌+◌, ◌^◌, ◌<◌, ◌≤◌, false, List, length, Option, None, Some, refl, sym, subst}
 use Rattle.flat_list.specs.declared.owned.Options.{Options}
 use Rattle.flat_list.specs.declared.command.Command.{Command}

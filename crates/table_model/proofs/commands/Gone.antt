@@ -24,7 +24,7 @@ use Rattle.flat_list.specs.Sound.{is_sharing, IsSound, IsGroupOf}
 use Rattle.table_model.specs.Tables.{Tables, with_chains}
 use Rattle.bind_buckets.specs.BindHash.{asked_at}
 use Rattle.table_model.specs.Own as own_words
-use Rattle.table_model.specs.Own.{Own, Mine, card_of}
+use Rattle.table_model.specs.Own.{Own, Mine}
 use Rattle.table_model.specs.Means.{ChainsMean, OwnMeans, Means, StandsAs, owns, stands_in_some}
 use Rattle.table_model.proofs.lists.Passing.{Only}
 use Rattle.table_model.proofs.parts.Buckets.{owners_kept}

@@ -26,13 +26,13 @@ use Rattle.flat_list.specs.Outcome.{Outcome, unchanged, draw}
 use Rattle.flat_list.specs.Sockets.{has_name, is_owner, is_other_owner, is_refused, is_mate, is_hashed, kind_of, put, replaced, without, slots_used, mate_of, is_open_in}
 use Rattle.flat_list.specs.Sound.{IsSound}
 use Rattle.flat_list.specs.Step as flat_step
-use Rattle.flat_list.specs.Step.{at_port, listening, groups_with, listen_bound, listen_found, listen_unbound, listen_socket, bind_found, suits_bind}
+use Rattle.flat_list.specs.Step.{at_port, listening, listen_bound, listen_found, listen_unbound, listen_socket, bind_found, suits_bind}
 use Rattle.table_model.specs.declared.operation.OpEnd.TheVariants as errors
 use Rattle.table_model.specs.Asking.{Asking, ends, and_then}
 use Rattle.table_model.specs.Tables.{Tables, with_buckets, run}
 use Rattle.bind_buckets.specs.BindHash.{asked_at, answer_at, standing_at, untouched}
 use Rattle.table_model.specs.Own.{Own, Mine, is_named, with_socket, ports_of, replaced as replaced_mine}
-use Rattle.table_model.specs.Operations.{Did, done, refused, plain, search_bind, give_up, listen_at, listen_as, when_done}
+use Rattle.table_model.specs.Operations.{Did, done, refused, plain, search_bind, listen_at, listen_as, when_done}
 use Rattle.table_model.specs.Operations as operations
 use Rattle.table_model.specs.Commands.{Replied, bind_reply, after_search, is_unbound, listen_command}
 use Rattle.table_model.specs.Means.{OwnersMean, GroupsMean, TablesMean, OwnMeans, Means, StandsAs, owns}

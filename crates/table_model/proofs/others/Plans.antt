@@ -27,7 +27,7 @@ use Rattle.table_model.specs.declared.operation.OpEnd.{OpEnd}
 use Rattle.table_model.specs.declared.operation.OpEnd.TheVariants as errors
 use Rattle.table_model.specs.Asking.{Asking, ends, asks, inserts, adds, unhashes, reaps, impossible, and_then}
 use Rattle.table_model.specs.Own.{Own, Mine, open_socket, open_named, next_name, with_label, without, ports_of}
-use Rattle.table_model.specs.Operations.{Did, done, refused, Closed, gone, waiting, no_slot, when_done, found_next, search_bind, plain, bound, bind_any, bind_answered, bind_unbound, bind_as, bind, give_up, listener, then_replaced, full_card, source_to, leave, drop_as, drop, wait_of, reaped_next, reap_each, reap, listens_in, listen_hashed, listen_in, listen_answered, listen_at, listen_found, listen_as, listen, full_done, connect_hashed, connect_bound, connect_tried, connect_free, search_connect, connect_from, connect, accept_hashed, accept_as, accept, request_in, syn_hashed, syn_as, syn, ack_hashed, ack_as, ack_by, ack_from, ack, waits_in, close_hashed, close_full, close_as, close}
+use Rattle.table_model.specs.Operations.{Did, done, refused, gone, waiting, no_slot, when_done, found_next, search_bind, plain, bound, bind_any, bind_answered, bind_unbound, bind_as, bind, give_up, listener, then_replaced, source_to, leave, drop_as, wait_of, reaped_next, reap_each, reap, listens_in, listen_hashed, listen_answered, listen_found, listen_as, listen, full_done, connect_hashed, connect_tried, connect_free, search_connect, connect_from, connect, accept_hashed, accept_as, accept, request_in, syn_hashed, syn_as, syn, ack_hashed, ack_as, ack_by, ack_from, ack, waits_in, close_hashed, close_as, close}
 use Rattle.table_model.specs.Operations as operations
 use Rattle.table_model.specs.Commands.{answers as replied, connect_rule, bind_command, drop_command, at_command, replies_at_once, listen_command, connect_command, accept_command, syn_command, ack_command, close_command, plan}
 use Rattle.table_model.proofs.others.Slots.{Spares}

@@ -12,7 +12,7 @@ use Rattle.flat_list.specs.Ports.{size, port_order}
 use Rattle.flat_list.specs.Outcome.{draw}
 use Rattle.flat_list.specs.Sections.{Section, section_of, labels_of, put_section, has_number, new_section, with_label, past_word, at_moment, with_given, with_moment}
 use Rattle.table_model.specs.Tables.{Tables}
-use Rattle.table_model.specs.Own.{Own, Mine, Offsets, ports_of, offset_of, past_offset, with_offsets}
+use Rattle.table_model.specs.Own.{Own, Mine, Offsets, ports_of, past_offset, with_offsets}
 use Rattle.table_model.specs.Own as own_words
 use Rattle.table_model.specs.Commands.{after_search}
 use Rattle.table_model.specs.Means.{OwnMeans, section_as, IsNameOf}

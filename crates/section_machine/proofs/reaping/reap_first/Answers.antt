@@ -1,16 +1,15 @@
 use Rattle.std.proofs.Common.{ℕ, sym, subst}
 use Rattle.section_machine.proofs.Published.{goes_listed}
 use Rattle.section_machine.proofs.Reaps.{Reaping, begins, enters_one, draws_one, goes_on, stops, stopped, reaps_all, keeps_rest}
-use Rattle.section_machine.proofs.Settled.{on_err}
 use Rattle.section_machine.proofs.reaping.reap_first.Goals as goal
 
-pub returns-in_err-found-clause-drawn : goal.returns-in_err-found-clause-drawn
-returns-in_err-found-clause-drawn g c =
+pub returns-in-Err-clause-drawn : goal.returns-in-Err-clause-drawn
+returns-in-Err-clause-drawn g c =
     (stops c.args.tables.now c.args.worker.now c.loop-waiting.worker c.reap_one.new.worker c.args.items.now.items c.loop-waiting.items.items c.args.moment c.loop-waiting.count
-    c.loop-waiting.invariant c.reap_one.ensures.ready c.reap_one.ensures.caller c.in_err-found.ensures.none c.in_err-found.ensures.side c.reap_one.ensures.listed).drawn
+    c.loop-waiting.invariant c.reap_one.ensures.ready c.reap_one.ensures.caller c.in-Err.ensures.none c.in-Err.ensures.side c.reap_one.ensures.listed).drawn
 
-pub returns-in_err-found-clause-listed : goal.returns-in_err-found-clause-listed
-returns-in_err-found-clause-listed g c =
+pub returns-in-Err-clause-listed : goal.returns-in-Err-clause-listed
+returns-in-Err-clause-listed g c =
     goes_listed c.args.tables.now c.args.worker.now c.loop-waiting.worker c.reap_one.new.worker c.loop-waiting.invariant.listed c.reap_one.ensures.listed
 
 pub loop-waiting-init : goal.loop-waiting-init
@@ -30,8 +29,8 @@ reap_one-requires-clause-draws g c =
 pub loop-waiting-preserved : goal.loop-waiting-preserved
 loop-waiting-preserved g c =
     subst (λ (n : ℕ). Reaping c.args.tables.now c.args.worker.now c.reap_one.new.worker c.args.items.now.items c.pop_front-reaped.new.self.items c.args.moment n) (sym c.counted-count.ensures)
-    (goes_on c.args.tables.now c.args.worker.now c.loop-waiting.worker c.reap_one.new.worker c.args.items.now.items c.loop-waiting.items.items c.pop_front-reaped.new.self.items c.args.moment c.loop-waiting.count c.in-Some.waiting.now c.in_ok-found.found
-    c.loop-waiting.invariant (sym c.in-Some.ensures) c.pop_front-reaped.ensures.rest c.reap_one.ensures.ready c.reap_one.ensures.caller c.reap_one.ensures.entered c.reap_one.ensures.drawn c.in_ok-found.ensures.reaps c.reap_one.ensures.listed)
+    (goes_on c.args.tables.now c.args.worker.now c.loop-waiting.worker c.reap_one.new.worker c.args.items.now.items c.loop-waiting.items.items c.pop_front-reaped.new.self.items c.args.moment c.loop-waiting.count c.in-Some.waiting.now c.in-Ok.found
+    c.loop-waiting.invariant (sym c.in-Some.ensures) c.pop_front-reaped.ensures.rest c.reap_one.ensures.ready c.reap_one.ensures.caller c.reap_one.ensures.entered c.reap_one.ensures.drawn c.in-Ok.ensures.reaps c.reap_one.ensures.listed)
 
 pub returns-clause-reaps : goal.returns-clause-reaps
 returns-clause-reaps g c =
@@ -41,9 +40,8 @@ pub returns-clause-kept : goal.returns-clause-kept
 returns-clause-kept g c =
     keeps_rest c.args.tables.now c.args.worker.now c.loop-waiting.worker c.args.items.now.items c.loop-waiting.items.items c.args.moment c.loop-waiting.count c.loop-waiting.invariant (sym c.in_default.ensures)
 
-pub returns-in_err-found-clause-stops : goal.returns-in_err-found-clause-stops
-returns-in_err-found-clause-stops g c =
-    on_err c.from_residual.result
-    (stopped c.args.tables.now c.args.worker.now c.reap_one.new.worker c.args.items.now.items c.loop-waiting.items.items c.args.moment c.loop-waiting.count c.in-Some.waiting.now
+pub returns-in-Err-clause-stops : goal.returns-in-Err-clause-stops
+returns-in-Err-clause-stops g c =
+    stopped c.args.tables.now c.args.worker.now c.reap_one.new.worker c.args.items.now.items c.loop-waiting.items.items c.args.moment c.loop-waiting.count c.in-Some.waiting.now
     (stops c.args.tables.now c.args.worker.now c.loop-waiting.worker c.reap_one.new.worker c.args.items.now.items c.loop-waiting.items.items c.args.moment c.loop-waiting.count
-    c.loop-waiting.invariant c.reap_one.ensures.ready c.reap_one.ensures.caller c.in_err-found.ensures.none c.in_err-found.ensures.side c.reap_one.ensures.listed) (sym c.in-Some.ensures))
+    c.loop-waiting.invariant c.reap_one.ensures.ready c.reap_one.ensures.caller c.in-Err.ensures.none c.in-Err.ensures.side c.reap_one.ensures.listed) (sym c.in-Some.ensures)

@@ -9,5 +9,5 @@ use Rattle.shared_ops.proofs.asking.take.Goals as goal
 pub returns-clause-there : goal.returns-clause-there
 returns-clause-there g c =
     let a = c.args.owner.now in
-    there_now c.args.buckets.now c.take-turn.new.pass c.take-turn.result a (owner_key a % words.places c.args.buckets.now) (known c.args.pass.now) c.take-turn.ensures.out
-    (subst IsSound c.deref.ensures c.recall.ensures) c.take-turn.ensures.none (c.take-turn.ensures.place ∙ ap (λ k. k % words.places c.args.buckets.now) c.bind_key.ensures) c.take-turn.ensures.within c.requires.stands
+    there_now c.args.buckets.now c.take.new.pass c.in_ok-turn.turn a (owner_key a % words.places c.args.buckets.now) (known c.args.pass.now) c.in_ok-turn.ensures.out
+    (subst IsSound c.deref.ensures c.recall.ensures) c.in_ok-turn.ensures.none (c.in_ok-turn.ensures.place ∙ ap (λ k. k % words.places c.args.buckets.now) c.bind_key.ensures) c.in_ok-turn.ensures.within c.requires.stands

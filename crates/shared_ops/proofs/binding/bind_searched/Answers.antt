@@ -1,4 +1,4 @@
-use Rattle.std.proofs.Common.{◌≡◌, ◌%◌, Err, IfOk, OnErr, sym, subst}
+use Rattle.std.proofs.Common.{◌≡◌, ◌%◌, Err, IfOk, IfErr, OnErr, sym, subst}
 use Rattle.sock_card.specs.Conflict.{bind_key}
 use Rattle.turn_table.specs.Passes as words
 use Rattle.turn_table.specs.Passes.{known}
@@ -11,9 +11,9 @@ use Rattle.table_model.specs.declared.operation.OpEnd.TheVariants as errors
 use Rattle.table_model.specs.Asking.{ends}
 use Rattle.table_model.specs.Operations.{bound, refused, search_bind}
 use Rattle.shared_ops.specs.Binding.{bound_to}
-use Rattle.shared_ops.specs.Goes.{CarriedOut}
+use Rattle.shared_ops.specs.Goes.{CarriedOut, NotBusy}
 use Rattle.shared_ops.specs.Stands.{IsAway}
-use Rattle.shared_ops.proofs.BindGoes.{searched_goes, searched_stands, searched_kept}
+use Rattle.shared_ops.proofs.BindGoes.{searched_goes, searched_stands, searched_kept, search_patient}
 use Rattle.shared_ops.proofs.Lists.{search_spares}
 use Rattle.shared_ops.proofs.binding.bind_searched.Goals as goal
 
@@ -32,7 +32,8 @@ returns-clause-carried g c = λ s.
     (searched_goes n a v w addr ports r s
     (subst (λ (b : Owner). IfOk r (BindsAt n b ports v w)) is e.bound)
     (subst (λ (b : Owner). r ≡ Err searches.NoPort → BindsNowhere n b ports v w) is e.no_port)
-    (subst (λ (b : Owner). r ≡ Err searches.Memory → BindsNotYet n b ports v w) is e.memory) e.end)
+    (subst (λ (b : Owner). r ≡ Err searches.Memory → BindsNotYet n b ports v w) is e.memory)
+    (subst (λ (b : Owner). r ≡ Err searches.Busy → BindsNotYet n b ports v w) is e.busy) e.end)
 
 pub returns-clause-stands : goal.returns-clause-stands
 returns-clause-stands g c = λ away.
@@ -60,9 +61,14 @@ returns-clause-kept g c = λ away.
     subst (λ q. OnErr q (IsAway a.name w)) (sym c.end_of_search.ensures)
     (searched_kept n a v w addr ports r
     (subst (λ (b : Owner). r ≡ Err searches.NoPort → BindsNowhere n b ports v w) is e.no_port)
-    (subst (λ (b : Owner). r ≡ Err searches.Memory → BindsNotYet n b ports v w) is e.memory) e.end away)
+    (subst (λ (b : Owner). r ≡ Err searches.Memory → BindsNotYet n b ports v w) is e.memory)
+    (subst (λ (b : Owner). r ≡ Err searches.Busy → BindsNotYet n b ports v w) is e.busy) e.end away)
 
 pub returns-clause-spares : goal.returns-clause-spares
 returns-clause-spares g c =
     let e = c.find_bind-found.ensures in
-    search_spares (words.places c.args.buckets.now) c.bound_at-bound.result c.args.ports (known c.args.pass.now) (known c.find_bind-found.new.pass) c.find_bind-found.result e.bound e.no_port e.memory e.end
+    search_spares (words.places c.args.buckets.now) c.bound_at-bound.result c.args.ports (known c.args.pass.now) (known c.find_bind-found.new.pass) c.find_bind-found.result e.bound e.no_port e.memory e.busy e.end
+
+pub returns-clause-patient : goal.returns-clause-patient
+returns-clause-patient g c = λ endless.
+    subst (λ q. IfErr q NotBusy) (sym c.end_of_search.ensures) (search_patient c.find_bind-found.result (c.find_bind-found.ensures.patient endless))

@@ -12,21 +12,23 @@ use Rattle.bind_buckets.specs.Turned.{made}
 use Rattle.table_rule.specs.Calls.{HasShares}
 use Rattle.table_rule.specs.Passes as chain_words
 use Rattle.table_model.specs.Own.{Mine}
+use Rattle.table_model.specs.Operations as plans
+use Rattle.table_model.specs.Operations.{done, refused}
 use Rattle.chain_deeds.specs.Sides.{Side, side_of}
 use Rattle.shared_ops.specs.Goes.{AskedAll, gone_of}
 use Rattle.shared_ops.specs.Hashing.{InsertsAs, PutsIn, wish_for}
 use Rattle.shared_ops.specs.Stands.{buckets_of, turned}
-use Rattle.shared_ops.proofs.Goes.{asked_all}
+use Rattle.shared_ops.proofs.Goes.{asked_all, begun_not}
 use Rattle.shared_ops.proofs.Inserted.{drawn_four}
-use Rattle.shared_ops.proofs.ConnectGoes.{bound_entry, all_none, connect_done, connect_refused, connect_left, connect_stands, hashed_at, stands_still}
+use Rattle.shared_ops.proofs.ConnectGoes.{bound_entry, all_none, connect_done, connect_refused, connect_stands, hashed_at, stands_still}
 use Rattle.shared_ops.proofs.Lists.{made_none, made_more, given_spares, ended_spares}
 use Rattle.shared_ops.proofs.connecting.connect_bound.Goals as goal
 
 abbrev entry : ℕ → Owner → Entry
 entry name a = record { request = requests.ConnectBound name a.addr a.remote a.rport; answer = answers.Done }
 
-pub returns-in-Ok-insert-clause-carried : goal.returns-in-Ok-insert-clause-carried
-returns-in-Ok-insert-clause-carried g c =
+pub returns-in-Ok-clause-carried : goal.returns-in-Ok-clause-carried
+returns-in-Ok-clause-carried g c =
     let a : Owner = c.args.full in
     let b : Owner = c.args.bound.now in
     let t = c.args.tables.now in
@@ -34,18 +36,18 @@ returns-in-Ok-insert-clause-carried g c =
     let v = turned c.args.worker.now in
     let w = known c.end_turn.new.pass in
     let d = side_of t.chains c.insert.new.pass in
-    let came = c.in-Ok-insert.came in
+    let came = c.in-Ok.came in
     let asks = c.connect_bound.ensures.asks in
-    let once = asks.made_is ∙ ap (λ (ms : List Note). entries_of ms ++ entry b.name a ∷ []) (c.make_room.ensures.made ∙ c.take-turn.ensures.none) ∙ ap (λ name. entry name a ∷ []) (sym (ap (λ (o : Owner). o.name) c.requires.full)) in
-    let place = asks.place ∙ (c.make_room.ensures.place ∙ c.take-turn.ensures.place) ∙ ap (λ p. p % n) (sym (ap (λ (o : Owner). owner_key o) c.requires.full)) in
-    let end = c.end_turn.ensures.gave v (asks.within v (c.make_room.ensures.within v c.take-turn.ensures.within)) in
+    let once = asks.made_is ∙ ap (λ (ms : List Note). entries_of ms ++ entry b.name a ∷ []) c.in_ok-turn.ensures.none ∙ ap (λ name. entry name a ∷ []) (sym (ap (λ (o : Owner). o.name) c.requires.full)) in
+    let place = asks.place ∙ c.in_ok-turn.ensures.place ∙ ap (λ p. p % n) (sym (ap (λ (o : Owner). owner_key o) c.requires.full)) in
+    let end = c.end_turn.ensures.gave v (asks.within v c.in_ok-turn.ensures.within) in
     let all = subst (λ at. AskedAll at (bound_entry a ∷ gone_of came.replaced end.0) v w) place
     (subst (λ es. AskedAll c.connect_bound.new.turn.place (es ++ gone_of came.replaced end.0) v w) once end.1) in
-    let puts = subst (λ (k : Side). PutsIn (wish_for a c.args.moment c.args.rule) came.place came.replaced k d) c.make_room.ensures.side c.in-Ok-insert.ensures.inserts in
+    let puts = subst (λ (k : Side). PutsIn (wish_for a c.args.moment c.args.rule) came.place came.replaced k d) c.begin_with.ensures.side c.in-Ok.ensures.inserts in
     connect_done n a c.args.moment c.args.rule v w (side_of t.chains c.args.worker.now.chain) d came.place came.replaced c.at_place.result end.0 puts c.at_place.ensures all
 
-pub returns-in-Ok-insert-clause-stands : goal.returns-in-Ok-insert-clause-stands
-returns-in-Ok-insert-clause-stands g c =
+pub returns-in-Ok-clause-stands : goal.returns-in-Ok-clause-stands
+returns-in-Ok-clause-stands g c =
     let a : Owner = c.args.full in
     let b : Owner = c.args.bound.now in
     let t = c.args.tables.now in
@@ -53,93 +55,75 @@ returns-in-Ok-insert-clause-stands g c =
     let v = turned c.args.worker.now in
     let w = known c.end_turn.new.pass in
     let d = side_of t.chains c.insert.new.pass in
-    let came = c.in-Ok-insert.came in
+    let came = c.in-Ok.came in
     let asks = c.connect_bound.ensures.asks in
-    let once = asks.made_is ∙ ap (λ (ms : List Note). entries_of ms ++ entry b.name a ∷ []) (c.make_room.ensures.made ∙ c.take-turn.ensures.none) ∙ ap (λ name. entry name a ∷ []) (sym (ap (λ (o : Owner). o.name) c.requires.full)) in
-    let place = asks.place ∙ (c.make_room.ensures.place ∙ c.take-turn.ensures.place) ∙ ap (λ p. p % n) (sym (ap (λ (o : Owner). owner_key o) c.requires.full)) in
-    let end = c.end_turn.ensures.gave v (asks.within v (c.make_room.ensures.within v c.take-turn.ensures.within)) in
+    let once = asks.made_is ∙ ap (λ (ms : List Note). entries_of ms ++ entry b.name a ∷ []) c.in_ok-turn.ensures.none ∙ ap (λ name. entry name a ∷ []) (sym (ap (λ (o : Owner). o.name) c.requires.full)) in
+    let place = asks.place ∙ c.in_ok-turn.ensures.place ∙ ap (λ p. p % n) (sym (ap (λ (o : Owner). owner_key o) c.requires.full)) in
+    let end = c.end_turn.ensures.gave v (asks.within v c.in_ok-turn.ensures.within) in
     let all = subst (λ at. AskedAll at (bound_entry a ∷ gone_of came.replaced end.0) v w) place
     (subst (λ es. AskedAll c.connect_bound.new.turn.place (es ++ gone_of came.replaced end.0) v w) once end.1) in
     let stands = connect_stands n b a v w came.replaced end.0 c.requires.full c.requires.stands all in (
       subst (λ (m : Mine). StandsOwn m.owner (owner_key m.owner % n) w) (sym c.at_place.ensures) stands,
-      hashed_at a c.args.moment c.args.rule came.place came.replaced c.at_place.result (side_of t.chains c.make_room.new.worker.chain) d c.in-Ok-insert.ensures.inserts refl c.at_place.ensures,
+      hashed_at a c.args.moment c.args.rule came.place came.replaced c.at_place.result (side_of t.chains c.begin_with.new.worker.chain) d c.in-Ok.ensures.inserts refl c.at_place.ensures,
     )
 
-pub returns-in-Ok-insert-clause-drawn : goal.returns-in-Ok-insert-clause-drawn
-returns-in-Ok-insert-clause-drawn g c = λ more has.
-    drawn_four c.insert.result (chain_words.known c.make_room.new.worker.chain.pass) (chain_words.known c.insert.new.pass.pass) c.insert.ensures.share more
-    (subst (λ (s : Side). HasShares (more + 4) s.view) (sym c.make_room.ensures.side) has)
+pub returns-in-Ok-clause-drawn : goal.returns-in-Ok-clause-drawn
+returns-in-Ok-clause-drawn g c = λ more has.
+    drawn_four c.insert.result (chain_words.known c.begin_with.new.worker.chain.pass) (chain_words.known c.insert.new.pass.pass) c.insert.ensures.share more
+    (subst (λ (s : Side). HasShares (more + 4) s.view) (sym c.begin_with.ensures.side) has)
 
-pub returns-in-Err-insert-clause-drawn : goal.returns-in-Err-insert-clause-drawn
-returns-in-Err-insert-clause-drawn g c = λ more has.
-    drawn_four c.insert.result (chain_words.known c.make_room.new.worker.chain.pass) (chain_words.known c.insert.new.pass.pass) c.insert.ensures.share more
-    (subst (λ (s : Side). HasShares (more + 4) s.view) (sym c.make_room.ensures.side) has)
-
-pub returns-in-Err-insert-clause-carried : goal.returns-in-Err-insert-clause-carried
-returns-in-Err-insert-clause-carried g c =
-    let a : Owner = c.args.full in
-    let t = c.args.tables.now in
-    let v = turned c.args.worker.now in
-    let w = known c.give.new.pass in
-    let d = side_of t.chains c.insert.new.pass in
-    let turn = c.make_room.new.turn in
-    let made_is = ap (λ (ms : List Note). entries_of ms) (c.make_room.ensures.made ∙ c.take-turn.ensures.none) in
-    let gave = all_none turn.place v w (asked_all turn.place turn.place [] v w (made c.make_room.new.worker.turns turn) refl made_is (c.give.ensures.gave v (c.make_room.ensures.within v c.take-turn.ensures.within))) in
-    let ins = subst (λ (k : Side). InsertsAs (wish_for a c.args.moment c.args.rule) k d (Err c.in-Err-insert.end)) c.make_room.ensures.side c.in-Err-insert.ensures.inserts in
-    connect_refused (buckets_of t) a c.args.moment c.args.rule v w (side_of t.chains c.args.worker.now.chain) d c.in-Err-insert.end ins gave
-
-pub returns-in-Err-insert-clause-kept : goal.returns-in-Err-insert-clause-kept
-returns-in-Err-insert-clause-kept g c =
-    let b : Owner = c.args.bound.now in
-    let v = turned c.args.worker.now in
-    let w = known c.give.new.pass in
-    let turn = c.make_room.new.turn in
-    let made_is = ap (λ (ms : List Note). entries_of ms) (c.make_room.ensures.made ∙ c.take-turn.ensures.none) in
-    let gave = all_none turn.place v w (asked_all turn.place turn.place [] v w (made c.make_room.new.worker.turns turn) refl made_is (c.give.ensures.gave v (c.make_room.ensures.within v c.take-turn.ensures.within))) in
-    stands_still b (owner_key b % buckets_of c.args.tables.now) v w gave c.requires.stands
+pub returns-in-Err-clause-drawn : goal.returns-in-Err-clause-drawn
+returns-in-Err-clause-drawn g c = λ more has.
+    drawn_four c.insert.result (chain_words.known c.begin_with.new.worker.chain.pass) (chain_words.known c.insert.new.pass.pass) c.insert.ensures.share more
+    (subst (λ (s : Side). HasShares (more + 4) s.view) (sym c.begin_with.ensures.side) has)
 
 pub returns-in-Err-clause-carried : goal.returns-in-Err-clause-carried
 returns-in-Err-clause-carried g c =
     let a : Owner = c.args.full in
     let t = c.args.tables.now in
     let v = turned c.args.worker.now in
-    let w = known c.give-in-Err.new.pass in
-    let turn = c.make_room.new.turn in
-    let made_is = ap (λ (ms : List Note). entries_of ms) (c.make_room.ensures.made ∙ c.take-turn.ensures.none) in
-    let gave = all_none turn.place v w (asked_all turn.place turn.place [] v w (made c.make_room.new.worker.turns turn) refl made_is (c.give-in-Err.ensures.gave v (c.make_room.ensures.within v c.take-turn.ensures.within))) in
-    connect_left (buckets_of t) a c.args.moment c.args.rule v w (side_of t.chains c.args.worker.now.chain) (side_of t.chains c.make_room.new.worker.chain) (sym c.make_room.ensures.side) gave
+    let w = known c.give.new.pass in
+    let d = side_of t.chains c.insert.new.pass in
+    let turn = c.in_ok-turn.turn in
+    let made_is = ap (λ (ms : List Note). entries_of ms) c.in_ok-turn.ensures.none in
+    let gave = all_none turn.place v w (asked_all turn.place turn.place [] v w (made c.begin_with.new.worker.turns turn) refl made_is (c.give.ensures.gave v c.in_ok-turn.ensures.within)) in
+    let ins = subst (λ (k : Side). InsertsAs (wish_for a c.args.moment c.args.rule) k d (Err c.in-Err.end)) c.begin_with.ensures.side c.in-Err.ensures.inserts in
+    connect_refused (buckets_of t) a c.args.moment c.args.rule v w (side_of t.chains c.args.worker.now.chain) d c.in-Err.end ins gave
 
 pub returns-in-Err-clause-kept : goal.returns-in-Err-clause-kept
 returns-in-Err-clause-kept g c =
     let b : Owner = c.args.bound.now in
     let v = turned c.args.worker.now in
-    let w = known c.give-in-Err.new.pass in
-    let turn = c.make_room.new.turn in
-    let made_is = ap (λ (ms : List Note). entries_of ms) (c.make_room.ensures.made ∙ c.take-turn.ensures.none) in
-    let gave = all_none turn.place v w (asked_all turn.place turn.place [] v w (made c.make_room.new.worker.turns turn) refl made_is (c.give-in-Err.ensures.gave v (c.make_room.ensures.within v c.take-turn.ensures.within))) in
+    let w = known c.give.new.pass in
+    let turn = c.in_ok-turn.turn in
+    let made_is = ap (λ (ms : List Note). entries_of ms) c.in_ok-turn.ensures.none in
+    let gave = all_none turn.place v w (asked_all turn.place turn.place [] v w (made c.begin_with.new.worker.turns turn) refl made_is (c.give.ensures.gave v c.in_ok-turn.ensures.within)) in
     stands_still b (owner_key b % buckets_of c.args.tables.now) v w gave c.requires.stands
 
-pub returns-in-Ok-insert-clause-spares : goal.returns-in-Ok-insert-clause-spares
-returns-in-Ok-insert-clause-spares g c =
-    let v = turned c.args.worker.now in
-    let within = c.make_room.ensures.within v c.take-turn.ensures.within in
-    let none = made_none (made c.make_room.new.worker.turns c.make_room.new.turn) (c.make_room.ensures.made ∙ c.take-turn.ensures.none) in
-    let asks = c.connect_bound.ensures.asks in
-    let p = c.make_room.new.worker.turns in
-    let q = c.connect_bound.new.pass in
-    ended_spares c.connect_bound.new.turn.place (entries_of (made q c.connect_bound.new.turn)) c.in-Ok-insert.came.replaced v (known c.end_turn.new.pass) (c.end_turn.ensures.gave v (asks.within v within))
-    (made_more c.args.tables.now.buckets p c.make_room.new.turn q c.connect_bound.new.turn _ _ asks none tt)
+pub returns-in_err-turn-clause-carried : goal.returns-in_err-turn-clause-carried
+returns-in_err-turn-clause-carried g c =
+    let a : Owner = c.args.full in
+    let t = c.args.tables.now in
+    let l = t.chains.layout in
+    let old = c.args.worker.now in
+    let new = c.begin_with.new.worker in
+    begun_not done refused (buckets_of t) a.name (plans.connect_bound l.shape l.seed a c.args.moment c.args.rule) (turned old) (turned new) (side_of t.chains old.chain) (side_of t.chains new.chain) _ c.from_residual.result
+    c.from_residual.ensures.1 c.begin_with.ensures.side c.in_err-turn.ensures.nothing
 
-pub returns-in-Err-insert-clause-spares : goal.returns-in-Err-insert-clause-spares
-returns-in-Err-insert-clause-spares g c =
+pub returns-in-Ok-clause-spares : goal.returns-in-Ok-clause-spares
+returns-in-Ok-clause-spares g c =
     let v = turned c.args.worker.now in
-    let within = c.make_room.ensures.within v c.take-turn.ensures.within in
-    let none = made_none (made c.make_room.new.worker.turns c.make_room.new.turn) (c.make_room.ensures.made ∙ c.take-turn.ensures.none) in
-    given_spares c.make_room.new.turn.place v (known c.give.new.pass) (made c.make_room.new.worker.turns c.make_room.new.turn) (c.give.ensures.gave v within) none
+    let within = c.in_ok-turn.ensures.within in
+    let none = made_none (made c.begin_with.new.worker.turns c.in_ok-turn.turn) c.in_ok-turn.ensures.none in
+    let asks = c.connect_bound.ensures.asks in
+    let p = c.begin_with.new.worker.turns in
+    let q = c.connect_bound.new.pass in
+    ended_spares c.connect_bound.new.turn.place (entries_of (made q c.connect_bound.new.turn)) c.in-Ok.came.replaced v (known c.end_turn.new.pass) (c.end_turn.ensures.gave v (asks.within v within))
+    (made_more c.args.tables.now.buckets p c.in_ok-turn.turn q c.connect_bound.new.turn _ _ asks none tt)
 
 pub returns-in-Err-clause-spares : goal.returns-in-Err-clause-spares
 returns-in-Err-clause-spares g c =
     let v = turned c.args.worker.now in
-    let within = c.make_room.ensures.within v c.take-turn.ensures.within in
-    let none = made_none (made c.make_room.new.worker.turns c.make_room.new.turn) (c.make_room.ensures.made ∙ c.take-turn.ensures.none) in
-    given_spares c.make_room.new.turn.place v (known c.give-in-Err.new.pass) (made c.make_room.new.worker.turns c.make_room.new.turn) (c.give-in-Err.ensures.gave v within) none
+    let within = c.in_ok-turn.ensures.within in
+    let none = made_none (made c.begin_with.new.worker.turns c.in_ok-turn.turn) c.in_ok-turn.ensures.none in
+    given_spares c.in_ok-turn.turn.place v (known c.give.new.pass) (made c.begin_with.new.worker.turns c.in_ok-turn.turn) (c.give.ensures.gave v within) none

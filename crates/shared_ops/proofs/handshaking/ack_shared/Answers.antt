@@ -1,4 +1,4 @@
-use Rattle.std.proofs.Common.{◌≡◌, Option, Bor, true, false, not, ◌==◌, IfSome, Some, refl, ap, sym, subst, ◌∙◌}
+use Rattle.std.proofs.Common.{◌≡◌, Option, Bor, true, false, not, ◌==◌, IfSome, refl, ap, sym, subst, ◌∙◌}
 use Rattle.std.proofs.lemmas.Bool.{or_parts}
 use Rattle.sock_card.specs.declared.owner.Owner.{Owner}
 use Rattle.flat_list.specs.Owned.{heir_owner, is_no_accept, is_no_ack, other_end, own_end}

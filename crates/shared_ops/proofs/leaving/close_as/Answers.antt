@@ -26,6 +26,7 @@ returns-in-Ok g c =
       lists = e.lists;
       listed = e.listed;
       stay = e.stay;
+      patient = λ endless. tt;
     }
 
 pub returns-in-Err : goal.returns-in-Err
@@ -46,4 +47,5 @@ returns-in-Err g c =
       lists = e.lists;
       listed = e.listed;
       stay = e.stay;
+      patient = e.patient;
     }

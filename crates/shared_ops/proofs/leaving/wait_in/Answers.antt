@@ -15,7 +15,7 @@ use Rattle.table_model.specs.Own.{Mine}
 use Rattle.shared_ops.specs.Closes.{WaitsAs, leave_entry}
 use Rattle.shared_ops.specs.Stands.{buckets_of}
 use Rattle.shared_ops.proofs.Goes.{asked_all}
-use Rattle.shared_ops.proofs.CloseGoes.{same_home, wait_entry, close_waits, close_goes}
+use Rattle.shared_ops.proofs.CloseGoes.{same_home, wait_entry, close_waits, close_goes, none_given, none_listed}
 use Rattle.reuseport_group.specs.Passes as lists
 use Rattle.shared_ops.specs.Groups.{LeavesAs}
 use Rattle.shared_ops.proofs.Lists.{made_none, made_more, given_spares, sparing_keeps}
@@ -30,19 +30,33 @@ replace-requires-clause-chain g c =
     ap (home l.shape l.seed) (c.card_as-card.ensures ∙ ap (λ (o : Owner). card_as kinds.TimeWait o c.args.moment) (c.as_waiting-waiting.ensures ∙ ap as_waiting own))
     ∙ same_home l.shape l.seed m.owner c.args.moment m.extra ∙ sym c.requires.hashed.home ∙ sym (ap (λ (p : Stood). p.bucket) c.full_place.ensures)
 
+pub returns-in_default-clause-nothing : goal.returns-in_default-clause-nothing
+returns-in_default-clause-nothing g c = λ v within.
+    none_given c.args.turn.place v (known c.give.new.pass) (made c.args.worker.now.turns c.args.turn) c.requires.made (c.give.ensures.gave v within)
+
+pub returns-in_default-clause-lists : goal.returns-in_default-clause-lists
+returns-in_default-clause-lists g c = λ v within. inl refl
+
+pub returns-in_default-clause-listed : goal.returns-in_default-clause-listed
+returns-in_default-clause-listed g c = λ v within.
+    let p = c.args.worker.now.groups in
+    none_listed (lists.groups c.args.tables.now.groups) v (known c.give.new.pass) p p refl
+    (none_given c.args.turn.place v (known c.give.new.pass) (made c.args.worker.now.turns c.args.turn) c.requires.made (c.give.ensures.gave v within))
+
 pub returns-in-Ok-clause-went : goal.returns-in-Ok-clause-went
 returns-in-Ok-clause-went g c = λ v within.
     let m : Mine = c.args.full.now in
     let own : c.full.inside.owner ≡ m.owner = ap (λ (x : Mine). x.owner) c.full.view_is in
     let t = c.args.tables.now in
     let n = buckets_of t in
-    let w = known c.give.new.pass in
+    let w = known c.give-in-Ok.new.pass in
     let k = side_of t.chains c.args.worker.now.chain in
     let d = side_of t.chains c.replace.new.pass in
     let asks = c.to_time_wait.ensures.asks in
     let once = asks.made_is ∙ ap (λ (ms : List Note). entries_of ms ++ wait_entry c.full.inside.owner ∷ []) c.requires.made ∙ ap (λ (o : Owner). wait_entry o ∷ []) own in
-    let all = asked_all c.to_time_wait.new.turn.place (owner_key m.owner % n) (wait_entry m.owner ∷ []) v w (made c.to_time_wait.new.pass c.to_time_wait.new.turn) (asks.place ∙ c.requires.place) once (c.give.ensures.gave v (asks.within v within)) in
-    let waits = subst (λ (p : Stood). WaitsAs p c.card_as-card.result k d (Ok c.in-Ok.place)) c.full_place.ensures c.in-Ok.ensures.waits in
+    let all = asked_all c.to_time_wait.new.turn.place (owner_key m.owner % n) (wait_entry m.owner ∷ []) v w (made c.to_time_wait.new.pass c.to_time_wait.new.turn) (asks.place ∙ c.requires.place) once (c.give-in-Ok.ensures.gave v (asks.within v within)) in
+    let did = subst (λ r. WaitsAs c.full_place.result c.card_as-card.result k d r) c.in-Ok.is c.in-Some.ensures.waits in
+    let waits = subst (λ (p : Stood). WaitsAs p c.card_as-card.result k d (Ok c.in-Ok.place)) c.full_place.ensures did in
     close_waits n m c.args.moment v w k d c.as_waiting-waiting.result c.card_as-card.result c.in-Ok.place (c.as_waiting-waiting.ensures ∙ ap as_waiting own) c.card_as-card.ensures waits all
 
 pub returns-in-Err-clause-went : goal.returns-in-Err-clause-went
@@ -58,7 +72,8 @@ returns-in-Err-clause-went g c = λ v within.
     let once = asks.made_is ∙ ap (λ (ms : List Note). entries_of ms ++ leave_entry c.full.inside.owner ∷ []) c.requires.made ∙ ap (λ (o : Owner). leave_entry o ∷ []) own in
     let all = asked_all c.leave.new.turn.place (owner_key m.owner % n) (leave_entry m.owner ∷ []) v w (made c.leave.new.pass c.leave.new.turn) (asks.place ∙ c.requires.place) once (c.give-in-Err.ensures.gave v (asks.within v within)) in
     let slots = c.in-Err.slots in
-    let goes = subst (λ (p : Stood). WaitsAs p c.card_as-card.result k d (Err slots)) c.full_place.ensures c.in-Err.ensures.waits in
+    let did = subst (λ r. WaitsAs c.full_place.result c.card_as-card.result k d r) c.in-Err.is c.in-Some.ensures.waits in
+    let goes = subst (λ (p : Stood). WaitsAs p c.card_as-card.result k d (Err slots)) c.full_place.ensures did in
     close_goes n m c.args.moment v w k d c.as_waiting-waiting.result c.card_as-card.result slots.owned slots.held (c.as_waiting-waiting.ensures ∙ ap as_waiting own) c.card_as-card.ensures goes all
 
 pub returns-in-Ok-clause-lists : goal.returns-in-Ok-clause-lists
@@ -69,8 +84,8 @@ returns-in-Ok-clause-listed g c = λ v within.
     let asks = c.to_time_wait.ensures.asks in
     let q = c.to_time_wait.new.pass in
     let turn = c.to_time_wait.new.turn in
-    sparing_keeps (lists.groups c.args.tables.now.groups) v (known c.give.new.pass) c.args.worker.now.groups
-    (given_spares turn.place v (known c.give.new.pass) (made q turn) (c.give.ensures.gave v (asks.within v within))
+    sparing_keeps (lists.groups c.args.tables.now.groups) v (known c.give-in-Ok.new.pass) c.args.worker.now.groups
+    (given_spares turn.place v (known c.give-in-Ok.new.pass) (made q turn) (c.give-in-Ok.ensures.gave v (asks.within v within))
     (made_more c.args.tables.now.buckets c.args.worker.now.turns c.args.turn q turn _ _ asks (made_none (made c.args.worker.now.turns c.args.turn) c.requires.made) tt))
 
 pub returns-in-Err-clause-lists : goal.returns-in-Err-clause-lists

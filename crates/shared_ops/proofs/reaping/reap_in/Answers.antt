@@ -1,4 +1,4 @@
-use Rattle.std.proofs.Common.{◌≡◌, ◌++◌, ◌∷◌, ◌%◌, [], List, ap, ◌∙◌, refl}
+use Rattle.std.proofs.Common.{◌≡◌, ◌++◌, ◌∷◌, ◌%◌, [], List, ap, subst, ◌∙◌, refl}
 use Rattle.sock_card.specs.Conflict.{owner_key}
 use Rattle.sock_card.specs.declared.card.Kind.TheVariants as kinds
 use Rattle.turn_table.specs.Passes.{known}
@@ -6,27 +6,29 @@ use Rattle.bind_buckets.specs.Answers.{answer_of_name}
 use Rattle.bind_buckets.specs.Notes.{Note}
 use Rattle.bind_buckets.specs.Bucket.{entries_of}
 use Rattle.bind_buckets.specs.Turned.{made}
+use Rattle.chain_deeds.specs.Answers.{Reaps}
 use Rattle.chain_deeds.specs.Sides.{side_of}
 use Rattle.table_model.specs.Own.{Mine, card_of}
 use Rattle.shared_ops.specs.Stands.{buckets_of}
 use Rattle.shared_ops.proofs.Goes.{asked_all}
 use Rattle.shared_ops.proofs.ReapGoes.{reap_entry, reap_found, reap_none}
 use Rattle.shared_ops.proofs.Lists.{made_none, made_more, given_spares}
+use Rattle.shared_ops.proofs.CloseGoes.{none_given}
 use Rattle.shared_ops.proofs.reaping.reap_in.Goals as goal
 
-pub returns-in-Some-clause-reaps : goal.returns-in-Some-clause-reaps
-returns-in-Some-clause-reaps g c = λ v within rest n.
+pub returns-in-Some-answer-clause-reaps : goal.returns-in-Some-answer-clause-reaps
+returns-in-Some-answer-clause-reaps g c = λ v within rest n.
     let m : Mine = c.args.waiting.now in
     let t = c.args.tables.now in
     let b = buckets_of t in
-    let u = known c.give.new.pass in
+    let u = known c.give-in-Some-answer.new.pass in
     let answer = answer_of_name c.remove_waiting-known.result in
     let asks = c.remove_waiting-known.ensures.asks in
     let same : c.card_as-card.result ≡ card_of kinds.TimeWait m = c.card_as-card.ensures ∙ ap (λ (x : Mine). card_of kinds.TimeWait x) c.waiting.view_is in
     let once = asks.made_is ∙ ap (λ (ms : List Note). entries_of ms ++ reap_entry c.waiting.inside.owner.name answer ∷ []) c.requires.made
     ∙ ap (λ (x : Mine). reap_entry x.owner.name answer ∷ []) c.waiting.view_is in
-    let all = asked_all c.remove_waiting-known.new.turn.place (owner_key m.owner % b) (reap_entry m.owner.name answer ∷ []) v u (made c.remove_waiting-known.new.pass c.remove_waiting-known.new.turn) (asks.place ∙ c.requires.place) once (c.give.ensures.gave v (asks.within v within)) in
-    reap_found b m rest n v u (side_of t.chains c.args.worker.now.chain) (side_of t.chains c.remove_tw.new.pass) c.card_as-card.result c.in-Some.field-0 answer same c.in-Some.ensures.reaps all
+    let all = asked_all c.remove_waiting-known.new.turn.place (owner_key m.owner % b) (reap_entry m.owner.name answer ∷ []) v u (made c.remove_waiting-known.new.pass c.remove_waiting-known.new.turn) (asks.place ∙ c.requires.place) once (c.give-in-Some-answer.ensures.gave v (asks.within v within)) in
+    reap_found b m rest n v u (side_of t.chains c.args.worker.now.chain) (side_of t.chains c.remove_tw.new.pass) c.card_as-card.result c.in-Some-answer.field-0 answer same (subst (λ r. Reaps c.card_as-card.result r (side_of t.chains c.args.worker.now.chain) (side_of t.chains c.remove_tw.new.pass)) c.in-Some-answer.is c.in-Some.ensures.reaps) all
 
 pub returns-in-None-clause-reaps : goal.returns-in-None-clause-reaps
 returns-in-None-clause-reaps g c = λ v within rest n.
@@ -36,18 +38,27 @@ returns-in-None-clause-reaps g c = λ v within rest n.
     let place = c.args.turn.place in
     let same : c.card_as-card.result ≡ card_of kinds.TimeWait m = c.card_as-card.ensures ∙ ap (λ (x : Mine). card_of kinds.TimeWait x) c.waiting.view_is in
     let all = asked_all place place [] v u (made c.args.worker.now.turns c.args.turn) refl (ap (λ (ms : List Note). entries_of ms) c.requires.made) (c.give-in-None.ensures.gave v within) in
-    reap_none (buckets_of t) m rest n v u (side_of t.chains c.args.worker.now.chain) (side_of t.chains c.remove_tw.new.pass) place c.card_as-card.result same c.in-None.ensures.reaps all
+    reap_none (buckets_of t) m rest n v u (side_of t.chains c.args.worker.now.chain) (side_of t.chains c.remove_tw.new.pass) place c.card_as-card.result same (subst (λ r. Reaps c.card_as-card.result r (side_of t.chains c.args.worker.now.chain) (side_of t.chains c.remove_tw.new.pass)) c.in-None.is c.in-Some.ensures.reaps) all
 
-pub returns-in-Some-clause-spares : goal.returns-in-Some-clause-spares
-returns-in-Some-clause-spares g c = λ v within.
+pub returns-in-Some-answer-clause-spares : goal.returns-in-Some-answer-clause-spares
+returns-in-Some-answer-clause-spares g c = λ v within.
     let p = c.args.worker.now.turns in
     let asks = c.remove_waiting-known.ensures.asks in
     let q = c.remove_waiting-known.new.pass in
     let turn = c.remove_waiting-known.new.turn in
-    given_spares turn.place v (known c.give.new.pass) (made q turn) (c.give.ensures.gave v (asks.within v within))
+    given_spares turn.place v (known c.give-in-Some-answer.new.pass) (made q turn) (c.give-in-Some-answer.ensures.gave v (asks.within v within))
     (made_more c.args.tables.now.buckets p c.args.turn q turn _ _ asks (made_none (made p c.args.turn) c.requires.made) tt)
 
 pub returns-in-None-clause-spares : goal.returns-in-None-clause-spares
 returns-in-None-clause-spares g c = λ v within.
     let ms = made c.args.worker.now.turns c.args.turn in
     given_spares c.args.turn.place v (known c.give-in-None.new.pass) ms (c.give-in-None.ensures.gave v within) (made_none ms c.requires.made)
+
+pub returns-in_default-clause-nothing : goal.returns-in_default-clause-nothing
+returns-in_default-clause-nothing g c = λ v within.
+    none_given c.args.turn.place v (known c.give.new.pass) (made c.args.worker.now.turns c.args.turn) c.requires.made (c.give.ensures.gave v within)
+
+pub returns-in_default-clause-spares : goal.returns-in_default-clause-spares
+returns-in_default-clause-spares g c = λ v within.
+    let ms = made c.args.worker.now.turns c.args.turn in
+    given_spares c.args.turn.place v (known c.give.new.pass) ms (c.give.ensures.gave v within) (made_none ms c.requires.made)
