@@ -9,9 +9,9 @@ use Rattle.race_book.specs.Among.{Among}
 use Rattle.race_book.specs.Lives.{ending, is_hash}
 use Rattle.race_book.specs.Laws.{BeginApart}
 use Rattle.race_book.specs.Listed.{ascending, is_hash_change, life_in, lives_of}
+use Rattle.race_book.proofs.AmongLemmas.{Kept, kept_of, keeps, among_map, Made, made_of}
 use Rattle.race_book.proofs.Checks.{hash_is}
 use Rattle.race_book.proofs.Listing.{among_ascending, ascending_back, up_ascending}
-use Rattle.audit_laws.proofs.Lists.{Kept, kept_of, keeps, among_map, Made, made_of}
 
 module _ (book : List Change) where
   -- a life of the book: its hash is there, and its unhash is what ends it

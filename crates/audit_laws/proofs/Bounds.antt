@@ -1,5 +1,6 @@
 -- The clock of a race and the counts of its journals are bounded by how much its commands do.
 use Rattle.std.proofs.Common.{◌≡◌, ℕ, ◌+◌, ◌*◌, ◌<◌, ◌≤◌, ◌^◌, List, [], ◌∷◌, length, length-append, map, None, Some, refl, sym, ap, ◌∙◌, arith}
+use Rattle.std.proofs.lemmas.List.{length-map}
 use Rattle.std.specs.List.{flat_map}
 use Rattle.list_words.specs.Lists.{Each, SameItems, total}
 use Rattle.turn_table.specs.declared.note.Note.{Note}
@@ -11,7 +12,6 @@ use Rattle.race_record.specs.Headline.{NumbersTell}
 use Rattle.race_record.specs.Laws.{drew_in_vain}
 use Rattle.race_record.specs.Record.{Race, Step, all_deeds, deeds_of, steps_of}
 use Rattle.race_record.specs.Lawful.{AreJournalsOf, IsBookOf, itself}
-use Rattle.audit_laws.proofs.Lists.{mapped_length}
 use Rattle.audit_laws.proofs.Owners.{shorter}
 
 -- a step did so much at most
@@ -71,7 +71,7 @@ journals_short : (most i : ℕ) (journals : List (List (Note Entry))) → length
 journals_short most i [] h = tt
 journals_short most i (journal ∷ rest) h =
     let parts : length (all_placed itself i (journal ∷ rest)) ≡ length journal + length (all_placed itself (i + 1) rest) =
-    length-append (map (placed i) journal) (all_placed itself (i + 1) rest) ∙ ap (λ n. n + length (all_placed itself (i + 1) rest)) (mapped_length (placed i) journal) in
+    length-append (map (placed i) journal) (all_placed itself (i + 1) rest) ∙ ap (λ n. n + length (all_placed itself (i + 1) rest)) (length-map journal (placed i)) in
     (omega (arith, h, parts), journals_short most (i + 1) rest (omega (arith, h, parts)))
 
 module _ (race : Race) (few : Each DoesFew (steps_of race)) (short : Each IsShort race.sections) (sections : length race.sections ≤ 64) where

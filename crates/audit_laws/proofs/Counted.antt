@@ -1,15 +1,16 @@
 -- What is told of a book's lives has as many changes as the book.
 use Rattle.std.proofs.Common.{◌≡◌, ◌≢◌, ℕ, ◌+◌, ◌≤◌, List, [], ◌∷◌, length, map, refl, sym, ap, ◌∙◌, subst, arith, ◌⊎◌, inl, inr}
+use Rattle.std.proofs.lemmas.List.{length-map}
 use Rattle.list_words.specs.Lists.{Pairs}
 use Rattle.list_words.proofs.PairsLemmas.{pairs_map}
 use Rattle.chain_book.specs.declared.book.Change.{Change}
 use Rattle.race_book.specs.Among.{Among}
 use Rattle.race_book.specs.Laws.{BeginApart}
 use Rattle.race_book.specs.Serial.{EachEndsOne}
+use Rattle.race_book.proofs.AmongLemmas.{Made, among_map, made_of}
 use Rattle.race_book.proofs.Endings.{each_of}
 use Rattle.book_audit.specs.Book.{book_of}
 use Rattle.audit_laws.proofs.Printed.{told_lives}
-use Rattle.audit_laws.proofs.Lists.{Made, among_map, made_of, mapped_length}
 use Rattle.audit_laws.proofs.Renamed.{TellsOf, is_told, tells_of}
 
 -- a list without one of its items
@@ -42,7 +43,7 @@ abbrev pub begin_of : Change → ℕ
 begin_of c = c.begin
 
 pub no_more : (xs ys : List Change) → BeginApart xs → ((n : ℕ) → Among (map begin_of xs) n → Among (map begin_of ys) n) → length xs ≤ length ys
-no_more xs ys p h = omega (arith, fewer (map begin_of xs) (map begin_of ys) (pairs_map (λ (a b : ℕ). a ≢ b) begin_of xs p) h, mapped_length begin_of xs, mapped_length begin_of ys)
+no_more xs ys p h = omega (arith, fewer (map begin_of xs) (map begin_of ys) (pairs_map (λ (a b : ℕ). a ≢ b) begin_of xs p) h, length-map xs begin_of, length-map ys begin_of)
 
 pub as_many : (number : ℕ → ℕ) (book : List Change) → BeginApart book → EachEndsOne (Among book) → BeginApart (book_of (told_lives number book)) → length (book_of (told_lives number book)) ≡ length book
 as_many number book apart single told =

@@ -1,5 +1,7 @@
--- What the dumps of a lawful race list can be written: the counts are in range, and so is what is told of each socket.
+-- What the dumps of a lawful race list can be written: the counts are in range,
+-- and so is what is told of each socket.
 use Rattle.std.proofs.Common.{◌≡◌, ◌≢◌, ℕ, ◌<◌, ◌≤◌, ◌^◌, List, [], ◌∷◌, length, map, Some, refl, sym, subst, arith}
+use Rattle.std.proofs.lemmas.List.{length-map}
 use Rattle.list_words.specs.Lists.{Each, Pairs}
 use Rattle.list_words.proofs.EachLemmas.{each_map, each_weaken}
 use Rattle.sock_card.specs.declared.card.Card.{Card}
@@ -10,12 +12,12 @@ use Rattle.flat_list.specs.declared.command.Command.TheVariants as commands
 use Rattle.socket_list.specs.declared.listing.Span.{Span}
 use Rattle.race_book.specs.Among.{Among}
 use Rattle.race_book.specs.Laws.{BeginApart}
+use Rattle.race_book.proofs.AmongLemmas.{Made, among_map, made_of}
 use Rattle.race_book.proofs.Endings.{each_of, one_beginning}
 use Rattle.race_record.specs.Record.{Race, Step}
 use Rattle.race_record.specs.Lawful.{AreInOrder, HaveOnePlace, IsListed, IsSpanned, Lists, ListsAs}
 use Rattle.audit_laws.proofs.Bounds.{same_length}
 use Rattle.audit_laws.proofs.Counted.{begin_of, no_more}
-use Rattle.audit_laws.proofs.Lists.{Made, among_map, made_of, mapped_length}
 use Rattle.audit_laws.proofs.Steps.{CardTold, cards_told}
 
 -- a list of sockets whose lines can be written
@@ -57,7 +59,7 @@ module _ (sections : List (List Command)) (race : Race) (small : race.clock < 2 
       let there : Each (λ h. Among race.book h) l.lives = each_weaken _ (Among race.book) l.lives (λ h s. s.0.there) l.stood in
       let told : Each (λ (h : Change). CardTold sections h.card) l.lives = each_weaken _ (λ (h : Change). CardTold sections h.card) l.lives (λ h s. cards h s.0.there s.0.hash) l.stood in
       let card_of : Change → Card = λ h. h.card in record {
-        count = omega (arith, few, few_lives race.book apart l.lives there l.apart, same_length cs (map card_of l.lives) l.cards_are, mapped_length card_of l.lives);
+        count = omega (arith, few, few_lives race.book apart l.lives there l.apart, same_length cs (map card_of l.lives) l.cards_are, length-map l.lives card_of);
         t0 = omega (arith, l.order, l.ends, most, small);
         t1 = omega (arith, l.ends, most, small);
         each = cards_told sections cs (map card_of l.lives) l.cards_are (each_map (CardTold sections) card_of l.lives told);

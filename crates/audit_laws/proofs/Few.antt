@@ -1,5 +1,6 @@
 -- How much a command does: a plan goes on by so many deeds at most.
 use Rattle.std.proofs.Common.{◌≡◌, ℕ, zero, suc, ◌+◌, ◌*◌, ◌/◌, ◌≤◌, ◌==◌, nat_lt, not, Bool, true, false, List, [], ◌∷◌, ◌++◌, length, length-append, append-nil, filter, Option, None, Some, if◌then◌else◌, refl, sym, ap, ◌∙◌, subst, arith}
+use Rattle.std.proofs.lemmas.List.{length-map}
 use Rattle.std.specs.List.{range_with_len}
 use Rattle.sock_card.specs.Conflict.{bind_key, owner_key}
 use Rattle.sock_card.specs.declared.card.Card.{Card}
@@ -28,14 +29,13 @@ use Rattle.table_model.specs.declared.operation.OpEnd.{OpEnd}
 use Rattle.table_model.specs.declared.operation.OpEnd.TheVariants as errors
 use Rattle.table_model.specs.Asking.{Asking, adds, and_then, asks, ends, impossible, inserts, reaps, unhashes}
 use Rattle.table_model.specs.Commands as command
-use Rattle.table_model.specs.Commands.{Replied, answers as reply_with, plan}
+use Rattle.table_model.specs.Commands.{Replied, plan}
 use Rattle.table_model.specs.Operations as op
-use Rattle.table_model.specs.Operations.{Closed, Did, done, gone, no_slot as closed_without, refused, waiting}
+use Rattle.table_model.specs.Operations.{Did, done, gone, no_slot as closed_without, refused, waiting}
 use Rattle.table_model.specs.Own.{Mine, Own, is_over, next_name, offset_of, open_named, open_socket, ports_of, with_label}
 use Rattle.race_record.specs.Deeds.{Deed, added, entered, inserted, left, reaped}
 use Rattle.race_record.specs.Goes.{Goes, outcome_of, was_there}
 use Rattle.race_record.proofs.Turns.{InTwo, goes_apart}
-use Rattle.audit_laws.proofs.Lists.{mapped_length}
 use Rattle.audit_laws.proofs.Owners.{RangeFits, shorter}
 use Rattle.audit_laws.proofs.Plans.{OwnFits}
 
@@ -284,7 +284,7 @@ range_count a zero = refl
 range_count a (suc n) = ap suc (range_count (a + 1) n)
 
 half_count : (r : Range) (distance : ℕ) → length (half_from r distance) ≡ size r / 2
-half_count r distance = mapped_length _ (range_with_len 0 (size r / 2)) ∙ range_count 0 (size r / 2)
+half_count r distance = length-map (range_with_len 0 (size r / 2)) _ ∙ range_count 0 (size r / 2)
 
 whole_count : (r : Range) (offset : ℕ) (first : First) → RangeFits r → length (whole_order r offset first) ≤ 65536
 whole_count r offset firsts.Odd f = omega (arith, length-append (half_from r (odd offset)) (half_from r (even offset)), half_count r (odd offset), half_count r (even offset), f.high, f.order)

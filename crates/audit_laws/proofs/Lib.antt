@@ -1,5 +1,4 @@
 pub mod Printed
-pub mod Lists
 pub mod Ascending
 pub mod Renamed
 pub mod Explained

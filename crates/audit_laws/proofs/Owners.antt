@@ -28,7 +28,7 @@ use Rattle.table_model.specs.declared.operation.OpEnd.TheVariants as errors
 use Rattle.table_model.specs.Asking.{Asking, ends}
 use Rattle.table_model.specs.Own.{Mine, is_over}
 use Rattle.table_model.specs.Operations as op
-use Rattle.table_model.specs.Operations.{Did, done, refused, Closed, gone, waiting, no_slot, when_done, found_next, search_bind, bound, bind_answered, bind_any, bind_unbound, bind_as, bind, give_up, listener, then_replaced, full_card, source_to, leave, drop_as, drop, wait_of, reaped_next, reap_each, reap, listens_in, listen_hashed, listen_in, listen_answered, listen_at, listen_found, listen_as, listen, full_in, full_done, connect_hashed, connect_bound, connect_tried, connect_free, search_connect, connect_from, connect, accept_hashed, accept_as, accept, request_in, syn_hashed, syn_as, syn, ack_hashed, ack_as, ack_by, ack_from, ack, waits_in, close_hashed, close_full, close_as, close}
+use Rattle.table_model.specs.Operations.{Did, done, refused, Closed, gone, waiting, no_slot, when_done, found_next, search_bind, bound, bind_answered, bind_any, bind_unbound, bind_as, bind, give_up, listener, then_replaced, source_to, leave, drop_as, drop, wait_of, reaped_next, reap_each, reap, listens_in, listen_hashed, listen_in, listen_answered, listen_at, listen_found, listen_as, listen, full_in, full_done, connect_hashed, connect_bound, connect_tried, connect_free, search_connect, connect_from, connect, accept_hashed, accept_as, accept, request_in, syn_hashed, syn_as, syn, ack_hashed, ack_as, ack_by, ack_from, ack, waits_in, close_hashed, close_full, close_as, close}
 use Rattle.audit_laws.proofs.Asked.{Asked, asked_if, OutcomeFits}
 
 -- the name is that of one of the first so many labels of the section of that number

@@ -11,6 +11,7 @@ use Rattle.race_book.specs.Lives.{IsLife, Ends, comes_after, ending, is_unhash}
 use Rattle.race_book.specs.Laws.{BeginApart}
 use Rattle.race_book.specs.Listed.{life_in, lives_of}
 use Rattle.race_book.specs.Serial.{EachEndsOne, EndsOne}
+use Rattle.race_book.proofs.AmongLemmas.{among_map, Made, made_of}
 use Rattle.race_book.proofs.Checks.{and_left, and_right}
 use Rattle.race_book.proofs.Endings.{IsFirstOr, first_is, ending_ends, one_beginning}
 use Rattle.book_audit.specs.declared.printed.Span.{Span}
@@ -18,7 +19,6 @@ use Rattle.book_audit.specs.declared.printed.PrintedLife.{PrintedLife}
 use Rattle.book_audit.specs.Book.{hash_of, unhash_of, book_of}
 use Rattle.book_audit.proofs.Lives.{IsOf, by_hash, by_unhash, Whose, whose, hash_there, unhash_there}
 use Rattle.audit_laws.proofs.Printed.{span_of, told_card, told_life, told_lives}
-use Rattle.audit_laws.proofs.Lists.{among_map, Made, made_of}
 use Rattle.audit_laws.proofs.Ascending.{IsOfBook, life_there, life_back}
 
 -- what ends a life: an unhash of its slot, once it is in

@@ -22,7 +22,7 @@ use Rattle.race_book.specs.declared.lives.Life.{Life}
 use Rattle.race_record.specs.declared.record.Looked.{Looked}
 use Rattle.race_record.specs.declared.record.Looked.TheVariants as looks
 use Rattle.race_text.specs.Render as render
-use Rattle.race_text.specs.Render.{race_line, shape_line, clock_line, journal_line, journal_lines, unhash_text, pass_end_text}
+use Rattle.race_text.specs.Render.{race_line, shape_line, clock_line, journal_lines, unhash_text, pass_end_text}
 use Rattle.record_reader.specs.declared.line.Line.{Line}
 use Rattle.record_reader.specs.declared.line.Line.TheVariants as lines
 use Rattle.record_reader.specs.Forms.{kind_word, race_words, shape_words, unhash_words, end_words}

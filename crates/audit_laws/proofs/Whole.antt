@@ -1,5 +1,6 @@
 -- The text of a lawful race is a record of its lines, and each verdict on it is yes.
 use Rattle.std.proofs.Common.{◌≡◌, ℕ, suc, ◌+◌, ◌-◌, ◌<◌, ◌≤◌, ◌^◌, false, List, [], ◌∷◌, ◌++◌, append_assoc, append-nil, length, length-drop, map, slice_get, Option, None, Some, Result, Ok, Err, refl, sym, ap, ◌∙◌, subst, arith}
+use Rattle.std.proofs.lemmas.List.{length-map}
 use Rattle.std.specs.List.{flat_map, slice_index_or}
 use Rattle.std.proofs.lemmas.Grind.{flat_map-append}
 use Rattle.std.proofs.lemmas.List.{map-append}
@@ -51,7 +52,7 @@ use Rattle.record_reader.specs.declared.read.ReadEnd.TheVariants as ends
 use Rattle.record_reader.specs.Forms.{ItemFits}
 use Rattle.record_reader.specs.Record.{AreInOrder, IsFirstOutside, IsRecord}
 use Rattle.record_reader.specs.Told as spec
-use Rattle.record_reader.specs.Told.{is_vain, names_of}
+use Rattle.record_reader.specs.Told.{names_of}
 use Rattle.record_reader.specs.Names.{number_in}
 use Rattle.record_reader.specs.Verdicts.{Answers, IsVerdict}
 use Rattle.record_reader.proofs.Reading.{last_is, one_record}
@@ -64,7 +65,6 @@ use Rattle.audit_laws.proofs.Dumps.{ListsTold, sections_list}
 use Rattle.audit_laws.proofs.Forms.{IsInRange, line_row, line_rows}
 use Rattle.audit_laws.proofs.Judged.{Tells, passes_each}
 use Rattle.audit_laws.proofs.Lines.{cut_lines, item_line, item_row, journals_from, later_lines, life_lines, listed_cards, packets_from, race_lines, race_rows, reply_lines, reply_rows, row, step_lines, step_rows, steps_rows}
-use Rattle.audit_laws.proofs.Lists.{mapped_length}
 use Rattle.audit_laws.proofs.Order.{lines_end, lines_order}
 use Rattle.audit_laws.proofs.Ranges.{LookedFits, cut_in, journals_in, lives_in, lives_labelled, looked_in, packets_in}
 use Rattle.audit_laws.proofs.Replies.{IsFine, are_reply_rows, commands_text, rows_append}
@@ -252,7 +252,7 @@ module _ (input : List ℕ) (script : Script) (capture : Capture) (race : Race) 
   later_in : Each IsInRange (later_lines sections race)
   later_in =
       each_append IsInRange (journals_from 0 (map length race.journals)) _
-      (journals_in 0 (map length race.journals) (omega (arith, mapped_length count_of race.journals, l.journals.count, shape_fits.bind.1)) (each_map (λ (n : ℕ). n < 2 ^ 64) length race.journals (each_weaken (λ (journal : List (Note Entry)). length journal ≤ 2 ^ 56) (λ (journal : List (Note Entry)). length journal < 2 ^ 64) race.journals (λ journal le. omega (arith, le)) (journals_below race few_each short few_sections l.journals))))
+      (journals_in 0 (map length race.journals) (omega (arith, length-map race.journals count_of, l.journals.count, shape_fits.bind.1)) (each_map (λ (n : ℕ). n < 2 ^ 64) length race.journals (each_weaken (λ (journal : List (Note Entry)). length journal ≤ 2 ^ 56) (λ (journal : List (Note Entry)). length journal < 2 ^ 64) race.journals (λ journal le. omega (arith, le)) (journals_below race few_each short few_sections l.journals))))
       (each_append IsInRange (life_lines sections (lives_of race.book)) _
       (lives_in race.shape shape_fits race.seed race.clock sections race.book clock_fits l.serial.homes l.book.slots numbers.below cards)
       (each_append IsInRange (packets_from sections 1 race.looked) _
@@ -341,8 +341,8 @@ module _ (input : List ℕ) (script : Script) (capture : Capture) (race : Race) 
 
   yes_by : (v : Verdict) (p : Printed) → Tells (numbered number sections) race p → Answers all p v → v ≡ yes_of race
   yes_by (verdicts.Yes lives packets clock) p t a =
-      let first : lives ≡ length (lives_of race.book) = a.1 ∙ ap length t.lives ∙ mapped_length _ (lives_of race.book) in
-      let second : packets ≡ length race.looked = a.2 ∙ ap length t.packets ∙ mapped_length _ race.looked in
+      let first : lives ≡ length (lives_of race.book) = a.1 ∙ ap length t.lives ∙ length-map (lives_of race.book) _ in
+      let second : packets ≡ length race.looked = a.2 ∙ ap length t.packets ∙ length-map race.looked _ in
       let third : clock ≡ race.clock = a.3 ∙ t.clock in
       λ i. verdicts.Yes (first i) (second i) (third i)
   yes_by (verdicts.No line why) p t a =

@@ -12,7 +12,7 @@ use Rattle.sock_card.specs.declared.card.Packet.{Packet}
 use Rattle.sock_card.specs.Rank.{rank, rank_as, takes_device, takes_port, has_tuple}
 use Rattle.sock_card.specs.Tuples.{tuple_of, packet_tuple}
 use Rattle.sock_card.proofs.Tuples.{PartsAgree, parts_agree}
-use Rattle.race_book.specs.Among.{Among}
+use Rattle.race_book.proofs.AmongLemmas.{among_left, among_right}
 use Rattle.race_book.proofs.Endings.{each_of, to_each}
 use Rattle.race_book.proofs.Listing.{among_permuted}
 use Rattle.race_book.proofs.Checks.{or_cases, and_left, and_right, not_true}
@@ -129,22 +129,13 @@ module _ (stays : List Stay) (look : PrintedLook) (least : ℕ) (low : 0 < least
       not_there r p.which (each_of (λ l. IsMarked stays (mark l)) lives m p.which p.there) p.passes)
 
 -- marks stay marks when more are put behind them
-among_front : (xs ys : List Stay) (s : Stay) → Among xs s → Among (xs ++ ys) s
-among_front [] ys s a = absurd a
-among_front (x ∷ xs) ys s (inl p) = inl p
-among_front (x ∷ xs) ys s (inr a) = inr (among_front xs ys s a)
-
-among_end : (xs : List Stay) (s : Stay) → Among (xs ++ s ∷ []) s
-among_end [] s = inl refl
-among_end (x ∷ xs) s = inr (among_end xs s)
-
 still_marked : (xs : List Stay) (t : Stay) (s : Stay) → IsMarked xs s → IsMarked (xs ++ t ∷ []) s
-still_marked xs t s m = record { stay = m.stay; there = among_front xs (t ∷ []) m.stay m.there; stands = m.stands }
+still_marked xs t s m = record { stay = m.stay; there = among_left m.stay xs (t ∷ []) m.there; stands = m.stands }
 
 pub one_raised : (xs stays : List Stay) (t s : Stay) → Each (IsMarked xs) stays → StandsFor s t → Each (IsMarked (xs ++ t ∷ [])) (stays ++ s ∷ [])
 one_raised xs stays t s e f =
     each_push (IsMarked (xs ++ t ∷ [])) stays s (each_weaken (IsMarked xs) (IsMarked (xs ++ t ∷ [])) stays (still_marked xs t) e)
-    (record { stay = t; there = among_end xs t; stands = f })
+    (record { stay = t; there = among_right t xs (t ∷ []) (inl refl); stands = f })
 
 each_unmap : {A B : Type 0} (P : B → Type 0) (f : A → B) (xs : List A) → Each P (map f xs) → Each (λ x. P (f x)) xs
 each_unmap P f [] e = tt

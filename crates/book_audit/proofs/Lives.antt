@@ -1,5 +1,5 @@
 -- The book of some lives: whose its changes are, and what ends the lives.
-use Rattle.std.proofs.Common.{◌≡◌, ℕ, ◌<◌, ◌≤◌, ◌==◌, ◌&&◌, not, nat_lt, Bool, true, false, List, [], ◌∷◌, ◌++◌, Option, None, Some, refl, sym, ap, ◌∙◌, subst, arith, ◌⊎◌, inl, inr}
+use Rattle.std.proofs.Common.{◌≡◌, ℕ, ◌<◌, ◌≤◌, ◌==◌, ◌&&◌, not, nat_lt, Bool, true, false, List, [], ◌∷◌, Option, None, Some, refl, sym, ap, ◌∙◌, subst, arith, ◌⊎◌, inl, inr}
 use Rattle.std.proofs.lemmas.Bool.{true≢false, ltb-true, lt-ltb, eqb-true, eq-eqb}
 use Rattle.list_words.specs.Lists.{Pairs}
 use Rattle.list_words.proofs.EachLemmas.{some_same}
@@ -8,6 +8,7 @@ use Rattle.chain_book.specs.declared.book.Act.TheVariants as acts
 use Rattle.chain_book.specs.declared.book.Change.{Change}
 use Rattle.race_book.specs.Among.{Among}
 use Rattle.race_book.specs.Lives.{IsLife, Ends, comes_after, is_hash}
+use Rattle.race_book.proofs.AmongLemmas.{among_either, among_left, among_right}
 use Rattle.race_book.proofs.Endings.{each_of}
 use Rattle.race_book.proofs.Checks.{and_left, and_right, and_both}
 use Rattle.book_audit.specs.declared.printed.Span.{Span}
@@ -35,20 +36,6 @@ of l c (inl p) = by_hash p
 of l c (inr a) = of_unhash l c l.unhash refl a
 
 module _ {A : Type 0} where
-  among_either : (xs ys : List A) (x : A) → Among (xs ++ ys) x → Among xs x ⊎ Among ys x
-  among_either [] ys x a = inr a
-  among_either (y ∷ xs) ys x (inl p) = inl (inl p)
-  among_either (y ∷ xs) ys x (inr a) = elim (among_either xs ys x a) as (λ _. Among (y ∷ xs) x ⊎ Among ys x) [ inl p ↦ inl (inr p) | inr q ↦ inr q ]
-
-  among_left : (xs ys : List A) (x : A) → Among xs x → Among (xs ++ ys) x
-  among_left [] ys x a = absurd a
-  among_left (y ∷ xs) ys x (inl p) = inl p
-  among_left (y ∷ xs) ys x (inr a) = inr (among_left xs ys x a)
-
-  among_right : (xs ys : List A) (x : A) → Among ys x → Among (xs ++ ys) x
-  among_right [] ys x a = a
-  among_right (y ∷ xs) ys x a = inr (among_right xs ys x a)
-
   -- two items are one, or stand to each other as pairs do, where that goes both ways
   pub either : (R : A → A → Type 0) → ((x y : A) → R x y → R y x) → (xs : List A) → Pairs R xs → (x y : A) → Among xs x → Among xs y → (x ≡ y) ⊎ R x y
   either R swap [] p x y a b = absurd a
@@ -59,15 +46,15 @@ module _ {A : Type 0} where
 
 pub whose : (lives : List PrintedLife) (c : Change) → Among (book_of lives) c → Whose lives c
 whose [] c a = absurd a
-whose (l ∷ rest) c a = elim (among_either (changes_of l) (book_of rest) c a) as (λ _. Whose (l ∷ rest) c) [
+whose (l ∷ rest) c a = elim (among_either c (changes_of l) (book_of rest) a) as (λ _. Whose (l ∷ rest) c) [
   | inl p ↦ record { life = l; there = inl refl; is = of l c p }
   | inr q ↦ let w : Whose rest c = whose rest c q in record { life = w.life; there = inr w.there; is = w.is }
 ]
 
 in_book : (lives : List PrintedLife) (l : PrintedLife) → Among lives l → (c : Change) → Among (changes_of l) c → Among (book_of lives) c
 in_book [] l a c b = absurd a
-in_book (x ∷ rest) l (inl p) c b = among_left (changes_of x) (book_of rest) c (subst (λ y. Among (changes_of y) c) p b)
-in_book (x ∷ rest) l (inr q) c b = among_right (changes_of x) (book_of rest) c (in_book rest l q c b)
+in_book (x ∷ rest) l (inl p) c b = among_left c (changes_of x) (book_of rest) (subst (λ y. Among (changes_of y) c) p b)
+in_book (x ∷ rest) l (inr q) c b = among_right c (changes_of x) (book_of rest) (in_book rest l q c b)
 
 pub hash_there : (lives : List PrintedLife) (l : PrintedLife) → Among lives l → Among (book_of lives) (hash_of l)
 hash_there lives l a = in_book lives l a (hash_of l) (inl refl)

@@ -180,8 +180,8 @@ fn searched(clash: Clash, lives: &[PrintedLife]) -> Option<usize>
 
 /// The first life that clashes with an earlier one.
 ///
-/// Takes memory for the lives, and time in proportion to them and the logarithm of their number where none does; where
-/// one does, each life up to it is compared with all before it.
+/// Takes memory for the lives, and time in proportion to them and the logarithm of their number where none does;
+/// where one does, each life up to it is compared with all before it.
 pub fn first_clash(
     alloc: Global,
     clash: Clash,

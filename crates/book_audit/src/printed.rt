@@ -10,8 +10,8 @@ pub struct Span {
     pub end: u64,
 }
 
-/// The line of a life: where which card was hashed, from when until when that was done, and the same of its unhash, if
-/// it has one.
+/// The line of a life: where which card was hashed, from when until when that was done,
+/// and the same of its unhash, if it has one.
 ///
 /// The text of a card doesn't tell what it says besides its ends, device, namespace, kind and name: its `extra` is 0.
 #[derive(Clone, Copy, Debug, PartialEq, Eq)]

@@ -1,5 +1,6 @@
 -- The blocks of pcapng, and what each says of a capture's packets (draft-ietf-opsawg-pcapng, sections 4.2 and 4.3).
--- Options aren't read, and blocks of all other types are passed over, those of simple packets among them (section 4.4).
+-- Options aren't read, and blocks of all other types are passed over,
+-- those of simple packets among them (section 4.4).
 use Rattle.std.specs.Prelude.{◌≡◌, ◌≢◌, ℕ, ◌+◌, ◌*◌, ◌/◌, ◌≤◌, Option, Some, None, List, [], ◌∷◌, ◌++◌, length, take, drop, slice_get, Bool, true, false}
 use Rattle.capture_reader.specs.declared.number.Order.{Order}
 use Rattle.capture_reader.specs.declared.number.Order.TheVariants as orders
@@ -35,7 +36,8 @@ stored_count order block = number order 4 20 block
 abbrev pub padded : ℕ → ℕ
 padded n = (n + 3) / 4 * 4
 
--- The block stores a packet: the number of its interface is below the section's count, and there is room for its bytes.
+-- The block stores a packet: the number of its interface is below the section's count,
+-- and there is room for its bytes.
 pub record IsPacketBlock (section : BlockSection) (block : List ℕ) (link : Option Link) (stored : List ℕ) : Type 0 where
   pub whole : IsWhole section.order block
   pub least : 32 ≤ length block

@@ -1,6 +1,6 @@
 -- The header of a capture, in either of two formats: the file header of libpcap's savefiles (pcap-savefile(5);
--- draft-ietf-opsawg-pcap, section 4), or the block that begins a section of pcapng (draft-ietf-opsawg-pcapng, sections
--- 3.1 and 4.1). The link types are those of the first one's registry, by their numbers.
+-- draft-ietf-opsawg-pcap, section 4), or the block that begins a section of pcapng (draft-ietf-opsawg-pcapng,
+-- sections 3.1 and 4.1). The link types are those of the first one's registry, by their numbers.
 use Rattle.std.specs.Prelude.{◌≡◌, ◌≢◌, ℕ, ◌-◌, ◌%◌, ◌≤◌, ◌⊎◌, Option, Some, None, List, ◌++◌, length}
 use Rattle.capture_reader.specs.declared.number.Order.{Order}
 use Rattle.capture_reader.specs.declared.number.Order.TheVariants as orders
@@ -24,7 +24,8 @@ abbrev pub IsLinkNumber : Option Link → ℕ → Type 0
 IsLinkNumber (Some link) n = n ≡ link_number link
 IsLinkNumber None n = (link : Link) → n ≢ link_number link
 
--- The bytes begin with a header of 24: in its order of bytes stand the magic number, the version 2.4 and the link type.
+-- The bytes begin with a header of 24: in its order of bytes stand the magic number,
+-- the version 2.4 and the link type.
 pub record BeginsWithHeader (bytes : List ℕ) (header : Header) : Type 0 where
   pub whole : 24 ≤ length bytes
   pub magic : IsMagic (number header.order 4 0 bytes)
@@ -32,7 +33,8 @@ pub record BeginsWithHeader (bytes : List ℕ) (header : Header) : Type 0 where
   pub minor : number header.order 2 6 bytes ≡ 4
   pub link : number header.order 4 20 bytes ≡ link_number header.link
 
--- A block of pcapng is whole: after its type it tells how many bytes it has, a multiple of four, and again at its end.
+-- A block of pcapng is whole: after its type it tells how many bytes it has, a multiple of four,
+-- and again at its end.
 pub record IsWhole (order : Order) (block : List ℕ) : Type 0 where
   pub least : 12 ≤ length block
   pub fours : length block % 4 ≡ 0

@@ -145,8 +145,8 @@ fn block_of(section: &Section, dev: u16, net: u8, block: &[u8]) -> Option<Block>
     }
 }
 
-/// What the first block says, if it is valid, of packets that came in by that device and in that network namespace, and
-/// the bytes after it.
+/// What the first block says, if it is valid, of packets that came in by that device and in
+/// that network namespace, and the bytes after it.
 pub fn next_block<'a>(
     section: &Section,
     dev: u16,

@@ -131,8 +131,8 @@ fn read_blocks(
 /// Reads a capture in either format: what it says of each packet, all of which came in by that device, 0 where that
 /// isn't told, and in that network namespace.
 ///
-/// No bytes are a capture without items. Times, how long a packet was on the wire, and options aren't read; a packet of
-/// an interface whose link type isn't read is passed over. Takes memory for the items, at once for one in each 40
+/// No bytes are a capture without items. Times, how long a packet was on the wire, and options aren't read; a packet
+/// of an interface whose link type isn't read is passed over. Takes memory for the items, at once for one in each 40
 /// bytes, and for the interfaces of one section; the time is about that of one look at each record or block.
 pub fn packets(alloc: Global, bytes: &[u8], dev: u16, net: u8) -> Result<Capture, CaptureEnd>
     ensures capture { IfOk result (IsCapture dev net bytes.now) }

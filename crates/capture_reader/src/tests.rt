@@ -29,8 +29,8 @@ const BLOCKS: &str = "
     000000000000 000000000000 0800 45000028 00000000 40060000 0a000002 0a000001 03e80050 0000 48000000
     06000000 20000000 01000000 00000000 00000000 00000000 36000000 20000000";
 
-/// A section whose numbers have the highest byte first, with an option, an interface of raw IP, and a packet of it with
-/// an option behind its bytes.
+/// A section whose numbers have the highest byte first, with an option, an interface of raw IP, and a packet of it
+/// with an option behind its bytes.
 const BIG_BLOCKS: &str = "
     0a0d0d0a 00000024 1a2b3c4d 0001 0000 ffffffff ffffffff 0004 0003 61626300 00000024
     00000001 00000014 0065 0000 00000000 00000014
@@ -343,7 +343,8 @@ fn blocks_that_are_not_valid_end_a_capture(rt: HostRuntime) -> Result<(), Fail> 
         "0a0d0d0a 1c000000 4e3c2b1a 0100 0000 ffffffff ffffffff 1c000000",
         "0a0d0d0a 1c000000 4d3c2b1a 0200 0000 ffffffff ffffffff 1c000000",
         "0a0d0d0a 18000000 4d3c2b1a 0100 0000 ffffffff 18000000",
-        // An interface that is too short; a packet of an interface that isn't there, and of more bytes than there are.
+        // An interface that is too short; a packet of an interface that isn't there,
+        // and of more bytes than there are.
         "01000000 10000000 0100 0000 10000000",
         "06000000 20000000 02000000 00000000 00000000 00000000 00000000 20000000",
         "06000000 24000000 00000000 00000000 00000000 05000000 05000000 0a0b0c0d 24000000",

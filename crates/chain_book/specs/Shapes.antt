@@ -1,4 +1,5 @@
--- How large tables may be: our own limits. The kernel has a power of two for the size of each of its hash tables, too.
+-- How large tables may be: our own limits. The kernel has a power of two for the size of each
+-- of its hash tables, too.
 use Rattle.std.specs.Prelude.{ℕ, ◌≤◌}
 use Rattle.std.specs.Int.{IsPowerOfTwo}
 use Rattle.chain_book.specs.declared.shape.Shape.{Shape}

@@ -7,8 +7,8 @@
 //! go over std's readers and writers, and tell what those tell: of standard input and output,
 //! nothing.
 //!
-//! It stands on std, and on `itoa` for decimal text. The contract that callers rest on: `read_all` gives all the bytes of a source, up to a limit;
-//! `write_all` writes all of a text, or a front of it where the sink failed.
+//! It stands on std, and on `itoa` for decimal text. The contract that callers rest on: `read_all` gives all the
+//! bytes of a source, up to a limit; `write_all` writes all of a text, or a front of it where the sink failed.
 //!
 //! ```text
 //! let bytes = read_all(alloc, &mut source, 1_000_000)?;

@@ -23,14 +23,14 @@ fn as_card(end: WordsEnd) -> LookEnd
 
 /// Looks up the card of a bucket that matches a packet best, with at least this rank, in at most so many passes.
 ///
-/// It locks nothing, waits for nobody and takes no memory: each pass follows the bucket's links, at most one more than
-/// there are slots, and takes a count of a slot before it trusts its card. Where others change the chain meanwhile, a
-/// pass may end without an answer, and the next one begins anew. A rank of 5 ends a pass at once.
+/// It locks nothing, waits for nobody and takes no memory: each pass follows the bucket's links, at most one more
+/// than there are slots, and takes a count of a slot before it trusts its card. Where others change the chain
+/// meanwhile, a pass may end without an answer, and the next one begins anew. A rank of 5 ends a pass at once.
 ///
 /// The algorithm is that of `__inet_lookup_established` of net/ipv4/inet_hashtables.c over hlist_nulls, which
 /// Documentation/RCU/rculist_nulls.rst explains.
-// Inlined, so that the least rank and the number of passes of a call are known within: from rank 5 on, a visit compares
-// one four-tuple.
+// Inlined, so that the least rank and the number of passes of a call are known within: from rank 5 on,
+// a visit compares one four-tuple.
 #[inline(always)]
 pub fn look<P: Pace>(
     chains: &Chains,

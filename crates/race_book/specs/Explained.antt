@@ -1,5 +1,5 @@
--- Which answers of lookups some changes explain: our own, after the rule of Documentation/RCU/rculist_nulls.rst that a
--- lookup which ends in another chain, or meets what is no longer there, starts again.
+-- Which answers of lookups some changes explain: our own, after the rule of Documentation/RCU/rculist_nulls.rst that
+-- a lookup which ends in another chain, or meets what is no longer there, starts again.
 use Rattle.std.specs.Prelude.{◌≡◌, ◌≢◌, ℕ, ◌+◌, ◌≤◌, List, [], ◌∷◌}
 use Rattle.sock_card.specs.declared.card.Card.{Card}
 use Rattle.sock_card.specs.declared.card.Packet.{Packet}

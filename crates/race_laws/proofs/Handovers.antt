@@ -32,6 +32,7 @@ use Rattle.table_model.specs.Operations.{Did, done, refused, full_card}
 use Rattle.table_model.specs.Own.{Mine, Own, card_of, next_name, open_named, open_socket, with_label}
 use Rattle.race_book.specs.Among.{Among}
 use Rattle.race_book.specs.Serial.{IsSerial, EndsOne}
+use Rattle.race_book.proofs.AmongLemmas.{among_left, among_right}
 use Rattle.race_book.proofs.Checks.{and_both}
 use Rattle.race_record.specs.Deeds.{Deed, hashed, kept_out, no_slot, entered, inserted, added, left, reaped, changes_in, drawn_in}
 use Rattle.race_record.specs.Goes.{Goes, IsHashOf, IsUnhashAt}
@@ -110,7 +111,7 @@ no_ok errors.IsConn e = absurd (cc)
 no_ok errors.GroupFull e = absurd (cc)
 no_ok errors.GroupsFull e = absurd (cc)
 no_ok (errors.Full owned held) e = absurd (cc)
-no_ok errors.Memory e = absurd (cc)
+no_ok (errors.LeftOff cause) e = absurd (cc)
 
 more_handed : (first rest : List Deed) → Handed first → Handed (first ++ rest)
 more_handed first rest h = record {
@@ -212,23 +213,14 @@ module _ (In : Change → Type 0) (shape : Shape) (seed : ℕ) (serial : IsSeria
     abbrev Hands : Step → Type 0
     Hands s = HandsOverAs In s.command s.reply s.deeds
 
-    in_front : (xs ys : List Change) (c : Change) → Among xs c → Among (xs ++ ys) c
-    in_front [] ys c a = absurd a
-    in_front (x ∷ xs) ys c (inl e) = inl e
-    in_front (x ∷ xs) ys c (inr a) = inr (in_front xs ys c a)
-
-    in_back : (xs ys : List Change) (c : Change) → Among ys c → Among (xs ++ ys) c
-    in_back [] ys c a = a
-    in_back (x ∷ xs) ys c a = inr (in_back xs ys c a)
-
     abbrev AreIn : List Deed → Type 0
     AreIn deeds = (c : Change) → Among (changes_in deeds) c → In c
 
     first_in : (first rest : List Deed) → AreIn (first ++ rest) → AreIn first
-    first_in first rest h c a = h c (subst (λ (l : List Change). Among l c) (sym (changes_more first rest)) (in_front (changes_in first) (changes_in rest) c a))
+    first_in first rest h c a = h c (subst (λ (l : List Change). Among l c) (sym (changes_more first rest)) (among_left c (changes_in first) (changes_in rest) a))
 
     rest_in : (first rest : List Deed) → AreIn (first ++ rest) → AreIn rest
-    rest_in first rest h c a = h c (subst (λ (l : List Change). Among l c) (sym (changes_more first rest)) (in_back (changes_in first) (changes_in rest) c a))
+    rest_in first rest h c a = h c (subst (λ (l : List Change). Among l c) (sym (changes_more first rest)) (among_right c (changes_in first) (changes_in rest) a))
 
     steps_hand : (own : Own) (cs : List Command) (steps : List Step) → AreStepsOf header In own cs steps → Each (IsSpanned clock) steps → AreIn (deeds_of steps) → Each Hands steps
     steps_hand own [] [] a spans there = tt

@@ -16,7 +16,8 @@ hashed_by card (put slot old) = Some card
 hashed_by card (taken name) = None
 hashed_by card (full owned held) = None
 
--- The plan, before which that was hashed, hashes one card at most in all, and comes to what Q says by what was hashed.
+-- The plan, before which that was hashed, hashes one card at most in all,
+-- and comes to what Q says by what was hashed.
 abbrev pub Hashes : {R : Type 0} → (Option Card → R → Type 0) → Option Card → Asking R → Type 0
 Hashes Q did (ends r) = Q did r
 Hashes Q did (asks key request then_) = (a : Answer) → Hashes Q did (then_ a)

@@ -1,7 +1,8 @@
 -- In a lawful race a name is hashed once for each kind, and so each dump lists it once.
-use Rattle.std.proofs.Common.{◌≡◌, ◌≢◌, ℕ, ◌+◌, ◌*◌, ◌<◌, ◌≤◌, nat_lt, Bool, true, false, List, [], ◌∷◌, map, Some, if◌then◌else◌, refl, sym, ap, ◌∙◌, subst, arith, inl, inr}
+use Rattle.std.proofs.Common.{◌≡◌, ◌≢◌, ℕ, ◌+◌, ◌*◌, ◌<◌, ◌≤◌, List, [], ◌∷◌, map, Some, refl, sym, ap, ◌∙◌, subst, arith, inl, inr}
 use Rattle.std.specs.List.{flat_map}
 use Rattle.list_words.specs.Lists.{Each, Pairs, total}
+use Rattle.list_words.proofs.AscendingLemmas.{each_ascending}
 use Rattle.list_words.proofs.EachLemmas.{each_weaken, each_map, each_append}
 use Rattle.list_words.proofs.PairsLemmas.{pairs_weaken, pairs_both, pairs_of_each, pairs_map}
 use Rattle.sock_card.specs.declared.card.Card.{Card}
@@ -10,7 +11,7 @@ use Rattle.sock_card.specs.declared.card.Kind.TheVariants as kinds
 use Rattle.sock_card.specs.Words.{number_of}
 use Rattle.socket_list.specs.Laws.{HavePlaces}
 use Rattle.socket_list.specs.Listing.{Listing}
-use Rattle.socket_list.specs.Order.{order_of, put_in, ascending}
+use Rattle.socket_list.specs.Order.{order_of, ascending}
 use Rattle.socket_list.specs.declared.listing.Span.{Span}
 use Rattle.socket_list.proofs.Same.{lists_as_one, lists_in_order}
 use Rattle.capture_reader.specs.Captures.{Capture}
@@ -75,19 +76,6 @@ kind_of_order c d e = kind_by c.kind d.kind (omega (arith, e, name_by c d e))
 order_by : (c d : Card) → c.name ≡ d.name → c.kind ≡ d.kind → order_of c ≡ order_of d
 order_by c d e f = λ i. e i * 8 + number_of (f i)
 
-module _ (P : Card → Type 0) where
-  put_if : (c d : Card) (rest : List Card) → P c → P d → Each P rest → Each P (put_in c rest) → (b : Bool) → Each P (if b then d ∷ put_in c rest else c ∷ d ∷ rest)
-  put_if c d rest p q e f true = (q, f)
-  put_if c d rest p q e f false = (p, (q, e))
-
-  each_put : (c : Card) (xs : List Card) → P c → Each P xs → Each P (put_in c xs)
-  each_put c [] p e = (p, tt)
-  each_put c (d ∷ rest) p e = put_if c d rest p e.0 e.1 (each_put c rest p e.1) (nat_lt (order_of d) (order_of c))
-
-  each_ascending : (xs : List Card) → Each P xs → Each P (ascending xs)
-  each_ascending [] e = tt
-  each_ascending (c ∷ rest) e = each_put c (ascending rest) e.0 (each_ascending rest e.1)
-
 abbrev card_in : Change → Card
 card_in h = h.card
 
@@ -118,7 +106,7 @@ module _ (In : Change → Type 0) (once : (g h : Change) → IsLife In g → IsL
             (λ c d less name kind. absurd (omega (arith, less, order_by c d name kind))) up;
         ascend = up;
         each = subst (Each (IsOfOneLife In span.t0 span.t1)) is
-            (each_ascending (IsOfOneLife In span.t0 span.t1) (map card_in l.lives)
+            (each_ascending order_of (IsOfOneLife In span.t0 span.t1) (map card_in l.lives)
             (each_map (IsOfOneLife In span.t0 span.t1) card_in l.lives
             (each_weaken (IsThere span.t0 span.t1) (λ h. IsOfOneLife In span.t0 span.t1 h.card) l.lives (of_one span.t0 span.t1) l.stood)));
         all = l.all;

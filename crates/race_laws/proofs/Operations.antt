@@ -23,8 +23,8 @@ use Rattle.table_model.specs.Operations.{Did, done, refused, Closed, gone, waiti
 use Rattle.race_laws.proofs.Hashed.{Hashes, hashed_by, hashes_if}
 use Rattle.race_laws.proofs.Kept.{IsAsCard}
 
--- What `bind`, `listen` or `connect` of a socket comes to: where nothing was hashed, one of its name and kind; else it
--- was no kind's, and has become that of the card.
+-- What `bind`, `listen` or `connect` of a socket comes to: where nothing was hashed, one of its name and kind; else
+-- it was no kind's, and has become that of the card.
 pub record HasStayed (m n : Mine) : Type 0 where
   pub name : n.owner.name ≡ m.owner.name
   pub kind : kind_of n.owner.state ≡ kind_of m.owner.state

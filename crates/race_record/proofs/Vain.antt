@@ -348,7 +348,7 @@ same_bind own (refused errors.IsConn) = refl
 same_bind own (refused errors.GroupFull) = refl
 same_bind own (refused errors.GroupsFull) = refl
 same_bind own (refused (errors.Full o h)) = refl
-same_bind own (refused errors.Memory) = refl
+same_bind own (refused (errors.LeftOff cause)) = refl
 
 same_connect : (own : Own) (d : Did) → told_did d ≡ told_reply (command.connect_reply own d)
 same_connect own (done m) = refl
@@ -360,7 +360,7 @@ same_connect own (refused errors.IsConn) = refl
 same_connect own (refused errors.GroupFull) = refl
 same_connect own (refused errors.GroupsFull) = refl
 same_connect own (refused (errors.Full o h)) = refl
-same_connect own (refused errors.Memory) = refl
+same_connect own (refused (errors.LeftOff cause)) = refl
 
 same_accept : (own : Own) (d : Did) → told_did d ≡ told_reply (command.accept_reply own d)
 same_accept own (done m) = refl
@@ -372,7 +372,7 @@ same_accept own (refused errors.IsConn) = refl
 same_accept own (refused errors.GroupFull) = refl
 same_accept own (refused errors.GroupsFull) = refl
 same_accept own (refused (errors.Full o h)) = refl
-same_accept own (refused errors.Memory) = refl
+same_accept own (refused (errors.LeftOff cause)) = refl
 
 same_ack : (own : Own) (name : ℕ) (d : Did) → told_did d ≡ told_reply (command.ack_reply own name d)
 same_ack own name (done m) = refl
@@ -384,7 +384,7 @@ same_ack own name (refused errors.IsConn) = refl
 same_ack own name (refused errors.GroupFull) = refl
 same_ack own name (refused errors.GroupsFull) = refl
 same_ack own name (refused (errors.Full o h)) = refl
-same_ack own name (refused errors.Memory) = refl
+same_ack own name (refused (errors.LeftOff cause)) = refl
 
 same_close : (own : Own) (name : ℕ) (c : Closed) → told_closed c ≡ told_reply (command.close_reply own name c)
 same_close own name gone = refl

@@ -39,8 +39,8 @@ HasCause In shape (looks.Answered r) = MayAnswer In anywhere shape.slots r.packe
 HasCause In shape looks.Skip = Unit {0}
 HasCause In shape looks.Short = Unit {0}
 
--- What a dump lists between two loads of the clock: the sockets of some lives, each of which stood hashed at some time
--- meanwhile, and no two in one place; and each socket that stood hashed throughout.
+-- What a dump lists between two loads of the clock: the sockets of some lives, each of which stood hashed at some
+-- time meanwhile, and no two in one place; and each socket that stood hashed throughout.
 pub record ListsWhatStood (In : Change → Type 0) (listing : Listing) : Type 0 where
   pub span : Span
   pub span_is : listing.span ≡ Some span
@@ -63,8 +63,8 @@ pub record Headline (race : Race) : Type 0 where
   -- each dump lists what stood hashed throughout, nothing that stood at no time meanwhile, and nothing twice
   pub dumps : Each (ListsWhatStood (Among race.book)) (listings_of race)
 
--- what the numbers of the clock tell: none stands twice in the book, all are below the clock, each change begins before
--- it ends; and there are two for each change and one for each command that sought a slot in vain
+-- what the numbers of the clock tell: none stands twice in the book, all are below the clock, each change begins
+-- before it ends; and there are two for each change and one for each command that sought a slot in vain
 pub record NumbersTell (race : Race) : Type 0 where
   pub distinct : StampsDiffer race.book
   pub below : Each (λ (n : ℕ). n < race.clock) (stamps_of race.book)

@@ -113,8 +113,8 @@ pub record IsEnteredBy (buckets : ℕ) (journals : List (List (Note Entry))) (n 
   pub in_order :
       EachFrom (λ place journal. by_caller n journal ≡ notes_at place (entries_in buckets (deeds_of steps))) 0 journals
 
--- the journals are legal, each for its bucket's number, and have the steps' entries, each once, those of one section in
--- its order
+-- the journals are legal, each for its bucket's number, and have the steps' entries, each once,
+-- those of one section in its order
 pub record AreJournalsOf (race : Race) : Type 0 where
   pub count : length race.journals ≡ race.shape.bind
   pub legal : EachFrom IsLegalJournal 0 race.journals

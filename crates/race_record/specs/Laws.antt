@@ -33,8 +33,8 @@ drew_for _ = false
 abbrev pub drew_in_vain : Step → Bool
 drew_in_vain s = drew_for s.reply
 
--- a command sought a slot in vain once where its reply says so, and else never: so replies tell how many numbers of the
--- clock belong to no change
+-- a command sought a slot in vain once where its reply says so, and else never: so replies tell how many numbers of
+-- the clock belong to no change
 abbrev pub RepliesTellVain : Type 0
 RepliesTellVain =
     (header : Header) (own next : Own) (command : Command) (reply : Reply) (deeds : List Deed)

@@ -21,8 +21,8 @@ pub fn two_sections()
     ensures { Lawful second_script second_capture second_race }
 {}
 
-/// So is that of a handshake: the child is hashed before its request is unhashed, so that each packet of the four-tuple
-/// finds the one or the other.
+/// So is that of a handshake: the child is hashed before its request is unhashed, so that each packet of the
+/// four-tuple finds the one or the other.
 pub fn one_handshake()
     ensures { Lawful handshake_script handshake_capture handshake_race }
 {}
@@ -50,8 +50,8 @@ pub fn wrong_races()
 {}
 
 /// So are those in which a packet finds nothing while a listener stands; or finds nothing as if it had been looked up
-/// before the listener came, by a looker that had found it already; or is given up for a change that never was, or in a
-/// bucket that isn't the packet's; or finds the listener while a request of its four-tuple stands.
+/// before the listener came, by a looker that had found it already; or is given up for a change that never was, or in
+/// a bucket that isn't the packet's; or finds the listener while a request of its four-tuple stands.
 pub fn wrong_lookups()
     ensures nothing { wrong.FoundNothing }
     ensures start { wrong.FromTheStart }
@@ -60,7 +60,8 @@ pub fn wrong_lookups()
     ensures listener { wrong.FoundListener }
 {}
 
-/// So are those in which a dump lists nothing while a listener stands, or claims to have begun before its command did.
+/// So are those in which a dump lists nothing while a listener stands,
+/// or claims to have begun before its command did.
 pub fn wrong_dumps()
     ensures nothing { wrong.ListsNothing }
     ensures before { wrong.ListsBefore }

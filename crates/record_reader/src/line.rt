@@ -6,8 +6,8 @@ use sock_card::{Card, Kind, Packet};
 
 /// The name of a socket: its section, and its label as numbers.
 ///
-/// A label has 1 to 16 bytes. They are in a field of 16, with zeros behind them, of which `high` is the first half as a
-/// number and `low` the other one, the first byte highest.
+/// A label has 1 to 16 bytes. They are in a field of 16, with zeros behind them, of which `high` is the first half as
+/// a number and `low` the other one, the first byte highest.
 #[derive(Clone, Copy, Debug, PartialEq, Eq, PartialOrd, Ord)]
 pub struct Name {
     pub section: u32,

@@ -14,7 +14,8 @@ abbrev pub present : Option Choice → Option Choice
 present None = None
 present (Some c) = if c.member == 0 then None else Some c
 
--- the choice by a count and the member at the place to which it scales the hash: none exactly where one of the two is 0
+-- the choice by a count and the member at the place to which it scales the hash:
+-- none exactly where one of the two is 0
 abbrev pub choice_of : ℕ → (ℕ → ℕ) → ℕ → Option Choice
 choice_of count member hash =
     let place = scale hash count in

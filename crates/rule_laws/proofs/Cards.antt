@@ -1,4 +1,5 @@
--- Cards of a sound list: the member of a group that a hash chooses has a card, which matches as each of its mates does.
+-- Cards of a sound list: the member of a group that a hash chooses has a card,
+-- which matches as each of its mates does.
 use Rattle.std.proofs.Common.{◌≡◌, ℕ, ◌^◌, ◌<◌, ◌≤◌, Bool, true, false, ◌&&◌, ◌==◌, cond, List, [], ◌∷◌, length, find, Option, Some, refl, sym, ap, ◌∙◌, inl, inr, arith}
 use Rattle.std.specs.Prelude.{count_by}
 use Rattle.std.specs.List.{list_any}

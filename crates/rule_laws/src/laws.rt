@@ -10,7 +10,8 @@ ghost use Rattle.rule_laws.specs.Rows as row;
 ghost use Rattle.rule_laws.specs.Scripts.{ScriptsAreOrderly};
 ghost use Rattle.rule_laws.specs.TextRows as text;
 
-/// What a packet finds in a sound list matches it, and no card matches it better; where it finds nothing, none matches.
+/// What a packet finds in a sound list matches it, and no card matches it better; where it finds nothing,
+/// none matches.
 pub fn best_card()
     ensures { FindsTheBest }
 {}
@@ -28,16 +29,16 @@ pub fn sections_stay()
     ensures moments { MomentsAreSet }
 {}
 
-/// A run comes to each command but `packets` and to each item of the capture, once and in their order, and there are as
-/// many replies; and as many listings as there are dumps.
+/// A run comes to each command but `packets` and to each item of the capture, once and in their order, and there are
+/// as many replies; and as many listings as there are dumps.
 pub fn all_events()
     ensures events { EventsAreAll }
     ensures replies { RepliesAreAll }
     ensures listings { ListingsAreAll }
 {}
 
-/// Each script that a text is has 64 sections at most; the labels of one differ, what its commands say is in range, and
-/// one for a race asks for no lookup.
+/// Each script that a text is has 64 sections at most; the labels of one differ, what its commands say is in range,
+/// and one for a race asks for no lookup.
 pub fn orderly_scripts()
     ensures { ScriptsAreOrderly }
 {}

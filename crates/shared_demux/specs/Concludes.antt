@@ -45,9 +45,9 @@ book_end (ends.Dead slot) = stops.Dead slot
 book_end (ends.Changed slot) = stops.Changed slot
 book_end (ends.Long links) = stops.Long links
 
--- The order of the lookups: the first that isn't None decides, and where it is Again its bucket and end are handed on.
--- What is said of one of them is said of what the pass knew as it began, and each begins with what the one before left,
--- and knows as much of the clock or more.
+-- The order of the lookups: the first that isn't None decides, and where it is Again its bucket and end are handed
+-- on. What is said of one of them is said of what the pass knew as it began, and each begins with what the one before
+-- left, and knows as much of the clock or more.
 
 -- the count of the best is given back
 abbrev pub LetsGo : Sat → (slot : ℕ) → Sat → Type 0

@@ -155,11 +155,13 @@ fn look_listener<P: Pace>(
 
 /// Looks up the socket that takes a packet: connected sockets, then listeners, then the choice of the best's group.
 ///
-/// Each of the three lookups through chains makes at most so many passes. It locks nothing, waits for nobody and takes
-/// no memory, and lets each count go before it answers. Where a pass through a chain ends without an answer each time,
-/// as others change that chain, it answers Again, of that chain and how the last pass ended: the caller may try anew.
+/// Each of the three lookups through chains makes at most so many passes. It locks nothing, waits for nobody and
+/// takes no memory, and lets each count go before it answers. Where a pass through a chain ends without an answer
+/// each time, as others change that chain, it answers Again, of that chain and how the last pass ended:
+/// the caller may try anew.
 ///
-/// The clock is loaded first and last: what was found stood at some time between, and nothing better stood throughout.
+/// The clock is loaded first and last: what was found stood at some time between,
+/// and nothing better stood throughout.
 pub fn look_packet<P: Pace>(
     tables: &Lookups,
     steps: &mut Steps,

@@ -6,8 +6,8 @@
 //! each walks its chain by `null_reader::look`, so it waits for nobody and takes no memory, and what it found is held
 //! by a count until that is put.
 //!
-//! Their contracts say which chains were asked, with which least rank, in which order; what the pass knows then; and on
-//! a pass that has the table to itself that the answer is the best card that stands.
+//! Their contracts say which chains were asked, with which least rank, in which order; what the pass knows then; and
+//! on a pass that has the table to itself that the answer is the best card that stands.
 //!
 //! ```text
 //! let look = listeners::find(&chains, &layout, &mut pass.steps, &packet, 1, &mut Still);

@@ -1,5 +1,5 @@
--- A card as four words of a table keep it: our own rule, so that a lookup can tell by the first two words how well the
--- card matches.
+-- A card as four words of a table keep it: our own rule, so that a lookup can tell
+-- by the first two words how well the card matches.
 use Rattle.std.specs.Prelude.{ℕ, ◌+◌, ◌*◌, ◌/◌, ◌%◌, ◌^◌, ◌≡◌, ◌==◌, cond}
 use Rattle.sock_card.specs.Rank.{rank}
 use Rattle.sock_card.specs.declared.card.Kind.{Kind}

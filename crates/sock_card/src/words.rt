@@ -64,8 +64,8 @@ pub fn pack(card: &Card) -> CardWords
     }
 }
 
-/// The card that four words say. A number that is no kind's is read as Full, and of a name and of what is said besides
-/// the lower 32 bits are read, so that all words say a card.
+/// The card that four words say. A number that is no kind's is read as Full, and of a name and of what is said
+/// besides the lower 32 bits are read, so that all words say a card.
 pub fn unpack(words: &CardWords) -> Card
     ensures { result ≡ spec.unpacked words.now }
 {

@@ -47,7 +47,8 @@ shows test card dark t i = cond (dark i == 0) (test t (card i 0) (card i 1)) 0
 pub record TuplesOk (buckets : ℕ) (chain : ℕ → List ℕ) (card : ℕ → ℕ → ℕ) (dark twice : ℕ → ℕ) : Type 0 where
   -- no chain has two lit full cards of one four-tuple
   pub full : (b t : ℕ) → b < buckets → total (shows bears card dark t) (chain b) ≤ 1
-  -- nor two of full sockets and requests, but for a bucket in which one was lit beside another, under its present lock
+  -- nor two of full sockets and requests, but for a bucket in which one was lit beside another,
+  -- under its present lock
   pub taken : (b t : ℕ) → b < buckets → twice b ≡ 0 → total (shows claims card dark t) (chain b) ≤ 1
 
 -- 1 where a card that begins with these words has the four-tuple t, or may have it

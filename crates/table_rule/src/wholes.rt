@@ -1,5 +1,5 @@
-// The single steps that a whole lookup of a packet has besides those through its buckets: counts that are put, and its
-// end.
+// The single steps that a whole lookup of a packet has besides those through its buckets: counts that are put,
+// and its end.
 ghost use Rattle.std.specs.Prelude.{◌≡◌, ◌<◌, ◌≤◌, ℕ};
 ghost use mathlib.Core.Option.{some};
 ghost use lib.ListN.{get_elem?};
@@ -33,8 +33,8 @@ impl Chains {
             .fetch_sub::<LetSee<T>>(&mut steps.seat, word, 1);
     }
 
-    /// Puts the first count on a slot that was taken with LIVE and under which the whole card was loaded. From then on
-    /// the pass knows that the card stood.
+    /// Puts the first count on a slot that was taken with LIVE and under which the whole card was loaded. From then
+    /// on the pass knows that the card stood.
     pub fn step_put_seen(&self, steps: &mut Steps, slot: u32)
         requires table { IsOf self.now steps.old }
         requires slot { slot < self.now.layout.shape.slots }

@@ -1,9 +1,24 @@
 -- What stands in lists that are made of others.
-use Rattle.std.proofs.Common.{◌≡◌, suc, length, Bool, true, false, List, [], ◌∷◌, map, filter, cond, refl, sym, ap, ◌∙◌, inl, inr}
+use Rattle.std.proofs.Common.{◌≡◌, Bool, true, false, List, [], ◌∷◌, ◌++◌, map, filter, cond, refl, sym, ap, ◌∙◌, ◌⊎◌, inl, inr}
 use Rattle.std.proofs.lemmas.Bool.{true≢false}
 use Rattle.race_book.specs.Among.{Among}
 
 module _ {A : Type 0} where
+  -- two lists joined
+  pub among_either : (x : A) (xs ys : List A) → Among (xs ++ ys) x → Among xs x ⊎ Among ys x
+  among_either x [] ys a = inr a
+  among_either x (y ∷ xs) ys (inl p) = inl (inl p)
+  among_either x (y ∷ xs) ys (inr a) = elim (among_either x xs ys a) as (λ _. Among (y ∷ xs) x ⊎ Among ys x) [ inl p ↦ inl (inr p) | inr q ↦ inr q ]
+
+  pub among_left : (x : A) (xs ys : List A) → Among xs x → Among (xs ++ ys) x
+  among_left x [] ys a = absurd a
+  among_left x (y ∷ xs) ys (inl p) = inl p
+  among_left x (y ∷ xs) ys (inr a) = inr (among_left x xs ys a)
+
+  pub among_right : (x : A) (xs ys : List A) → Among ys x → Among (xs ++ ys) x
+  among_right x [] ys a = a
+  among_right x (y ∷ xs) ys a = inr (among_right x xs ys a)
+
   -- what passes a test
   pub record Kept (test : A → Bool) (xs : List A) (x : A) : Type 0 where
     pub there : Among xs x
@@ -29,10 +44,6 @@ module _ {A : Type 0} where
   keeps test (y ∷ ys) x t a = keeps_by test y ys x t (keeps test ys x t) (test y) refl a
 
 module _ {A B : Type 0} (f : A → B) where
-  pub mapped_length : (xs : List A) → length (map f xs) ≡ length xs
-  mapped_length [] = refl
-  mapped_length (x ∷ xs) = ap suc (mapped_length xs)
-
   pub among_map : (xs : List A) (x : A) → Among xs x → Among (map f xs) (f x)
   among_map [] x a = absurd a
   among_map (y ∷ ys) x (inl p) = inl (ap f p)
