@@ -7,9 +7,10 @@
 -- socket without a port needs a source named; which owners may share a port that `connect` chooses; which TIME_WAIT
 -- gives way to a connection.
 --
--- To be read from a command's name upwards: `connect`, `accept`, `syn` and `ack` are given the socket that their label
--- names. `connect_socket` and `ack_socket` part its states, each in one place; `accept` and `syn` ask `is_no_accept`,
--- which is true of any but a listener. What they call stands above them, and tests one refusal after the other.
+-- To be read from a command's name upwards: `connect`, `accept`, `syn` and `ack` are given the socket that their
+-- label names. `connect_socket` and `ack_socket` part its states, each in one place; `accept` and `syn` ask
+-- `is_no_accept`, which is true of any but a listener. What they call stands above them,
+-- and tests one refusal after the other.
 use Rattle.std.specs.Prelude.{ℕ, Bool, true, ◌&&◌, not, Option, None, Some, if◌then◌else◌}
 use Rattle.sock_card.specs.declared.owner.Owner.{Owner}
 use Rattle.sock_card.specs.declared.owner.State.{State}
@@ -63,8 +64,8 @@ connect_bound flat n s from to =
 abbrev pub connected_by_search : Socket → ℕ → End → ℕ → Socket
 connected_by_search s source to port = record s { owner = connected_at s.owner source port to }
 
--- a port whose owners in the socket's namespace all had it chosen by `connect`, and with which the socket can have its
--- four-tuple
+-- a port whose owners in the socket's namespace all had it chosen by `connect`,
+-- and with which the socket can have its four-tuple
 abbrev pub suits_connect : Flat → ℕ → Socket → ℕ → End → ℕ → Bool
 suits_connect flat n s source to port =
     not (is_claimed port s.owner.net flat.sockets) && not (is_taken_in flat n (connected_by_search s source to port))

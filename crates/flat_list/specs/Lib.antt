@@ -16,4 +16,5 @@ pub mod Rows
 pub mod MoreRows
 pub mod Script
 pub mod Padded
+pub mod Kept
 pub mod Labels

@@ -215,8 +215,8 @@ wait_taken =
     ∷ says (commands.Bind (codes "p") (one 80)) (replies.Port 80)
     ∷ []
 
--- of two slots a listener has one and a request the other; a request's label serves `ack` alone, until `close` lets its
--- slot and its four-tuple go
+-- of two slots a listener has one and a request the other; a request's label serves `ack` alone, until `close` lets
+-- its slot and its four-tuple go
 abbrev pub requests : List Line
 requests =
     says (sharing (codes "l")) replies.Ok

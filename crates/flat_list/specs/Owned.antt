@@ -51,13 +51,13 @@ connected_to a source to = connected source to.addr to.port a
 abbrev pub connected_at : Owner → ℕ → ℕ → End → Owner
 connected_at a source port to = record (connected_to a source to) { port = port; by_connect = true }
 
--- the socket of that name which a listener accepts from one end at another: full, and all else as the listener has it,
--- its origin too
+-- the socket of that name which a listener accepts from one end at another: full,
+-- and all else as the listener has it, its origin too
 abbrev pub child_owner : Owner → ℕ → End → End → Owner
 child_owner l name from at = child name at.addr from.addr from.port l
 
--- the request of that name for a handshake with a listener from one end at another: as the child would be, but that it
--- isn't full
+-- the request of that name for a handshake with a listener from one end at another: as the child would be,
+-- but that it isn't full
 abbrev pub request_owner : Owner → ℕ → End → End → Owner
 request_owner l name from at = as_request (child_owner l name from at)
 

@@ -1,7 +1,7 @@
 -- In which order a search tries the ports of a range. That `connect` prefers every second port and `bind` the others,
 -- and that a search goes round from an offset, follows inet_csk_find_open_port of net/ipv4/inet_connection_sock.c and
--- __inet_hash_connect of net/ipv4/inet_hashtables.c, and that both pass reserved ports by, inet_is_local_reserved_port;
--- where it begins and which half comes first is our own rule.
+-- __inet_hash_connect of net/ipv4/inet_hashtables.c, and that both pass reserved ports by,
+-- inet_is_local_reserved_port; where it begins and which half comes first is our own rule.
 use Rattle.std.specs.Prelude.{◌≡◌, ℕ, ◌+◌, ◌-◌, ◌*◌, ◌/◌, ◌%◌, ◌==◌, Bool, not, List, ◌++◌, map, filter, take, replicate}
 use Rattle.std.specs.List.{range_with_len, list_any}
 use Rattle.list_words.specs.Lists.{SameItems}

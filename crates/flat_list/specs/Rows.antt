@@ -359,7 +359,8 @@ closed_and_wanted =
     ∷ says (commands.At 1) replies.Ok
     ∷ []
 
--- once the moment is later than its stamp, the TIME_WAIT gives way where the switch is on, and isn't there to be reaped
+-- once the moment is later than its stamp, the TIME_WAIT gives way where the switch is on,
+-- and isn't there to be reaped
 abbrev pub reused : List Line
 reused =
     closed_and_wanted
@@ -460,8 +461,8 @@ states_refuse =
     ∷ says (commands.At 4) replies.Einval
     ∷ []
 
--- in a range of four ports from 40000 on, offset 0: `bind` prefers odd distances, and neither it nor `connect` finds a
--- fifth port
+-- in a range of four ports from 40000 on, offset 0: `bind` prefers odd distances,
+-- and neither it nor `connect` finds a fifth port
 abbrev pub four_ports : List Line
 four_ports =
     says (socket a) replies.Ok
@@ -543,8 +544,8 @@ late_ports =
     ∷ says (look_for (two 5) (record { addr = 0x0A000007; port = 40001 }) None) (replies.Found None)
     ∷ []
 
--- in a range of two ports: a socket that takes its port late is bound again to another address, which is its source and
--- stays after refusals; the port that it is then bound to is its own
+-- in a range of two ports: a socket that takes its port late is bound again to another address, which is its source
+-- and stays after refusals; the port that it is then bound to is its own
 abbrev pub late_again : List Line
 late_again =
     says (late a) replies.Ok

@@ -7,8 +7,8 @@ use Rattle.rand_pcg.specs.Lcg.{Lcg, started, increment_of}
 use Rattle.rand_pcg.specs.Pcg.{multiplier_64, pcg32}
 use Rattle.flat_list.specs.declared.header.Header.{Header}
 
--- a section's number, its labels in the order in which they were given, its moment in seconds, and the generator of its
--- offsets
+-- a section's number, its labels in the order in which they were given, its moment in seconds,
+-- and the generator of its offsets
 pub record Section : Type 0 where
   pub number : ℕ
   pub labels : List (List ℕ)

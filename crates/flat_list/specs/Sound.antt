@@ -107,8 +107,8 @@ pub record AreGroupsOf (buckets : ℕ) (sockets : List Socket) (groups : List Gr
   pub mates : Pairs (GroupsAreOfMates groups) sockets
 
 -- names are given and differ; no two sockets that have a port conflict; no two full ones, TIME_WAITs or requests have
--- one four-tuple; who has none is of its own origin; all but those in TIME_WAIT are open; a request is as its listener
--- made it; the groups are those of the listeners
+-- one four-tuple; who has none is of its own origin; all but those in TIME_WAIT are open; a request is as its
+-- listener made it; the groups are those of the listeners
 pub record IsSound (flat : Flat) : Type 0 where
   pub names : Pairs NamesDiffer flat.sockets
   pub given : Each (IsGiven flat.sections) flat.sockets

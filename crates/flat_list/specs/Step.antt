@@ -1,13 +1,13 @@
 -- What a command of a section leaves and answers; its refusals stand in the order in which they are tested. Sources:
 -- socket(7), bind(2), listen(2), close(2) and their errors; inet_bind and inet_listen of net/ipv4/af_inet.c;
 -- inet_csk_get_port and inet_csk_listen_start of net/ipv4/inet_connection_sock.c; tcp_time_wait of
--- net/ipv4/tcp_minisocks.c. Our own: EBADF where a label names no open socket; slots fixed in number, and ENFILE where
--- none is free; groups limited, and EMFILE where none has room; a search takes a port only where no other owner
+-- net/ipv4/tcp_minisocks.c. Our own: EBADF where a label names no open socket; slots fixed in number, and ENFILE
+-- where none is free; groups limited, and EMFILE where none has room; a search takes a port only where no other owner
 -- overlaps, whatever their options; `drop`, `at` and `reap`, and when a TIME_WAIT is left.
 --
 -- To be read from the end: `step` has a line for each command, and calls what has the command's name, with the socket
--- that its label names. `bind_socket`, `listen_socket` and `close_socket` part the socket's states, each in one place;
--- what a state's line calls stands above it, and tests one refusal after the other.
+-- that its label names. `bind_socket`, `listen_socket` and `close_socket` part the socket's states, each in one
+-- place; what a state's line calls stands above it, and tests one refusal after the other.
 use Rattle.std.specs.Prelude.{ℕ, Bool, ◌==◌, not, nat_lt, List, Option, None, Some, if◌then◌else◌, true, false, filter, count_by}
 use Rattle.sock_card.specs.declared.owner.State.{State}
 use Rattle.sock_card.specs.declared.owner.State.TheVariants as states

@@ -362,8 +362,8 @@ impl Flat {
         self.connect_as(new)
     }
 
-    /// Whether the port's owners in the socket's namespace all had it chosen by `connect`, and the socket can have its
-    /// four-tuple.
+    /// Whether the port's owners in the socket's namespace all had it chosen by `connect`,
+    /// and the socket can have its four-tuple.
     fn suits_connect(&self, section: u32, socket: Socket, source: u32, to: End, port: u16) -> bool
         ensures { result ≡ connect_spec.suits_connect self.now section socket source to port }
     {

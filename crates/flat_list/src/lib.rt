@@ -14,8 +14,8 @@
 //!
 //! [`Flat::apply`] carries out one command of a section of a script, [`Flat::look`] finds a packet's socket, and
 //! [`Flat::list`] lists all that lookups can find; all answer exactly what `specs/` says. It stands on the rules of
-//! `sock_card`, the hashes of `jhash_words`, the [`Shape`] of `chain_book`, the order of `socket_list`, and the generator
-//! of `rand_pcg`.
+//! `sock_card`, the hashes of `jhash_words`, the [`Shape`] of `chain_book`, the order of `socket_list`,
+//! and the generator of `rand_pcg`.
 //!
 //! ```text
 //! let mut flat = Flat::new(alloc, &header);
@@ -27,6 +27,7 @@ pub mod command;
 pub mod flat;
 pub mod group;
 pub mod header;
+pub mod kept;
 pub mod laws;
 pub mod owned;
 pub mod ports;
@@ -40,6 +41,7 @@ pub use command::{Command, End, Label, LabelKey, Query, Reply};
 pub use flat::Flat;
 pub use group::Group;
 pub use header::{First, Header, NONE_RESERVED, RESERVED_ROOM, Range, Reserved};
+pub use kept::KeptCommand;
 pub use owned::Options;
 pub use script::{CapturePlace, Script};
 pub use section::Section;

@@ -91,8 +91,8 @@ pub fn child_owner(listener: Owner, name: u32, from: End, at: End) -> Owner
     child(listener, name, at.addr, from.addr, from.port)
 }
 
-/// The request of that name for a handshake with a listener from one end at another: what the child would be, but that
-/// it isn't full.
+/// The request of that name for a handshake with a listener from one end at another: what the child would be,
+/// but that it isn't full.
 pub fn request_owner(listener: Owner, name: u32, from: End, at: End) -> Owner
     ensures { result ≡ spec.request_owner listener name from at }
 {

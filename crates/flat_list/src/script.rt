@@ -1,7 +1,7 @@
 ghost use Rattle.std.specs.Prelude.{◌≡◌, ◌++◌, ◌∷◌, [], length, map, OnOk, OnErr};
 
-use crate::command::Command;
 use crate::header::Header;
+use crate::kept::KeptCommand;
 use std::alloc::{AllocError, Global};
 use std::marker::Model;
 
@@ -20,7 +20,7 @@ pub struct CapturePlace {
 #[derive(Debug, Drop)]
 pub struct Script {
     header: Header,
-    sections: Vec<Vec<Command>>,
+    sections: Vec<Vec<KeptCommand>>,
     capture: Option<CapturePlace>,
 }
 
@@ -35,7 +35,11 @@ impl Model for Script {
 
 impl Script {
     /// The script of these sections, with a capture there.
-    pub fn new(header: Header, sections: Vec<Vec<Command>>, capture: Option<CapturePlace>) -> Self
+    pub fn new(
+        header: Header,
+        sections: Vec<Vec<KeptCommand>>,
+        capture: Option<CapturePlace>,
+    ) -> Self
         ensures { result ≡ record { header = header; sections = map (λ v. v.items) sections.items; capture = capture } }
     {
         Script {
@@ -53,7 +57,7 @@ impl Script {
     }
 
     /// The sections' commands, those of section 1 first.
-    pub fn sections(&self) -> &[Vec<Command>]
+    pub fn sections(&self) -> &[Vec<KeptCommand>]
         ensures { map (λ v. v.items) result.now ≡ self.now.sections }
     {
         &self.sections

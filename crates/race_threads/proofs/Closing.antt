@@ -3,7 +3,7 @@ use Rattle.std.proofs.Common.{◌≡◌, ◌≢◌, ℕ, zero, suc, ◌+◌, ◌
 use Rattle.std.specs.List.{flat_map, range_with_len}
 use Rattle.std.specs.Global.{Box}
 use Rattle.std.proofs.lemmas.List.{append-nil, length-map}
-use Rattle.std.proofs.lemmas.Bool.{true≢false, eqb-true, eqb-false, eq-eqb, ne_eqb}
+use Rattle.std.proofs.lemmas.Bool.{true≢false, eqb-true, eq-eqb, ne_eqb}
 use mathlib.Core.Option.{some}
 use lib.ListN.{get_elem?}
 use Rattle.list_words.specs.Lists.{Each, total, SameItems}
@@ -27,7 +27,7 @@ use Rattle.table_rule.specs.declared.view.Sight.{Sight}
 use Rattle.table_model.specs.Own.{Own, new_own}
 use Rattle.nulls_chain.specs.Changes.{Sees}
 use Rattle.race_book.specs.Among.{Among}
-use Rattle.race_book.proofs.Endings.{each_of}
+use Rattle.race_book.proofs.Endings.{to_each}
 use Rattle.race_record.specs.Deeds.{Vain, changes_of, vain_of, entries_in, changes_in, taken_in, vain_in, drawn_in}
 use Rattle.race_record.specs.Gathered.{numbered, GaveItsOwn, IsInOrderOf, WereGathered}
 use Rattle.race_record.specs.Record.{Race, Step, steps_of, deeds_of, all_deeds}
@@ -229,7 +229,7 @@ module _ (header : Header) (scripts : List (List Command)) (part : ℕ → Part)
   IsThere m = Among e.order m
 
   pub there_all : Each IsThere numbers
-  there_all = Rattle.race_book.proofs.Endings.to_each IsThere numbers (same_among numbers e.order (flipped e.order numbers e.each_once))
+  there_all = to_each IsThere numbers (same_among numbers e.order (flipped e.order numbers e.each_once))
 
   range_behind : (P : ℕ → Type 0) (n k l : ℕ) → Each P (range_with_len n (k + l)) → Each P (range_with_len (k + n) l)
   range_behind P n zero l h = subst (λ j. Each P (range_with_len j l)) (let q : n ≡ 0 + n = omega arith in q) (subst (λ j. Each P (range_with_len n j)) (let q : 0 + l ≡ l = omega arith in q) h)

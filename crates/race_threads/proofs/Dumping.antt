@@ -16,6 +16,7 @@ use Rattle.nulls_chain.specs.Changes.{Sees}
 use Rattle.chain_deeds.specs.Sides.{Side}
 use Rattle.chain_deeds.proofs.Seen.{are_settled, as_they_were, sees_both}
 use Rattle.race_book.specs.Among.{Among}
+use Rattle.race_book.proofs.AmongLemmas.{among_right}
 use Rattle.race_record.specs.Record.{Step}
 use Rattle.shared_dump.specs.Dumps.{Keeps}
 use Rattle.shared_dump.specs.Sightings.{sighting, sightings}
@@ -25,7 +26,6 @@ use Rattle.shared_ops.specs.declared.tables.Tables.{Tables}
 use Rattle.shared_ops.specs.declared.tables.Worker.{Worker}
 use Rattle.table_dump.specs.Listings.{IsListing, KeepsAll}
 use Rattle.race_threads.specs.Dumped.{Dumped, Listed, ListsMore, SawAll, SawAs}
-use Rattle.race_threads.proofs.Sightings.{among_right}
 
 -- What was seen stands
 

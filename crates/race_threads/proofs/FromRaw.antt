@@ -1,5 +1,5 @@
 -- What a pass that has all parts knows of the chain table, said of the book that its changes make.
-use Rattle.std.proofs.Common.{◌≡◌, ◌≢◌, ℕ, zero, suc, ◌+◌, ◌*◌, ◌<◌, ◌≤◌, ◌==◌, ◌&&◌, nat_lt, IsTrue, Bool, true, false, cond, List, [], ◌∷◌, ◌++◌, ◌⊎◌, inl, inr, ⊎_elim, length, map, refl, sym, ap, ◌∙◌, subst, arith, eqb, eq-eqb, ne_eqb}
+use Rattle.std.proofs.Common.{◌≡◌, ◌≢◌, ℕ, zero, suc, ◌+◌, ◌<◌, ◌≤◌, ◌==◌, ◌&&◌, nat_lt, IsTrue, Bool, true, false, cond, List, [], ◌∷◌, ◌⊎◌, inl, inr, ⊎_elim, map, refl, sym, ap, ◌∙◌, subst, arith, eq-eqb, ne_eqb}
 use Rattle.std.proofs.lemmas.Bool.{true≢false, ltb-true, lt-ltb, eqb-true}
 use mathlib.Core.Logic.{dite}
 use native.Mathlib.Decide.{ℕ_discrete, dec_le}
@@ -20,7 +20,7 @@ use Rattle.table_rule.specs.declared.view.Sight.{Sight}
 use Rattle.table_rule.specs.declared.view.Seen.{Seen}
 use Rattle.table_rule.specs.Alone.{mine}
 use Rattle.table_rule.specs.Beyond.{Unlike, Present, SightTrue, IsCardWords}
-use Rattle.table_rule.specs.Book.{Part, InBook, Serial, Separate, below, marks}
+use Rattle.table_rule.specs.Book.{Part, InBook, Serial, Separate, below}
 use Rattle.table_rule.specs.Book as raw
 use Rattle.table_rule.specs.Lists as slots
 use Rattle.table_rule.specs.Rule.{book_part}
@@ -46,7 +46,7 @@ use Rattle.race_book.specs.Laws.{BeginApart, EndAfter, EndInBucket, NoTwinsStand
 use Rattle.race_book.specs.Listed.{stamps_of, StampsDiffer, FitSlots}
 use Rattle.race_book.specs.Lives.{IsLife, IsHash, Ends, Throughout, Stood, Leaves, comes_after, is_unhash}
 use Rattle.race_book.specs.Serial.{IsSerial, EndsOne, AreApart, AreHome, EachEndsOne, SlotsFollow, HasNoTwins}
-use Rattle.race_book.proofs.Endings.{one_beginning, to_each}
+use Rattle.race_book.proofs.Endings.{each_of, one_beginning, to_each}
 use Rattle.race_book.proofs.Listing.{begin_apart}
 use Rattle.race_book.proofs.Twins.{replay_has_none}
 use Rattle.race_record.proofs.Drawn.{weigh, all_differ}
@@ -271,7 +271,7 @@ module _ (header : Header) (v : View) (clock : ℕ) (w : IsWhole v clock) (good 
 
   -- each stands at home, in one of the slots
   hash_home : (h : Raw) → InBook (mine v) h → h.kind ≡ 1 → IsHome (layout_in header) (change_of h)
-  hash_home h b k = Rattle.race_book.proofs.Endings.each_of (IsHomeIfHash (layout_in header)) book good.homes (change_of h) (among h b) (act_one h.kind k)
+  hash_home h b k = each_of (IsHomeIfHash (layout_in header)) book good.homes (change_of h) (among h b) (act_one h.kind k)
 
   unhash_home : (u : Raw) → InBook (mine v) u → u.kind ≡ 0 → IsHome (layout_in header) (change_of u)
   unhash_home u b k =

@@ -8,12 +8,13 @@ use Rattle.sock_card.specs.declared.card.Card.{Card}
 use Rattle.table_rule.specs.declared.view.Sight.{Sight}
 use Rattle.shared_slots.specs.Claims.{sight_by}
 use Rattle.race_book.specs.Among.{Among}
+use Rattle.race_book.proofs.AmongLemmas.{among_left, among_right}
 use Rattle.race_record.specs.Deeds.{Deed, Vain, hashed, kept_out, no_slot, entered, inserted, added, left, reaped, changes_of, taken_of, vain_of, drawn_of, changes_in, taken_in, vain_in, drawn_in}
 use Rattle.chain_deeds.specs.Sides.{Side}
 use Rattle.chain_deeds.specs.Made.{Made, AllLeave, IsHomeIfHash, number_of, SawNone as MadeNone, SawNoWait as MadeNoWait}
 use Rattle.chain_deeds.proofs.Seen.{sees_both, as_they_were}
 use Rattle.race_threads.specs.Made.{SawKeeper, SawNone, SawNoWait, IsAny, MadeAll, missed_of, missed_in}
-use Rattle.race_threads.proofs.Sightings.{among_left, among_right, Moves, keeper_moves, none_moves, no_wait_moves, any_sees, reads_seen}
+use Rattle.race_threads.proofs.Sightings.{Moves, keeper_moves, none_moves, no_wait_moves, any_sees, reads_seen}
 
 abbrev Less : ℕ → ℕ → Type 0
 Less n m = n < m

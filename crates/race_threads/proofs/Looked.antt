@@ -13,7 +13,7 @@ use Rattle.flat_list.specs.declared.header.Header.{Header}
 use Rattle.null_reader.specs.declared.answers.LookEnd.{LookEnd}
 use Rattle.null_reader.specs.declared.answers.LookEnd.TheVariants as ends
 use Rattle.reuseport_group.specs.declared.pass.GroupPasses.{GroupPasses}
-use Rattle.shared_demux.specs.Concludes.{Concluded, AfterListener, AfterFull, ByListener, ByOrder}
+use Rattle.shared_demux.specs.Concludes.{Concluded, AfterListener, AfterFull, ByOrder}
 use Rattle.shared_finds.specs.Finds.{InOrder}
 use Rattle.table_rule.specs.Plays.{Sat}
 use Rattle.table_rule.specs.declared.view.Layout.{Layout}
@@ -21,6 +21,7 @@ use Rattle.table_rule.specs.declared.view.Whole.{Whole}
 use Rattle.table_rule.specs.declared.view.BookView.{BookView}
 use Rattle.race_book.specs.Among.{Among}
 use Rattle.race_book.specs.Explained.{NamesItsBucket}
+use Rattle.race_book.proofs.AmongLemmas.{among_left, among_right}
 use Rattle.race_record.specs.Lawful.{Follows}
 use Rattle.race_record.specs.declared.record.Looked.{Looked}
 use Rattle.race_record.specs.declared.record.Looked.TheVariants as looks
@@ -28,7 +29,6 @@ use Rattle.race_threads.specs.declared.looker.Look.{Look}
 use Rattle.race_threads.specs.Joins.{Part}
 use Rattle.race_threads.specs.Lookers.{IsLookup, IsLooked, item_at, Before, HasLooked, LookedUp, looking, AllBefore, IsPassedOver, whole_for}
 use Rattle.race_threads.specs.Races.{HasOnlyLooked}
-use Rattle.race_threads.proofs.Sightings.{among_left, among_right}
 
 pub looks_none : (header : Header) (all : List Item) (p : Part) → HasOnlyLooked p → HasLooked header all p []
 looks_none header all p h = record { each = tt; turns = tt; only = h }

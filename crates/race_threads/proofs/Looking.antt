@@ -26,6 +26,7 @@ use Rattle.table_rule.specs.declared.view.Layout.{Layout}
 use Rattle.table_rule.specs.declared.view.View.{View}
 use Rattle.table_rule.specs.declared.view.Whole.{Whole}
 use Rattle.race_book.specs.Among.{Among}
+use Rattle.race_book.proofs.AmongLemmas.{among_left, among_right}
 use Rattle.race_book.proofs.Endings.{each_of}
 use Rattle.race_record.specs.Record.{Race}
 use Rattle.race_record.specs.Lawful.{Lawful, IsReceiptOf, Answers, AreAnswered, Follows, looked_at, AreTakenInTurn, AreSharesOf}
@@ -40,7 +41,6 @@ use Rattle.race_threads.specs.Sections.{layout_in}
 use Rattle.race_threads.proofs.Closing.{closes, good, each_there}
 use Rattle.race_threads.proofs.FromRaw.{explained, place_of}
 use Rattle.race_threads.proofs.Reaped.{reaped as reaped_all}
-use Rattle.race_threads.proofs.Sightings.{among_left, among_right}
 use Rattle.race_threads.proofs.Weights.{each_flat, among_flat, same_each, flipped}
 
 -- the numbers below n

@@ -32,32 +32,17 @@ use Rattle.table_model.specs.Asking.{Asking, ends, asks, inserts, adds, unhashes
 use Rattle.table_model.specs.Own.{Own, Mine, is_named, card_of, next_name, open_named, with_label, with_new, with_wait, with_socket, without}
 use Rattle.table_model.specs.Means.{name_in}
 use Rattle.table_model.specs.Operations as op
-use Rattle.table_model.specs.Operations.{Did, done, refused, Closed, gone, waiting, no_slot as closed_without}
+use Rattle.table_model.specs.Operations.{Did, done, refused}
 use Rattle.table_model.specs.Commands as command
-use Rattle.table_model.specs.Commands.{Replied, answers, plan}
+use Rattle.table_model.specs.Commands.{Replied, answers}
 use Rattle.table_model.proofs.parts.Own.{own_names}
 use Rattle.race_book.specs.Among.{Among}
 use Rattle.race_book.specs.Lives.{is_unhash}
-use Rattle.race_record.specs.Deeds.{Deed, hashed, kept_out, no_slot, entered, inserted, added, left, reaped, changes_in}
-use Rattle.race_record.specs.Goes.{Goes, IsReapOf, was_there}
+use Rattle.race_record.specs.Deeds.{Deed, hashed, kept_out, no_slot, entered, inserted, added, left, changes_in}
+use Rattle.race_record.specs.Goes.{Goes}
 use Rattle.race_record.proofs.Turns.{goes_apart, InTwo}
 
 -- Lists
-
-pub among_split : {A : Type 0} (xs ys : List A) (a : A) → Among (xs ++ ys) a → Among xs a ⊎ Among ys a
-among_split [] ys a h = inr h
-among_split (x ∷ xs) ys a (inl e) = inl (inl e)
-among_split (x ∷ xs) ys a (inr h) = ⊎_elim (λ z. inl (inr z)) inr (among_split xs ys a h)
-
-in_filter_by : {A : Type 0} (p : A → Bool) (x : A) (xs : List A) (a : A) (b : Bool) → p x ≡ b → p a ≡ true → Among (x ∷ xs) a → (Among xs a → Among (filter p xs) a) → Among (cond b (x ∷ filter p xs) (filter p xs)) a
-in_filter_by p x xs a true e t (inl q) rest = inl q
-in_filter_by p x xs a true e t (inr h) rest = inr (rest h)
-in_filter_by p x xs a false e t (inl q) rest = absurd (true≢false (sym t ∙ ap p q ∙ e))
-in_filter_by p x xs a false e t (inr h) rest = rest h
-
-pub in_filter : {A : Type 0} (p : A → Bool) (xs : List A) (a : A) → p a ≡ true → Among xs a → Among (filter p xs) a
-in_filter p [] a t h = absurd h
-in_filter p (x ∷ xs) a t h = in_filter_by p x xs a (p x) refl t h (in_filter p xs a t)
 
 names_by : (p : Mine → Bool) (x : Mine) (xs : List Mine) (n : ℕ) (b : Bool) → Among (map name_in (cond b (x ∷ filter p xs) (filter p xs))) n → (Among (map name_in (filter p xs)) n → Among (map name_in xs) n) → Among (map name_in (x ∷ xs)) n
 names_by p x xs n true (inl e) rest = inl e

@@ -13,6 +13,7 @@ use Rattle.table_rule.specs.declared.view.View.{View}
 use Rattle.table_rule.specs.declared.view.Change.{Change as Raw}
 use Rattle.table_model.specs.Own.{new_own}
 use Rattle.race_book.specs.Among.{Among}
+use Rattle.race_book.proofs.AmongLemmas.{among_either}
 use Rattle.race_book.proofs.Endings.{each_of}
 use Rattle.race_record.specs.Deeds.{changes_in}
 use Rattle.race_record.specs.Record.{Step, deeds_of}
@@ -23,7 +24,7 @@ use Rattle.race_threads.specs.Races.{SectionDone, AllDone, steps_by, HasEnded, A
 use Rattle.race_threads.proofs.Closing as closing
 use Rattle.race_threads.proofs.FromRaw.{serial}
 use Rattle.race_threads.proofs.Missed.{left}
-use Rattle.race_threads.proofs.Plans.{IsWait, among_split}
+use Rattle.race_threads.proofs.Plans.{IsWait}
 use Rattle.race_threads.proofs.Reaping.{Inside, OfSection, fresh, once, are_reaped}
 use Rattle.race_threads.proofs.Sums.{each_number_if}
 use Rattle.race_threads.proofs.Weights.{among_flat, same_each}
@@ -38,7 +39,7 @@ in_part : {A : Type 0} (g : ℕ → List A) (xs : List ℕ) (a : A) → Among (f
 in_part g [] a h = absurd h
 in_part g (x ∷ xs) a h = ⊎_elim
     (λ here. record { part = x; one = inl refl; there = here })
-    (λ later. let p = in_part g xs a later in record { part = p.part; one = inr p.one; there = p.there }) (among_split (g x) (flat_map g xs) a h)
+    (λ later. let p = in_part g xs a later in record { part = p.part; one = inr p.one; there = p.there }) (among_either a (g x) (flat_map g xs) h)
 
 inside_new : (header : Header) (n : ℕ) → Inside (new_own header n)
 inside_new header n name o = absurd o

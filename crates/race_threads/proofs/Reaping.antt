@@ -18,6 +18,7 @@ use Rattle.table_model.specs.Commands.{Replied, answers, plan}
 use Rattle.race_book.specs.Among.{Among}
 use Rattle.race_book.specs.Lives.{IsLife, Ends, Leaves}
 use Rattle.race_book.specs.Serial.{EachEndsOne}
+use Rattle.race_book.proofs.AmongLemmas.{among_either, among_left, among_right}
 use Rattle.race_book.proofs.Endings.{each_of}
 use Rattle.race_record.specs.Deeds.{Deed, Tried, hashed, kept_out, no_slot, entered, inserted, added, left, reaped, changes_of, changes_in, changes_tried, drawn_of, drawn_in, drawn_in_try}
 use Rattle.race_record.specs.Goes.{IsReapOf}
@@ -27,8 +28,7 @@ use Rattle.race_record.proofs.Turns.{goes_once}
 use Rattle.race_threads.specs.Made.{SawNoWait, IsBy, missed_of, missed_in}
 use Rattle.race_threads.specs.Races.{AreReaped}
 use Rattle.race_threads.specs.Sections.{Makes, IsShown, EndsBefore, layout_in}
-use Rattle.race_threads.proofs.Plans.{Grows, IsWait, among_split}
-use Rattle.race_threads.proofs.Sightings.{among_left, among_right}
+use Rattle.race_threads.proofs.Plans.{Grows, IsWait}
 use Rattle.race_threads.proofs.Waiting.{Open, Rests, Seeks, Turn, is_reap, turn}
 use Rattle.race_threads.proofs.Weights.{among_flat}
 
@@ -81,7 +81,7 @@ apart own next g h i grows r f e = ⊎_elim
 -- Steps
 
 split_changes : (s : Step) (ss : List Step) (h : Change) → Among (changes_in (deeds_of (s ∷ ss))) h → Among (changes_in s.deeds) h ⊎ Among (changes_in (deeds_of ss)) h
-split_changes s ss h a = among_split (changes_in s.deeds) (changes_in (deeds_of ss)) h (subst (λ l. Among l h) (flat_map-append changes_of s.deeds (deeds_of ss)) a)
+split_changes s ss h a = among_either h (changes_in s.deeds) (changes_in (deeds_of ss)) (subst (λ l. Among l h) (flat_map-append changes_of s.deeds (deeds_of ss)) a)
 
 join_left : (s : Step) (ss : List Step) (h : Change) → Among (changes_in s.deeds) h → Among (changes_in (deeds_of (s ∷ ss))) h
 join_left s ss h a = subst (λ l. Among l h) (sym (flat_map-append changes_of s.deeds (deeds_of ss))) (among_left h (changes_in s.deeds) (changes_in (deeds_of ss)) a)
@@ -144,7 +144,7 @@ ends_drawn : (deeds : List Deed) (c : Change) → Among (changes_in deeds) c →
 ends_drawn [] c a = absurd a
 ends_drawn (d ∷ deeds) c a = ⊎_elim
     (λ here. among_left c.end (drawn_of d) (drawn_in deeds) (end_drawn d c here))
-    (λ later. among_right c.end (drawn_of d) (drawn_in deeds) (ends_drawn deeds c later)) (among_split (changes_of d) (changes_in deeds) c a)
+    (λ later. among_right c.end (drawn_of d) (drawn_in deeds) (ends_drawn deeds c later)) (among_either c (changes_of d) (changes_in deeds) a)
 
 -- The section for which they are waits for it
 pub record Waits (own : Own) (h : Change) : Type 0 where

@@ -16,18 +16,11 @@ use Rattle.nulls_chain.specs.Changes.{Sees, IsSettled, AreSettled}
 use Rattle.shared_sockets.specs.Comings.{name_of}
 use Rattle.shared_sockets.specs.Rows.{row_of, HasCard}
 use Rattle.race_book.specs.Among.{Among}
+use Rattle.race_book.proofs.AmongLemmas.{among_left}
 use Rattle.race_record.specs.Deeds.{Taken, Vain}
 use Rattle.race_threads.specs.Made.{SawKeeper, SawRead, SawNone, SawNoWait, IsAny, IsBy, listed_by, held_by}
 
 -- Lists
-
-pub among_left : {A : Type 0} (a : A) (l m : List A) → Among l a → Among (l ++ m) a
-among_left a [] m h = absurd h
-among_left a (x ∷ xs) m h = ⊎_elim inl (λ b. inr (among_left a xs m b)) h
-
-pub among_right : {A : Type 0} (a : A) (l m : List A) → Among m a → Among (l ++ m) a
-among_right a [] m h = h
-among_right a (x ∷ xs) m h = inr (among_right a xs m h)
 
 -- a fact of each place is one of each item
 pub each_by_place : {A : Type 0} (P : A → Type 0) (l : List A) → ((n : ℕ) (a : A) → get_elem? l n ≡ some a → P a) → Each P l

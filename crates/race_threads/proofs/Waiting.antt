@@ -26,6 +26,7 @@ use Rattle.table_model.specs.Operations.{Closed, gone, waiting, no_slot as close
 use Rattle.table_model.specs.Commands as command
 use Rattle.table_model.specs.Commands.{Replied, answers, plan}
 use Rattle.race_book.specs.Among.{Among}
+use Rattle.race_book.proofs.AmongLemmas.{keeps}
 use Rattle.race_book.proofs.Endings.{each_of}
 use Rattle.race_record.specs.Deeds.{Deed, hashed, kept_out, no_slot, entered, inserted, added, left, reaped, changes_in}
 use Rattle.race_record.specs.Goes.{Goes, IsReapOf}
@@ -104,8 +105,8 @@ seek_each (w ∷ ws) count deeds r g = absurd g
 module _ (own next : Own) where
   over_or_kept : (w : Mine) → Among own.waits w → next.waits ≡ op.kept_waits own.waits own.moment → (b : Bool) → is_over own.moment w ≡ b → (deeds : List Deed) → SeeksEach (filter (is_over own.moment) own.waits) deeds
       → Among next.waits w ⊎ Seeks deeds (card_of kinds.TimeWait w)
-  over_or_kept w a e true t deeds z = inr (each_of (λ v. Seeks deeds (card_of kinds.TimeWait v)) (filter (is_over own.moment) own.waits) z.0 w (Plans.in_filter (is_over own.moment) own.waits w t a))
-  over_or_kept w a e false t deeds z = inl (subst (λ l. Among l w) (sym e) (Plans.in_filter (λ v. not (is_over own.moment v)) own.waits w (ap not t) a))
+  over_or_kept w a e true t deeds z = inr (each_of (λ v. Seeks deeds (card_of kinds.TimeWait v)) (filter (is_over own.moment) own.waits) z.0 w (keeps (is_over own.moment) own.waits w t a))
+  over_or_kept w a e false t deeds z = inl (subst (λ l. Among l w) (sym e) (keeps (λ v. not (is_over own.moment v)) own.waits w (ap not t) a))
 
   reaped_turn : (deeds first rest : List Deed) (count : ℕ) (r : Replied) → deeds ≡ first ++ rest → SeeksEach (filter (is_over own.moment) own.waits) first → Goes (ends (answers (record own { waits = op.kept_waits own.waits own.moment }) (replies.Count count))) rest r
       → r.own ≡ next → Turn own next true deeds
@@ -118,7 +119,7 @@ module _ (own next : Own) where
         hashes = λ h a w. absurd (each_of Plans.IsNoWait (changes_in deeds) y.1 h a w);
         once = λ g h a b w. absurd (each_of Plans.IsNoWait (changes_in deeds) y.1 g a w);
         kept = λ w a. over_or_kept w a (ap (λ (x : Own). x.waits) to) (is_over own.moment w) refl deeds y;
-        reaps = λ t w a o. each_of (λ v. Seeks deeds (card_of kinds.TimeWait v)) (filter (is_over own.moment) own.waits) y.0 w (Plans.in_filter (is_over own.moment) own.waits w o a);
+        reaps = λ t w a o. each_of (λ v. Seeks deeds (card_of kinds.TimeWait v)) (filter (is_over own.moment) own.waits) y.0 w (keeps (is_over own.moment) own.waits w o a);
       }
 
   reap_turn : (deeds : List Deed) (reply : Reply) → Goes (command.reap_command own) deeds (answers next reply) → Turn own next true deeds

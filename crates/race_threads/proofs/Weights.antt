@@ -12,6 +12,7 @@ use Rattle.list_words.proofs.TotalLemmas.{total-append}
 use Rattle.table_rule.specs.Lists as slots
 use Rattle.turn_table.specs.Journals.{numbers_below}
 use Rattle.race_book.specs.Among.{Among}
+use Rattle.race_book.proofs.AmongLemmas.{among_left, among_right}
 use Rattle.race_book.proofs.Endings.{each_of, to_each}
 
 pub flat_push : {X A : Type 0} (f : X → List A) (xs : List X) (x : X) → flat_map f (xs ++ x ∷ []) ≡ flat_map f xs ++ f x
@@ -35,8 +36,8 @@ map_flat f g (x ∷ xs) = map-append f (g x) (flat_map g xs) ∙ ap (λ l. map f
 
 pub among_flat : {X A : Type 0} (g : X → List A) (xs : List X) (x : X) (a : A) → Among xs x → Among (g x) a → Among (flat_map g xs) a
 among_flat g [] x a h k = absurd h
-among_flat g (y ∷ ys) x a (inl e) k = Rattle.race_threads.proofs.Sightings.among_left a (g y) (flat_map g ys) (subst (λ z. Among (g z) a) e k)
-among_flat g (y ∷ ys) x a (inr b) k = Rattle.race_threads.proofs.Sightings.among_right a (g y) (flat_map g ys) (among_flat g ys x a b k)
+among_flat g (y ∷ ys) x a (inl e) k = among_left a (g y) (flat_map g ys) (subst (λ z. Among (g z) a) e k)
+among_flat g (y ∷ ys) x a (inr b) k = among_right a (g y) (flat_map g ys) (among_flat g ys x a b k)
 
 -- each of the one list is among the other
 abbrev pub is : ℕ → ℕ → ℕ

@@ -18,8 +18,8 @@ use shared_ops::{Tables, Worker};
 use std::alloc::{AllocError, Global};
 use tickets::{TicketPass, Tickets};
 
-/// What a race leaves: the chain pass into which all others were joined, the bind buckets, the clock, and what came of
-/// each job, the sections first.
+/// What a race leaves: the chain pass into which all others were joined, the bind buckets, the clock, and what came
+/// of each job, the sections first.
 #[derive(Drop)]
 pub struct Ended {
     pub chain: ChainPass,

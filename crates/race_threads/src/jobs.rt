@@ -16,8 +16,8 @@ use socket_list::Listing;
 use std::alloc::{AllocError, Global};
 use tickets::{TicketPass, Tickets};
 
-/// A worker's part of a race: the section or the looker of its number, the sections first, and what came of it. Only a
-/// looker draws items.
+/// A worker's part of a race: the section or the looker of its number, the sections first, and what came of it.
+/// Only a looker draws items.
 #[derive(Drop)]
 pub struct Job {
     pub worker: Worker,

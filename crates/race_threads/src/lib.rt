@@ -1,17 +1,17 @@
 //! The race of a script: what its workers did beside each other is one record.
 //!
-//! Our own. [`race`] is all of it. [`start`] makes the tables, [`worker`] splits workers off the first one and takes them
-//! in again, and [`jobs`] hands them out, one for each section and each looker. [`section`] carries a section out,
-//! [`share`] a looker's share of the capture by [`looker`], and [`work`] whichever of both a job is; [`threads`] does all
-//! jobs beside each other. [`finish`] ends the race, and [`tell`] makes of what it left what is written.
+//! Our own. [`race`] is all of it. [`start`] makes the tables, [`worker`] splits workers off the first one and takes
+//! them in again, and [`jobs`] hands them out, one for each section and each looker. [`section`] carries a section
+//! out, [`share`] a looker's share of the capture by [`looker`], and [`work`] whichever of both a job is; [`threads`]
+//! does all jobs beside each other. [`finish`] ends the race, and [`tell`] makes of what it left what is written.
 //!
 //! Lookers draw the capture's items by `tickets`: whoever is free takes the next. Once all passes of tickets are
 //! joined, each item was drawn once (`specs/Shares`), and its answer is put at its place.
 //!
 //! [`laws`] says what follows from what workers did: a section's deeds, command by command, with what a `dump` listed
-//! (`specs/Dumped`), and a load of the clock behind each (`specs/Made`, `specs/Sections`); the first worker, as others are
-//! joined to it in whatever order (`specs/Joins`); and, once all are joined, the clock is loaded and the bind buckets are
-//! taken, that the record is lawful (`specs/Races`, `specs/Lookers`).
+//! (`specs/Dumped`), and a load of the clock behind each (`specs/Made`, `specs/Sections`); the first worker, as
+//! others are joined to it in whatever order (`specs/Joins`); and, once all are joined, the clock is loaded and the
+//! bind buckets are taken, that the record is lawful (`specs/Races`, `specs/Lookers`).
 //!
 //! ```text
 //! let record = race(&rt, alloc, LabelSeed::random(&rt), &script, &capture, lookers, passes, &Open)?;

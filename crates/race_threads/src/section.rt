@@ -13,7 +13,7 @@ ghost use Rattle.race_threads.specs.Races.{SectionDone};
 ghost use Rattle.race_threads.specs.Said.{said_as};
 ghost use Rattle.race_threads.specs.Workers.{AreTables, IsAtRest, IsFresh, part_of};
 
-use flat_list::{Command, Header, Reply};
+use flat_list::{Command, Header, KeptCommand, Reply};
 use inet_io::{Gate, Who};
 use label_index::LabelSeed;
 use section_machine::{Machine, laws};
@@ -68,7 +68,7 @@ pub fn run_section<R: Wait, G: Gate>(
     header: &Header,
     worker: &mut Worker,
     number: u32,
-    commands: &[Command],
+    commands: &[KeptCommand],
     gate: &G,
 ) -> Result<Said, AllocError>
     requires tables { AreTables header.now tables.now }
@@ -91,9 +91,9 @@ pub fn run_section<R: Wait, G: Gate>(
     let mut listings = Vec::new(alloc);
     for at in 0..commands.len() {
         gate.pass(Who::Script(number), at as u64 + 1);
-        let command = &commands[at];
-        let reply = machine.step(rt, tables, worker, command)?;
-        list_for(rt, alloc, tables, worker, command, &mut listings)?;
+        let command = commands[at].plain();
+        let reply = machine.step(rt, tables, worker, &command)?;
+        list_for(rt, alloc, tables, worker, &command, &mut listings)?;
         let _clock = tables.chains.now(&mut worker.chain);
         replies.push(reply)?;
     }

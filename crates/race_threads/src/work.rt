@@ -19,7 +19,8 @@ use std::alloc::{AllocError, Global};
 use std::sync::Wait;
 use tickets::Tickets;
 
-/// Does a job, beside the others: that of a section by its commands, and that of a looker by its share of the capture.
+/// Does a job, beside the others: that of a section by its commands,
+/// and that of a looker by its share of the capture.
 ///
 /// # Errors
 ///

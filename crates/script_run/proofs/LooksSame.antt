@@ -1,4 +1,5 @@
--- What a packet finds by chains and lists that one worker made alone is what it finds in the flat list that they mean.
+-- What a packet finds by chains and lists that one worker made alone is what it finds in the flat list
+-- that they mean.
 use Rattle.std.proofs.Common.{◌≡◌, ◌≢◌, ℕ, zero, suc, ◌-◌, ◌*◌, ◌/◌, ◌%◌, ◌^◌, ◌<◌, ◌≤◌, Bool, true, false, cond, not, ◌||◌, ◌==◌, nat_lt, List, [], ◌∷◌, length, get_or, Option, Some, None, refl, sym, ap, ◌∙◌, subst, inl, inr, ⊎_elim, arith}
 use lib.ListN.{get_elem?}
 use Rattle.std.specs.Prelude.{count_by}

@@ -18,7 +18,7 @@ use crate::look::look;
 use crate::start::start;
 use capture_reader::{Capture, Item};
 use flat_list::owned::packet_of;
-use flat_list::{Command, Header, Reply, Script};
+use flat_list::{Command, Header, KeptCommand, Reply, Script};
 use label_index::LabelSeed;
 use section_machine::{Machine, laws};
 use shared_ops::{Tables, Worker};
@@ -130,7 +130,7 @@ fn run_section<'a, R: Wait>(
     worker: &mut Worker,
     replies: &mut Replies,
     n: u32,
-    commands: &[Command],
+    commands: &[KeptCommand],
     items: &'a [Item],
 ) -> Result<&'a [Item], AllocError>
     requires header { FitsTables header.now }
@@ -159,7 +159,7 @@ fn run_section<'a, R: Wait>(
             worker,
             &mut machine,
             replies,
-            command,
+            &command.plain(),
             left,
         )?;
     }

@@ -4,7 +4,9 @@ ghost use Rattle.std.specs.Prelude.{◌≡◌, length, IfOk};
 
 use crate::run;
 use capture_reader::Capture;
-use flat_list::{Command, End, Header, Label, NONE_RESERVED, Options, Query, Range, Script, Shape};
+use flat_list::{
+    Command, End, Header, KeptCommand, Label, NONE_RESERVED, Options, Query, Range, Script, Shape,
+};
 use label_index::LabelSeed;
 use sock_card::{Card, Kind};
 use sock_script::output::text;
@@ -39,7 +41,7 @@ const THERE: End = End {
 };
 
 /// A section with one lookup.
-fn looking(alloc: Global) -> Result<Vec<Command>, AllocError>
+fn looking(alloc: Global) -> Result<Vec<KeptCommand>, AllocError>
     ensures { IfOk result (λ section. length section.items ≡ 1) }
 {
     let query = Query {
@@ -50,12 +52,12 @@ fn looking(alloc: Global) -> Result<Vec<Command>, AllocError>
     };
     let look = Command::Look { query };
     let mut section = Vec::new(alloc);
-    section.push(look)?;
+    section.push(KeptCommand::of(alloc, &look)?)?;
     Ok(section)
 }
 
 /// A section in which a socket listens, and all are listed.
-fn listening(alloc: Global) -> Result<Vec<Command>, AllocError>
+fn listening(alloc: Global) -> Result<Vec<KeptCommand>, AllocError>
     ensures { IfOk result (λ section. length section.items ≡ 4) }
 {
     let label = Label::from_bytes(b"a").unwrap();
@@ -68,10 +70,10 @@ fn listening(alloc: Global) -> Result<Vec<Command>, AllocError>
         noport: false,
     };
     let mut section = Vec::new(alloc);
-    section.push(Command::Socket { label, options })?;
-    section.push(Command::Bind { label, end: HERE })?;
-    section.push(Command::Listen { label })?;
-    section.push(Command::Dump)?;
+    section.push(KeptCommand::of(alloc, &Command::Socket { label, options })?)?;
+    section.push(KeptCommand::of(alloc, &Command::Bind { label, end: HERE })?)?;
+    section.push(KeptCommand::of(alloc, &Command::Listen { label })?)?;
+    section.push(KeptCommand::of(alloc, &Command::Dump)?)?;
     Ok(section)
 }
 

@@ -1,5 +1,5 @@
 -- What the output shows of a reply: all of it, but of a card that was found its kind and its name alone. Our own.
-use Rattle.std.specs.Prelude.{ℕ, None, Some}
+use Rattle.std.specs.Prelude.{ℕ, ◌+◌, ◌*◌, ◌^◌, None, Some}
 use Rattle.flat_list.specs.declared.command.Reply.{Reply}
 use Rattle.flat_list.specs.declared.command.Reply.TheVariants as replies
 use Rattle.sock_card.specs.declared.card.Card.{Card}
@@ -24,7 +24,7 @@ kept_reply (briefs.Port port) = replies.Port port
 kept_reply (briefs.End end) = replies.End end
 kept_reply briefs.TimeWait = replies.TimeWait
 kept_reply (briefs.NoSlot owned held) = replies.NoSlot owned held
-kept_reply (briefs.Count count) = replies.Count count
+kept_reply (briefs.Count high low) = replies.Count (high * 2 ^ 32 + low)
 kept_reply (briefs.Found kind name) = replies.Found (Some (bare_card kind name))
 kept_reply briefs.None = replies.Found None
 kept_reply briefs.Skip = replies.Skip

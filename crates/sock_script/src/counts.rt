@@ -10,7 +10,7 @@ ghost use Rattle.sock_script.specs.Output.{reply_with};
 ghost use Rattle.sock_script.specs.Shown.{kept_reply};
 
 use crate::shown::{Brief, Shown};
-use flat_list::{Command, Script};
+use flat_list::{Command, KeptCommand, Script};
 use inet_io::put_num;
 use std::alloc::{AllocError, Global};
 
@@ -59,7 +59,7 @@ fn is_done(reply: Brief) -> bool
         | Brief::End(_)
         | Brief::TimeWait
         | Brief::NoSlot { .. }
-        | Brief::Count(_) => true,
+        | Brief::Count { .. } => true,
         _ => false,
     }
 }
@@ -85,17 +85,18 @@ fn put_line(out: &mut Vec<u8>, word: &[u8], n: u64) -> Result<(), AllocError>
 
 impl Counts {
     /// Counts one command more.
-    fn add(&mut self, command: &Command, reply: &Shown)
+    fn add(&mut self, command: &KeptCommand, reply: &Shown)
         requires { weight self.old + 2 < 2 ^ 64 }
         ensures { (label : List ℕ) → self.new ≡ one_more self.old command.now (reply_with label reply.now) }
     {
-        if is_look(command) {
+        let plain = command.plain();
+        if is_look(&plain) {
             if is_none(reply.brief()) {
                 self.none += 1;
             } else {
                 self.found += 1;
             }
-        } else if !is_dump(command) {
+        } else if !is_dump(&plain) {
             self.commands += 1;
             if is_done(reply.brief()) {
                 self.ok += 1;
@@ -106,7 +107,7 @@ impl Counts {
     }
 
     /// Counts the commands of a section, as far as there are replies.
-    fn add_section(&mut self, commands: &[Command], replies: &[Shown])
+    fn add_section(&mut self, commands: &[KeptCommand], replies: &[Shown])
         requires { weight self.old + 2 * length replies.now < 2 ^ 64 }
         ensures counted { (sections : List (List AnyCommand)) (n : ℕ) →
             self.new ≡ with_answered self.old (spec.answered sections (issue n commands.now) replies.now) }

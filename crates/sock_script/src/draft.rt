@@ -8,7 +8,9 @@ ghost use Rattle.sock_script.specs.Steps.{Adds, is_new_among};
 use crate::label::given_label;
 use crate::line::Line;
 use crate::parse::Mode;
-use flat_list::{CapturePlace, Command, Header, NONE_RESERVED, Range, Reserved, Script, Shape};
+use flat_list::{
+    CapturePlace, Command, Header, KeptCommand, NONE_RESERVED, Range, Reserved, Script, Shape,
+};
 use label_index::{LabelIndex, LabelSeed};
 use std::alloc::{AllocError, Global};
 use std::marker::Model;
@@ -37,7 +39,7 @@ fn note_label(labels: &mut LabelIndex, command: &Command) -> Result<bool, AllocE
 /// The section whose commands are being read.
 #[derive(Drop)]
 struct OpenSection {
-    commands: Vec<Command>,
+    commands: Vec<KeptCommand>,
     /// The labels that the commands give, so that finding one again takes no scan.
     labels: LabelIndex,
 }
@@ -73,13 +75,14 @@ impl OpenSection {
         ensures err { OnErr result (self.new ≡ self.old) }
     {
         self.commands.reserve(1)?;
+        let kept = KeptCommand::of(*self.commands.allocator(), &command)?;
         let new = note_label(&mut self.labels, &command)?;
         let stands = is_allowed(mode, &command) && new;
-        self.commands.push(command)?;
+        self.commands.push(kept)?;
         Ok(stands)
     }
 
-    fn into_commands(self) -> Vec<Command>
+    fn into_commands(self) -> Vec<KeptCommand>
         ensures { result.items ≡ self }
     {
         self.commands
@@ -88,9 +91,9 @@ impl OpenSection {
 
 /// The sections, where the last is still being read.
 fn sections_of(
-    finished: Vec<Vec<Command>>,
+    finished: Vec<Vec<KeptCommand>>,
     last: Option<OpenSection>,
-) -> Result<Vec<Vec<Command>>, AllocError>
+) -> Result<Vec<Vec<KeptCommand>>, AllocError>
     ensures { IfOk result (λ sections. map (λ v. v.items) sections.items ≡ map (λ v. v.items) finished.items ++ option_to_list last) }
 {
     let mut sections = finished;
@@ -124,7 +127,7 @@ pub struct Draft {
     offset: Option<u16>,
     twreuse: Option<bool>,
     /// The sections before the last.
-    finished: Vec<Vec<Command>>,
+    finished: Vec<Vec<KeptCommand>>,
     /// The last section, once there is one.
     last: Option<OpenSection>,
     /// Where the capture begins, once it has.

@@ -4,7 +4,8 @@ ghost use Rattle.sock_script.specs.Grammar as spec;
 ghost use Rattle.sock_script.specs.Seen.{texts, tables};
 ghost use Rattle.sock_script.specs.Steps.{label_table, label_at};
 
-use flat_list::{Command, Label, Script};
+use flat_list::kept::Form;
+use flat_list::{Command, KeptCommand, Label, Script};
 use std::alloc::{AllocError, Global};
 
 /// The label that a command gives to a new socket.
@@ -20,15 +21,30 @@ pub fn given_label(command: &Command) -> Option<&Label>
     }
 }
 
+/// The bytes of the label that a command gives to a new socket, where they are kept.
+fn given_bytes(command: &KeptCommand) -> Option<&[u8]>
+    ensures { option_copied result ≡ spec.given_label command.now }
+{
+    match command.form() {
+        Form::Socket { label, .. } | Form::UserSocket { label, .. } => Some(label.as_bytes()),
+        Form::Accept { label, .. } | Form::Syn { label, .. } | Form::Ack { label, .. } => {
+            Some(label.as_bytes())
+        }
+        Form::LongAccept { labels, .. } | Form::LongSyn { labels, .. } | Form::LongAck { labels } =>
+            Some(labels.given.as_bytes()),
+        _ => None,
+    }
+}
+
 /// The labels that a section's commands give, each at its number in the section, which is 1 or more.
-fn labels_of(alloc: Global, commands: &[Command]) -> Result<Vec<&[u8]>, AllocError>
+fn labels_of(alloc: Global, commands: &[KeptCommand]) -> Result<Vec<&[u8]>, AllocError>
     ensures { IfOk result (λ labels. texts labels.items ≡ [] ∷ spec.given_labels commands.now) }
 {
     let mut labels: Vec<&[u8]> = Vec::new(alloc);
     labels.push(&[])?;
     for command in commands {
-        if let Some(label) = given_label(command) {
-            labels.push(label.as_bytes())?;
+        if let Some(label) = given_bytes(command) {
+            labels.push(label)?;
         }
     }
     Ok(labels)

@@ -9,7 +9,7 @@ ghost use Rattle.sock_script.specs.MadeCommands as steps;
 ghost use Rattle.sock_script.specs.Make as spec;
 
 use crate::draft::DEFAULT_RANGE;
-use flat_list::{Command, End, Header, Label, Options, Query, Script, Shape};
+use flat_list::{Command, End, Header, KeptCommand, Label, Options, Query, Script, Shape};
 use inet_io::put_num;
 use rand_core::utils::NextWord;
 use rand_pcg::Lcg64Xsh32;
@@ -45,10 +45,11 @@ fn label(number: u32) -> Label
 }
 
 /// Appends a command.
-fn put(commands: &mut Vec<Command>, command: Command) -> Result<(), AllocError>
+fn put(commands: &mut Vec<KeptCommand>, command: Command) -> Result<(), AllocError>
     ensures { OnOk result (commands.new.items ≡ commands.old.items ++ command ∷ []) }
 {
-    commands.push(command)?;
+    let kept = KeptCommand::of(*commands.allocator(), &command)?;
+    commands.push(kept)?;
     Ok(())
 }
 
@@ -196,7 +197,7 @@ impl Step {
     /// Appends the commands that make a socket and bind it.
     fn add_bound(
         self,
-        commands: &mut Vec<Command>,
+        commands: &mut Vec<KeptCommand>,
         reuseaddr: bool,
         reuseport: bool,
         end: End,
@@ -209,7 +210,7 @@ impl Step {
     }
 
     /// Appends the step's commands.
-    fn add_to(self, commands: &mut Vec<Command>) -> Result<(), AllocError>
+    fn add_to(self, commands: &mut Vec<KeptCommand>) -> Result<(), AllocError>
         requires { 1 ≤ self.number }
         ensures { OnOk result (commands.new.items ≡ commands.old.items ++ steps.step_commands self.number self.word) }
     {
@@ -242,7 +243,7 @@ impl Step {
 }
 
 /// The commands of so many steps.
-fn commands_of(alloc: Global, seed: u32, count: u32) -> Result<Vec<Command>, AllocError>
+fn commands_of(alloc: Global, seed: u32, count: u32) -> Result<Vec<KeptCommand>, AllocError>
     ensures { IfOk result (λ commands. commands.items ≡ steps.commands_from 1 (spec.step_words seed count)) }
 {
     let mut generator = Lcg64Xsh32::new(u64::from(seed), STREAM);

@@ -11,7 +11,7 @@ use crate::label::Labels;
 use crate::shown::{Brief, Shown};
 use crate::unwritten::Unwritten;
 use capture_reader::Capture;
-use flat_list::{Command, End, Label, Script};
+use flat_list::{Command, End, KeptCommand, Label, Script};
 use inet_io::put_addr;
 use itoa::write_digits;
 use sock_card::{Card, Kind};
@@ -233,9 +233,9 @@ fn put_brief(out: &mut Vec<u8>, reply: Brief, label: &[u8]) -> Result<(), AllocE
             put(out, b"ok no-slot")?;
             put_two_numbers(out, owned, held)
         }
-        Brief::Count(count) => {
+        Brief::Count { high, low } => {
             put(out, b"ok ")?;
-            put_number(out, count)
+            put_number(out, u64::from(high) * 0x1_0000_0000 + u64::from(low))
         }
         Brief::Found { kind, name } => put_found(out, kind, name, label),
         Brief::None => put(out, b"none"),
@@ -417,7 +417,7 @@ fn put_section<'a>(
     out: &mut Vec<u8>,
     labels: &Labels<'_>,
     n: u64,
-    commands: &[Command],
+    commands: &[KeptCommand],
     unwritten: Unwritten<'a>,
 ) -> Result<Unwritten<'a>, AllocError>
     requires { unwritten.number + length unwritten.items < 2 ^ 63 }
@@ -425,7 +425,7 @@ fn put_section<'a>(
 {
     let mut left = unwritten;
     for command in commands {
-        left = put_command(out, labels, n, command, left)?;
+        left = put_command(out, labels, n, &command.plain(), left)?;
     }
     Ok(left)
 }

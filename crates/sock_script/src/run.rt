@@ -10,7 +10,7 @@ ghost use Rattle.sock_script.specs.Steps.{item_shown, RunsCommand, RunsSection};
 use crate::replies::Replies;
 use crate::shown::Shown;
 use capture_reader::Item;
-use flat_list::{Command, Flat, Reply, Script};
+use flat_list::{Command, Flat, KeptCommand, Reply, Script};
 use socket_list::Listing;
 use std::alloc::{AllocError, Global};
 
@@ -77,7 +77,7 @@ fn run_section<'a>(
     flat: &mut Flat,
     replies: &mut Replies,
     n: u32,
-    commands: &[Command],
+    commands: &[KeptCommand],
     items: &'a [Item],
 ) -> Result<&'a [Item], AllocError>
     requires number { n ≤ 64 }
@@ -86,7 +86,7 @@ fn run_section<'a>(
 {
     let mut left = items;
     for command in commands {
-        left = run_command(flat, replies, n, command, left)?;
+        left = run_command(flat, replies, n, &command.plain(), left)?;
     }
     Ok(left)
 }

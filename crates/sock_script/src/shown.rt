@@ -1,6 +1,7 @@
 //! What the output shows of replies, in less room than theirs.
 
-ghost use Rattle.std.specs.Prelude.{◌≡◌, map, IfOk};
+ghost use Rattle.std.specs.Prelude.{◌≡◌, ◌+◌, ◌*◌, ◌^◌, map, IfOk};
+ghost use Rattle.flat_list.specs.declared.command.Reply.TheVariants as replies;
 ghost use Rattle.sock_script.specs.Shown.{kept_reply, shown};
 
 use flat_list::{End, Reply};
@@ -8,7 +9,7 @@ use sock_card::Kind;
 use std::alloc::{AllocError, Global};
 use std::marker::Model;
 
-/// What the output shows of a reply: of a card that was found, its kind and its name. It takes 16 bytes.
+/// What the output shows of a reply: of a card that was found, its kind and its name. It takes 12 bytes.
 ///
 /// A contract sees it as a reply whose card, if there is one, says nothing else.
 #[derive(Debug, Drop)]
@@ -24,7 +25,8 @@ pub enum Brief {
     End(End),
     TimeWait,
     NoSlot { owned: u32, held: u32 },
-    Count(u64),
+    /// So many sockets: `high` times 2^32 and `low`, which may lie at any fourth byte.
+    Count { high: u32, low: u32 },
     /// A packet finds the socket of that name.
     Found { kind: Kind, name: u32 },
     /// A packet finds none.
@@ -49,6 +51,23 @@ impl Model for Shown {
     ghost view = { λ s. kept_reply s.brief };
 }
 
+/// The two halves of a number: how often 2^32 is in it, and what is left.
+fn halves(number: u64) -> (u32, u32)
+    ensures { result.0 * 2 ^ 32 + result.1 ≡ number }
+{
+    let high = number / 0x1_0000_0000;
+    let low = number % 0x1_0000_0000;
+    (high as u32, low as u32)
+}
+
+/// How a count is kept.
+fn count_of(number: u64) -> Brief
+    ensures { kept_reply result ≡ replies.Count number }
+{
+    let (high, low) = halves(number);
+    Brief::Count { high, low }
+}
+
 /// What is shown of a reply.
 fn brief_of(reply: &Reply) -> Brief
     ensures { kept_reply result ≡ shown reply.now }
@@ -62,7 +81,7 @@ fn brief_of(reply: &Reply) -> Brief
             owned: *owned,
             held: *held,
         },
-        Reply::Count(count) => Brief::Count(*count),
+        Reply::Count(count) => count_of(*count),
         Reply::Found(Some(card)) => Brief::Found {
             kind: card.kind,
             name: card.name,

@@ -29,12 +29,12 @@ loop-at-preserved g c =
     let n = c.now-clock.ensures in
     let at : ℕ = c.loop-at.at in
     let test : at < length c.args.commands.now = omega arith in
-    let command = c.index-commands-at.result in
+    let command = c.plain-command.result in
     let after : Worker = record { turns = c.list_for.new.worker.turns; chain = c.now-clock.new.pass; groups = c.list_for.new.worker.groups } in
     record {
       runs = runs_more c.args.header.now c.args.tables.now c.args.number (take at c.args.commands.now) (take (at + 1) c.args.commands.now) c.loop-at.machine c.step.new.self c.loop-at.worker c.step.new.worker c.list_for.new.worker after c.loop-at.replies.items c.push.new.self.items c.loop-at.listings.items c.list_for.new.listings.items command c.in_ok-reply.reply c.now-clock.result
           i.runs e.section e.kept.header e.did b.keeps c.in_ok-list_for.ensures.lists refl refl n.sees n.next n.rests n.later (omega arith) n.settled
-          (take_more c.args.commands.now at command test ∙ ap (λ z. take at c.args.commands.now ++ z ∷ []) (sym c.index-commands-at.is)) c.in_ok-push.ensures.items;
+          (take_more c.args.commands.now at c.index-commands-at.result test ∙ ap (λ z. take at c.args.commands.now ++ z ∷ []) (sym (c.plain-command.ensures ∙ c.index-commands-at.is))) c.in_ok-push.ensures.items;
       labels = omega (arith, e.kept.labels, i.labels);
       entered = omega (arith, e.spends.entered, i.entered, ap words.draws b.keeps.turns);
       drawn = let more : ℕ = 6 * (length c.args.commands.now - (at + 1)) + 2 * length c.step.new.self.own.waits in
@@ -52,7 +52,7 @@ step-requires g c =
     let drawn = i.drawn in
     record {
       section = i.runs.section;
-      look = subst (λ (x : Command). is_lookup x ≡ false) (sym c.index-commands-at.is) (each_get (λ (x : Command). is_lookup x ≡ false) c.args.commands.now c.loop-at.at c.index-commands-at.result c.requires.looks test);
+      look = subst (λ (x : Command). is_lookup x ≡ false) (sym (c.plain-command.ensures ∙ c.index-commands-at.is)) (each_get (λ (x : Command). is_lookup x ≡ false) c.args.commands.now c.loop-at.at c.index-commands-at.result c.requires.looks test);
       room = omega (arith, labels, few, test);
       enough = record { enters = omega (arith, entered, few, test); draws = omega (arith, drawn, test) };
     }
