@@ -1,13 +1,13 @@
 //! The top call: all that the program does, over ends that are handed in.
 //!
 //! `inet run` reads a script, with a capture at its end or without, runs its sections one after the other over the
-//! socket tables, and writes the reply of each command and what each packet finds. `inet race` reads one too, runs its
-//! sections and looks its packets up beside each other, and writes the record of that. `inet make` reads nothing, runs
-//! a generated script, and writes how many of its commands were done. `inet audit` reads the record of a race, and writes
-//! whether it passes the tests of the judge, or where it fails which. The contract of [`inet`] has each status of
-//! the table below, when it comes and what was written then; `main` makes the real ends, calls it and ends with the
-//! status. It stands on `sock_script`, `script_run`, `race_threads`, `race_text`, `record_reader` and `inet_io`, on
-//! `clap` for the words, and for what it says of a race on the laws of `race_laws` and `audit_laws`.
+//! socket tables, and writes the reply of each command and what each packet finds. `inet race` reads one too, runs
+//! its sections and looks its packets up beside each other, and writes the record of that. `inet make` reads nothing,
+//! runs a generated script, and writes how many of its commands were done. `inet audit` reads the record of a race,
+//! and writes whether it passes the tests of the judge, or where it fails which. The contract of [`inet`] has each
+//! status of the table below, when it comes and what was written then; `main` makes the real ends, calls it and ends
+//! with the status. It stands on `sock_script`, `script_run`, `race_threads`, `race_text`, `record_reader` and
+//! `inet_io`, on `clap` for the words, and for what it says of a race on the laws of `race_laws` and `audit_laws`.
 //!
 //! | Status | Exit | When | Written |
 //! |---|---|---|---|
@@ -70,14 +70,14 @@ pub const LIMIT: usize = 16_777_216;
 ///
 /// `words` has the program's name first. What is written is built whole before the first write, so that
 /// only a write that fails leaves a part of it. Each command waits by `rt` for the turns of bind buckets and the
-/// locks of chains, so no call is promised to return. A race runs threads by it, too, and waits for them; the gate, at
-/// which its workers call before each command and packet, is for a race alone. The seed with which the hashes of labels
-/// begin is drawn from it, once.
+/// locks of chains, so no call is promised to return. A race runs threads by it, too, and waits for them; the gate,
+/// at which its workers call before each command and packet, is for a race alone. The seed with which the hashes of
+/// labels begin is drawn from it, once.
 ///
 /// Reading takes at most 16,777,217 reads. Where several causes stand, the earlier of usage, a failed
-/// read, too long an input, a bad line, a bad capture and a failed write is answered, and of an audit a bad line before
-/// a line that is refuted, but a failed write in place of both; want of memory may come in place of what a later test
-/// would give.
+/// read, too long an input, a bad line, a bad capture and a failed write is answered, and of an audit a bad line
+/// before a line that is refuted, but a failed write in place of both;
+/// want of memory may come in place of what a later test would give.
 pub fn inet<R: Threads + Wait + Sync + RandomSource, S: Source, K: Sink, G: Gate>(
     rt: &R,
     alloc: Global,
@@ -152,8 +152,8 @@ pub fn inet<R: Threads + Wait + Sync + RandomSource, S: Source, K: Sink, G: Gate
     ensures make_ends { (seed count : ℕ) → IsMake (map string_bytes words.now) seed count
         → (result ≡ Status.Done) ⊎ ((result ≡ Status.WriteFault) ⊎ (result ≡ Status.Memory)) }
 
-    // `audit` writes the line that tells what came of it: a verdict on the record, or the line that keeps it from being
-    // one. Which that is the bytes determine, and they get it, where neither end failed and memory was there.
+    // `audit` writes the line that tells what came of it: a verdict on the record, or the line that keeps it from
+    // being one. Which that is the bytes determine, and they get it, where neither end failed and memory was there.
     ensures audited { IsAudit (map string_bytes words.now) → IsEnd result → WritesOutcome
         (S.left source.old) (S.left source.new) (K.written sink.old) (K.written sink.new) result }
     ensures audited_front { IsAudit (map string_bytes words.now) → result ≡ Status.WriteFault → WritesFrontOfOutcome

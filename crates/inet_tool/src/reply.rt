@@ -19,8 +19,8 @@ pub struct Reply {
     pub fault: Option<Fault>,
 }
 
-/// The reply to an input within the limit, which is let go before its script runs. The hashes of labels begin with the
-/// seed.
+/// The reply to an input within the limit, which is let go before its script runs.
+/// The hashes of labels begin with the seed.
 pub fn reply_to<R: Wait>(
     rt: &R,
     alloc: Global,
