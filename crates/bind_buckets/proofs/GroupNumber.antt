@@ -23,7 +23,7 @@ within_or : (o p : Option ℕ) (n i : ℕ) → (o ≡ Some i → i < n) → (p �
 within_or None p n i h k e = k e
 within_or (Some j) p n i h k e = h e
 
-place_within : (h : Held) (a : Owner) (i : ℕ) → place_for h a ≡ Some i → i < length h.groups
+pub place_within : (h : Held) (a : Owner) (i : ℕ) → place_for h a ≡ Some i → i < length h.groups
 place_within h a i e =
     within_or (mates_place h a) (position is_free h.groups) (length h.groups) i
     (within_then (λ (mate : Owner). position (has_member mate.name) h.groups) (find (is_mate a) h.owners) (length h.groups) i (λ mate q. (place_is (has_member mate.name) h.groups i q).1))

@@ -16,7 +16,7 @@ mod RoomToGo
 mod RoomLeft
 pub mod Filtered
 pub mod ToldByOwn
-mod GroupNumber
+pub mod GroupNumber
 mod Counted
 mod Tallied
 mod RuledOut

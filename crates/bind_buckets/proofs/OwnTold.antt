@@ -272,7 +272,7 @@ module _ (place at : ℕ) (request : Request) (answer : Answer) (v w : View) (o 
       ∙ ap (λ ns. by_caller v.caller (notes_at place v.mine ++ ns)) (at_else at place (x.note ∷ []) other)
       ∙ ap (by_caller v.caller) (append-nil (notes_at place v.mine))
 
-told_both : (owners : List Owner) (xs ys : List Entry) → told_from owners (xs ++ ys) ≡ told_from (told_from owners xs) ys
+pub told_both : (owners : List Owner) (xs ys : List Entry) → told_from owners (xs ++ ys) ≡ told_from (told_from owners xs) ys
 told_both owners [] ys = refl
 told_both owners (e ∷ xs) ys = told_both (told owners e.request e.answer) xs ys
 
@@ -280,7 +280,7 @@ told_last : (owners : List Owner) (e : Entry) (b : Bool) → told_from owners (c
 told_last owners e true = refl
 told_last owners e false = refl
 
-told_push : (mine : ℕ → Bool) (notes : List Note) (x : Note) → told_from [] (filter (is_told mine) (entries_of (notes ++ x ∷ []))) ≡ told_next mine (told_from [] (filter (is_told mine) (entries_of notes))) x.entry
+pub told_push : (mine : ℕ → Bool) (notes : List Note) (x : Note) → told_from [] (filter (is_told mine) (entries_of (notes ++ x ∷ []))) ≡ told_next mine (told_from [] (filter (is_told mine) (entries_of notes))) x.entry
 told_push mine notes x =
     ap (λ es. told_from [] (filter (is_told mine) es)) (map-append entry_of notes (x ∷ []))
     ∙ ap (told_from []) (filter-append (is_told mine) (entries_of notes) (x.entry ∷ []))
@@ -322,7 +322,7 @@ none_kept : (mine : ℕ → Bool) (notes : List Note) → Each (λ (x : Note). i
 none_kept mine notes h =
     each_weaken (λ (x : Note). is_told mine x.entry ≡ false) (λ (x : Note). KeepsOpen mine x.entry.request) notes (λ x none. unspoken mine x.entry.request none) h
 
-brings_keep : (a : Owner) (mine : ℕ → Bool) (request : Request) → Brings a request → is_time_wait a.state ≡ false → KeepsOpen mine request
+pub brings_keep : (a : Owner) (mine : ℕ → Bool) (request : Request) → Brings a request → is_time_wait a.state ≡ false → KeepsOpen mine request
 brings_keep a mine (requests.Bind b) same awake = λ said. ap (λ (x : Owner). is_time_wait x.state) same ∙ awake
 brings_keep a mine (requests.BindAuto b) same awake = λ said. ap (λ (x : Owner). is_time_wait x.state) same ∙ awake
 brings_keep a mine (requests.ConnectAuto b) same awake = λ said. ap (λ (x : Owner). is_time_wait x.state) same ∙ awake

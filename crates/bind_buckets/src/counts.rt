@@ -3,9 +3,8 @@
 //! Those by port answer most questions. Where many owners share a port at one address, and one at
 //! another address shares it with none, those by address still tell that none refuses a newcomer.
 
-ghost use Rattle.std.specs.Prelude.{ℕ, ◌≡◌, ◌==◌, ◌&&◌, ◌||◌, ◌+◌, ◌<◌, ◌≤◌, Bool, true, List, [], ◌∷◌, ◌++◌, find, None, Some, OnOk, OnErr, IfOk};
+ghost use Rattle.std.specs.Prelude.{ℕ, ◌≡◌, ◌==◌, ◌&&◌, ◌||◌, ◌<◌, ◌≤◌, Bool, true, List, [], ◌∷◌, ◌++◌, find, None, Some, OnOk, OnErr, IfOk};
 ghost use Rattle.sock_card.specs.Conflict as conflict_spec;
-ghost use Rattle.bind_buckets.specs.OwnerStep as step_spec;
 ghost use Rattle.bind_buckets.specs.First.{change_first, drop_first};
 ghost use Rattle.bind_buckets.specs.Slots.{owners_in};
 ghost use Rattle.bind_buckets.specs.Tally as tally_spec;

@@ -1,6 +1,6 @@
 //! What a bucket holds, and what each request makes of it.
 
-ghost use Rattle.std.specs.Prelude.{◌≡◌, ◌+◌, ◌≤◌, ◌<◌, true, false, Some, length, find};
+ghost use Rattle.std.specs.Prelude.{◌≡◌, ◌≤◌, ◌<◌, true, false, Some, length, find};
 ghost use Rattle.sock_card.specs.Conflict as conflict_spec;
 ghost use Rattle.sock_card.specs.Became as became;
 ghost use Rattle.bind_buckets.specs.OwnerStep as spec;

@@ -1,6 +1,6 @@
 //! Slots filed by name, by port, and by port and address.
 
-ghost use Rattle.std.specs.Prelude.{◌≡◌, ◌+◌, ◌-◌, ◌*◌, ◌≤◌, ◌<◌, ◌++◌, ◌∷◌, [], Option, None, Some, length, position, slice_index_or, max, IfSome, OnOk};
+ghost use Rattle.std.specs.Prelude.{◌≡◌, ◌+◌, ◌-◌, ◌≤◌, ◌<◌, ◌++◌, ◌∷◌, [], length, position, slice_index_or, max, IfSome, OnOk};
 ghost use Rattle.bind_buckets.specs.Links.{place_after, IsFirstIn};
 ghost use Rattle.bind_buckets.specs.declared.slot.Slot.{Slot};
 ghost use Rattle.bind_buckets.specs.Slots as spec;

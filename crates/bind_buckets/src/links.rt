@@ -1,6 +1,6 @@
 //! Places of a list, found by their keys.
 
-ghost use Rattle.std.specs.Prelude.{◌≡◌, ◌+◌, ◌*◌, ◌%◌, ◌^◌, ◌≤◌, ◌<◌, ◌++◌, ◌∷◌, [], length, vec_len, vec_capacity, IfSome, OnOk, None, Some, slice_set};
+ghost use Rattle.std.specs.Prelude.{◌≡◌, ◌+◌, ◌*◌, ◌%◌, ◌^◌, ◌≤◌, ◌<◌, ◌++◌, ◌∷◌, [], length, vec_len, vec_capacity, IfSome, OnOk, slice_set};
 ghost use Rattle.bind_buckets.specs.Links as spec;
 ghost use Rattle.bind_buckets.specs.Links.{keys_in, newers_in, place_after, is_key, is_home, IsFirstIn, AreLinked, IsAfter};
 

@@ -1,6 +1,6 @@
 //! The owners of a bucket, each of which is found without a look at all.
 
-ghost use Rattle.std.specs.Prelude.{◌≡◌, ◌^◌, ◌+◌, ◌≤◌, ◌<◌, ◌++◌, ◌∷◌, [], Option, length, find, filter, vec_len, vec_capacity, OnOk, None};
+ghost use Rattle.std.specs.Prelude.{◌≡◌, ◌^◌, ◌+◌, ◌≤◌, ◌<◌, ◌++◌, ◌∷◌, [], length, find, filter, vec_len, vec_capacity, OnOk};
 ghost use Rattle.std.specs.Option.{option_copied};
 ghost use Rattle.bind_buckets.specs.OwnerStep as spec;
 ghost use Rattle.bind_buckets.specs.First.{change_first, drop_first};

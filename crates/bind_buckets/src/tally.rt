@@ -5,7 +5,7 @@
 //! tally, and a count that has reached 255 stays there: either may cost a scan, and never changes an
 //! answer.
 
-ghost use Rattle.std.specs.Prelude.{◌≡◌, ℕ, ◌+◌, ◌-◌, ◌<◌, Bool, true, List, [], ◌∷◌, ◌++◌, find, length, Some, OnOk, OnErr, slice_set, nat_eq, if◌then◌else◌};
+ghost use Rattle.std.specs.Prelude.{◌≡◌, ℕ, ◌<◌, Bool, true, List, [], ◌∷◌, ◌++◌, find, length, Some, OnOk, OnErr, slice_set, nat_eq, if◌then◌else◌};
 ghost use Rattle.bind_buckets.specs.First.{change_first, drop_first};
 ghost use Rattle.bind_buckets.specs.Tally as spec;
 ghost use Rattle.bind_buckets.specs.Tally.{Counts, CountAlike, IsTallyOf, AreMade, spot_of};

@@ -4,7 +4,7 @@
 //! named as those of [`Bucket`] ask it, each with a number of its own, and [`give`] gives it back. What
 //! the turn moves is a box. [`with_buckets`] makes the table; [`into_buckets`] ends it.
 
-ghost use Rattle.std.specs.Prelude.{◌≡◌, ◌+◌, ◌%◌, ◌^◌, ◌-◌, ◌<◌, ◌≤◌, ◌++◌, ◌∷◌, [], true, length, map, find, None, OnOk, OnErr, IfOk, IfSome, IfNone};
+ghost use Rattle.std.specs.Prelude.{◌≡◌, ◌+◌, ◌%◌, ◌^◌, ◌-◌, ◌<◌, ◌≤◌, ◌++◌, ◌∷◌, [], true, length, map, find, None, OnOk, IfOk, IfSome, IfNone};
 ghost use Rattle.turn_table.specs.Passes as words;
 ghost use Rattle.turn_table.specs.Passes.{known, IsPassOf, IsFree};
 ghost use Rattle.turn_table.specs.Ends.{HoldsWhatWasGiven, IsInTheOrderOfEach, NumbersAll, AllAscend};

@@ -3,7 +3,7 @@ use Rattle.std.proofs.Common.{◌≡◌, ℕ, ◌≤◌, IsTrue, IfOk, Result, O
 use Rattle.std.proofs.lemmas.List.{take_all}
 use Rattle.std.specs.declared.alloc.AllocError.{AllocError}
 use Rattle.std.specs.List.{flat_map}
-use Rattle.std.proofs.lemmas.Bool.{true≢false, ltb-true, le-ltb, eqb-true}
+use Rattle.std.proofs.lemmas.Bool.{true≢false, ltb-true, le-ltb, eqb-true, false_from_ne_true}
 use Rattle.list_words.specs.Lists.{Each, Pairs}
 use Rattle.list_words.proofs.EachLemmas.{each_both}
 use Rattle.list_words.proofs.PairsLemmas.{pairs_weaken}
@@ -21,7 +21,7 @@ use Rattle.book_audit.specs.declared.clashes.Clash.TheVariants as clashes
 use Rattle.book_audit.specs.Lines.{NoTwo, passes, some_span, share, shares_number, meet, overlap, is_out, share_slot, begins_after, comes_in_time, are_full, are_twins}
 use Rattle.book_audit.specs.Stays.{is_below, runs_into, NoneRunsInto, clash_of, stay_at, stay_in, span_stays, unhash_stays, begin_of, tuple_words, slot_stay, tuple_stay, stays_of}
 use Rattle.book_audit.proofs.Prefixes.{each_front, each_back, pairs_across, pairs_back}
-use Rattle.book_audit.proofs.Order.{Runs, into, no_truth}
+use Rattle.book_audit.proofs.Order.{Runs, into}
 
 module _ {A B : Type 0} where
   each_flat : (P : B → Type 0) (f : A → List B) (xs : List A) → Each P (flat_map f xs) → Each (λ x. Each P (f x)) xs
@@ -172,7 +172,7 @@ no_clash clashes.Twin l m = no_twin l m
 -- where no two of the stays that lives make run into each other, no two lives clash
 pub clear : (k : Clash) (lives : List PrintedLife) → NoneRunsInto (flat_map (stays_of k) lives) → NoTwo (clash_of k) lives
 clear k lives n = pairs_weaken (AllApart k) (λ l m. clash_of k l m ≡ false) lives
-    (λ l m a. no_truth (clash_of k l m) (no_clash k l m a)) (pairs_flat Apart (stays_of k) lives n)
+    (λ l m a. false_from_ne_true (clash_of k l m) (no_clash k l m a)) (pairs_flat Apart (stays_of k) lives n)
 
 pub told_clear : (k : Clash) (lives : List PrintedLife) (stays : List Stay) (i : ℕ) → length lives ≤ i → stays ≡ flat_map (stays_of k) (take i lives) → (r : Result Bool AllocError) → IfOk r (λ told. IsTrue told → NoneRunsInto stays) → IfOk r (λ told. IsTrue told → NoTwo (clash_of k) lives)
 told_clear k lives stays i l e (Ok told) h = λ t. clear k lives

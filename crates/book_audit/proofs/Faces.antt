@@ -2,7 +2,7 @@
 use Rattle.std.proofs.Common.{◌≡◌, ℕ, ◌+◌, ◌<◌, ◌≤◌, ◌==◌, ◌&&◌, ◌||◌, not, nat_lt, nat_le, Bool, true, false, IsTrue, IfOk, Result, Ok, Err, List, [], ◌∷◌, ◌++◌, map, take, length, get_or, if◌then◌else◌, Option, None, Some, refl, sym, ◌∙◌, subst, arith, ◌⊎◌, inl, inr}
 use Rattle.std.specs.List.Sorted.{IsPermutation}
 use Rattle.std.proofs.lemmas.List.{take_more}
-use Rattle.std.proofs.lemmas.Bool.{true≢false, ltb-true, lt-ltb, leb-true, eqb-true, eq-eqb}
+use Rattle.std.proofs.lemmas.Bool.{true≢false, ltb-true, lt-ltb, leb-true, eqb-true, eq-eqb, false_from_ne_true}
 use Rattle.list_words.specs.Lists.{Each}
 use Rattle.list_words.proofs.EachLemmas.{each_weaken, each_push}
 use Rattle.sock_card.specs.declared.card.Card.{Card}
@@ -25,7 +25,6 @@ use Rattle.book_audit.specs.Lines.{passes, is_out}
 use Rattle.book_audit.specs.Stays.{is_below, begin_of}
 use Rattle.book_audit.specs.Tried.{was_throughout, beats, is_beaten}
 use Rattle.book_audit.specs.Index.{face_as, connected_face, listening_face, mark, outlasts, StandsFor, IsMarked, AreOrdered, AreMarked, IsIndex, GoneAt, RulesOut}
-use Rattle.book_audit.proofs.Order.{no_truth}
 use Rattle.book_audit.proofs.Looked.{Passing, any_is}
 
 module _ (stays : List Stay) (look : PrintedLook) (least : ℕ) (low : 0 < least) where
@@ -124,7 +123,7 @@ module _ (stays : List Stay) (look : PrintedLook) (least : ℕ) (low : 0 < least
       true≢false (sym out ∙ not_true (is_out l look.t1) (and_right before (not (is_out l look.t1)) w))
 
   pub unbeaten : RulesOut stays look least → (lives : List PrintedLife) → AreMarked stays lives → is_beaten lives look least ≡ false
-  unbeaten r lives m = no_truth (is_beaten lives look least) (λ e.
+  unbeaten r lives m = false_from_ne_true (is_beaten lives look least) (λ e.
       let p : Passing (beats look least) lives = any_is (beats look least) lives e in
       not_there r p.which (each_of (λ l. IsMarked stays (mark l)) lives m p.which p.there) p.passes)
 

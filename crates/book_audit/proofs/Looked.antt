@@ -1,7 +1,7 @@
 -- What the judge tries of a lookup is what race_book asks of it.
 use Rattle.std.proofs.Common.{◌≡◌, ℕ, ◌+◌, ◌≤◌, ◌==◌, ◌&&◌, ◌||◌, not, nat_lt, nat_le, Bool, true, false, List, [], ◌∷◌, Option, None, Some, refl, sym, ap, ◌∙◌, subst, arith, inl, inr}
 use Rattle.std.specs.List.{list_any}
-use Rattle.std.proofs.lemmas.Bool.{true≢false, ltb-true, ltb-false, lt-ltb, le-ltb, leb-true, le-leb, eqb-true, eq-eqb}
+use Rattle.std.proofs.lemmas.Bool.{true≢false, ltb-true, ltb-false, lt-ltb, le-ltb, leb-true, le-leb, eqb-true, eq-eqb, or_left, or_right, false_from_ne_true}
 use Rattle.sock_card.specs.declared.card.Card.{Card}
 use Rattle.sock_card.specs.declared.card.Kind.{Kind}
 use Rattle.sock_card.specs.Kinds.{same_kind}
@@ -30,7 +30,6 @@ use Rattle.book_audit.specs.Book.{hash_of, unhash_of, book_of}
 use Rattle.book_audit.specs.Lines.{NoTwo, AreStamped, AreHoused, passes, some_span, is_out, is_home, share_slot}
 use Rattle.book_audit.specs.Looks.{Tells, pass_end, receipt_of, IsLookExplained, IsLineExplained}
 use Rattle.book_audit.specs.Tried.{met, was_throughout, has_stood, beats, is_beaten, is_found, hashes_into, changes_in, hashes, may_end, is_bucket_of, explains, line_explained}
-use Rattle.book_audit.proofs.Order.{no_truth}
 use Rattle.book_audit.proofs.Lives.{IsOf, by_hash, by_unhash, Whose, whose, LifeOf, life_of, is_life, hash_there, unhash_there, OwnEnd, EndedBy, ended, ends_there, ends_only}
 
 -- an item that passes a test
@@ -45,14 +44,6 @@ any_is test (x ∷ xs) e = elim (or_cases (test x) (list_any test xs) e) as (λ 
   | inl p ↦ record { which = x; there = inl refl; passes = p }
   | inr q ↦ let s : Passing test xs = any_is test xs q in record { which = s.which; there = inr s.there; passes = s.passes }
 ]
-
-or_left : (a b : Bool) → a ≡ true → (a || b) ≡ true
-or_left true b e = refl
-or_left false b e = absurd (true≢false (sym e))
-
-or_right : (a b : Bool) → b ≡ true → (a || b) ≡ true
-or_right true b e = refl
-or_right false b e = e
 
 pub any_if : {A : Type 0} (test : A → Bool) (xs : List A) (x : A) → Among xs x → test x ≡ true → list_any test xs ≡ true
 any_if test [] x a e = absurd a
@@ -167,7 +158,7 @@ module _ (clock : ℕ) (shape : Shape) (seed : ℕ) (lives : List PrintedLife) (
   none_is least e h l c r t = none_by least e h (life_of lives h l) r t
 
   none_back : (least : ℕ) → None_from least → is_beaten lives look least ≡ false
-  none_back least n = no_truth (is_beaten lives look least) (λ e.
+  none_back least n = false_from_ne_true (is_beaten lives look least) (λ e.
       let s : Passing (beats look least) lives = any_is (beats look least) lives e in
       let l = s.which in
       let a : Bool = nat_le least (rank l.card look.packet) in
@@ -286,7 +277,7 @@ module _ (clock : ℕ) (shape : Shape) (seed : ℕ) (lives : List PrintedLife) (
 
   end_back : (bucket : ℕ) (end : PrintedEnd) → MayEnd Book shape.slots bucket look.t0 look.t1 (pass_end end) → may_end shape.slots lives look bucket end ≡ true
   end_back bucket (ends.Foreign other) m = and_both (not (other == bucket)) (list_any (hashes_into look other) lives)
-      (true_not (other == bucket) (no_truth (other == bucket) (λ q. m.0 (eqb-true other bucket q)))) (into_back other m.1)
+      (true_not (other == bucket) (false_from_ne_true (other == bucket) (λ q. m.0 (eqb-true other bucket q)))) (into_back other m.1)
   end_back bucket (ends.Dead slot) m = changed_back slot m
   end_back bucket (ends.Changed slot) m = changed_back slot m
   end_back bucket (ends.Long n) m =

@@ -1,6 +1,6 @@
 -- What stays in order tell at one place.
 use Rattle.std.proofs.Common.{◌≡◌, ℕ, zero, suc, ◌+◌, ◌-◌, ◌<◌, ◌≤◌, ◌==◌, ◌&&◌, ◌||◌, not, nat_lt, nat_le, Bool, true, false, List, [], ◌∷◌, ◌++◌, take, drop, length, get_or, Option, None, Some, refl, sym, ◌∙◌, subst, arith, ◌⊎◌, inl, inr, drop-cons}
-use Rattle.std.proofs.lemmas.Bool.{true≢false, ltb-true, lt-ltb, leb-true, le-leb, eqb-true, eq-eqb}
+use Rattle.std.proofs.lemmas.Bool.{true≢false, ltb-true, lt-ltb, leb-true, le-leb, eqb-true, eq-eqb, or_left, or_right}
 use Rattle.std.proofs.lemmas.List.{take_more}
 use Rattle.list_words.specs.Lists.{Each}
 use Rattle.list_words.proofs.EachLemmas.{each_weaken}
@@ -11,7 +11,6 @@ use Rattle.book_audit.specs.declared.stays.Stay.{Stay}
 use Rattle.book_audit.specs.Stays.{is_below}
 use Rattle.book_audit.specs.Index.{outlasts, goes_before, AreOrdered, precedes, is_over, NoneStays}
 use Rattle.book_audit.proofs.Prefixes.{each_line, pairs_line, pairs_last}
-use Rattle.book_audit.proofs.Order.{or_left, or_right}
 
 abbrev pub Goes : Stay → Stay → Type 0
 Goes s t = goes_before s t ≡ true

@@ -1,6 +1,6 @@
 -- Stays that come one after the other don't run into each other.
-use Rattle.std.proofs.Common.{◌≡◌, ℕ, ◌+◌, ◌-◌, ◌<◌, ◌≤◌, ◌==◌, ◌&&◌, ◌||◌, not, nat_lt, Bool, true, false, List, [], ◌∷◌, take, length, get_or, Option, None, Some, refl, sym, ◌∙◌, subst, arith, inl, inr}
-use Rattle.std.proofs.lemmas.Bool.{true≢false, ltb-true, lt-ltb, eqb-true, eq-eqb, leb-true}
+use Rattle.std.proofs.Common.{◌≡◌, ℕ, ◌+◌, ◌-◌, ◌<◌, ◌≤◌, ◌==◌, ◌&&◌, not, nat_lt, Bool, true, false, List, [], ◌∷◌, take, length, get_or, Option, None, Some, refl, sym, ◌∙◌, subst, arith, inl, inr}
+use Rattle.std.proofs.lemmas.Bool.{true≢false, ltb-true, lt-ltb, eqb-true, eq-eqb, leb-true, or_left, or_right, false_from_ne_true}
 use Rattle.std.proofs.lemmas.List.{take_all}
 use Rattle.std.specs.List.{IsDistinct, AllByRecursion}
 use Rattle.std.specs.List.Sorted.{IsPermutation}
@@ -34,14 +34,6 @@ way s t e = elim (or_cases (nat_lt s.place t.place) _ e) as (λ _. Way s t) [
       ]
 ]
 
-pub or_left : (a b : Bool) → a ≡ true → (a || b) ≡ true
-or_left true b e = refl
-or_left false b e = absurd (true≢false (sym e))
-
-pub or_right : (a b : Bool) → b ≡ true → (a || b) ≡ true
-or_right true b e = refl
-or_right false b e = e
-
 first : (s t : Stay) → Way s t → First s t
 first s t (by_place p) = or_left (nat_lt s.place t.place) _ (lt-ltb s.place t.place p)
 first s t (by_part p q) = or_right (nat_lt s.place t.place) _
@@ -69,10 +61,6 @@ chain s t u l (by_time p q r) (by_time w z y) = by_time (p ∙ w) (q ∙ z) (lat
 
 first_on : (s t u : Stay) → lasts t ≡ true → First s t → First t u → First s u
 first_on s t u l p q = first s u (chain s t u l (way s t p) (way t u q))
-
-pub no_truth : (b : Bool) → (b ≡ true → ⊥) → b ≡ false
-no_truth true h = absurd (h refl)
-no_truth false h = refl
 
 not_and : (b : Bool) → b ≡ true → not b ≡ true → ⊥
 not_and true p q = true≢false (sym q)
@@ -123,7 +111,7 @@ clash_by s t (by_part p q) r = omega (arith, r.part)
 clash_by s t (by_time p q w) r = not_and (is_below s.until t.from) w r.one
 
 apart : (s t : Stay) → First s t → runs_into s t ≡ false
-apart s t f = no_truth (runs_into s t) (λ e. clash_by s t (way s t f) (runs s t e))
+apart s t f = false_from_ne_true (runs_into s t) (λ e. clash_by s t (way s t f) (runs s t e))
 
 -- stays one after the other
 pub apart_all : (stays : List Stay) → Pairs First stays → NoneRunsInto stays

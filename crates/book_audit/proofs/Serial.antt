@@ -4,9 +4,6 @@ use Rattle.std.proofs.lemmas.Bool.{true≢false, ltb-true, ltb-false, lt-ltb, eq
 use Rattle.list_words.proofs.EachLemmas.{some_same}
 use Rattle.list_words.proofs.PairsLemmas.{pairs_weaken}
 use Rattle.sock_card.specs.declared.card.Card.{Card}
-use Rattle.sock_card.specs.declared.card.Tuple.{Tuple}
-use Rattle.sock_card.specs.Tuples.{tuple_of, same_tuple}
-use Rattle.sock_card.proofs.Tuples.{PartsAgree, parts_agree}
 use Rattle.chain_book.specs.declared.book.Act.TheVariants as acts
 use Rattle.chain_book.specs.declared.book.Change.{Change}
 use Rattle.chain_book.specs.declared.shape.Shape.{Shape}
@@ -17,6 +14,7 @@ use Rattle.race_book.specs.Lives.{IsLife, Ends, Leaves, is_unhash}
 use Rattle.race_book.specs.Serial.{IsSerial, EndsOne, AreTwins}
 use Rattle.race_book.proofs.Endings.{each_of}
 use Rattle.race_book.proofs.Checks.{and_left, and_right, and_both}
+use Rattle.race_book.proofs.Twins.{cards_turned}
 use Rattle.book_audit.specs.declared.printed.Span.{Span}
 use Rattle.book_audit.specs.declared.printed.PrintedLife.{PrintedLife}
 use Rattle.book_audit.specs.declared.printed.Why.TheVariants as whys
@@ -97,14 +95,6 @@ begin_clear l m e c d i j p =
 
 begin_turned : (l m : PrintedLife) → BeginClear l m → BeginClear m l
 begin_turned l m f c d i j e = f d c j i (sym e)
-
-tuples_are : (a b : Card) → same_cards a b ≡ true → tuple_of a ≡ tuple_of b
-tuples_are a b t = let p : PartsAgree (tuple_of a) (tuple_of b) = parts_agree (tuple_of a) (tuple_of b) t in
-    λ i. record { net = p.net i; local = p.local i; lport = p.lport i; remote = p.remote i; rport = p.rport i }
-
-cards_turned : (a b : Card) → same_cards a b ≡ true → same_cards b a ≡ true
-cards_turned a b t = let p : tuple_of a ≡ tuple_of b = tuples_are a b t in
-    subst (λ (x : Tuple). same_tuple x (tuple_of a) ≡ true) p (subst (λ (y : Tuple). same_tuple (tuple_of a) y ≡ true) (sym p) t)
 
 -- of two full cards of one four-tuple one comes too late to meet the other
 abbrev TwinsClear : PrintedLife → PrintedLife → Type 0

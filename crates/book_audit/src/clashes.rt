@@ -1,7 +1,7 @@
 //! The first line of a life that clashes with an earlier one.
 
-ghost use Rattle.std.specs.Prelude.{◌≡◌, ◌++◌, IsTrue, IfOk, OnOk, MatchOption, ◌<◌, ◌≤◌, length};
-ghost use Rattle.std.specs.List.{flat_map, list_any};
+ghost use Rattle.std.specs.Prelude.{◌≡◌, ◌++◌, IsTrue, IfOk, OnOk, MatchOption};
+ghost use Rattle.std.specs.List.{list_any};
 ghost use Rattle.book_audit.specs.Lines.{NoTwo};
 ghost use Rattle.book_audit.specs.Findings.{FailsAt};
 ghost use Rattle.book_audit.specs.Stays as spec;

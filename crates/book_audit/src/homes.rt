@@ -1,6 +1,6 @@
 //! The first line of a life that isn't in its card's home.
 
-ghost use Rattle.std.specs.Prelude.{◌≡◌, ◌<◌, ◌+◌, ◌^◌, MatchOption};
+ghost use Rattle.std.specs.Prelude.{◌<◌, ◌+◌, ◌^◌, MatchOption};
 ghost use Rattle.book_audit.specs.Lines.{AreHoused};
 ghost use Rattle.book_audit.specs.Findings.{FailsAt};
 

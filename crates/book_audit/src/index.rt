@@ -1,7 +1,6 @@
 //! An index of lives by what lookups tell of their cards, and by their names.
 
 ghost use Rattle.std.specs.Prelude.{◌≡◌, ◌<◌, ◌≤◌, ◌&&◌, IsTrue, IfOk, List, false, length, take, drop, map};
-ghost use Rattle.book_audit.specs.Stays.{begin_of};
 ghost use Rattle.book_audit.specs.Tried.{is_beaten};
 ghost use Rattle.book_audit.specs.Index as spec;
 ghost use Rattle.sock_card.specs.Words.{packed};

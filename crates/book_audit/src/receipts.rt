@@ -1,6 +1,6 @@
 //! The first line of a packet that the lives don't explain.
 
-ghost use Rattle.std.specs.Prelude.{◌≡◌, ◌<◌, ◌+◌, ◌^◌, MatchOption, IfOk};
+ghost use Rattle.std.specs.Prelude.{◌<◌, ◌+◌, ◌^◌, MatchOption, IfOk};
 ghost use Rattle.list_words.specs.Lists.{Each};
 ghost use Rattle.book_audit.specs.Lines.{NoTwo, AreStamped, AreHoused, share_slot};
 ghost use Rattle.book_audit.specs.Index.{IsIndex};

@@ -1,6 +1,6 @@
 //! The first line of a life whose numbers of the clock are wrong.
 
-ghost use Rattle.std.specs.Prelude.{◌≡◌, IsTrue, IfOk, MatchOption, ◌↔◌};
+ghost use Rattle.std.specs.Prelude.{◌≡◌, IfOk, MatchOption};
 ghost use Rattle.std.specs.List.{list_all};
 ghost use Rattle.book_audit.specs.Lines as spec;
 ghost use Rattle.book_audit.specs.Lines.{AreStamped};

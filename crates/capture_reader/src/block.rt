@@ -1,7 +1,6 @@
 ghost use Rattle.std.specs.Prelude.{◌≡◌, ◌≢◌, ◌≤◌, ◌++◌, ℕ, Option, List, length, IsTrue, ◌↔◌, IfSome, IfNone};
 ghost use Rattle.capture_reader.specs.Numbers.{number};
-ghost use Rattle.capture_reader.specs.Header.{IsWhole, IsLinkNumber, BeginsWithSection, section_type};
-ghost use Rattle.capture_reader.specs.Items as spec;
+ghost use Rattle.capture_reader.specs.Header.{IsWhole, BeginsWithSection, section_type};
 ghost use Rattle.capture_reader.specs.Blocks.{IsBlock, IsInterfaceBlock, IsPacketBlock, BeginsWithBlock, HasBlock, item_on};
 
 use crate::header::{Link, link_of};

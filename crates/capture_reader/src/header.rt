@@ -1,4 +1,4 @@
-ghost use Rattle.std.specs.Prelude.{◌≡◌, ◌≤◌, ℕ, length, IsTrue, ◌↔◌, IfSome, IfNone};
+ghost use Rattle.std.specs.Prelude.{◌≤◌, length, IsTrue, ◌↔◌, IfSome, IfNone};
 ghost use Rattle.capture_reader.specs.Numbers.{number};
 ghost use Rattle.capture_reader.specs.Header.{IsMagic, IsLinkNumber, BeginsWithHeader};
 

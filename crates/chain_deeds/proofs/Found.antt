@@ -1,5 +1,6 @@
 -- Who is found in a chain that was walked has a card that its words tell, and gives way where nobody keeps the tuple.
 use Rattle.std.proofs.Common.{◌≡◌, ℕ, ◌&&◌, ◌||◌, not, Bool, true, false, cond, List, [], ◌∷◌, Option, None, Some, find, refl, sym, ap, ◌∙◌, subst}
+use Rattle.list_words.proofs.EachLemmas.{some_same}
 use Rattle.sock_card.specs.Words.{packed, unpacked}
 use Rattle.sock_card.specs.TimeWait.{is_time_wait_kind}
 use Rattle.sock_card.specs.declared.card.Card.{Card}
@@ -23,9 +24,6 @@ card_told ws h =
     let is : card_from ws ≡ unpacked h.words = ap card_from h.is in
     ap (λ (c : Card). unpacked (packed c)) is ∙ (ap unpacked h.packs ∙ sym is)
 
-some-is : (a b : Hashed) → Some a ≡ Some b → a ≡ b
-some-is a b e = cc
-
 -- who is found has a told card
 pub found_told : (test : Hashed → Bool) (xs : List Seen) (x : Hashed) → Each HasCard xs → find test (row_of xs) ≡ Some x → IsTold x.card
 found_told test [] x cards e = absurd (cc)
@@ -33,7 +31,7 @@ found_told test (s ∷ ss) x cards e = go (test (hashed_in s)) refl (λ e'. foun
   where
     go : (b : Bool) → test (hashed_in s) ≡ b → (find test (row_of ss) ≡ Some x → IsTold x.card) → IsTold x.card
     go true q rest =
-        let is = some-is (hashed_in s) x (sym (ap (λ (k : Bool). cond k (Some (hashed_in s)) (find test (row_of ss))) q) ∙ e) in
+        let is = some_same (hashed_in s) x (sym (ap (λ (k : Bool). cond k (Some (hashed_in s)) (find test (row_of ss))) q) ∙ e) in
         subst (λ (y : Hashed). IsTold y.card) is (card_told s.words cards.0.0)
     go false q rest = rest (sym (ap (λ (k : Bool). cond k (Some (hashed_in s)) (find test (row_of ss))) q) ∙ e)
 

@@ -22,7 +22,8 @@ use Rattle.shared_sockets.specs.Leavings.{Quiet}
 use Rattle.race_record.specs.Deeds.{Deed, Vain, changes_of, vain_of, drawn_of}
 use Rattle.chain_deeds.specs.Sides.{Side, change_of, changes_by}
 use Rattle.chain_deeds.specs.Made.{Made, Fits, Shows, IsHomeIfHash, HasWords, AllHaveWords, number_of, SawNone}
-use Rattle.chain_deeds.proofs.Seen.{are_settled, as_they_were, sees_both, sees_more}
+use Rattle.nulls_chain.proofs.Saw.{are_settled}
+use Rattle.chain_deeds.proofs.Seen.{as_they_were, sees_both, sees_more}
 
 abbrev pub side : Layout → View → ℕ → Side
 side layout view next = record { layout = layout; view = view; next = next }

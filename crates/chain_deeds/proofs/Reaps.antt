@@ -1,10 +1,10 @@
 -- TIME_WAITs that are reaped, as deeds.
-use Rattle.std.proofs.Common.{◌≡◌, ℕ, ◌==◌, ◌&&◌, Bool, true, false, cond, List, [], ◌∷◌, Option, None, Some, IfSome, find, refl, sym, ap, ◌∙◌, subst}
+use Rattle.std.proofs.Common.{◌≡◌, ℕ, ◌==◌, Bool, true, false, [], ◌∷◌, Option, None, Some, IfSome, find, refl, sym, ap, ◌∙◌, subst}
 use Rattle.std.specs.Option.{option_map}
 use Rattle.std.proofs.lemmas.Bool.{eqb-true}
+use Rattle.list_words.proofs.EachLemmas.{found_passes}
 use Rattle.sock_card.specs.TimeWait.{is_time_wait_kind}
 use Rattle.sock_card.specs.declared.card.Card.{Card}
-use Rattle.sock_card.specs.declared.card.Kind.{Kind}
 use Rattle.sock_card.specs.declared.card.Kind.TheVariants as kinds
 use Rattle.chain_book.specs.Homes.{home}
 use Rattle.chain_book.specs.declared.book.Change.{Change}
@@ -18,8 +18,10 @@ use Rattle.shared_sockets.specs.Alone.{chains_of, ReapsAlone}
 use Rattle.shared_sockets.specs.Comings.{walking, Departs, Goes}
 use Rattle.shared_sockets.specs.Leavings as spec
 use Rattle.shared_sockets.specs.Leavings.{slot_of, waiting_as}
+use Rattle.shared_sockets.proofs.Found.{waiting-kind}
 use Rattle.table_model.specs.Tables as tables
 use Rattle.table_model.specs.Tables.{was_found}
+use Rattle.race_book.proofs.Checks.{and_left, and_right}
 use Rattle.race_record.specs.Deeds.{reaped}
 use Rattle.race_record.specs.Goes.{IsReap, was_there}
 use Rattle.chain_deeds.specs.Made.{Made, AnswersAlone, SawNoWait}
@@ -29,30 +31,6 @@ use Rattle.nulls_chain.specs.Changes.{PlacesStay}
 use Rattle.chain_deeds.proofs.Stays.{all_stay}
 use Rattle.chain_deeds.proofs.Left.{side, change_at, made, left_kept, left_one, left_unlocked}
 use Rattle.chain_deeds.proofs.Comes.{quiet_of, no_hash}
-
--- Who is found by a name
-
-found_is : (test : Hashed → Bool) (x : Hashed) (y : Hashed) (f : Option Hashed) (b : Bool) → test y ≡ b → (f ≡ Some x → test x ≡ true) → cond b (Some y) f ≡ Some x → test x ≡ true
-found_is test x y f true is more e = let same : y ≡ x = cc in subst (λ z. test z ≡ true) same is
-found_is test x y f false is more e = more e
-
-found_true : (test : Hashed → Bool) (xs : List Hashed) (x : Hashed) → find test xs ≡ Some x → test x ≡ true
-found_true test [] x e = absurd (cc)
-found_true test (y ∷ ys) x e = found_is test x y (find test ys) (test y) refl (found_true test ys x) e
-
-both_left : (a b : Bool) → (a && b) ≡ true → a ≡ true
-both_left true b e = refl
-both_left false b e = e
-
-both_right : (a b : Bool) → (a && b) ≡ true → b ≡ true
-both_right true b e = e
-both_right false b e = absurd (cc)
-
-waits_kind : (k : Kind) → is_time_wait_kind k ≡ true → k ≡ kinds.TimeWait
-waits_kind kinds.TimeWait e = refl
-waits_kind kinds.Full e = absurd (cc)
-waits_kind kinds.Listen e = absurd (cc)
-waits_kind kinds.Request e = absurd (cc)
 
 -- On a pass that was never split
 
@@ -120,12 +98,12 @@ module _ (layout : Layout) (next bucket : ℕ) (card : Card) (result : Option �
       let d : Departs (walking v bucket h.chain) h.left bucket x.slot x.card =
       subst (λ (o : Option Hashed). Goes (walking v bucket h.chain) h.left bucket o) e h.goes in
       let told_card : IsTold x.card = found_told (waits_as card.name) h.chain x h.cards e in
-      let true_of = found_true (waits_as card.name) (row_of h.chain) x e in
+      let true_of = found_passes (waits_as card.name) (row_of h.chain) x e in
       let u : Change = change_at 0 bucket x.slot x.card d.change.0 d.change.1 in
       let fits : IsReap card u = record {
         act = refl;
-        kind = ap (λ (k : Card). k.kind) told_card ∙ (waits_kind x.card.kind (both_right (x.card.name == card.name) (is_time_wait_kind x.card.kind) true_of) ∙ sym waits);
-        name = ap (λ (k : Card). k.name) told_card ∙ eqb-true x.card.name card.name (both_left (x.card.name == card.name) (is_time_wait_kind x.card.kind) true_of);
+        kind = ap (λ (k : Card). k.kind) told_card ∙ (waiting-kind x.card.kind (and_right (x.card.name == card.name) (is_time_wait_kind x.card.kind) true_of) ∙ sym waits);
+        name = ap (λ (k : Card). k.name) told_card ∙ eqb-true x.card.name card.name (and_left (x.card.name == card.name) (is_time_wait_kind x.card.kind) true_of);
       } in
       let l = left_unlocked (u ∷ []) [] (u.begin ∷ u.end ∷ []) layout next next v h.left
       (left_one layout next next v h.left 0 bucket x.slot x.card d.change (quiet_of (walking v bucket h.chain) h.left d.rest) d.saw (no_hash layout bucket x.slot x.card u.begin u.end)) in

@@ -1,38 +1,14 @@
 -- What a pass saw, over two changes and over a search for a slot.
-use Rattle.std.proofs.Common.{◌≡◌, ℕ, ◌≤◌, List, [], ◌∷◌, ◌++◌, inl, inr, ⊎_elim, cond, Bool, eq-eqb, ne_eqb, sym, refl, ap, ◌∙◌, arith, append_assoc, subst}
-use mathlib.Core.Logic.{dite}
-use native.Mathlib.Decide.{ℕ_discrete}
-use Rattle.table_rule.specs.Book.{open-end}
-use Rattle.table_rule.specs.Plays.{settled, settled_one, sight_of, unlocking}
+use Rattle.std.proofs.Common.{◌≡◌, ℕ, ◌≤◌, List, [], ◌∷◌, ◌++◌, inl, refl, ap, ◌∙◌, append_assoc, subst}
+use Rattle.table_rule.specs.Plays.{sight_of, unlocking}
 use Rattle.table_rule.specs.declared.view.Sight.{Sight}
 use Rattle.table_rule.specs.declared.view.View.{View}
-use Rattle.nulls_chain.specs.Changes.{IsSettled, AreSettled, Sees}
-
-one-is : (least r : ℕ) (s : Sight) → least ≤ r → IsSettled least s (settled_one r s)
-one-is least r s le = dite (ℕ_discrete s.until open-end)
-    (λ e. inr (e, r, le, ap (λ (b : Bool). cond b (record s { until = r }) s) (eq-eqb s.until open-end e)))
-    (λ ne. inl (ap (λ (b : Bool). cond b (record s { until = r }) s) (ne_eqb s.until open-end ne)))
-
--- sightings that get one number are settled
-pub are_settled : (least r : ℕ) (xs : List Sight) → least ≤ r → AreSettled least xs (settled xs r)
-are_settled least r [] le = tt
-are_settled least r (x ∷ xs) le = (one-is least r x le, are_settled least r xs le)
+use Rattle.nulls_chain.specs.Changes.{AreSettled, Sees}
+use Rattle.nulls_chain.proofs.Saw.{one-then}
 
 pub as_they_were : (least : ℕ) (xs : List Sight) → AreSettled least xs xs
 as_they_were least [] = tt
 as_they_were least (x ∷ xs) = (inl refl, as_they_were least xs)
-
-one-then : (a b : ℕ) (s t u : Sight) → a ≤ b → IsSettled a s t → IsSettled b t u → IsSettled a s u
-one-then a b s t u le f g = ⊎_elim
-    (λ same. ⊎_elim
-    (λ z. inl (z ∙ same))
-    (λ z. inr (ap (λ (x : Sight). x.until) (sym same) ∙ z.0, z.1, (let l = z.2 in omega (arith, le, l)), z.3 ∙ ap (λ (x : Sight). record x { until = z.1 }) same))
-    g)
-    (λ was. ⊎_elim
-    (λ z. inr (was.0, was.1, was.2, z ∙ was.3))
-    (λ z. inr (was.0, z.1, (let l = z.2 in omega (arith, le, l)), z.3 ∙ ap (λ (x : Sight). record x { until = z.1 }) was.3))
-    g)
-    f
 
 -- what was seen before, and more, is settled again: both parts are
 pub record InTwo (a b : ℕ) (xs more all : List Sight) : Type 0 where

@@ -1,4 +1,4 @@
-ghost use Rattle.std.specs.Prelude.{◌≡◌, ◌+◌, ◌*◌, ◌<◌, ◌≤◌, List, [], ◌∷◌, ◌%◌, Ok, Err, Some, None, IfSome, IfNone, IfErr};
+ghost use Rattle.std.specs.Prelude.{◌≡◌, ◌<◌, ◌≤◌, List, [], ◌∷◌, ◌%◌, IfSome, IfNone, IfErr};
 ghost use Rattle.table_rule.specs.declared.view.Reader.{Reader};
 ghost use Rattle.table_rule.specs.declared.view.Kept.{Kept};
 ghost use Rattle.sock_card.specs.Words.{word_rank as rank};

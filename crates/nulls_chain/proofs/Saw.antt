@@ -16,25 +16,27 @@ one-is least r s le = dite (ℕ_discrete s.until open-end)
     (λ e. inr (e, r, le, ap (λ (b : Bool). cond b (record s { until = r }) s) (eq-eqb s.until open-end e)))
     (λ ne. inl (ap (λ (b : Bool). cond b (record s { until = r }) s) (ne_eqb s.until open-end ne)))
 
-are : (least r : ℕ) (xs : List Sight) → least ≤ r → AreSettled least xs (settled xs r)
-are least r [] le = tt
-are least r (x ∷ xs) le = (one-is least r x le, are least r xs le)
+-- sightings that get one number are settled
+pub are_settled : (least r : ℕ) (xs : List Sight) → least ≤ r → AreSettled least xs (settled xs r)
+are_settled least r [] le = tt
+are_settled least r (x ∷ xs) le = (one-is least r x le, are_settled least r xs le)
 
-one-then : (least : ℕ) (s t u : Sight) → IsSettled least s t → IsSettled least t u → IsSettled least s u
-one-then least s t u a b = ⊎_elim
+-- one that is settled, and then again from a later number on
+pub one-then : (a b : ℕ) (s t u : Sight) → a ≤ b → IsSettled a s t → IsSettled b t u → IsSettled a s u
+one-then a b s t u le f g = ⊎_elim
     (λ same. ⊎_elim
     (λ z. inl (z ∙ same))
-    (λ z. inr (ap (λ (x : Sight). x.until) (sym same) ∙ z.0, z.1, z.2, z.3 ∙ ap (λ (x : Sight). record x { until = z.1 }) same))
-    b)
+    (λ z. inr (ap (λ (x : Sight). x.until) (sym same) ∙ z.0, z.1, (let l = z.2 in omega (arith, le, l)), z.3 ∙ ap (λ (x : Sight). record x { until = z.1 }) same))
+    g)
     (λ was. ⊎_elim
     (λ z. inr (was.0, was.1, was.2, z ∙ was.3))
-    (λ z. inr (was.0, z.1, z.2, z.3 ∙ ap (λ (x : Sight). record x { until = z.1 }) was.3))
-    b)
-    a
+    (λ z. inr (was.0, z.1, (let l = z.2 in omega (arith, le, l)), z.3 ∙ ap (λ (x : Sight). record x { until = z.1 }) was.3))
+    g)
+    f
 
 then : (least : ℕ) (xs ys zs : List Sight) → AreSettled least xs ys → AreSettled least ys zs → AreSettled least xs zs
 then least [] [] [] a b = tt
-then least (x ∷ xs) (y ∷ ys) (z ∷ zs) a b = (one-then least x y z a.0 b.0, then least xs ys zs a.1 b.1)
+then least (x ∷ xs) (y ∷ ys) (z ∷ zs) a b = (one-then least least x y z (omega arith) a.0 b.0, then least xs ys zs a.1 b.1)
 then least [] [] (z ∷ zs) a b = absurd b
 then least [] (y ∷ ys) zs a b = absurd a
 then least (x ∷ xs) [] zs a b = absurd a
@@ -49,7 +51,7 @@ pub saw : (v w : View) (b e : ℕ) (more : List Sight) → v.seen ≤ b → b �
 saw v w b e more low order is = (
   settled (settled v.sights b) e,
   settled more e,
-  then v.seen v.sights (settled v.sights b) (settled (settled v.sights b) e) (are v.seen b v.sights low) (are v.seen e (settled v.sights b) (omega (arith, low, order))),
+  then v.seen v.sights (settled v.sights b) (settled (settled v.sights b) e) (are_settled v.seen b v.sights low) (are_settled v.seen e (settled v.sights b) (omega (arith, low, order))),
   is ∙ settled-append (settled v.sights b) more e,
 )
 
@@ -58,6 +60,6 @@ pub saw_none : (layout : Layout) (v u w : View) (b : ℕ) (f : Full) → IsFull 
 saw_none layout v u w b f full low is = (
   settled v.sights b,
   map (sight_by (beginning v b)) full.1.reads,
-  are v.seen b v.sights low,
+  are_settled v.seen b v.sights low,
   ap (λ (x : View). x.sights) is ∙ ap (λ (x : View). x.sights) full.1.is,
 )

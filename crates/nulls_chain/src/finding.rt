@@ -1,4 +1,4 @@
-ghost use Rattle.std.specs.Prelude.{◌≡◌, ◌<◌, ◌∷◌, ◌++◌, [], List, None, true, false, IfSome, IfNone, ◌%◌};
+ghost use Rattle.std.specs.Prelude.{◌≡◌, ◌<◌, ◌∷◌, ◌++◌, [], List, None, true, false, IfSome, IfNone};
 ghost use Rattle.table_rule.specs.declared.view.Seen.{Seen};
 ghost use Rattle.table_rule.specs.Lists.{stands};
 ghost use Rattle.table_rule.specs.Calls.{IsOf, IsIdle, Stays, Becomes, layout_of, seen_of, view};

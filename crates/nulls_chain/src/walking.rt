@@ -1,4 +1,4 @@
-ghost use Rattle.std.specs.Prelude.{◌≡◌, ◌+◌, ◌%◌, true, ◌<◌, ◌++◌, ◌∷◌, [], ℕ, IfSome, IfNone};
+ghost use Rattle.std.specs.Prelude.{◌≡◌, ◌%◌, true, ◌<◌, ◌++◌, ◌∷◌, [], ℕ, IfSome, IfNone};
 ghost use Rattle.table_rule.specs.Plays.{PlacesListed, PlacesApart, TuplesListed, advancing, Inside, Fits};
 ghost use Rattle.table_rule.specs.Sole.{SoleKnown};
 ghost use Rattle.table_rule.specs.Beyond.{IsCardWords};

@@ -14,11 +14,11 @@ use Rattle.bind_buckets.specs.declared.request.Answer.TheVariants as answers
 use Rattle.bind_buckets.specs.declared.request.Entry.{Entry}
 use Rattle.bind_buckets.specs.Notes.{Note}
 use Rattle.bind_buckets.specs.Bucket.{IsSound, entry_of, entries_of}
-use Rattle.bind_buckets.specs.Followed.{told, told_from}
+use Rattle.bind_buckets.specs.Followed.{told_from}
 use Rattle.bind_buckets.specs.OwnerStep.{has_name}
 use Rattle.bind_buckets.specs.OwnTold.{KeepsOpen, AllKeepOpen, is_told, own_given}
 use Rattle.bind_buckets.specs.Turned.{Hash, Pass, Out, IsOut, made}
-use Rattle.bind_buckets.proofs.OwnTold.{first_own_is_told}
+use Rattle.bind_buckets.proofs.OwnTold.{told_both, first_own_is_told}
 use Rattle.port_search.specs.Turned.{ComesFirst}
 
 abbrev bound_entry : Owner → Entry
@@ -31,10 +31,6 @@ module _ (mine : ℕ → Bool) (a : Owner) (it : mine a.name ≡ true) (given : 
       let same : m.entry ≡ bound_entry a = cc in
       each_push (λ (x : Note). KeepsOpen mine x.entry.request) given m keeps (subst (λ (e : Entry). KeepsOpen mine e.request) (sym same) (λ said. awake))
   keeps_more (m ∷ n ∷ ms) is awake keeps = absurd (cc)
-
-  told_both : (owners : List Owner) (xs ys : List Entry) → told_from owners (xs ++ ys) ≡ told_from (told_from owners xs) ys
-  told_both owners [] ys = refl
-  told_both owners (e ∷ xs) ys = told_both (told owners e.request e.answer) xs ys
 
   comes_last : (owners : List Owner) → find (has_name a.name) owners ≡ None → find (has_name a.name) (owners ++ a ∷ []) ≡ Some a
   comes_last owners none =

@@ -1,6 +1,6 @@
 //! The ports of a range in the order of a search, one after the other.
 
-ghost use Rattle.std.specs.Prelude.{◌≡◌, ◌≤◌, ◌%◌, ◌^◌, ◌∷◌, [], ℕ, List, drop, IfSome, IfNone};
+ghost use Rattle.std.specs.Prelude.{◌≡◌, ◌≤◌, ◌%◌, ◌∷◌, [], ℕ, List, drop, IfSome, IfNone};
 ghost use Rattle.std.specs.Iterator.{YieldsFirst, item_count};
 ghost use Rattle.list_words.specs.Lists.{SameItems};
 ghost use Rattle.flat_list.specs.Ports.{port_order, ports_of, size, unreserved, whole_order};
@@ -36,7 +36,7 @@ pub struct Ports {
 }
 
 impl Model for Ports {
-    ghost use Rattle.std.specs.Prelude.{ℕ, List, ◌≤◌, ◌^◌};
+    ghost use Rattle.std.specs.Prelude.{ℕ, List, ◌≤◌};
     ghost use Rattle.port_search.specs.Ports.{left_of};
 
     ghost Value = { List ℕ };

@@ -6,7 +6,7 @@ ghost use Rattle.turn_table.specs.Passes as words;
 ghost use Rattle.turn_table.specs.Passes.{known};
 ghost use Rattle.bind_buckets.specs.Callers.{MayName};
 ghost use Rattle.bind_buckets.specs.Bucket.{CanConnect, entries_of};
-ghost use Rattle.bind_buckets.specs.Turned.{View, IsIdle, IsOut, IsAlone, Within, Gave, hash_of, made};
+ghost use Rattle.bind_buckets.specs.Turned.{View, IsIdle, IsOut, IsAlone, Within, hash_of, made};
 ghost use Rattle.port_search.specs.Search as spec;
 ghost use Rattle.port_search.specs.Search.{IsNotBusy, IsNotFull, FindsNone, ConnectsAt, ConnectsNowhere, searched};
 ghost use Rattle.port_search.specs.Turned.{TriedAt, BindsAt, BindsIn, BindsNowhere, BindsNotYet};

@@ -3,7 +3,7 @@ pub mod Turns
 pub mod Vain
 pub mod Says
 pub mod Gather
-pub mod Ports
+pub mod Asked
 pub mod Homes
 pub mod Drawn
 pub mod Leads

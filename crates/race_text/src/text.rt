@@ -1,6 +1,6 @@
 //! The lines of a record.
 
-ghost use Rattle.std.specs.Prelude.{◌≡◌, ◌++◌, ◌+◌, ◌<◌, ◌^◌, length, IfOk, OnOk};
+ghost use Rattle.std.specs.Prelude.{◌≡◌, ◌++◌, OnOk};
 ghost use Rattle.std.specs.List.{flat_map};
 ghost use Rattle.sock_script.specs.Output.{cut_text};
 ghost use Rattle.race_text.specs.Render as spec;

@@ -1,41 +1,24 @@
 -- What the words of cards tell.
-use Rattle.std.proofs.Common.{◌≡◌, ℕ, zero, suc, ◌+◌, ◌*◌, ◌/◌, ◌%◌, ◌<◌, ◌==◌, cond, Bool, true, false, List, [], ◌∷◌, Some, find, refl, sym, ap, ◌∙◌, subst, arith, slice_index}
-use Rattle.std.proofs.lemmas.Bool.{true≢false, eq-eqb}
+use Rattle.std.proofs.Common.{◌≡◌, ℕ, suc, ◌%◌, ◌<◌, ◌==◌, cond, Bool, true, false, List, [], ◌∷◌, Some, find, refl, sym, ap, ◌∙◌, subst, arith}
+use Rattle.std.proofs.lemmas.Bool.{eq-eqb}
 use Rattle.std.specs.Option.{option_map}
-use mathlib.Core.Option.{some, some-injective, some-ne-none}
+use mathlib.Core.Option.{some}
 use lib.ListN.{get_elem?}
-use Rattle.sock_card.specs.declared.card.Card.{Card}
-use Rattle.sock_card.specs.declared.card.Kind.{Kind}
-use Rattle.sock_card.specs.declared.card.Kind.TheVariants as kinds
 use Rattle.sock_card.specs.declared.words.CardWords.{CardWords}
 use Rattle.sock_card.specs.Words.{packed, unpacked, number_of}
 use Rattle.sock_card.specs.Tuples.{tuple_of}
-use Rattle.sock_card.proofs.Tuples.{PartsAgree, parts_agree}
+use Rattle.sock_card.proofs.Tuples.{parts_agree}
 use Rattle.chain_book.specs.Tuples.{same_cards, is_full_kind}
-use Rattle.chain_book.specs.Homes.{home, home_as, tuple_home}
-use Rattle.chain_book.specs.declared.shape.Shape.{Shape}
 use Rattle.chain_book.specs.declared.outcome.Hashed.{Hashed}
 use Rattle.table_rule.specs.Beyond.{IsCardWords, Shows}
 use Rattle.table_rule.specs.CardsOk.{tuple, bears}
 use Rattle.table_rule.specs.Words.{words_of, card_from}
 use Rattle.table_rule.specs.declared.view.Seen.{Seen}
+use Rattle.race_book.proofs.Twins.{full_is}
+use Rattle.shared_dump.proofs.Cards.{index_of}
+use Rattle.shared_sockets.proofs.Handed.{words_agree}
 use Rattle.shared_sockets.specs.Comings.{name_of}
 use Rattle.shared_sockets.specs.Rows.{row_of, hashed_in}
-
-full_is : (k : Kind) → is_full_kind k ≡ true → k ≡ kinds.Full
-full_is kinds.Full e = refl
-full_is kinds.TimeWait e = absurd (true≢false (sym e))
-full_is kinds.Listen e = absurd (true≢false (sym e))
-full_is kinds.Request e = absurd (true≢false (sym e))
-
--- full cards of one four-tuple have one home
-pub one_home : (shape : Shape) (seed : ℕ) (a b : Card) → is_full_kind a.kind ≡ true → is_full_kind b.kind ≡ true → same_cards a b ≡ true → home shape seed a ≡ home shape seed b
-unfolding home
-one_home shape seed a b p q s =
-    let t : PartsAgree (tuple_of a) (tuple_of b) = parts_agree (tuple_of a) (tuple_of b) s in
-    ap (λ (k : Kind). home_as k shape seed a) (full_is a.kind p)
-    ∙ (λ i. tuple_home shape seed (t.local i) (t.lport i) (t.remote i) (t.rport i) (t.net i))
-    ∙ sym (ap (λ (k : Kind). home_as k shape seed b) (full_is b.kind q))
 
 -- a full card's kind is the least bits of its second word
 full_ports : (w : CardWords) → packed (unpacked w) ≡ w → is_full_kind (unpacked w).kind ≡ true → w.ports % 16 ≡ 1
@@ -43,19 +26,6 @@ full_ports w e f =
     let one : number_of (unpacked w).kind ≡ 1 = ap number_of (full_is (unpacked w).kind f) in
     let is = ap (λ (x : CardWords). x.ports) e in
     omega (arith, is, one)
-
--- cards of one four-tuple have one number for it
-ends_agree : (a b : ℕ) → a / 4294967296 ≡ b / 4294967296 → a % 4294967296 ≡ b % 4294967296 → a ≡ b
-ends_agree a b p q = omega (arith, p, q)
-
-ports_agree : (a b : ℕ) → a / 281474976710656 ≡ b / 281474976710656 → a / 4294967296 % 65536 ≡ b / 4294967296 % 65536 → a / 4294967296 ≡ b / 4294967296
-ports_agree a b p q = omega (arith, p, q)
-
-tuples_agree : (a b : CardWords) → PartsAgree (tuple_of (unpacked a)) (tuple_of (unpacked b)) → tuple a.ends a.ports ≡ tuple b.ends b.ports
-tuples_agree a b t =
-    let e = ends_agree a.ends b.ends t.local t.remote in
-    let p = ports_agree a.ports b.ports t.lport t.rport in
-    λ i. (e i * 4294967296 + p i) * 256 + t.net i
 
 bears_it : (w : CardWords) (t : ℕ) → w.ports % 16 ≡ 1 → tuple w.ends w.ports ≡ t → bears t w.ends w.ports ≡ 1
 bears_it w t k e = ap {B = ℕ} (λ (b : Bool). cond b (cond (tuple w.ends w.ports == t) 1 0) 0) (eq-eqb (w.ports % 16) 1 k) ∙ ap {B = ℕ} (λ (b : Bool). cond b 1 0) (eq-eqb (tuple w.ends w.ports) t e)
@@ -73,7 +43,7 @@ show_words : (a b : CardWords) → packed (unpacked a) ≡ a → packed (unpacke
 show_words a b p q f g s = record {
   tuple_is = tuple a.ends a.ports;
   one = shows_words a (tuple a.ends a.ports) (full_ports a p f) refl;
-  other = shows_words b (tuple a.ends a.ports) (full_ports b q g) (sym (tuples_agree a b (parts_agree (tuple_of (unpacked a)) (tuple_of (unpacked b)) s)));
+  other = shows_words b (tuple a.ends a.ports) (full_ports b q g) (sym (words_agree a b (parts_agree (tuple_of (unpacked a)) (tuple_of (unpacked b)) s)));
 }
 
 abbrev Twins : List ℕ → List ℕ → Type 0
@@ -84,11 +54,6 @@ show_both a b p q =
     subst (λ l. Twins l b) (sym p.is) (subst (λ l. Twins (words_of p.words) l) (sym q.is) (λ f g s. show_words p.words q.words p.packs q.packs f g s))
 
 -- a card with the words of one that was seen is that card
-index_of : (l : List ℕ) (n a : ℕ) → get_elem? l n ≡ some a → slice_index l n ≡ a
-index_of [] n a e = absurd (some-ne-none a (sym e))
-index_of (x ∷ xs) zero a e = some-injective x a e
-index_of (x ∷ xs) (suc n) a e = index_of xs n a e
-
 words_told : (w : CardWords) (l : List ℕ) → ((k a : ℕ) → k < 4 → get_elem? (words_of w) k ≡ some a → get_elem? l k ≡ some a) → card_from l ≡ card_from (words_of w)
 words_told w l h = λ i. unpacked (record {
   ends = index_of l 0 w.ends (h 0 w.ends (omega arith) refl) i;

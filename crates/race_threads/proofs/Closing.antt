@@ -36,7 +36,7 @@ use Rattle.race_record.proofs.Drawn.{weigh, drawn_weighs}
 use Rattle.race_record.proofs.Gather.{gathered_journals}
 use Rattle.chain_deeds.specs.Sides.{change_of}
 use Rattle.chain_deeds.specs.Made.{IsHomeIfHash, HasWords, number_of}
-use Rattle.chain_deeds.proofs.Seen.{are_settled}
+use Rattle.nulls_chain.proofs.Saw.{are_settled}
 use Rattle.race_threads.specs.Joins.{Part}
 use Rattle.race_threads.specs.Made.{SawKeeper, SawNone, IsBy, SawNoWait, missed_in}
 use Rattle.race_threads.specs.Races.{SectionDone, AllDone, steps_by, HasEnded, AreReaped, AllReaped, Looks, book_of, race_by, IsLawfulBut, SaysSo}

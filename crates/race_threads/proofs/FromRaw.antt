@@ -1,5 +1,5 @@
 -- What a pass that has all parts knows of the chain table, said of the book that its changes make.
-use Rattle.std.proofs.Common.{◌≡◌, ◌≢◌, ℕ, zero, suc, ◌+◌, ◌<◌, ◌≤◌, ◌==◌, ◌&&◌, nat_lt, IsTrue, Bool, true, false, cond, List, [], ◌∷◌, ◌⊎◌, inl, inr, ⊎_elim, map, refl, sym, ap, ◌∙◌, subst, arith, eq-eqb, ne_eqb}
+use Rattle.std.proofs.Common.{◌≡◌, ◌≢◌, ℕ, zero, suc, ◌+◌, ◌<◌, ◌≤◌, ◌==◌, ◌&&◌, nat_lt, IsTrue, Bool, true, false, cond, List, [], ◌∷◌, inl, inr, ⊎_elim, map, refl, sym, ap, ◌∙◌, subst, arith, eq-eqb, ne_eqb}
 use Rattle.std.proofs.lemmas.Bool.{true≢false, ltb-true, lt-ltb, eqb-true}
 use mathlib.Core.Logic.{dite}
 use native.Mathlib.Decide.{ℕ_discrete, dec_le}
@@ -8,7 +8,6 @@ use lib.ListN.{get_elem?}
 use Rattle.list_words.specs.Lists.{Each, total}
 use Rattle.list_words.proofs.TotalLemmas.{total-append}
 use Rattle.turn_table.specs.Journals.{numbers_below}
-use Rattle.chain_book.specs.declared.book.Act.{Act}
 use Rattle.chain_book.specs.declared.book.Act.TheVariants as acts
 use Rattle.chain_book.specs.declared.book.Change.{Change}
 use Rattle.chain_book.specs.declared.shape.Shape.{Shape}
@@ -48,14 +47,15 @@ use Rattle.race_book.specs.Lives.{IsLife, IsHash, Ends, Throughout, Stood, Leave
 use Rattle.race_book.specs.Serial.{IsSerial, EndsOne, AreApart, AreHome, EachEndsOne, SlotsFollow, HasNoTwins}
 use Rattle.race_book.proofs.Endings.{each_of, one_beginning, to_each}
 use Rattle.race_book.proofs.Listing.{begin_apart}
-use Rattle.race_book.proofs.Twins.{replay_has_none}
+use Rattle.race_book.proofs.Checks.{unhash_act}
+use Rattle.race_book.proofs.Twins.{one_home, replay_has_none}
 use Rattle.race_record.proofs.Drawn.{weigh, all_differ}
 use Rattle.chain_deeds.specs.Sides.{act_of, change_of}
 use Rattle.chain_deeds.specs.Made.{IsHome, IsHomeIfHash, HasWords}
 use Rattle.race_threads.specs.Lookers.{IsTold, whole_for}
 use Rattle.race_threads.specs.Races.{IsWhole, book_of}
 use Rattle.race_threads.specs.Sections.{layout_in}
-use Rattle.race_threads.proofs.CardsTold.{show_both, one_home}
+use Rattle.race_threads.proofs.CardsTold.{show_both}
 use Rattle.race_threads.proofs.Weights.{is, same_total, weigh_map}
 
 act_one : (k : ℕ) → k ≡ 1 → act_of k ≡ acts.Hash
@@ -88,10 +88,6 @@ make_three true true true p q r = refl
 make_three false b c p q r = absurd (true≢false (sym p))
 make_three true false c p q r = absurd (true≢false (sym q))
 make_three true true false p q r = absurd (true≢false (sym r))
-
-unhash_act : (a : Act) → is_unhash a ≡ true → a ≡ acts.Unhash
-unhash_act acts.Hash e = absurd (true≢false (sym e))
-unhash_act acts.Unhash e = refl
 
 among_map : (l : List Raw) (n : ℕ) (c : Raw) → get_elem? l n ≡ some c → Among (map change_of l) (change_of c)
 among_map [] n c e = absurd (some-ne-none c (sym e))

@@ -1,6 +1,6 @@
 -- Where a TIME_WAIT was sought and was gone, its life is on its way out before the search ends.
-use Rattle.std.proofs.Common.{◌≡◌, ℕ, zero, suc, ◌<◌, ◌≤◌, ◌==◌, ◌&&◌, Bool, true, false, cond, List, [], ◌∷◌, Option, None, Some, find, refl, sym, ap, ◌∙◌, subst, arith}
-use Rattle.std.proofs.lemmas.Bool.{true≢false, eq-eqb}
+use Rattle.std.proofs.Common.{◌≡◌, ℕ, zero, suc, ◌<◌, ◌≤◌, ◌==◌, Bool, true, false, cond, List, [], ◌∷◌, Option, None, Some, find, refl, sym, ap, ◌∙◌, subst, arith}
+use Rattle.std.proofs.lemmas.Bool.{true≢false, eq-eqb, and_from}
 use mathlib.Core.Option.{some, some-injective, some-ne-none}
 use mathlib.Core.Logic.{dite}
 use native.Mathlib.Decide.{dec_le}
@@ -40,11 +40,6 @@ not_found test [] n s a e = absurd (some-ne-none s (sym a))
 not_found test (x ∷ xs) zero s a e = ap (λ y. test (hashed_in y)) (sym (some-injective x s a)) ∙ (not_by test x xs (test (hashed_in x)) refl e).0
 not_found test (x ∷ xs) (suc n) s a e = not_found test xs n s a (not_by test x xs (test (hashed_in x)) refl e).1
 
-both_true : (a b : Bool) → a ≡ true → b ≡ true → (a && b) ≡ true
-both_true true true p q = refl
-both_true false b p q = absurd (true≢false (sym p))
-both_true true false p q = absurd (true≢false (sym q))
-
 module _ (header : Header) (v : View) (clock : ℕ) (w : IsWhole v clock) (good : AreGood header v)
     (from to : ℕ) (card : Card) (saw : SawNoWait v.sights from (IsBy to) (layout_in header) card)
     (h : Change) (life : IsLife (Among (book_of v)) h) (is : h.card ≡ card) (kind : card.kind ≡ kinds.TimeWait) (before : h.end < from) where
@@ -66,7 +61,7 @@ module _ (header : Header) (v : View) (clock : ℕ) (w : IsWhole v clock) (good 
       let same : card_from l.seen.words ≡ card = sym (same_told l.seen.words r.change.card c.0 l.words) ∙ ap (λ (x : Change). x.card) (sym r.is) ∙ is in
       let named = eq-eqb (card_from l.seen.words).name card.name (ap (λ (x : Card). x.name) same) in
       let waits : is_time_wait_kind (card_from l.seen.words).kind ≡ true = ap (λ (x : Card). is_time_wait_kind x.kind) same ∙ ap is_time_wait_kind kind in
-      true≢false (sym (both_true ((card_from l.seen.words).name == card.name) (is_time_wait_kind (card_from l.seen.words).kind) named waits) ∙ not_found (waits_as card.name) saw.sight.listed l.nth l.seen l.there saw.none)
+      true≢false (sym (and_from ((card_from l.seen.words).name == card.name) (is_time_wait_kind (card_from l.seen.words).kind) named waits) ∙ not_found (waits_as card.name) saw.sight.listed l.nth l.seen l.there saw.none)
 
   -- it does not stay to the end of the walk
   stays_not : ((u : Change) → Ends (Among (book_of v)) h u → saw.sight.until ≤ u.begin) → ⊥

@@ -1,14 +1,12 @@
 -- What one step leaves of the TIME_WAITs for which its section waits.
 use Rattle.std.proofs.Common.{◌≡◌, ℕ, ◌+◌, Bool, true, false, nat_lt, not, List, [], ◌∷◌, ◌++◌, map, filter, find, Option, None, Some, append-nil, refl, sym, ap, ◌∙◌, subst, arith, ◌⊎◌, inl, inr, option_and_then}
 use Rattle.std.proofs.lemmas.Bool.{true≢false}
-use Rattle.sock_card.specs.Conflict.{owner_key}
 use Rattle.list_words.specs.Lists.{Each}
 use Rattle.list_words.proofs.EachLemmas.{each_weaken, each_found}
 use Rattle.sock_card.specs.declared.owner.State.{State}
 use Rattle.sock_card.specs.declared.owner.State.TheVariants as states
 use Rattle.sock_card.specs.declared.card.Card.{Card}
 use Rattle.sock_card.specs.declared.card.Kind.TheVariants as kinds
-use Rattle.bind_buckets.specs.declared.request.Request.TheVariants as requests
 use Rattle.bind_buckets.specs.declared.request.Answer.{Answer}
 use Rattle.bind_buckets.specs.declared.request.Answer.TheVariants as answers_
 use Rattle.chain_book.specs.declared.book.Change.{Change}
@@ -18,7 +16,7 @@ use Rattle.flat_list.specs.declared.command.Command.{Command}
 use Rattle.flat_list.specs.declared.command.Command.TheVariants as commands
 use Rattle.flat_list.specs.declared.command.Reply.{Reply}
 use Rattle.flat_list.specs.declared.command.Reply.TheVariants as replies
-use Rattle.table_model.specs.Asking.{Asking, ends, asks, and_then}
+use Rattle.table_model.specs.Asking.{Asking, ends, and_then}
 use Rattle.table_model.specs.Own.{Own, Mine, is_named, is_over, card_of, open_socket, name_of, with_wait, without}
 use Rattle.table_model.specs.Means.{name_in}
 use Rattle.table_model.specs.Operations as op
@@ -134,14 +132,14 @@ abbrev IsOwn : Own → Replied → Type 0
 IsOwn own r = r.own ≡ own
 
 -- after the first of two plans has ended
-done_then : (Q : Replied → Type 0) (x : Closed) (next : Closed → Asking Replied) (a : Answer) → Plans.Calms Q (next x) → Plans.Calms Q (and_then (op.when_done (ends x) a) next)
+done_then : (Q : Replied → Type 0) (x : Closed) (next : Closed → Asking Replied) (a : Answer) → Plans.AsksCalmly Q (next x) → Plans.AsksCalmly Q (and_then (op.when_done (ends x) a) next)
 done_then Q x next answers_.Done h = h
-done_then Q x next (answers_.Group g) h = Plans.c_impossible Q
-done_then Q x next (answers_.InUse n) h = Plans.c_impossible Q
-done_then Q x next answers_.GroupFull h = Plans.c_impossible Q
-done_then Q x next answers_.GroupsFull h = Plans.c_impossible Q
-done_then Q x next (answers_.Strange n) h = Plans.c_impossible Q
-done_then Q x next (answers_.NotFree n) h = Plans.c_impossible Q
+done_then Q x next (answers_.Group g) h = tt
+done_then Q x next (answers_.InUse n) h = tt
+done_then Q x next answers_.GroupFull h = tt
+done_then Q x next answers_.GroupsFull h = tt
+done_then Q x next (answers_.Strange n) h = tt
+done_then Q x next (answers_.NotFree n) h = tt
 
 abbrev is_gone : Closed → Type 0
 is_gone c = c ≡ gone
@@ -160,21 +158,11 @@ module _ (header : Header) (own : Own) (m : Mine) where
   abbrev waited : ℕ → Mine
   waited slot = op.waits_in header.shape header.seed w slot
 
-  after_hash : (slot : ℕ) → Plans.Calms (IsOwn (with_wait (without own name) (waited slot))) (and_then (op.close_hashed header.shape header.seed m w (put slot None)) then_)
-  after_hash slot =
-      let Q : Replied → Type 0 = IsOwn (with_wait (without own name) (waited slot)) in
-      let last : Answer → Asking Replied = λ answer. and_then (op.when_done (ends (waiting (waited slot))) answer) then_ in
-      Plans.c_unhashes Q m.place (card_of kinds.Full m) (asks (owner_key m.owner) (requests.ToTimeWait name) last)
-      (Plans.c_asks Q (owner_key m.owner) (requests.ToTimeWait name) last
-      (λ answer. done_then Q (waiting (waited slot)) then_ answer (Plans.c_ends Q _ refl)))
+  after_hash : (slot : ℕ) → Plans.AsksCalmly (IsOwn (with_wait (without own name) (waited slot))) (and_then (op.close_hashed header.shape header.seed m w (put slot None)) then_)
+  after_hash slot = (tt, (tt, λ answer. done_then (IsOwn (with_wait (without own name) (waited slot))) (waiting (waited slot)) then_ answer refl))
 
-  after_none : (owned held : ℕ) → Plans.Calms (Plans.CalmBy own) (and_then (op.close_hashed header.shape header.seed m w (full owned held)) then_)
-  after_none owned held =
-      let Q : Replied → Type 0 = Plans.CalmBy own in
-      let last : Answer → Asking Replied = λ answer. and_then (op.when_done (ends (closed_without owned held)) answer) then_ in
-      Plans.c_unhashes Q m.place (card_of kinds.Full m) (asks (owner_key m.owner) (requests.Remove name) last)
-      (Plans.c_asks Q (owner_key m.owner) (requests.Remove name) last
-      (λ answer. done_then Q (closed_without owned held) then_ answer (Plans.c_ends Q _ (Plans.fewer own name))))
+  after_none : (owned held : ℕ) → Plans.AsksCalmly (Plans.CalmBy own) (and_then (op.close_hashed header.shape header.seed m w (full owned held)) then_)
+  after_none owned held = (tt, (tt, λ answer. done_then (Plans.CalmBy own) (closed_without owned held) then_ answer (Plans.fewer own name)))
 
   it_or_none : (h c : Change) (rest : List Change) → Each Plans.IsNoWait rest → Among (h ∷ rest) c → Plans.IsWait c → c ≡ h
   it_or_none h c rest z (inl e) i = e
@@ -212,11 +200,14 @@ module _ (header : Header) (own : Own) (m : Mine) where
   full_turn : (deeds : List Deed) (next : Own) (reply : Reply) → Open own name → Goes (and_then (op.close_full header.shape header.seed m w) then_) deeds (answers next reply) → Turn own next false deeds
   full_turn [] next reply was g = absurd g
   full_turn (added c (hashed h None) ∷ rest) next reply was g =
-      let z = after_hash h.slot rest (answers next reply) g.2 in
+      let plan : Asking Replied = and_then (op.close_hashed header.shape header.seed m w (put h.slot None)) then_ in
+      let z = Plans.calms (IsOwn (with_wait (without own name) (waited h.slot))) plan (after_hash h.slot) rest (answers next reply) g.2 in
       hashed_turn h rest next c was g.0 (g.1.card_is ∙ sym g.0) z.0 z.1
   full_turn (added c (hashed h (Some u)) ∷ rest) next reply was g = absurd g.1
   full_turn (added c (kept_out n) ∷ rest) next reply was g = absurd g.1
-  full_turn (added c (no_slot number owned held) ∷ rest) next reply was g = calm_turn own next false (added c (no_slot number owned held) ∷ rest) refl (after_none owned held rest (answers next reply) g.2)
+  full_turn (added c (no_slot number owned held) ∷ rest) next reply was g =
+      let plan : Asking Replied = and_then (op.close_hashed header.shape header.seed m w (full owned held)) then_ in
+      calm_turn own next false (added c (no_slot number owned held) ∷ rest) refl (Plans.calms (Plans.CalmBy own) plan (after_none owned held) rest (answers next reply) g.2)
   full_turn (entered p note ∷ rest) next reply was g = absurd g
   full_turn (inserted wish tried ∷ rest) next reply was g = absurd g
   full_turn (left u ∷ rest) next reply was g = absurd g
@@ -225,13 +216,19 @@ module _ (header : Header) (own : Own) (m : Mine) where
   gone_own : (c : Closed) → is_gone c → Plans.CalmBy own (command.close_reply own name c)
   gone_own c e = subst (λ x. Plans.CalmBy own (command.close_reply own name x)) (sym e) (Plans.fewer own name)
 
+  dropped_turn : (s : State) (deeds : List Deed) (next : Own) (reply : Reply) → Goes (and_then (op.drop_as s m gone) then_) deeds (answers next reply) → Turn own next false deeds
+  dropped_turn s deeds next reply g =
+      calm_turn own next false deeds refl
+      (Plans.calms (Plans.CalmBy own) (and_then (op.drop_as s m gone) then_)
+      (Plans.calm_then is_gone own (op.drop_as s m gone) (command.close_reply own name) (Plans.calm_drop is_gone s m gone refl) gone_own) deeds (answers next reply) g)
+
   close_turn : (s : State) (deeds : List Deed) (next : Own) (reply : Reply) → Open own name → Goes (and_then (op.close_as header.shape header.seed s m own.moment) then_) deeds (answers next reply) → Turn own next false deeds
   close_turn states.Full deeds next reply was g = full_turn deeds next reply was g
-  close_turn states.Unbound deeds next reply was g = calm_turn own next false deeds refl (Plans.c_then is_gone own (op.drop_as states.Unbound m gone) (command.close_reply own name) (Plans.c_drop_as is_gone states.Unbound m gone refl) gone_own deeds (answers next reply) g)
-  close_turn states.Bound deeds next reply was g = calm_turn own next false deeds refl (Plans.c_then is_gone own (op.drop_as states.Bound m gone) (command.close_reply own name) (Plans.c_drop_as is_gone states.Bound m gone refl) gone_own deeds (answers next reply) g)
-  close_turn states.Listening deeds next reply was g = calm_turn own next false deeds refl (Plans.c_then is_gone own (op.drop_as states.Listening m gone) (command.close_reply own name) (Plans.c_drop_as is_gone states.Listening m gone refl) gone_own deeds (answers next reply) g)
-  close_turn states.Request deeds next reply was g = calm_turn own next false deeds refl (Plans.c_then is_gone own (op.drop_as states.Request m gone) (command.close_reply own name) (Plans.c_drop_as is_gone states.Request m gone refl) gone_own deeds (answers next reply) g)
-  close_turn states.TimeWait deeds next reply was g = calm_turn own next false deeds refl (Plans.c_then is_gone own (op.drop_as states.TimeWait m gone) (command.close_reply own name) (Plans.c_drop_as is_gone states.TimeWait m gone refl) gone_own deeds (answers next reply) g)
+  close_turn states.Unbound deeds next reply was g = dropped_turn states.Unbound deeds next reply g
+  close_turn states.Bound deeds next reply was g = dropped_turn states.Bound deeds next reply g
+  close_turn states.Listening deeds next reply was g = dropped_turn states.Listening deeds next reply g
+  close_turn states.Request deeds next reply was g = dropped_turn states.Request deeds next reply g
+  close_turn states.TimeWait deeds next reply was g = dropped_turn states.TimeWait deeds next reply g
 
 -- what a label names is open
 all_open : (xs : List Mine) → Each (λ (m : Mine). Among (map name_in xs) m.owner.name) xs
@@ -243,28 +240,27 @@ found_open xs None m e = absurd (cc)
 found_open xs (Some n) m e = each_found (λ (x : Mine). Among (map name_in xs) x.owner.name) (is_named n) xs m (all_open xs) e
 
 module _ (header : Header) (own next : Own) (deeds : List Deed) (reply : Reply) where
-  closing : (o : Option Mine) → ((m : Mine) → o ≡ Some m → Open own m.owner.name) → Goes (command.close_command header own o) deeds (answers next reply) → Turn own next false deeds
-  closing None h g = calm_turn own next false deeds refl (Plans.c_none own own (Plans.calm_self own) deeds (answers next reply) g)
-  closing (Some m) h g = close_turn header own m m.owner.state deeds next reply (h m refl) g
+  calmly : (p : Asking Replied) → Plans.AsksCalmly (Plans.CalmBy own) p → Goes p deeds (answers next reply) → Turn own next false deeds
+  calmly p h g = calm_turn own next false deeds refl (Plans.calms (Plans.CalmBy own) p h deeds (answers next reply) g)
 
-  calmly : (p : Asking Replied) → Plans.Calms (Plans.CalmBy own) p → Goes p deeds (answers next reply) → Turn own next false deeds
-  calmly p h g = calm_turn own next false deeds refl (h deeds (answers next reply) g)
+  closing : (o : Option Mine) → ((m : Mine) → o ≡ Some m → Open own m.owner.name) → Goes (command.close_command header own o) deeds (answers next reply) → Turn own next false deeds
+  closing None h g = calmly (command.replies_at_once own replies.Ebadf) (Plans.calm_self own) g
+  closing (Some m) h g = close_turn header own m m.owner.state deeds next reply (h m refl) g
 
   -- each step
   pub turn : (c : Command) → Goes (plan header own c) deeds (answers next reply) → Turn own next (is_reap c) deeds
   unfolding plan
-  turn (commands.Socket label options) g =
-      calmly (command.socket_command own label options) (Plans.c_socket_command own label options) g
-  turn (commands.Bind label end) g = calmly _ (Plans.c_bind_command own _ end) g
-  turn (commands.Listen label) g = calmly _ (Plans.c_listen_command header own _) g
-  turn (commands.Connect label from to) g = calmly _ (Plans.c_connect_command header own _ from to) g
-  turn (commands.Accept listener label from at) g = calmly _ (Plans.c_accept_command header own label _ from at) g
-  turn (commands.Syn listener label from at) g = calmly _ (Plans.c_syn_command header own label _ from at) g
-  turn (commands.Ack request label) g = calmly _ (Plans.c_ack_command header own label _) g
+  turn (commands.Socket label options) g = calmly (command.socket_command own label options) (Plans.calm_socket own label options) g
+  turn (commands.Bind label end) g = calmly _ (Plans.calm_bind_command own _ end) g
+  turn (commands.Listen label) g = calmly _ (Plans.calm_listen_command header own _) g
+  turn (commands.Connect label from to) g = calmly _ (Plans.calm_connect_command header own _ from to) g
+  turn (commands.Accept listener label from at) g = calmly _ (Plans.calm_accept_command header own label _ from at) g
+  turn (commands.Syn listener label from at) g = calmly _ (Plans.calm_syn_command header own label _ from at) g
+  turn (commands.Ack request label) g = calmly _ (Plans.calm_ack_command header own label _) g
   turn (commands.Close label) g = closing (open_socket own label) (λ m. found_open own.sockets (name_of own label) m) g
-  turn (commands.Drop label) g = calmly _ (Plans.c_drop_command own _) g
-  turn (commands.At moment) g = calmly _ (Plans.c_at own moment (nat_lt moment own.moment) refl) g
+  turn (commands.Drop label) g = calmly _ (Plans.calm_drop_command own _) g
+  turn (commands.At moment) g = calmly _ (Plans.calm_at own moment (nat_lt moment own.moment) refl) g
   turn commands.Reap g = reap_turn own next deeds reply g
   turn (commands.Look query) g = absurd g
   turn (commands.Packets count) g = absurd g
-  turn commands.Dump g = calmly (ends (answers own replies.Ok)) (Plans.c_ends (Plans.CalmBy own) (answers own replies.Ok) (Plans.calm_self own)) g
+  turn commands.Dump g = calmly (ends (answers own replies.Ok)) (Plans.calm_self own) g

@@ -2,7 +2,7 @@
 //!
 //! A reader takes a word off the front and gives its value and the words after it. Each form is read by one pass over
 //! its words, and takes no memory.
-ghost use Rattle.std.specs.Prelude.{◌≡◌, ◌≢◌, ◌↔◌, ◌<◌, ◌≤◌, ◌∷◌, ◌++◌, ◌==◌, ◌^◌, [], Bool, ℕ, List, IfSome, IfNone, IsTrue, Option, Some, slice_get, bytes_eq, nat_lt, codes, decimal};
+ghost use Rattle.std.specs.Prelude.{◌≡◌, ◌≢◌, ◌↔◌, ◌<◌, ◌≤◌, ◌∷◌, ◌++◌, ◌^◌, [], Bool, ℕ, List, IfSome, IfNone, IsTrue, Option, Some, slice_get, bytes_eq, nat_lt, codes, decimal};
 ghost use Rattle.std.specs.Borrow.{Bor};
 ghost use Rattle.std.specs.List.{list_all, list_any};
 ghost use Rattle.inet_io.specs.Texts.{end_text};
@@ -15,7 +15,7 @@ ghost use Rattle.record_reader.specs.Words.{texts};
 ghost use Rattle.record_reader.specs.Names.{NameFits, name_text};
 ghost use Rattle.record_reader.specs.Forms as spec;
 ghost use Rattle.chain_book.specs.Shapes.{IsPowerTo, ShapeFits};
-ghost use Rattle.record_reader.specs.Forms.{AnswerFits, CardFits, Fits, HasForm, IsReply, LifeFits, LookFits, PacketFits, SpanFits, UnhashFits, answer_words, card_words, kind_word, net_words};
+ghost use Rattle.record_reader.specs.Forms.{AnswerFits, CardFits, Fits, HasForm, IsReply, LookFits, PacketFits, SpanFits, UnhashFits, answer_words, card_words, kind_word, net_words};
 ghost use Rattle.record_reader.specs.declared.line.Name.{Name};
 ghost use Rattle.record_reader.specs.declared.line.Answer.{Answer};
 ghost use Rattle.record_reader.specs.declared.line.LookLine.{LookLine};

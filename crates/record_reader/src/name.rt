@@ -1,6 +1,6 @@
 //! Names as they are printed, and their numbers.
 
-ghost use Rattle.std.specs.Prelude.{◌≡◌, ◌≤◌, ◌<◌, ◌+◌, ◌++◌, ◌==◌, ℕ, length, take, drop, decimal, codes, position, IsTrue, IfOk, IfSome, IfNone, OnOk, IfErr};
+ghost use Rattle.std.specs.Prelude.{◌≡◌, ◌≤◌, ◌<◌, ◌+◌, ◌==◌, length, take, drop, position, IfSome, IfNone};
 ghost use Rattle.std.specs.Int.{w64, to_be_bytes, from_be_bytes};
 ghost use Rattle.record_reader.specs.Names as spec;
 ghost use Rattle.record_reader.specs.Names.{NameFits, label_of, name_text};

@@ -1,10 +1,10 @@
 //! Which line may follow which.
 
-ghost use Rattle.std.specs.Prelude.{◌≡◌, Option};
+ghost use Rattle.std.specs.Prelude.{◌≡◌};
 ghost use Rattle.std.specs.Option.{option_copied};
 ghost use Rattle.record_reader.specs.Record as spec;
 
-use crate::line::{ItemLine, Line};
+use crate::line::Line;
 
 fn rank(line: &Line) -> u8
     ensures { result ≡ spec.rank line.now }

@@ -1,10 +1,9 @@
 //! The race that the lines of a record tell.
 
-ghost use Rattle.std.specs.Prelude.{◌≡◌, ◌-◌, IfOk, OnOk, List, slice_get, length, count_by, Option, None, Some};
+ghost use Rattle.std.specs.Prelude.{◌≡◌, ◌-◌, IfOk, OnOk, slice_get, length, count_by, None, Some};
 ghost use Rattle.std.specs.List.{filter_map};
 ghost use Rattle.record_reader.specs.Told as spec;
 ghost use Rattle.record_reader.specs.Told.{Tells, names_of};
-ghost use Rattle.record_reader.specs.Names.{number_in};
 ghost use Rattle.record_reader.specs.Numbers.{IsIndexOf, NotesLine, NotesPlace, number_by};
 ghost use Rattle.record_reader.specs.Record.{AreInOrder};
 ghost use Rattle.record_reader.specs.Steps.{EndsWell, TellsShape};

@@ -1,6 +1,6 @@
 //! Laws of the flat list, of its lookups and of the events of a script.
 
-ghost use Rattle.std.specs.Prelude.{None, Some};
+ghost use Rattle.std.specs.Prelude.{Some};
 ghost use Rattle.flat_list.specs.Rows.{Answer, with_slots, with_range};
 ghost use Rattle.rule_laws.specs.Dumps.{DumpsListEach};
 ghost use Rattle.rule_laws.specs.Events.{EventsAreAll, ListingsAreAll, RepliesAreAll};

@@ -1,6 +1,6 @@
 //! The choice of a listener's group, while the best listener is held.
 
-ghost use Rattle.std.specs.Prelude.{◌≡◌, ◌^◌, ◌<◌, [], ◌∷◌, List, IfSome, IfNone};
+ghost use Rattle.std.specs.Prelude.{◌≡◌, ◌^◌, ◌<◌, ◌∷◌, List, IfSome, IfNone};
 ghost use Rattle.chain_book.specs.Homes.{packet_hash};
 ghost use Rattle.reuseport_group.specs.Passes.{IsPassOf};
 ghost use Rattle.reuseport_group.specs.Passes as words;

@@ -8,7 +8,7 @@ use Rattle.table_rule.specs.Words.{card_from}
 use Rattle.table_rule.specs.declared.view.Seen.{Seen}
 use Rattle.shared_dump.specs.Rows.{card_of, cards_of, all_cards}
 
-index_of : (l : List ℕ) (n a : ℕ) → get_elem? l n ≡ some a → slice_index l n ≡ a
+pub index_of : (l : List ℕ) (n a : ℕ) → get_elem? l n ≡ some a → slice_index l n ≡ a
 index_of [] n a e = absurd (some-ne-none a (sym e))
 index_of (x ∷ xs) zero a e = some-injective x a e
 index_of (x ∷ xs) (suc n) a e = index_of xs n a e

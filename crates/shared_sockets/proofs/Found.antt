@@ -174,7 +174,7 @@ alone_of new s xs says fits o none full =
 
 -- Who may go
 
-waiting-kind : (k : Kind) → is_time_wait_kind k ≡ true → k ≡ kinds.TimeWait
+pub waiting-kind : (k : Kind) → is_time_wait_kind k ≡ true → k ≡ kinds.TimeWait
 waiting-kind kinds.Full e = absurd (not-both (sym e))
 waiting-kind kinds.TimeWait e = refl
 waiting-kind kinds.Listen e = absurd (not-both (sym e))

@@ -80,7 +80,7 @@ ends_agree a b p q = omega (arith, p, q)
 ports_agree : (a b : ℕ) → a / 281474976710656 ≡ b / 281474976710656 → a / 4294967296 % 65536 ≡ b / 4294967296 % 65536 → a / 4294967296 ≡ b / 4294967296
 ports_agree a b p q = omega (arith, p, q)
 
-words_agree : (a b : CardWords) → PartsAgree (tuple_of (unpacked a)) (tuple_of (unpacked b)) → tuple a.ends a.ports ≡ tuple b.ends b.ports
+pub words_agree : (a b : CardWords) → PartsAgree (tuple_of (unpacked a)) (tuple_of (unpacked b)) → tuple a.ends a.ports ≡ tuple b.ends b.ports
 words_agree a b t =
     let e = ends_agree a.ends b.ends t.local t.remote in
     let p = ports_agree a.ports b.ports t.lport t.rport in

@@ -1,7 +1,5 @@
 //! What a dump tells.
 
-ghost use Rattle.std.specs.Prelude.{◌≡◌};
-
 use sock_card::Card;
 use std::marker::Model;
 

@@ -1,4 +1,5 @@
 -- Each command, carried out on tables that mean a list.
+pub mod Asks
 pub mod Comes
 pub mod ConnectTries
 pub mod Carried

@@ -1,6 +1,5 @@
 -- What a step of one section leaves of another.
 pub mod Slots
-pub mod Plans
 pub mod Sockets
 pub mod Step
 pub mod All

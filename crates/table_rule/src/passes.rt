@@ -1,4 +1,4 @@
-ghost use Rattle.std.specs.Prelude.{◌≡◌, ◌+◌, ◌-◌, ◌≤◌, ◌<◌, ◌^◌, [], map, true, false, OnOk, IfOk};
+ghost use Rattle.std.specs.Prelude.{◌≡◌, ◌+◌, ◌≤◌, ◌<◌, ◌^◌, [], map, true, false, OnOk, IfOk};
 ghost use Rattle.table_rule.specs.Changes.{are_kept, list_of, len_of, capacity_of};
 ghost use Rattle.table_rule.specs.Closes.{change_of};
 ghost use Rattle.table_rule.specs.Calls.{view};

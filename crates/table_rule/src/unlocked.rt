@@ -1,5 +1,5 @@
 // The single steps of lookups without locks.
-ghost use Rattle.std.specs.Prelude.{◌≡◌, ◌+◌, ◌*◌, ◌<◌, ◌≤◌, ℕ, List, [], ◌∷◌, ◌++◌, length};
+ghost use Rattle.std.specs.Prelude.{◌≡◌, ◌<◌, ◌≤◌, ℕ, List, [], ◌∷◌};
 ghost use Rattle.table_rule.specs.Words.{bucket_count};
 ghost use Rattle.table_rule.specs.declared.view.Reader.{Reader};
 ghost use Rattle.table_rule.specs.declared.view.Kept.{Kept};
@@ -11,7 +11,7 @@ ghost use Rattle.table_rule.specs.declared.view.Change.{Change};
 ghost use mathlib.Core.Option.{some};
 ghost use lib.ListN.{get_elem?};
 ghost use Rattle.table_rule.specs.Beyond.{IsCardWords};
-ghost use Rattle.table_rule.specs.Calls.{IsOf, view, Becomes, Stays};
+ghost use Rattle.table_rule.specs.Calls.{IsOf, view, Becomes};
 ghost use Rattle.table_rule.specs.LookCalls.{place_of, Looks, IsAtSlot, IsPassed, IsKept, IsNth, IsJudged, IsNone, IsFound, IsStopped, HasRoom};
 ghost use Rattle.table_rule.specs.Plays.{CardLearnt, setting_out, entering, following, Arrives, with_reader, with_kept, glancing, IsLive, taking, counting, stopping, letting_go, drop_at, learning, Judges, concluding, receipt, OwnExplains};
 

@@ -1,6 +1,6 @@
 //! The steps that passes make.
 
-ghost use Rattle.std.specs.Prelude.{◌≡◌, ℕ, ◌<◌, ◌≤◌, ◌++◌, length, IfOk, IfSome, MatchOption};
+ghost use Rattle.std.specs.Prelude.{◌≡◌, ◌<◌, ◌≤◌, ◌++◌, length, IfOk, IfSome, MatchOption};
 ghost use Rattle.list_words.specs.Lists.{SameItems};
 ghost use Rattle.turn_table.specs.Journals.{numbers_below};
 ghost use Rattle.tickets.specs.Views.{all_parts, first, newcomer, cut, joined};

@@ -1,6 +1,6 @@
 //! The steps that passes make.
 
-ghost use Rattle.std.specs.Prelude.{◌≡◌, ℕ, ◌+◌, ◌-◌, ◌^◌, ◌<◌, ◌≤◌, [], ◌∷◌, ◌++◌, length, map, true, None, IfSome, IfNone};
+ghost use Rattle.std.specs.Prelude.{◌≡◌, ◌+◌, ◌-◌, ◌^◌, ◌<◌, ◌≤◌, ◌++◌, length, map, true, IfSome, IfNone};
 ghost use Rattle.list_words.specs.Lists.{Each};
 ghost use Rattle.turn_table.specs.declared.note.Note.{Note};
 ghost use Rattle.turn_table.specs.Values.{Fits};

@@ -2,8 +2,6 @@
 use Rattle.std.proofs.Common.{◌≡◌, ℕ, ◌+◌, ◌^◌, ◌<◌, ◌==◌, true, false, ◌||◌, not, List, [], ◌∷◌, ◌++◌, length, Some, refl}
 use Rattle.std.proofs.lemmas.Bool.{or_parts, not-false}
 use Rattle.sock_card.specs.declared.owner.Owner.{Owner}
-use Rattle.sock_card.specs.declared.owner.State.{State}
-use Rattle.sock_card.specs.declared.owner.State.TheVariants as states
 use Rattle.sock_card.specs.Conflict.{owner_key, is_listening}
 use Rattle.bind_buckets.specs.declared.request.Request.{Request}
 use Rattle.bind_buckets.specs.declared.request.Request.TheVariants as requests
@@ -27,18 +25,11 @@ use Rattle.table_model.proofs.lists.Listed.{Listed}
 use Rattle.table_model.proofs.questions.Asked.{with_sockets}
 use Rattle.table_model.proofs.questions.Requests.{IsDone, inherit_asked}
 use Rattle.table_model.proofs.questions.Run.{comes_asks}
+use Rattle.table_model.proofs.questions.WhichGroup.{listener_owns}
 use Rattle.table_model.proofs.commands.Beside.{Refuses, fresh, comes_beside, replaced_ends, beside_ends}
 use Rattle.table_model.proofs.commands.Carried.{Carried}
 use Rattle.table_model.proofs.commands.Labelled.{new_name, given, unless, carried_unless, ends_unless}
 use Rattle.table_model.proofs.commands.Newcomer.{arrives_at}
-
-listens_own : (st : State) → is_listening st ≡ true → is_owner st ≡ true
-listens_own states.Listening h = refl
-listens_own states.Unbound h = absurd (cc)
-listens_own states.Bound h = refl
-listens_own states.Full h = refl
-listens_own states.TimeWait h = refl
-listens_own states.Request h = absurd (cc)
 
 -- who can accept listens, and so has a port
 pub accepts_own : (l : Owner) (from at : End) → is_no_accept l from at ≡ false → is_owner l.state ≡ true
@@ -47,7 +38,7 @@ accepts_own l from at h =
     let two = or_parts (not (is_listening l.state) || not (at.port == l.port) || (at.addr == 0)) (not ((l.addr == 0) || (l.addr == at.addr))) one.0 in
     let three = or_parts (not (is_listening l.state) || not (at.port == l.port)) (at.addr == 0) two.0 in
     let four = or_parts (not (is_listening l.state)) (not (at.port == l.port)) three.0 in
-    listens_own l.state (not-false (is_listening l.state) four.0)
+    listener_owns l.state (not-false (is_listening l.state) four.0)
 
 module _ (n : ℕ) (own : Own) (t : Tables) (flat : Flat) (h : Means n own t flat) (l : Socket) (listed : Listed l.owner.name flat.sockets l) (label : List ℕ) (from at : End) where
   abbrev child : ℕ → Owner

@@ -1,6 +1,6 @@
 -- `ack` of an open socket of a section's own, carried out on tables that mean a list.
 use Rattle.std.proofs.Common.{◌≡◌, ◌≢◌, ℕ, ◌+◌, ◌%◌, ◌^◌, ◌<◌, ◌==◌, Bool, true, false, ◌&&◌, not, cond, List, [], ◌∷◌, ◌++◌, length, Option, Some, None, refl, ap, sym, subst, arith}
-use Rattle.std.proofs.lemmas.Bool.{or_parts}
+use Rattle.std.proofs.lemmas.Bool.{or_parts, eq-eqb}
 use Rattle.list_words.specs.Lists.{Each}
 use Rattle.list_words.proofs.EachLemmas.{each_weaken, each_filter, each_found}
 use Rattle.sock_card.specs.declared.card.Card.{Card}
@@ -34,7 +34,6 @@ use Rattle.table_model.specs.Own.{Own, Mine, with_label, open_named}
 use Rattle.table_model.specs.Operations.{Did, done, refused, plain, full_card, full_in, when_done, ack_hashed, ack_as, ack_by, ack_from}
 use Rattle.table_model.specs.Commands.{Replied, ack_reply}
 use Rattle.table_model.specs.Means.{OwnersMean, TablesMean, OwnMeans, Means, StandsAs, owns, stands_in_some}
-use Rattle.table_model.proofs.lists.Weights.{is_same}
 use Rattle.table_model.proofs.lists.Listed.{Listed, without_weighs}
 use Rattle.table_model.proofs.parts.Buckets.{owners_kept}
 use Rattle.table_model.proofs.parts.Cards.{card_weight, cards_weigh, added_weighs}
@@ -208,7 +207,7 @@ module _ (n : ℕ) (own : Own) (t : Tables) (flat : Flat) (h : Means n own t fla
           own_is =
               let kept = own_left slot free in
               own_new n (own_words.without labelled_own name) (left next slot free) (left next slot free) (flat_connect.without_request given_so r) new (comer next slot free) kept refl
-              (is_same _ n (new_section n own t flat h few)) refl
+              (eq-eqb _ n (new_section n own t flat h few)) refl
               (each_filter (λ (x : Socket). NamesDiffer x new) (λ y. not (has_name name y)) flat.sockets is_new) (fresh_wait n own t flat h)
               (stands_handed t.chains flat h.tables.chains h.shape h.sound.names r at extra place kinds.Request stands_there (plain new.owner) kinds.Full slot free other_name) kept.stand;
         },

@@ -1,5 +1,6 @@
 -- A newcomer beside a listener, under a label that was given: what `accept` and `syn` come to beside the list's.
 use Rattle.std.proofs.Common.{◌≡◌, ◌≢◌, ℕ, ◌+◌, ◌/◌, ◌^◌, ◌<◌, Bool, true, false, not, cond, List, length, Option, Some, None, refl, sym, subst}
+use Rattle.std.proofs.lemmas.Bool.{eq-eqb}
 use Rattle.list_words.specs.Lists.{Each}
 use Rattle.list_words.proofs.EachLemmas.{each_filter}
 use Rattle.sock_card.specs.declared.owner.Owner.{Owner}
@@ -25,7 +26,6 @@ use Rattle.table_model.specs.Own.{Own, Mine, with_label}
 use Rattle.table_model.specs.Operations.{Did, done, refused, then_replaced}
 use Rattle.table_model.specs.Commands.{accept_reply}
 use Rattle.table_model.specs.Means.{Means, StandsAs}
-use Rattle.table_model.proofs.lists.Weights.{is_same}
 use Rattle.table_model.proofs.parts.Claims.{claim_card, claimed_in, IsClaim, claim_open}
 use Rattle.table_model.proofs.parts.NewSocket.{own_new}
 use Rattle.table_model.proofs.parts.OwnConnected.{own_replaced}
@@ -77,7 +77,7 @@ module _ (n : ℕ) (own : Own) (t : Tables) (flat : Flat) (h : Means n own t fla
   good_as k room q r e g = subst (λ (b : Bool). Good_so (out_as b (has_room flat)) e) (sym q) (subst (λ (b : Bool). Good_so (out_as k b) e) (sym r) g)
 
   of_section : is_open_in n new ≡ true
-  of_section = is_same _ n (subst (λ (k : ℕ). k / 2 ^ 24 ≡ n) (sym named) (new_section n own t flat h few))
+  of_section = eq-eqb _ n (subst (λ (k : ℕ). k / 2 ^ 24 ≡ n) (sym named) (new_section n own t flat h few))
 
   came_good : (e : Ended Did) → HasCome own flat a beside_list e → Good_so (out_as false true) e
   came_good e c =

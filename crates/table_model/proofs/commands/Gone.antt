@@ -26,7 +26,7 @@ use Rattle.bind_buckets.specs.BindHash.{asked_at}
 use Rattle.table_model.specs.Own as own_words
 use Rattle.table_model.specs.Own.{Own, Mine}
 use Rattle.table_model.specs.Means.{ChainsMean, OwnMeans, Means, StandsAs, owns, stands_in_some}
-use Rattle.table_model.proofs.lists.Passing.{Only}
+use Rattle.table_model.proofs.lists.Passing.{Only, total_each}
 use Rattle.table_model.proofs.parts.Buckets.{owners_kept}
 use Rattle.table_model.proofs.parts.Chains.{holds, weighing}
 use Rattle.table_model.proofs.parts.Cards.{card_weight, weigh_as, cards_weigh, only_named}
@@ -35,7 +35,6 @@ use Rattle.table_model.proofs.parts.MemberPlaces.{some_unhashed}
 use Rattle.table_model.proofs.lists.Listed.{Listed, without_weighs}
 use Rattle.table_model.proofs.questions.Requests.{remove_means}
 use Rattle.table_model.proofs.commands.Carried.{cards_kept}
-use Rattle.table_model.proofs.lists.Weights.{total_same}
 use Rattle.table_model.proofs.parts.GroupCards.{extra_of, extra_left}
 use Rattle.table_model.proofs.parts.Groups.{groups_stay, others_grouped}
 use Rattle.table_model.proofs.parts.FreePlace.{HasSome}
@@ -65,7 +64,7 @@ weighs_less flat sound name s at f =
     let groups : List Group = leave name flat.groups in
     let differ : Each (λ (g : Group). Pairs (λ a b. a ≢ b) g.members) flat.groups = each_weaken (IsGroupOf flat.header.shape.bind flat.sockets) (λ (g : Group). Pairs (λ a b. a ≢ b) g.members) flat.groups (λ g h. h.differ) sound.grouped.each in
     let same : total (card_weight groups f) (without name flat.sockets) ≡ total (card_weight flat.groups f) (without name flat.sockets) =
-    total_same (card_weight groups f) (card_weight flat.groups f) (without name flat.sockets)
+    total_each (card_weight groups f) (card_weight flat.groups f) (without name flat.sockets)
     (each_keep_if (λ (x : Socket). card_weight groups f x ≡ card_weight flat.groups f x) (λ x. not (has_name name x)) flat.sockets
     (each_of_all (λ (x : Socket). not (has_name name x) ≡ true → card_weight groups f x ≡ card_weight flat.groups f x) flat.sockets
     (λ x e. weight_same flat.groups groups f x (extra_left name x.owner.name flat.groups differ (λ q. both_ways (not (has_name name x)) (ap not (eq-eqb x.owner.name name (sym q))) e))))) in

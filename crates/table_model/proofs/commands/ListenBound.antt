@@ -41,6 +41,7 @@ use Rattle.table_model.specs.Own.{Own, Mine, card_of, with_socket}
 use Rattle.table_model.specs.Operations.{Did, done, listener, give_up, listen_hashed, listens_in, listen_answered, listen_at, when_done}
 use Rattle.table_model.specs.Commands.{bind_error}
 use Rattle.table_model.specs.Means.{OwnersMean, ChainsMean, GroupsMean, OwnMeans, Means, StandsAs, stands_in_some}
+use Rattle.table_model.proofs.lists.Passing.{total_each}
 use Rattle.table_model.proofs.parts.Chains.{means, weighing, weighs_same, home_below}
 use Rattle.table_model.proofs.parts.Cards.{card_weight, weigh_as, cards_weigh}
 use Rattle.table_model.proofs.questions.Inserts.{room_found, room_none, added_holds}
@@ -50,7 +51,6 @@ use Rattle.table_model.proofs.parts.Buckets.{near}
 use Rattle.table_model.proofs.lists.Listed.{Listed, put_weighs}
 use Rattle.table_model.proofs.parts.Own.{own_put, only_listed}
 use Rattle.table_model.proofs.questions.Requests.{Left, MayTry, IsInUse, may_listen_asked, listen_means, listen_answer}
-use Rattle.table_model.proofs.lists.Weights.{total_same}
 use Rattle.table_model.proofs.parts.GroupCards.{extra_of}
 use Rattle.table_model.proofs.parts.Groups.{groups_stay, stands_new}
 use Rattle.table_model.proofs.questions.WhichGroup.{Decided, room, none, HasNone, group_at, decided, in_no_group}
@@ -205,7 +205,7 @@ module _ (n : ℕ) (own : Own) (t : Tables) (flat : Flat) (h : Means n own t fla
       weighs : (f : Card → ℕ) → weighing (after groups) f ≡ weighing flat f + f card
       weighs f =
           let same : total (card_weight groups f) flat.sockets ≡ total (card_weight flat.groups f) flat.sockets =
-          total_same (card_weight groups f) (card_weight flat.groups f) flat.sockets
+          total_each (card_weight groups f) (card_weight flat.groups f) flat.sockets
           (each_weaken (λ (x : Socket). has_name a.name x ≡ true → x ≡ s) (λ (x : Socket). card_weight groups f x ≡ card_weight flat.groups f x) flat.sockets
           (λ x only. same_weight f x only (cases_Bool (has_name a.name x))) (only_listed a.name flat.sockets s names at)) in
           let none_s : card_weight groups f s ≡ 0 = ap (λ (k : Option Kind). weigh_as f k s.owner (λ kind. extra_as kind groups s)) (ap kind_of bound) in

@@ -1,6 +1,6 @@
 -- `reap`, carried out on tables that mean a list.
 use Rattle.std.proofs.Common.{◌≡◌, ◌≢◌, ℕ, ◌%◌, ◌^◌, ◌==◌, Bool, true, false, not, ◌&&◌, ◌||◌, cond, List, [], ◌∷◌, ◌++◌, map, filter, find, Option, None, Some, refl, ap, sym, ◌∙◌, subst, arith}
-use Rattle.std.proofs.lemmas.Bool.{and_parts}
+use Rattle.std.proofs.lemmas.Bool.{and_parts, ne_eqb, eq-eqb, false_from_ne_true}
 use Rattle.std.specs.Prelude.{is_some}
 use Rattle.std.specs.List.{list_any}
 use Rattle.list_words.specs.Lists.{Each, Pairs, total}
@@ -28,13 +28,12 @@ use Rattle.table_model.specs.Tables.{Tables}
 use Rattle.bind_buckets.specs.BindHash.{asked_at}
 use Rattle.table_model.specs.Own.{Own, Mine}
 use Rattle.table_model.specs.Means.{ChainsMean, TablesMean, OwnMeans, IsShape, StandsAs, is_wait_of, name_in, stands_in_some, weighs_as_wait}
-use Rattle.table_model.proofs.lists.Weights.{is_ne, is_same, total_alike, none_of_each, ind, Weighs, found_weighs}
 use Rattle.table_model.proofs.lists.Listed.{Listed, listed_name, without_weighs}
 use Rattle.table_model.proofs.lists.SameOwners.{same_owner}
 use Rattle.table_model.proofs.questions.Asked.{with_sockets}
 use Rattle.table_model.proofs.questions.Requests.{IsDone, remove_waiting_asked}
 use Rattle.table_model.proofs.parts.WaitNames.{waits_differ, listed_there}
-use Rattle.table_model.proofs.lists.Passing.{Only, only}
+use Rattle.table_model.proofs.lists.Passing.{Only, only, nothing_at, total_same, total_zero, ind, Weighs, found_weighs}
 use Rattle.table_model.proofs.parts.Chains.{holds, weighing, row_weigh}
 use Rattle.table_model.proofs.parts.Cards.{card_weight, cards_weigh, weigh_as, only_named}
 use Rattle.table_model.proofs.questions.Replaced.{some_found}
@@ -46,10 +45,6 @@ use Rattle.table_model.proofs.parts.Groups.{any_by_found}
 -- 1 for the card of a TIME_WAIT of that name
 abbrev pub waits_card : ℕ → Card → ℕ
 waits_card k card = cond ((card.name == k) && is_time_wait_kind card.kind) 1 0
-
-nothing_at : (b : Bool) → cond {A = ℕ} b 0 0 ≡ 0
-nothing_at true = refl
-nothing_at false = refl
 
 none_by : {A : Type 0} (o : Option A) (n : ℕ) → Weighs (is_some o) n → n ≡ 0 → o ≡ None
 none_by None n h e = refl
@@ -74,7 +69,7 @@ module _ (c : Chains) (flat : Flat) (cm : ChainsMean c flat) where
       let b : ℕ = home_in c card in
       let zero : total (ind (waits_as card.name)) (row_at c b) ≡ 0 =
       waits_weigh card.name b
-      ∙ none_of_each (card_weight flat.groups (only (λ x. home_in c x == b) (waits_card card.name))) flat.sockets
+      ∙ total_zero (card_weight flat.groups (only (λ x. home_in c x == b) (waits_card card.name))) flat.sockets
       (each_weaken (λ (y : Socket). has_name card.name y ≡ false) (λ (y : Socket). card_weight flat.groups (only (λ x. home_in c x == b) (waits_card card.name)) y ≡ 0) flat.sockets
       (λ y e. other_none card.name b y (kind_of y.owner.state) e) (each_unless_any (has_name card.name) flat.sockets none)) in
       none_by (waiting c card) (total (ind (waits_as card.name)) (row_at c b)) (found_weighs (waits_as card.name) (row_at c b)) zero
@@ -88,8 +83,8 @@ module _ (c : Chains) (flat : Flat) (cm : ChainsMean c flat) where
       let f : Card → ℕ = only (λ x. home_in c x == b) (waits_card s.owner.name) in
       let its : card_weight flat.groups f s ≡ 1 =
       ap (λ (state : State). weigh_as f (kind_of state) s.owner (λ x. extra_as x flat.groups s)) waits
-      ∙ (ap (λ (q : Bool). cond {A = ℕ} q (cond {A = ℕ} ((s.owner.name == s.owner.name) && true) 1 0) 0) (is_same b b refl)
-      ∙ ap (λ (q : Bool). cond {A = ℕ} (q && true) 1 0) (is_same s.owner.name s.owner.name refl)) in
+      ∙ (ap (λ (q : Bool). cond {A = ℕ} q (cond {A = ℕ} ((s.owner.name == s.owner.name) && true) 1 0) 0) (eq-eqb b b refl)
+      ∙ ap (λ (q : Bool). cond {A = ℕ} (q && true) 1 0) (eq-eqb s.owner.name s.owner.name refl)) in
       some_found (waits_as s.owner.name) (row_at c b)
       (omega (arith, waits_weigh s.owner.name b, without_weighs s.owner.name (card_weight flat.groups f) s flat.sockets names at, its))
 
@@ -100,10 +95,10 @@ IsOne ws w = (g : Mine → ℕ) → total (λ (x : Mine). cond {A = ℕ} (x.owne
 none_such : (k : ℕ) (g : Mine → ℕ) (ws : List Mine) → Each (λ (j : ℕ). k ≢ j) (map name_in ws) → total (λ (x : Mine). cond {A = ℕ} (x.owner.name == k) (g x) 0) ws ≡ 0
 none_such k g [] h = refl
 none_such k g (w ∷ ws) h =
-    omega (arith, ap (λ (b : Bool). cond {A = ℕ} b (g w) 0) (is_ne w.owner.name k (λ q. h.0 (sym q))), none_such k g ws h.1)
+    omega (arith, ap (λ (b : Bool). cond {A = ℕ} b (g w) 0) (ne_eqb w.owner.name k (λ q. h.0 (sym q))), none_such k g ws h.1)
 
 one_more : (w x : Mine) (ws : List Mine) → w.owner.name ≢ x.owner.name → IsOne ws x → IsOne (w ∷ ws) x
-one_more w x ws d h g = omega (arith, ap (λ (b : Bool). cond {A = ℕ} b (g w) 0) (is_ne w.owner.name x.owner.name d), h g)
+one_more w x ws d h g = omega (arith, ap (λ (b : Bool). cond {A = ℕ} b (g w) 0) (ne_eqb w.owner.name x.owner.name d), h g)
 
 named_each : (P : ℕ → Type 0) (ws : List Mine) → Each P (map name_in ws) → Each (λ (x : Mine). P x.owner.name) ws
 named_each P [] h = tt
@@ -113,7 +108,7 @@ named_each P (w ∷ ws) h = (h.0, named_each P ws h.1)
 pub all_one : (ws : List Mine) → Pairs (λ (a b : ℕ). a ≢ b) (map name_in ws) → Each (IsOne ws) ws
 all_one [] h = tt
 all_one (w ∷ ws) h = (
-  λ g. omega (arith, ap (λ (b : Bool). cond {A = ℕ} b (g w) 0) (is_same w.owner.name w.owner.name refl), none_such w.owner.name g ws h.0),
+  λ g. omega (arith, ap (λ (b : Bool). cond {A = ℕ} b (g w) 0) (eq-eqb w.owner.name w.owner.name refl), none_such w.owner.name g ws h.0),
   each_weaken (λ (x : Mine). (w.owner.name ≢ x.owner.name) × IsOne ws x) (IsOne (w ∷ ws)) ws (λ x q. one_more w x ws q.0 q.1)
       (each_both (λ (x : Mine). w.owner.name ≢ x.owner.name) (IsOne ws) ws (named_each (λ (j : ℕ). w.owner.name ≢ j) ws h.0) (all_one ws h.1)),
 )
@@ -141,10 +136,6 @@ swap_at false false v = refl
 bit_true : (b : Bool) → 1 ≡ cond {A = ℕ} b 1 0 → b ≡ true
 bit_true true h = refl
 bit_true false h = absurd (omega (arith, h))
-
-not_waiting : (b : Bool) → (b ≡ true → ⊥) → b ≡ false
-not_waiting true h = absurd (h refl)
-not_waiting false h = refl
 
 any_by : {A : Type 0} (p : A → Bool) (x : A) (xs : List A) (b : Bool) → p x ≡ b → cond b (Some x) (find p xs) ≡ None → (find p xs ≡ None → list_any p xs ≡ false) → (b || list_any p xs) ≡ false
 any_by p x xs true e h later = absurd (cc)
@@ -198,12 +189,12 @@ module _ (n : ℕ) (own : Own) (base : Flat) (shape : IsShape base.header) where
   pub wait_is : (t : Tables) (xs : List Socket) → Kept t xs → (w : Mine) → IsOne own.waits w → (s : Socket) → Listed w.owner.name xs s → WaitIs w s
   wait_is t xs k w one s found =
       let shut : is_open_in n s ≡ false =
-      not_waiting (is_open_in n s) (λ mine. absurd (let z : total (λ (x : Mine). cond {A = ℕ} (x.owner.name == w.owner.name) 1 0) own.waits ≡ 0 = none_such w.owner.name (λ (x : Mine). 1) own.waits (waits_differ n own t (at xs) w.owner.name s k.own_is found mine) in let o : total (λ (x : Mine). cond {A = ℕ} (x.owner.name == w.owner.name) 1 0) own.waits ≡ 1 = one (λ (x : Mine). 1) in omega (arith, z, o))) in
+      false_from_ne_true (is_open_in n s) (λ mine. absurd (let z : total (λ (x : Mine). cond {A = ℕ} (x.owner.name == w.owner.name) 1 0) own.waits ≡ 0 = none_such w.owner.name (λ (x : Mine). 1) own.waits (waits_differ n own t (at xs) w.owner.name s k.own_is found mine) in let o : total (λ (x : Mine). cond {A = ℕ} (x.owner.name == w.owner.name) 1 0) own.waits ≡ 1 = one (λ (x : Mine). 1) in omega (arith, z, o))) in
       let weighs : (f : Owner → ℕ → ℕ) → f w.owner w.extra ≡ weighs_as_wait f n s = λ f.
       let there : Mine → ℕ = λ x. cond (list_any (has_name x.owner.name) xs) (f x.owner x.extra) 0 in
       sym (ap (λ (b : Bool). cond {A = ℕ} b (f w.owner w.extra) 0) (listed_there w.owner.name xs s found))
       ∙ (sym (one there)
-      ∙ (total_alike (λ (x : Mine). cond {A = ℕ} (x.owner.name == w.owner.name) (there x) 0) (λ (x : Mine). cond {A = ℕ} (list_any (has_name x.owner.name) xs) (cond {A = ℕ} (x.owner.name == w.owner.name) (f x.owner x.extra) 0) 0) own.waits
+      ∙ (total_same (λ (x : Mine). cond {A = ℕ} (x.owner.name == w.owner.name) (there x) 0) (λ (x : Mine). cond {A = ℕ} (list_any (has_name x.owner.name) xs) (cond {A = ℕ} (x.owner.name == w.owner.name) (f x.owner x.extra) 0) 0) own.waits
       (λ x. swap_at (list_any (has_name x.owner.name) xs) (x.owner.name == w.owner.name) (f x.owner x.extra))
       ∙ its_wait n own t t (at xs) k.own_is w.owner.name s (only_named (has_name w.owner.name) xs s w.owner.name found (listed_name w.owner.name xs s found) k.names) shut f)) in
       let waits : is_wait_of n s ≡ true = bit_true (is_wait_of n s) (weighs (λ a e. 1)) in
@@ -232,7 +223,7 @@ module _ (n : ℕ) (own : Own) (base : Flat) (shape : IsShape base.header) where
     stands =
         let x : Hashed = hashed_there.0 in
         let parts = and_parts (x.card.name == name) (is_time_wait_kind x.card.kind) (found_passes (waits_as name) (row_at t.chains (home_in t.chains card)) x hashed_there.1) in
-        let here : (has_slot x.slot x && (x.card.name == name)) ≡ true = rw (is_same x.slot x.slot refl, parts.0) refl in
+        let here : (has_slot x.slot x && (x.card.name == name)) ≡ true = rw (eq-eqb x.slot x.slot refl, parts.0) refl in
         (any_by_found (stands_test stood) (waits_as name) x (row_at t.chains (home_in t.chains card)) hashed_there.1 here, refl)
 
     abbrev pub chains_after : Chains

@@ -1,6 +1,6 @@
 -- All TIME_WAITs of a section that are over go, in tables that mean a list as in the list.
 use Rattle.std.proofs.Common.{◌≡◌, ◌≢◌, ℕ, ◌+◌, ◌/◌, ◌^◌, ◌==◌, Bool, true, false, not, ◌&&◌, cond, List, [], ◌∷◌, ◌++◌, map, filter, find, Option, None, Some, refl, ap, sym, ◌∙◌, subst, arith}
-use Rattle.std.proofs.lemmas.Bool.{and_parts}
+use Rattle.std.proofs.lemmas.Bool.{and_parts, and_from}
 use Rattle.std.specs.Prelude.{count_by}
 use Rattle.std.specs.List.{list_any}
 use Rattle.list_words.specs.Lists.{Each, Pairs, total}
@@ -26,14 +26,13 @@ use Rattle.table_model.specs.Own.{Own, Mine, card_of, is_over}
 use Rattle.table_model.specs.Operations.{reap, reap_each, reaped_next, kept_waits}
 use Rattle.table_model.specs.Commands.{Replied, answers, reap_command}
 use Rattle.table_model.specs.Means.{OwnMeans, Means, IsShape, IsNameOf, is_wait_of, name_in, weighs_if_there, weighs_as_wait}
-use Rattle.table_model.proofs.lists.Weights.{total_alike, none_of_each, ind}
 use Rattle.table_model.proofs.lists.Listed.{without_weighs}
 use Rattle.table_model.proofs.questions.Asked.{with_sockets}
 use Rattle.table_model.proofs.parts.Own.{only_listed}
 use Rattle.table_model.proofs.parts.OpenSocket.{each_passes}
 use Rattle.table_model.proofs.parts.Sections.{same_moment}
 use Rattle.table_model.proofs.commands.Carried.{run_and_then, goes_on, Carried}
-use Rattle.table_model.proofs.lists.Passing.{count_is}
+use Rattle.table_model.proofs.lists.Passing.{nothing_at, count_is, total_same, total_zero, ind}
 use Rattle.table_model.proofs.parts.OwnWaits.{any_without}
 use Rattle.table_model.proofs.questions.GroupRequests.{no_name_left}
 use Rattle.table_model.proofs.commands.Reap.{IsOne, all_one, pairs_back, is_waiting, none_there, none_waits, filter_without, all_kept, at, Kept, WaitIs, wait_is, hashed_there, tables_after, kept_after}
@@ -80,13 +79,6 @@ module _ (q : Mine → Bool) (R : ℕ → ℕ → Type 0) where
 and_bit : (a b : Bool) → cond {A = ℕ} a (cond {A = ℕ} b 1 0) 0 ≡ cond {A = ℕ} (a && b) 1 0
 and_bit true b = refl
 and_bit false b = refl
-
-both_true : (a b : Bool) → a ≡ true → b ≡ true → (a && b) ≡ true
-both_true a b x y = rw (x, y) refl
-
-no_weight : (b : Bool) → cond {A = ℕ} b 0 0 ≡ 0
-no_weight true = refl
-no_weight false = refl
 
 nothing_then : (b : Bool) → (not b && false) ≡ false
 nothing_then true = refl
@@ -151,7 +143,7 @@ module _ (n : ℕ) (own : Own) (base : Flat) (shape : IsShape base.header) (mome
         let after : Tables = tables_after n own base shape t xs k s place found state is.shut in
         let left : List Socket = without s.owner.name xs in
         let r : Reaped after left ws (count + 1) = later after left (kept_after n own base shape t xs k s place found state is.shut) (count + 1) in
-        let due : goes s ≡ true = both_true (is_wait_of n s) (expired s.stamp moment) is.waits over in
+        let due : goes s ≡ true = and_from (is_wait_of n s) (expired s.stamp moment) is.waits over in
         record {
           tables = r.tables;
           sockets = r.sockets;
@@ -219,13 +211,13 @@ module _ (n : ℕ) (own : Own) (t : Tables) (flat : Flat) (h : Means n own t fla
   weighs_over : (w : Mine) (b : Bool) → is_over own.moment w ≡ b → (is_over own.moment w ≡ true → list_any (has_name w.owner.name) ended.sockets ≡ false) → weighs_if_there over ended.sockets w ≡ 0
   weighs_over w true e gone = ap (λ (b : Bool). cond {A = ℕ} b (over w.owner w.extra) 0) (gone e)
   weighs_over w false e gone =
-      ap (λ (b : Bool). cond {A = ℕ} (list_any (has_name w.owner.name) ended.sockets) (cond {A = ℕ} b 1 0) 0) e ∙ no_weight (list_any (has_name w.owner.name) ended.sockets)
+      ap (λ (b : Bool). cond {A = ℕ} (list_any (has_name w.owner.name) ended.sockets) (cond {A = ℕ} b 1 0) 0) e ∙ nothing_at (list_any (has_name w.owner.name) ended.sockets)
 
   none_goes : total (ind (goes n own flat h.shape own.moment)) ended.sockets ≡ 0
   none_goes =
-      sym (total_alike (weighs_as_wait over n) (ind (goes n own flat h.shape own.moment)) ended.sockets (λ s. and_bit (is_wait_of n s) (expired s.stamp own.moment)))
+      sym (total_same (weighs_as_wait over n) (ind (goes n own flat h.shape own.moment)) ended.sockets (λ s. and_bit (is_wait_of n s) (expired s.stamp own.moment)))
       ∙ (sym (ended.kept.own_is.waits over)
-      ∙ none_of_each (weighs_if_there over ended.sockets) own.waits
+      ∙ total_zero (weighs_if_there over ended.sockets) own.waits
       (each_weaken (λ (w : Mine). is_over own.moment w ≡ true → list_any (has_name w.owner.name) ended.sockets ≡ false) (λ (w : Mine). weighs_if_there over ended.sockets w ≡ 0) own.waits
       (λ w g. weighs_over w (is_over own.moment w) refl g) all_gone))
 

@@ -1,6 +1,7 @@
 -- `socket` and `at`, carried out on tables that mean a list.
 use Rattle.std.proofs.Common.{◌≡◌, ◌≢◌, ℕ, ◌+◌, ◌/◌, ◌^◌, ◌<◌, Bool, true, false, cond, ltb, List, [], ◌∷◌, ◌++◌, length, refl, ap, sym, ◌∙◌, subst, arith}
 use Rattle.std.proofs.lemmas.List.{length-append}
+use Rattle.std.proofs.lemmas.Bool.{eq-eqb}
 use Rattle.list_words.proofs.EachLemmas.{each_weaken}
 use Rattle.list_words.proofs.TotalLemmas.{total-append}
 use Rattle.flat_list.specs.declared.command.Reply.TheVariants as replies
@@ -19,7 +20,6 @@ use Rattle.table_model.specs.Operations.{plain}
 use Rattle.table_model.specs.Commands.{socket_command, at_command, replies_at_once, answers}
 use Rattle.flat_list.specs.Sockets.{is_open_in}
 use Rattle.table_model.specs.Means.{TablesMean, Means, IsNameOf}
-use Rattle.table_model.proofs.lists.Weights.{is_same}
 use Rattle.table_model.proofs.questions.Asked.{with_sockets}
 use Rattle.table_model.proofs.parts.Sections.{with_sections, own_label, own_moment, same_labels, same_moment}
 use Rattle.table_model.proofs.parts.NewSocket.{own_new, pairs_last, given_before}
@@ -75,7 +75,7 @@ module _ (n : ℕ) (own : Own) (t : Tables) (flat : Flat) (h : Means n own t fla
     one_more = omega (arith, length-append own.labels (label ∷ []))
 
     of_section : is_open_in n new ≡ true
-    of_section = is_same (name / 2 ^ 24) n (omega (arith, few))
+    of_section = eq-eqb (name / 2 ^ 24) n (omega (arith, few))
 
     socket_tables : TablesMean t after
     socket_tables =

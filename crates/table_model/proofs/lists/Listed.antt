@@ -1,12 +1,11 @@
 -- The socket of a name in a list whose names differ, changed or gone.
 use Rattle.std.proofs.Common.{◌≡◌, ◌≢◌, ℕ, ◌+◌, Bool, true, false, not, cond, List, [], ◌∷◌, find, Some, ◌⊎◌, inl, inr, refl, ap, sym, ◌∙◌, subst, arith}
-use Rattle.std.proofs.lemmas.Bool.{cases_Bool}
+use Rattle.std.proofs.lemmas.Bool.{cases_Bool, eqb-true, ne_eqb}
 use Rattle.list_words.specs.Lists.{Each, Pairs, total}
 use Rattle.list_words.proofs.EachLemmas.{each_weaken, some_same, found_passes}
 use Rattle.flat_list.specs.declared.socket.Socket.{Socket}
 use Rattle.flat_list.specs.Sockets.{has_name, put, replaced, without}
 use Rattle.flat_list.specs.Sound.{NamesDiffer}
-use Rattle.table_model.proofs.lists.Weights.{is_eq, is_ne}
 
 -- the socket of that name in the list
 abbrev pub Listed : ℕ → List Socket → Socket → Type 0
@@ -14,13 +13,13 @@ Listed name xs s = find (has_name name) xs ≡ Some s
 
 -- it has the name
 pub listed_name : (name : ℕ) (xs : List Socket) (s : Socket) → Listed name xs s → s.owner.name ≡ name
-listed_name name xs s h = is_eq s.owner.name name (found_passes (has_name name) xs s h)
+listed_name name xs s h = eqb-true s.owner.name name (found_passes (has_name name) xs s h)
 
 -- no socket but the first has its name
 pub each_other : (name : ℕ) (x : Socket) (xs : List Socket) → has_name name x ≡ true → Each (NamesDiffer x) xs → Each (λ y. has_name name y ≡ false) xs
 each_other name x xs e h =
     each_weaken (NamesDiffer x) (λ y. has_name name y ≡ false) xs
-    (λ y d. is_ne y.owner.name name (λ q. d (is_eq x.owner.name name e ∙ sym q))) h
+    (λ y d. ne_eqb y.owner.name name (λ q. d (eqb-true x.owner.name name e ∙ sym q))) h
 
 module _ (new : Socket) where
   put_unnamed : (g : Socket → ℕ) (xs : List Socket) → Each (λ y. has_name new.owner.name y ≡ false) xs → total g (put new xs) ≡ total g xs
@@ -42,7 +41,7 @@ module _ (new : Socket) where
 
   -- what takes a place has the name of what stood there
   pub replaced_name : (b : Bool) (x : Socket) → has_name new.owner.name x ≡ b → (cond b new x).owner.name ≡ x.owner.name
-  replaced_name true x e = sym (is_eq x.owner.name new.owner.name e)
+  replaced_name true x e = sym (eqb-true x.owner.name new.owner.name e)
   replaced_name false x e = refl
 
   each_put : (P : ℕ → Type 0) (xs : List Socket) → Each (λ (y : Socket). P y.owner.name) xs → Each (λ (y : Socket). P y.owner.name) (put new xs)

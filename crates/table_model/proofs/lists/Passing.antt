@@ -1,5 +1,5 @@
 -- What the items of a list weigh that pass a test, and what rows weigh of which one changes.
-use Rattle.std.proofs.Common.{◌≡◌, ℕ, ◌+◌, ◌≤◌, Bool, true, false, ◌||◌, not, cond, List, [], ◌∷◌, filter, find, Option, Some, refl, ap, ◌∙◌, inl, inr, ◌⊎◌, arith}
+use Rattle.std.proofs.Common.{◌≡◌, ℕ, ◌+◌, ◌<◌, ◌≤◌, Bool, true, false, ◌||◌, not, cond, List, [], ◌∷◌, filter, find, Option, Some, refl, ap, ◌∙◌, inl, inr, ◌⊎◌, arith}
 use Rattle.std.specs.Prelude.{is_some, count_by}
 use Rattle.std.specs.List.{list_any}
 use Rattle.std.proofs.lemmas.Bool.{cases_Bool}
@@ -20,6 +20,16 @@ same_answer true true n m h k e = refl
 same_answer false false n m h k e = refl
 same_answer true false n m h k e = absurd (omega (arith, h.0 refl, k.1 refl))
 same_answer false true n m h k e = absurd (omega (arith, h.1 refl, k.0 refl))
+
+-- what weighs something passes
+pub passes_by : (x : Bool) (n : ℕ) → Weighs x n → 0 < n → x ≡ true
+passes_by true n h e = refl
+passes_by false n h e = absurd (omega (arith, e, h.1 refl))
+
+-- nothing either way
+pub nothing_at : (b : Bool) → cond {A = ℕ} b 0 0 ≡ 0
+nothing_at true = refl
+nothing_at false = refl
 
 -- an item's weight where it passes, else nothing
 abbrev pub only : {A : Type 0} → (A → Bool) → (A → ℕ) → A → ℕ

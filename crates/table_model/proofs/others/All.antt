@@ -38,9 +38,9 @@ use Rattle.table_model.proofs.lists.Listed.{Listed}
 use Rattle.table_model.proofs.parts.Standing.{all_listed, each_unmap}
 use Rattle.table_model.proofs.parts.OpenSocket.{OpenThere, open_there, each_passes}
 use Rattle.table_model.proofs.parts.Sections.{same_labels}
+use Rattle.table_model.proofs.commands.Asks.{MayLeave, OpenMayLeave, AnyReply, plan_asks}
 use Rattle.table_model.proofs.commands.Laws.{plans_refine}
-use Rattle.table_model.proofs.others.Slots.{Keeps, awake_test, weigh_most, keeps_run}
-use Rattle.table_model.proofs.others.Plans.{IsElsewhere, AreElsewhere, plan_spares}
+use Rattle.table_model.proofs.others.Slots.{Elsewhere, Keeps, awake_test, weigh_most, keeps_run}
 use Rattle.table_model.proofs.others.Sockets.{Rest}
 use Rattle.table_model.proofs.others.Step.{step_rest}
 
@@ -176,11 +176,11 @@ module _ (t : Tables) (flat : Flat) (chains : ChainsMean t.chains flat) (sound :
       )
 
   module _ (n m : ℕ) (apart : m ≢ n) (w : Mine) (kind : Kind) (is : w.owner.name / 2 ^ 24 ≡ m) (stands : StandsAs c w (Some kind)) where
-    elsewhere_by : (x : Mine) (o : Option Kind) → x.owner.name / 2 ^ 24 ≡ n → StandsAs c x o → IsElsewhere w.place.slot x o
+    elsewhere_by : (x : Mine) (o : Option Kind) → x.owner.name / 2 ^ 24 ≡ n → StandsAs c x o → MayLeave (Elsewhere w.place.slot) x o
     elsewhere_by x None there st = tt
     elsewhere_by x (Some l) there st = slots_differ w x kind l (λ e. apart (sym is ∙ (ap (λ k. k / 2 ^ 24) e ∙ there))) stands st
 
-    elsewhere : (o : Option Mine) → OpenThere n t flat o → AreElsewhere w.place.slot o
+    elsewhere : (o : Option Mine) → OpenThere n t flat o → OpenMayLeave (Elsewhere w.place.slot) o
     elsewhere None there = tt
     elsewhere (Some x) (s, there) =
         elsewhere_by x (kind_of x.owner.state)
@@ -198,8 +198,8 @@ module _ (n m : ℕ) (own other : Own) (t : Tables) (flat : Flat) (command : Com
       let of_other : w.owner.name / 2 ^ 24 ≡ m =
       ap (λ (a : Owner). a.name / 2 ^ 24) has.1 ∙ eqb-true (has.0.owner.name / 2 ^ 24) m (and_parts has.0.named (has.0.owner.name / 2 ^ 24 == m) has.3).1 in
       keeps_stands ended.tables.chains w kind
-      (keeps_run w (card_of kind w) (plan flat.header own command) t ended
-      (plan_spares w (card_of kind w) flat.header own
+      (keeps_run w (card_of kind w) AnyReply (plan flat.header own command) t ended
+      (plan_asks (λ new. Unit {0}) (Elsewhere w.place.slot) (λ new e. tt) (λ new. tt) flat.header own
       (λ label. elsewhere t flat theirs.tables.chains theirs.sound n m apart w kind of_other stands (open_socket own label) (open_there n own t flat mine.own_is mine.sound.names label)) command)
       (keeps_now t flat theirs.tables.chains theirs.sound m w kind has stands) runs)
 

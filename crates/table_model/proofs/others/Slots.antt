@@ -7,9 +7,9 @@ use Rattle.list_words.specs.Lists.{total}
 use Rattle.list_words.proofs.EachLemmas.{found_passes, some_same}
 use Rattle.sock_card.specs.declared.card.Card.{Card}
 use Rattle.sock_card.specs.TimeWait.{is_time_wait_kind}
-use Rattle.bind_buckets.specs.declared.request.Answer.{Answer}
 use Rattle.bind_buckets.specs.BindHash.{answer_at, asked_at}
 use Rattle.chain_book.specs.declared.outcome.Hashed.{Hashed}
+use Rattle.chain_book.specs.declared.outcome.Place.{Place}
 use Rattle.chain_book.specs.declared.outcome.Replace.{Replace}
 use Rattle.chain_book.specs.Chains.{Chains, Outcome, row_at, home_in, has_slot, placed, unhashed, hashed, without_replaced, insert_outcome, add_outcome, tried, slot_outcome, keeps, waits, waits_as, waiting}
 use Rattle.chain_book.specs.Slots.{free_slot}
@@ -17,6 +17,7 @@ use Rattle.chain_book.specs.Tuples.{same_cards}
 use Rattle.table_model.specs.Asking.{Asking, ends, asks, inserts, adds, unhashes, reaps, impossible}
 use Rattle.table_model.specs.Tables.{Tables, Ended, run, with_buckets, with_chains, reaped, was_found}
 use Rattle.table_model.specs.Own.{Mine}
+use Rattle.table_model.proofs.commands.Asks.{FitsPort, AsksOnly}
 use Rattle.table_model.proofs.lists.Passing.{ind, found_counts}
 use Rattle.table_model.proofs.lists.Rows.{weigh, weigh_set, row_least, weigh_sum}
 use Rattle.table_model.proofs.parts.Slots.{free_is}
@@ -72,6 +73,10 @@ two_in_one false a b = omega arith
 
 not_equal : (k slot : ℕ) → (k == slot) ≡ false → k ≢ slot
 not_equal k slot e same = absurd (let yes : (k == slot) ≡ true = eq-eqb k slot same in cc)
+
+-- in another slot than that
+abbrev pub Elsewhere : ℕ → Place → Card → Type 0
+Elsewhere slot place card = place.slot ≢ slot
 
 module _ (w : Mine) (card : Card) where
   abbrev k : ℕ
@@ -209,29 +214,23 @@ module _ (w : Mine) (card : Card) where
       (other_slot c h (home_in c gone) (waits_as gone.name) x e (and_parts (x.card.name == gone.name) (is_time_wait_kind x.card.kind) (found_passes (waits_as gone.name) row x e)).1) h
 
   -- a plan that unhashes nothing from the slot, whatever it is answered
-  abbrev pub Spares : {R : Type 0} → Asking R → Type 0
-  Spares (ends r) = Unit {0}
-  Spares (asks port request then_) = (answer : Answer) → Spares (then_ answer)
-  Spares (inserts new moment rule then_) = (outcome : Outcome) → Spares (then_ outcome)
-  Spares (adds new then_) = (outcome : Outcome) → Spares (then_ outcome)
-  Spares (unhashes place gone then_) = (place.slot ≢ k) × Spares then_
-  Spares (reaps gone then_) = (was_there : Bool) → Spares (then_ was_there)
-  Spares impossible = Unit {0}
+  abbrev pub Spares : {R : Type 0} → (R → Type 0) → Asking R → Type 0
+  Spares {R} Q plan = AsksOnly FitsPort (λ new. Unit {0}) (Elsewhere k) Q plan
 
   -- it stays while such a plan is carried out
-  pub keeps_run : {R : Type 0} (plan : Asking R) (t : Tables) (e : Ended R) → Spares plan → Keeps w card t.chains → run t plan ≡ Some e → Keeps w card e.tables.chains
-  keeps_run (ends r) t e spares h runs = subst (λ (e : Ended _). Keeps w card e.tables.chains) (some_same (record { tables = t; result = r }) e runs) h
-  keeps_run (asks port request then_) t e spares h runs =
-      keeps_run (then_ (answer_at t.buckets port request)) (with_buckets t (asked_at t.buckets port request)) e (spares (answer_at t.buckets port request)) h runs
-  keeps_run (inserts new moment rule then_) t e spares h runs =
+  pub keeps_run : {R : Type 0} (Q : R → Type 0) (plan : Asking R) (t : Tables) (e : Ended R) → Spares Q plan → Keeps w card t.chains → run t plan ≡ Some e → Keeps w card e.tables.chains
+  keeps_run Q (ends r) t e spares h runs = subst (λ (e : Ended _). Keeps w card e.tables.chains) (some_same (record { tables = t; result = r }) e runs) h
+  keeps_run Q (asks port request then_) t e spares h runs =
+      keeps_run Q (then_ (answer_at t.buckets port request)) (with_buckets t (asked_at t.buckets port request)) e (spares.1 (answer_at t.buckets port request)) h runs
+  keeps_run Q (inserts new moment rule then_) t e spares h runs =
       let outcome : Outcome = insert_outcome t.chains new moment rule in
-      keeps_run (then_ outcome) (with_chains t (hashed t.chains new outcome)) e (spares outcome) (keeps_inserted t.chains new moment rule h) runs
-  keeps_run (adds new then_) t e spares h runs =
+      keeps_run Q (then_ outcome) (with_chains t (hashed t.chains new outcome)) e (spares.1 outcome) (keeps_inserted t.chains new moment rule h) runs
+  keeps_run Q (adds new then_) t e spares h runs =
       let outcome : Outcome = add_outcome t.chains in
-      keeps_run (then_ outcome) (with_chains t (hashed t.chains new outcome)) e (spares outcome) (keeps_added t.chains new h) runs
-  keeps_run (unhashes place gone then_) t e spares h runs =
-      keeps_run then_ (with_chains t (unhashed t.chains place)) e spares.1 (keeps_unhashed t.chains place.bucket place.slot spares.0 h) runs
-  keeps_run (reaps gone then_) t e spares h runs =
+      keeps_run Q (then_ outcome) (with_chains t (hashed t.chains new outcome)) e (spares.1 outcome) (keeps_added t.chains new h) runs
+  keeps_run Q (unhashes place gone then_) t e spares h runs =
+      keeps_run Q then_ (with_chains t (unhashed t.chains place)) e spares.1 (keeps_unhashed t.chains place.bucket place.slot spares.0 h) runs
+  keeps_run Q (reaps gone then_) t e spares h runs =
       let found : Option Hashed = waiting t.chains gone in
-      keeps_run (then_ (was_found found)) (with_chains t (reaped t.chains gone found)) e (spares (was_found found)) (reaped_by t.chains gone found refl h) runs
-  keeps_run impossible t e spares h runs = absurd (cc)
+      keeps_run Q (then_ (was_found found)) (with_chains t (reaped t.chains gone found)) e (spares (was_found found)) (reaped_by t.chains gone found refl h) runs
+  keeps_run Q impossible t e spares h runs = absurd (cc)

@@ -2,7 +2,7 @@
 use Rattle.std.proofs.Common.{◌≡◌, ◌≢◌, ℕ, ◌+◌, ◌/◌, ◌^◌, ◌==◌, Bool, true, false, ◌&&◌, ◌||◌, not, cond, List, [], ◌∷◌, ◌++◌, length, map, filter, find, Option, Some, None, refl, ap, sym, ◌∙◌, subst, arith}
 use Rattle.std.specs.Prelude.{is_some}
 use Rattle.std.specs.List.{list_any}
-use Rattle.std.proofs.lemmas.Bool.{eq-eqb, eqb-true, ne_eqb, and_parts}
+use Rattle.std.proofs.lemmas.Bool.{eq-eqb, eqb-true, ne_eqb, and_parts, not-false}
 use Rattle.list_words.specs.Lists.{Each, total}
 use Rattle.list_words.proofs.EachLemmas.{each_weaken, each_found, found_passes}
 use Rattle.list_words.proofs.TotalLemmas.{total-append}
@@ -19,6 +19,7 @@ use Rattle.table_model.proofs.lists.Passing.{Only, only_found, total_each, found
 use Rattle.table_model.proofs.parts.Cards.{wait_once, only_named}
 use Rattle.table_model.proofs.questions.Replaced.{same_tests, dropped_same, kept_all}
 use Rattle.table_model.proofs.parts.OwnWaits.{wait_not_mine, own_wait_gone}
+use Rattle.table_model.proofs.parts.GroupCards.{or_no}
 use Rattle.table_model.proofs.parts.Own.{any_put}
 
 -- the open sockets and the TIME_WAITs of a section's own are those of the list
@@ -29,10 +30,6 @@ pub record Rest (m : ℕ) (other : Own) (sockets : List Socket) : Type 0 where
 -- what a section knows of itself says so
 pub rest_of : (m : ℕ) (other : Own) (t : Tables) (flat : Flat) → OwnMeans m other t flat → Rest m other flat.sockets
 rest_of m other t flat h = record { mine = h.sockets; waits = h.waits }
-
-or_no : (b : Bool) → (b || false) ≡ b
-or_no true = refl
-or_no false = refl
 
 any_more : (p : Socket → Bool) (xs : List Socket) (x : Socket) → p x ≡ false → list_any p (xs ++ x ∷ []) ≡ list_any p xs
 any_more p [] x e = or_no (p x) ∙ e
@@ -143,13 +140,9 @@ module _ (n m : ℕ) (apart : m ≢ n) where
         (λ f. let none : weighs_as_wait f m new ≡ 0 = no_wait f new is in omega (arith, total-append (weighs_as_wait f m) xs (new ∷ []), none))
         (λ name here. any_more (has_name name) xs new (no_name name new here is)) h
 
-    not_false : (b : Bool) → not b ≡ false → b ≡ true
-    not_false true e = refl
-    not_false false e = absurd (cc)
-
     pub rest_without : (s : Socket) (xs : List Socket) → s.owner.name / 2 ^ 24 ≡ n → R xs → R (without s.owner.name xs)
     rest_without s xs is h =
-        rest_filter (λ x. not (has_name s.owner.name x)) xs (λ x e. ap (λ k. k / 2 ^ 24) (eqb-true x.owner.name s.owner.name (not_false (has_name s.owner.name x) e)) ∙ is) h
+        rest_filter (λ x. not (has_name s.owner.name x)) xs (λ x e. ap (λ k. k / 2 ^ 24) (eqb-true x.owner.name s.owner.name (not-false (has_name s.owner.name x) e)) ∙ is) h
 
     module _ (t : Tables) (flat : Flat) (own_is : OwnMeans m other t flat) (sound : IsSound flat) where
       -- but for the TIME_WAITs of a four-tuple, where there is one

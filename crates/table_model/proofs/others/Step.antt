@@ -1,8 +1,8 @@
 -- What a section knows of its own sockets is what the list says of them, also after a command of another section.
-use Rattle.std.proofs.Common.{◌≡◌, ◌≢◌, ℕ, ◌+◌, ◌/◌, ◌^◌, ◌<◌, ◌==◌, Bool, true, false, ◌&&◌, not, List, length, Option, Some, None, refl, ap, sym, ◌∙◌, subst, arith, nat_lt, if◌then◌else◌}
+use Rattle.std.proofs.Common.{◌≡◌, ◌≢◌, ℕ, ◌+◌, ◌/◌, ◌^◌, ◌<◌, ◌==◌, true, ◌&&◌, not, List, length, Option, Some, None, refl, ap, sym, ◌∙◌, subst, arith, nat_lt, if◌then◌else◌}
 use Rattle.std.specs.Prelude.{option_and_then, position, bytes_eq}
 use Rattle.std.specs.Option.{option_map}
-use Rattle.std.proofs.lemmas.Bool.{eqb-true, and_parts, cond_both}
+use Rattle.std.proofs.lemmas.Bool.{eqb-true, and_parts, cond_both, not-false}
 use Rattle.list_words.proofs.EachLemmas.{found_passes}
 use Rattle.sock_card.specs.declared.owner.Owner.{Owner}
 use Rattle.sock_card.specs.declared.owner.State.{State}
@@ -239,16 +239,12 @@ module _ (n m : ℕ) (apart : m ≢ n) (other : Own) (t : Tables) (flat : Flat) 
       cond_both (nat_lt moment (moment_of flat.header n flat.sections)) (unchanged flat replies.Einval)
       (unchanged (record flat { sections = with_moment flat.header n moment flat.sections }) replies.Ok) Stay (λ _. here) (λ _. here)
 
-  not_kept : (b : Bool) → not b ≡ false → b ≡ true
-  not_kept true e = refl
-  not_kept false e = absurd (cc)
-
   reap_rest : Stay (reap flat n)
   reap_rest =
       let moment : ℕ = moment_of flat.header n flat.sections in
       rest_filter n m apart other own_is.given (λ s. not (is_expired n moment s)) flat.sockets
       (λ x e.
-      let over : is_expired n moment x ≡ true = not_kept (is_expired n moment x) e in
+      let over : is_expired n moment x ≡ true = not-false (is_expired n moment x) e in
       eqb-true (x.owner.name / 2 ^ 24) n
       (and_parts (is_time_wait x.owner.state) (x.owner.name / 2 ^ 24 == n) (and_parts (is_time_wait x.owner.state && (x.owner.name / 2 ^ 24 == n)) (expired x.stamp moment) over).0).1)
       here

@@ -1,6 +1,6 @@
 -- The bind buckets of tables that mean a list: one of them changed, and what weighs something at one port alone.
 use Rattle.std.proofs.Common.{◌≡◌, ◌≢◌, ℕ, ◌+◌, ◌%◌, ◌<◌, ◌≤◌, ◌==◌, true, false, List, length, ⊎_elim, ap, sym, ◌∙◌, subst, arith, get_or, set}
-use Rattle.std.proofs.lemmas.Bool.{cases_Bool, cases_lt}
+use Rattle.std.proofs.lemmas.Bool.{cases_Bool, cases_lt, eqb-true, eq-eqb}
 use Rattle.std.proofs.lemmas.List.{length-set, get_or-set_same, get_or-set_other, get_or_past}
 use Rattle.std.proofs.Math.Nat.{mod-eq_of_lt}
 use Rattle.std.proofs.lemmas.Nat.{mod_below}
@@ -12,11 +12,12 @@ use Rattle.bind_buckets.specs.Journal.{Standing}
 use Rattle.flat_list.specs.Flat.{Flat}
 use Rattle.bind_buckets.specs.BindHash.{standing_at, untouched}
 use Rattle.table_model.specs.Means.{OwnersMean, owns, weigh_owners}
-use Rattle.table_model.proofs.lists.Weights.{is_eq, is_same, total_set, total_only, none_of_each}
+use Rattle.table_model.proofs.lists.Passing.{total_zero}
+use Rattle.table_model.proofs.lists.Weights.{total_set, total_only}
 
 -- numbers whose test fails differ
 is_not : (a b : ℕ) → (a == b) ≡ false → a ≢ b
-is_not a b e = λ q. absurd (let t : (a == b) ≡ true = is_same a b q in cc)
+is_not a b e = λ q. absurd (let t : (a == b) ≡ true = eq-eqb a b q in cc)
 
 -- what the owners of one bucket weigh
 abbrev pub weigh_in : (Owner → ℕ) → Standing → ℕ
@@ -48,7 +49,7 @@ module _ (buckets : List Standing) (flat : Flat) (om : OwnersMean buckets flat) 
     changed_homes : AreOf (length buckets) number new.held.owners → (k : ℕ) → AreOf (length buckets) k (get_or (set buckets number new) k untouched).held.owners
     changed_homes h k = ⊎_elim
         (λ (e : (k == number) ≡ true).
-        let same : k ≡ number = is_eq k number e in
+        let same : k ≡ number = eqb-true k number e in
         subst (λ (j : ℕ). AreOf (length buckets) j (get_or (set buckets number new) j untouched).held.owners) (sym same)
         (subst (λ (s : Standing). AreOf (length buckets) number s.held.owners) (sym (get_or-set_same buckets number new untouched (near port))) h))
         (λ (e : (k == number) ≡ false).
@@ -80,6 +81,6 @@ module _ (buckets : List Standing) (flat : Flat) (om : OwnersMean buckets flat) 
   pub only_there : (f : Owner → ℕ) (port : ℕ) → ((a : Owner) → owner_key a ≢ port → f a ≡ 0) → weigh_owners f buckets ≡ weigh_in f (standing_at buckets port)
   only_there f port h =
       total_only (weigh_in f) buckets (port % length buckets) untouched (near port)
-      (λ j d. none_of_each f (get_or buckets j untouched).held.owners
+      (λ j d. total_zero f (get_or buckets j untouched).held.owners
       (each_weaken (λ (a : Owner). (owner_key a) % length buckets ≡ j) (λ (a : Owner). f a ≡ 0) (get_or buckets j untouched).held.owners
       (λ a e. h a (λ q. d (sym e ∙ ap (λ (k : ℕ). k % length buckets) q))) (homes j)))

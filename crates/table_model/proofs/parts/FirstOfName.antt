@@ -1,6 +1,7 @@
 -- The owner of a socket is the first of its name in the bucket of its port.
 use Rattle.std.proofs.Common.{◌≡◌, ◌≢◌, ℕ, ◌%◌, ◌≤◌, ◌==◌, Bool, true, false, cond, List, [], ◌∷◌, length, find, Option, None, Some, refl, ap, sym, ◌∙◌, arith, get_or}
 use Rattle.std.specs.Prelude.{is_some}
+use Rattle.std.proofs.lemmas.Bool.{ne_eqb, eq-eqb}
 use Rattle.sock_card.specs.Conflict.{owner_key}
 use Rattle.list_words.specs.Lists.{Pairs, total}
 use Rattle.list_words.proofs.EachLemmas.{each_both, each_weaken, found_passes}
@@ -14,7 +15,8 @@ use Rattle.flat_list.specs.Sockets.{is_owner, has_name}
 use Rattle.flat_list.specs.Sound.{NamesDiffer}
 use Rattle.bind_buckets.specs.BindHash.{standing_at, untouched}
 use Rattle.table_model.specs.Means.{OwnersMean, owns, weigh_owners}
-use Rattle.table_model.proofs.lists.Weights.{is_ne, is_same, total_only, part_none, each_none, none_of_each, ind, found_weighs, passes_by}
+use Rattle.table_model.proofs.lists.Passing.{each_zero, total_zero, ind, found_weighs, passes_by}
+use Rattle.table_model.proofs.lists.Weights.{total_only, part_none}
 use Rattle.table_model.proofs.lists.Listed.{Listed, listed_name, without_weighs, others_weigh_none}
 use Rattle.table_model.proofs.lists.First.{drop_weighs}
 use Rattle.table_model.proofs.lists.SameOwners.{same_owner}
@@ -70,7 +72,7 @@ module _ (buckets : List Standing) (flat : Flat) (om : OwnersMean buckets flat) 
     without_weighs name (owns (if_named name f)) s flat.sockets names at,
     others_weigh_none name (owns (if_named name f)) flat.sockets (λ x e. not_named name f (is_owner x.owner.state) x e),
     ap (λ (b : Bool). cond {A = ℕ} b (if_named name f s.owner) 0) owner,
-    ap (λ (b : Bool). cond {A = ℕ} b (f s.owner) 0) (is_same s.owner.name name (listed_name name flat.sockets s at)),
+    ap (λ (b : Bool). cond {A = ℕ} b (f s.owner) 0) (eq-eqb s.owner.name name (listed_name name flat.sockets s at)),
   )
 
   abbrev far : Owner → ℕ
@@ -78,13 +80,13 @@ module _ (buckets : List Standing) (flat : Flat) (om : OwnersMean buckets flat) 
 
   elsewhere : (f : Owner → ℕ) (j : ℕ) → j ≢ number → weigh_in (if_named name f) (get_or buckets j untouched) ≡ 0
   elsewhere f j d =
-      let none : weigh_owners (if_named name far) buckets ≡ 0 = by_name far ∙ ap (λ (c : Bool). cond {A = ℕ} c 0 1) (is_same number number refl) in
+      let none : weigh_owners (if_named name far) buckets ≡ 0 = by_name far ∙ ap (λ (c : Bool). cond {A = ℕ} c 0 1) (eq-eqb number number refl) in
       let owners : List Owner = (get_or buckets j untouched).held.owners in
-      none_of_each (if_named name f) owners
+      total_zero (if_named name f) owners
       (each_weaken (λ (x : Owner). ((owner_key x) % length buckets ≡ j) × (if_named name far x ≡ 0)) (λ (x : Owner). if_named name f x ≡ 0) owners
-      (λ x h. one_zero (x.name == name) (f x) (sym (ap (λ (c : Bool). cond {A = ℕ} (x.name == name) (cond {A = ℕ} c 0 1) 0) (is_ne ((owner_key x) % length buckets) number (λ e. d (sym h.0 ∙ e)))) ∙ h.1))
+      (λ x h. one_zero (x.name == name) (f x) (sym (ap (λ (c : Bool). cond {A = ℕ} (x.name == name) (cond {A = ℕ} c 0 1) 0) (ne_eqb ((owner_key x) % length buckets) number (λ e. d (sym h.0 ∙ e)))) ∙ h.1))
       (each_both (λ (x : Owner). (owner_key x) % length buckets ≡ j) (λ (x : Owner). if_named name far x ≡ 0) owners (homes buckets flat om some j)
-      (each_none (if_named name far) owners (part_none (weigh_in (if_named name far)) buckets j untouched refl none))))
+      (each_zero (if_named name far) owners (part_none (weigh_in (if_named name far)) buckets j untouched refl none))))
 
   here : (f : Owner → ℕ) → weigh_in (if_named name f) (standing_at buckets (owner_key s.owner)) ≡ f s.owner
   here f = sym (total_only (weigh_in (if_named name f)) buckets number untouched (near buckets flat om some (owner_key s.owner)) (elsewhere f)) ∙ by_name f

@@ -2,6 +2,7 @@
 use Rattle.std.proofs.Common.{◌≡◌, ◌≢◌, ℕ, zero, suc, ◌%◌, ◌^◌, Bool, false, ◌&&◌, ◌||◌, cond, List, [], ◌∷◌, length, get_or, ◌∙◌, filter, find, Option, None, Some, refl, ap, sym, subst, arith}
 use Rattle.std.specs.Prelude.{is_some}
 use Rattle.std.specs.List.{list_any}
+use Rattle.std.proofs.lemmas.Bool.{ne_eqb}
 use Rattle.list_words.specs.Lists.{Each, Pairs, total}
 use Rattle.list_words.proofs.EachLemmas.{each_weaken, each_both, each_map, each_filter}
 use Rattle.sock_card.specs.declared.owner.Owner.{Owner}
@@ -19,7 +20,8 @@ use Rattle.flat_list.specs.Sound.{NamesDiffer, IsInOneGroup}
 use Rattle.table_model.specs.Tables.{Tables}
 use Rattle.bind_buckets.specs.BindHash.{standing_at, untouched}
 use Rattle.table_model.specs.Means.{OwnersMean, GroupsMean, UnboundFresh, owns, weigh_owners, owner_of, owner_in}
-use Rattle.table_model.proofs.lists.Weights.{is_ne, part_none, ind, found_weighs, Weighs}
+use Rattle.table_model.proofs.lists.Passing.{ind, found_weighs, Weighs}
+use Rattle.table_model.proofs.lists.Weights.{part_none}
 use Rattle.table_model.proofs.lists.Listed.{Listed, without_weighs, others_weigh_none}
 use Rattle.table_model.proofs.parts.Buckets.{weigh_in}
 use Rattle.table_model.proofs.parts.MemberPlaces.{EachWord, words_differ}
@@ -54,7 +56,7 @@ module _ (buckets : List Standing) (flat : Flat) (om : OwnersMean buckets flat) 
 
 no_word : (name : ℕ) (members : List ℕ) → Each (λ m. name ≢ m % 2 ^ 32) members → has_member name members ≡ false
 no_word name [] h = refl
-no_word name (m ∷ ms) h = ap (λ (b : Bool). b || list_any (is_named name) ms) (is_ne (m % 2 ^ 32) name (λ e. h.0 (sym e))) ∙ no_word name ms h.1
+no_word name (m ∷ ms) h = ap (λ (b : Bool). b || list_any (is_named name) ms) (ne_eqb (m % 2 ^ 32) name (λ e. h.0 (sym e))) ∙ no_word name ms h.1
 
 no_group : (name : ℕ) (groups : List (List ℕ)) → Each (λ members. Each (λ m. name ≢ m % 2 ^ 32) members) groups → find (has_member name) groups ≡ None
 no_group name [] h = refl

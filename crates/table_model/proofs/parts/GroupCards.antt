@@ -24,7 +24,7 @@ same_at name g h gs hs false e f n later =
     ap (λ o. option_map_or (λ (y : Group). y.number + 1) o 0) (cond-false (has_member name h) (Some h) (find (has_member name) hs) f)
     ∙ (later ∙ sym (ap (λ o. option_map_or (λ (y : Group). y.number + 1) o 0) (cond-false (has_member name g) (Some g) (find (has_member name) gs) e)))
 
-or_no : (b : Bool) → (b || false) ≡ b
+pub or_no : (b : Bool) → (b || false) ≡ b
 or_no true = refl
 or_no false = refl
 

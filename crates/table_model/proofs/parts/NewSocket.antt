@@ -1,6 +1,7 @@
 -- What a section knows of itself, as a socket of its own comes.
 use Rattle.std.proofs.Common.{◌≡◌, ◌≢◌, ℕ, ◌/◌, ◌^◌, ◌==◌, Bool, true, false, ◌&&◌, ◌||◌, cond, List, [], ◌∷◌, ◌++◌, map, filter, refl, ap, sym, ◌∙◌, subst, arith}
 use Rattle.std.specs.List.{list_any}
+use Rattle.std.proofs.lemmas.Bool.{ne_eqb}
 use Rattle.list_words.specs.Lists.{Each, Pairs, total}
 use Rattle.list_words.proofs.EachLemmas.{each_weaken, each_push, each_map, each_filter}
 use Rattle.list_words.proofs.TotalLemmas.{total-append}
@@ -14,7 +15,7 @@ use Rattle.flat_list.specs.Sound.{NamesDiffer}
 use Rattle.table_model.specs.Tables.{Tables}
 use Rattle.table_model.specs.Own.{Own, Mine, with_new}
 use Rattle.table_model.specs.Means.{OwnMeans, StandsAs, IsNameOf, owner_of, owner_in, name_in, weighs_if_there, weighs_as_wait}
-use Rattle.table_model.proofs.lists.Weights.{is_ne, total_same}
+use Rattle.table_model.proofs.lists.Passing.{total_each}
 use Rattle.table_model.proofs.questions.Asked.{with_sockets}
 use Rattle.table_model.proofs.parts.Standing.{each_unmap}
 
@@ -86,9 +87,9 @@ own_new n own t t' flat s m h same mine awake apart waits_apart stands others = 
   stand = each_push (λ (x : Mine). StandsAs t'.chains x (kind_of x.owner.state)) own.sockets m others stands;
   waits = λ f.
       let there : total (weighs_if_there f (flat.sockets ++ s ∷ [])) own.waits ≡ total (weighs_if_there f flat.sockets) own.waits =
-      total_same (weighs_if_there f (flat.sockets ++ s ∷ [])) (weighs_if_there f flat.sockets) own.waits
+      total_each (weighs_if_there f (flat.sockets ++ s ∷ [])) (weighs_if_there f flat.sockets) own.waits
       (each_weaken (λ (w : Mine). w.owner.name ≢ s.owner.name) (λ (w : Mine). weighs_if_there f (flat.sockets ++ s ∷ []) w ≡ weighs_if_there f flat.sockets w) own.waits
-      (λ w d. ap (λ (b : Bool). cond {A = ℕ} b (f w.owner w.extra) 0) (any_push w.owner.name s flat.sockets (is_ne s.owner.name w.owner.name (λ q. d (sym q))))) waits_apart) in
+      (λ w d. ap (λ (b : Bool). cond {A = ℕ} b (f w.owner w.extra) 0) (any_push w.owner.name s flat.sockets (ne_eqb s.owner.name w.owner.name (λ q. d (sym q))))) waits_apart) in
       omega (
         arith,
         there,

@@ -4,6 +4,7 @@ use Rattle.std.proofs.lemmas.Bool.Decides.{nat_tests}
 use Rattle.std.specs.Prelude.{option_and_then, bytes_eq}
 use Rattle.std.specs.List.{position_or_len}
 use Rattle.std.specs.Option.{option_map}
+use Rattle.std.proofs.lemmas.Bool.{eqb-true, eq-eqb}
 use Rattle.list_words.specs.Lists.{Each, Pairs}
 use Rattle.list_words.proofs.EachLemmas.{each_filter, each_found, some_same}
 use Rattle.bind_buckets.specs.OwnerStep.{has_name as is_owner_named}
@@ -16,7 +17,6 @@ use Rattle.flat_list.specs.Sound.{NamesDiffer}
 use Rattle.table_model.specs.Tables.{Tables}
 use Rattle.table_model.specs.Own.{Own, Mine, is_named, open_socket, open_named as open_named_here, name_of}
 use Rattle.table_model.specs.Means.{OwnMeans, StandsAs, owner_of, owner_in}
-use Rattle.table_model.proofs.lists.Weights.{is_eq, is_same}
 use Rattle.table_model.proofs.lists.Listed.{Listed}
 use Rattle.table_model.proofs.parts.Standing.{all_listed}
 use Rattle.table_model.proofs.parts.Sections.{same_labels}
@@ -138,7 +138,7 @@ module _ (n : ℕ) (own : Own) (t : Tables) (flat : Flat) (h : OwnMeans n own t 
   named_here k l =
       find_kept (has_name (name_at n k)) (is_open_in n) (λ (s : Socket). s.named) flat.sockets
       (λ s e.
-      let here : (s.owner.name / 2 ^ 24 == n) ≡ true = is_same (s.owner.name / 2 ^ 24) n (ap (λ (j : ℕ). j / 2 ^ 24) (is_eq s.owner.name (name_at n k) e) ∙ given_here k l) in
+      let here : (s.owner.name / 2 ^ 24 == n) ≡ true = eq-eqb (s.owner.name / 2 ^ 24) n (ap (λ (j : ℕ). j / 2 ^ 24) (eqb-true s.owner.name (name_at n k) e) ∙ given_here k l) in
       and_true s.named (s.owner.name / 2 ^ 24 == n) here)
 
   opened : (labels : List (List ℕ)) (label : List ℕ) (o : Option ℕ) → position (λ l. bytes_eq l label) labels ≡ o → length labels + 1 < 2 ^ 24

@@ -1,6 +1,6 @@
 -- What a section knows of itself, as one of its sockets changes in the list.
 use Rattle.std.proofs.Common.{◌≡◌, ◌≢◌, ℕ, ◌/◌, ◌^◌, ◌==◌, Bool, true, false, ◌&&◌, ◌||◌, cond, List, [], ◌∷◌, ◌++◌, map, filter, ◌⊎◌, inl, inr, refl, ap, sym, ◌∙◌, subst, arith}
-use Rattle.std.proofs.lemmas.Bool.{cases_Bool}
+use Rattle.std.proofs.lemmas.Bool.{cases_Bool, eqb-true}
 use Rattle.std.specs.List.{list_any}
 use Rattle.list_words.specs.Lists.{Each, Pairs, total}
 use Rattle.list_words.proofs.EachLemmas.{each_weaken, some_same}
@@ -13,7 +13,7 @@ use Rattle.flat_list.specs.Sound.{NamesDiffer}
 use Rattle.table_model.specs.Tables.{Tables}
 use Rattle.table_model.specs.Own.{Own, Mine, with_socket, is_named, replaced as replaced_mine}
 use Rattle.table_model.specs.Means.{OwnMeans, StandsAs, owner_of, owner_in, name_in, weighs_if_there, weighs_as_wait}
-use Rattle.table_model.proofs.lists.Weights.{is_eq, total_alike}
+use Rattle.table_model.proofs.lists.Passing.{total_same}
 use Rattle.table_model.proofs.lists.Listed.{Listed, each_other, put_weighs, replaced_name}
 use Rattle.table_model.proofs.questions.Asked.{with_sockets}
 
@@ -76,7 +76,7 @@ module _ (new : Socket) where
       ∙ ap (λ (l : List Owner). renewed x.owner ∷ l) (own_renewed m ms h)
 
 mine_name : (m x : Mine) (b : Bool) → is_named m.owner.name x ≡ b → name_in (cond b m x) ≡ name_in x
-mine_name m x true e = sym (is_eq x.owner.name m.owner.name e)
+mine_name m x true e = sym (eqb-true x.owner.name m.owner.name e)
 mine_name m x false e = refl
 
 -- the names stay
@@ -110,7 +110,7 @@ own_put n own t t' flat new s m h names at mine same was is stands others = reco
   stand = each_renewed (λ (x : Mine). StandsAs t'.chains x (kind_of x.owner.state)) m own.sockets stands others;
   waits = λ f.
       let there : total (weighs_if_there f (put new flat.sockets)) own.waits ≡ total (weighs_if_there f flat.sockets) own.waits =
-      total_alike (weighs_if_there f (put new flat.sockets)) (weighs_if_there f flat.sockets) own.waits (λ w. ap (λ (b : Bool). cond {A = ℕ} b (f w.owner w.extra) 0) (any_put new w.owner.name flat.sockets)) in
+      total_same (weighs_if_there f (put new flat.sockets)) (weighs_if_there f flat.sockets) own.waits (λ w. ap (λ (b : Bool). cond {A = ℕ} b (f w.owner w.extra) 0) (any_put new w.owner.name flat.sockets)) in
       omega (
         arith,
         there,

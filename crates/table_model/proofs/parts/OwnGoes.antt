@@ -18,12 +18,12 @@ use Rattle.table_model.specs.Tables.{Tables}
 use Rattle.table_model.specs.Own as own_words
 use Rattle.table_model.specs.Own.{Own, Mine, is_named, with_wait}
 use Rattle.table_model.specs.Means.{OwnMeans, StandsAs, IsNameOf, owner_of, owner_in, name_in, weighs_if_there, weighs_as_wait}
+use Rattle.table_model.proofs.lists.Passing.{total_each, total_same}
 use Rattle.table_model.proofs.parts.OwnWaits.{any_without}
 use Rattle.table_model.proofs.lists.Listed.{Listed, put_weighs, without_weighs}
 use Rattle.table_model.proofs.parts.Own.{any_put}
 use Rattle.table_model.proofs.parts.Sections.{same_labels}
 use Rattle.table_model.proofs.parts.Standing.{each_unmap}
-use Rattle.table_model.proofs.lists.Weights.{total_same, total_alike}
 use Rattle.table_model.proofs.parts.Groups.{any_by_found}
 
 module _ {A : Type 0} (P : A → Type 0) (q : A → Bool) where
@@ -155,7 +155,7 @@ module _ (n : ℕ) (own : Own) (t : Tables) (flat : Flat) (h : OwnMeans n own t 
 
   still_there : (f : Owner → ℕ → ℕ) → total (weighs_if_there f (without name flat.sockets)) own.waits ≡ total (weighs_if_there f flat.sockets) own.waits
   still_there f =
-      total_same (weighs_if_there f (without name flat.sockets)) (weighs_if_there f flat.sockets) own.waits
+      total_each (weighs_if_there f (without name flat.sockets)) (weighs_if_there f flat.sockets) own.waits
       (each_weaken (λ (w : Mine). name ≢ w.owner.name) (λ (w : Mine). weighs_if_there f (without name flat.sockets) w ≡ weighs_if_there f flat.sockets w) own.waits
       (λ w d. ap (λ (b : Bool). cond {A = ℕ} b (f w.owner w.extra) 0)
       (any_without w.owner.name name flat.sockets ∙ ap (λ (b : Bool). not b && list_any (has_name w.owner.name) flat.sockets) (ne_eqb w.owner.name name (λ e. d (sym e)))))
@@ -220,7 +220,7 @@ module _ (n : ℕ) (own : Own) (t : Tables) (flat : Flat) (h : OwnMeans n own t 
         stand = others_stand t' stand;
         waits = λ f.
             let old : total (weighs_if_there f (put (new moment) flat.sockets)) own.waits ≡ total (weighs_if_there f flat.sockets) own.waits =
-            total_alike (weighs_if_there f (put (new moment) flat.sockets)) (weighs_if_there f flat.sockets) own.waits (λ x. ap (λ (b : Bool). cond {A = ℕ} b (f x.owner x.extra) 0) (any_put (new moment) x.owner.name flat.sockets)) in
+            total_same (weighs_if_there f (put (new moment) flat.sockets)) (weighs_if_there f flat.sockets) own.waits (λ x. ap (λ (b : Bool). cond {A = ℕ} b (f x.owner x.extra) 0) (any_put (new moment) x.owner.name flat.sockets)) in
             let one : weighs_if_there f (put (new moment) flat.sockets) w ≡ f (new moment).owner moment =
             ap (λ (k : ℕ). cond {A = ℕ} (list_any (has_name k) (put (new moment) flat.sockets)) (f w.owner w.extra) 0) w_name
             ∙ (ap (λ (b : Bool). cond {A = ℕ} b (f w.owner w.extra) 0) (is_there moment) ∙ (ap (λ (o : Owner). f o w.extra) same ∙ ap (f (new moment).owner) stamped)) in

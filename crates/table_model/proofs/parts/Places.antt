@@ -1,7 +1,7 @@
 -- Where a socket of one's own stands: its card there is the list's, and it stays as others come and go.
 use Rattle.std.proofs.Common.{◌≡◌, ◌≢◌, ℕ, ◌+◌, ◌<◌, ◌≤◌, ◌==◌, Bool, true, false, ◌&&◌, ◌||◌, not, cond, List, [], ◌∷◌, map, filter, find, length, get_or, set, Option, Some, None, refl, ap, sym, ◌∙◌, subst, inl, inr, ◌⊎◌, arith}
 use Rattle.std.specs.List.{list_any}
-use Rattle.std.proofs.lemmas.Bool.{cases_eq, eq-eqb, eqb-true, ne_eqb, and_parts}
+use Rattle.std.proofs.lemmas.Bool.{cases_eq, eq-eqb, eqb-true, ne_eqb, and_parts, and_from}
 use Rattle.std.proofs.lemmas.List.{get_or-set_same, get_or-set_other}
 use Rattle.list_words.specs.Lists.{Each, total}
 use Rattle.list_words.proofs.EachLemmas.{found_passes}
@@ -18,7 +18,7 @@ use Rattle.flat_list.specs.Look.{extra_as}
 use Rattle.flat_list.specs.Sockets.{kind_of, has_name, is_open_in}
 use Rattle.table_model.specs.Means.{ChainsMean, StandsAs, owner_of, owner_in}
 use Rattle.table_model.specs.Own.{Mine, card_of}
-use Rattle.table_model.proofs.lists.Passing.{Weighs, only, ind, Only, any_weighs, found_counts, only_found, total_same, each_zero, without_only, none_weigh}
+use Rattle.table_model.proofs.lists.Passing.{Weighs, nothing_at, only, ind, Only, any_weighs, found_counts, only_found, total_same, each_zero, without_only, none_weigh}
 use Rattle.table_model.proofs.lists.Rows.{weigh, weigh_set, row_least, within}
 use Rattle.table_model.proofs.parts.Chains.{Holds, Weighing, holds, means, weighing, unhashed_holds, alone_in}
 use Rattle.table_model.proofs.parts.Cards.{weigh_as, card_weight, cards_weigh}
@@ -37,10 +37,6 @@ only_in_rows p q g rows b x found px one =
     let some : 1 ≤ total (ind p) (get_or rows b []) = found_counts p q (get_or rows b []) x found px in
     let nothing : weigh (ind p) (set rows b []) ≡ 0 = omega (arith, weigh_set (ind p) rows b [] inside) in
     omega (arith, weigh_set (only p g) rows b [] inside, none_in_rows p g (set rows b []) nothing, only_found p q (get_or rows b []) x found px least g)
-
-nothing_at : (b : Bool) → cond {A = ℕ} b 0 0 ≡ 0
-nothing_at true = refl
-nothing_at false = refl
 
 by_name : (n : ℕ) (f : Card → ℕ) (k : Option Kind) (o : Owner) (extra : Kind → ℕ) → weigh_as (only (λ (y : Card). y.name == n) f) k o extra ≡ cond (o.name == n) (weigh_as f k o extra) 0
 by_name n f None o extra = sym (nothing_at (o.name == n))
@@ -161,9 +157,6 @@ module _ (c : Chains) (shape : Shape) (seed : ℕ) (w : Weighing) (h : Holds c s
 first_any : {A : Type 0} (p : A → Bool) (x : A) (xs : List A) → p x ≡ true → list_any p (x ∷ xs) ≡ true
 first_any p x xs h = rw h refl
 
-both_true : (p q : Bool) → p ≡ true → q ≡ true → (p && q) ≡ true
-both_true p q x y = rw (x, y) refl
-
 -- who has just come stands in its place
 pub stand_new : (c : Chains) (m : Mine) (kind : Kind) → m.place.bucket ≡ home_in c (card_of kind m) → m.place.bucket < length c.rows → StandsAs (placed c (home_in c (card_of kind m)) m.place.slot (card_of kind m)) m (Some kind)
 stand_new c m kind home inside =
@@ -171,7 +164,7 @@ stand_new c m kind home inside =
     let new : Hashed = record { slot = m.place.slot; card = card_of kind m } in
     let here : list_any (stands_test m) (row_at (placed c b m.place.slot (card_of kind m)) b) ≡ true =
     subst (λ (r : List Hashed). list_any (stands_test m) r ≡ true) (sym (get_or-set_same c.rows b (new ∷ row_at c b) [] inside))
-    (first_any (stands_test m) new (row_at c b) (both_true (has_slot m.place.slot new) (new.card.name == m.owner.name) (eq-eqb m.place.slot m.place.slot refl) (eq-eqb m.owner.name m.owner.name refl))) in
+    (first_any (stands_test m) new (row_at c b) (and_from (has_slot m.place.slot new) (new.card.name == m.owner.name) (eq-eqb m.place.slot m.place.slot refl) (eq-eqb m.owner.name m.owner.name refl))) in
     (subst (λ (j : ℕ). list_any (stands_test m) (row_at (placed c j m.place.slot (card_of kind m)) b) ≡ true) home here, home)
 
 mine_at : (n k : ℕ) (b : Bool) (y : Socket) (ys : List Socket) → (b ≡ true → k ≢ y.owner.name) → Each (λ (a : Owner). k ≢ a.name) (map owner_of ys) → Each (λ (a : Owner). k ≢ a.name) (map owner_of (cond b (y ∷ ys) ys))

@@ -2,6 +2,7 @@
 use Rattle.std.proofs.Common.{◌≡◌, ℕ, ◌+◌, ◌%◌, ◌==◌, Bool, true, false, cond, List, [], ◌∷◌, ◌++◌, length, find, Option, None, Some, refl, ap, sym, ◌∙◌, subst, arith}
 use Rattle.std.specs.Prelude.{unwrap_or}
 use Rattle.std.specs.Option.{option_map, option_map_or}
+use Rattle.std.proofs.lemmas.Bool.{eq-eqb}
 use Rattle.list_words.proofs.EachLemmas.{each_weaken}
 use Rattle.rand_pcg.specs.Pcg.{pcg32}
 use Rattle.flat_list.specs.declared.header.Header.{Header}
@@ -16,18 +17,17 @@ use Rattle.table_model.specs.Own.{Own, Mine, Offsets, ports_of, past_offset, wit
 use Rattle.table_model.specs.Own as own_words
 use Rattle.table_model.specs.Commands.{after_search}
 use Rattle.table_model.specs.Means.{OwnMeans, section_as, IsNameOf}
-use Rattle.table_model.proofs.lists.Weights.{is_same}
 
 found_section : (header : Header) (n : ℕ) (new s : Section) (rest : List Section) (b : Bool) → new.number ≡ n → has_number new.number s ≡ b
     → find (has_number n) (put_section new rest) ≡ Some new → find (has_number n) (cond b (new ∷ rest) (s ∷ put_section new rest)) ≡ Some new
-found_section header n new s rest true is e h = ap (λ (b : Bool). cond b (Some new) (find (has_number n) rest)) (is_same new.number n is)
+found_section header n new s rest true is e h = ap (λ (b : Bool). cond b (Some new) (find (has_number n) rest)) (eq-eqb new.number n is)
 found_section header n new s rest false is e h =
     let no : has_number n s ≡ false = sym (ap (λ (k : ℕ). s.number == k) is) ∙ e in
     ap (λ (b : Bool). cond b (Some s) (find (has_number n) (put_section new rest))) no ∙ h
 
 -- the section that was put is found
 pub put_found : (header : Header) (n : ℕ) (new : Section) (sections : List Section) → new.number ≡ n → find (has_number n) (put_section new sections) ≡ Some new
-put_found header n new [] is = ap (λ (b : Bool). cond b (Some new) None) (is_same new.number n is)
+put_found header n new [] is = ap (λ (b : Bool). cond b (Some new) None) (eq-eqb new.number n is)
 put_found header n new (s ∷ rest) is = found_section header n new s rest (has_number new.number s) is refl (put_found header n new rest is)
 
 -- the section of that number is the one that was put

@@ -1,5 +1,6 @@
 -- Every owner's socket, and every socket's owner, is known by its name.
 use Rattle.std.proofs.Common.{◌≡◌, ◌≤◌, Bool, true, cond, List, [], ◌∷◌, map, filter, find, Some, refl, ap, sym, ◌∙◌, subst}
+use Rattle.std.proofs.lemmas.Bool.{ne_eqb, eq-eqb}
 use Rattle.sock_card.specs.Conflict.{owner_key}
 use Rattle.list_words.specs.Lists.{Each, Pairs}
 use Rattle.list_words.proofs.EachLemmas.{each_weaken, each_both, each_map, each_filter}
@@ -12,15 +13,14 @@ use Rattle.flat_list.specs.Sockets.{is_owner, has_name, is_open_in}
 use Rattle.flat_list.specs.Sound.{NamesDiffer}
 use Rattle.bind_buckets.specs.BindHash.{standing_at}
 use Rattle.table_model.specs.Means.{OwnersMean, OwnersStand, owner_of, owner_in}
-use Rattle.table_model.proofs.lists.Weights.{is_ne, is_same}
 use Rattle.table_model.proofs.lists.Listed.{Listed}
 use Rattle.table_model.proofs.parts.FirstOfName.{stands}
 
 listed_here : (x : Socket) (xs : List Socket) → Listed x.owner.name (x ∷ xs) x
-listed_here x xs = ap (λ (b : Bool). cond b (Some x) (find (has_name x.owner.name) xs)) (is_same x.owner.name x.owner.name refl)
+listed_here x xs = ap (λ (b : Bool). cond b (Some x) (find (has_name x.owner.name) xs)) (eq-eqb x.owner.name x.owner.name refl)
 
 listed_later : (x s : Socket) (xs : List Socket) → NamesDiffer x s → Listed s.owner.name xs s → Listed s.owner.name (x ∷ xs) s
-listed_later x s xs d h = ap (λ (b : Bool). cond b (Some x) (find (has_name s.owner.name) xs)) (is_ne x.owner.name s.owner.name d) ∙ h
+listed_later x s xs d h = ap (λ (b : Bool). cond b (Some x) (find (has_name s.owner.name) xs)) (ne_eqb x.owner.name s.owner.name d) ∙ h
 
 -- where names differ, each socket is that of its name
 pub all_listed : (xs : List Socket) → Pairs NamesDiffer xs → Each (λ (s : Socket). Listed s.owner.name xs s) xs

@@ -1,6 +1,6 @@
 -- The TIME_WAITs that a section left have other names than its open sockets.
 use Rattle.std.proofs.Common.{◌≡◌, ◌≢◌, ℕ, ◌==◌, Bool, true, false, ◌||◌, cond, List, [], ◌∷◌, ◌++◌, map, filter, find, Some, ◌⊎◌, inl, inr, refl, ap, ◌∙◌, subst}
-use Rattle.std.proofs.lemmas.Bool.{cases_Bool}
+use Rattle.std.proofs.lemmas.Bool.{cases_Bool, eqb-true, or_right}
 use Rattle.std.specs.List.{list_any}
 use Rattle.list_words.specs.Lists.{Each, Pairs}
 use Rattle.list_words.proofs.EachLemmas.{some_same}
@@ -11,7 +11,6 @@ use Rattle.flat_list.specs.Sockets.{has_name, is_open_in}
 use Rattle.table_model.specs.Tables.{Tables}
 use Rattle.table_model.specs.Own.{Own, Mine}
 use Rattle.table_model.specs.Means.{OwnMeans, owner_of, owner_in, name_in}
-use Rattle.table_model.proofs.lists.Weights.{is_eq}
 use Rattle.table_model.proofs.lists.Listed.{Listed}
 
 each_back : {A : Type 0} (P : A → Type 0) (xs ys : List A) → Each P (xs ++ ys) → Each P ys
@@ -21,7 +20,7 @@ each_back P (x ∷ xs) ys h = each_back P xs ys h.1
 behind_at : (name : ℕ) (x : Mine) (ms : List Mine) (ys : List ℕ) (b : Bool) → (x.owner.name == name) ≡ b → Each (λ k. x.owner.name ≢ k) (map name_in ms ++ ys)
     → (list_any (is_owner_named name) (map owner_in ms) ≡ true → Each (λ k. name ≢ k) ys) → (b || list_any (is_owner_named name) (map owner_in ms)) ≡ true → Each (λ k. name ≢ k) ys
 behind_at name x ms ys true e apart later h =
-    subst (λ (j : ℕ). Each (λ k. j ≢ k) ys) (is_eq x.owner.name name e) (each_back (λ k. x.owner.name ≢ k) (map name_in ms) ys apart)
+    subst (λ (j : ℕ). Each (λ k. j ≢ k) ys) (eqb-true x.owner.name name e) (each_back (λ k. x.owner.name ≢ k) (map name_in ms) ys apart)
 behind_at name x ms ys false e apart later h = later h
 
 -- a name in front differs from all behind
@@ -29,12 +28,8 @@ pub behind : (name : ℕ) (ms : List Mine) (ys : List ℕ) → Pairs (λ (a b : 
 behind name [] ys h any = absurd (cc)
 behind name (x ∷ ms) ys h any = behind_at name x ms ys (x.owner.name == name) refl h.0 (behind name ms ys h.1) any
 
-or_true : (a b : Bool) → b ≡ true → (a || b) ≡ true
-or_true true b h = refl
-or_true false b h = h
-
 any_more : (name : ℕ) (x : Socket) (ys : List Socket) (b : Bool) → list_any (is_owner_named name) (map owner_of ys) ≡ true → list_any (is_owner_named name) (map owner_of (cond b (x ∷ ys) ys)) ≡ true
-any_more name x ys true h = or_true (x.owner.name == name) (list_any (is_owner_named name) (map owner_of ys)) h
+any_more name x ys true h = or_right (x.owner.name == name) (list_any (is_owner_named name) (map owner_of ys)) h
 any_more name x ys false h = h
 
 any_at : (n name : ℕ) (x s : Socket) (xs : List Socket) → (has_name name x ≡ true) ⊎ (has_name name x ≡ false) → is_open_in n s ≡ true

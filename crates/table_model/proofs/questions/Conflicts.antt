@@ -15,7 +15,7 @@ use Rattle.flat_list.specs.Sockets.{is_owner, has_name, without, is_other_owner,
 use Rattle.flat_list.specs.Sound.{NamesDiffer}
 use Rattle.bind_buckets.specs.BindHash.{standing_at}
 use Rattle.table_model.specs.Means.{OwnersMean, owns}
-use Rattle.table_model.proofs.lists.Weights.{total_alike, ind, any_weighs, found_weighs, same_answer}
+use Rattle.table_model.proofs.lists.Passing.{total_same, ind, any_weighs, found_weighs, same_answer}
 use Rattle.table_model.proofs.lists.Listed.{Listed, without_weighs}
 use Rattle.table_model.proofs.lists.First.{drop_weighs}
 use Rattle.table_model.proofs.parts.Buckets.{weigh_in, only_there}
@@ -85,7 +85,7 @@ module _ (buckets : List Standing) (flat : Flat) (om : OwnersMean buckets flat) 
       let owners : List Owner = (standing_at buckets (bind_key port net)).held.owners in
       same_answer (is_claimed port net flat.sockets) (is_some (find (holds port net) owners)) (total (ind p) flat.sockets) (total (ind (holds port net)) owners)
       (any_weighs p flat.sockets) (found_weighs (holds port net) owners)
-      (total_alike (ind p) (owns (ind (holds port net))) flat.sockets (λ s. owner_weighs (is_owner s.owner.state) (has_port port net s.owner) (not s.owner.by_connect))
+      (total_same (ind p) (owns (ind (holds port net))) flat.sockets (λ s. owner_weighs (is_owner s.owner.state) (has_port port net s.owner) (not s.owner.by_connect))
       ∙ sym (weighs_there (ind (holds port net)) (bind_key port net) (holds_at port net)))
 
   module _ (names : Pairs NamesDiffer flat.sockets) (name : ℕ) (s : Socket) (at : Listed name flat.sockets s) (q : Owner → Bool) where

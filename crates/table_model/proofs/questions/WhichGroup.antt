@@ -114,7 +114,7 @@ mates_key a b m = rw (m.net, m.port) refl
 sharing : (a : Owner) (s : Socket) → IsMate a s.owner → is_sharing s ≡ true
 sharing a s h = and_from (is_listening s.owner.state) s.owner.reuseport h.listens h.shares
 
-listener_owns : (st : State) → is_listening st ≡ true → is_owner st ≡ true
+pub listener_owns : (st : State) → is_listening st ≡ true → is_owner st ≡ true
 listener_owns states.Listening h = refl
 listener_owns states.Unbound h = absurd (cc)
 listener_owns states.Bound h = absurd (cc)
@@ -204,10 +204,6 @@ named_mate false false k h = refl
 none_is : {A : Type 0} (o : Option A) → is_some o ≡ false → o ≡ None
 none_is None h = refl
 none_is (Some x) h = absurd (cc)
-
-some_is : {A : Type 0} (o : Option A) → is_some o ≡ true → (x : A) × (o ≡ Some x)
-some_is None h = absurd (cc)
-some_is (Some x) h = (x, refl)
 
 module _ (buckets : List Standing) (flat : Flat) (om : OwnersMean buckets flat) (some : 1 ≤ flat.header.shape.bind) (a : Owner) where
   abbrev owners : List Owner
@@ -405,7 +401,7 @@ module _ (t : Tables) (flat : Flat) (om : OwnersMean t.buckets flat) (gm : Group
   by_mate None there =
       by_free (position is_free held.groups) refl (none_is (find (is_mate_of a) held.owners) (mates_alike t.buckets flat om some a ∙ ap is_some there)) there
   by_mate (Some s1) there =
-      let x = some_is (find (is_mate_of a) held.owners) (mates_alike t.buckets flat om some a ∙ ap is_some there) in
+      let x = the_found (find (is_mate_of a) held.owners) (mates_alike t.buckets flat om some a ∙ ap is_some there) in
       let s0 = mate_listed t.buckets flat om some a x.0 x.1 in
       let test : Socket → Bool = λ y. is_mate_of a y.owner && (y.owner.name == x.0.name) in
       let passes = and_parts (is_mate_of a s0.0.owner) (s0.0.owner.name == x.0.name) (found_passes test flat.sockets s0.0 s0.1) in

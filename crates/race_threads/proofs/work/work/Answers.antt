@@ -6,7 +6,7 @@ use Rattle.flat_list.specs.declared.header.Header.{Header}
 use Rattle.flat_list.specs.declared.command.Command.{Command}
 use Rattle.race_threads.specs.declared.jobs.Job.{Job}
 use Rattle.race_threads.specs.Scripts.{LooksNothingUp}
-use Rattle.sock_script.specs.Fits.{FitsTables}
+use Rattle.flat_list.specs.Fits.{FitsTables}
 use Rattle.race_threads.specs.Lookers.{HasLooked}
 use Rattle.race_threads.specs.Workers.{AreTables, IsFresh, part_of}
 use Rattle.race_threads.proofs.Working.{commands_at, count_is, few_in, looks_in, worked_section, worked_looker, told_none, ran}

@@ -1,4 +1,4 @@
-use Rattle.std.proofs.Common.{sym, subst, ap}
+use Rattle.std.proofs.Common.{sym, subst}
 use Rattle.turn_table.specs.Journals.{HasAllAt}
 use Rattle.turn_table.proofs.CallerSteps.{callers_all}
 use Rattle.turn_table.proofs.laws.finds_all.Goals as goal
