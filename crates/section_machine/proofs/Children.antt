@@ -1,5 +1,5 @@
 -- A section that gives a label, and then the socket of that label: a listener's child, or a request.
-use Rattle.std.proofs.Common.{◌≡◌, ℕ, List, [], ◌∷◌, ◌++◌, length, Option, Some, None, refl, sym, ap, ◌∙◌, subst}
+use Rattle.std.proofs.Common.{◌≡◌, ℕ, List, [], ◌∷◌, ◌++◌, length, Option, Some, None, Err, refl, sym, ap, ◌∙◌, subst}
 use Rattle.std.specs.Prelude.{option_and_then}
 use Rattle.turn_table.specs.Passes as words
 use Rattle.bind_buckets.specs.Turned.{View}
@@ -11,7 +11,9 @@ use Rattle.flat_list.specs.declared.command.Reply.{Reply}
 use Rattle.flat_list.specs.declared.command.Reply.TheVariants as replies
 use Rattle.label_index.specs.Places.{place_in}
 use Rattle.race_record.specs.Deeds.{entries_in}
+use Rattle.table_model.specs.declared.operation.Cause.{Cause}
 use Rattle.table_model.specs.declared.operation.OpEnd.{OpEnd}
+use Rattle.table_model.specs.declared.operation.OpEnd.TheVariants as errors
 use Rattle.table_model.specs.Asking.{Asking, ends, and_then}
 use Rattle.table_model.specs.Own.{Own, Mine, Offsets, next_name, open_socket, with_label, with_new}
 use Rattle.table_model.specs.Operations as plans
@@ -20,7 +22,9 @@ use Rattle.table_model.specs.Commands.{Replied, answers, accept_command, syn_com
 use Rattle.shared_ops.specs.declared.sock.Sock.{Sock}
 use Rattle.shared_ops.specs.declared.tables.Tables.{Tables}
 use Rattle.shared_ops.specs.declared.tables.Worker.{Worker}
-use Rattle.shared_ops.specs.Goes.{Went}
+use Rattle.shared_ops.specs.Goes as ops
+use Rattle.shared_ops.specs.Accepting.{accepted}
+use Rattle.shared_ops.specs.Goes.{Went, CarriedOut}
 use Rattle.shared_ops.specs.Socks.{mine_of, FitsState}
 use Rattle.shared_ops.specs.Stands.{IsReady, MayTell, StandsAs, buckets_of, turned, chained}
 use Rattle.section_machine.specs.Carried.{Carries}
@@ -29,10 +33,11 @@ use Rattle.section_machine.specs.Sections.{Kept, kept}
 use Rattle.section_machine.specs.Standing.{Roll, roll_of, AreOf, IsSection, IsOpen}
 use Rattle.section_machine.proofs.Asked.{AskedSo, asked_so, IsBirth, IsBirthOf, ChildOf, of_accept, of_syn}
 use Rattle.section_machine.proofs.Given.{Giving, Asker, was, stand, ungiven, later, section_of, newcomer, given_own, asked_of}
+use Rattle.section_machine.proofs.LeftOff.{off_as}
 use Rattle.section_machine.proofs.Owns.{each_there, socket_given, only_one}
 use Rattle.section_machine.proofs.Rolls.{labelled, socket_more}
 use Rattle.section_machine.proofs.Settled.{of_header, then_ends, stands_typed}
-use Rattle.section_machine.proofs.Stays.{GoesOn, may_tell}
+use Rattle.section_machine.proofs.Stays.{GoesOn, asks_back, may_tell}
 
 -- what is asked with a listener for a socket of that name
 abbrev pub Plan : Type 0
@@ -78,6 +83,15 @@ module _ {p : Plan} {asker : Asker} (so : AsksSo p asker) where
   its_plan t k header own w view section u l name did is went =
       subst (λ (n : ℕ). Went header.shape.bind (p header.shape header.seed l n) (turned w) (turned u) (chained t w) (chained t u) (ends did)) is
       (of_header header t (λ (shape : Shape) (seed : ℕ). p shape seed l name) (turned w) (turned u) (chained t w) (chained t u) (ends did) (subst (λ (x : Kept). AreOf x.header t) (sym view) section.tables) went)
+
+  -- and where it is left off
+  pub its_off : (t : Tables) (k : Kept) (header : Header) (own : Own) (w : Worker) → kept header own ≡ k → IsSection t k w → (u : Worker) (l : Mine) (name : ℕ) (end : OpEnd) (cause : Cause) → name ≡ next_name own → end ≡ errors.LeftOff cause
+      → CarriedOut accepted refused (buckets_of t) name (p t.chains.layout.shape t.chains.layout.seed l name) (turned w) (turned u) (chained t w) (chained t u) (Err end)
+      → ops.LeftOff header.shape.bind (next_name own) (p header.shape header.seed l (next_name own)) (turned w) (turned u) (chained t w) (chained t u)
+  its_off t k header own w view section u l name end cause is off carried =
+      subst (λ (n : ℕ). ops.LeftOff header.shape.bind n (p header.shape header.seed l n) (turned w) (turned u) (chained t w) (chained t u)) is
+      (off_as accepted header t (λ (shape : Shape) (seed : ℕ). p shape seed l name) (p t.chains.layout.shape t.chains.layout.seed l name) name (turned w) (turned u) (chained t w) (chained t u) end cause
+      (subst (λ (x : Kept). AreOf x.header t) (sym view) section.tables) refl off carried)
 
 -- what was found stands at some place
 pub found_at : (l : Labelled) (p : Option ℕ) (m : Mine) → option_and_then (at_place l.places) p ≡ Some m → (i : ℕ) × (at_place l.places i ≡ Some m)
@@ -146,6 +160,15 @@ module _ {t : Tables} {k : Kept} {header : Header} {l l1 : Labelled} {moment : �
         replied (refused end) new reply went
         (ap (λ (x : Own). answers x (connect_error end)) (given_own g) ∙ ap (answers new) (sym called))
         (subst (λ (x : Own). IsSection t (kept header x) u) (given_own g) (section_of g u ready caller own.sockets now))
+
+    -- it was left off
+    pub accepts_left : ops.LeftOff header.shape.bind name plan (turned w) (turned u) (chained t w) (chained t u) → IsSection t (kept header (own_of l1 moment o waits)) u
+    accepts_left off =
+        let a = asked_so (IsBirth m.owner.name name) (λ _. ⊥) (ChildOf header.shape header.seed m.owner name) header.shape.bind plan off.rest off.deeds off.leads (so.births header.shape header.seed m name) in
+        let entries = entries_in header.shape.bind off.deeds in
+        let now = labelled t roll (turned w) (turned u) (chained t w) (chained t u) (entries ++ off.back) off.deeds (record { gave = off.gave; does = off.does }) (was g).tells (stand g) (next_name more) name (ungiven g) (later g)
+        m.owner.name (asks_back (IsBirth m.owner.name name) header.shape.bind name entries off.back refl off.gives a.entries) a.unhashed in
+        subst (λ (x : Own). IsSection t (kept header x) u) (given_own g) (section_of g u ready caller own.sockets now)
 
     -- its child stands at the place of the label
     pub accepts : (x : Sock) (l2 : Labelled) → WentTo (done (mine_of x)) → FitsState x → StandsAs t x (turned u) (chained t u) → l2 ≡ with_place l1 (length l.labels) (Some (mine_of x))

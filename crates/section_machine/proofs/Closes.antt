@@ -1,16 +1,20 @@
--- The TIME_WAIT that a closed socket leaves.
-use Rattle.std.proofs.Common.{◌≡◌, ℕ, ◌≤◌, List, [], ◌∷◌, ◌++◌, arith, ◌+◌, length, length-append}
+-- The TIME_WAIT that a closed socket leaves, and that nothing but a plan left off keeps one from its end.
+use Rattle.std.proofs.Common.{◌≡◌, ℕ, ◌≤◌, true, List, [], ◌∷◌, ◌++◌, Err, refl, arith, ◌+◌, length, length-append}
 use Rattle.list_words.proofs.EachLemmas.{each_push}
 use Rattle.sock_card.specs.declared.owner.State.TheVariants as states
 use Rattle.bind_buckets.specs.Turned.{View}
 use Rattle.chain_book.specs.declared.shape.Shape.{Shape}
 use Rattle.chain_deeds.specs.Sides.{Side}
-use Rattle.table_model.specs.Asking.{ends}
+use Rattle.table_model.specs.declared.operation.OpEnd.{OpEnd}
+use Rattle.table_model.specs.declared.operation.OpEnd.TheVariants as errors
+use Rattle.table_model.specs.Asking.{Asking, ends}
 use Rattle.table_model.specs.Own.{Mine}
 use Rattle.table_model.specs.Operations as plans
 use Rattle.table_model.specs.Operations.{gone, waiting, no_slot}
+use Rattle.shared_ops.specs.Closes.{ClosedBy}
+use Rattle.shared_ops.specs.Goes as ops
 use Rattle.shared_ops.specs.Goes.{Went}
-use Rattle.section_machine.specs.Carried.{waits_by}
+use Rattle.section_machine.specs.Carried.{is_left_off, waits_by}
 use Rattle.section_machine.specs.Waits.{AreBefore, AreInOrder}
 use Rattle.section_machine.proofs.Asked.{asked_so, of_close, IsEnd, HasName, WaitsSince}
 
@@ -41,3 +45,26 @@ pub one_more : (ws : List Mine) (closed : plans.Closed) → length (waits_by ws 
 one_more ws gone = omega arith
 one_more ws (waiting w) = omega (arith, length-append ws (w ∷ []))
 one_more ws (no_slot owned held) = omega arith
+
+-- nothing else keeps one from its end that lets a socket go
+pub unclosed_left : {X : Type 0} (did : X → plans.Closed) (count name : ℕ) (p : Asking plans.Closed) (v u : View) (c d : Side) (end : OpEnd) → ClosedBy did count name p v u c d (Err end) → ops.LeftOff count name p v u c d
+unclosed_left did count name p v u c d (errors.LeftOff cause) h = h
+unclosed_left did count name p v u c d (errors.InUse n) h = absurd h
+unclosed_left did count name p v u c d errors.NoPort h = absurd h
+unclosed_left did count name p v u c d (errors.Taken n) h = absurd h
+unclosed_left did count name p v u c d errors.Inval h = absurd h
+unclosed_left did count name p v u c d errors.IsConn h = absurd h
+unclosed_left did count name p v u c d errors.GroupFull h = absurd h
+unclosed_left did count name p v u c d errors.GroupsFull h = absurd h
+unclosed_left did count name p v u c d (errors.Full owned held) h = absurd h
+
+pub closed_off : {X : Type 0} (did : X → plans.Closed) (count name : ℕ) (p : Asking plans.Closed) (v u : View) (c d : Side) (end : OpEnd) → ClosedBy did count name p v u c d (Err end) → is_left_off end ≡ true
+closed_off did count name p v u c d (errors.LeftOff cause) h = refl
+closed_off did count name p v u c d (errors.InUse n) h = absurd h
+closed_off did count name p v u c d errors.NoPort h = absurd h
+closed_off did count name p v u c d (errors.Taken n) h = absurd h
+closed_off did count name p v u c d errors.Inval h = absurd h
+closed_off did count name p v u c d errors.IsConn h = absurd h
+closed_off did count name p v u c d errors.GroupFull h = absurd h
+closed_off did count name p v u c d errors.GroupsFull h = absurd h
+closed_off did count name p v u c d (errors.Full owned held) h = absurd h

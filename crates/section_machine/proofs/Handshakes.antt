@@ -1,5 +1,5 @@
 -- A section that gives a label, and then a listener's child, in the place of a request.
-use Rattle.std.proofs.Common.{◌≡◌, ◌==◌, ℕ, not, Bool, true, false, cond, List, [], ◌∷◌, ◌++◌, length, map, filter, find, Option, Some, None, refl, sym, ap, ◌∙◌, subst, ne_eqb}
+use Rattle.std.proofs.Common.{◌≡◌, ◌==◌, ℕ, not, Bool, true, false, cond, List, [], ◌∷◌, ◌++◌, length, map, filter, find, Option, Some, None, Err, refl, sym, ap, ◌∙◌, subst, ne_eqb}
 use Rattle.std.specs.Prelude.{IfSome}
 use Rattle.std.specs.Option.{option_map}
 use Rattle.std.specs.Borrow.{Bor}
@@ -21,6 +21,7 @@ use Rattle.flat_list.specs.declared.command.Reply.TheVariants as replies
 use Rattle.flat_list.specs.Owned.{heir_owner, is_no_ack}
 use Rattle.flat_list.specs.Sections.{name_at}
 use Rattle.race_record.specs.Deeds.{entries_in}
+use Rattle.table_model.specs.declared.operation.Cause.{Cause}
 use Rattle.table_model.specs.declared.operation.OpEnd.{OpEnd}
 use Rattle.table_model.specs.declared.operation.OpEnd.TheVariants as errors
 use Rattle.table_model.specs.Asking.{Asking, ends}
@@ -31,7 +32,9 @@ use Rattle.table_model.specs.Commands.{answers, ack_command, ack_reply, connect_
 use Rattle.shared_ops.specs.declared.sock.Sock.{Sock}
 use Rattle.shared_ops.specs.declared.tables.Tables.{Tables}
 use Rattle.shared_ops.specs.declared.tables.Worker.{Worker}
-use Rattle.shared_ops.specs.Goes.{Went}
+use Rattle.shared_ops.specs.Goes as ops
+use Rattle.shared_ops.specs.Accepting.{accepted}
+use Rattle.shared_ops.specs.Goes.{Went, CarriedOut}
 use Rattle.shared_ops.specs.Socks.{mine_of, FitsState}
 use Rattle.shared_ops.specs.Stands.{IsReady, MayTell, StandsAs, buckets_of, turned, chained}
 use Rattle.section_machine.specs.Carried.{Carries}
@@ -40,12 +43,13 @@ use Rattle.section_machine.specs.Sections.{Kept, kept}
 use Rattle.section_machine.specs.Standing.{Roll, roll_of, IsSection, IsApart, IsOpen, StandsIn}
 use Rattle.section_machine.proofs.Asked.{AskedSo, asked_so, IsBirth, HasName, HeirBy, name_or_none, of_ack}
 use Rattle.section_machine.proofs.Given.{Giving, Asker, was, stand, ungiven, later, section_of, newcomer, given_own, asked_of, asked_none}
+use Rattle.section_machine.proofs.LeftOff.{off_as}
 use Rattle.section_machine.proofs.Newcomers.{or_left}
 use Rattle.section_machine.proofs.Owns.{each_there, only_one, put_back, put_same, taken, socket_given, none_more, named_again}
 use Rattle.section_machine.proofs.Places.{none_last, none_set, each_placed}
 use Rattle.section_machine.proofs.Rolls.{IsThere, with_next, others_of, still_there, comes_instead}
 use Rattle.section_machine.proofs.Settled.{of_header, then_ends, stands_typed}
-use Rattle.section_machine.proofs.Stays.{GoesOn, Asks, may_tell}
+use Rattle.section_machine.proofs.Stays.{GoesOn, Asks, asks_back, may_tell}
 use Rattle.bind_buckets.proofs.Filtered.{find_filtered}
 
 -- A request isn't its own listener
@@ -199,11 +203,28 @@ module _ {t : Tables} {k : Kept} {header : Header} {l l1 : Labelled} {moment : �
       subst (λ (p : Asking Did). Went header.shape.bind p (turned w) (turned u) (chained t w) (chained t u) (ends did)) (same_plan header.shape header.seed n x named is)
       (of_header header t (λ (shape : Shape) (seed : ℕ). plans.ack shape seed m x n) (turned w) (turned u) (chained t w) (chained t u) (ends did) (was g).tables went)
 
+  -- and where it is left off
+  pub its_off : (u : Worker) (n : ℕ) (x : Option Mine) (end : OpEnd) (cause : Cause) → n ≡ name → x ≡ found → end ≡ errors.LeftOff cause
+      → CarriedOut accepted refused (buckets_of t) n (plans.ack t.chains.layout.shape t.chains.layout.seed m x n) (turned w) (turned u) (chained t w) (chained t u) (Err end)
+      → ops.LeftOff header.shape.bind name (plans.ack header.shape header.seed m parent name) (turned w) (turned u) (chained t w) (chained t u)
+  its_off u n x end cause named is off carried =
+      subst (λ (p : Asking Did). ops.LeftOff header.shape.bind name p (turned w) (turned u) (chained t w) (chained t u)) (same_plan header.shape header.seed n x named is)
+      (subst (λ (b : ℕ). ops.LeftOff header.shape.bind b (plans.ack header.shape header.seed m x n) (turned w) (turned u) (chained t w) (chained t u)) named
+      (off_as accepted header t (λ (shape : Shape) (seed : ℕ). plans.ack shape seed m x n) (plans.ack t.chains.layout.shape t.chains.layout.seed m x n) n (turned w) (turned u) (chained t w) (chained t u) end cause (was g).tables refl off carried))
+
   -- the request is back at its place
 
   pub put_again : (l3 : Labelled) → l3 ≡ with_place l2 i (Some m) → l3 ≡ l1
   put_again l3 put =
       put ∙ (ap (λ (x : Labelled). with_place x i (Some m)) takes.after ∙ put_same l1 i m takes.there)
+
+  given_again : (l3 : Labelled) → l3 ≡ with_place l2 i (Some m) → more ≡ own_of l3 moment o waits
+  given_again l3 put = given_own g ∙ ap (λ (x : Labelled). own_of x moment o waits) (sym (put_again l3 put))
+
+  as_it_was : (l3 : Labelled) → l3 ≡ with_place l2 i (Some m) → record more { sockets = map (replaced m) own.sockets } ≡ own_of l3 moment o waits
+  as_it_was l3 put =
+      ap (λ (x : Own). with_label x label) (put_back l i m m g.before.names here its_name moment o waits ∙ ap (λ (x : Labelled). own_of x moment o waits) (put_same l i m here))
+      ∙ given_again l3 put
 
   pub sockets_again : (l3 : Labelled) → l3 ≡ with_place l2 i (Some m) → those l3.places ≡ k.own.sockets
   sockets_again l3 put =
@@ -236,14 +257,23 @@ module _ {t : Tables} {k : Kept} {header : Header} {l l1 : Labelled} {moment : �
     acks_refused end reply l3 went stands called put =
         let a = asked (refused end) went in
         let new = own_of l3 moment o waits in
-        let same : more ≡ new = given_own g ∙ ap (λ (x : Labelled). own_of x moment o waits) (sym (put_again l3 put)) in
-        let as_it_was : record more { sockets = map (replaced m) own.sockets } ≡ new =
-        ap (λ (x : Own). with_label x label) (put_back l i m m g.before.names here its_name moment o waits ∙ ap (λ (x : Labelled). own_of x moment o waits) (put_same l i m here)) ∙ same in
+        let same = given_again l3 put in
         let now = still_there t roll (turned w) (turned u) (chained t w) (chained t u) (entries_in header.shape.bind went.deeds) went.deeds (on (refused end) went) (was g).tells (stand g) (next_name more) name (ungiven g) (later g)
         (name_or_none parent) a.entries m there a.unhashed stands in
         replied (refused end) new reply went
         (ap (λ (x : Own). answers x (connect_error end)) same ∙ ap (answers new) (sym called))
-        (subst (λ (x : Own). IsSection t (kept header x) u) as_it_was (section_of g u ready caller (map (replaced m) own.sockets) now))
+        (subst (λ (x : Own). IsSection t (kept header x) u) (as_it_was l3 put) (section_of g u ready caller (map (replaced m) own.sockets) now))
+
+    -- it was left off, and the request was put back
+    pub acks_left : (l3 : Labelled) → ops.LeftOff header.shape.bind name plan (turned w) (turned u) (chained t w) (chained t u) → StandsIn m.owner.state t m (turned u) (chained t u) → l3 ≡ with_place l2 i (Some m)
+        → IsSection t (kept header (own_of l3 moment o waits)) u
+    acks_left l3 off stands put =
+        let P = IsBirth (name_or_none parent) name in
+        let a = asked_so P (HasName m.owner.name) (HeirBy parent name) header.shape.bind plan off.rest off.deeds off.leads (of_ack header.shape header.seed m parent name) in
+        let entries = entries_in header.shape.bind off.deeds in
+        let now = still_there t roll (turned w) (turned u) (chained t w) (chained t u) (entries ++ off.back) off.deeds (record { gave = off.gave; does = off.does }) (was g).tells (stand g) (next_name more) name (ungiven g) (later g)
+        (name_or_none parent) (asks_back P header.shape.bind name entries off.back refl off.gives a.entries) m there a.unhashed stands in
+        subst (λ (x : Own). IsSection t (kept header x) u) (as_it_was l3 put) (section_of g u ready caller (map (replaced m) own.sockets) now)
 
     heir_open : (x : Sock) → WentTo (done (mine_of x)) → FitsState x → StandsAs t x (turned u) (chained t u) → IsOpen t (with_next roll (next_name more) (others ++ mine_of x ∷ [])) (turned u) (chained t u) (mine_of x)
     heir_open x went fits stands =

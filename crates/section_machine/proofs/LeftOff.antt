@@ -1,4 +1,4 @@
--- What a command leaves that is left off for want of memory.
+-- What a command leaves that is left off.
 use Rattle.std.proofs.Common.{◌≡◌, ◌&&◌, ℕ, Bool, false, List, filter, [], ◌∷◌, Option, Some, Err, inl, inr, refl, sym, ap, ◌∙◌, subst, append-nil}
 use Rattle.std.specs.Option.{option_map, option_map_or}
 use Rattle.turn_table.specs.declared.note.Placed.{Placed}
@@ -16,17 +16,16 @@ use Rattle.flat_list.specs.declared.header.Header.{Header}
 use Rattle.port_search.proofs.TurnSearch.{gave_none}
 use Rattle.race_record.specs.Deeds.{Deed, entered, inserted, added, left, reaped, entries_in}
 use Rattle.table_model.specs.declared.operation.OpEnd.{OpEnd}
-use Rattle.table_model.specs.declared.operation.Cause.TheVariants as causes
+use Rattle.table_model.specs.declared.operation.Cause.{Cause}
 use Rattle.table_model.specs.declared.operation.OpEnd.TheVariants as errors
 use Rattle.table_model.specs.Asking.{Asking, ends, asks, inserts, adds, unhashes, reaps, and_then}
 use Rattle.table_model.specs.Own.{Own, Mine, Offsets, open_socket, open_named as socket_of, with_label, without, next_name, is_over, ports_of}
 use Rattle.table_model.specs.Operations as plans
-use Rattle.table_model.specs.Operations.{Did, kept_waits}
+use Rattle.table_model.specs.Operations.{Did, refused, kept_waits}
 use Rattle.table_model.specs.Commands.{Replied, answers, plan, bind_command, bind_reply, listen_command, connect_command, connect_reply, connect_rule, accept_command, syn_command, accept_reply, ack_command, ack_reply, close_command, close_reply, drop_command, after_search, searches_port, is_unbound, is_some}
 use Rattle.shared_ops.specs.declared.sock.Sock.{Sock}
 use Rattle.shared_ops.specs.declared.tables.Tables.{Tables}
 use Rattle.shared_ops.specs.declared.tables.Worker.{Worker}
-use Rattle.shared_ops.specs.Closes.{ClosedBy}
 use Rattle.shared_ops.specs.Goes as ops
 use Rattle.shared_ops.specs.Goes.{CarriedOut}
 use Rattle.shared_ops.specs.Leads.{Leads}
@@ -58,22 +57,10 @@ leads_then next (reaps card then_) rest (reaped c unhash ∷ deeds) l =
     (and_then l.0 next, (l.1.0, l.1.1, ap (λ q. and_then q next) l.1.2), leads_then next l.0 rest deeds l.2)
 leads_then next p rest (deed ∷ deeds) l = absurd l.1
 
--- an operation that memory kept from its end
-pub wanted_left : {X R : Type 0} (did : X → R) (not_done : OpEnd → R) (count name : ℕ) (p : Asking R) (v u : View) (c d : Side) (end : OpEnd) → end ≡ errors.LeftOff causes.Memory → CarriedOut did not_done count name p v u c d (Err end) → ops.LeftOff count name p v u c d
-wanted_left did not_done count name p v u c d end is h =
+-- an operation that was left off
+pub op_off : {X R : Type 0} (did : X → R) (not_done : OpEnd → R) (count name : ℕ) (p : Asking R) (v u : View) (c d : Side) (end : OpEnd) (cause : Cause) → end ≡ errors.LeftOff cause → CarriedOut did not_done count name p v u c d (Err end) → ops.LeftOff count name p v u c d
+op_off did not_done count name p v u c d end cause is h =
     subst (λ (e : OpEnd). CarriedOut did not_done count name p v u c d (Err e)) is h
-
--- nothing else keeps one from its end that lets a socket go
-pub unclosed_left : {X : Type 0} (did : X → plans.Closed) (count name : ℕ) (p : Asking plans.Closed) (v u : View) (c d : Side) (end : OpEnd) → ClosedBy did count name p v u c d (Err end) → ops.LeftOff count name p v u c d
-unclosed_left did count name p v u c d (errors.LeftOff cause) h = h
-unclosed_left did count name p v u c d (errors.InUse n) h = absurd h
-unclosed_left did count name p v u c d errors.NoPort h = absurd h
-unclosed_left did count name p v u c d (errors.Taken n) h = absurd h
-unclosed_left did count name p v u c d errors.Inval h = absurd h
-unclosed_left did count name p v u c d errors.IsConn h = absurd h
-unclosed_left did count name p v u c d errors.GroupFull h = absurd h
-unclosed_left did count name p v u c d errors.GroupsFull h = absurd h
-unclosed_left did count name p v u c d (errors.Full owned held) h = absurd h
 
 -- a plan by the shape, the seed and the buckets of tables that are the header's
 pub left_by_header : {R : Type 0} (header : Header) (t : Tables) (f : Shape → ℕ → Asking R) (name : ℕ) (v u : View) (c d : Side) → AreOf header t
@@ -82,6 +69,13 @@ left_by_header header t f name v u c d are off =
     subst (λ (n : ℕ). ops.LeftOff n name (f header.shape header.seed) v u c d) are.buckets
     (subst (λ (n : ℕ). ops.LeftOff (buckets_of t) name (f header.shape n) v u c d) are.seed
     (subst (λ (x : Shape). ops.LeftOff (buckets_of t) name (f x t.chains.layout.seed) v u c d) are.shape off))
+
+-- an operation on a socket, whose plan is that by the tables' shape and seed
+pub off_as : {X : Type 0} (did : X → Did) (header : Header) (t : Tables) (f : Shape → ℕ → Asking Did) (p : Asking Did) (name : ℕ) (v u : View) (c d : Side) (end : OpEnd) (cause : Cause) → AreOf header t → p ≡ f t.chains.layout.shape t.chains.layout.seed → end ≡ errors.LeftOff cause
+    → CarriedOut did refused (buckets_of t) name p v u c d (Err end) → ops.LeftOff header.shape.bind name (f header.shape header.seed) v u c d
+off_as did header t f p name v u c d end cause are same is carried =
+    left_by_header header t f name v u c d are
+    (subst (λ (q : Asking Did). ops.LeftOff (buckets_of t) name q v u c d) same (op_off did refused (buckets_of t) name p v u c d end cause is carried))
 
 -- nothing was asked, and nothing done
 pub untouched : (t : Tables) (k new : Kept) (command : Command) (w : Worker) → ((n : ℕ) → GivesBack n (speaker k.own command) []) → Leaves k.own command [] [] new.own → IsLeftOff t k command new w w

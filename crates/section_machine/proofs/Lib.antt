@@ -11,6 +11,7 @@ mod Settled
 mod Ended
 mod Spent
 mod LeftOff
+mod Gives
 mod Moments
 mod Published
 mod Reaps
@@ -21,3 +22,4 @@ mod Given
 mod Children
 mod Handshakes
 mod Begins
+pub mod Budgets

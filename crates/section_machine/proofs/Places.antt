@@ -3,12 +3,12 @@ use Rattle.std.proofs.Common.{◌≡◌, ◌≢◌, ◌+◌, ◌*◌, ◌^◌, �
 use Rattle.std.specs.Prelude.{IfSome, option_and_then}
 use Rattle.std.specs.Option.{option_map}
 use Rattle.std.proofs.lemmas.List.Elements.{filter_map-append}
+use Rattle.std.proofs.lemmas.Bool.{ne_eqb, eq-eqb}
 use Rattle.list_words.specs.Lists.{Each}
 use Rattle.list_words.proofs.EachLemmas.{each_weaken}
 use Rattle.flat_list.specs.Sections.{name_at}
 use Rattle.label_index.specs.Places.{place_in}
 use Rattle.table_model.specs.Own.{Mine, Offsets, is_named, replaced, open_socket}
-use Rattle.table_model.proofs.lists.Weights.{is_ne, is_same}
 use Rattle.section_machine.specs.Places.{at_place, those, HaveNames, Labelled, named_by, own_of}
 
 find_none : (k : ℕ) (ms : List Mine) → Each (λ (m : Mine). is_named k m ≡ false) ms → find (is_named k) ms ≡ None
@@ -31,7 +31,7 @@ others : (name : ℕ → ℕ) (k : ℕ) → ((i : ℕ) → name i ≢ k) → (pl
 others name k ne [] h = tt
 others name k ne (None ∷ ps) h = others (λ i. name (suc i)) k (λ i. ne (suc i)) ps (λ i. h (suc i))
 others name k ne (Some m ∷ ps) h =
-    (is_ne m.owner.name k (λ e. ne 0 (sym (h 0) ∙ e)), others (λ i. name (suc i)) k (λ i. ne (suc i)) ps (λ i. h (suc i)))
+    (ne_eqb m.owner.name k (λ e. ne 0 (sym (h 0) ∙ e)), others (λ i. name (suc i)) k (λ i. ne (suc i)) ps (λ i. h (suc i)))
 
 -- places have different names
 abbrev pub Differ : (ℕ → ℕ) → Type 0
@@ -51,10 +51,10 @@ pub found_there : (name : ℕ → ℕ) → Differ name → (places : List (Optio
 found_there name d [] i h = refl
 found_there name d (None ∷ ps) zero h = find_none (name 0) (those ps) (behind_first name d ps None h)
 found_there name d (Some m ∷ ps) zero h =
-    ap (λ (b : Bool). cond b (Some m) (find (is_named (name 0)) (those ps))) (is_same m.owner.name (name 0) (h 0))
+    ap (λ (b : Bool). cond b (Some m) (find (is_named (name 0)) (those ps))) (eq-eqb m.owner.name (name 0) (h 0))
 found_there name d (None ∷ ps) (suc i) h = found_there (λ k. name (suc k)) (later_differ name d) ps i (λ k. h (suc k))
 found_there name d (Some m ∷ ps) (suc i) h =
-    ap (λ (b : Bool). cond b (Some m) (find (is_named (name (suc i))) (those ps))) (is_ne m.owner.name (name (suc i)) (λ e. never_first name d i (sym e ∙ h 0)))
+    ap (λ (b : Bool). cond b (Some m) (find (is_named (name (suc i))) (those ps))) (ne_eqb m.owner.name (name (suc i)) (λ e. never_first name d i (sym e ∙ h 0)))
     ∙ found_there (λ k. name (suc k)) (later_differ name d) ps i (λ k. h (suc k))
 
 -- a place that is empty now
@@ -64,12 +64,12 @@ taken_out name d (None ∷ ps) zero h = sym (keep_all (name 0) (those ps) (behin
 taken_out name d (Some m ∷ ps) zero h =
     let rest : List Mine = filter (λ (x : Mine). not (is_named (name 0) x)) (those ps) in
     sym (keep_all (name 0) (those ps) (behind_first name d ps (Some m) h))
-    ∙ sym (ap (λ (b : Bool). cond (not b) (m ∷ rest) rest) (is_same m.owner.name (name 0) (h 0)))
+    ∙ sym (ap (λ (b : Bool). cond (not b) (m ∷ rest) rest) (eq-eqb m.owner.name (name 0) (h 0)))
 taken_out name d (None ∷ ps) (suc i) h = taken_out (λ k. name (suc k)) (later_differ name d) ps i (λ k. h (suc k))
 taken_out name d (Some m ∷ ps) (suc i) h =
     let rest : List Mine = filter (λ (x : Mine). not (is_named (name (suc i)) x)) (those ps) in
     ap (λ (xs : List Mine). m ∷ xs) (taken_out (λ k. name (suc k)) (later_differ name d) ps i (λ k. h (suc k)))
-    ∙ sym (ap (λ (b : Bool). cond (not b) (m ∷ rest) rest) (is_ne m.owner.name (name (suc i)) (λ e. never_first name d i (sym e ∙ h 0))))
+    ∙ sym (ap (λ (b : Bool). cond (not b) (m ∷ rest) rest) (ne_eqb m.owner.name (name (suc i)) (λ e. never_first name d i (sym e ∙ h 0))))
 
 -- a socket that another takes the place of
 pub put_there : (name : ℕ → ℕ) → Differ name → (places : List (Option Mine)) (i : ℕ) (old new : Mine) → HaveNames name places → at_place places i ≡ Some old → new.owner.name ≡ name i
@@ -78,13 +78,13 @@ put_there name d [] i old new h there named = absurd (cc)
 put_there name d (None ∷ ps) zero old new h there named = absurd (cc)
 put_there name d (Some m ∷ ps) zero old new h there named =
     sym (
-    ap (λ (b : Bool). cond b new m ∷ map (replaced new) (those ps)) (is_same m.owner.name new.owner.name (h 0 ∙ sym named))
+    ap (λ (b : Bool). cond b new m ∷ map (replaced new) (those ps)) (eq-eqb m.owner.name new.owner.name (h 0 ∙ sym named))
     ∙ ap (λ (xs : List Mine). new ∷ xs) (replace_none new (those ps) (others (λ k. name (suc k)) new.owner.name (λ k e. never_first name d k (e ∙ named)) ps (λ k. h (suc k))))
     )
 put_there name d (None ∷ ps) (suc i) old new h there named = put_there (λ k. name (suc k)) (later_differ name d) ps i old new (λ k. h (suc k)) there named
 put_there name d (Some m ∷ ps) (suc i) old new h there named =
     ap (λ (xs : List Mine). m ∷ xs) (put_there (λ k. name (suc k)) (later_differ name d) ps i old new (λ k. h (suc k)) there named)
-    ∙ sym (ap (λ (b : Bool). cond b new m ∷ map (replaced new) (those ps)) (is_ne m.owner.name new.owner.name (λ e. never_first name d i (sym (sym (h 0) ∙ (e ∙ named))))))
+    ∙ sym (ap (λ (b : Bool). cond b new m ∷ map (replaced new) (those ps)) (ne_eqb m.owner.name new.owner.name (λ e. never_first name d i (sym (sym (h 0) ∙ (e ∙ named))))))
 
 -- a new one at the end
 pub put_last : (places : List (Option Mine)) (new : Mine) → those (places ++ Some new ∷ []) ≡ those places ++ new ∷ []

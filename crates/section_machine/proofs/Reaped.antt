@@ -14,6 +14,7 @@ use Rattle.shared_ops.specs.declared.tables.Worker.{Worker}
 use Rattle.shared_ops.specs.Goes.{Went}
 use Rattle.shared_ops.specs.Stands.{IsReady, MayDraw, buckets_of, turned, chained}
 use Rattle.section_machine.specs.Carried.{Carries, Spends}
+use Rattle.section_machine.specs.LeftOff.{StopsReaping}
 use Rattle.section_machine.specs.Places.{Labelled, own_of}
 use Rattle.section_machine.specs.Sections.{Kept, kept}
 use Rattle.section_machine.specs.Standing.{IsSection, Tells, roll_of}
@@ -51,24 +52,26 @@ reap_spends old new w u before after old_is new_is entered drawn =
     }
 
 module _ (t : Tables) (k : Kept) (header : Header) (l : Labelled) (moment : ℕ) (o : Offsets) (waits after : List Mine) (w u : Worker) (view : kept header (own_of l moment o waits) ≡ k) (section : IsSection t k w)
-    (ready : IsReady t u) (caller : words.caller u.turns ≡ words.caller w.turns) (count : ℕ)
-    (went : Went (buckets_of t) (reap waits moment) (turned w) (turned u) (chained t w) (chained t u) (ends count)) (left : after ≡ kept_waits waits moment) where
+    (ready : IsReady t u) (caller : words.caller u.turns ≡ words.caller w.turns) where
   abbrev own : Own
   own = own_of l moment o waits
 
   was : IsSection t (kept header own) w
   was = subst (λ (x : Kept). IsSection t x w) (sym view) section
 
-  planned : Went header.shape.bind (reap waits moment) (turned w) (turned u) (chained t w) (chained t u) (ends count)
-  planned = subst (λ (n : ℕ). Went n (reap waits moment) (turned w) (turned u) (chained t w) (chained t u) (ends count)) was.tables.buckets went
+  abbrev GoesTo : ℕ → Asking ℕ → Type 0
+  GoesTo n rest = Went n (reap waits moment) (turned w) (turned u) (chained t w) (chained t u) rest
 
-  -- the section without them
-  section_after : IsSection t (kept header (own_of l moment o after)) u
-  section_after =
-      let asked = asked_so IsPast NoCard AnyCount header.shape.bind (reap waits moment) (ends count) planned.deeds planned.leads (of_reap (filter (is_over moment) waits) 0) in
-      let now = reaps_past t (roll_of own) (turned w) (turned u) (chained t w) (chained t u) (entries_in header.shape.bind planned.deeds) planned.deeds
-      (record { gave = planned.gave; does = planned.does }) was.tells (record { all = was.stand; unspoken = was.unspoken })
-      asked.entries (λ a. none_left a planned.deeds asked.unhashed) in
+  planned : (rest : Asking ℕ) → GoesTo (buckets_of t) rest → GoesTo header.shape.bind rest
+  planned rest went = subst (λ (n : ℕ). GoesTo n rest) was.tables.buckets went
+
+  -- the section without them, as far as the plan went
+  section_after : (rest : Asking ℕ) → GoesTo header.shape.bind rest → IsSection t (kept header (own_of l moment o after)) u
+  section_after rest went =
+      let asked = asked_so IsPast NoCard AnyCount header.shape.bind (reap waits moment) rest went.deeds went.leads (of_reap (filter (is_over moment) waits) 0) in
+      let now = reaps_past t (roll_of own) (turned w) (turned u) (chained t w) (chained t u) (entries_in header.shape.bind went.deeds) went.deeds
+      (record { gave = went.gave; does = went.does }) was.tells (record { all = was.stand; unspoken = was.unspoken })
+      asked.entries (λ a. none_left a went.deeds asked.unhashed) in
       record {
         tables = record { shape = was.tables.shape; seed = was.tables.seed; buckets = was.tables.buckets };
         ready = ready;
@@ -78,8 +81,13 @@ module _ (t : Tables) (k : Kept) (header : Header) (l : Labelled) (moment : ℕ)
         unspoken = now.unspoken;
       }
 
-  pub reaped_so : Carries t k (reap_command k.own) (kept header (own_of l moment o after)) w u (replies.Count count)
-  reaped_so =
+  pub stopped_so : StopsReaping (buckets_of t) waits moment (turned w) (turned u) (chained t w) (chained t u) after → IsSection t (kept header (own_of l moment o after)) u
+  stopped_so s =
+      let rest = reap_each (filter (is_over moment) after) s.reaped in
+      section_after rest (planned rest s.went)
+
+  pub reaped_so : (count : ℕ) → GoesTo (buckets_of t) (ends count) → after ≡ kept_waits waits moment → Carries t k (reap_command k.own) (kept header (own_of l moment o after)) w u (replies.Count count)
+  reaped_so count went left =
       subst (λ (x : Kept). Carries t x (reap_command x.own) (kept header (own_of l moment o after)) w u (replies.Count count)) view
-      (then_ends t (kept header own) (reap waits moment) (λ (n : ℕ). answers (own_of l moment o (kept_waits waits moment)) (replies.Count n)) (kept header (own_of l moment o after)) w u count (replies.Count count) planned
-      (ap (λ (ws : List Mine). answers (own_of l moment o ws) (replies.Count count)) (sym left)) section_after)
+      (then_ends t (kept header own) (reap waits moment) (λ (n : ℕ). answers (own_of l moment o (kept_waits waits moment)) (replies.Count n)) (kept header (own_of l moment o after)) w u count (replies.Count count) (planned (ends count) went)
+      (ap (λ (ws : List Mine). answers (own_of l moment o ws) (replies.Count count)) (sym left)) (section_after (ends count) (planned (ends count) went)))

@@ -1,15 +1,19 @@
 -- What a command comes to, by the operation on the socket that its label names.
-use Rattle.std.proofs.Common.{◌≡◌, ℕ, Bool, true, false, List, [], Option, Some, None, Result, Ok, Err, refl, sym, ap, ◌∙◌, subst, append-nil}
+use Rattle.std.proofs.Common.{◌≡◌, ℕ, Bool, true, false, List, [], ◌++◌, Option, Some, None, Result, Ok, Err, refl, sym, ap, ◌∙◌, subst, append-nil}
 use Rattle.std.specs.Prelude.{OnErr}
+use Rattle.list_words.specs.Lists.{Each}
 use Rattle.sock_card.specs.declared.owner.State.{State}
 use Rattle.sock_card.specs.declared.owner.State.TheVariants as states
 use Rattle.chain_book.specs.declared.shape.Shape.{Shape}
+use Rattle.turn_table.specs.declared.note.Placed.{Placed}
 use Rattle.turn_table.specs.Passes as words
-use Rattle.bind_buckets.specs.Turned.{View}
+use Rattle.bind_buckets.specs.declared.request.Entry.{Entry}
+use Rattle.bind_buckets.specs.Turned.{View, Gave}
 use Rattle.flat_list.specs.declared.header.Header.{Header}
 use Rattle.flat_list.specs.declared.command.Reply.{Reply}
 use Rattle.flat_list.specs.declared.command.Reply.TheVariants as replies
 use Rattle.flat_list.specs.Sections.{name_at}
+use Rattle.chain_deeds.specs.Made.{Does}
 use Rattle.chain_deeds.specs.Sides.{Side}
 use Rattle.port_search.proofs.TurnSearch.{gave_none}
 use Rattle.race_record.specs.Deeds.{Deed, entries_in}
@@ -25,6 +29,7 @@ use Rattle.shared_ops.specs.declared.sock.Sock.{Sock}
 use Rattle.shared_ops.specs.declared.sock.Sock.TheVariants as socks
 use Rattle.shared_ops.specs.declared.tables.Tables.{Tables}
 use Rattle.shared_ops.specs.declared.tables.Worker.{Worker}
+use Rattle.shared_ops.specs.Goes as ops
 use Rattle.shared_ops.specs.Goes.{Went, CarriedOut}
 use Rattle.shared_ops.specs.Socks.{mine_of, FitsState}
 use Rattle.shared_ops.specs.Stands.{IsReady, MayTell, StandsAs, buckets_of, turned, chained}
@@ -34,11 +39,11 @@ use Rattle.section_machine.specs.Places.{Labelled, HaveNames, at_place, those, I
 use Rattle.section_machine.specs.Searches as searches
 use Rattle.section_machine.specs.Sections.{Kept, kept}
 use Rattle.section_machine.specs.Standing.{Roll, roll_of, IsSection, IsOpen, StandsIn, AreOf, Tells}
-use Rattle.section_machine.proofs.Asked.{asked_so, IsAbout, HasName, Named, Keeps}
+use Rattle.section_machine.proofs.Asked.{asked_so, IsAbout, HasName, OnLeft, Named, Keeps}
 use Rattle.section_machine.proofs.Owns.{each_there, put_back, put_same}
 use Rattle.section_machine.proofs.Places.{open_named}
 use Rattle.section_machine.proofs.Rolls.{IsThere, changed}
-use Rattle.section_machine.proofs.Stays.{may_tell}
+use Rattle.section_machine.proofs.Stays.{Asks, GoesOn, asks_back, may_tell}
 
 -- a socket stands by its state as by its type
 pub stands_typed : (t : Tables) (s : Sock) (v : View) (c : Side) → FitsState s → StandsIn (mine_of s).owner.state t (mine_of s) v c → StandsAs t s v c
@@ -79,6 +84,11 @@ refused_went did count name p v u c d (errors.LeftOff cause) told h = absurd (cc
 pub on_err : {T E P : Type 0} (r : Result T E) → P → OnErr r P
 on_err (Ok x) p = tt
 on_err (Err e) p = p
+
+-- a section whose labels are as they were
+pub same_section : (t : Tables) (k : Kept) (header : Header) (l l1 : Labelled) (moment : ℕ) (o : Offsets) (waits : List Mine) (w : Worker) → kept header (own_of l moment o waits) ≡ k → l1 ≡ l → IsSection t k w → IsSection t (kept header (own_of l1 moment o waits)) w
+same_section t k header l l1 moment o waits w view same section =
+    subst (λ (x : Kept). IsSection t x w) (sym (ap (λ (x : Labelled). kept header (own_of x moment o waits)) same ∙ view)) section
 
 -- the open sockets, where one was taken out and put back
 pub sockets_back : (k : Kept) (h : Header) (l l1 l2 : Labelled) (moment : ℕ) (o : Offsets) (waits : List Mine) (i : ℕ) (m : Mine) → kept h (own_of l moment o waits) ≡ k → at_place l.places i ≡ Some m → l1 ≡ with_place l i None → l2 ≡ with_place l1 i (Some m) → those l2.places ≡ k.own.sockets
@@ -156,6 +166,58 @@ module _ (t : Tables) (k : Kept) (header : Header) (l l1 : Labelled) (moment : �
   pub tells_before : MayTell w (mine_of s).owner.name
   tells_before = may_tell roll (mine_of s).owner.name (words.caller w.turns) was.given before.tells
 
+  -- the socket is back at its place, as it was
+  back_there : (l2 : Labelled) → l2 ≡ with_place l1 i (Some (mine_of s)) → l2 ≡ l
+  back_there l2 is =
+      is ∙ (ap (λ (x : Labelled). with_place x i (Some (mine_of s))) takes.after ∙ put_same l i (mine_of s) takes.there)
+
+  put_there : (o2 : Offsets) (l2 : Labelled) → l2 ≡ with_place l1 i (Some (mine_of s)) → with_socket (own_of l moment o2 waits) (mine_of s) ≡ own_of l2 moment o2 waits
+  put_there o2 l2 is =
+      put_back l i (mine_of s) (mine_of s) b.names takes.there takes.name moment o2 waits
+      ∙ ap (λ (x : Labelled). own_of x moment o2 waits) (put_same l i (mine_of s) takes.there ∙ sym (back_there l2 is))
+
+  module _ (u : Worker) (ready : IsReady t u) (caller : words.caller u.turns ≡ words.caller w.turns) where
+    abbrev its_name : ℕ
+    its_name = (mine_of s).owner.name
+
+    -- the section, with the socket as that now, where so was asked and done
+    section_on : (o2 : Offsets) (m : Mine) (new : List (Placed Entry)) (deeds : List Deed) → GoesOn (turned w) (turned u) (chained t w) (chained t u) new deeds → Asks (IsAbout its_name) new → Each (OnLeft (HasName its_name)) deeds
+        → m.owner.name ≡ its_name → ((mine_of s).owner.state ≡ states.Listening → m.owner.state ≡ states.Listening) → StandsIn m.owner.state t m (turned u) (chained t u)
+        → IsSection t (kept header (with_socket (own_of l moment o2 waits) m)) u
+    section_on o2 m new deeds on about goes name still stands =
+        let now = changed t roll (turned w) (turned u) (chained t w) (chained t u) new deeds on before.tells (record { all = before.stand; unspoken = before.unspoken })
+        (mine_of s) m there name still about goes stands in
+        record {
+          tables = record { shape = before.tables.shape; seed = before.tables.seed; buckets = before.tables.buckets };
+          ready = ready;
+          number = before.number;
+          tells = subst (λ (c : ℕ). Tells c l.number) (sym caller) before.tells;
+          stand = now.all;
+          unspoken = now.unspoken;
+        }
+
+    -- and so as it was
+    section_again : (o2 : Offsets) (l2 : Labelled) (new : List (Placed Entry)) (deeds : List Deed) → GoesOn (turned w) (turned u) (chained t w) (chained t u) new deeds → Asks (IsAbout its_name) new → Each (OnLeft (HasName its_name)) deeds → StandsAs t s (turned u) (chained t u)
+        → l2 ≡ with_place l1 i (Some (mine_of s)) → IsSection t (kept header (own_of l2 moment o2 waits)) u
+    section_again o2 l2 new deeds on about goes stands is =
+        subst (λ (x : Own). IsSection t (kept header x) u) (put_there o2 l2 is)
+        (section_on o2 (mine_of s) new deeds on about goes refl (λ listens. listens) (typed_stands t s (turned u) (chained t u) takes.state stands))
+
+    -- where nothing was asked or done
+    pub rests_so : (l2 : Labelled) → Gave (turned w) (turned u) [] → chained t u ≡ chained t w → StandsAs t s (turned u) (chained t u) → l2 ≡ with_place l1 i (Some (mine_of s)) → IsSection t (kept header (own_of l2 moment o waits)) u
+    rests_so l2 gave same stands is =
+        section_again o l2 [] [] (record { gave = gave; does = subst (λ (c : Side). Does [] (chained t w) c) (sym same) (does_none (chained t w)) }) tt tt stands is
+
+    -- where an operation was left off
+    pub left_so : (plan : Asking Did) → Keeps (mine_of s) plan → (o2 : Offsets) (l2 : Labelled) → ops.LeftOff header.shape.bind its_name plan (turned w) (turned u) (chained t w) (chained t u) → StandsAs t s (turned u) (chained t u)
+        → l2 ≡ with_place l1 i (Some (mine_of s)) → IsSection t (kept header (own_of l2 moment o2 waits)) u
+    left_so plan keeps o2 l2 off stands is =
+        let L = (mine_of s).owner.state ≡ states.Listening in
+        let asked = asked_so (IsAbout its_name) (HasName its_name) (Named L its_name) header.shape.bind plan off.rest off.deeds off.leads keeps in
+        let entries = entries_in header.shape.bind off.deeds in
+        section_again o2 l2 (entries ++ off.back) off.deeds (record { gave = off.gave; does = off.does })
+        (asks_back (IsAbout its_name) header.shape.bind its_name entries off.back refl off.gives asked.entries) asked.unhashed stands is
+
   module _ (u : Worker) (ready : IsReady t u) (caller : words.caller u.turns ≡ words.caller w.turns) (plan : Asking Did) (keeps : Keeps (mine_of s) plan) where
     -- the section, with the socket as that now
     section_with : (o2 : Offsets) (did : Did) (m : Mine) → Went header.shape.bind plan (turned w) (turned u) (chained t w) (chained t u) (ends did)
@@ -165,17 +227,7 @@ module _ (t : Tables) (k : Kept) (header : Header) (l l1 : Labelled) (moment : �
         let L = (mine_of s).owner.state ≡ states.Listening in
         let n = (mine_of s).owner.name in
         let asked = asked_so (IsAbout n) (HasName n) (Named L n) header.shape.bind plan (ends did) went.deeds went.leads keeps in
-        let now = changed t roll (turned w) (turned u) (chained t w) (chained t u) (entries_in header.shape.bind went.deeds) went.deeds
-        (record { gave = went.gave; does = went.does }) before.tells (record { all = before.stand; unspoken = before.unspoken })
-        (mine_of s) m there name still asked.entries asked.unhashed stands in
-        record {
-          tables = record { shape = before.tables.shape; seed = before.tables.seed; buckets = before.tables.buckets };
-          ready = ready;
-          number = before.number;
-          tells = subst (λ (c : ℕ). Tells c l.number) (sym caller) before.tells;
-          stand = now.all;
-          unspoken = now.unspoken;
-        }
+        section_on u ready caller o2 m (entries_in header.shape.bind went.deeds) went.deeds (record { gave = went.gave; does = went.does }) asked.entries asked.unhashed name still stands
 
     module _ (command : Header → Own → Option Mine → Asking Replied) (began : Bool) (reply_of : Own → Did → Replied)
         (is_then : command header own (Some (mine_of s)) ≡ and_then plan (λ did. ends (reply_of (after_search began own) did))) (o2 : Offsets) (drawn : o2 ≡ searches.after_search began o) where
@@ -212,10 +264,8 @@ module _ (t : Tables) (k : Kept) (header : Header) (l l1 : Labelled) (moment : �
           → Carries t k (command k.header k.own (open_socket k.own label)) (kept header (own_of l2 moment o2 waits)) w u reply
       refused_then end reply l2 went stands is so =
           let m = mine_of s in
-          let back : l2 ≡ l = is ∙ (ap (λ (x : Labelled). with_place x i (Some m)) takes.after ∙ put_same l i m takes.there) in
-          let put : with_socket (own_of l moment o2 waits) m ≡ own_of l2 moment o2 waits =
-          put_back l i m m b.names takes.there takes.name moment o2 waits
-          ∙ ap (λ (x : Labelled). own_of x moment o2 waits) (put_same l i m takes.there ∙ sym back) in
+          let back = back_there l2 is in
+          let put = put_there o2 l2 is in
           found (refused end) (own_of l2 moment o2 waits) reply went
           (so (after_search began own) ∙ ap (λ (x : Own). answers x reply) (after ∙ ap (λ (x : Labelled). own_of x moment o2 waits) (sym back)))
           (subst (λ (x : Own). IsSection t (kept header x) u) put

@@ -4,7 +4,8 @@ use Rattle.turn_table.specs.Passes as words
 use Rattle.table_model.specs.Own.{Mine}
 use Rattle.shared_ops.specs.declared.tables.Worker.{Worker}
 use Rattle.shared_ops.specs.Spends.{Draws}
-use Rattle.section_machine.specs.Carried.{Spends}
+use Rattle.shared_ops.specs.Stands.{MayEnter, MayDraw}
+use Rattle.section_machine.specs.Carried.{HasEnough, Spends}
 use Rattle.section_machine.specs.Sections.{Kept}
 
 -- an operation's, which leaves so many TIME_WAITs more
@@ -20,3 +21,13 @@ pub spends_none : (old new : Kept) (w : Worker) → new.own.waits ≡ old.own.wa
 spends_none old new w same =
     let long : length new.own.waits ≡ length old.own.waits = ap length same in
     record { entered = omega arith; drawn = λ rest may. omega arith }
+
+-- what two commands take is enough for the second one
+pub enough_after : (old new : Kept) (w u : Worker) → MayEnter (2 * 65540 + length old.own.waits) w → MayDraw (2 * 6 + 2 * length old.own.waits) w → Spends old new w u → HasEnough new u
+enough_after old new w u enters draws spends =
+    let entered = spends.entered in
+    record { enters = omega arith; draws = spends.drawn 6 (omega arith) }
+
+-- and what a section may still draw that has no TIME_WAIT
+pub draws_after : (old new : Kept) (w u : Worker) (n many : ℕ) → length old.own.waits ≡ 0 → MayDraw many w → n + 6 ≤ many → Spends old new w u → MayDraw (n + 2 * length new.own.waits) u
+draws_after old new w u n many none draws enough spends = spends.drawn n (omega arith)

@@ -1,5 +1,5 @@
 -- What a section has, as one of its sockets is operated on.
-use Rattle.std.proofs.Common.{◌≡◌, ◌≢◌, ℕ, ◌==◌, ◌&&◌, ◌%◌, ◌≤◌, not, Bool, true, false, cond, List, [], ◌∷◌, map, filter, Option, Some, None, refl, sym, ap, subst, ◌∙◌, ne_eqb, arith}
+use Rattle.std.proofs.Common.{◌≡◌, ◌≢◌, ℕ, ◌==◌, ◌&&◌, ◌%◌, ◌≤◌, not, Bool, true, false, cond, List, [], ◌∷◌, ◌++◌, map, filter, Option, Some, None, refl, sym, ap, subst, ◌∙◌, ne_eqb, arith}
 use Rattle.std.proofs.lemmas.Bool.{eqb-false}
 use Rattle.sock_card.specs.Conflict.{owner_key}
 use Rattle.list_words.specs.Lists.{Each}
@@ -24,6 +24,7 @@ use Rattle.chain_deeds.specs.Made.{Does, AllLeave, Spares}
 use Rattle.race_record.specs.Deeds.{Deed, entered, inserted, added, left, reaped}
 use Rattle.table_model.specs.Own.{Mine, is_named, replaced, card_of}
 use Rattle.shared_ops.specs.declared.tables.Tables.{Tables}
+use Rattle.shared_ops.specs.Goes.{GivesUp}
 use Rattle.shared_ops.specs.Stands.{Knows, IsOwner, IsHashed, place_in, buckets_of}
 use Rattle.shared_ops.proofs.Knows.{stands_of, known_of}
 use Rattle.section_machine.specs.Standing.{Roll, IsGiven, IsUngiven, Tells, IsApart, Family, StandsIn, IsOpen, IsUnspoken}
@@ -66,12 +67,14 @@ about_keeps mine b (requests.RemoveWaiting n) h = tt
 
 birth_misses : (p b a : ℕ) (request : Request) → b ≢ a → IsBirth p b request → Missed a request
 birth_misses p b a (requests.Inherit parent n local remote rport) ne h = other n b a h.1 ne
+birth_misses p b a (requests.Remove n) ne h = other n b a h ne
 birth_misses p b a (requests.RemoveWaiting n) ne h = refl
 birth_misses p b a _ ne h = absurd h
 
 birth_keeps : (mine : ℕ → Bool) (p b : ℕ) (request : Request) → (mine b ≡ true → mine p ≡ true) → IsBirth p b request → KeepsOpen mine request
 birth_keeps mine p b (requests.Inherit parent n local remote rport) beside h =
     λ said. ap mine h.0 ∙ beside (sym (ap mine h.1) ∙ said)
+birth_keeps mine p b (requests.Remove n) beside h = tt
 birth_keeps mine p b (requests.RemoveWaiting n) beside h = tt
 birth_keeps mine p b _ beside h = absurd h
 
@@ -111,6 +114,16 @@ all_miss mine name xs h =
 
 abbrev pub Asks : (Request → Type 0) → List (Placed Entry) → Type 0
 Asks P xs = Each (λ (x : Placed Entry). P x.note.entry.request) xs
+
+-- a port that is given up, among what may be asked
+back_asks : (P : Request → Type 0) (count name : ℕ) (back : List (Placed Entry)) → P (requests.Remove name) → GivesUp count name back → Asks P back
+back_asks P count name [] may gives = tt
+back_asks P count name (x ∷ []) may gives = (subst P (sym (ap (λ (e : Entry). e.request) gives.1.entry)) may, tt)
+back_asks P count name (x ∷ y ∷ xs) may gives = absurd gives
+
+pub asks_back : (P : Request → Type 0) (count name : ℕ) (new back : List (Placed Entry)) → P (requests.Remove name) → GivesUp count name back → Asks P new → Asks P (new ++ back)
+asks_back P count name new back may gives asks =
+    each_append (λ (x : Placed Entry). P x.note.entry.request) new back asks (back_asks P count name back may gives)
 
 pass_by : (P : Request → Type 0) (mine : ℕ → Bool) (name : ℕ) (xs : List (Placed Entry)) → Asks P xs → ((request : Request) → P request → Passes mine name request) → AllPass mine name xs
 pass_by P mine name xs h each =

@@ -1,6 +1,6 @@
 -- What a step did.
 use Rattle.std.proofs.Common.{Result, Ok, Err}
-use Rattle.std.specs.Prelude.{IfOk, OnOk}
+use Rattle.std.specs.Prelude.{IfOk, OnErr}
 use Rattle.flat_list.specs.declared.command.Command.{Command}
 use Rattle.flat_list.specs.declared.command.Reply.{Reply}
 use Rattle.table_model.specs.Commands.{plan}
@@ -16,6 +16,6 @@ module _ {E : Type 0} (t : Tables) (old new : Kept) (command : Command) (w u : W
   did_so (Ok reply) c = record { deeds = c.deeds; goes = c.goes; gave = c.gave; does = c.does }
   did_so (Err e) c = tt
 
-  pub section_so : (r : Result Reply E) → IfOk r (Carries t old (plan old.header old.own command) new w u) → OnOk r (IsSection t new u)
-  section_so (Ok reply) c = c.section
-  section_so (Err e) c = tt
+  pub section_so : (r : Result Reply E) → IfOk r (Carries t old (plan old.header old.own command) new w u) → OnErr r (IsSection t new u) → IsSection t new u
+  section_so (Ok reply) c off = c.section
+  section_so (Err e) c off = off

@@ -35,6 +35,16 @@ pub record HasEnough (k : Kept) (w : Worker) : Type 0 where
   pub enters : MayEnter (65540 + length k.own.waits) w
   pub draws : MayDraw (6 + 2 * length k.own.waits) w
 
+-- it may carry out so many commands more
+pub record MayCarry (commands : ℕ) (w : Worker) : Type 0 where
+  pub enters : MayEnter (65540 * commands) w
+  pub draws : MayDraw (6 * commands) w
+
+-- and so, where a section's TIME_WAITs are to be reaped yet
+pub record MayGoOn (commands : ℕ) (k : Kept) (w : Worker) : Type 0 where
+  pub enters : MayEnter (65540 * commands + length k.own.waits) w
+  pub draws : MayDraw (6 * commands + 2 * length k.own.waits) w
+
 -- a command takes no more than that, and leaves what the TIME_WAITs will take
 pub record Spends (old new : Kept) (w u : Worker) : Type 0 where
   pub entered : words.draws u.turns + length new.own.waits ≤ words.draws w.turns + length old.own.waits + 65540

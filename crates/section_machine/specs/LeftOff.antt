@@ -1,4 +1,4 @@
--- What a command of a section leaves that is left off for want of memory, whoever else was at the tables: our own.
+-- What a command of a section leaves that is left off, whoever else was at the tables: our own.
 use Rattle.std.specs.Prelude.{◌≡◌, ◌⊎◌, ℕ, ◌&&◌, Bool, true, false, List, [], ◌++◌, Option, None, Some, filter}
 use Rattle.std.specs.Option.{option_map, option_map_or}
 use Rattle.list_words.specs.Lists.{Each}

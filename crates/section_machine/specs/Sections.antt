@@ -1,7 +1,8 @@
 -- What a command of a section did at the tables, whoever else was there: our own.
-use Rattle.std.specs.Prelude.{◌≡◌, ◌+◌, ◌≤◌, List, length}
+use Rattle.std.specs.Prelude.{◌≡◌, ◌⊎◌, ℕ, ◌+◌, ◌≤◌, List, [], ◌∷◌, ◌++◌, length, Result, Ok, Err}
 use Rattle.bind_buckets.specs.Turned.{View, Gave}
 use Rattle.flat_list.specs.declared.command.Command.{Command}
+use Rattle.flat_list.specs.declared.command.Command.TheVariants as commands
 use Rattle.flat_list.specs.declared.command.Reply.{Reply}
 use Rattle.flat_list.specs.declared.header.Header.{Header}
 use Rattle.chain_deeds.specs.Made.{Does}
@@ -24,6 +25,19 @@ pub record KeepsHeader (old new : Kept) : Type 0 where
   pub header : new.header ≡ old.header
   pub number : new.own.number ≡ old.own.number
   pub labels : length new.own.labels ≤ length old.own.labels + 1
+
+-- the label that a command gives, if it makes a socket
+abbrev pub given_by : Command → List (List ℕ)
+given_by (commands.Socket label options) = label ∷ []
+given_by (commands.Accept listener label from at) = label ∷ []
+given_by (commands.Syn listener label from at) = label ∷ []
+given_by (commands.Ack request label) = label ∷ []
+given_by _ = []
+
+-- the labels are the old ones, and behind them the one that the command gives; where it was left off, maybe without it
+abbrev pub GivesLabels : {X E : Type 0} → Command → List (List ℕ) → List (List ℕ) → Result X E → Type 0
+GivesLabels command old new (Ok x) = new ≡ old ++ given_by command
+GivesLabels command old new (Err e) = (new ≡ old ++ given_by command) ⊎ (new ≡ old)
 
 -- The command's plan went by these deeds to that reply, and left of the section's own what is next; the pass of the
 -- buckets gave their entries, the pass of the chains made their changes, and neither did anything else.

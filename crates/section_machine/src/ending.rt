@@ -1,33 +1,33 @@
 //! The commands by which sockets of a section end: `close`, `drop` and `reap`.
 
-ghost use Rattle.std.specs.Prelude.{◌≡◌, IfOk, OnErr};
+ghost use Rattle.std.specs.Prelude.{◌≡◌, true, IfOk, IfErr, OnErr};
 ghost use Rattle.turn_table.specs.Passes as words;
 ghost use Rattle.flat_list.specs.declared.command.Command.TheVariants as variants;
 ghost use Rattle.table_model.specs.Own.{open_socket};
 ghost use Rattle.table_model.specs.Commands as commands;
+ghost use Rattle.table_model.specs.declared.operation.Cause.TheVariants as causes;
 ghost use Rattle.shared_ops.specs.Groups.{KeepsLists};
 ghost use Rattle.shared_ops.specs.Stands.{IsReady};
 ghost use Rattle.section_machine.specs.Carried.{Carries, HasEnough, Spends};
 ghost use Rattle.section_machine.specs.LeftOff.{IsLeftOff};
-ghost use Rattle.section_machine.specs.Sections.{KeepsHeader};
+ghost use Rattle.section_machine.specs.Sections.{GivesLabels, KeepsHeader};
 ghost use Rattle.section_machine.specs.Standing.{IsSection};
 
 use crate::machine::Machine;
+use crate::waits::cause_of;
 use flat_list::{Label, Reply};
-use patience::Waits;
-use shared_ops::{Tables, Worker, drop_sock};
-use std::alloc::AllocError;
-use std::sync::Wait;
+use patience::Patience;
+use shared_ops::{Cause, Tables, Worker, drop_sock};
 
 impl Machine {
-    /// Closes the socket that a label names. Where memory is wanting it stays.
-    pub(crate) fn close<R: Wait>(
+    /// Closes the socket that a label names. Where it is left off the socket stays.
+    pub(crate) fn close<P: Patience>(
         &mut self,
-        rt: &R,
+        patience: &P,
         tables: &Tables,
         worker: &mut Worker,
         label: &Label,
-    ) -> Result<Reply, AllocError>
+    ) -> Result<Reply, Cause>
         requires section { IsSection tables.now self.old worker.old }
         requires enough { HasEnough self.old worker.old }
         ensures carried { IfOk result (Carries tables.now self.old
@@ -40,28 +40,34 @@ impl Machine {
         ensures left { OnErr result (IsLeftOff tables.now self.old (variants.Close label.now)
             self.new worker.old worker.new) }
         ensures err { OnErr result (self.new.own.sockets ≡ self.old.own.sockets) }
+        ensures section { OnErr result (IsSection tables.now self.new worker.new) }
+        ensures gives { GivesLabels (variants.Close label.now) self.old.own.labels self.new.own.labels result }
+        ensures patient { P.endless ≡ true → IfErr result (λ cause. cause ≡ causes.Memory) }
         ensures kept { KeepsHeader self.old self.new }
     {
         let Some((place, socket)) = self.labels.take(label) else {
             return Ok(Reply::Ebadf);
         };
-        match self.waits.close(rt, tables, worker, socket, self.moment) {
+        match self
+            .waits
+            .close(patience, tables, worker, socket, self.moment)
+        {
             Ok(reply) => Ok(reply),
-            Err(socket) => {
+            Err((socket, cause)) => {
                 self.labels.put(place, socket);
-                Err(AllocError)
+                Err(cause)
             }
         }
     }
 
-    /// Lets the socket that a label names go. Where memory is wanting it stays.
-    pub(crate) fn drop_labelled<R: Wait>(
+    /// Lets the socket that a label names go. Where it is left off the socket stays.
+    pub(crate) fn drop_labelled<P: Patience>(
         &mut self,
-        rt: &R,
+        patience: &P,
         tables: &Tables,
         worker: &mut Worker,
         label: &Label,
-    ) -> Result<Reply, AllocError>
+    ) -> Result<Reply, Cause>
         requires section { IsSection tables.now self.old worker.old }
         requires enough { HasEnough self.old worker.old }
         ensures carried { IfOk result (Carries tables.now self.old
@@ -74,28 +80,32 @@ impl Machine {
         ensures left { OnErr result (IsLeftOff tables.now self.old (variants.Drop label.now)
             self.new worker.old worker.new) }
         ensures err { OnErr result (self.new.own.sockets ≡ self.old.own.sockets) }
+        ensures section { OnErr result (IsSection tables.now self.new worker.new) }
+        ensures gives { GivesLabels (variants.Drop label.now) self.old.own.labels self.new.own.labels result }
+        ensures patient { P.endless ≡ true → IfErr result (λ cause. cause ≡ causes.Memory) }
         ensures kept { KeepsHeader self.old self.new }
     {
         let Some((place, socket)) = self.labels.take(label) else {
             return Ok(Reply::Ebadf);
         };
-        match drop_sock(&Waits::by(rt), tables, worker, socket) {
+        match drop_sock(patience, tables, worker, socket) {
             Ok(()) => Ok(Reply::Ok),
-            Err((socket, _)) => {
+            Err((socket, end)) => {
                 self.labels.put(place, socket);
-                Err(AllocError)
+                Err(cause_of(end))
             }
         }
     }
 
     /// Lets those of the section's sockets in TIME_WAIT go that have lasted their minute, and counts those that were
-    /// still there. For want of memory a first part of them is gone, and the others are left for the next call.
-    pub(crate) fn reap<R: Wait>(
+    /// still there. Where it is left off a first part of them is gone, and the others are left for the next
+    /// call.
+    pub(crate) fn reap<P: Patience>(
         &mut self,
-        rt: &R,
+        patience: &P,
         tables: &Tables,
         worker: &mut Worker,
-    ) -> Result<Reply, AllocError>
+    ) -> Result<Reply, Cause>
         requires section { IsSection tables.now self.old worker.old }
         requires enough { HasEnough self.old worker.old }
         ensures carried { IfOk result (Carries tables.now self.old
@@ -106,9 +116,12 @@ impl Machine {
         ensures listed { KeepsLists tables.now worker.old worker.new }
         ensures left { OnErr result (IsLeftOff tables.now self.old variants.Reap self.new worker.old worker.new) }
         ensures err { OnErr result (self.new.own.sockets ≡ self.old.own.sockets) }
+        ensures section { OnErr result (IsSection tables.now self.new worker.new) }
+        ensures gives { GivesLabels variants.Reap self.old.own.labels self.new.own.labels result }
+        ensures patient { P.endless ≡ true → IfErr result (λ cause. cause ≡ causes.Memory) }
         ensures kept { KeepsHeader self.old self.new }
     {
-        let count = self.waits.reap(rt, tables, worker, self.moment)?;
+        let count = self.waits.reap(patience, tables, worker, self.moment)?;
         Ok(Reply::Count(count))
     }
 }

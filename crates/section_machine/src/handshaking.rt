@@ -1,39 +1,38 @@
 //! A section's `syn` and `ack`: a handshake begins, and is over.
 
-ghost use Rattle.std.specs.Prelude.{◌≡◌, ◌<◌, ◌+◌, ◌^◌, length, IfOk, OnErr};
+ghost use Rattle.std.specs.Prelude.{◌≡◌, ◌<◌, ◌+◌, ◌^◌, length, true, IfOk, IfErr, OnErr};
 ghost use Rattle.turn_table.specs.Passes as words;
 ghost use Rattle.flat_list.specs.declared.command.Command.TheVariants as variants;
 ghost use Rattle.table_model.specs.Own as own;
 ghost use Rattle.table_model.specs.Own.{open_socket};
 ghost use Rattle.table_model.specs.Commands as commands;
+ghost use Rattle.table_model.specs.declared.operation.Cause.TheVariants as causes;
 ghost use Rattle.shared_ops.specs.Groups.{KeepsLists};
 ghost use Rattle.shared_ops.specs.Stands.{IsReady};
 ghost use Rattle.section_machine.specs.Carried.{Carries, HasEnough, Spends};
 ghost use Rattle.section_machine.specs.LeftOff.{IsLeftOff};
-ghost use Rattle.section_machine.specs.Sections.{KeepsHeader};
+ghost use Rattle.section_machine.specs.Sections.{GivesLabels, KeepsHeader};
 ghost use Rattle.section_machine.specs.Standing.{IsSection};
 
 use crate::machine::{Machine, refusal};
 use crate::meeting::connect_error;
 use flat_list::{End, Label, Reply};
-use patience::Waits;
-use shared_ops::{Tables, Worker, ack, syn};
-use std::alloc::AllocError;
-use std::sync::Wait;
+use patience::Patience;
+use shared_ops::{Cause, Tables, Worker, ack, syn};
 
 impl Machine {
     /// Begins a handshake with the listener that a label names, by a request under a label of its own, which is given
     /// whatever comes of it.
-    pub(crate) fn syn<R: Wait>(
+    pub(crate) fn syn<P: Patience>(
         &mut self,
-        rt: &R,
+        patience: &P,
         tables: &Tables,
         worker: &mut Worker,
         listener: &Label,
         label: Label,
         from: End,
         at: End,
-    ) -> Result<Reply, AllocError>
+    ) -> Result<Reply, Cause>
         requires section { IsSection tables.now self.old worker.old }
         requires enough { HasEnough self.old worker.old }
         requires room { length self.old.own.labels + 1 < 2 ^ 24 }
@@ -47,6 +46,10 @@ impl Machine {
         ensures left { OnErr result (IsLeftOff tables.now self.old
             (variants.Syn listener.now label from at) self.new worker.old worker.new) }
         ensures err { OnErr result (self.new.own.sockets ≡ self.old.own.sockets) }
+        ensures section { OnErr result (IsSection tables.now self.new worker.new) }
+        ensures gives { GivesLabels (variants.Syn listener.now label from at)
+            self.old.own.labels self.new.own.labels result }
+        ensures patient { P.endless ≡ true → IfErr result (λ cause. cause ≡ causes.Memory) }
         ensures kept { KeepsHeader self.old self.new }
     {
         let place = self.labels.len();
@@ -56,7 +59,7 @@ impl Machine {
         let Some(socket) = self.labels.at(listener) else {
             return Ok(Reply::Ebadf);
         };
-        match syn(&Waits::by(rt), tables, worker, socket, name, from, at) {
+        match syn(patience, tables, worker, socket, name, from, at) {
             Ok(request) => {
                 self.labels.put(place, request);
                 Ok(Reply::Ok)
@@ -67,14 +70,14 @@ impl Machine {
 
     /// Ends the handshake of the request that a label names: the child comes under a label of its own, which is given
     /// whatever comes of it, and the request's label names nothing then. After a refusal the request stays.
-    pub(crate) fn ack<R: Wait>(
+    pub(crate) fn ack<P: Patience>(
         &mut self,
-        rt: &R,
+        patience: &P,
         tables: &Tables,
         worker: &mut Worker,
         request: &Label,
         label: Label,
-    ) -> Result<Reply, AllocError>
+    ) -> Result<Reply, Cause>
         requires section { IsSection tables.now self.old worker.old }
         requires enough { HasEnough self.old worker.old }
         requires room { length self.old.own.labels + 1 < 2 ^ 24 }
@@ -88,6 +91,9 @@ impl Machine {
         ensures left { OnErr result (IsLeftOff tables.now self.old
             (variants.Ack request.now label) self.new worker.old worker.new) }
         ensures err { OnErr result (self.new.own.sockets ≡ self.old.own.sockets) }
+        ensures section { OnErr result (IsSection tables.now self.new worker.new) }
+        ensures gives { GivesLabels (variants.Ack request.now label) self.old.own.labels self.new.own.labels result }
+        ensures patient { P.endless ≡ true → IfErr result (λ cause. cause ≡ causes.Memory) }
         ensures kept { KeepsHeader self.old self.new }
     {
         let child_place = self.labels.len();
@@ -97,7 +103,7 @@ impl Machine {
             return Ok(Reply::Ebadf);
         };
         let listener = self.labels.named(socket.owner().origin);
-        match ack(&Waits::by(rt), tables, worker, socket, listener, name) {
+        match ack(patience, tables, worker, socket, listener, name) {
             Ok(child) => {
                 self.labels.put(child_place, child);
                 Ok(Reply::Ok)

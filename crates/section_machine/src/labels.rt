@@ -58,6 +58,13 @@ impl Labels {
         }
     }
 
+    /// The section's number.
+    pub fn number(&self) -> u32
+        ensures { result ≡ self.now.number }
+    {
+        self.number
+    }
+
     /// How many labels it has given.
     pub fn len(&self) -> usize
         ensures labels { result ≡ length self.now.labels }

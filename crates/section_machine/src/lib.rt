@@ -1,13 +1,15 @@
 //! A section of a script at tables that threads share: its labels with their sockets, and its commands one by one.
 //!
 //! A [`Machine`] is what a section has for itself: [`Labels`] with the sockets that they name, [`Waits`] for the
-//! sockets in TIME_WAIT that it left, [`Offsets`] for where its searches begin, and its moment. [`Machine::step`]
-//! carries out one command, any but a lookup, by the operations of shared_ops on the worker that it is handed, and gives
-//! the reply. It waits for the turn of one bucket and the lock of one chain at a time.
+//! sockets in TIME_WAIT that it left, [`Offsets`] for where its searches begin, and its moment. [`Machine::try_step`]
+//! carries out one command, any but a lookup, by the operations of shared_ops on the worker that it is handed, and
+//! gives the reply. It wants the turn of one bucket and the lock of one chain at a time, for each of which it tries as
+//! long as its caller's patience lasts; [`Machine::step`] waits for good.
 //!
 //! Its contract says which entries and changes it made, whoever else is at the tables: those by which the command's
-//! plan goes to that reply and to what the section keeps then, and no others. For want of memory the plan is left off, and
-//! the contract says by which entries and changes it went so far, and what the section keeps.
+//! plan goes to that reply and to what the section keeps then, and no others. For want of memory or of patience the
+//! plan is left off, and the contract says by which entries and changes it went so far, and what the section keeps: it
+//! takes the next command then, too.
 //!
 //! ```text
 //! let mut machine = Machine::new(alloc, seed, &header, number);
@@ -23,6 +25,8 @@ pub mod machine;
 mod meeting;
 pub mod offsets;
 mod reaping;
+#[cfg(test)]
+mod tests;
 pub mod waits;
 
 pub use labels::Labels;

@@ -1,7 +1,7 @@
 //! One section's own: its labels with their sockets, its moment, where its searches begin, and the TIME_WAITs that it
 //! left; its commands over tables that threads share.
 
-ghost use Rattle.std.specs.Prelude.{◌≡◌, false, ◌≤◌, ◌<◌, ◌+◌, ◌^◌, ◌%◌, ◌==◌, ◌&&◌, length, IfOk, OnOk, OnErr};
+ghost use Rattle.std.specs.Prelude.{◌≡◌, true, false, ◌≤◌, ◌<◌, ◌+◌, ◌^◌, ◌%◌, ◌==◌, ◌&&◌, length, IfOk, IfErr, OnOk, OnErr};
 ghost use Rattle.turn_table.specs.Passes as words;
 ghost use Rattle.flat_list.specs.Ports.{size};
 ghost use Rattle.flat_list.specs.declared.command.Command.TheVariants as variants;
@@ -11,13 +11,12 @@ ghost use Rattle.table_model.specs.Commands as commands;
 ghost use Rattle.table_model.specs.Means.{is_lookup};
 ghost use Rattle.table_model.specs.declared.operation.Cause.TheVariants as causes;
 ghost use Rattle.table_model.specs.declared.operation.OpEnd.TheVariants as errors;
-ghost use Rattle.shared_ops.specs.Goes.{NotBusy};
 ghost use Rattle.shared_ops.specs.Groups.{KeepsLists};
 ghost use Rattle.shared_ops.specs.Socks.{mine_of};
 ghost use Rattle.shared_ops.specs.Stands.{IsReady, turned, chained};
 ghost use Rattle.section_machine.specs.Carried.{Carries, HasEnough, Keeps, Spends};
 ghost use Rattle.section_machine.specs.LeftOff.{LeftOff, IsLeftOff};
-ghost use Rattle.section_machine.specs.Sections.{Did, KeepsHeader, kept};
+ghost use Rattle.section_machine.specs.Sections.{Did, GivesLabels, KeepsHeader, kept};
 ghost use Rattle.section_machine.specs.Standing.{IsSection};
 
 use crate::labels::Labels;
@@ -25,6 +24,7 @@ use crate::offsets::Offsets;
 use crate::waits::Waits;
 use flat_list::{Command, End, First, Header, Label, Options, Reply};
 use label_index::LabelSeed;
+use patience::Patience;
 use shared_ops::{Cause, OpEnd, Sock, Tables, Unbound, Worker, bind, listen};
 use sock_card::State;
 use std::alloc::{AllocError, Global};
@@ -53,15 +53,13 @@ impl Model for Machine {
     ghost invariant = { λ m. AreBefore m.moment m.waits };
 }
 
-/// A refusal, unless it is want of memory, by which alone an operation is left off that waits for good.
-pub(crate) fn refusal(end: OpEnd) -> Result<OpEnd, AllocError>
-    requires patient { NotBusy end }
+/// A refusal, unless the operation was left off.
+pub(crate) fn refusal(end: OpEnd) -> Result<OpEnd, Cause>
     ensures kept { IfOk result (λ kept. Keeps end kept) }
-    ensures wanted { OnErr result (end ≡ errors.LeftOff causes.Memory) }
+    ensures left { IfErr result (λ cause. end ≡ errors.LeftOff cause) }
 {
     match end {
-        OpEnd::LeftOff(Cause::Memory) => Err(AllocError),
-        OpEnd::LeftOff(Cause::Busy) => unreachable!(),
+        OpEnd::LeftOff(cause) => Err(cause),
         _ => Ok(end),
     }
 }
@@ -109,12 +107,27 @@ impl Machine {
         }
     }
 
+    /// The section's number.
+    pub fn number(&self) -> u32
+        ensures { result ≡ self.now.own.number }
+    {
+        self.labels.number()
+    }
+
+    /// How many labels it has given.
+    pub fn given(&self) -> usize
+        ensures { result ≡ length self.now.own.labels }
+    {
+        self.labels.len()
+    }
+
     /// Comes to a moment, in seconds, unless it lies behind.
     fn at(&mut self, tables: &Tables, worker: &Worker, moment: u32) -> Reply
         requires section { IsSection tables.now self.old worker.now }
         ensures carried { Carries tables.now self.old (commands.at_command self.old.own moment) self.new
             worker.now worker.now result }
         ensures kept { KeepsHeader self.old self.new }
+        ensures labels { self.new.own.labels ≡ self.old.own.labels }
         ensures waits { self.new.own.waits ≡ self.old.own.waits }
     {
         if moment < self.moment {
@@ -131,13 +144,15 @@ impl Machine {
         worker: &Worker,
         label: Label,
         options: Options,
-    ) -> Result<Reply, AllocError>
+    ) -> Result<Reply, Cause>
         requires section { IsSection tables.now self.old worker.now }
         requires room { length self.old.own.labels + 1 < 2 ^ 24 }
         ensures carried { IfOk result (Carries tables.now self.old (commands.socket_command self.old.own label options)
             self.new worker.now worker.now) }
         ensures left { OnErr result (self.new ≡ self.old) }
         ensures err { OnErr result (self.new.own.sockets ≡ self.old.own.sockets) }
+        ensures gives { GivesLabels (variants.Socket label options) self.old.own.labels self.new.own.labels result }
+        ensures wanted { IfErr result (λ cause. cause ≡ causes.Memory) }
         ensures kept { KeepsHeader self.old self.new }
         ensures waits { self.new.own.waits ≡ self.old.own.waits }
     {
@@ -150,14 +165,14 @@ impl Machine {
     }
 
     /// Binds the socket that a label names.
-    fn bind<R: Wait>(
+    fn bind<P: Patience>(
         &mut self,
-        rt: &R,
+        patience: &P,
         tables: &Tables,
         worker: &mut Worker,
         label: &Label,
         end: End,
-    ) -> Result<Reply, AllocError>
+    ) -> Result<Reply, Cause>
         requires section { IsSection tables.now self.old worker.old }
         requires enough { HasEnough self.old worker.old }
         ensures carried { IfOk result (Carries tables.now self.old
@@ -170,6 +185,9 @@ impl Machine {
         ensures left { OnErr result (IsLeftOff tables.now self.old (variants.Bind label.now end)
             self.new worker.old worker.new) }
         ensures err { OnErr result (self.new.own.sockets ≡ self.old.own.sockets) }
+        ensures section { OnErr result (IsSection tables.now self.new worker.new) }
+        ensures gives { GivesLabels (variants.Bind label.now end) self.old.own.labels self.new.own.labels result }
+        ensures patient { P.endless ≡ true → IfErr result (λ cause. cause ≡ causes.Memory) }
         ensures kept { KeepsHeader self.old self.new }
     {
         let Some((place, socket)) = self.labels.take(label) else {
@@ -177,7 +195,7 @@ impl Machine {
         };
         let begins = searches_bind(&socket, end);
         let ports = self.offsets.ports(begins, First::Odd);
-        match bind(&patience::Waits::by(rt), tables, worker, socket, end, ports) {
+        match bind(patience, tables, worker, socket, end, ports) {
             Ok((socket, port)) => {
                 self.labels.put(place, socket);
                 Ok(Reply::Port(port))
@@ -190,13 +208,13 @@ impl Machine {
     }
 
     /// Makes the socket that a label names a listener.
-    fn listen<R: Wait>(
+    fn listen<P: Patience>(
         &mut self,
-        rt: &R,
+        patience: &P,
         tables: &Tables,
         worker: &mut Worker,
         label: &Label,
-    ) -> Result<Reply, AllocError>
+    ) -> Result<Reply, Cause>
         requires section { IsSection tables.now self.old worker.old }
         requires enough { HasEnough self.old worker.old }
         ensures carried { IfOk result (Carries tables.now self.old
@@ -209,6 +227,9 @@ impl Machine {
         ensures left { OnErr result (IsLeftOff tables.now self.old (variants.Listen label.now)
             self.new worker.old worker.new) }
         ensures err { OnErr result (self.new.own.sockets ≡ self.old.own.sockets) }
+        ensures section { OnErr result (IsSection tables.now self.new worker.new) }
+        ensures gives { GivesLabels (variants.Listen label.now) self.old.own.labels self.new.own.labels result }
+        ensures patient { P.endless ≡ true → IfErr result (λ cause. cause ≡ causes.Memory) }
         ensures kept { KeepsHeader self.old self.new }
     {
         let Some((place, socket)) = self.labels.take(label) else {
@@ -216,7 +237,7 @@ impl Machine {
         };
         let begins = is_unbound(&socket);
         let ports = self.offsets.ports(begins, First::Odd);
-        match listen(&patience::Waits::by(rt), tables, worker, socket, ports) {
+        match listen(patience, tables, worker, socket, ports) {
             Ok((socket, port)) => {
                 self.labels.put(place, socket);
                 Ok(Reply::Port(port))
@@ -229,13 +250,13 @@ impl Machine {
     }
 
     /// Carries a command out.
-    fn carry<R: Wait>(
+    fn carry<P: Patience>(
         &mut self,
-        rt: &R,
+        patience: &P,
         tables: &Tables,
         worker: &mut Worker,
         command: &Command,
-    ) -> Result<Reply, AllocError>
+    ) -> Result<Reply, Cause>
         requires section { IsSection tables.now self.old worker.old }
         requires look { is_lookup command.now ≡ false }
         requires room { length self.old.own.labels + 1 < 2 ^ 24 }
@@ -248,32 +269,35 @@ impl Machine {
         ensures listed { KeepsLists tables.now worker.old worker.new }
         ensures left { OnErr result (IsLeftOff tables.now self.old command.now self.new worker.old worker.new) }
         ensures err { OnErr result (self.new.own.sockets ≡ self.old.own.sockets) }
+        ensures section { OnErr result (IsSection tables.now self.new worker.new) }
+        ensures gives { GivesLabels command.now self.old.own.labels self.new.own.labels result }
+        ensures patient { P.endless ≡ true → IfErr result (λ cause. cause ≡ causes.Memory) }
         ensures kept { KeepsHeader self.old self.new }
     {
         match command {
             Command::Socket { label, options } => self.socket(tables, worker, *label, *options),
-            Command::Bind { label, end } => self.bind(rt, tables, worker, label, *end),
-            Command::Listen { label } => self.listen(rt, tables, worker, label),
+            Command::Bind { label, end } => self.bind(patience, tables, worker, label, *end),
+            Command::Listen { label } => self.listen(patience, tables, worker, label),
             Command::Connect { label, from, to } => {
-                self.connect(rt, tables, worker, label, *from, *to)
+                self.connect(patience, tables, worker, label, *from, *to)
             }
             Command::Accept {
                 listener,
                 label,
                 from,
                 at,
-            } => self.accept(rt, tables, worker, listener, *label, *from, *at),
+            } => self.accept(patience, tables, worker, listener, *label, *from, *at),
             Command::Syn {
                 listener,
                 label,
                 from,
                 at,
-            } => self.syn(rt, tables, worker, listener, *label, *from, *at),
-            Command::Ack { request, label } => self.ack(rt, tables, worker, request, *label),
-            Command::Close { label } => self.close(rt, tables, worker, label),
-            Command::Drop { label } => self.drop_labelled(rt, tables, worker, label),
+            } => self.syn(patience, tables, worker, listener, *label, *from, *at),
+            Command::Ack { request, label } => self.ack(patience, tables, worker, request, *label),
+            Command::Close { label } => self.close(patience, tables, worker, label),
+            Command::Drop { label } => self.drop_labelled(patience, tables, worker, label),
             Command::At { moment } => Ok(self.at(tables, worker, *moment)),
-            Command::Reap => self.reap(rt, tables, worker),
+            Command::Reap => self.reap(patience, tables, worker),
             Command::Look { .. } | Command::Packets { .. } => Ok(Reply::Einval),
             Command::Dump => Ok(Reply::Ok),
         }
@@ -283,18 +307,53 @@ impl Machine {
     /// who carries a section's commands out makes the list.
     ///
     /// The command's plan goes by the entries and changes that this call made, and by no others, to the reply and to
-    /// what the section keeps then; and the section is the worker's still. A worker that was never split isn't split by
-    /// it, and leaves the lists of groups published as the bind buckets have them, if they were so before. It waits for
+    /// what the section keeps then; and the section is the worker's still. A worker that was never split isn't split
+    /// by it, and leaves the lists of groups published as the bind buckets have them, if they were so before. It wants
     /// the turn of one bucket and the lock of one chain at a time.
     ///
     /// # Errors
     ///
-    /// Want of memory: the plan went some way by the entries and changes that this call made, and by no others, and a
-    /// port that it had taken is given up. The section has its header, number, moment and open sockets still; its
-    /// offsets are past one, where a search began; of a `reap` the first TIME_WAITs that are over are gone, and the
-    /// others left; and the label of an accepted child or of a request is given, unless nothing was done at all. The
-    /// worker is ready. How far the plan went is not told, nor that the section's sockets stand at the tables: the
-    /// program ends there.
+    /// `Memory` was wanting, or another had a bucket or a chain for longer than the caller tries (`Busy`): the plan
+    /// went some way by the entries and changes that this call made, and by no others, and a port that it had taken
+    /// is given up. The section is the worker's still, with its header, number, moment and open sockets, so it takes
+    /// the next command. Its offsets are past one, where a search began; of a `reap` the first TIME_WAITs that are
+    /// over are gone, and the others left; and the label of an accepted child or of a request is given, unless nothing
+    /// was done at all: a command that gives one would give it twice, if it were made again. The worker is ready. How
+    /// far the plan went is not told.
+    pub fn try_step<P: Patience>(
+        &mut self,
+        patience: &P,
+        tables: &Tables,
+        worker: &mut Worker,
+        command: &Command,
+    ) -> Result<Reply, Cause>
+        requires section { IsSection tables.now self.old worker.old }
+        requires look { is_lookup command.now ≡ false }
+        requires room { length self.old.own.labels + 1 < 2 ^ 24 }
+        requires enough { HasEnough self.old worker.old }
+        ensures section { IsSection tables.now self.new worker.new }
+        ensures did { IfOk result (Did self.old.header self.old.own command.now
+            (turned worker.old) (turned worker.new)
+            (chained tables.now worker.old) (chained tables.now worker.new) self.new.own) }
+        ensures left { OnErr result (LeftOff self.old.header self.old.own command.now (turned worker.old)
+            (turned worker.new) (chained tables.now worker.old) (chained tables.now worker.new) self.new.own) }
+        ensures ready { IsReady tables.now worker.new }
+        ensures caller { words.caller worker.new.turns ≡ words.caller worker.old.turns }
+        ensures spends { Spends self.old self.new worker.old worker.new }
+        ensures listed { KeepsLists tables.now worker.old worker.new }
+        ensures err { OnErr result (self.new.own.sockets ≡ self.old.own.sockets) }
+        ensures kept { KeepsHeader self.old self.new }
+        ensures gives { GivesLabels command.now self.old.own.labels self.new.own.labels result }
+        ensures patient { P.endless ≡ true → IfErr result (λ cause. cause ≡ causes.Memory) }
+    {
+        self.carry(patience, tables, worker, command)
+    }
+
+    /// [`Machine::try_step`], for as long as it takes.
+    ///
+    /// # Errors
+    ///
+    /// Want of memory.
     pub fn step<R: Wait>(
         &mut self,
         rt: &R,
@@ -318,6 +377,9 @@ impl Machine {
         ensures err { OnErr result (self.new.own.sockets ≡ self.old.own.sockets) }
         ensures kept { KeepsHeader self.old self.new }
     {
-        self.carry(rt, tables, worker, command)
+        match self.try_step(&patience::Waits::by(rt), tables, worker, command) {
+            Ok(reply) => Ok(reply),
+            Err(_) => Err(AllocError),
+        }
     }
 }

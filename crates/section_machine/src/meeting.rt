@@ -1,27 +1,26 @@
 //! A section's `connect` and `accept`.
 
-ghost use Rattle.std.specs.Prelude.{◌≡◌, ◌<◌, ◌+◌, ◌^◌, ◌&&◌, length, IfOk, OnErr};
+ghost use Rattle.std.specs.Prelude.{◌≡◌, ◌<◌, ◌+◌, ◌^◌, ◌&&◌, length, true, IfOk, IfErr, OnErr};
 ghost use Rattle.turn_table.specs.Passes as words;
 ghost use Rattle.flat_list.specs.declared.command.Command.TheVariants as variants;
 ghost use Rattle.table_model.specs.Own as own;
 ghost use Rattle.table_model.specs.Own.{open_socket};
 ghost use Rattle.table_model.specs.Commands as commands;
+ghost use Rattle.table_model.specs.declared.operation.Cause.TheVariants as causes;
 ghost use Rattle.table_model.specs.Operations as plans;
 ghost use Rattle.shared_ops.specs.Groups.{KeepsLists};
 ghost use Rattle.shared_ops.specs.Socks.{mine_of};
 ghost use Rattle.shared_ops.specs.Stands.{IsReady};
 ghost use Rattle.section_machine.specs.Carried.{Carries, HasEnough, Spends};
 ghost use Rattle.section_machine.specs.LeftOff.{IsLeftOff};
-ghost use Rattle.section_machine.specs.Sections.{KeepsHeader};
+ghost use Rattle.section_machine.specs.Sections.{GivesLabels, KeepsHeader};
 ghost use Rattle.section_machine.specs.Standing.{IsSection};
 
 use crate::machine::{Machine, is_unbound, refusal};
 use chain_book::Replace;
 use flat_list::{End, First, Header, Label, Reply, owned};
-use patience::Waits;
-use shared_ops::{OpEnd, Sock, Tables, Worker, accept, connect};
-use std::alloc::AllocError;
-use std::sync::Wait;
+use patience::Patience;
+use shared_ops::{Cause, OpEnd, Sock, Tables, Worker, accept, connect};
 
 /// How the refusal of `connect`, `accept`, `syn` or `ack` is called.
 pub(crate) fn connect_error(end: OpEnd) -> Reply
@@ -57,15 +56,15 @@ fn searches_connect(socket: &Sock, from: Option<u32>, to: End) -> bool
 
 impl Machine {
     /// Connects the socket that a label names.
-    pub(crate) fn connect<R: Wait>(
+    pub(crate) fn connect<P: Patience>(
         &mut self,
-        rt: &R,
+        patience: &P,
         tables: &Tables,
         worker: &mut Worker,
         label: &Label,
         from: Option<u32>,
         to: End,
-    ) -> Result<Reply, AllocError>
+    ) -> Result<Reply, Cause>
         requires section { IsSection tables.now self.old worker.old }
         requires enough { HasEnough self.old worker.old }
         ensures carried { IfOk result (Carries tables.now self.old
@@ -78,6 +77,10 @@ impl Machine {
         ensures left { OnErr result (IsLeftOff tables.now self.old (variants.Connect label.now from to)
             self.new worker.old worker.new) }
         ensures err { OnErr result (self.new.own.sockets ≡ self.old.own.sockets) }
+        ensures section { OnErr result (IsSection tables.now self.new worker.new) }
+        ensures gives { GivesLabels (variants.Connect label.now from to)
+            self.old.own.labels self.new.own.labels result }
+        ensures patient { P.endless ≡ true → IfErr result (λ cause. cause ≡ causes.Memory) }
         ensures kept { KeepsHeader self.old self.new }
     {
         let Some((place, socket)) = self.labels.take(label) else {
@@ -88,15 +91,7 @@ impl Machine {
         let rule = connect_rule(&self.header);
         let moment = self.moment;
         match connect(
-            &Waits::by(rt),
-            tables,
-            worker,
-            socket,
-            from,
-            to,
-            moment,
-            rule,
-            ports,
+            patience, tables, worker, socket, from, to, moment, rule, ports,
         ) {
             Ok((socket, end)) => {
                 self.labels.put(place, socket);
@@ -111,16 +106,16 @@ impl Machine {
 
     /// Accepts a child of the listener that a label names, under a label of its own, which is given whatever comes of
     /// it.
-    pub(crate) fn accept<R: Wait>(
+    pub(crate) fn accept<P: Patience>(
         &mut self,
-        rt: &R,
+        patience: &P,
         tables: &Tables,
         worker: &mut Worker,
         listener: &Label,
         label: Label,
         from: End,
         at: End,
-    ) -> Result<Reply, AllocError>
+    ) -> Result<Reply, Cause>
         requires section { IsSection tables.now self.old worker.old }
         requires enough { HasEnough self.old worker.old }
         requires room { length self.old.own.labels + 1 < 2 ^ 24 }
@@ -134,6 +129,10 @@ impl Machine {
         ensures left { OnErr result (IsLeftOff tables.now self.old
             (variants.Accept listener.now label from at) self.new worker.old worker.new) }
         ensures err { OnErr result (self.new.own.sockets ≡ self.old.own.sockets) }
+        ensures section { OnErr result (IsSection tables.now self.new worker.new) }
+        ensures gives { GivesLabels (variants.Accept listener.now label from at)
+            self.old.own.labels self.new.own.labels result }
+        ensures patient { P.endless ≡ true → IfErr result (λ cause. cause ≡ causes.Memory) }
         ensures kept { KeepsHeader self.old self.new }
     {
         let place = self.labels.len();
@@ -143,7 +142,7 @@ impl Machine {
         let Some(socket) = self.labels.at(listener) else {
             return Ok(Reply::Ebadf);
         };
-        match accept(&Waits::by(rt), tables, worker, socket, name, from, at) {
+        match accept(patience, tables, worker, socket, name, from, at) {
             Ok(child) => {
                 self.labels.put(place, child);
                 Ok(Reply::Ok)

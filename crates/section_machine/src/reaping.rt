@@ -1,10 +1,11 @@
 //! The TIME_WAITs of a section that have lasted, one after the other.
 
-ghost use Rattle.std.specs.Prelude.{◌≡◌, ℕ, ◌+◌, ◌*◌, ◌^◌, ◌<◌, ◌≤◌, length, IfOk, OnOk, OnErr};
+ghost use Rattle.std.specs.Prelude.{◌≡◌, true, ℕ, ◌+◌, ◌*◌, ◌^◌, ◌<◌, ◌≤◌, length, IfOk, IfErr, OnOk, OnErr};
 ghost use Rattle.std.specs.Option.{option_copied};
 ghost use Rattle.turn_table.specs.Passes as words;
 ghost use Rattle.table_model.specs.Asking.{ends};
 ghost use Rattle.table_model.specs.Operations as plans;
+ghost use Rattle.table_model.specs.declared.operation.Cause.TheVariants as causes;
 ghost use Rattle.shared_ops.specs.Goes.{Went};
 ghost use Rattle.shared_ops.specs.Groups.{KeepsLists};
 ghost use Rattle.shared_ops.specs.Reaping as spec;
@@ -14,10 +15,9 @@ ghost use Rattle.section_machine.specs.Waits as waits_spec;
 ghost use Rattle.section_machine.specs.Waits.{AreBefore, AreInOrder};
 
 use crate::waits::Waits;
-use shared_ops::{Tables, Waiting, Worker, reap_one};
-use std::alloc::AllocError;
+use patience::Patience;
+use shared_ops::{Cause, Tables, Waiting, Worker, reap_one};
 use std::collections::VecDeque;
-use std::sync::Wait;
 
 /// The first TIME_WAIT, if it has lasted its minute at that moment.
 fn first_over(items: &VecDeque<Waiting>, moment: u32) -> Option<&Waiting>
@@ -40,13 +40,13 @@ fn counted(count: u64, found: bool) -> u64
 }
 
 /// Reaps the first TIME_WAITs, as many as are over at that moment.
-fn reap_first<R: Wait>(
-    rt: &R,
+fn reap_first<P: Patience>(
+    patience: &P,
     tables: &Tables,
     worker: &mut Worker,
     items: &mut VecDeque<Waiting>,
     moment: u32,
-) -> Result<u64, AllocError>
+) -> Result<u64, Cause>
     requires order { AreInOrder items.old.items }
     requires before { AreBefore moment items.old.items }
     requires ready { IsReady tables.now worker.old }
@@ -68,12 +68,13 @@ fn reap_first<R: Wait>(
     ensures stops { OnErr result (StopsReaping (buckets_of tables.now) items.old.items moment
         (turned worker.old) (turned worker.new)
         (chained tables.now worker.old) (chained tables.now worker.new) items.new.items) }
+    ensures patient { P.endless ≡ true → IfErr result (λ cause. cause ≡ causes.Memory) }
 {
     let mut count = 0;
     while let Some(waiting) = first_over(items, moment) {
-        let found = match reap_one(&patience::Waits::by(rt), tables, worker, waiting) {
+        let found = match reap_one(patience, tables, worker, waiting) {
             Ok(found) => found,
-            Err(_) => return Err(AllocError),
+            Err(cause) => return Err(cause),
         };
         count = counted(count, found);
         let _reaped = items.pop_front();
@@ -84,14 +85,14 @@ fn reap_first<R: Wait>(
 impl Waits {
     /// Lets those go that are over at that moment, and counts those that were still there.
     ///
-    /// For want of memory a first part of them is gone, and the others are left for the next call.
-    pub(crate) fn reap<R: Wait>(
+    /// Where it is left off a first part of them is gone, and the others are left for the next call.
+    pub(crate) fn reap<P: Patience>(
         &mut self,
-        rt: &R,
+        patience: &P,
         tables: &Tables,
         worker: &mut Worker,
         moment: u32,
-    ) -> Result<u64, AllocError>
+    ) -> Result<u64, Cause>
         requires before { AreBefore moment self.old }
         requires ready { IsReady tables.now worker.old }
         requires enters { MayEnter (length self.old) worker.old }
@@ -110,7 +111,8 @@ impl Waits {
         ensures stops { OnErr result (StopsReaping (buckets_of tables.now) self.old moment
             (turned worker.old) (turned worker.new)
             (chained tables.now worker.old) (chained tables.now worker.new) self.new) }
+        ensures patient { P.endless ≡ true → IfErr result (λ cause. cause ≡ causes.Memory) }
     {
-        reap_first(rt, tables, worker, &mut self.items, moment)
+        reap_first(patience, tables, worker, &mut self.items, moment)
     }
 }

@@ -1,24 +1,27 @@
 //! The sockets in TIME_WAIT that a section left.
 
-ghost use Rattle.std.specs.Prelude.{◌≡◌, ◌+◌, ◌≤◌, [], length, IfOk, IfErr, OnErr};
+ghost use Rattle.std.specs.Prelude.{◌≡◌, true, ◌+◌, ◌≤◌, [], length, IfOk, IfErr, OnErr};
 ghost use Rattle.std.specs.VecDeque.{deque_len, deque_capacity};
 ghost use Rattle.turn_table.specs.Passes as words;
+ghost use Rattle.bind_buckets.specs.Turned.{Gave};
 ghost use Rattle.table_model.specs.Operations as plans;
+ghost use Rattle.table_model.specs.declared.operation.Cause.TheVariants as causes;
+ghost use Rattle.table_model.specs.declared.operation.OpEnd.TheVariants as errors;
 ghost use Rattle.shared_ops.specs.Goes.{LeftOff};
 ghost use Rattle.shared_ops.specs.Groups.{KeepsLists};
 ghost use Rattle.shared_ops.specs.Socks.{mine_of};
 ghost use Rattle.shared_ops.specs.Spends.{Draws};
 ghost use Rattle.shared_ops.specs.Stands.{IsReady, MayDraw, MayEnter, MayTell, StandsAs, buckets_of, chained, turned};
 ghost use Rattle.shared_ops.specs.Closes.{became};
-ghost use Rattle.section_machine.specs.Carried.{Ends, close_answer, waits_by};
+ghost use Rattle.section_machine.specs.Carried.{Ends, close_answer, is_left_off, waits_by};
 ghost use Rattle.section_machine.specs.Waits.{AreBefore};
 
 use flat_list::Reply;
-use shared_ops::{Closed, Sock, Tables, Waiting, Worker, close};
+use patience::Patience;
+use shared_ops::{Cause, Closed, OpEnd, Sock, Tables, Waiting, Worker, close};
 use std::alloc::Global;
 use std::collections::VecDeque;
 use std::marker::Model;
-use std::sync::Wait;
 
 /// The sockets in TIME_WAIT that a section left, in the order in which they were closed.
 ///
@@ -39,6 +42,17 @@ impl Model for Waits {
     ghost view = { λ w. w.items.items };
 
     ghost invariant = { λ w. AreInOrder w.items.items };
+}
+
+/// Why an operation was left off.
+pub(crate) fn cause_of(end: OpEnd) -> Cause
+    requires { is_left_off end ≡ true }
+    ensures { end ≡ errors.LeftOff result }
+{
+    match end {
+        OpEnd::LeftOff(cause) => cause,
+        _ => unreachable!(),
+    }
 }
 
 /// Keeps the TIME_WAIT of a socket that ended, if it left one, where there is room for it; and how that end is called.
@@ -67,16 +81,16 @@ impl Waits {
         }
     }
 
-    /// Closes a socket at that moment, and keeps the TIME_WAIT that it leaves. Where memory is wanting the socket comes
-    /// back as it was.
-    pub(crate) fn close<R: Wait>(
+    /// Closes a socket at that moment, and keeps the TIME_WAIT that it leaves. Where it is left off the socket comes
+    /// back as it was, and nothing has changed.
+    pub(crate) fn close<P: Patience>(
         &mut self,
-        rt: &R,
+        patience: &P,
         tables: &Tables,
         worker: &mut Worker,
         socket: Sock,
         moment: u32,
-    ) -> Result<Reply, Sock>
+    ) -> Result<Reply, (Sock, Cause)>
         requires before { AreBefore moment self.old }
         requires ready { IsReady tables.now worker.old }
         requires enters { MayEnter 1 worker.old }
@@ -99,15 +113,20 @@ impl Waits {
             (turned worker.old) (turned worker.new)
             (chained tables.now worker.old) (chained tables.now worker.new)) }
         ensures same { OnErr result (self.new ≡ self.old) }
-        ensures back { IfErr result (λ kept. kept ≡ socket) }
+        ensures nothing { OnErr result (Gave (turned worker.old) (turned worker.new) []) }
+        ensures side { OnErr result (chained tables.now worker.new ≡ chained tables.now worker.old) }
+        ensures stands { OnErr result (StandsAs tables.now socket
+            (turned worker.new) (chained tables.now worker.new)) }
+        ensures back { IfErr result (λ kept. kept.0 ≡ socket) }
+        ensures patient { P.endless ≡ true → IfErr result (λ kept. kept.1 ≡ causes.Memory) }
     {
         match self.items.reserve(1) {
             Ok(()) => {}
-            Err(_) => return Err(socket),
+            Err(_) => return Err((socket, Cause::Memory)),
         }
-        match close(&patience::Waits::by(rt), tables, worker, socket, moment) {
+        match close(patience, tables, worker, socket, moment) {
             Ok(closed) => Ok(keep(&mut self.items, closed)),
-            Err((socket, _)) => Err(socket),
+            Err((socket, end)) => Err((socket, cause_of(end))),
         }
     }
 }

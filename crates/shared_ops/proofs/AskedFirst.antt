@@ -1,7 +1,6 @@
 -- What a turn asked first, and the view as that left it.
 use Rattle.std.proofs.Common.{◌≡◌, ℕ, ◌+◌, ◌%◌, ◌≤◌, Bool, List, [], ◌∷◌, ◌++◌, Result, Ok, Err, None, refl, sym, ap, subst, ◌∙◌, append_assoc, append-nil, length, false, arith}
 use Rattle.std.proofs.lemmas.List.{length-append}
-use Rattle.list_words.specs.Lists.{Each}
 use Rattle.sock_card.specs.declared.owner.Owner.{Owner}
 use Rattle.sock_card.specs.Conflict.{bind_key, is_time_wait}
 use Rattle.turn_table.specs.declared.note.Placed.{Placed}
@@ -23,7 +22,7 @@ use Rattle.table_model.specs.Own.{Mine}
 use Rattle.shared_ops.specs.Goes.{CarriedOut, AreAsked, AskedAll, HoldsAfter}
 use Rattle.shared_ops.specs.Listens.{TellsAs}
 use Rattle.shared_ops.specs.Stands.{IsAway, IsThere, Knows}
-use Rattle.shared_ops.proofs.Goes.{all_one, carried_both}
+use Rattle.shared_ops.proofs.Goes.{all_one, carried_both, each_parts}
 use Rattle.shared_ops.proofs.BindGoes.{all_quiet, went_so_far}
 use Rattle.shared_ops.proofs.ConnectGoes.{all_none}
 use Rattle.shared_ops.proofs.Knows.{Grows, all_pass, grows, knows_on}
@@ -42,10 +41,6 @@ parts place (e ∷ es) fs [] are = absurd are
 parts place (e ∷ es) fs (x ∷ xs) are =
     let more = parts place es fs xs are.1 in
     record { front = x ∷ more.front; back = more.back; split = ap (λ ys. x ∷ ys) more.split; first = (are.0, more.first); last = more.last }
-
-each_parts : {A : Type 0} (P : A → Type 0) (xs ys : List A) → Each P (xs ++ ys) → Each P xs × Each P ys
-each_parts P [] ys p = (tt, p)
-each_parts P (x ∷ xs) ys p = let more = each_parts P xs ys p.1 in ((p.0, more.0), more.1)
 
 -- a view, as a pass left it that gave these entries
 abbrev left_by : View → List (Placed Entry) → View

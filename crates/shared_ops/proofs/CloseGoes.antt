@@ -227,6 +227,15 @@ pub port_leaves : {E : Type 0} (count : ℕ) (m : Mine) (v w : View) (c : Side) 
 port_leaves count m v w c p q (Ok done) asked same = bound_leaves count m.owner v w c asked
 port_leaves count m v w c p q (Err end) asked same = left_nowhere count m.owner.name (leave m.owner plan.gone) v w c c refl (subst (λ (k : View). Gave v k []) (sym same.0) (gave_none v))
 
+-- nothing was given or done then
+pub turn_nothing : {X E : Type 0} (u v w : View) (r : Result X E) → Within v u → OnErr r ((k : View) → Within k u → Gave k w []) → OnErr r (Gave v w [])
+turn_nothing u v w (Ok x) within nothing = tt
+turn_nothing u v w (Err end) within nothing = nothing v within
+
+pub port_nothing : {X E : Type 0} (v w : View) (p q : GroupPasses) (r : Result X E) → OnErr r ((w ≡ v) × (q ≡ p)) → OnErr r (Gave v w [])
+port_nothing v w p q (Ok x) same = tt
+port_nothing v w p q (Err end) same = subst (λ (k : View). Gave v k []) (sym same.0) (gave_none v)
+
 pub port_kept : {E : Type 0} (m : Mine) (place : ℕ) (v w : View) (p q : GroupPasses) (r : Result (Unit {0}) E) → StandsOwn m.owner place v → OnErr r ((w ≡ v) × (q ≡ p)) → OnErr r (StandsOwn m.owner place w)
 port_kept m place v w p q (Ok done) stands same = tt
 port_kept m place v w p q (Err end) stands same = subst (StandsOwn m.owner place) (sym same.0) stands

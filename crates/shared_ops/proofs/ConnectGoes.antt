@@ -1,5 +1,5 @@
 -- How the plan of `connect` of a bound socket goes on.
-use Rattle.std.proofs.Common.{◌≡◌, ℕ, ◌%◌, List, [], ◌∷◌, map, Option, Some, None, Result, Ok, Err, refl, sym, ap, subst, ◌∙◌}
+use Rattle.std.proofs.Common.{◌≡◌, ℕ, ◌%◌, List, [], ◌∷◌, map, Option, Some, None, Err, refl, sym, ap, subst, ◌∙◌}
 use Rattle.std.specs.Option.{option_map}
 use Rattle.sock_card.specs.Conflict.{owner_key, bind_key}
 use Rattle.sock_card.specs.declared.owner.Owner.{Owner}

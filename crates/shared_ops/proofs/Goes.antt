@@ -169,7 +169,7 @@ chains_both (told.added card outcome ∷ xs) ys c d e a b = (a.0, chains_both xs
 chains_both (told.left place card ∷ xs) ys c d e a b = chains_both xs ys (unhashed c place) d e a b
 chains_both (told.reaps_found card found ∷ xs) ys c d e a b = (a.0, chains_both xs ys (reaped c card (waiting c card)) d e a.1 b)
 
-each_parts : {A : Type 0} (P : A → Type 0) (xs ys : List A) → Each P (xs ++ ys) → Each P xs × Each P ys
+pub each_parts : {A : Type 0} (P : A → Type 0) (xs ys : List A) → Each P (xs ++ ys) → Each P xs × Each P ys
 each_parts P [] ys p = (tt, p)
 each_parts P (x ∷ xs) ys p = let more = each_parts P xs ys p.1 in ((p.0, more.0), more.1)
 

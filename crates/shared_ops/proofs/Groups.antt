@@ -1,30 +1,14 @@
 -- A listener's group is one of its bucket's eight, of 256 buckets at most.
-use Rattle.std.proofs.Common.{◌≡◌, ℕ, ◌<◌, Bool, true, false, cond, ltb, length, find, position, Some, None, Option, Result, Ok, Err, IfOk, IfSome, arith, subst, refl, []}
-use Rattle.std.specs.Option.{option_or, option_and_then}
-use Rattle.std.proofs.lemmas.List.Quantifiers.{position-Some}
+use Rattle.std.proofs.Common.{◌≡◌, ℕ, ◌<◌, Bool, true, false, cond, ltb, length, find, Some, None, Option, Result, Ok, Err, IfOk, IfSome, arith, subst, refl}
 use Rattle.sock_card.specs.Limits.{group_room}
 use Rattle.sock_card.specs.declared.owner.Owner.{Owner}
-use Rattle.sock_card.specs.Conflict.{is_mate, refuses}
+use Rattle.sock_card.specs.Conflict.{refuses}
 use Rattle.bind_buckets.specs.declared.request.Answer.{Answer}
 use Rattle.bind_buckets.specs.declared.request.Answer.TheVariants as answers
 use Rattle.bind_buckets.specs.declared.request.ListenEnd.{ListenEnd}
 use Rattle.bind_buckets.specs.Answers.{answer_of_listen}
-use Rattle.bind_buckets.specs.Members.{has_member}
-use Rattle.bind_buckets.specs.OwnerStep.{Held, listener_answer, group_answer, group_number, place_for, mates_place, is_free, members_at, others}
-
-within_then : (f : Owner → Option ℕ) (o : Option Owner) (n i : ℕ) → ((a : Owner) → f a ≡ Some i → i < n) → option_and_then f o ≡ Some i → i < n
-within_then f None n i h e = absurd (cc)
-within_then f (Some a) n i h e = h a e
-
-within_or : (o p : Option ℕ) (n i : ℕ) → (o ≡ Some i → i < n) → (p ≡ Some i → i < n) → option_or o p ≡ Some i → i < n
-within_or None p n i h k e = k e
-within_or (Some j) p n i h k e = h e
-
-pub place_within : (h : Held) (a : Owner) (i : ℕ) → place_for h a ≡ Some i → i < length h.groups
-place_within h a i e =
-    within_or (mates_place h a) (position is_free h.groups) (length h.groups) i
-    (within_then (λ (mate : Owner). position (has_member mate.name) h.groups) (find (is_mate a) h.owners) (length h.groups) i (λ mate q. (position-Some (has_member mate.name) h.groups i [] q).0))
-    (λ q. (position-Some is_free h.groups i [] q).0) e
+use Rattle.bind_buckets.proofs.GroupNumber.{place_within}
+use Rattle.bind_buckets.specs.OwnerStep.{Held, listener_answer, group_answer, group_number, place_for, members_at, others}
 
 -- the answer, where it names a group, names one of so few
 abbrev IsFew : Answer → Type 0

@@ -1,8 +1,6 @@
 -- What a caller's own entries tell of a name, as they grow.
 use Rattle.std.proofs.Common.{◌≡◌, ◌≢◌, ◌⊎◌, inl, inr, ℕ, ◌+◌, ◌==◌, ◌&&◌, not, Bool, true, false, cond, List, [], ◌∷◌, ◌++◌, map, filter, find, Some, None, Option, refl, sym, ap, subst, ◌∙◌, eq-eqb, ne_eqb, append_assoc, append-nil, arith}
 use Rattle.std.proofs.lemmas.Bool.{eqb-true, false≢true}
-use Rattle.std.proofs.lemmas.List.{map-append}
-use Rattle.std.proofs.lemmas.List.Elements.{filter-append}
 use Rattle.std.specs.Option.{option_map, option_to_list}
 use mathlib.Core.Logic.{dite}
 use native.Mathlib.Decide.{ℕ_discrete}
@@ -20,7 +18,7 @@ use Rattle.bind_buckets.specs.declared.request.Answer.{Answer}
 use Rattle.bind_buckets.specs.declared.request.Answer.TheVariants as answers
 use Rattle.bind_buckets.specs.declared.request.Entry.{Entry}
 use Rattle.bind_buckets.specs.Notes.{Note}
-use Rattle.bind_buckets.specs.Bucket.{entries_of, entry_of}
+use Rattle.bind_buckets.specs.Bucket.{entries_of}
 use Rattle.bind_buckets.specs.Callers.{MayName, AreOwn}
 use Rattle.bind_buckets.specs.First.{change_first, drop_first}
 use Rattle.bind_buckets.specs.Followed.{told, told_from, speaks_of}
@@ -29,6 +27,8 @@ use Rattle.bind_buckets.specs.OwnTold.{StandsOwn, KeepsOpen, AllKeepOpen, Brings
 use Rattle.bind_buckets.specs.Turned.{View, Gave, IsAsked}
 use Rattle.shared_ops.specs.Stands.{Knows, IsAway}
 use Rattle.shared_ops.specs.There.{IsNew}
+use Rattle.bind_buckets.proofs.OwnTold.{told_push, brings_keep}
+use Rattle.shared_ops.proofs.Goes.{each_parts}
 
 -- a caller has these entries more
 pub record Grows (v w : View) (xs : List (Placed Entry)) : Type 0 where
@@ -41,10 +41,6 @@ grows v w xs g = record { mine = g.mine; caller = g.caller; callers = g.callers 
 
 abbrev pub after : View → List (Placed Entry) → View
 after v xs = record v { mine = v.mine ++ xs }
-
-each_parts : {A : Type 0} (P : A → Type 0) (xs ys : List A) → Each P (xs ++ ys) → Each P xs × Each P ys
-each_parts P [] ys p = (tt, p)
-each_parts P (x ∷ xs) ys p = let more = each_parts P xs ys p.1 in ((p.0, more.0), more.1)
 
 pub grows_first : (v w : View) (xs ys : List (Placed Entry)) → Grows v w (xs ++ ys) → Grows v (after v xs) xs
 grows_first v w xs ys g =
@@ -101,24 +97,9 @@ module _ (place : ℕ) (v w : View) (x : Placed Entry) (g : Grows v w (x ∷ [])
       given_more ∙ ap (λ ns. own_given place v ++ by_caller v.caller ns) (at_other place x other)
       ∙ append-nil (own_given place v)
 
-told_both : (owners : List Owner) (xs ys : List Entry) → told_from owners (xs ++ ys) ≡ told_from (told_from owners xs) ys
-told_both owners [] ys = refl
-told_both owners (e ∷ xs) ys = told_both (told owners e.request e.answer) xs ys
-
-told_last : (owners : List Owner) (e : Entry) (b : Bool) → told_from owners (cond b (e ∷ []) []) ≡ cond b (told owners e.request e.answer) owners
-told_last owners e true = refl
-told_last owners e false = refl
-
 -- the owners of some names, as notes tell them
 abbrev pub told_by : (ℕ → Bool) → List Note → List Owner
 told_by mine notes = told_from [] (filter (is_told mine) (entries_of notes))
-
-told_push : (mine : ℕ → Bool) (notes : List Note) (x : Note) → told_by mine (notes ++ x ∷ []) ≡ told_next mine (told_by mine notes) x.entry
-told_push mine notes x =
-    ap (λ es. told_from [] (filter (is_told mine) es)) (map-append entry_of notes (x ∷ []))
-    ∙ ap (told_from []) (filter-append (is_told mine) (entries_of notes) (x.entry ∷ []))
-    ∙ told_both [] (filter (is_told mine) (entries_of notes)) (filter (is_told mine) (x.entry ∷ []))
-    ∙ told_last (told_by mine notes) x.entry (is_told mine x.entry)
 
 -- The same owners, with the first of the name apart: all others have other names
 
@@ -308,12 +289,6 @@ dropped_last : (name : ℕ) (owners : List Owner) (a : Owner) → a.name ≡ nam
 dropped_last name [] a is none = ap (λ b. cond b [] (a ∷ [])) (eq-eqb a.name name is)
 dropped_last name (x ∷ xs) a is none = dropped_by name x xs (xs ++ a ∷ []) (has_name name x) none (dropped_last name xs a is)
 
-brings_keeps : (a : Owner) (mine : ℕ → Bool) (request : Request) → Brings a request → is_time_wait a.state ≡ false → KeepsOpen mine request
-brings_keeps a mine (requests.Bind b) same awake = λ said. ap (λ (x : Owner). is_time_wait x.state) same ∙ awake
-brings_keeps a mine (requests.BindAuto b) same awake = λ said. ap (λ (x : Owner). is_time_wait x.state) same ∙ awake
-brings_keeps a mine (requests.ConnectAuto b) same awake = λ said. ap (λ (x : Owner). is_time_wait x.state) same ∙ awake
-brings_keeps a mine _ none awake = absurd none
-
 brought_by : (owners : List Owner) (a b : Owner) (t : Bool) → t ≡ true → b ≡ a → cond t (owners ++ b ∷ []) owners ≡ owners ++ a ∷ []
 brought_by owners a b true is same = ap (λ (x : Owner). owners ++ x ∷ []) same
 brought_by owners a b false is same = absurd (false≢true is)
@@ -337,7 +312,7 @@ came_stands a place v c =
 pub comes : (a : Owner) (place : ℕ) (request : Request) (v w : View) (x : Placed Entry) → Knows a.name None place v → Grows v w (x ∷ []) → IsAsked place request answers.Done x → Brings a request → is_time_wait a.state ≡ false → Came a place w
 comes a place request v w x k g is brings awake =
     let os = told_by k.mine (own_given place v) in
-    let keeps = subst (λ (e : Entry). KeepsOpen k.mine e.request) (sym is.entry) (brings_keeps a k.mine request brings awake) in
+    let keeps = subst (λ (e : Entry). KeepsOpen k.mine e.request) (sym is.entry) (brings_keep a k.mine request brings awake) in
     let t = tells_next a.name place os v w x (tells_of a.name place None v k) g is.place_is keeps in
     record {
       others = os;

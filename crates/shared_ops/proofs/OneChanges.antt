@@ -15,7 +15,7 @@ use Rattle.reuseport_group.specs.Passes as lists
 use Rattle.reuseport_group.specs.Passes.{published}
 use Rattle.reuseport_group.specs.Views.{publishing}
 use Rattle.shared_ops.specs.Groups.{members_in, Follows, IsGroupOf}
-use Rattle.shared_ops.proofs.Groups.{place_within}
+use Rattle.bind_buckets.proofs.GroupNumber.{place_within}
 use Rattle.shared_ops.proofs.There.{listens_as}
 
 -- of the bucket of that number, no list but that of this group is another

@@ -1,5 +1,5 @@
 -- What plans ask about other names, whatever they are answered: for the tests, in which one socket comes after another.
-use Rattle.std.proofs.Common.{◌≡◌, ℕ, ◌==◌, ◌&&◌, not, Bool, true, false, List, [], ◌∷◌, ◌++◌, map, filter, Option, None, Some, cond, refl, sym, subst}
+use Rattle.std.proofs.Common.{◌≡◌, ℕ, ◌==◌, ◌&&◌, not, Bool, true, false, List, [], ◌∷◌, filter, Option, None, Some, cond, refl, sym, subst}
 use Rattle.list_words.specs.Lists.{Each}
 use Rattle.list_words.proofs.EachLemmas.{each_append, each_filter, each_map}
 use Rattle.sock_card.specs.declared.owner.Owner.{Owner}
@@ -8,14 +8,13 @@ use Rattle.sock_card.specs.declared.owner.State.TheVariants as states
 use Rattle.turn_table.specs.declared.note.Placed.{Placed}
 use Rattle.turn_table.specs.Journals.{notes_at}
 use Rattle.bind_buckets.specs.declared.request.Request.{Request}
-use Rattle.bind_buckets.specs.declared.request.Request.TheVariants as requests
 use Rattle.bind_buckets.specs.declared.request.Answer.{Answer}
 use Rattle.bind_buckets.specs.declared.request.Answer.TheVariants as answers
 use Rattle.bind_buckets.specs.declared.request.Entry.{Entry}
 use Rattle.bind_buckets.specs.Followed.{speaks_of}
 use Rattle.bind_buckets.specs.Notes.{Note}
 use Rattle.bind_buckets.specs.OwnTold.{removes_waiting}
-use Rattle.bind_buckets.specs.Turned.{View, Gave}
+use Rattle.bind_buckets.specs.Turned.{View}
 use Rattle.chain_book.specs.declared.outcome.Hashed.{Hashed}
 use Rattle.chain_book.specs.declared.outcome.Replace.{Replace}
 use Rattle.chain_book.specs.declared.shape.Shape.{Shape}

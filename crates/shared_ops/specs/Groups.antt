@@ -20,7 +20,7 @@ use Rattle.bind_buckets.specs.OwnerStep.{Held, members_at}
 use Rattle.bind_buckets.specs.Turned.{View, Gave, IsAlone, entries_at}
 use Rattle.reuseport_group.specs.declared.pass.GroupPasses.{GroupPasses}
 use Rattle.reuseport_group.specs.Passes as lists
-use Rattle.reuseport_group.specs.Passes.{IsPassOf, published}
+use Rattle.reuseport_group.specs.Passes.{published}
 use Rattle.reuseport_group.specs.Views.{publishing}
 use Rattle.table_model.specs.declared.operation.OpEnd.{OpEnd}
 use Rattle.table_model.specs.Own.{Mine}

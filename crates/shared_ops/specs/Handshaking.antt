@@ -1,11 +1,10 @@
 -- What `syn` and `ack` come to, and hand back: inet_csk_complete_hashdance of net/ipv4/inet_connection_sock.c and
 -- inet_ehash_insert of net/ipv4/inet_hashtables.c, which puts a child in its request's place. That a plan goes on so is
 -- our own.
-use Rattle.std.specs.Prelude.{◌≡◌, ◌∷◌, [], None, Option, Result, Ok, Err}
+use Rattle.std.specs.Prelude.{◌≡◌, Option, Result, Ok, Err}
 use Rattle.std.specs.Borrow.{Bor}
 use Rattle.std.specs.Option.{option_map}
 use Rattle.sock_card.specs.declared.card.Card.{Card}
-use Rattle.sock_card.specs.declared.card.Kind.TheVariants as kinds
 use Rattle.sock_card.specs.declared.owner.Owner.{Owner}
 use Rattle.bind_buckets.specs.Turned.{View}
 use Rattle.chain_book.specs.declared.outcome.Place.{Place}

@@ -239,6 +239,8 @@ fn close_full<P: Patience>(
         (chained tables.now worker.old) (chained tables.now worker.new) result }
     ensures kept { OnErr result (IsOwner tables.now full.now.owner (turned worker.new)
         × IsHashed kinds.Full full.now (chained tables.now worker.new)) }
+    ensures nothing { OnErr result (Gave (turned worker.old) (turned worker.new) []) }
+    ensures side { OnErr result (chained tables.now worker.new ≡ chained tables.now worker.old) }
     ensures lists { LeavesOrStays (owner_key full.now.owner % buckets_of tables.now)
         full.now.owner (turned worker.new) worker.old.groups worker.new.groups }
     ensures none { OnErr result (worker.new.groups ≡ worker.old.groups) }
@@ -307,6 +309,7 @@ fn leave_chain<P: Patience>(
         (turned worker.old) (turned worker.new)
         (chained tables.now worker.old) (chained tables.now worker.new) result }
     ensures kept { OnErr result (IsOwner tables.now owner.now (turned worker.new)) }
+    ensures nothing { OnErr result (Gave (turned worker.old) (turned worker.new) []) }
     ensures side { OnErr result (chained tables.now worker.new ≡ chained tables.now worker.old) }
     ensures lists { OnOk result (LeavesAs (owner_key owner.now % buckets_of tables.now) owner.now (turned worker.new)
         worker.old.groups worker.new.groups) }
@@ -373,7 +376,7 @@ fn leave_request<P: Patience>(
     Ok(())
 }
 
-/// Lets a socket go at once, without TIME_WAIT.
+/// Lets a socket go at once, without TIME_WAIT. Where it is left off nothing has changed.
 fn leave<P: Patience>(
     patience: &P,
     tables: &Tables,
@@ -394,6 +397,8 @@ fn leave<P: Patience>(
         (turned worker.old) (turned worker.new)
         (chained tables.now worker.old) (chained tables.now worker.new) result }
     ensures kept { OnErr result (StandsAs tables.now socket.now (turned worker.new) (chained tables.now worker.new)) }
+    ensures nothing { OnErr result (Gave (turned worker.old) (turned worker.new) []) }
+    ensures side { OnErr result (chained tables.now worker.new ≡ chained tables.now worker.old) }
     ensures lists { ListsOfLeave (buckets_of tables.now) socket.now (turned worker.new)
         worker.old.groups worker.new.groups result }
     ensures listed { KeepsLists tables.now worker.old worker.new }
@@ -436,7 +441,7 @@ fn close_answer(socket: Sock, closed: Result<Closed, Cause>) -> Result<Closed, (
     }
 }
 
-/// What [`close`] comes to; the socket stays where it is left off.
+/// What [`close`] comes to; where it is left off nothing has changed.
 fn close_as<P: Patience>(
     patience: &P,
     tables: &Tables,
@@ -458,6 +463,8 @@ fn close_as<P: Patience>(
         (turned worker.old) (turned worker.new)
         (chained tables.now worker.old) (chained tables.now worker.new) result }
     ensures kept { OnErr result (StandsAs tables.now socket.now (turned worker.new) (chained tables.now worker.new)) }
+    ensures nothing { OnErr result (Gave (turned worker.old) (turned worker.new) []) }
+    ensures side { OnErr result (chained tables.now worker.new ≡ chained tables.now worker.old) }
     ensures lists { ListsOfLeave (buckets_of tables.now) socket.now (turned worker.new)
         worker.old.groups worker.new.groups result }
     ensures listed { KeepsLists tables.now worker.old worker.new }
@@ -484,7 +491,7 @@ fn close_as<P: Patience>(
 /// # Errors
 ///
 /// `LeftOff`: a bucket, or the worker's changes where they are kept, wanted memory, or another had a bucket or a chain
-/// for longer than the caller tries, before anything was done. The socket comes back as it was.
+/// for longer than the caller tries. Nothing has changed, and the socket comes back as it was.
 pub fn close<P: Patience>(
     patience: &P,
     tables: &Tables,
@@ -512,6 +519,8 @@ pub fn close<P: Patience>(
         (chained tables.now worker.old) (chained tables.now worker.new) (without_socket result) }
     ensures back { IfErr result (λ refusal. refusal.0 ≡ socket) }
     ensures kept { OnErr result (StandsAs tables.now socket (turned worker.new) (chained tables.now worker.new)) }
+    ensures nothing { OnErr result (Gave (turned worker.old) (turned worker.new) []) }
+    ensures side { OnErr result (chained tables.now worker.new ≡ chained tables.now worker.old) }
     ensures lists { ListsOfLeave (buckets_of tables.now) socket (turned worker.new)
         worker.old.groups worker.new.groups result }
     ensures listed { KeepsLists tables.now worker.old worker.new }
@@ -552,6 +561,8 @@ pub fn drop_sock<P: Patience>(
         (chained tables.now worker.old) (chained tables.now worker.new) (without_socket result) }
     ensures back { IfErr result (λ refusal. refusal.0 ≡ socket) }
     ensures kept { OnErr result (StandsAs tables.now socket (turned worker.new) (chained tables.now worker.new)) }
+    ensures nothing { OnErr result (Gave (turned worker.old) (turned worker.new) []) }
+    ensures side { OnErr result (chained tables.now worker.new ≡ chained tables.now worker.old) }
     ensures lists { ListsOfLeave (buckets_of tables.now) socket (turned worker.new)
         worker.old.groups worker.new.groups result }
     ensures listed { KeepsLists tables.now worker.old worker.new }

@@ -1,4 +1,4 @@
-use Rattle.std.proofs.Common.{◌+◌, ◌%◌, sym, subst}
+use Rattle.std.proofs.Common.{◌≡◌, ◌+◌, ◌%◌, OnErr, sym, subst}
 use Rattle.sock_card.specs.Conflict.{owner_key}
 use Rattle.sock_card.specs.declared.card.Kind.TheVariants as kinds
 use Rattle.chain_deeds.specs.Sides.{Side, side_of}
@@ -9,7 +9,7 @@ use Rattle.table_model.specs.Operations as plans
 use Rattle.shared_ops.specs.Closes.{Leaves, became}
 use Rattle.shared_ops.specs.Stands.{IsHashed, buckets_of, turned}
 use Rattle.shared_ops.proofs.Goes.{left_nowhere}
-use Rattle.shared_ops.proofs.CloseGoes.{leaves_err, never_fails, turn_leaves, turn_kept}
+use Rattle.shared_ops.proofs.CloseGoes.{leaves_err, never_fails, turn_leaves, turn_kept, turn_nothing}
 use Rattle.reuseport_group.specs.Passes as lists
 use Rattle.shared_ops.specs.Groups.{KeepsListed, LeavesOrStays}
 use Rattle.shared_ops.proofs.leaving.close_full.Goals as goal
@@ -53,6 +53,16 @@ returns-clause-kept g c =
     let e = c.wait_in.ensures in
     let hashed = subst (IsHashed kinds.Full m) (sym c.begin_with.ensures.side) c.requires.hashed in
     turn_kept kinds.Full m (owner_key m.owner % buckets_of t) (turned p) (turned c.args.worker.now) (turned u) (side_of t.chains p.chain) (side_of t.chains u.chain) c.wait_in.result c.in_ok-turn.ensures.within c.requires.stands hashed e.nothing e.side
+
+pub returns-clause-nothing : goal.returns-clause-nothing
+returns-clause-nothing g c =
+    turn_nothing (turned c.begin_with.new.worker) (turned c.args.worker.now) (turned c.wait_in.new.worker) c.wait_in.result c.in_ok-turn.ensures.within c.wait_in.ensures.nothing
+
+pub returns-clause-side : goal.returns-clause-side
+returns-clause-side g c =
+    let t = c.args.tables.now in
+    let u = c.wait_in.new.worker in
+    subst (λ (k : Side). OnErr c.wait_in.result (side_of t.chains u.chain ≡ k)) c.begin_with.ensures.side c.wait_in.ensures.side
 
 pub returns-clause-lists : goal.returns-clause-lists
 returns-clause-lists g c =

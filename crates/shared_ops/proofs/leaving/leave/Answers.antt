@@ -12,7 +12,7 @@ use Rattle.shared_ops.specs.Goes.{AskedAll}
 use Rattle.shared_ops.specs.Groups.{LeavesAs, ListsOfLeave}
 use Rattle.shared_ops.specs.Closes.{Leaves, is_gone, leave_entry}
 use Rattle.shared_ops.specs.Stands.{IsOwner, StandsAs, buckets_of, turned}
-use Rattle.shared_ops.proofs.CloseGoes.{never_fails, port_kept, port_leaves, port_lists}
+use Rattle.shared_ops.proofs.CloseGoes.{never_fails, port_kept, port_leaves, port_lists, port_nothing}
 use Rattle.shared_ops.proofs.leaving.leave.Goals as goal
 
 pub returns-in-Bound-clause-carried : goal.returns-in-Bound-clause-carried
@@ -58,3 +58,7 @@ returns-in-Bound-clause-lists g c =
 
 pub returns-in-Bound-clause-patient : goal.returns-in-Bound-clause-patient
 returns-in-Bound-clause-patient g c = λ endless. never_fails c.leave_port.result _ (c.leave_port.ensures.patient endless)
+
+pub returns-in-Bound-clause-nothing : goal.returns-in-Bound-clause-nothing
+returns-in-Bound-clause-nothing g c =
+    port_nothing (turned c.args.worker.now) (known c.leave_port.new.pass) c.args.worker.now.groups c.leave_port.new.passes c.leave_port.result c.leave_port.ensures.same

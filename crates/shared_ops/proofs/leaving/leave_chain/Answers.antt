@@ -44,6 +44,13 @@ returns-in_default-clause-carried g c =
     left_nowhere (buckets_of t) a.name (unhashes (spot_of c.args.place) c.args.place.card (plans.leave a plans.gone)) v w (side_of t.chains c.args.worker.now.chain) (side_of t.chains c.lock_chain_of.new.pass)
     (sym (c.in_default.ensures.none ∙ c.begin_with.ensures.side)) none
 
+pub returns-in_default-clause-nothing : goal.returns-in_default-clause-nothing
+returns-in_default-clause-nothing g c =
+    let v = turned c.args.worker.now in
+    let w = known c.give.new.pass in
+    let turn = c.in_ok-turn.turn in
+    none_given turn.place v w (made c.begin_with.new.worker.turns turn) c.in_ok-turn.ensures.none (c.give.ensures.gave v c.in_ok-turn.ensures.within)
+
 pub returns-in_default-clause-kept : goal.returns-in_default-clause-kept
 returns-in_default-clause-kept g c =
     let a = c.args.owner.now in

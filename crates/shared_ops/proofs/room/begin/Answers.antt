@@ -1,4 +1,4 @@
-use Rattle.std.proofs.Common.{[], List, map, subst, ◌∙◌}
+use Rattle.std.proofs.Common.{List, map, subst, ◌∙◌}
 use Rattle.turn_table.specs.Journals.{placed}
 use Rattle.turn_table.specs.Passes.{known}
 use Rattle.bind_buckets.specs.Notes.{Note}

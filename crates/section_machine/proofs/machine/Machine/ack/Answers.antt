@@ -2,13 +2,12 @@ use Rattle.std.proofs.Common.{ℕ, find, length, None, Some, sym, ap, ◌∙◌,
 use Rattle.sock_card.specs.declared.owner.Owner.{Owner}
 use Rattle.flat_list.specs.declared.command.Command.TheVariants as commands
 use Rattle.flat_list.specs.Sections.{name_at}
-use Rattle.table_model.specs.Asking.{Asking, ends}
+use Rattle.table_model.specs.Asking.{ends}
 use Rattle.table_model.specs.Own.{is_named, next_name, open_named, with_label}
 use Rattle.table_model.specs.Operations as plans
 use Rattle.table_model.specs.Operations.{Did, done, refused}
 use Rattle.table_model.specs.Commands.{ack_reply, connect_error}
 use Rattle.shared_ops.specs.Accepting.{accepted}
-use Rattle.shared_ops.specs.Goes as ops
 use Rattle.shared_ops.specs.Handshaking.{mine_found}
 use Rattle.shared_ops.specs.Socks.{mine_of}
 use Rattle.shared_ops.specs.Stands.{MayTell, buckets_of, turned, chained}
@@ -16,11 +15,12 @@ use Rattle.shared_ops.specs.There.{IsNew}
 use Rattle.section_machine.specs.LeftOff.{IsLeftOff}
 use Rattle.section_machine.specs.Places.{Labelled, own_of, those, with_place}
 use Rattle.section_machine.specs.Sections.{Kept, kept}
-use Rattle.section_machine.proofs.Given.{Giving, was, new_tells, is_new}
-use Rattle.section_machine.proofs.Handshakes.{acks_none, heir_named, request_stands, listener_tells, listener_stands, same_plan, its_plan, put_again, sockets_again, acks_refused, acks}
-use Rattle.section_machine.proofs.LeftOff.{ack_gives, ack_plan, label_left, left_by_header, no_label, wanted_left}
+use Rattle.section_machine.proofs.Given.{Giving, new_tells, is_new}
+use Rattle.section_machine.proofs.Handshakes.{acks_none, heir_named, request_stands, listener_tells, listener_stands, its_off, its_plan, put_again, sockets_again, acks_left, acks_refused, acks}
+use Rattle.section_machine.proofs.Gives.{err_patient, gives_not, gives_one, labels_more, labels_same}
+use Rattle.section_machine.proofs.LeftOff.{ack_gives, ack_plan, label_left, no_label}
 use Rattle.section_machine.proofs.Owns.{named_again}
-use Rattle.section_machine.proofs.Settled.{refused_went, typed_stands, on_err}
+use Rattle.section_machine.proofs.Settled.{refused_went, same_section, typed_stands, on_err}
 use Rattle.section_machine.proofs.Spent.{spends_of}
 use Rattle.section_machine.proofs.machine.Machine.ack.Goals as goal
 
@@ -144,15 +144,58 @@ returns-in_err-refusal-in-Err-clause-left g c =
     (plans.ack h.shape h.seed m (open_named more m.owner.origin) (next_name own)) (λ did. ends (ack_reply more m.owner.name did)) u c.in_ok-give.ensures.given
     (sym (named_again l c.give.new.self c.args.label c.args.request.now gives.count gives.given) ∙ c.in-Some.ensures.cases.named)
     (λ is. ack_plan h own m c.args.request.now c.args.label is)
-    (subst (λ (p : Asking Did). ops.LeftOff h.shape.bind (next_name own) p (turned w) (turned u) (chained t w) (chained t u))
-    (same_plan gives c.take.new.self c.args.request.now c.in-Some.place c.in-Some.socket c.in-Some.ensures.cases h.shape h.seed name found c.next_name-name.ensures
-    (c.named-listener.ensures.socket ∙ ap (λ (a : Owner). find (is_named a.origin) (those c.take.new.self.places)) c.owner.ensures.owner))
-    (subst (λ (n : ℕ). ops.LeftOff h.shape.bind n (plans.ack h.shape h.seed m found name) (turned w) (turned u) (chained t w) (chained t u)) c.next_name-name.ensures
-    (left_by_header h t (λ shape seed. plans.ack shape seed m found name) name (turned w) (turned u) (chained t w) (chained t u) (was gives).tables
-    (wanted_left accepted refused (buckets_of t) name _ (turned w) (turned u) (chained t w) (chained t u) c.in-Err.end c.in_err-refusal-in-Err.ensures.wanted c.in-Err.ensures.carried))))))
+    (its_off gives c.take.new.self c.args.request.now c.in-Some.place c.in-Some.socket c.in-Some.ensures.cases u c.next_name-name.result (mine_found c.named-listener.result) c.in-Err.end _ c.next_name-name.ensures
+    (c.named-listener.ensures.socket ∙ ap (λ (a : Owner). find (is_named a.origin) (those c.take.new.self.places)) c.owner.ensures.owner)
+    c.in_err-refusal-in-Err.ensures.left c.in-Err.ensures.carried)))
 
 pub returns-in_err-give-clause-left : goal.returns-in_err-give-clause-left
 returns-in_err-give-clause-left g c =
     on_err c.from_residual.result
     (no_label (ack_gives c.args.request.now c.args.label) c.args.tables.now c.args.self.now c.self.inside.header c.self.inside.labels c.give.new.self c.self.inside.moment c.self.inside.offsets c.self.inside.waits c.args.worker.now
     (record { view = c.self.view_is; names = c.len-child_place.ensures.names }) c.in_err-give.ensures.err)
+
+pub returns-in_err-refusal-in-Err-clause-section : goal.returns-in_err-refusal-in-Err-clause-section
+returns-in_err-refusal-in-Err-clause-section g c =
+    let t = c.args.tables.now in
+    let u = c.ack.new.worker in
+    let gives : Giving c.args.tables.now c.args.self.now c.self.inside.header c.self.inside.labels c.give.new.self c.self.inside.moment c.self.inside.offsets c.self.inside.waits c.args.label c.args.worker.now =
+    record { before = record { view = c.self.view_is; names = c.len-child_place.ensures.names }; section = c.requires.section; room = c.requires.room; count = c.len-child_place.ensures.places; given = c.in_ok-give.ensures.given } in
+    on_err c.from_residual-in_err-refusal-in-Err.result
+    (acks_left gives c.take.new.self c.args.request.now c.in-Some.place c.in-Some.socket c.in-Some.ensures.cases u c.ack.ensures.ready c.ack.ensures.caller c.put-in-Err.new.self
+    (its_off gives c.take.new.self c.args.request.now c.in-Some.place c.in-Some.socket c.in-Some.ensures.cases u c.next_name-name.result (mine_found c.named-listener.result) c.in-Err.end _ c.next_name-name.ensures
+    (c.named-listener.ensures.socket ∙ ap (λ (a : Owner). find (is_named a.origin) (those c.take.new.self.places)) c.owner.ensures.owner)
+    c.in_err-refusal-in-Err.ensures.left c.in-Err.ensures.carried)
+    (typed_stands t c.in-Some.socket (turned u) (chained t u) c.in-Some.ensures.cases.state c.in-Err.ensures.kept)
+    (c.put-in-Err.ensures.put ∙ ap (λ x. with_place c.take.new.self c.in-Some.place (Some (mine_of x))) c.in-Err.ensures.back))
+
+pub returns-in_err-give-clause-section : goal.returns-in_err-give-clause-section
+returns-in_err-give-clause-section g c =
+    on_err c.from_residual.result
+    (same_section c.args.tables.now c.args.self.now c.self.inside.header c.self.inside.labels c.give.new.self c.self.inside.moment c.self.inside.offsets c.self.inside.waits c.args.worker.now c.self.view_is c.in_err-give.ensures.err c.requires.section)
+
+pub returns-in_err-give-clause-gives : goal.returns-in_err-give-clause-gives
+returns-in_err-give-clause-gives g c =
+    gives_not (commands.Ack c.args.request.now c.args.label) c.args.self.now.own.labels c.give.new.self.labels
+    (labels_same c.args.self.now c.self.inside.header c.self.inside.labels c.give.new.self c.self.inside.moment c.self.inside.offsets c.self.inside.waits c.self.view_is c.in_err-give.ensures.err) c.from_residual.result c.from_residual.ensures.0
+
+pub returns-in_default-clause-gives : goal.returns-in_default-clause-gives
+returns-in_default-clause-gives g c =
+    ap (λ (x : Labelled). x.labels) c.in_default.ensures.cases.kept
+    ∙ (labels_more c.args.self.now c.self.inside.header c.self.inside.labels c.give.new.self c.self.inside.moment c.self.inside.offsets c.self.inside.waits c.self.view_is c.args.label c.in_ok-give.ensures.given)
+
+pub returns-in-Ok-clause-gives : goal.returns-in-Ok-clause-gives
+returns-in-Ok-clause-gives g c =
+    ap (λ (x : Labelled). x.labels) c.put.ensures.put ∙ (ap (λ (x : Labelled). x.labels) c.in-Some.ensures.cases.after ∙ (labels_more c.args.self.now c.self.inside.header c.self.inside.labels c.give.new.self c.self.inside.moment c.self.inside.offsets c.self.inside.waits c.self.view_is c.args.label c.in_ok-give.ensures.given))
+
+pub returns-in_ok-refusal-in-Err-clause-gives : goal.returns-in_ok-refusal-in-Err-clause-gives
+returns-in_ok-refusal-in-Err-clause-gives g c =
+    ap (λ (x : Labelled). x.labels) c.put-in-Err.ensures.put ∙ (ap (λ (x : Labelled). x.labels) c.in-Some.ensures.cases.after ∙ (labels_more c.args.self.now c.self.inside.header c.self.inside.labels c.give.new.self c.self.inside.moment c.self.inside.offsets c.self.inside.waits c.self.view_is c.args.label c.in_ok-give.ensures.given))
+
+pub returns-in_err-refusal-in-Err-clause-gives : goal.returns-in_err-refusal-in-Err-clause-gives
+returns-in_err-refusal-in-Err-clause-gives g c =
+    gives_one (commands.Ack c.args.request.now c.args.label) c.args.self.now.own.labels c.put-in-Err.new.self.labels
+    (ap (λ (x : Labelled). x.labels) c.put-in-Err.ensures.put ∙ (ap (λ (x : Labelled). x.labels) c.in-Some.ensures.cases.after ∙ (labels_more c.args.self.now c.self.inside.header c.self.inside.labels c.give.new.self c.self.inside.moment c.self.inside.offsets c.self.inside.waits c.self.view_is c.args.label c.in_ok-give.ensures.given))) c.from_residual-in_err-refusal-in-Err.result
+
+pub returns-in_err-refusal-in-Err-clause-patient : goal.returns-in_err-refusal-in-Err-clause-patient
+returns-in_err-refusal-in-Err-clause-patient g c = λ endless.
+    err_patient c.from_residual-in_err-refusal-in-Err.result c.in-Err.end c.in_err-refusal-in-Err.field-0.0 c.from_residual-in_err-refusal-in-Err.ensures.1 c.in_err-refusal-in-Err.ensures.left (c.in-Err.ensures.patient endless)

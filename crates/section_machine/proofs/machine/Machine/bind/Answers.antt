@@ -8,16 +8,18 @@ use Rattle.table_model.specs.Own.{with_socket, ports_of}
 use Rattle.table_model.specs.Operations as plan
 use Rattle.table_model.specs.Operations.{Did, done, refused}
 use Rattle.table_model.specs.Commands.{answers, after_search, bind_command, bind_reply, bind_error, searches_port}
-use Rattle.shared_ops.specs.Goes as ops
 use Rattle.shared_ops.specs.Goes.{Went}
 use Rattle.shared_ops.specs.Socks.{mine_of, first_mine}
 use Rattle.shared_ops.specs.Stands.{buckets_of, turned, chained}
 use Rattle.section_machine.specs.Places.{Labelled, own_of, with_place}
+use Rattle.section_machine.specs.Sections.{Kept}
 use Rattle.section_machine.specs.Searches as searches
+use Rattle.section_machine.specs.Sections.{Kept}
 use Rattle.section_machine.proofs.Asked.{of_bind, still_named}
 use Rattle.section_machine.proofs.Searches.{bind_same}
-use Rattle.section_machine.proofs.LeftOff.{left_by_header, wanted_left, socket_left, bind_plan, its_speaker, its_search}
-use Rattle.section_machine.proofs.Settled.{nobody, done_so, refused_then, refused_went, before, stands_before, tells_before, of_header, on_err, sockets_back}
+use Rattle.section_machine.proofs.Gives.{err_patient, gives_none, labels_put, labels_same, no_more}
+use Rattle.section_machine.proofs.LeftOff.{off_as, socket_left, bind_plan, its_speaker, its_search}
+use Rattle.section_machine.proofs.Settled.{nobody, done_so, left_so, refused_then, refused_went, before, stands_before, tells_before, of_header, on_err, sockets_back}
 use Rattle.section_machine.proofs.machine.Machine.bind.Goals as goal
 
 pub returns-in_default-clause-carried : goal.returns-in_default-clause-carried
@@ -109,6 +111,41 @@ returns-in_err-refusal-in-Err-clause-left g c =
     (socket_left t c.args.self.now h c.self.inside.labels c.take.new.self c.put-in-Err.new.self c.self.inside.moment o c.ports-ports.new.self c.self.inside.waits c.args.label.now c.in-Some.place s w u
     (record { view = c.self.view_is; names = c.take.ensures.names }) c.in-Some.ensures.cases (c.put-in-Err.ensures.put ∙ ap (λ x. with_place c.take.new.self c.in-Some.place (Some (mine_of x))) c.in-Err.ensures.back) (commands.Bind c.args.label.now c.args.end) began (c.ports-ports.ensures.after ∙ ap (λ b. searches.after_search b o) c.searches_bind-begins.ensures)
     p (λ did. ends (bind_reply (after_search began own) did)) (λ e. bind_plan h own c.args.label.now (mine_of s) e c.args.end) (λ e. its_speaker h own c.args.label.now (mine_of s) e) (λ e deeds back. its_search h own c.args.label.now (mine_of s) e (λ m. searches_port m.owner c.args.end))
-    (left_by_header h t (λ shape seed. p) (mine_of s).owner.name (turned w) (turned u) (chained t w) (chained t u) sec.tables
-    (subst (λ (q : Asking Did). ops.LeftOff (buckets_of t) (mine_of s).owner.name q (turned w) (turned u) (chained t w) (chained t u)) same
-    (wanted_left (first_mine {B = ℕ}) refused (buckets_of t) (mine_of s).owner.name _ (turned w) (turned u) (chained t w) (chained t u) c.in-Err.end c.in_err-refusal-in-Err.ensures.wanted c.in-Err.ensures.carried))))
+    (off_as (first_mine {B = ℕ}) h t (λ shape seed. p) _ (mine_of s).owner.name (turned w) (turned u) (chained t w) (chained t u) c.in-Err.end _ sec.tables same c.in_err-refusal-in-Err.ensures.left c.in-Err.ensures.carried))
+
+pub returns-in_err-refusal-in-Err-clause-section : goal.returns-in_err-refusal-in-Err-clause-section
+returns-in_err-refusal-in-Err-clause-section g c =
+    let t = c.args.tables.now in
+    let h = c.self.inside.header in
+    let o = c.self.inside.offsets in
+    let s = c.in-Some.socket in
+    let w = c.args.worker.now in
+    let u = c.bind.new.worker in
+    let same = bind_same (mine_of s) c.args.end c.ports-ports.result (ports_of o firsts.Odd) (λ yes. c.ports-ports.ensures.ports (c.searches_bind-begins.ensures ∙ yes)) in
+    let p = plan.bind (mine_of s) c.args.end (ports_of o firsts.Odd) in
+    let sec = before t c.args.self.now c.self.inside.header c.self.inside.labels c.take.new.self c.self.inside.moment c.self.inside.offsets c.self.inside.waits c.args.label.now c.in-Some.place s w (record { view = c.self.view_is; names = c.take.ensures.names }) c.in-Some.ensures.cases c.requires.section in
+    on_err c.from_residual.result
+    (left_so t c.args.self.now c.self.inside.header c.self.inside.labels c.take.new.self c.self.inside.moment c.self.inside.offsets c.self.inside.waits c.args.label.now c.in-Some.place s w
+    (record { view = c.self.view_is; names = c.take.ensures.names }) c.in-Some.ensures.cases c.requires.section u c.bind.ensures.ready c.bind.ensures.caller p (of_bind (mine_of s) c.args.end (ports_of o firsts.Odd)) c.ports-ports.new.self c.put-in-Err.new.self
+    (off_as (first_mine {B = ℕ}) h t (λ shape seed. p) _ (mine_of s).owner.name (turned w) (turned u) (chained t w) (chained t u) c.in-Err.end _ sec.tables same c.in_err-refusal-in-Err.ensures.left c.in-Err.ensures.carried)
+    c.in-Err.ensures.kept (c.put-in-Err.ensures.put ∙ ap (λ x. with_place c.take.new.self c.in-Some.place (Some (mine_of x))) c.in-Err.ensures.back))
+
+pub returns-in_default-clause-gives : goal.returns-in_default-clause-gives
+returns-in_default-clause-gives g c =
+    no_more _ _ (labels_same c.args.self.now c.self.inside.header c.self.inside.labels c.take.new.self c.self.inside.moment c.self.inside.offsets c.self.inside.waits c.self.view_is c.in_default.ensures.cases.kept)
+
+pub returns-in-Ok-clause-gives : goal.returns-in-Ok-clause-gives
+returns-in-Ok-clause-gives g c =
+    no_more _ _ (labels_put c.self.inside.labels c.take.new.self c.put.new.self c.in-Some.place c.in-Some.place _ _ c.in-Some.ensures.cases.after c.put.ensures.put ∙ ap (λ (k : Kept). k.own.labels) c.self.view_is)
+
+pub returns-in_ok-refusal-in-Err-clause-gives : goal.returns-in_ok-refusal-in-Err-clause-gives
+returns-in_ok-refusal-in-Err-clause-gives g c =
+    no_more _ _ (labels_put c.self.inside.labels c.take.new.self c.put-in-Err.new.self c.in-Some.place c.in-Some.place _ _ c.in-Some.ensures.cases.after c.put-in-Err.ensures.put ∙ ap (λ (k : Kept). k.own.labels) c.self.view_is)
+
+pub returns-in_err-refusal-in-Err-clause-gives : goal.returns-in_err-refusal-in-Err-clause-gives
+returns-in_err-refusal-in-Err-clause-gives g c =
+    gives_none (commands.Bind c.args.label.now c.args.end) c.args.self.now.own.labels c.put-in-Err.new.self.labels refl (labels_put c.self.inside.labels c.take.new.self c.put-in-Err.new.self c.in-Some.place c.in-Some.place _ _ c.in-Some.ensures.cases.after c.put-in-Err.ensures.put ∙ ap (λ (k : Kept). k.own.labels) c.self.view_is) c.from_residual.result
+
+pub returns-in_err-refusal-in-Err-clause-patient : goal.returns-in_err-refusal-in-Err-clause-patient
+returns-in_err-refusal-in-Err-clause-patient g c = λ endless.
+    err_patient c.from_residual.result c.in-Err.end c.in_err-refusal-in-Err.field-0.0 c.from_residual.ensures.1 c.in_err-refusal-in-Err.ensures.left (c.in-Err.ensures.patient endless)

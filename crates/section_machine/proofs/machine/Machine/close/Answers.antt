@@ -1,4 +1,4 @@
-use Rattle.std.proofs.Common.{List, false, length, arith, Some, refl, sym, ap, subst, ◌∙◌}
+use Rattle.std.proofs.Common.{List, false, length, arith, Some, inr, refl, sym, ap, subst, ◌∙◌}
 use Rattle.flat_list.specs.declared.command.Command.TheVariants as commands
 use Rattle.table_model.specs.Own.{Mine}
 use Rattle.table_model.specs.Operations as plan
@@ -7,11 +7,13 @@ use Rattle.shared_ops.specs.Stands.{turned, chained}
 use Rattle.table_model.specs.Commands.{close_command, close_reply}
 use Rattle.shared_ops.specs.Socks.{mine_of}
 use Rattle.section_machine.specs.LeftOff.{IsLeftOff}
-use Rattle.section_machine.specs.Places.{own_of, with_place}
+use Rattle.section_machine.specs.Places.{Labelled, own_of, with_place}
 use Rattle.section_machine.specs.Sections.{Kept, kept}
+use Rattle.section_machine.specs.Standing.{IsSection}
 use Rattle.section_machine.proofs.Ended.{closed_so}
+use Rattle.section_machine.proofs.Gives.{labels_put, labels_same, no_more}
 use Rattle.section_machine.proofs.LeftOff.{left_by_header, socket_left, close_plan, its_speaker}
-use Rattle.section_machine.proofs.Settled.{nobody, before, stands_before, tells_before, sockets_back}
+use Rattle.section_machine.proofs.Settled.{nobody, before, rests_so, stands_before, tells_before, sockets_back}
 use Rattle.section_machine.proofs.Spent.{spends_of}
 use Rattle.section_machine.proofs.machine.Machine.close.Goals as goal
 
@@ -64,3 +66,22 @@ returns-in-Err-clause-left g c =
     (plan.close h.shape h.seed (mine_of s) c.self.inside.moment) (λ closed. ends (close_reply own (mine_of s).owner.name closed)) (λ e. close_plan h own c.args.label.now (mine_of s) e) (λ e. its_speaker h own c.args.label.now (mine_of s) e) (λ e deeds back. refl)
     (left_by_header h t (λ shape seed. plan.close shape seed (mine_of s) c.self.inside.moment) (mine_of s).owner.name (turned w) (turned u) (chained t w) (chained t u) sec.tables
     c.in-Err.ensures.left))
+
+pub returns-in-Err-clause-section : goal.returns-in-Err-clause-section
+returns-in-Err-clause-section g c =
+    subst (λ (ws : List Mine). IsSection c.args.tables.now (kept c.self.inside.header (own_of c.put.new.self c.self.inside.moment c.self.inside.offsets ws)) c.close.new.worker) (sym c.in-Err.ensures.same)
+    (rests_so c.args.tables.now c.args.self.now c.self.inside.header c.self.inside.labels c.take.new.self c.self.inside.moment c.self.inside.offsets c.self.inside.waits c.args.label.now c.in-Some.place c.in-Some.socket c.args.worker.now
+    (record { view = c.self.view_is; names = c.take.ensures.names }) c.in-Some.ensures.cases c.requires.section c.close.new.worker c.close.ensures.ready c.close.ensures.caller c.put.new.self
+    c.in-Err.ensures.nothing c.in-Err.ensures.side c.in-Err.ensures.stands (c.put.ensures.put ∙ ap (λ x. with_place c.take.new.self c.in-Some.place (Some (mine_of x))) c.in-Err.ensures.back))
+
+pub returns-in_default-clause-gives : goal.returns-in_default-clause-gives
+returns-in_default-clause-gives g c =
+    no_more _ _ (labels_same c.args.self.now c.self.inside.header c.self.inside.labels c.take.new.self c.self.inside.moment c.self.inside.offsets c.self.inside.waits c.self.view_is c.in_default.ensures.cases.kept)
+
+pub returns-in-Ok-clause-gives : goal.returns-in-Ok-clause-gives
+returns-in-Ok-clause-gives g c =
+    no_more _ _ (ap (λ (x : Labelled). x.labels) c.in-Some.ensures.cases.after ∙ ap (λ (k : Kept). k.own.labels) c.self.view_is)
+
+pub returns-in-Err-clause-gives : goal.returns-in-Err-clause-gives
+returns-in-Err-clause-gives g c =
+    inr (labels_put c.self.inside.labels c.take.new.self c.put.new.self c.in-Some.place c.in-Some.place _ _ c.in-Some.ensures.cases.after c.put.ensures.put ∙ ap (λ (k : Kept). k.own.labels) c.self.view_is)

@@ -9,7 +9,6 @@ use Rattle.table_model.specs.Own.{with_socket, ports_of}
 use Rattle.table_model.specs.Operations as plan
 use Rattle.table_model.specs.Operations.{Did, done, refused}
 use Rattle.table_model.specs.Commands.{answers, after_search, connect_command, connect_reply, connect_error, connect_rule, is_unbound, is_some}
-use Rattle.shared_ops.specs.Goes as ops
 use Rattle.shared_ops.specs.Goes.{Went}
 use Rattle.shared_ops.specs.Socks.{mine_of, first_mine}
 use Rattle.shared_ops.specs.Stands.{buckets_of, turned, chained}
@@ -20,8 +19,9 @@ use Rattle.section_machine.proofs.Spent.{spends_of}
 use Rattle.section_machine.specs.Places.{own_of}
 use Rattle.section_machine.specs.Sections.{Kept, kept}
 use Rattle.section_machine.proofs.Searches.{connect_same}
-use Rattle.section_machine.proofs.LeftOff.{left_by_header, wanted_left, socket_left, connect_plan, its_speaker, its_search}
-use Rattle.section_machine.proofs.Settled.{nobody, done_so, refused_then, refused_went, before, stands_before, tells_before, of_header, on_err, sockets_back}
+use Rattle.section_machine.proofs.Gives.{err_patient, gives_none, labels_put, labels_same, no_more}
+use Rattle.section_machine.proofs.LeftOff.{off_as, socket_left, connect_plan, its_speaker, its_search}
+use Rattle.section_machine.proofs.Settled.{nobody, done_so, left_so, refused_then, refused_went, before, stands_before, tells_before, of_header, on_err, sockets_back}
 use Rattle.section_machine.proofs.machine.Machine.connect.Goals as goal
 
 pub returns-in_default-clause-carried : goal.returns-in_default-clause-carried
@@ -134,6 +134,44 @@ returns-in_err-refusal-in-Err-clause-left g c =
     (socket_left t c.args.self.now h c.self.inside.labels c.take.new.self c.put-in-Err.new.self c.self.inside.moment o c.ports-ports.new.self c.self.inside.waits c.args.label.now c.in-Some.place s w u
     (record { view = c.self.view_is; names = c.take.ensures.names }) c.in-Some.ensures.cases (c.put-in-Err.ensures.put ∙ ap (λ x. with_place c.take.new.self c.in-Some.place (Some (mine_of x))) c.in-Err.ensures.back) (commands.Connect c.args.label.now c.args.from c.args.to) began (c.ports-ports.ensures.after ∙ ap (λ b. searches.after_search b o) c.searches_connect-begins.ensures)
     p (λ did. ends (connect_reply (after_search began own) did)) (λ e. connect_plan h own c.args.label.now (mine_of s) e c.args.from c.args.to) (λ e. its_speaker h own c.args.label.now (mine_of s) e) (λ e deeds back. its_search h own c.args.label.now (mine_of s) e (λ x. is_unbound x.owner.state && is_some (plan.source_to x.owner c.args.from c.args.to)))
-    (left_by_header h t (λ shape seed. plan.connect shape seed (mine_of s) c.args.from c.args.to m (connect_rule h) ours) (mine_of s).owner.name (turned w) (turned u) (chained t w) (chained t u) sec.tables
-    (subst (λ (q : Asking Did). ops.LeftOff (buckets_of t) (mine_of s).owner.name q (turned w) (turned u) (chained t w) (chained t u)) (same ∙ ruled)
-    (wanted_left (first_mine {B = End}) refused (buckets_of t) (mine_of s).owner.name _ (turned w) (turned u) (chained t w) (chained t u) c.in-Err.end c.in_err-refusal-in-Err.ensures.wanted c.in-Err.ensures.carried))))
+    (off_as (first_mine {B = End}) h t (λ shape seed. plan.connect shape seed (mine_of s) c.args.from c.args.to m (connect_rule h) ours) _ (mine_of s).owner.name (turned w) (turned u) (chained t w) (chained t u) c.in-Err.end _ sec.tables (same ∙ ruled) c.in_err-refusal-in-Err.ensures.left c.in-Err.ensures.carried))
+
+pub returns-in_err-refusal-in-Err-clause-section : goal.returns-in_err-refusal-in-Err-clause-section
+returns-in_err-refusal-in-Err-clause-section g c =
+    let t = c.args.tables.now in
+    let h = c.self.inside.header in
+    let o = c.self.inside.offsets in
+    let s = c.in-Some.socket in
+    let w = c.args.worker.now in
+    let u = c.connect.new.worker in
+    let m = c.self.inside.moment in
+    let ours = ports_of o firsts.Even in
+    let ruled = ap (λ rule. plan.connect t.chains.layout.shape t.chains.layout.seed (mine_of s) c.args.from c.args.to m rule ours) c.connect_rule-rule.ensures in
+    let same = connect_same t.chains.layout.shape t.chains.layout.seed (mine_of s) c.args.from c.args.to m c.connect_rule-rule.result c.ports-ports.result (ports_of o firsts.Even) (λ yes. c.ports-ports.ensures.ports (c.searches_connect-begins.ensures ∙ yes)) in
+    let p = plan.connect h.shape h.seed (mine_of s) c.args.from c.args.to m (connect_rule h) ours in
+    let sec = before t c.args.self.now c.self.inside.header c.self.inside.labels c.take.new.self c.self.inside.moment c.self.inside.offsets c.self.inside.waits c.args.label.now c.in-Some.place s w (record { view = c.self.view_is; names = c.take.ensures.names }) c.in-Some.ensures.cases c.requires.section in
+    on_err c.from_residual.result
+    (left_so t c.args.self.now c.self.inside.header c.self.inside.labels c.take.new.self c.self.inside.moment c.self.inside.offsets c.self.inside.waits c.args.label.now c.in-Some.place s w
+    (record { view = c.self.view_is; names = c.take.ensures.names }) c.in-Some.ensures.cases c.requires.section u c.connect.ensures.ready c.connect.ensures.caller p (of_connect h.shape h.seed (mine_of s) c.args.from c.args.to m (connect_rule h) ours) c.ports-ports.new.self c.put-in-Err.new.self
+    (off_as (first_mine {B = End}) h t (λ shape seed. plan.connect shape seed (mine_of s) c.args.from c.args.to m (connect_rule h) ours) _ (mine_of s).owner.name (turned w) (turned u) (chained t w) (chained t u) c.in-Err.end _ sec.tables (same ∙ ruled) c.in_err-refusal-in-Err.ensures.left c.in-Err.ensures.carried)
+    c.in-Err.ensures.kept (c.put-in-Err.ensures.put ∙ ap (λ x. with_place c.take.new.self c.in-Some.place (Some (mine_of x))) c.in-Err.ensures.back))
+
+pub returns-in_default-clause-gives : goal.returns-in_default-clause-gives
+returns-in_default-clause-gives g c =
+    no_more _ _ (labels_same c.args.self.now c.self.inside.header c.self.inside.labels c.take.new.self c.self.inside.moment c.self.inside.offsets c.self.inside.waits c.self.view_is c.in_default.ensures.cases.kept)
+
+pub returns-in-Ok-clause-gives : goal.returns-in-Ok-clause-gives
+returns-in-Ok-clause-gives g c =
+    no_more _ _ (labels_put c.self.inside.labels c.take.new.self c.put.new.self c.in-Some.place c.in-Some.place _ _ c.in-Some.ensures.cases.after c.put.ensures.put ∙ ap (λ (k : Kept). k.own.labels) c.self.view_is)
+
+pub returns-in_ok-refusal-in-Err-clause-gives : goal.returns-in_ok-refusal-in-Err-clause-gives
+returns-in_ok-refusal-in-Err-clause-gives g c =
+    no_more _ _ (labels_put c.self.inside.labels c.take.new.self c.put-in-Err.new.self c.in-Some.place c.in-Some.place _ _ c.in-Some.ensures.cases.after c.put-in-Err.ensures.put ∙ ap (λ (k : Kept). k.own.labels) c.self.view_is)
+
+pub returns-in_err-refusal-in-Err-clause-gives : goal.returns-in_err-refusal-in-Err-clause-gives
+returns-in_err-refusal-in-Err-clause-gives g c =
+    gives_none (commands.Connect c.args.label.now c.args.from c.args.to) c.args.self.now.own.labels c.put-in-Err.new.self.labels refl (labels_put c.self.inside.labels c.take.new.self c.put-in-Err.new.self c.in-Some.place c.in-Some.place _ _ c.in-Some.ensures.cases.after c.put-in-Err.ensures.put ∙ ap (λ (k : Kept). k.own.labels) c.self.view_is) c.from_residual.result
+
+pub returns-in_err-refusal-in-Err-clause-patient : goal.returns-in_err-refusal-in-Err-clause-patient
+returns-in_err-refusal-in-Err-clause-patient g c = λ endless.
+    err_patient c.from_residual.result c.in-Err.end c.in_err-refusal-in-Err.field-0.0 c.from_residual.ensures.1 c.in_err-refusal-in-Err.ensures.left (c.in-Err.ensures.patient endless)

@@ -1,4 +1,4 @@
-use Rattle.std.proofs.Common.{false, length, arith, Some, refl, sym, ap, ◌∙◌}
+use Rattle.std.proofs.Common.{false, length, arith, Some, inr, refl, sym, ap, ◌∙◌}
 use Rattle.flat_list.specs.declared.command.Command.TheVariants as commands
 use Rattle.table_model.specs.Operations as plan
 use Rattle.table_model.specs.Asking.{ends}
@@ -8,11 +8,13 @@ use Rattle.table_model.specs.Own.{without}
 use Rattle.shared_ops.specs.Closes.{is_gone}
 use Rattle.table_model.specs.Commands.{drop_command, answers}
 use Rattle.shared_ops.specs.Socks.{mine_of}
-use Rattle.section_machine.specs.Places.{own_of, with_place}
+use Rattle.section_machine.specs.Places.{Labelled, own_of, with_place}
 use Rattle.section_machine.specs.Sections.{Kept, kept}
+use Rattle.section_machine.proofs.Closes.{closed_off, unclosed_left}
 use Rattle.section_machine.proofs.Ended.{dropped_so}
-use Rattle.section_machine.proofs.LeftOff.{left_by_header, unclosed_left, socket_left, drop_plan, its_speaker}
-use Rattle.section_machine.proofs.Settled.{nobody, before, stands_before, tells_before, sockets_back}
+use Rattle.section_machine.proofs.Gives.{labels_put, labels_same, no_more, off_patient}
+use Rattle.section_machine.proofs.LeftOff.{left_by_header, socket_left, drop_plan, its_speaker}
+use Rattle.section_machine.proofs.Settled.{nobody, before, rests_so, stands_before, tells_before, sockets_back}
 use Rattle.section_machine.proofs.Spent.{spends_of}
 use Rattle.section_machine.proofs.machine.Machine.drop_labelled.Goals as goal
 
@@ -64,3 +66,29 @@ returns-in-Err-clause-left g c =
     (plan.drop (mine_of s) plan.gone) (λ closed. ends (answers (without own (mine_of s).owner.name) replies.Ok)) (λ e. drop_plan h own c.args.label.now (mine_of s) e) (λ e. its_speaker h own c.args.label.now (mine_of s) e) (λ e deeds back. refl)
     (left_by_header h t (λ shape seed. plan.drop (mine_of s) plan.gone) (mine_of s).owner.name (turned w) (turned u) (chained t w) (chained t u) sec.tables
     (unclosed_left is_gone (buckets_of t) (mine_of s).owner.name (plan.drop (mine_of s) plan.gone) (turned w) (turned u) (chained t w) (chained t u) _ c.in-Err.ensures.carried))
+
+pub returns-in-Err-clause-section : goal.returns-in-Err-clause-section
+returns-in-Err-clause-section g c =
+    rests_so c.args.tables.now c.args.self.now c.self.inside.header c.self.inside.labels c.take.new.self c.self.inside.moment c.self.inside.offsets c.self.inside.waits c.args.label.now c.in-Some.place c.in-Some.socket c.args.worker.now
+    (record { view = c.self.view_is; names = c.take.ensures.names }) c.in-Some.ensures.cases c.requires.section c.drop_sock.new.worker c.drop_sock.ensures.ready c.drop_sock.ensures.caller c.put.new.self
+    c.in-Err.ensures.nothing c.in-Err.ensures.side c.in-Err.ensures.kept (c.put.ensures.put ∙ ap (λ x. with_place c.take.new.self c.in-Some.place (Some (mine_of x))) c.in-Err.ensures.back)
+
+pub returns-in_default-clause-gives : goal.returns-in_default-clause-gives
+returns-in_default-clause-gives g c =
+    no_more _ _ (labels_same c.args.self.now c.self.inside.header c.self.inside.labels c.take.new.self c.self.inside.moment c.self.inside.offsets c.self.inside.waits c.self.view_is c.in_default.ensures.cases.kept)
+
+pub returns-in-Ok-clause-gives : goal.returns-in-Ok-clause-gives
+returns-in-Ok-clause-gives g c =
+    no_more _ _ (ap (λ (x : Labelled). x.labels) c.in-Some.ensures.cases.after ∙ ap (λ (k : Kept). k.own.labels) c.self.view_is)
+
+pub returns-in-Err-clause-gives : goal.returns-in-Err-clause-gives
+returns-in-Err-clause-gives g c =
+    inr (labels_put c.self.inside.labels c.take.new.self c.put.new.self c.in-Some.place c.in-Some.place _ _ c.in-Some.ensures.cases.after c.put.ensures.put ∙ ap (λ (k : Kept). k.own.labels) c.self.view_is)
+
+pub cause_of-requires : goal.cause_of-requires
+cause_of-requires g c =
+    closed_off is_gone (buckets_of c.args.tables.now) (mine_of c.in-Some.socket).owner.name _ _ _ _ _ c.in-Err.end c.in-Err.ensures.carried
+
+pub returns-in-Err-clause-patient : goal.returns-in-Err-clause-patient
+returns-in-Err-clause-patient g c = λ endless.
+    off_patient c.in-Err.end c.cause_of.result c.cause_of.ensures (c.in-Err.ensures.patient endless)
