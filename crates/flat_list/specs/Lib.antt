@@ -18,3 +18,4 @@ pub mod Script
 pub mod Padded
 pub mod Kept
 pub mod Labels
+pub mod Fits

@@ -1,6 +1,6 @@
 //! Groups of listeners that share an end, and who is in them.
 
-ghost use Rattle.std.specs.Prelude.{ℕ, ◌≡◌, ◌∷◌, ◌+◌, ◌≤◌, ◌<◌, ◌^◌, [], true, false, length, map, filter, find, is_some, Some, IfSome, vec_len, vec_capacity};
+ghost use Rattle.std.specs.Prelude.{ℕ, ◌≡◌, ◌∷◌, ◌≤◌, ◌<◌, ◌^◌, [], true, false, length, map, filter, is_some, Some, IfSome, vec_len, vec_capacity};
 ghost use Rattle.std.specs.List.{list_any};
 ghost use Rattle.std.specs.Option.{option_copied};
 ghost use Rattle.sock_card.specs.Conflict.{owner_key};

@@ -1,8 +1,7 @@
-ghost use Rattle.std.specs.Prelude.{◌≡◌, ◌++◌, ◌∷◌, [], length, map, OnOk, OnErr};
+ghost use Rattle.std.specs.Prelude.{◌≡◌, map};
 
 use crate::header::Header;
 use crate::kept::KeptCommand;
-use std::alloc::{AllocError, Global};
 use std::marker::Model;
 
 /// Where a script has its capture: the device and the network namespace that all its packets come in by, 0 where none

@@ -1,6 +1,6 @@
 //! Questions about a list of sockets, each answered by a scan of the whole list.
 
-ghost use Rattle.std.specs.Prelude.{◌≡◌, ◌≤◌, ◌==◌, ◌&&◌, length, not, filter, find, count_by, vec_len, vec_capacity, IfOk};
+ghost use Rattle.std.specs.Prelude.{◌≡◌, ◌≤◌, ◌==◌, ◌&&◌, not, filter, find, count_by, vec_len, vec_capacity, IfOk};
 ghost use Rattle.std.specs.List.{list_any};
 ghost use Rattle.sock_card.specs.TimeWait as time_wait;
 ghost use Rattle.flat_list.specs.Sockets as spec;

@@ -1,4 +1,4 @@
-ghost use Rattle.std.specs.Prelude.{◌∷◌, ◌≡◌, ◌≢◌, ◌+◌, ◌<◌, ◌≤◌, ◌^◌, length, [], find, position, IfOk, OnErr, OnOk, IfSome, bytes_eq, unwrap_or, slice_get, ◌-◌};
+ghost use Rattle.std.specs.Prelude.{◌∷◌, ◌≡◌, ◌≢◌, ◌+◌, ◌<◌, ◌≤◌, ◌^◌, length, [], find, position, IfOk, OnErr, OnOk, IfSome, bytes_eq, unwrap_or, slice_get};
 ghost use Rattle.std.specs.Option.{option_copied, option_map};
 ghost use Rattle.rand_pcg.specs.Pcg.{pcg32};
 ghost use Rattle.flat_list.specs.declared.header.Header.{Header};

@@ -4,7 +4,7 @@ use Rattle.list_words.specs.Lists.{Each}
 use Rattle.flat_list.specs.Script.{Script, IsSmall}
 use Rattle.flat_list.specs.declared.command.Command.{Command}
 use Rattle.sock_script.specs.declared.parse.Mode.TheVariants as modes
-use Rattle.sock_script.specs.Fits.{FitsTables}
+use Rattle.flat_list.specs.Fits.{FitsTables}
 use Rattle.sock_script.specs.Grammar.{IsScript}
 use Rattle.table_model.specs.Means.{is_lookup}
 

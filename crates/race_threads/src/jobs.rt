@@ -1,12 +1,11 @@
 //! The jobs of a race: a worker for each section and each looker.
 
-ghost use Rattle.std.specs.Prelude.{◌≡◌, ◌+◌, ◌^◌, ◌<◌, length, reverse, IfOk, OnOk};
+ghost use Rattle.std.specs.Prelude.{◌≡◌, ◌^◌, ◌<◌, length, reverse, IfOk, OnOk};
 ghost use Rattle.flat_list.specs.declared.header.Header.{Header};
 ghost use Rattle.race_threads.specs.Jobs.{AllOver, AllReady, HasAllParts, IsGathered, outcomes_in, part_in};
 ghost use Rattle.race_threads.specs.Joins.{Part};
 ghost use Rattle.race_threads.specs.Shares.{HasDrawnAll, IsFirstPass};
 ghost use Rattle.race_threads.specs.Workers.{AreTables, IsAtRest, IsFirst, part_of};
-ghost use Rattle.turn_table.specs.Passes as words;
 
 use crate::looker::Look;
 use crate::worker::{join, split};

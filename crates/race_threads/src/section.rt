@@ -1,6 +1,6 @@
 //! A section, from its first command to its last.
 
-ghost use Rattle.std.specs.Prelude.{◌≡◌, false, ◌≤◌, ◌<◌, ◌+◌, ◌^◌, ◌%◌, length, IfOk, OnOk};
+ghost use Rattle.std.specs.Prelude.{◌≡◌, false, ◌≤◌, ◌<◌, ◌^◌, ◌%◌, length, IfOk, OnOk};
 ghost use Rattle.flat_list.specs.Ports.{size};
 ghost use Rattle.list_words.specs.Lists.{Each};
 ghost use Rattle.shared_ops.specs.Spends.{Draws};

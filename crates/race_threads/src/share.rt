@@ -1,6 +1,6 @@
 //! A looker's share of a capture: the items whose tickets it draws.
 
-ghost use Rattle.std.specs.Prelude.{◌≡◌, ℕ, ◌^◌, ◌<◌, length, IfOk};
+ghost use Rattle.std.specs.Prelude.{◌≡◌, ℕ, ◌<◌, length, IfOk};
 ghost use Rattle.flat_list.specs.declared.header.Header.{Header};
 ghost use Rattle.race_threads.specs.Lookers.{HasLooked};
 ghost use Rattle.race_threads.specs.Shares.{HasDrawnNothing, HasTold, IsFirstPass};

@@ -1,7 +1,7 @@
 //! The tables with which a race starts.
 
-ghost use Rattle.std.specs.Prelude.{◌≡◌, IfOk};
-ghost use Rattle.sock_script.specs.Fits.{FitsTables};
+ghost use Rattle.std.specs.Prelude.{IfOk};
+ghost use Rattle.flat_list.specs.Fits.{FitsTables};
 ghost use Rattle.race_threads.specs.Workers.{AreTables, IsFirst};
 
 use bind_buckets::{Sharing, turning};

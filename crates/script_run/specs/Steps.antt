@@ -14,7 +14,7 @@ use Rattle.section_machine.specs.Standing.{IsSection, IsUnspoken}
 use Rattle.socket_list.specs.Listing.{Listing}
 use Rattle.shared_ops.specs.declared.tables.Tables.{Tables as Shared}
 use Rattle.shared_ops.specs.declared.tables.Worker.{Worker}
-use Rattle.shared_ops.specs.Stands.{MayEnter, MayDraw, turned}
+use Rattle.shared_ops.specs.Stands.{turned}
 use Rattle.sock_script.specs.Output.{Replies, listings_at}
 use Rattle.sock_script.specs.Steps.{issue, item_shown, RunsCommand, RunsSection}
 use Rattle.table_model.specs.Commands.{answers}
@@ -22,18 +22,6 @@ use Rattle.table_model.specs.Means.{IsShape, Means, Refines, TablesMean}
 use Rattle.table_model.specs.Own.{Own}
 use Rattle.table_model.specs.Tables.{Tables}
 use Rattle.script_run.specs.Sole.{IsSole}
-
--- What a worker may do
-
--- it may carry out so many commands more
-pub record MayCarry (commands : ℕ) (w : Worker) : Type 0 where
-  pub enters : MayEnter (65540 * commands) w
-  pub draws : MayDraw (6 * commands) w
-
--- and so, where a section's TIME_WAITs are to be reaped yet
-pub record MayGoOn (commands : ℕ) (k : Kept) (w : Worker) : Type 0 where
-  pub enters : MayEnter (65540 * commands + length k.own.waits) w
-  pub draws : MayDraw (6 * commands + 2 * length k.own.waits) w
 
 -- all commands of the sections that come after so many
 abbrev pub commands_after : ℕ → ℕ

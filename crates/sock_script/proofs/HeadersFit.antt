@@ -16,7 +16,8 @@ use Rattle.sock_script.specs.Grammar.{default_shape, default_range}
 use Rattle.sock_script.specs.Reading.{Draft, Follows, ReadsLine, Reads, past, nothing_yet}
 use Rattle.sock_script.proofs.LineCases.{line_cases}
 use Rattle.sock_script.proofs.Reprinted.{read_as}
-use Rattle.sock_script.specs.Fits.{FitsTables, ScriptsFit}
+use Rattle.flat_list.specs.Fits.{FitsTables}
+use Rattle.sock_script.specs.Fits.{ScriptsFit}
 
 -- a shape or a range that was said fits
 abbrev IfSaid : {A : Type 0} → (A → Type 0) → Option A → Type 0
