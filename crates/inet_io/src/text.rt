@@ -29,6 +29,35 @@ pub fn put_num(out: &mut [u8], at: usize, n: u64) -> usize
     put(out, at, buffer.format(n).as_bytes())
 }
 
+/// The digit of a number below ten.
+fn digit(n: u32) -> u8
+    requires { n < 10 }
+    ensures { result ≡ 48 + n }
+{
+    b'0' + n as u8
+}
+
+/// Puts a number to 255 in decimal digits, and answers the place after it. It has three at most, so that they are told
+/// apart by two tests.
+fn put_octet(out: &mut [u8], at: usize, n: u32) -> usize
+    requires small { n < 256 }
+    requires room { at + length (decimal n) ≤ length out.old }
+    ensures place { result ≡ at + length (decimal n) }
+    ensures put { PutsAt out.old at (decimal n) out.new }
+{
+    if n < 10 {
+        return put(out, at, &[digit(n)]);
+    }
+    if n < 100 {
+        return put(out, at, &[digit(n / 10), digit(n % 10)]);
+    }
+    put(
+        out,
+        at,
+        &[digit(n / 100), digit(n / 10 % 10), digit(n % 10)],
+    )
+}
+
 /// Puts an address in dotted decimal, 7 to 15 bytes, and answers the place after it. `0x0A000001` is
 /// `10.0.0.1`.
 pub fn put_addr(out: &mut [u8], at: usize, addr: u32) -> usize
@@ -36,13 +65,13 @@ pub fn put_addr(out: &mut [u8], at: usize, addr: u32) -> usize
     ensures place { result ≡ at + length (addr_text addr) }
     ensures put { PutsAt out.old at (addr_text addr) out.new }
 {
-    let at = put_num(out, at, u64::from(addr >> 24));
+    let at = put_octet(out, at, addr >> 24);
     let at = put(out, at, b".");
-    let at = put_num(out, at, u64::from(addr >> 16) % 256);
+    let at = put_octet(out, at, (addr >> 16) % 256);
     let at = put(out, at, b".");
-    let at = put_num(out, at, u64::from(addr >> 8) % 256);
+    let at = put_octet(out, at, (addr >> 8) % 256);
     let at = put(out, at, b".");
-    put_num(out, at, u64::from(addr) % 256)
+    put_octet(out, at, addr % 256)
 }
 
 /// The number that the digits at the front spell, and how many they are; none where they are more

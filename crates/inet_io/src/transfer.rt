@@ -1,5 +1,5 @@
 //! All that a source has, up to a limit, and all of a text into a sink.
-ghost use Rattle.std.specs.Prelude.{ℕ, ◌+◌, ◌^◌, ◌<◌, ◌≤◌, length, vec_len, IfOk, OnOk, OnErr, IsErrOf, IfSome};
+ghost use Rattle.std.specs.Prelude.{◌+◌, ◌^◌, ◌<◌, ◌≤◌, vec_len, IfOk, OnOk, OnErr, IsErrOf};
 ghost use Rattle.std.specs.Io.KnownBytes.{Appends};
 ghost use Rattle.inet_io.specs.Ends.{Rose, HasCause, ReadsWhole, ReadsMoreThan, AppendsFront};
 

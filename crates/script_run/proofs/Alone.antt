@@ -6,9 +6,11 @@ use Rattle.bind_buckets.specs.declared.request.Entry.{Entry}
 use Rattle.bind_buckets.specs.Turned.{IsAlone, AreLawful}
 use Rattle.flat_list.specs.declared.header.Header.{Header}
 use Rattle.flat_list.specs.declared.command.Command.{Command}
-use Rattle.flat_list.specs.declared.command.Command.TheVariants as commands
 use Rattle.flat_list.specs.declared.command.Query.{Query}
 use Rattle.flat_list.specs.declared.command.Reply.{Reply}
+use Rattle.flat_list.specs.declared.kept.Form.{Form}
+use Rattle.flat_list.specs.declared.kept.Form.TheVariants as forms
+use Rattle.flat_list.specs.Kept.{kept_command}
 use Rattle.reuseport_group.specs.Passes as lists
 use Rattle.sock_script.specs.Steps.{takes_items}
 use Rattle.table_rule.specs.declared.view.ReadView.{ReadView}
@@ -114,21 +116,10 @@ module _ (t : Tables) (k : Kept) (w u : Worker) (command : Command) (next : Own)
 -- What a step answers
 
 -- a command that is no lookup and takes no items asks for no lookup
-pub no_lookup : (command : Command) → takes_items command ≡ false → ((query : Query) → command ≡ commands.Look query → ⊥) → is_lookup command ≡ false
-no_lookup (commands.Socket label options) none other = refl
-no_lookup (commands.Bind label end) none other = refl
-no_lookup (commands.Listen label) none other = refl
-no_lookup (commands.Connect label from to) none other = refl
-no_lookup (commands.Accept listener label from at) none other = refl
-no_lookup (commands.Syn listener label from at) none other = refl
-no_lookup (commands.Ack request label) none other = refl
-no_lookup (commands.Close label) none other = refl
-no_lookup (commands.Drop label) none other = refl
-no_lookup (commands.At moment) none other = refl
-no_lookup commands.Reap none other = refl
-no_lookup (commands.Look query) none other = absurd (other query refl)
-no_lookup (commands.Packets n) none other = none
-no_lookup commands.Dump none other = refl
+pub kept_no_lookup : (form : Form) → takes_items (kept_command form) ≡ false → ((query : Query) → form ≡ forms.Look query → ⊥) → is_lookup (kept_command form) ≡ false
+kept_no_lookup (forms.Look query) none other = absurd (other query refl)
+kept_no_lookup (forms.Packets n) none other = none
+kept_no_lookup _ none other = refl
 
 module _ (t : Tables) (k l : Kept) (w u : Worker) (command : Command) (running : IsRunning t k w) (ready : IsReady t u) where
   abbrev Does : Reply → Type 0

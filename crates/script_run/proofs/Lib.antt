@@ -11,5 +11,4 @@ pub mod CommandRuns
 pub mod SectionTurns
 pub mod Alone
 pub mod Lookups
-pub mod Budgets
 pub mod Starting

@@ -18,7 +18,7 @@ use Rattle.table_model.specs.Tables.{Tables, new_tables}
 use Rattle.table_model.specs.Own.{new_own}
 use Rattle.table_model.specs.Means.{Means, IsShape}
 use Rattle.table_model.proofs.parts.Start.{new_mean_empty, starts_meant}
-use Rattle.sock_script.specs.Fits.{FitsTables}
+use Rattle.flat_list.specs.Fits.{FitsTables}
 use Rattle.section_machine.specs.Sections.{Kept, kept, KeepsHeader}
 use Rattle.script_run.specs.Steps.{AnswersAll, StartsAt, RunsAs, RunsOne, RunsEach}
 use Rattle.flat_list.proofs.SectionsStay.{step_stays}

@@ -1,11 +1,12 @@
 //! What a command lists, by a worker that is alone at its tables.
 
-ghost use Rattle.std.specs.Prelude.{◌≡◌, OnOk};
+ghost use Rattle.std.specs.Prelude.{OnOk};
 ghost use Rattle.script_run.specs.Looks.{Looked};
 ghost use Rattle.script_run.specs.Sole.{IsSole, tables_of};
 ghost use Rattle.script_run.specs.Steps.{ListsFor};
 
-use flat_list::Command;
+use flat_list::KeptCommand;
+use flat_list::kept::Form;
 use shared_ops::{Tables, Worker};
 use socket_list::Listing;
 use std::alloc::{AllocError, Global};
@@ -20,14 +21,14 @@ pub(crate) fn list<R: Wait>(
     tables: &Tables,
     worker: &mut Worker,
     listings: &mut Vec<Listing>,
-    command: &Command,
+    command: &KeptCommand,
 ) -> Result<(), AllocError>
     requires sole { IsSole tables.now worker.old }
     ensures sole { OnOk result (IsSole tables.now worker.new) }
     ensures looked { OnOk result (Looked tables.now worker.old worker.new) }
     ensures lists { OnOk result (ListsFor (tables_of tables.now worker.old) command.now listings.old.items listings.new.items) }
 {
-    if let Command::Dump = command {
+    if let Form::Dump = command.form() {
         let mut listing = dump(rt, alloc, tables, worker)?;
         listing.span = None;
         listings.push(listing)?;

@@ -2,11 +2,11 @@
 
 ghost use Rattle.std.specs.Prelude.{◌≡◌, ◌<◌, ◌+◌, ◌-◌, ◌≤◌, ◌^◌, [], false, length, map, IfOk, OnOk};
 ghost use Rattle.flat_list.specs.Script.{IsSmall};
-ghost use Rattle.sock_script.specs.Fits.{FitsTables};
+ghost use Rattle.flat_list.specs.Fits.{FitsTables};
 ghost use Rattle.script_run.specs.Looks.{AnswersItem, Looked};
 ghost use Rattle.script_run.specs.Sole.{IsSole, tables_of};
-ghost use Rattle.script_run.specs.Steps.{AnswersAll, AreUnspoken, IsRunning, MayCarry, RefinesEach, RunsAs, RunsEach, commands_after};
-ghost use Rattle.section_machine.specs.Carried.{HasEnough, Spends};
+ghost use Rattle.script_run.specs.Steps.{AnswersAll, AreUnspoken, IsRunning, RefinesEach, RunsAs, RunsEach, commands_after};
+ghost use Rattle.section_machine.specs.Carried.{HasEnough, MayCarry, Spends};
 ghost use Rattle.section_machine.specs.Sections.{KeepsHeader};
 ghost use Rattle.section_machine.specs.Standing.{AreOf};
 ghost use Rattle.sock_script.specs.Output.{flat_listings, flat_replies};
@@ -17,8 +17,9 @@ use crate::listing::list;
 use crate::look::look;
 use crate::start::start;
 use capture_reader::{Capture, Item};
+use flat_list::kept::Form;
 use flat_list::owned::packet_of;
-use flat_list::{Command, Header, KeptCommand, Reply, Script};
+use flat_list::{Header, KeptCommand, Reply, Script};
 use label_index::LabelSeed;
 use section_machine::{Machine, laws};
 use shared_ops::{Tables, Worker};
@@ -65,7 +66,7 @@ fn step<R: Wait>(
     tables: &Tables,
     worker: &mut Worker,
     machine: &mut Machine,
-    command: &Command,
+    command: &KeptCommand,
 ) -> Result<Reply, AllocError>
     requires one { takes_items command.now ≡ false }
     requires room { length machine.old.own.labels + 1 < 2 ^ 24 }
@@ -77,12 +78,12 @@ fn step<R: Wait>(
     ensures refines { IfOk result (RefinesEach machine.old (tables_of tables.now worker.old) command.now
         (tables_of tables.now worker.new) machine.new.own) }
 {
-    match command {
-        Command::Look { query } => {
+    match command.form() {
+        Form::Look { query } => {
             let packet = packet_of(*query);
             Ok(Reply::Found(look(tables, worker, &packet)))
         }
-        _ => machine.step(rt, tables, worker, command),
+        _ => machine.step(rt, tables, worker, &command.plain()),
     }
 }
 
@@ -95,7 +96,7 @@ fn run_command<'a, R: Wait>(
     worker: &mut Worker,
     machine: &mut Machine,
     replies: &mut Replies,
-    command: &Command,
+    command: &KeptCommand,
     items: &'a [Item],
 ) -> Result<&'a [Item], AllocError>
     requires room { length machine.old.own.labels + 1 < 2 ^ 24 }
@@ -108,7 +109,7 @@ fn run_command<'a, R: Wait>(
         items.now left.now replies.old replies.new
         machine.new.own (tables_of tables.now worker.new)) }
 {
-    if let Command::Packets { count } = command {
+    if let Form::Packets { count } = command.form() {
         let (next, left) = items.split_at((*count as usize).min(items.len()));
         look_up(tables, worker, &mut replies.each, next)?;
         return Ok(left);
@@ -159,7 +160,7 @@ fn run_section<'a, R: Wait>(
             worker,
             &mut machine,
             replies,
-            &command.plain(),
+            command,
             left,
         )?;
     }

@@ -1,9 +1,10 @@
 //! The tables with which a run starts.
 
 ghost use Rattle.std.specs.Prelude.{◌≡◌, IfOk};
-ghost use Rattle.sock_script.specs.Fits.{FitsTables};
+ghost use Rattle.flat_list.specs.Fits.{FitsTables};
 ghost use Rattle.script_run.specs.Sole.{IsSole, tables_of};
-ghost use Rattle.script_run.specs.Steps.{AreUnspoken, MayCarry, commands_after};
+ghost use Rattle.script_run.specs.Steps.{AreUnspoken, commands_after};
+ghost use Rattle.section_machine.specs.Carried.{MayCarry};
 ghost use Rattle.section_machine.specs.Standing.{AreOf};
 ghost use Rattle.table_model.specs.Tables.{new_tables};
 

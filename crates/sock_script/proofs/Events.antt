@@ -5,7 +5,10 @@ use Rattle.capture_reader.specs.declared.packet.Item.{Item}
 use Rattle.flat_list.specs.declared.command.Command.{Command}
 use Rattle.flat_list.specs.declared.command.Command.TheVariants as commands
 use Rattle.flat_list.specs.declared.command.Reply.{Reply}
+use Rattle.flat_list.specs.declared.kept.Form.{Form}
+use Rattle.flat_list.specs.declared.kept.Form.TheVariants as forms
 use Rattle.flat_list.specs.Flat.{Flat}
+use Rattle.flat_list.specs.Kept.{kept_command}
 use Rattle.flat_list.specs.Run.{Issued}
 use Rattle.flat_list.specs.Step.{step}
 use Rattle.sock_script.specs.Output.{Replies, Event, asked, stored, events_at, events_from, items_after, listings_from, listings_at, is_dump}
@@ -21,6 +24,15 @@ takes_none _ h = refl
 pub lists_none : (command : Command) → (command ≡ commands.Dump → ⊥) → is_dump command ≡ false
 lists_none commands.Dump h = absurd (h refl)
 lists_none _ h = refl
+
+-- its form tells the same of a command that is kept
+pub kept_takes_none : (form : Form) → ((count : ℕ) → form ≡ forms.Packets count → ⊥) → takes_items (kept_command form) ≡ false
+kept_takes_none (forms.Packets count) h = absurd (h count refl)
+kept_takes_none _ h = refl
+
+pub kept_lists_none : (form : Form) → (form ≡ forms.Dump → ⊥) → is_dump (kept_command form) ≡ false
+kept_lists_none forms.Dump h = absurd (h refl)
+kept_lists_none _ h = refl
 
 -- a command that takes no items comes to itself alone
 pub asks_alone : (c : Issued) (command : Command) (left : List Item) → takes_items command ≡ false → events_at c command left ≡ asked c ∷ []

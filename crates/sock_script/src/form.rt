@@ -3,7 +3,6 @@
 //! A reader takes a word off the front and gives its value and the words after it. Each form is
 //! read by one pass over its words, and takes no memory.
 ghost use Rattle.std.specs.Prelude.{◌≡◌, ◌≢◌, ◌<◌, ◌≤◌, ◌+◌, ◌-◌, ◌%◌, ◌^◌, ◌∷◌, ◌++◌, ◌↔◌, [], Bool, ℕ, List, length, IfSome, IfNone, IsTrue, Option, slice_get, codes, decimal};
-ghost use Rattle.std.specs.List.{list_all};
 ghost use Rattle.inet_io.specs.Labels.{is_label};
 ghost use Rattle.inet_io.specs.Texts.{addr_text, end_text};
 ghost use Rattle.sock_script.specs.Seen.{texts};
@@ -13,7 +12,6 @@ ghost use Rattle.sock_script.specs.Steps.{IsCommand};
 ghost use Rattle.sock_script.specs.declared.line.Line.{Line};
 ghost use Rattle.sock_script.specs.declared.line.Line.TheVariants as lines;
 ghost use Rattle.flat_list.specs.declared.command.Command.{Command};
-ghost use Rattle.flat_list.specs.declared.command.Command.TheVariants as commands;
 ghost use Rattle.flat_list.specs.declared.command.End.{End};
 ghost use Rattle.chain_book.specs.declared.shape.Shape.{Shape};
 ghost use Rattle.flat_list.specs.declared.header.Range.{Range};

@@ -1,7 +1,7 @@
 //! Generated scripts: one section whose commands are chosen by a random generator.
 //!
 //! The same seed gives the same script on every machine, so that two runs can be compared.
-ghost use Rattle.std.specs.Prelude.{◌≡◌, ◌+◌, ◌≤◌, ◌<◌, ◌∷◌, ◌++◌, [], IfOk, OnOk, None};
+ghost use Rattle.std.specs.Prelude.{◌≡◌, ◌≤◌, ◌∷◌, ◌++◌, [], IfOk, OnOk, None};
 ghost use Rattle.flat_list.specs.Script.{IsSmall};
 ghost use Rattle.sock_script.specs.declared.parse.Mode.TheVariants as modes;
 ghost use Rattle.sock_script.specs.Grammar.{IsScript};

@@ -1,4 +1,4 @@
-ghost use Rattle.std.specs.Prelude.{◌≡◌, ◌+◌, ◌/◌, ◌<◌, ◌≤◌, ◌^◌, ◌∷◌, ◌++◌, [], ℕ, length, IfOk, OnOk, decimal, codes, map, Some, None, slice_get, unwrap_or};
+ghost use Rattle.std.specs.Prelude.{◌≡◌, ◌+◌, ◌/◌, ◌<◌, ◌^◌, ◌∷◌, ◌++◌, [], length, IfOk, OnOk, decimal, codes};
 ghost use Rattle.std.specs.List.{flat_map};
 ghost use Rattle.inet_io.specs.Texts.{end_text};
 ghost use Rattle.sock_script.specs.Output as spec;
@@ -11,7 +11,8 @@ use crate::label::Labels;
 use crate::shown::{Brief, Shown};
 use crate::unwritten::Unwritten;
 use capture_reader::Capture;
-use flat_list::{Command, End, KeptCommand, Label, Script};
+use flat_list::kept::Form;
+use flat_list::{End, KeptCommand, Script};
 use inet_io::put_addr;
 use itoa::write_digits;
 use sock_card::{Card, Kind};
@@ -274,35 +275,40 @@ fn found_label<'a>(labels: &Labels<'a>, reply: Brief) -> &'a [u8]
 }
 
 /// Appends a command's verb, and the word that its line shows, if it shows one.
-fn put_subject(out: &mut Vec<u8>, command: &Command) -> Result<(), AllocError>
+fn put_subject(out: &mut Vec<u8>, command: &KeptCommand) -> Result<(), AllocError>
     ensures { OnOk result (out.new.items ≡ out.old.items ++ spec.subject_text command.now) }
 {
-    match command {
-        Command::Socket { label, .. } => put_labelled(out, b"socket ", label),
-        Command::Bind { label, .. } => put_labelled(out, b"bind ", label),
-        Command::Listen { label } => put_labelled(out, b"listen ", label),
-        Command::Connect { label, .. } => put_labelled(out, b"connect ", label),
-        Command::Accept { label, .. } => put_labelled(out, b"accept ", label),
-        Command::Syn { label, .. } => put_labelled(out, b"syn ", label),
-        Command::Ack { label, .. } => put_labelled(out, b"ack ", label),
-        Command::Close { label } => put_labelled(out, b"close ", label),
-        Command::Drop { label } => put_labelled(out, b"drop ", label),
-        Command::At { moment } => {
+    match command.form() {
+        Form::Socket { label, .. } | Form::UserSocket { label, .. } => {
+            put_labelled(out, b"socket ", label.as_bytes())
+        }
+        Form::Bind { label, .. } => put_labelled(out, b"bind ", label.as_bytes()),
+        Form::Listen { label } => put_labelled(out, b"listen ", label.as_bytes()),
+        Form::Connect { label, .. } => put_labelled(out, b"connect ", label.as_bytes()),
+        Form::Accept { label, .. } => put_labelled(out, b"accept ", label.as_bytes()),
+        Form::LongAccept { labels, .. } => put_labelled(out, b"accept ", labels.given.as_bytes()),
+        Form::Syn { label, .. } => put_labelled(out, b"syn ", label.as_bytes()),
+        Form::LongSyn { labels, .. } => put_labelled(out, b"syn ", labels.given.as_bytes()),
+        Form::Ack { label, .. } => put_labelled(out, b"ack ", label.as_bytes()),
+        Form::LongAck { labels } => put_labelled(out, b"ack ", labels.given.as_bytes()),
+        Form::Close { label } => put_labelled(out, b"close ", label.as_bytes()),
+        Form::Drop { label } => put_labelled(out, b"drop ", label.as_bytes()),
+        Form::At { moment } => {
             put(out, b"at ")?;
             put_number(out, u64::from(*moment))
         }
-        Command::Reap => put(out, b"reap"),
-        Command::Look { .. } => put(out, b"look"),
-        Command::Packets { .. } => put(out, b"packets"),
-        Command::Dump => put(out, b"dump"),
+        Form::Reap => put(out, b"reap"),
+        Form::Look { .. } => put(out, b"look"),
+        Form::Packets { .. } => put(out, b"packets"),
+        Form::Dump => put(out, b"dump"),
     }
 }
 
-fn put_labelled(out: &mut Vec<u8>, verb: &[u8], label: &Label) -> Result<(), AllocError>
+fn put_labelled(out: &mut Vec<u8>, verb: &[u8], label: &[u8]) -> Result<(), AllocError>
     ensures { OnOk result (out.new.items ≡ out.old.items ++ (verb.now ++ label.now)) }
 {
     put(out, verb)?;
-    put_copy(out, label.as_bytes())
+    put_copy(out, label)
 }
 
 /// Appends the line of a command of section `n`.
@@ -310,7 +316,7 @@ fn put_line(
     out: &mut Vec<u8>,
     labels: &Labels<'_>,
     n: u64,
-    command: &Command,
+    command: &KeptCommand,
     reply: &Shown,
 ) -> Result<(), AllocError>
     ensures { OnOk result (out.new.items ≡ out.old.items
@@ -393,19 +399,19 @@ fn put_command<'a>(
     out: &mut Vec<u8>,
     labels: &Labels<'_>,
     n: u64,
-    command: &Command,
+    command: &KeptCommand,
     unwritten: Unwritten<'a>,
 ) -> Result<Unwritten<'a>, AllocError>
     requires { unwritten.number + length unwritten.items < 2 ^ 63 }
     ensures { IfOk result (Writes (tables labels.now.by_section.items) (issue n (command.now ∷ [])) unwritten.entry out.old.items out.new.items) }
 {
-    if let Command::Packets { count } = command {
+    if let Form::Packets { count } = command.form() {
         return put_packets(out, labels, *count as usize, unwritten);
     }
     let Some((reply, left)) = unwritten.next() else {
         return Ok(unwritten);
     };
-    if let Command::Dump = command {
+    if let Form::Dump = command.form() {
         return put_dump(out, labels, n, left);
     }
     put_line(out, labels, n, command, reply)?;
@@ -425,7 +431,7 @@ fn put_section<'a>(
 {
     let mut left = unwritten;
     for command in commands {
-        left = put_command(out, labels, n, &command.plain(), left)?;
+        left = put_command(out, labels, n, command, left)?;
     }
     Ok(left)
 }

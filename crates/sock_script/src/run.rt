@@ -1,4 +1,4 @@
-ghost use Rattle.std.specs.Prelude.{◌≡◌, ◌+◌, ◌++◌, [], map, ◌<◌, ◌≤◌, ◌^◌, length, IfOk, OnOk};
+ghost use Rattle.std.specs.Prelude.{◌≡◌, ◌+◌, ◌++◌, map, ◌<◌, ◌≤◌, ◌^◌, length, IfOk, OnOk};
 ghost use Rattle.flat_list.specs.Sections.{labels_of, GivesOneAtMost, KeepsOthers};
 ghost use Rattle.flat_list.specs.Script.{IsSmall};
 ghost use Rattle.flat_list.specs.Sound.{IsSound};

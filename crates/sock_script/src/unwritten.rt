@@ -1,6 +1,6 @@
 //! What isn't written yet of a run.
 
-ghost use Rattle.std.specs.Prelude.{◌≡◌, ◌+◌, ◌<◌, ◌≤◌, ◌^◌, length, [], MatchOption};
+ghost use Rattle.std.specs.Prelude.{◌≡◌, ◌+◌, ◌<◌, ◌^◌, length, [], MatchOption};
 ghost use Rattle.sock_script.specs.Steps.{NextListingOf, NextOf, TakenOf};
 
 use crate::shown::Shown;

@@ -2,7 +2,7 @@
 //!
 //! A text is read piece by piece: a piece ends before a line feed, a space or a tab, which is looked for among
 //! sixteen bytes at a time.
-ghost use Rattle.std.specs.Prelude.{◌≡◌, ◌≢◌, ◌↔◌, ◌+◌, ◌<◌, ◌≤◌, ◌∷◌, ◌++◌, [], ℕ, List, length, find, not, slice_index, take, IfOk, OnOk, IsTrue};
+ghost use Rattle.std.specs.Prelude.{◌≡◌, ◌+◌, ◌≤◌, ◌∷◌, ◌++◌, [], ℕ, List, length, find, not, take, IfOk, OnOk, IsTrue};
 ghost use Rattle.std.specs.Str.Lines.{strip_carriage_return};
 ghost use Rattle.sock_script.specs.Words as spec;
 ghost use Rattle.sock_script.specs.Words.{lines_of, words_of};

@@ -19,5 +19,5 @@ returns-in_ok-push-clause-lists g c =
     let cards : List Card = c.listing.inside.cards.items in
     let is : cards ≡ ascending (cards_from t.chains.layout (chained t w).view.book.closed) =
     ap (λ (l : Listing). l.cards) c.listing.view_is ∙ c.in_ok-listing.ensures.alone c.requires.sole.chains.bare.0 in
-    subst (λ (command : Command). ListsFor (tables_of t w) command before c.push.new.self.items) (sym c.in-Dump.is)
+    subst (λ (command : Command). ListsFor (tables_of t w) command before c.push.new.self.items) (sym (rw c.in-Dump.is at c.form.ensures))
     (subst (λ (l : List Listing). ListsFor (tables_of t w) commands.Dump before l) (sym c.in_ok-push.ensures.items) (dump_lists t w before cards is))

@@ -4,9 +4,10 @@ use Rattle.sock_script.specs.Output.{Replies, listings_from, events_from, issued
 use Rattle.sock_script.specs.Steps.{shown_from}
 use Rattle.flat_list.specs.Flat.{new_flat}
 use Rattle.sock_script.proofs.RunTurns.{commands_at, has_room}
-use Rattle.sock_script.specs.Fits.{FitsTables}
+use Rattle.flat_list.specs.Fits.{FitsTables}
 use Rattle.script_run.specs.Sole.{tables_of}
-use Rattle.script_run.specs.Steps.{MayCarry, commands_after}
+use Rattle.section_machine.specs.Carried.{MayCarry}
+use Rattle.script_run.specs.Steps.{commands_after}
 use Rattle.script_run.proofs.SectionTurns.{Ran, ran_none, ran_next, every_replied, every_listed}
 use Rattle.script_run.proofs.running.run.Goals as goal
 

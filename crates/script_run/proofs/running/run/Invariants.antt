@@ -1,6 +1,7 @@
 use Rattle.std.proofs.Common.{◌+◌}
+use Rattle.section_machine.specs.Carried.{MayCarry}
 use Rattle.script_run.specs.Sole.{IsSole, tables_of}
-use Rattle.script_run.specs.Steps.{AreUnspoken, MayCarry, commands_after}
+use Rattle.script_run.specs.Steps.{AreUnspoken, commands_after}
 use Rattle.script_run.proofs.SectionTurns.{Ran}
 use Rattle.script_run.proofs.running.run.Given as goal
 

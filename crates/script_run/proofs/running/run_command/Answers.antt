@@ -1,7 +1,9 @@
-use Rattle.std.proofs.Common.{rules, [], ◌∷◌, ◌++◌, ◌∙◌, refl, sym, ap, subst, arith}
+use Rattle.std.proofs.Common.{rules, ◌≡◌, false, [], ◌∷◌, ◌++◌, ◌∙◌, refl, sym, ap, subst, arith}
 use Rattle.flat_list.specs.declared.command.Command.{Command}
 use Rattle.flat_list.specs.declared.command.Reply.{Reply}
 use Rattle.sock_script.specs.Output.{Replies}
+use Rattle.sock_script.specs.Steps.{takes_items}
+use Rattle.sock_script.proofs.Events.{kept_takes_none}
 use Rattle.table_model.specs.Tables.{Tables as Plain}
 use Rattle.script_run.specs.Sole.{tables_of}
 use Rattle.script_run.specs.Steps.{RefinesEach, RunsEach}
@@ -24,10 +26,13 @@ returns-in-Packets g c =
       spends = spends_nothing t w u l k;
       runs =
           subst (λ (b : Replies). RunsEach k (tables_of t w) c.args.command.now c.args.items.now left b (record before { each = c.look_up.new.replies.items }) k.own (tables_of t u)) c.replies.view_is
-          (subst (λ (command : Command). RunsEach k (tables_of t w) command c.args.items.now left before (record before { each = c.look_up.new.replies.items }) k.own (tables_of t u)) (sym c.in-Packets.is)
+          (subst (λ (command : Command). RunsEach k (tables_of t w) command c.args.items.now left before (record before { each = c.look_up.new.replies.items }) k.own (tables_of t u)) (sym (rw c.in-Packets.is at c.form.ensures))
           (packets_look t w u l k c.in-Packets.count c.args.items.now c.split_at.result.0.now left before c.look_up.new.replies.items
           (search rules) (search rules) c.in_ok-look_up.ensures.answers));
     }
+
+pub step-requires-clause-one : goal.step-requires-clause-one
+step-requires-clause-one g c = subst (λ command. takes_items command ≡ false) (sym c.form.ensures) (kept_takes_none c.form.result.now (λ count is. c.in_default.not-Packets count is))
 
 pub step-requires-clause-running : goal.step-requires-clause-running
 step-requires-clause-running g c =
@@ -58,4 +63,4 @@ returns-clause-runs g c =
     subst (λ (x : Plain). RefinesEach k x c.args.command.now (tables_of t y) m.own reply) (tables_same t w u l.looked) c.in_ok-reply.ensures.refines in
     subst (λ (b : Replies). RunsEach k (tables_of t w) c.args.command.now c.args.items.now c.args.items.now b out m.own (tables_of t y)) c.replies.view_is
     (command_run k (tables_of t w) (tables_of t y) c.args.command.now m.own c.args.items.now reply before c.push.new.self.items c.list.new.listings.items
-    (search rules) l.lists refines (c.in_ok-push.ensures.items ∙ ap (λ (r : Reply). before.each ++ r ∷ []) c.of.ensures))
+    (subst (λ command. takes_items command ≡ false) (sym c.form.ensures) (kept_takes_none c.form.result.now (λ count is. c.in_default.not-Packets count is))) l.lists refines (c.in_ok-push.ensures.items ∙ ap (λ (r : Reply). before.each ++ r ∷ []) c.of.ensures))

@@ -1,10 +1,10 @@
-use Rattle.std.proofs.Common.{◌≡◌, ℕ, ◌+◌, ◌-◌, ◌<◌, ◌≤◌, length, get_or, ap, sym, ◌∙◌, subst, arith}
-use Rattle.flat_list.specs.declared.command.Command.{Command}
+use Rattle.std.proofs.Common.{◌≡◌, ℕ, ◌+◌, ◌-◌, ◌<◌, ◌≤◌, length, ap, sym, ◌∙◌, subst, arith}
 use Rattle.section_machine.specs.Sections.{Kept}
 use Rattle.section_machine.specs.Standing.{IsSection}
 use Rattle.script_run.specs.Sole.{tables_of}
-use Rattle.script_run.specs.Steps.{MayGoOn, commands_after}
-use Rattle.script_run.proofs.Budgets.{go_on_first, go_on_enough, go_on_next, go_on_last, carry_fewer}
+use Rattle.section_machine.specs.Carried.{MayGoOn}
+use Rattle.script_run.specs.Steps.{commands_after}
+use Rattle.section_machine.proofs.Budgets.{go_on_first, go_on_enough, go_on_next, go_on_last, carry_fewer}
 use Rattle.script_run.proofs.SectionTurns.{turns_start, turns_next, turns_end}
 use Rattle.script_run.proofs.running.run_section.Goals as goal
 
@@ -57,8 +57,8 @@ loop-command-preserved g c =
       may = go_on_next (length c.args.commands.now - (c.loop-command.command-index + 1) + commands_after c.args.n) c.loop-command.machine c.run_command.new.machine c.loop-command.worker c.run_command.new.worker
           (subst (λ n. MayGoOn n c.loop-command.machine c.loop-command.worker) (left_after (length c.args.commands.now) c.loop-command.command-index (commands_after c.args.n) below) i.may) e.spends;
       turns = turns_next c.args.header.now c.args.n (tables_of c.args.tables.now c.args.worker.now) c.args.commands.now c.args.items.now c.loop-command.left.now c.args.replies.now c.loop-command.replies c.loop-command.command-index c.loop-command.machine (tables_of c.args.tables.now c.loop-command.worker)
-          c.in_ok-left.left.now c.run_command.new.replies c.run_command.new.machine (tables_of c.args.tables.now c.run_command.new.worker) c.plain.result
-          below (subst (λ (x : Command). x ≡ get_or c.args.commands.now c.loop-command.command-index x) (sym c.plain.ensures) c.command-item.is) e.kept e.runs i.turns;
+          c.in_ok-left.left.now c.run_command.new.replies c.run_command.new.machine (tables_of c.args.tables.now c.run_command.new.worker) c.command-item.result
+          below c.command-item.is e.kept e.runs i.turns;
     }
 
 pub returns : goal.returns

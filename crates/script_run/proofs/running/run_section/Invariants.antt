@@ -1,6 +1,7 @@
 use Rattle.std.proofs.Common.{◌≡◌, ◌+◌, ◌-◌, ◌≤◌, length}
+use Rattle.section_machine.specs.Carried.{MayGoOn}
 use Rattle.script_run.specs.Sole.{tables_of}
-use Rattle.script_run.specs.Steps.{IsRunning, MayGoOn, commands_after}
+use Rattle.script_run.specs.Steps.{IsRunning, commands_after}
 use Rattle.script_run.proofs.SectionTurns.{Turns}
 use Rattle.script_run.proofs.running.run_section.Given as goal
 
