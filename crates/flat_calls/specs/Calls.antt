@@ -26,6 +26,7 @@ pub record Steps (old new : Numbered) (worker : ℕ) (command : Command) (reply 
 abbrev pub Called : Numbered → Numbered → ℕ → Command → Outcome → Type 0
 Called old new worker command (outcomes.Replied reply) = Steps old new worker command reply
 Called old new worker command outcomes.NoTables = ⊥
+Called old new worker command outcomes.Busy = ⊥
 Called old new worker command outcomes.NoWorker = (new ≡ old) × ((worker ≡ 0) ⊎ (64 < worker))
 Called old new worker command outcomes.NoNumber = (new ≡ old) × (2 ^ 24 - 2 ≤ old.calls)
 Called old new worker command outcomes.NoMemory = (new ≡ old) × (may_grow command ≡ true)

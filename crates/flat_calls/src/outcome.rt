@@ -18,6 +18,8 @@ pub enum Outcome {
     NoNumber,
     /// Memory ran out.
     NoMemory,
+    /// Another had a part of the tables for longer than the caller tries.
+    Busy,
 }
 
 fn errno_of_reply(reply: Reply) -> i32
@@ -50,6 +52,7 @@ pub fn errno_of(outcome: Outcome) -> i32
     match outcome {
         Outcome::Replied(reply) => errno_of_reply(reply),
         Outcome::NoTables => 9,
+        Outcome::Busy => 11,
         Outcome::NoMemory => 12,
         Outcome::NoWorker => 22,
         Outcome::NoNumber => 75,

@@ -1,0 +1,68 @@
+-- A caller after one command more.
+use Rattle.std.proofs.Common.{◌≡◌, ℕ, suc, ◌+◌, ◌-◌, ◌<◌, ◌^◌, true, List, [], ◌∷◌, ◌++◌, length, nat_lt, Result, Ok, Err, inl, inr, ◌⊎◌, refl, sym, ap, ◌∙◌, subst, arith, append-nil}
+use Rattle.list_words.specs.Lists.{Each}
+use Rattle.flat_calls.specs.Numbers.{label_of}
+use Rattle.flat_list.specs.declared.command.Command.{Command}
+use Rattle.flat_list.specs.declared.command.Command.TheVariants as commands
+use Rattle.section_machine.specs.Carried.{MayGoOn, Spends}
+use Rattle.section_machine.specs.Sections.{Kept, GivesLabels, given_by}
+use Rattle.section_machine.specs.Standing.{IsSection}
+use Rattle.section_machine.proofs.Budgets.{go_on_next}
+use Rattle.shared_ops.specs.declared.tables.Tables.{Tables}
+use Rattle.shared_ops.specs.declared.tables.Worker.{Worker}
+use Rattle.shared_calls.specs.Callings.{IsCalling, calling}
+use Rattle.shared_calls.specs.Numbers.{IsNext, labels_to}
+use Rattle.shared_calls.proofs.Numbers.{length_labels}
+
+-- a command gives one label or none
+given_one : (command : Command) → (given_by command ≡ []) ⊎ ((label : List ℕ) × (given_by command ≡ label ∷ []))
+given_one (commands.Socket label options) = inr (label, refl)
+given_one (commands.Bind label end) = inl refl
+given_one (commands.Listen label) = inl refl
+given_one (commands.Connect label from to) = inl refl
+given_one (commands.Accept listener label from at) = inr (label, refl)
+given_one (commands.Syn listener label from at) = inr (label, refl)
+given_one (commands.Ack request label) = inr (label, refl)
+given_one (commands.Close label) = inl refl
+given_one (commands.Drop label) = inl refl
+given_one (commands.At moment) = inl refl
+given_one commands.Reap = inl refl
+given_one (commands.Look query) = inl refl
+given_one (commands.Packets count) = inl refl
+given_one commands.Dump = inl refl
+
+-- the labels are numbers still, with room for one more
+record Labels (labels : List (List ℕ)) : Type 0 where
+  pub numbered : labels ≡ labels_to (length labels)
+  pub few : length labels + 1 < 2 ^ 24
+
+module _ (command : Command) (old : List (List ℕ)) (were : Labels old) (room : nat_lt 0 (length (given_by command)) ≡ true → length old + 2 < 2 ^ 24) (next : IsNext (length old + 1) command) where
+  stay : (new : List (List ℕ)) → new ≡ old → Labels new
+  stay new same = subst Labels (sym same) were
+
+  grow : (new : List (List ℕ)) → new ≡ old ++ given_by command → (given_by command ≡ []) ⊎ ((label : List ℕ) × (given_by command ≡ label ∷ [])) → Labels new
+  grow new is (inl none) = stay new (is ∙ ap (λ (ls : List (List ℕ)). old ++ ls) none ∙ append-nil old)
+  grow new is (inr (label, one)) =
+      let label_is : label ≡ label_of (length old + 1) = (subst (λ (ls : List (List ℕ)). Each (λ l. l ≡ label_of (length old + 1)) ls) one next).0 in
+      let all : new ≡ labels_to (suc (length old)) = is ∙ ap (λ (ls : List (List ℕ)). old ++ ls) one ∙ (λ i. were.numbered i ++ label_is i ∷ []) ∙ ap (λ (n : ℕ). labels_to (length old) ++ label_of n ∷ []) (let z : length old + 1 ≡ suc (length old) = omega arith in z) in
+      let count : length new ≡ suc (length old) = ap length all ∙ length_labels (suc (length old)) in
+      let lt = room (ap (λ (ls : List (List ℕ)). nat_lt 0 (length ls)) one) in
+      record { numbered = all ∙ ap labels_to (sym count); few = omega (arith, count, lt) }
+
+  labels_after : {X E : Type 0} (new : List (List ℕ)) (r : Result X E) → GivesLabels command old new r → Labels new
+  labels_after new (Ok x) gives = grow new gives (given_one command)
+  labels_after new (Err e) (inl gives) = grow new gives (given_one command)
+  labels_after new (Err e) (inr same) = stay new same
+
+-- the caller may go on
+pub goes_on : {X E : Type 0} (t : Tables) (k l : Kept) (w u : Worker) (n : ℕ) (command : Command) (r : Result X E) → IsCalling (calling t k w n) → (n ≡ 0 → ⊥) → (nat_lt 0 (length (given_by command)) ≡ true → length k.own.labels + 2 < 2 ^ 24)
+    → IsNext (length k.own.labels + 1) command → IsSection t l u → Spends k l w u → GivesLabels command k.own.labels l.own.labels r → IsCalling (calling t l u (n - 1))
+goes_on t k l w u n command r c some room next section spends gives =
+    let labels = labels_after command k.own.labels (record { numbered = c.numbered; few = c.few }) room next l.own.labels r gives in
+    let left : n ≡ n - 1 + 1 = omega (arith, some) in
+    record {
+      section = section;
+      numbered = labels.numbered;
+      few = labels.few;
+      may = go_on_next (n - 1) k l w u (subst (λ (m : ℕ). MayGoOn m k w) left c.may) spends;
+    }

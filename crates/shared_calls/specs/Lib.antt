@@ -1,0 +1,5 @@
+-- What the contracts of this crate and of those above it cite.
+pub mod Numbers
+pub mod Callings
+pub mod Lookings
+pub mod Sharings

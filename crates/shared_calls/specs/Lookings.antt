@@ -1,0 +1,44 @@
+-- What a looker of shared tables is between two lookups, and what a lookup leaves: __inet_lookup of
+-- include/net/inet_hashtables.h.
+use Rattle.std.specs.Prelude.{◌≡◌, ℕ, ◌<◌, ◌≤◌}
+use Rattle.sock_card.specs.declared.card.Packet.{Packet}
+use Rattle.chain_book.specs.declared.book.PacketLook.{PacketLook}
+use Rattle.chain_deeds.specs.Sides.{IsResting, HoldsNothing}
+use Rattle.chain_deeds.specs.declared.table.ChainPass.{ChainPass}
+use Rattle.reuseport_group.specs.declared.pass.GroupPasses.{GroupPasses}
+use Rattle.shared_demux.specs.Concludes.{Concluded, whole_to}
+use Rattle.shared_ops.specs.Stands.{HasGroups}
+use Rattle.shared_ops.specs.declared.tables.Tables.{Tables}
+use Rattle.table_rule.specs.Alone.{IsKnownWhole}
+use Rattle.table_rule.specs.Calls.{me, view}
+use Rattle.table_rule.specs.Passes.{known}
+use Rattle.table_rule.specs.declared.view.Whole.{Whole}
+
+-- the tables, and its passes of the chains and of the lists of groups
+pub record Looking : Type 0 where
+  pub tables : Tables
+  pub chain : ChainPass
+  pub groups : GroupPasses
+
+abbrev pub looking : Tables → ChainPass → GroupPasses → Looking
+looking t chain groups = record { tables = t; chain = chain; groups = groups }
+
+-- they are passes of these tables, at rest between two lookups
+pub record IsLooking (l : Looking) : Type 0 where
+  pub rests : IsResting l.tables.chains l.chain
+  pub nothing : HoldsNothing (known l.chain.pass)
+  pub part : 0 < (known l.chain.pass).slot.parts
+  pub groups : HasGroups l.tables l.groups
+
+-- the receipt of a lookup of that packet
+abbrev pub receipt_of : Looking → Packet → PacketLook → Whole
+receipt_of l packet look = whole_to packet l.tables.chains.layout.seed look.t0 look.t1 look.end
+
+-- The lookup began once all was done that this looker had seen, and has a receipt among those that the rule of the
+-- chains keeps: each of them is explained by what stood hashed, once all passes are taken in.
+pub record Looks (old new : Looking) (packet : Packet) (look : PacketLook) : Type 0 where
+  pub tables : new.tables ≡ old.tables
+  pub fresh : (known old.chain.pass).seen ≤ look.t0
+  pub span : look.t0 ≤ look.t1
+  pub concluded : Concluded (me old.chain.pass.steps) (receipt_of old packet look) (me new.chain.pass.steps)
+  pub known_whole : IsKnownWhole (view old.chain.pass.steps) (receipt_of old packet look)

@@ -1,0 +1,59 @@
+//! A looker: lookups in the shared tables, which lock nothing.
+
+ghost use Rattle.std.specs.Prelude.{◌<◌};
+ghost use Rattle.shared_calls.specs.Lookings.{Looks};
+
+use chain_book::PacketLook;
+use chain_deeds::ChainPass;
+use null_reader::Still;
+use reuseport_group::GroupPasses;
+use shared_demux::{Lookups, look_packet};
+use shared_ops::Tables;
+use sock_card::Packet;
+use std::marker::Model;
+use std::sync::Arc;
+
+/// A thread's part in the lookups of shared tables.
+#[derive(Drop)]
+pub struct Looker {
+    pub(crate) tables: Arc<Tables>,
+    pub(crate) chain: ChainPass,
+    pub(crate) groups: GroupPasses,
+}
+
+impl Model for Looker {
+    ghost use Rattle.std.specs.Arc.{arc_value};
+    ghost use Rattle.shared_calls.specs.Lookings.{Looking, IsLooking, looking};
+
+    ghost Value = { Looking };
+
+    ghost view = { λ l. looking (arc_value l.tables) l.chain l.groups };
+
+    ghost invariant = { λ l. IsLooking (looking (arc_value l.tables) l.chain l.groups) };
+}
+
+impl Looker {
+    /// Which socket takes a packet, and between which two numbers of the clock that was so.
+    ///
+    /// It locks nothing, waits for nobody and takes no memory. Each of the three searches through chains makes at most
+    /// so many passes: where others change a chain each time, the answer is `Again`, and the caller may try anew.
+    pub fn look(&mut self, packet: &Packet, passes: u32) -> PacketLook
+        requires { 0 < passes }
+        ensures { Looks self.old self.new packet.now result }
+    {
+        let tables: &Tables = &self.tables;
+        let lookups = Lookups {
+            chains: &tables.chains.chains,
+            groups: &tables.groups,
+            layout: tables.chains.layout,
+        };
+        look_packet(
+            &lookups,
+            &mut self.chain.pass.steps,
+            &mut self.groups,
+            packet,
+            passes,
+            &mut Still,
+        )
+    }
+}
