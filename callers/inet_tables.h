@@ -1,17 +1,28 @@
-/* Linux's TCP socket tables for IPv4, as one list of sockets. docs/CALLERS.md has a table of the calls and their errnos.
+/* Linux's TCP socket tables for IPv4: one list of sockets, or tables that threads share. docs/CALLERS.md has a table
+ * of the calls and their errnos.
  *
- * Proved of the library behind this header: each call answers, writes and leaves what the definitions in specs/ say, for
- * every handle and all numbers; it is safe, and returns. Taken on trust: that this header says of each call what the
- * library has, that malloc, realloc and free do their work, and that the caller keeps these rules:
+ * A handle is a struct inet_tables, and holds nothing or one of these: a list (inet_tables_new); shared tables
+ * (inet_tables_share), which hand out the others; a worker of shared tables (inet_tables_worker), whose sockets stand
+ * there; a looker in them (inet_tables_looker). Workers and lookers want no lock: each is used by one thread at a
+ * time, beside all others.
  *
- * - A handle is all zero before inet_tables_new, is changed by these calls alone, and isn't copied.
- * - A handle is at one call at a time. Threads that share one put a lock of their own round each call.
+ * Proved of the library behind this header: each call answers, writes and leaves what the definitions in specs/ say,
+ * for every handle and all numbers; it is safe, waits for no other thread, and returns. Taken on trust: that this
+ * header says of each call what the library has, that malloc, realloc and free do their work, and that the caller
+ * keeps these rules:
+ *
+ * - A handle is all zero before it is made, is changed by these calls alone, and isn't copied.
+ * - A handle is at one call at a time; inet_tables_worker and inet_tables_looker are calls on both of theirs. Handles
+ *   of the same shared tables may be at calls at the same time. Threads that share one handle put a lock of their own
+ *   round each call.
+ * - A handle goes from one thread to another by a lock, by a thread's start or join, or by an atomic that is stored
+ *   and loaded as memory_order_seq_cst.
  * - No pointer is null, and no two arguments of a call point to the same bytes.
  * - No call is made from a signal handler, or in a forked child of a process with threads.
  *
- * Addresses and ports are numbers in the processor's own order: 10.0.0.1 is 0x0A000001. Each call but inet_tables_free
- * answers 0 or a number of <errno.h>. What it writes says nothing where the answer isn't 0, but a found socket, the
- * ports and the count of a list are then 0.
+ * Addresses and ports are numbers in the processor's own order: 10.0.0.1 is 0x0A000001. Each call but
+ * inet_tables_free answers 0 or a number of <errno.h>. What it writes says nothing where the answer isn't 0, but a
+ * found socket, the ports, the count of a list and the number of a worker are then 0.
  */
 #ifndef INET_TABLES_H
 #define INET_TABLES_H
@@ -24,6 +35,7 @@
 extern "C" {
 #endif
 
+/* A handle, whatever it holds. */
 struct inet_tables { void *at; };
 
 struct inet_sizes {
@@ -59,11 +71,28 @@ struct inet_item {
     uint8_t net;
 };
 
-/* Makes tables in a handle that has none, and gives them up. */
+/* Makes a list, or shared tables, in a handle that holds nothing. */
 int inet_tables_new(struct inet_tables *tables, const struct inet_sizes *sizes);
+int inet_tables_share(struct inet_tables *tables, const struct inet_sizes *sizes);
+
+/* Hand out of shared tables, into a handle that holds nothing: a worker, 64 times at most, or a looker, 16000 times.
+ * Workers are numbered from 1 on as they are handed out; no number comes twice, and after ENOMEM one may be passed
+ * over. Where another worker has what a call needs, the call tries as many times more, and then answers EAGAIN. */
+int inet_tables_worker(struct inet_tables *shared, uint64_t tries, struct inet_tables *worker, uint32_t *number);
+int inet_tables_looker(struct inet_tables *shared, struct inet_tables *looker);
+
+/* Gives up what the handle holds: it holds nothing then. Shared tables go with the last handle that has a part in
+ * them, in whatever order. Sockets of a worker that is given up stand until then, and nobody can close them. */
 void inet_tables_free(struct inet_tables *tables);
 
-/* Workers are 1 to 64: each has its own sockets, moment and searches. A socket's number is never given twice. */
+/* The calls on sockets are for a list and for a worker; on other handles they are EBADF. On a list, worker is 1 to
+ * 64, each with its own sockets, moment and searches; on a worker, it is that one's number. Else it is EINVAL. No
+ * number of a socket is given twice by a list, or by a worker.
+ *
+ * EAGAIN and ENOMEM: the worker's sockets stand as they did, and the call can be made again. But a worker's call
+ * may have used up the number that it gives, or the place where a search begins; and of a reap a first part is done.
+ * EOVERFLOW: a worker tries 2^29 calls and makes 2^24 - 2 sockets; one that has made them can still close them.
+ * A list replies to 2^24 - 2 calls. */
 int inet_tables_socket(struct inet_tables *tables, uint32_t worker, uint8_t net, uint32_t uid, uint16_t dev,
                        uint32_t flags, uint32_t *socket);
 int inet_tables_bind(struct inet_tables *tables, uint32_t worker, uint32_t socket, uint32_t addr, uint16_t port,
@@ -84,12 +113,17 @@ int inet_tables_drop(struct inet_tables *tables, uint32_t worker, uint32_t socke
 int inet_tables_at(struct inet_tables *tables, uint32_t worker, uint32_t moment);
 int inet_tables_reap(struct inet_tables *tables, uint32_t worker, uint64_t *count);
 
-/* Which socket takes a packet. Takes no memory, and changes nothing. */
+/* Which socket takes a packet: of a list, or in a looker's tables; on other handles EBADF. Takes no memory, and
+ * changes nothing. A looker locks nothing and waits for nobody: what it finds stood hashed at some time between the
+ * call's beginning and its end, and nothing that matches better did so all the time. EAGAIN: others changed a chain
+ * at each of 16 passes through it, and the call can be made again. A socket of shared tables is told by its worker
+ * and by the number that the worker's call gave. */
 int inet_tables_look(struct inet_tables *tables, uint32_t src, uint16_t sport, uint32_t dst, uint16_t dport,
                      uint16_t dev, uint8_t net, struct inet_sight *sight);
 
-/* All sockets that packets can find, by worker, and those of one worker in the order in which they were made. The first
- * of them are written to items, as many as there is room for; the count is of all. Changes nothing. */
+/* All sockets of a list that packets can find, by worker, and those of one worker in the order in which they were
+ * made; on other handles EBADF. The first of them are written to items, as many as there is room for; the count is of
+ * all. Changes nothing. */
 int inet_tables_list(struct inet_tables *tables, struct inet_item *items, size_t room, uint64_t *count);
 
 #ifdef __cplusplus

@@ -7,22 +7,22 @@ use Rattle.std_alloc.proofs.BoxSteps.Form.{Bx}
 use Rattle.std_heap.specs.contracts.Global as Heap
 use Rattle.std_heap.specs.contracts.GlobalAllocator.TheImpl.{ghosts, dict}
 use Rattle.std_heap.proofs.Global.TheLaws as heap
-use Rattle.flat_calls.specs.contracts.tables.Tables as Tables
-use Rattle.flat_calls.proofs.tables.Tables.TheLaws as tables_laws
+use Rattle.inet_c.specs.contracts.held.Held as Held
+use Rattle.inet_c.proofs.held.Held.TheLaws as held_laws
 use Rattle.inet_c.specs.contracts.parts.Parts as Parts
 use Rattle.inet_c.specs.contracts.handle.InetTables as Handle
 
 abbrev pub E : Bx
-E = record { row = Tables.the_row; laws = tables_laws.the_row_laws; al = record { row = Heap.the_row; laws = heap.the_row_laws; g = ghosts; d = dict; drops = impl [] tnil dnil } }
+E = record { row = Held.the_row; laws = held_laws.the_row_laws; al = record { row = Heap.the_row; laws = heap.the_row_laws; g = ghosts; d = dict; drops = impl [] tnil dnil } }
 
 abbrev pub FromParts : Slot 0
-FromParts = plain (λ _. Parts.the_row Tables.the_row Heap.the_row ghosts)
+FromParts = plain (λ _. Parts.the_row Held.the_row Heap.the_row ghosts)
 
 abbrev pub HandleRow : RattleType
 HandleRow = Handle.the_row
 
 abbrev pub PartsRow : RattleType
-PartsRow = Parts.the_row Tables.the_row Heap.the_row ghosts
+PartsRow = Parts.the_row Held.the_row Heap.the_row ghosts
 
 abbrev pub FromHandle : Slot 0
 FromHandle = plain (λ _. Handle.the_row)

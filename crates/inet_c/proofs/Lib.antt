@@ -1,2 +1,4 @@
 pub mod AsBox
 pub mod Handles
+pub mod Crossing
+mod Holding

@@ -2,6 +2,7 @@
 pub mod Owned
 pub mod Calls
 pub mod Made
+pub mod Handed
 pub mod Seen
 pub mod Listed
 pub mod Words

@@ -1,10 +1,13 @@
--- What tables are made of, and which sizes they may have: those that a script may name. Our own.
+-- What tables are made of, and what comes of it. Our own.
 use Rattle.std.specs.Prelude.{◌≡◌, ◌≢◌, ℕ, Option, None, Some}
 use Rattle.flat_list.specs.declared.header.Header.{Header}
 use Rattle.flat_list.specs.declared.header.TheConstants.{NONE_RESERVED}
 use Rattle.flat_list.specs.Flat.{new_flat}
 use Rattle.flat_calls.specs.Calls.{Numbered}
 use Rattle.inet_c.specs.declared.whole.InetSizes.{InetSizes}
+use Rattle.shared_calls.specs.Sharings.{Sharing, IsNew}
+use Rattle.inet_c.specs.declared.held.Held.{Held}
+use Rattle.inet_c.specs.declared.held.Held.TheVariants as helds
 use Rattle.inet_c.specs.declared.making.Making.{Making}
 use Rattle.inet_c.specs.declared.making.Making.TheVariants as makings
 
@@ -23,16 +26,33 @@ header_of sizes =
 abbrev pub empty_tables : Header → Numbered
 empty_tables header = record { flat = new_flat header; calls = 0 }
 
--- what came of the making of tables in a handle: they are made where it had none, or all is as it was
-abbrev pub Makes : Header → Option Numbered → Option Numbered → Making → Type 0
-Makes header old new makings.Made = (old ≡ None) × (new ≡ Some (empty_tables header))
-Makes header old new makings.There = (old ≢ None) × (new ≡ old)
-Makes header old new makings.Unfit = new ≡ old
-Makes header old new makings.NoMemory = new ≡ old
+-- what a handle holds then: a list, or shared tables
+abbrev pub IsList : Header → Held → Type 0
+IsList header held = held ≡ helds.List (empty_tables header)
 
--- EBUSY of a handle that has tables, EINVAL of sizes that don't fit, ENOMEM
+abbrev pub IsShared : Header → Held → Type 0
+IsShared header held = (tables : Sharing) × (held ≡ helds.Shared tables) × IsNew header tables
+
+-- what was made is held, if there was memory for it
+abbrev pub Holds : Held → Option Held → Making → Type 0
+Holds held new makings.Made = new ≡ Some held
+Holds held new makings.NoMemory = new ≡ None
+Holds held new _ = ⊥
+
+-- what came of the making of tables in a handle: they are made where it held nothing, or all is as it was
+abbrev pub Makes : (Held → Type 0) → Option Held → Option Held → Making → Type 0
+Makes Is old new makings.Made = (old ≡ None) × ((held : Held) × (new ≡ Some held) × Is held)
+Makes Is old new makings.There = (old ≢ None) × (new ≡ old)
+Makes Is old new makings.Unfit = new ≡ old
+Makes Is old new makings.NoMemory = new ≡ old
+Makes Is old new _ = ⊥
+
+-- EBUSY of a handle that holds something, EINVAL of sizes that don't fit, ENOMEM; EBADF of one that holds no shared
+-- tables, and EUSERS where as many were handed out as there may be
 abbrev pub errno_of : Making → ℕ
 errno_of makings.Made = 0
+errno_of makings.NoTables = 9
 errno_of makings.NoMemory = 12
 errno_of makings.There = 16
 errno_of makings.Unfit = 22
+errno_of makings.AllOut = 87

@@ -2,31 +2,31 @@
 
 ghost use Rattle.std.specs.Prelude.{◌≡◌, Option, None, Some};
 ghost use Rattle.std.specs.Option.{option_map};
-ghost use Rattle.flat_calls.specs.Calls.{Numbered};
 ghost use Rattle.inet_c.specs.Owned.{owned};
+ghost use Rattle.inet_c.specs.declared.held.Held.{Held};
 
+use crate::held::Held;
 use crate::parts::Parts;
-use flat_calls::Tables;
 use std::alloc::Global;
 use std::marker::Model;
 use std::mem::replace;
 use std::ptr::null_mut;
 
-/// Tables behind a pointer, or none where it is null: in C `struct inet_tables { void *at; }`.
+/// What is held behind a pointer, or nothing where it is null: in C `struct inet_tables { void *at; }`.
 ///
 /// No pointer to a type with parts of its own may cross to C, so this one says nothing of what lies behind it.
 #[repr(C)]
 pub struct InetTables {
     ptr: *mut u8,
     alloc: Global,
-    pub ghost tables: { Option Numbered },
+    pub ghost held: { Option Held },
 }
 
 impl Model for InetTables {
-    ghost also_owns = { λ h. owned h.alloc h.ptr h.tables };
+    ghost also_owns = { λ h. owned h.alloc h.ptr h.held };
 }
 
-// What lies behind the pointer is plain data, of which nothing belongs to a thread.
+// What lies behind the pointer belongs to no thread, and what it shares with others is atomic.
 unsafe impl Send for InetTables {}
 
 /// Only a value that may go to another thread gets through. A handle goes through it so that this is proved of handles
@@ -38,9 +38,9 @@ fn sendable<T: Send>(value: T) -> T
 }
 
 impl InetTables {
-    /// A handle without tables.
+    /// A handle that holds nothing.
     fn empty(alloc: Global) -> Self
-        ensures { result.tables ≡ None }
+        ensures { result.held ≡ None }
     {
         InetTables {
             ptr: null_mut(),
@@ -48,8 +48,8 @@ impl InetTables {
         }
     }
 
-    fn of_parts(parts: Parts<Tables, Global>) -> Self
-        ensures { result.tables ≡ Some parts.value }
+    fn of_parts(parts: Parts<Held, Global>) -> Self
+        ensures { result.held ≡ Some parts.value }
     {
         let Parts { ptr, alloc } = parts;
         InetTables {
@@ -58,30 +58,30 @@ impl InetTables {
         }
     }
 
-    fn into_parts(self) -> Option<Parts<Tables, Global>>
-        ensures { option_map (λ p. p.value) result ≡ self.tables }
+    fn into_parts(self) -> Option<Parts<Held, Global>>
+        ensures { option_map (λ p. p.value) result ≡ self.held }
     {
         let InetTables { ptr, alloc } = self;
         if ptr.is_null() {
             None
         } else {
             Some(Parts {
-                ptr: ptr as *mut Tables,
+                ptr: ptr as *mut Held,
                 alloc,
             })
         }
     }
 
-    /// A handle that holds these tables.
-    pub fn of(tables: Box<Tables>) -> Self
-        ensures { result.tables ≡ Some tables.value }
+    /// A handle that holds this.
+    pub fn of(held: Box<Held>) -> Self
+        ensures { result.held ≡ Some held.value }
     {
-        sendable(InetTables::of_parts(Parts::of(tables)))
+        sendable(InetTables::of_parts(Parts::of(held)))
     }
 
     /// What the handle holds.
-    pub fn into_box(self) -> Option<Box<Tables>>
-        ensures { option_map (λ b. b.value) result ≡ self.tables }
+    pub fn into_box(self) -> Option<Box<Held>>
+        ensures { option_map (λ b. b.value) result ≡ self.held }
     {
         match self.into_parts() {
             None => None,
@@ -90,9 +90,9 @@ impl InetTables {
     }
 
     /// Takes out what the handle holds, which holds nothing then.
-    pub fn take(&mut self, alloc: Global) -> Option<Box<Tables>>
-        ensures tables { option_map (λ b. b.value) result ≡ self.old.tables }
-        ensures empty { self.new.tables ≡ None }
+    pub fn take(&mut self, alloc: Global) -> Option<Box<Held>>
+        ensures held { option_map (λ b. b.value) result ≡ self.old.held }
+        ensures empty { self.new.held ≡ None }
     {
         replace(self, InetTables::empty(alloc)).into_box()
     }

@@ -2,9 +2,10 @@
 
 ghost use Rattle.std.specs.Prelude.{◌≡◌, pos};
 ghost use Rattle.inet_c.specs.Listed as spec;
-ghost use Rattle.inet_c.specs.Listed.{ListsOn, TellsOf, written_over};
+ghost use Rattle.inet_c.specs.Listed.{ListsIn, ListsOn, TellsOf, written_over};
 
 use crate::handle::InetTables;
+use crate::held::Held;
 use flat_calls::{Item, Tables};
 use std::alloc::Global;
 
@@ -13,7 +14,7 @@ use std::alloc::Global;
 pub enum Telling {
     /// It is told.
     Told,
-    /// The handle has no tables.
+    /// The handle has no list.
     NoTables,
     /// Memory ran out.
     NoMemory,
@@ -55,19 +56,31 @@ fn tell(tables: &Tables, alloc: Global, items: &mut [Item], count: &mut u64) -> 
     }
 }
 
-/// Writes the first of what the handle's tables list, as many as fit, and how many they are.
+fn list_in(held: &Held, alloc: Global, items: &mut [Item], count: &mut u64) -> Telling
+    ensures { ListsIn held.now items.old items.new count.new result }
+{
+    match held {
+        Held::List(tables) => tell(tables, alloc, items, count),
+        Held::Shared(_) | Held::Worker { .. } | Held::Looker(_) => {
+            *count = 0;
+            Telling::NoTables
+        }
+    }
+}
+
+/// Writes the first of what the handle's list has, as many as fit, and how many they are.
 pub fn list(handle: &mut InetTables, alloc: Global, items: &mut [Item], count: &mut u64) -> Telling
-    ensures same { handle.new.tables ≡ handle.old.tables }
-    ensures lists { ListsOn handle.old.tables items.old items.new count.new result }
+    ensures same { handle.new.held ≡ handle.old.held }
+    ensures lists { ListsOn handle.old.held items.old items.new count.new result }
 {
     match handle.take(alloc) {
         None => {
             *count = 0;
             Telling::NoTables
         }
-        Some(tables) => {
-            let telling = tell(&tables, alloc, items, count);
-            *handle = InetTables::of(tables);
+        Some(held) => {
+            let telling = list_in(&held, alloc, items, count);
+            *handle = InetTables::of(held);
             telling
         }
     }

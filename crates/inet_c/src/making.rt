@@ -1,25 +1,33 @@
 //! How tables are made.
 
-ghost use Rattle.std.specs.Prelude.{◌≡◌, pos};
+ghost use Rattle.std.specs.Prelude.{◌≡◌, ◌≤◌, ◌%◌, pos, true, None, is_some};
+ghost use Rattle.flat_list.specs.Fits.{FitsTables};
+ghost use Rattle.flat_list.specs.Ports.{size};
 ghost use Rattle.inet_c.specs.Made as spec;
-ghost use Rattle.inet_c.specs.Made.{Makes};
+ghost use Rattle.inet_c.specs.Made.{Holds, IsList, IsShared, Makes};
 
 use crate::handle::InetTables;
+use crate::held::Held;
 use flat_calls::Tables;
 use flat_list::{Header, Range, Shape};
+use shared_calls::SharedTables;
 use std::alloc::Global;
 
 /// What came of it.
 #[derive(Clone, Copy, Debug, PartialEq, Eq)]
 pub enum Making {
-    /// The handle holds empty tables.
+    /// The handle holds it.
     Made,
-    /// The handle has tables already.
+    /// The handle holds something already.
     There,
     /// The sizes are none that tables may have.
     Unfit,
     /// Memory ran out.
     NoMemory,
+    /// The other handle holds no shared tables.
+    NoTables,
+    /// As many were handed out as there may be.
+    AllOut,
 }
 
 /// The number of errno(3) by which Linux tells it.
@@ -28,18 +36,27 @@ pub fn errno_of(making: Making) -> i32
 {
     match making {
         Making::Made => 0,
+        Making::NoTables => 9,
         Making::NoMemory => 12,
         Making::There => 16,
         Making::Unfit => 22,
+        Making::AllOut => 87,
     }
 }
 
 /// Whether a number of buckets is a power of two to that one.
-fn is_count(count: u32, most: u32) -> bool {
+fn is_count(count: u32, most: u32) -> bool
+    ensures { result ≡ true → (1 ≤ count) × (count ≤ most) }
+{
     count.is_power_of_two() && count <= most
 }
 
-fn is_shape(shape: &Shape) -> bool {
+fn is_shape(shape: &Shape) -> bool
+    ensures slots { result ≡ true → shape.now.slots ≤ 65536 }
+    ensures bind { result ≡ true → (1 ≤ shape.now.bind) × (shape.now.bind ≤ 256) }
+    ensures hash { result ≡ true → (1 ≤ shape.now.hash) × (shape.now.hash ≤ 65536) }
+    ensures listen { result ≡ true → (1 ≤ shape.now.listen) × (shape.now.listen ≤ 4096) }
+{
     1 <= shape.slots
         && shape.slots <= 65_536
         && is_count(shape.bind, 256)
@@ -48,33 +65,73 @@ fn is_shape(shape: &Shape) -> bool {
 }
 
 /// Whether a range has an even number of ports, from 1 on.
-fn is_range(range: &Range) -> bool {
+fn is_range(range: &Range) -> bool
+    ensures order { result ≡ true → range.now.low ≤ range.now.high }
+    ensures even { result ≡ true → size range.now % 2 ≡ 0 }
+{
     1 <= range.low && range.low < range.high && range.low % 2 != range.high % 2
 }
 
 /// Whether tables may be of that header.
-fn is_header(header: &Header) -> bool {
+fn is_header(header: &Header) -> bool
+    ensures { result ≡ true → FitsTables header.now }
+{
     is_shape(&header.shape) && is_range(&header.range)
 }
 
-/// Makes tables in a handle that has none.
+/// Puts what was made into a handle that holds nothing.
+pub(crate) fn hold(handle: &mut InetTables, alloc: Global, held: Held) -> Making
+    requires { handle.old.held ≡ None }
+    ensures { Holds held handle.new.held result }
+{
+    match Box::new(alloc, held) {
+        Ok(held) => {
+            *handle = InetTables::of(held);
+            Making::Made
+        }
+        Err(_) => Making::NoMemory,
+    }
+}
+
+/// Whether a handle holds something.
+pub(crate) fn is_there(handle: &mut InetTables, alloc: Global) -> bool
+    ensures there { result ≡ is_some handle.old.held }
+    ensures same { handle.new.held ≡ handle.old.held }
+{
+    match handle.take(alloc) {
+        None => false,
+        Some(held) => {
+            *handle = InetTables::of(held);
+            true
+        }
+    }
+}
+
+/// Makes a list in a handle that holds nothing.
 pub fn make(handle: &mut InetTables, alloc: Global, header: &Header) -> Making
-    ensures { Makes header.now handle.old.tables handle.new.tables result }
+    ensures { Makes (IsList header.now) handle.old.held handle.new.held result }
 {
     if !is_header(header) {
         return Making::Unfit;
     }
-    match handle.take(alloc) {
-        Some(tables) => {
-            *handle = InetTables::of(tables);
-            Making::There
-        }
-        None => match Box::new(alloc, Tables::new(alloc, header)) {
-            Ok(tables) => {
-                *handle = InetTables::of(tables);
-                Making::Made
-            }
-            Err(_) => Making::NoMemory,
-        },
+    if is_there(handle, alloc) {
+        return Making::There;
+    }
+    hold(handle, alloc, Held::List(Tables::new(alloc, header)))
+}
+
+/// Makes shared tables in a handle that holds nothing.
+pub fn share(handle: &mut InetTables, alloc: Global, header: &Header) -> Making
+    ensures { Makes (IsShared header.now) handle.old.held handle.new.held result }
+{
+    if !is_header(header) {
+        return Making::Unfit;
+    }
+    if is_there(handle, alloc) {
+        return Making::There;
+    }
+    match SharedTables::new(alloc, header) {
+        Ok(tables) => hold(handle, alloc, Held::Shared(tables)),
+        Err(_) => Making::NoMemory,
     }
 }

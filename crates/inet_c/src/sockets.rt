@@ -30,8 +30,8 @@ pub extern "C" fn inet_tables_socket(
     flags: u32,
     socket: &mut u32,
 ) -> i32
-    ensures number { socket.new ≡ next_number tables.old.tables }
-    ensures called { (outcome : Outcome) × CalledOn tables.old.tables tables.new.tables worker
+    ensures number { socket.new ≡ next_number tables.old.held }
+    ensures called { (outcome : Outcome) × CalledOn tables.old.held tables.new.held worker
         (commands.socket socket.new (words.options net uid dev flags)) outcome × (result ≡ pos (told.errno_of outcome)) }
 {
     let number = calls::next_number(tables, alloc);
@@ -51,7 +51,7 @@ pub extern "C" fn inet_tables_bind(
     port: u16,
     bound: &mut u16,
 ) -> i32
-    ensures { (outcome : Outcome) × CalledOn tables.old.tables tables.new.tables worker
+    ensures { (outcome : Outcome) × CalledOn tables.old.held tables.new.held worker
         (commands.bind socket (record { addr = addr; port = port })) outcome
         × (result ≡ pos (told.errno_of outcome)) × (bound.new ≡ (told.end_of outcome).port) }
 {
@@ -70,7 +70,7 @@ pub extern "C" fn inet_tables_listen(
     socket: u32,
     bound: &mut u16,
 ) -> i32
-    ensures { (outcome : Outcome) × CalledOn tables.old.tables tables.new.tables worker (commands.listen socket) outcome
+    ensures { (outcome : Outcome) × CalledOn tables.old.held tables.new.held worker (commands.listen socket) outcome
         × (result ≡ pos (told.errno_of outcome)) × (bound.new ≡ (told.end_of outcome).port) }
 {
     let outcome = calls::call(tables, alloc, worker, &commands::listen(socket));
@@ -92,7 +92,7 @@ pub extern "C" fn inet_tables_connect(
     addr: &mut u32,
     port: &mut u16,
 ) -> i32
-    ensures { (outcome : Outcome) × CalledOn tables.old.tables tables.new.tables worker
+    ensures { (outcome : Outcome) × CalledOn tables.old.held tables.new.held worker
         (commands.connect socket (words.source from) (record { addr = to_addr; port = to_port })) outcome
         × (result ≡ pos (told.errno_of outcome)) × (told.end_of outcome ≡ record { addr = addr.new; port = port.new }) }
 {
@@ -121,8 +121,8 @@ pub extern "C" fn inet_tables_accept(
     at_port: u16,
     socket: &mut u32,
 ) -> i32
-    ensures number { socket.new ≡ next_number tables.old.tables }
-    ensures called { (outcome : Outcome) × CalledOn tables.old.tables tables.new.tables worker
+    ensures number { socket.new ≡ next_number tables.old.held }
+    ensures called { (outcome : Outcome) × CalledOn tables.old.held tables.new.held worker
         (commands.accept listener socket.new (record { addr = from_addr; port = from_port }) (record { addr = at_addr; port = at_port })) outcome
         × (result ≡ pos (told.errno_of outcome)) }
 {
@@ -153,8 +153,8 @@ pub extern "C" fn inet_tables_syn(
     at_port: u16,
     request: &mut u32,
 ) -> i32
-    ensures number { request.new ≡ next_number tables.old.tables }
-    ensures called { (outcome : Outcome) × CalledOn tables.old.tables tables.new.tables worker
+    ensures number { request.new ≡ next_number tables.old.held }
+    ensures called { (outcome : Outcome) × CalledOn tables.old.held tables.new.held worker
         (commands.syn listener request.new (record { addr = from_addr; port = from_port }) (record { addr = at_addr; port = at_port })) outcome
         × (result ≡ pos (told.errno_of outcome)) }
 {
@@ -182,8 +182,8 @@ pub extern "C" fn inet_tables_ack(
     request: u32,
     socket: &mut u32,
 ) -> i32
-    ensures number { socket.new ≡ next_number tables.old.tables }
-    ensures called { (outcome : Outcome) × CalledOn tables.old.tables tables.new.tables worker
+    ensures number { socket.new ≡ next_number tables.old.held }
+    ensures called { (outcome : Outcome) × CalledOn tables.old.held tables.new.held worker
         (commands.ack request socket.new) outcome × (result ≡ pos (told.errno_of outcome)) }
 {
     let number = calls::next_number(tables, alloc);
@@ -202,7 +202,7 @@ pub extern "C" fn inet_tables_close(
     socket: u32,
     waits: &mut bool,
 ) -> i32
-    ensures { (outcome : Outcome) × CalledOn tables.old.tables tables.new.tables worker (commands.close socket) outcome
+    ensures { (outcome : Outcome) × CalledOn tables.old.held tables.new.held worker (commands.close socket) outcome
         × (result ≡ pos (told.errno_of outcome)) × (waits.new ≡ told.leaves_time_wait outcome) }
 {
     let outcome = calls::call(tables, alloc, worker, &commands::close(socket));
@@ -218,7 +218,7 @@ pub extern "C" fn inet_tables_drop(
     worker: u32,
     socket: u32,
 ) -> i32
-    ensures { (outcome : Outcome) × CalledOn tables.old.tables tables.new.tables worker (commands.drop_socket socket) outcome
+    ensures { (outcome : Outcome) × CalledOn tables.old.held tables.new.held worker (commands.drop_socket socket) outcome
         × (result ≡ pos (told.errno_of outcome)) }
 {
     let command = commands::drop_socket(socket);
@@ -233,7 +233,7 @@ pub extern "C" fn inet_tables_at(
     worker: u32,
     moment: u32,
 ) -> i32
-    ensures { (outcome : Outcome) × CalledOn tables.old.tables tables.new.tables worker (commands.at moment) outcome
+    ensures { (outcome : Outcome) × CalledOn tables.old.held tables.new.held worker (commands.at moment) outcome
         × (result ≡ pos (told.errno_of outcome)) }
 {
     errno_of(calls::call(tables, alloc, worker, &Command::At { moment }))
@@ -247,7 +247,7 @@ pub extern "C" fn inet_tables_reap(
     worker: u32,
     count: &mut u64,
 ) -> i32
-    ensures { (outcome : Outcome) × CalledOn tables.old.tables tables.new.tables worker commands.reap outcome
+    ensures { (outcome : Outcome) × CalledOn tables.old.held tables.new.held worker commands.reap outcome
         × (result ≡ pos (told.errno_of outcome)) × (count.new ≡ told.count_of outcome) }
 {
     let outcome = calls::call(tables, alloc, worker, &Command::Reap);

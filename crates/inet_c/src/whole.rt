@@ -1,17 +1,18 @@
-//! Tables made, given up, and looked into, as C does it.
+//! Tables made, shared, given up, and looked into, as C does it.
 
-ghost use Rattle.std.specs.Prelude.{◌≡◌, pos, None, Option};
-ghost use Rattle.flat_calls.specs.declared.sight.Sight.{Sight};
-ghost use Rattle.flat_list.specs.declared.header.Header.{Header};
+ghost use Rattle.std.specs.Prelude.{◌≡◌, ℕ, pos, None};
+ghost use Rattle.inet_c.specs.Handed.{Hands, IsLooker, IsWorker};
 ghost use Rattle.inet_c.specs.Listed as listed;
 ghost use Rattle.inet_c.specs.Made as made;
-ghost use Rattle.inet_c.specs.Seen as seen;
+ghost use Rattle.inet_c.specs.Made.{IsList, IsShared, Makes};
+ghost use Rattle.inet_c.specs.Seen.{LooksOn};
 ghost use Rattle.inet_c.specs.declared.listing.Telling.{Telling};
 ghost use Rattle.inet_c.specs.declared.making.Making.{Making};
 
+use crate::handing::{hand_looker, hand_worker};
 use crate::handle::InetTables;
 use crate::listing;
-use crate::making::{errno_of, make};
+use crate::making::{errno_of, make, share};
 use crate::seen::{InetSight, look};
 use flat_calls::Item;
 use flat_list::header::NONE_RESERVED;
@@ -57,24 +58,69 @@ fn header_of(sizes: &InetSizes) -> Header
     }
 }
 
-/// Makes tables in a handle that has none.
+/// Makes one list of sockets in a handle that holds nothing.
 #[unsafe(no_mangle)]
 pub extern "C" fn inet_tables_new(tables: &mut InetTables, alloc: Global, sizes: &InetSizes) -> i32
-    ensures { (making : Making) × made.Makes (made.header_of sizes.now) tables.old.tables tables.new.tables making
+    ensures { (making : Making) × Makes (IsList (made.header_of sizes.now)) tables.old.held tables.new.held making
         × (result ≡ pos (made.errno_of making)) }
 {
     errno_of(make(tables, alloc, &header_of(sizes)))
 }
 
-/// Gives up the tables of a handle, which has none then.
+/// Makes tables that threads share in a handle that holds nothing.
+#[unsafe(no_mangle)]
+pub extern "C" fn inet_tables_share(
+    tables: &mut InetTables,
+    alloc: Global,
+    sizes: &InetSizes,
+) -> i32
+    ensures { (making : Making) × Makes (IsShared (made.header_of sizes.now)) tables.old.held tables.new.held making
+        × (result ≡ pos (made.errno_of making)) }
+{
+    errno_of(share(tables, alloc, &header_of(sizes)))
+}
+
+/// Hands the next worker of shared tables out, into a handle that holds nothing. It tries `tries` times again for what
+/// another worker has. `number` is the worker's, from 1 on, or 0.
+#[unsafe(no_mangle)]
+pub extern "C" fn inet_tables_worker(
+    tables: &mut InetTables,
+    alloc: Global,
+    tries: u64,
+    worker: &mut InetTables,
+    number: &mut u32,
+) -> i32
+    ensures { (making : Making)
+        × Hands (IsWorker tries number.new) tables.old.held tables.new.held worker.old.held worker.new.held making
+        × (result ≡ pos (made.errno_of making)) }
+{
+    errno_of(hand_worker(tables, alloc, tries, worker, number))
+}
+
+/// Hands a looker in shared tables out, into a handle that holds nothing.
+#[unsafe(no_mangle)]
+pub extern "C" fn inet_tables_looker(
+    tables: &mut InetTables,
+    alloc: Global,
+    looker: &mut InetTables,
+) -> i32
+    ensures { (making : Making)
+        × Hands IsLooker tables.old.held tables.new.held looker.old.held looker.new.held making
+        × (result ≡ pos (made.errno_of making)) }
+{
+    errno_of(hand_looker(tables, alloc, looker))
+}
+
+/// Gives up what a handle holds, which holds nothing then. Shared tables go with the last handle that has a part in
+/// them.
 #[unsafe(no_mangle)]
 pub extern "C" fn inet_tables_free(tables: &mut InetTables, alloc: Global)
-    ensures { tables.new.tables ≡ None }
+    ensures { tables.new.held ≡ None }
 {
     drop(tables.take(alloc));
 }
 
-/// Which socket takes a packet from `src` and `sport` to `dst` and `dport` that came in at device `dev` in network
+/// Which socket of a list, or of a looker's tables, takes a packet from `src` and `sport` to `dst` and `dport` that came in at device `dev` in network
 /// namespace `net`.
 #[unsafe(no_mangle)]
 pub extern "C" fn inet_tables_look(
@@ -88,11 +134,8 @@ pub extern "C" fn inet_tables_look(
     net: u8,
     sight: &mut InetSight,
 ) -> i32
-    ensures same { tables.new.tables ≡ tables.old.tables }
-    ensures sees { (found : Option Sight) × seen.FindsOn tables.old.tables
-        (record { src = src; sport = sport; dst = dst; dport = dport; dev = dev; net = net }) found
-        × (sight.new ≡ seen.told found) }
-    ensures errno { result ≡ pos (seen.errno_of tables.old.tables) }
+    ensures { (errno : ℕ) × (result ≡ pos errno) × LooksOn tables.old.held tables.new.held
+        (record { src = src; sport = sport; dst = dst; dport = dport; dev = dev; net = net }) sight.new errno }
 {
     let packet = Packet {
         src,
@@ -105,7 +148,7 @@ pub extern "C" fn inet_tables_look(
     look(tables, alloc, &packet, sight)
 }
 
-/// All sockets that packets can find, by their workers, and those of one in the order in which they were made: the
+/// All sockets of a list that packets can find, by their workers, and those of one in the order in which they were made: the
 /// first of them in `items`, as many as fit. `count` is how many there are.
 #[unsafe(no_mangle)]
 pub extern "C" fn inet_tables_list(
@@ -114,8 +157,8 @@ pub extern "C" fn inet_tables_list(
     items: &mut [Item],
     count: &mut u64,
 ) -> i32
-    ensures same { tables.new.tables ≡ tables.old.tables }
-    ensures lists { (telling : Telling) × listed.ListsOn tables.old.tables items.old items.new count.new telling
+    ensures same { tables.new.held ≡ tables.old.held }
+    ensures lists { (telling : Telling) × listed.ListsOn tables.old.held items.old items.new count.new telling
         × (result ≡ pos (listed.errno_of telling)) }
 {
     listing::errno_of(listing::list(tables, alloc, items, count))

@@ -42,4 +42,4 @@ empty_spec 𝓤 𝓛 𝓜 𝓡 wired =
     rewrite ! 0 (λ (us : List Val). ‵ (P.own_val a us)) h.1 refl $ nothing ! $ handle_in ! null_ptr h.0 a None $ move ! (1 ∷ 2 ∷ []) $ drop ! $ drop ! $
     suffices ! (Run (h.0 ∷ [])) (subst (λ (us : List Val). ent 𝓤 (Run (h.0 ∷ [])) (Run us)) (sym (λ i. h.1 i ++ [])) (id⊢ 𝓤 (Run (h.0 ∷ [])))) $
     enter ! 𝓣.C 𝓣.Λ fn (h.0 ∷ []) Post $ alloc_all ! (λ l. pass_all ! refl (h.2, tt) $ sets ! (agg ! (and_then ! (lit ! tt) (and_then ! (get ! refl) (no_more !)))) refl good $ returns ! (look_at ! 0 refl) $ free_all ! refl $
-    suffices ! _ (ends_at 𝓛 En hs c z w (record { ptr = null_ptr; alloc = a; tables = None }) (tt, tt) (tt, tt)) $ says ! refl $ nothing ! $ nothing ! $ fjoin ! $ join ! $ nothing ! $ join ! $ done !))
+    suffices ! _ (ends_at 𝓛 En hs c z w (record { ptr = null_ptr; alloc = a; held = None }) (tt, tt) (tt, tt)) $ says ! refl $ nothing ! $ nothing ! $ fjoin ! $ join ! $ nothing ! $ join ! $ done !))

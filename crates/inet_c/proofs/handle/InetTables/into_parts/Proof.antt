@@ -43,7 +43,7 @@ into_parts_spec 𝓤 𝓛 𝓜 𝓡 wired =
     let Post : Val → SProp 𝓤 = (walk_of 𝓛 En hs c).post z in let Run : List Val → SProp 𝓤 = λ ws. WpFn 𝓤 H 𝓣.C 𝓣.Λ fn ws Post in let Out : RattleType = type_at En.signature.result tt in
     let d : HandleRow.Denot = z.0.3.0 in let a = d.alloc in
     qed 𝓛 ((‵ ftrue ⊛ ‵ (fsep (HandleRow.own_val d z.0.4.0) ftrue)) ∷ raw (emp 𝓤) ∷ []) ∵ split ! $ drop ! $ fsplit ! $
-    handle_out ! d z.0.4.0 (λ h ws fits. either ! a d.ptr d.tables
+    handle_out ! d z.0.4.0 (λ h ws fits. either ! a d.ptr d.held
     (λ is none. let w : Val = both (ptr_val null_ptr) h in let v₁ : Val = live 0 vnil in
     let e : z.0.4.0 ≡ w ∷ [] = subst (λ (p : Ptr). z.0.4.0 ≡ both (ptr_val p) h ∷ []) is ws in let typed : Good (layout HandleRow) w = (and_tt (has_ty (layout P) h) fits.0, ((Ptr-Good null_ptr).1, (fits.1, tt))) in
     drop ! $ drop ! $ drop ! $ use0 𝓛 (‵ (Out.own_val None (v₁ ∷ []))) (none_of 𝓛 PartsRow) $

@@ -12,7 +12,7 @@ use types.Logic.{Logic}
 use contract.Monad.{Fun}
 use contract.Running.{tables, tables_of}
 use sound.WpLaws.{WpFn-mono}
-use types.Kit.{Item, ‵, raw, ◌⊛◌, ◌$◌, ◌∵◌, !, qed, by, move, drop, use1, join, split, fsplit, fjoin, suffices, rewrite, done}
+use types.Kit.{Item, ‵, raw, ◌⊛◌, ◌$◌, ◌∵◌, !, qed, by, move, drop, join, split, fsplit, fjoin, suffices, rewrite, done}
 use types.Part.{whole, sub, agg}
 use types.Run.{stop, fld, no_more, and_then, of_opd, returns, enter}
 use types.ByLocal.{alloc_all, pass_all, free_all, look_at, get, get_in, sets}
@@ -45,9 +45,9 @@ module _ {M : Type 1} {𝓤 : Ura M} (𝓛 : Logic 𝓤) (at_mem : Memory → SP
       let Post = (walk_of 𝓛 F.ended stayed (F.clauses 𝓛 at_mem run)).post z in
       let v : D E = record { ptr = z.0.3.0.ptr; alloc = z.0.3.0.alloc; value = z.0.3.0.value } in
       let To = type_at (F.signature).result tt in
-      let made : To.Denot = record { ptr = v.ptr; alloc = v.alloc; tables = Some v.value } in
+      let made : To.Denot = record { ptr = v.ptr; alloc = v.alloc; held = Some v.value } in
       qed 𝓛 ((‵ ftrue ⊛ ‵ (fsep ((B E).own_val v z.0.4.0) ftrue)) ∷ raw (emp 𝓤) ∷ []) ∵ split ! $ drop ! $ fsplit ! $
-      box_out E ! v z.0.4.0 (λ b o hv e ws fa. fjoin ! $ handle_in ! (block_ptr b o) hv v.alloc (Some v.value) $ rewrite ! 0 (λ (p : Ptr). ‵ (To.own_val (record { ptr = p; alloc = v.alloc; tables = Some v.value }) (word E hv b o ∷ []))) (sym e) refl $ move ! (1 ∷ 2 ∷ []) $ drop ! $ drop ! $
+      box_out E ! v z.0.4.0 (λ b o hv e ws fa. fjoin ! $ handle_in ! (block_ptr b o) hv v.alloc (Some v.value) $ rewrite ! 0 (λ (p : Ptr). ‵ (To.own_val (record { ptr = p; alloc = v.alloc; held = Some v.value }) (word E hv b o ∷ []))) (sym e) refl $ move ! (1 ∷ 2 ∷ []) $ drop ! $ drop ! $
       let w = word E hv b o in
       let Γ : List (Item 𝓤) = ‵ (To.own_val made (w ∷ [])) ∷ [] in
       by ! (subst (λ (us : List Val). ent 𝓤 (types.Kit.⋆ 𝓛 Γ) (WpFn 𝓤 H 𝓣.C 𝓣.Λ code.function (us ++ []) Post)) (sym ws)

@@ -1,0 +1,193 @@
+/* The toy proxy of proxy.c over tables that threads share: two threads accept connections and close them, each by a
+ * worker of its own, and two look packets up meanwhile, each by a looker of its own. No lock is round any call. What
+ * it prints is the same whichever thread comes first. */
+#include <errno.h>
+#include <pthread.h>
+#include <sched.h>
+#include <stdio.h>
+#include <stdlib.h>
+
+#include "../inet_tables.h"
+
+enum { CONNECTIONS = 500, PROXY = 0x0A000001, CLIENTS = 0xC0000200 };
+
+/* How often a call tries again for what another worker has. */
+enum { TRIES = 1000 };
+
+static void must(int error, const char *what) {
+    if (error != 0) {
+        fprintf(stderr, "%s: errno %d\n", what, error);
+        exit(1);
+    }
+}
+
+/* Others were in the way of a call: they go first, and the call is made again. */
+static bool again(int error) {
+    if (error == EAGAIN)
+        sched_yield();
+    return error == EAGAIN;
+}
+
+static const char *name(int error) {
+    switch (error) {
+    case 0: return "done";
+    case EBADF: return "EBADF";
+    case EBUSY: return "EBUSY";
+    case EINVAL: return "EINVAL";
+    case EADDRINUSE: return "EADDRINUSE";
+    default: return "another errno";
+    }
+}
+
+static uint16_t port_of(uint32_t worker) {
+    return (uint16_t)(8000 + worker);
+}
+
+struct accepter { struct inet_tables tables; uint32_t worker, listener, closed, waiting; };
+
+static void open_listener(struct accepter *me) {
+    uint16_t bound;
+    must(inet_tables_socket(&me->tables, me->worker, 0, 0, 0, INET_REUSEADDR, &me->listener), "socket");
+    must(inet_tables_bind(&me->tables, me->worker, me->listener, PROXY, port_of(me->worker), &bound), "bind");
+    must(inet_tables_listen(&me->tables, me->worker, me->listener, &bound), "listen");
+}
+
+/* The socket's number is that of the call that made it: each call gives another one. */
+static uint32_t accept_from(struct accepter *me, uint16_t from_port) {
+    uint32_t socket;
+    int error;
+    do
+        error = inet_tables_accept(&me->tables, me->worker, me->listener, CLIENTS + me->worker, from_port, PROXY,
+                                   port_of(me->worker), &socket);
+    while (again(error));
+    must(error, "accept");
+    return socket;
+}
+
+static bool close_socket(struct accepter *me, uint32_t socket) {
+    bool waits;
+    int error;
+    do
+        error = inet_tables_close(&me->tables, me->worker, socket, &waits);
+    while (again(error));
+    must(error, "close");
+    return waits;
+}
+
+static void *accept_all(void *given) {
+    struct accepter *me = given;
+    for (uint32_t i = 0; i < CONNECTIONS; i++) {
+        uint32_t socket = accept_from(me, (uint16_t)(1024 + i));
+        me->waiting += close_socket(me, socket);
+        me->closed++;
+    }
+    return NULL;
+}
+
+struct looker { struct inet_tables tables; uint32_t worker, found; };
+
+static struct inet_sight look(struct looker *me, uint16_t from_port) {
+    struct inet_sight sight;
+    int error;
+    do
+        error = inet_tables_look(&me->tables, CLIENTS + me->worker, from_port, PROXY, port_of(me->worker), 0, 0,
+                                 &sight);
+    while (again(error));
+    must(error, "look");
+    return sight;
+}
+
+/* Each packet finds its connection, the TIME_WAIT of that, or else the listener: always a socket of that worker. */
+static void *look_all(void *given) {
+    struct looker *me = given;
+    for (uint32_t i = 0; i < CONNECTIONS; i++) {
+        struct inet_sight sight = look(me, (uint16_t)(1024 + i));
+        me->found += sight.kind != INET_NONE && sight.worker == me->worker;
+    }
+    return NULL;
+}
+
+static void refusals(struct accepter *one, struct accepter *two) {
+    uint32_t socket;
+    uint16_t bound;
+    bool waits;
+    must(inet_tables_socket(&two->tables, 2, 0, 0, 0, 0, &socket), "socket");
+    printf("a port that another worker has: %s\n",
+           name(inet_tables_bind(&two->tables, 2, socket, 0, port_of(1), &bound)));
+    must(inet_tables_drop(&two->tables, 2, socket), "drop");
+    printf("another worker's socket: %s\n", name(inet_tables_close(&two->tables, 1, one->listener, &waits)));
+}
+
+/* What a handle holds isn't for each call. */
+static void misused(struct inet_tables *shared, struct accepter *accepter, struct looker *looker) {
+    struct inet_sight sight;
+    struct inet_item item;
+    uint32_t socket, number;
+    uint64_t count;
+    printf("a socket of a looker: %s\n", name(inet_tables_socket(&looker->tables, 1, 0, 0, 0, 0, &socket)));
+    printf("a socket of the shared tables: %s\n", name(inet_tables_socket(shared, 1, 0, 0, 0, 0, &socket)));
+    printf("a packet for a worker: %s\n", name(inet_tables_look(&accepter->tables, 1, 1, 1, 1, 0, 0, &sight)));
+    printf("a list of shared tables: %s\n", name(inet_tables_list(shared, &item, 1, &count)));
+    printf("a worker into a handle that has one: %s\n", name(inet_tables_worker(shared, TRIES, &accepter->tables, &number)));
+}
+
+/* A handshake in two steps: its request takes the packets while it lasts, and then the connection. */
+static void shake_hands(struct accepter *me, struct looker *looker) {
+    uint32_t request, socket;
+    must(inet_tables_syn(&me->tables, me->worker, me->listener, CLIENTS + me->worker, 1023, PROXY,
+                         port_of(me->worker), &request),
+         "syn");
+    struct inet_sight sight = look(looker, 1023);
+    printf("a packet of a handshake: %s\n",
+           sight.kind == INET_REQUEST && sight.socket == request ? "the request" : "another socket");
+    must(inet_tables_ack(&me->tables, me->worker, request, &socket), "ack");
+    sight = look(looker, 1023);
+    printf("a packet after it: %s\n",
+           sight.kind == INET_CONNECTED && sight.socket == socket ? "the connection" : "another socket");
+    must(inet_tables_drop(&me->tables, me->worker, socket), "drop");
+}
+
+static void finish(struct accepter *me) {
+    uint64_t count;
+    must(inet_tables_at(&me->tables, me->worker, 60), "at");
+    must(inet_tables_reap(&me->tables, me->worker, &count), "reap");
+    printf("worker %u: %llu TIME_WAITs are over after a minute\n", me->worker, (unsigned long long)count);
+    inet_tables_free(&me->tables);
+}
+
+int main(void) {
+    struct inet_sizes sizes = {4096, 16, 256, 32, 7, 32768, 60999, false};
+    struct inet_tables shared = {NULL};
+    must(inet_tables_share(&shared, &sizes), "share");
+    printf("tables in the same handle again: %s\n", name(inet_tables_share(&shared, &sizes)));
+    struct accepter accepters[2] = {{{NULL}, 0, 0, 0, 0}, {{NULL}, 0, 0, 0, 0}};
+    struct looker lookers[2] = {{{NULL}, 1, 0}, {{NULL}, 2, 0}};
+    pthread_t threads[4];
+    for (uint32_t i = 0; i < 2; i++) {
+        must(inet_tables_worker(&shared, TRIES, &accepters[i].tables, &accepters[i].worker), "worker");
+        must(inet_tables_looker(&shared, &lookers[i].tables), "looker");
+        open_listener(&accepters[i]);
+    }
+    for (uint32_t i = 0; i < 2; i++) {
+        must(pthread_create(&threads[i], NULL, accept_all, &accepters[i]), "thread");
+        must(pthread_create(&threads[i + 2], NULL, look_all, &lookers[i]), "thread");
+    }
+    for (uint32_t i = 0; i < 4; i++)
+        must(pthread_join(threads[i], NULL), "join");
+    for (uint32_t i = 0; i < 2; i++)
+        printf("worker %u: %u connections closed, %u in TIME_WAIT; %u of %d packets found a socket of its own\n",
+               accepters[i].worker, accepters[i].closed, accepters[i].waiting, lookers[i].found, CONNECTIONS);
+    refusals(&accepters[0], &accepters[1]);
+    misused(&shared, &accepters[0], &lookers[0]);
+    shake_hands(&accepters[0], &lookers[0]);
+    inet_tables_free(&shared);
+    finish(&accepters[0]);
+    finish(&accepters[1]);
+    struct inet_sight sight = look(&lookers[1], 1024);
+    printf("a packet when the workers are gone: %s\n",
+           sight.kind == INET_LISTENER ? "the listener" : "another socket");
+    inet_tables_free(&lookers[0].tables);
+    inet_tables_free(&lookers[1].tables);
+    printf("a packet when all are gone: %s\n", name(inet_tables_look(&lookers[1].tables, 1, 1, 1, 1, 0, 0, &sight)));
+    return 0;
+}

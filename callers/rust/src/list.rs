@@ -1,0 +1,82 @@
+//! One list of sockets.
+
+use crate::raw::Handle;
+use crate::{Errno, Item, Options, Sight, Sizes, Socket};
+use std::net::{Ipv4Addr, SocketAddrV4};
+
+/// One list of sockets, with workers 1 to 64.
+pub struct Tables(Handle);
+
+impl Tables {
+    /// Tables without sockets. EINVAL: the sizes are none that tables may have; ENOMEM.
+    pub fn new(sizes: &Sizes) -> Result<Self, Errno> {
+        Handle::list(sizes).map(Tables)
+    }
+
+    /// A new socket of that worker, 1 to 64.
+    pub fn socket(&mut self, worker: u32, options: Options) -> Result<Socket, Errno> {
+        self.0.socket(worker, options)
+    }
+
+    /// Binds a socket, and tells its port.
+    pub fn bind(&mut self, s: Socket, end: SocketAddrV4) -> Result<u16, Errno> {
+        self.0.bind(s, end)
+    }
+
+    /// Lets a socket listen, and tells its port.
+    pub fn listen(&mut self, s: Socket) -> Result<u16, Errno> {
+        self.0.listen(s)
+    }
+
+    /// Connects a socket, and tells its own end. `from` is its address, where `bind` hasn't named one.
+    pub fn connect(&mut self, s: Socket, from: Option<Ipv4Addr>, to: SocketAddrV4) -> Result<SocketAddrV4, Errno> {
+        self.0.connect(s, from, to)
+    }
+
+    /// A listener takes a connection from one end at another.
+    pub fn accept(&mut self, l: Socket, from: SocketAddrV4, at: SocketAddrV4) -> Result<Socket, Errno> {
+        self.0.accept(l, from, at)
+    }
+
+    /// A handshake with a listener begins, from one end at another.
+    pub fn syn(&mut self, l: Socket, from: SocketAddrV4, at: SocketAddrV4) -> Result<Socket, Errno> {
+        self.0.syn(l, from, at)
+    }
+
+    /// A request's handshake is over, and its listener takes the connection, in the request's place.
+    pub fn ack(&mut self, request: Socket) -> Result<Socket, Errno> {
+        self.0.ack(request)
+    }
+
+    /// Closes a socket, and tells whether a TIME_WAIT stays.
+    pub fn close(&mut self, s: Socket) -> Result<bool, Errno> {
+        self.0.close(s)
+    }
+
+    /// Closes a socket without a trace.
+    pub fn drop_socket(&mut self, s: Socket) -> Result<(), Errno> {
+        self.0.drop_socket(s)
+    }
+
+    /// Sets the worker's moment, in seconds.
+    pub fn at(&mut self, worker: u32, moment: u32) -> Result<(), Errno> {
+        self.0.at(worker, moment)
+    }
+
+    /// Ends the worker's TIME_WAITs that have lasted 60 seconds, and tells how many.
+    pub fn reap(&mut self, worker: u32) -> Result<u64, Errno> {
+        self.0.reap(worker)
+    }
+
+    /// Which socket takes a packet that came in at that device in that namespace.
+    pub fn look(&mut self, from: SocketAddrV4, to: SocketAddrV4, dev: u16, net: u8) -> Option<Sight> {
+        let found = self.0.look(from, to, dev, net);
+        debug_assert!(found.is_ok(), "the handle has a list");
+        found.ok().flatten()
+    }
+
+    /// All sockets that packets can find, by their workers, and those of one in the order in which they were made.
+    pub fn list(&mut self) -> Result<Vec<Item>, Errno> {
+        self.0.items()
+    }
+}

@@ -1,0 +1,110 @@
+//! Tables that threads share, and what they hand out.
+
+use crate::raw::Handle;
+use crate::{Errno, Options, Sight, Sizes, Socket};
+use std::net::{Ipv4Addr, SocketAddrV4};
+
+/// Tables that threads share. They hand out workers and lookers, and go with the last of all these.
+pub struct SharedTables {
+    handle: Handle,
+}
+
+impl SharedTables {
+    /// Tables without sockets. EINVAL: the sizes are none that tables may have; ENOMEM.
+    pub fn new(sizes: &Sizes) -> Result<Self, Errno> {
+        Handle::share(sizes).map(|handle| SharedTables { handle })
+    }
+
+    /// The next worker, which tries so many times again for what another worker has. EUSERS: there were 64; ENOMEM.
+    pub fn worker(&mut self, tries: u64) -> Result<Worker, Errno> {
+        let (handle, number) = self.handle.worker(tries)?;
+        Ok(Worker { handle, number })
+    }
+
+    /// A looker. EUSERS: there were 16,000; ENOMEM.
+    pub fn looker(&mut self) -> Result<Looker, Errno> {
+        self.handle.looker().map(Looker)
+    }
+}
+
+/// A worker of shared tables, with sockets, a moment and searches of its own. Another worker's [`Socket`] is EINVAL.
+///
+/// Each call may answer EAGAIN: another worker was in the way. The worker's sockets stand as they did then, and the
+/// call can be made again. The sockets of a worker that is dropped stay until the tables go.
+pub struct Worker {
+    handle: Handle,
+    number: u32,
+}
+
+impl Worker {
+    /// Its number, from 1 on, by which its sockets are told from those of other workers.
+    pub fn number(&self) -> u32 {
+        self.number
+    }
+
+    /// A new socket.
+    pub fn socket(&mut self, options: Options) -> Result<Socket, Errno> {
+        self.handle.socket(self.number, options)
+    }
+
+    /// Binds a socket, and tells its port.
+    pub fn bind(&mut self, s: Socket, end: SocketAddrV4) -> Result<u16, Errno> {
+        self.handle.bind(s, end)
+    }
+
+    /// Lets a socket listen, and tells its port.
+    pub fn listen(&mut self, s: Socket) -> Result<u16, Errno> {
+        self.handle.listen(s)
+    }
+
+    /// Connects a socket, and tells its own end. `from` is its address, where `bind` hasn't named one.
+    pub fn connect(&mut self, s: Socket, from: Option<Ipv4Addr>, to: SocketAddrV4) -> Result<SocketAddrV4, Errno> {
+        self.handle.connect(s, from, to)
+    }
+
+    /// A listener takes a connection from one end at another.
+    pub fn accept(&mut self, l: Socket, from: SocketAddrV4, at: SocketAddrV4) -> Result<Socket, Errno> {
+        self.handle.accept(l, from, at)
+    }
+
+    /// A handshake with a listener begins, from one end at another.
+    pub fn syn(&mut self, l: Socket, from: SocketAddrV4, at: SocketAddrV4) -> Result<Socket, Errno> {
+        self.handle.syn(l, from, at)
+    }
+
+    /// A request's handshake is over, and its listener takes the connection, in the request's place.
+    pub fn ack(&mut self, request: Socket) -> Result<Socket, Errno> {
+        self.handle.ack(request)
+    }
+
+    /// Closes a socket, and tells whether a TIME_WAIT stays.
+    pub fn close(&mut self, s: Socket) -> Result<bool, Errno> {
+        self.handle.close(s)
+    }
+
+    /// Closes a socket without a trace.
+    pub fn drop_socket(&mut self, s: Socket) -> Result<(), Errno> {
+        self.handle.drop_socket(s)
+    }
+
+    /// Sets the moment, in seconds.
+    pub fn at(&mut self, moment: u32) -> Result<(), Errno> {
+        self.handle.at(self.number, moment)
+    }
+
+    /// Ends the TIME_WAITs that have lasted 60 seconds, and tells how many. After EAGAIN some of them are over.
+    pub fn reap(&mut self) -> Result<u64, Errno> {
+        self.handle.reap(self.number)
+    }
+}
+
+/// A looker in shared tables: its lookups lock nothing, wait for nobody and take no memory.
+pub struct Looker(Handle);
+
+impl Looker {
+    /// Which socket takes a packet that came in at that device in that namespace. EAGAIN: others changed a chain of
+    /// sockets at each of 16 passes through it.
+    pub fn look(&mut self, from: SocketAddrV4, to: SocketAddrV4, dev: u16, net: u8) -> Result<Option<Sight>, Errno> {
+        self.0.look(from, to, dev, net)
+    }
+}
