@@ -14,7 +14,7 @@
  * - A handle is all zero before it is made, is changed by these calls alone, and isn't copied.
  * - A handle is at one call at a time; inet_tables_worker and inet_tables_looker are calls on both of theirs. Handles
  *   of the same shared tables may be at calls at the same time. Threads that share one handle put a lock of their own
- *   round each call.
+ *   round each call. (A call writes its handle: those of several threads are best on cache lines of their own.)
  * - A handle goes from one thread to another by a lock, by a thread's start or join, or by an atomic that is stored
  *   and loaded as memory_order_seq_cst.
  * - No pointer is null, and no two arguments of a call point to the same bytes.
