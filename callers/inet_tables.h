@@ -71,13 +71,16 @@ struct inet_item {
     uint8_t net;
 };
 
-/* Makes a list, or shared tables, in a handle that holds nothing. */
+/* Makes a list, or shared tables, in a handle that holds nothing. EINVAL comes exactly where the sizes are none of
+ * those above, and else EBUSY exactly where the handle holds something; and else ENOMEM may. */
 int inet_tables_new(struct inet_tables *tables, const struct inet_sizes *sizes);
 int inet_tables_share(struct inet_tables *tables, const struct inet_sizes *sizes);
 
 /* Hand out of shared tables, into a handle that holds nothing: a worker, 64 times at most, or a looker, 16000 times.
  * Workers are numbered from 1 on as they are handed out; no number comes twice, and after ENOMEM one may be passed
- * over. Where another worker has what a call needs, the call tries as many times more, and then answers EAGAIN. */
+ * over. Where another worker has what a call needs, the call tries as many times more, and then answers EAGAIN.
+ * EBUSY comes exactly where the second handle holds something, else EBADF exactly where the first has no shared
+ * tables, and else EUSERS exactly where all were handed out; and else ENOMEM may. */
 int inet_tables_worker(struct inet_tables *shared, uint64_t tries, struct inet_tables *worker, uint32_t *number);
 int inet_tables_looker(struct inet_tables *shared, struct inet_tables *looker);
 

@@ -7,7 +7,9 @@
 
 #include "../inet_tables.h"
 
-enum { CONNECTIONS = 500, PROXY = 0x0A000001, CLIENTS = 0xC0000200 };
+enum { CONNECTIONS = 500, PROXY = 0x0A000001 };
+
+static const uint32_t CLIENTS = 0xC0000200;
 
 static struct inet_tables tables;
 /* A handle is at one call at a time. */

@@ -1,8 +1,8 @@
 -- The clock of a race and the counts of its journals are bounded by how much its commands do.
-use Rattle.std.proofs.Common.{◌≡◌, ℕ, ◌+◌, ◌*◌, ◌<◌, ◌≤◌, ◌^◌, List, [], ◌∷◌, length, length-append, map, None, Some, refl, sym, ap, ◌∙◌, arith}
+use Rattle.std.proofs.Common.{◌≡◌, ℕ, ◌+◌, ◌*◌, ◌<◌, ◌≤◌, ◌^◌, List, [], ◌∷◌, length, length-append, map, None, Some, sym, ap, ◌∙◌, arith}
 use Rattle.std.proofs.lemmas.List.{length-map}
 use Rattle.std.specs.List.{flat_map}
-use Rattle.list_words.specs.Lists.{Each, SameItems, total}
+use Rattle.list_words.specs.Lists.{Each, SameItems}
 use Rattle.turn_table.specs.declared.note.Note.{Note}
 use Rattle.turn_table.specs.Journals.{placed}
 use Rattle.turn_table.specs.Values.{all_placed}
@@ -12,6 +12,7 @@ use Rattle.race_record.specs.Headline.{NumbersTell}
 use Rattle.race_record.specs.Laws.{drew_in_vain}
 use Rattle.race_record.specs.Record.{Race, Step, all_deeds, deeds_of, steps_of}
 use Rattle.race_record.specs.Lawful.{AreJournalsOf, IsBookOf, itself}
+use Rattle.race_record.proofs.Weights.{ones}
 use Rattle.audit_laws.proofs.Owners.{shorter}
 
 -- a step did so much at most
@@ -56,16 +57,9 @@ entries_count buckets [] = omega arith
 entries_count buckets (d ∷ deeds) =
     omega (arith, length-append (entry_of buckets d) (entries_in buckets deeds), one_entry buckets d, entries_count buckets deeds)
 
-abbrev one : {A : Type 0} → A → ℕ
-one x = 1
-
-total_one : {A : Type 0} (xs : List A) → total one xs ≡ length xs
-total_one [] = refl
-total_one (x ∷ xs) = omega (arith, total_one xs)
-
 -- as many items
 pub same_length : {A : Type 0} (xs ys : List A) → SameItems xs ys → length xs ≡ length ys
-same_length xs ys s = sym (total_one xs) ∙ s one ∙ total_one ys
+same_length xs ys s = sym (ones xs) ∙ s (λ x. 1) ∙ ones ys
 
 journals_short : (most i : ℕ) (journals : List (List (Note Entry))) → length (all_placed itself i journals) ≤ most → Each (λ (journal : List (Note Entry)). length journal ≤ most) journals
 journals_short most i [] h = tt

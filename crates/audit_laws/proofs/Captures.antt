@@ -14,12 +14,9 @@ use Rattle.capture_reader.specs.Sections.{BlockSection, begun}
 use Rattle.capture_reader.specs.Blocks.{AreBlocks, after, item_on, items_of, stored_count}
 use Rattle.capture_reader.specs.Captures.{Capture}
 use Rattle.capture_reader.specs.Grammar.{AreRecords, IsCapture}
-use Rattle.book_audit.proofs.Prefixes.{each_front, each_back}
 use Rattle.record_reader.specs.Forms.{PacketFits}
-use Rattle.audit_laws.proofs.Names.{at_below, taken_below, left_below}
-
-abbrev Bytes : List ℕ → Type 0
-Bytes bytes = Each (λ b. b < 256) bytes
+use Rattle.race_book.proofs.Joined.{each_front, each_back}
+use Rattle.audit_laws.proofs.Names.{AreBytes as Bytes, at_below, taken_below, left_below}
 
 each_byte : (bytes : List ℕ) → AreBytes bytes → Bytes bytes
 each_byte [] h = tt

@@ -1,7 +1,7 @@
 -- The lives of a serial book pass each test of lives.
 use Rattle.std.proofs.Common.{◌≡◌, ◌≢◌, ℕ, ◌<◌, ◌≤◌, ◌==◌, ◌&&◌, ◌||◌, not, nat_lt, Bool, true, false, List, [], ◌∷◌, Option, None, Some, refl, sym, ap, ◌∙◌, subst, arith, ◌⊎◌, inl, inr}
 use Rattle.std.specs.Option.{option_map}
-use Rattle.std.proofs.lemmas.Bool.{true≢false, lt-ltb, le-ltb, eqb-true, eq-eqb, false_from_ne_true}
+use Rattle.std.proofs.lemmas.Bool.{true≢false, lt-ltb, le-ltb, eqb-true, eq-eqb, false_from_ne_true, and_from, or_from}
 use Rattle.list_words.specs.Lists.{Each}
 use Rattle.list_words.proofs.EachLemmas.{each_map}
 use Rattle.list_words.proofs.PairsLemmas.{pairs_map, pairs_weaken, pairs_both, pairs_of_each}
@@ -16,13 +16,14 @@ use Rattle.race_book.specs.Lives.{IsLife, Ends, Leaves, is_hash}
 use Rattle.race_book.specs.Laws.{BeginApart, EndAfter}
 use Rattle.race_book.specs.Listed.{StampsDiffer, stamps_of, lives_of}
 use Rattle.race_book.specs.Serial.{IsSerial}
-use Rattle.race_book.proofs.Checks.{and_left, and_right, and_both}
+use Rattle.race_book.proofs.Checks.{and_left, and_right}
 use Rattle.race_book.proofs.Endings.{each_of, to_each, ending_ends}
-use Rattle.race_book.proofs.Listing.{begin_apart}
+use Rattle.race_book.proofs.Listing.{begin_apart, stamp_of}
 use Rattle.book_audit.specs.declared.printed.Span.{Span}
 use Rattle.book_audit.specs.declared.printed.PrintedLife.{PrintedLife}
 use Rattle.book_audit.specs.Lines.{NoTwo, AreStamped, AreHoused, passes, some_span, is_span, ends_after, ascends, share, shares_number, is_home, meet, overlap, is_out, share_slot, begins_after, comes_in_time, are_full, are_twins}
-use Rattle.audit_laws.proofs.Printed.{span_of, told_card, told_life, told_lives}
+use Rattle.book_audit.proofs.Lives.{span_of}
+use Rattle.audit_laws.proofs.Printed.{told_card, told_life, told_lives}
 use Rattle.audit_laws.proofs.Ascending.{IsOfBook, life_back, up_lives}
 use Rattle.audit_laws.proofs.Renamed.{IsEndOf, end_of, ending_is}
 use Rattle.audit_laws.proofs.Explained.{home_told}
@@ -35,10 +36,6 @@ pub record LivesPass (shape : Shape) (seed clock : ℕ) (number : ℕ → ℕ) (
   pub slots : NoTwo share_slot (told_lives number book)
   pub twins : NoTwo are_twins (told_lives number book)
 
-neither : (a b : Bool) → a ≡ false → b ≡ false → (a || b) ≡ false
-neither true b p q = p
-neither false b p q = q
-
 -- two changes have no number in common
 record Apart (c d : Change) : Type 0 where
   begins : c.begin ≢ d.begin
@@ -49,13 +46,8 @@ record Apart (c d : Change) : Type 0 where
 turned : (c d : Change) → Apart c d → Apart d c
 turned c d a = record { begins = λ e. a.begins (sym e); first = λ e. a.last (sym e); last = λ e. a.first (sym e); ends = λ e. a.ends (sym e) }
 
-stamps_there : (book : List Change) (d : Change) → Among book d → Among (stamps_of book) d.begin × Among (stamps_of book) d.end
-stamps_there [] d a = absurd a
-stamps_there (c ∷ rest) d (inl e) = (inl (ap (λ (x : Change). x.begin) e), inr (inl (ap (λ (x : Change). x.end) e)))
-stamps_there (c ∷ rest) d (inr a) = let r = stamps_there rest d a in (inr (inr r.0), inr (inr r.1))
-
 front_apart : (c : Change) (rest : List Change) → StampsDiffer (c ∷ rest) → (d : Change) → Among rest d → Apart c d
-front_apart c rest p d a = let r = stamps_there rest d a in record {
+front_apart c rest p d a = let r = stamp_of rest d a in record {
   begins = each_of (λ (k : ℕ). c.begin ≢ k) (stamps_of rest) p.0.1 d.begin r.0;
   first = each_of (λ (k : ℕ). c.begin ≢ k) (stamps_of rest) p.0.1 d.end r.1;
   last = each_of (λ (k : ℕ). c.end ≢ k) (stamps_of rest) p.1.0 d.begin r.0;
@@ -85,9 +77,9 @@ not_equal a b n = false_from_ne_true (a == b) (λ e. n (eqb-true a b e))
 
 no_share : (c d : Change) → Apart c d → share (span_of c) (span_of d) ≡ false
 no_share c d a =
-    neither ((c.begin == d.begin) || (c.begin == d.end) || (c.end == d.begin)) (c.end == d.end)
-    (neither ((c.begin == d.begin) || (c.begin == d.end)) (c.end == d.begin)
-    (neither (c.begin == d.begin) (c.begin == d.end) (not_equal c.begin d.begin a.begins) (not_equal c.begin d.end a.first))
+    or_from ((c.begin == d.begin) || (c.begin == d.end) || (c.end == d.begin)) (c.end == d.end)
+    (or_from ((c.begin == d.begin) || (c.begin == d.end)) (c.end == d.begin)
+    (or_from (c.begin == d.begin) (c.begin == d.end) (not_equal c.begin d.begin a.begins) (not_equal c.begin d.end a.first))
     (not_equal c.end d.begin a.last))
     (not_equal c.end d.end a.ends)
 
@@ -167,9 +159,9 @@ module _ (shape : Shape) (seed clock : ℕ) (number : ℕ → ℕ) (book : List 
   none_of : (test : Span → Span → Bool) (l m : Life) → ((c d : Change) → IsPart l c → IsPart m d → test (span_of c) (span_of d) ≡ false)
       → some_span (λ s. some_span (test s) (told_life number m)) (told_life number l) ≡ false
   none_of test l m f =
-      let inner = λ (c : Change) (i : IsPart l c). neither (test (span_of c) (span_of m.hash)) (passes (test (span_of c)) (option_map span_of m.unhash))
+      let inner = λ (c : Change) (i : IsPart l c). or_from (test (span_of c) (span_of m.hash)) (passes (test (span_of c)) (option_map span_of m.unhash))
       (f c m.hash i (by_hash refl)) (none_by (test (span_of c)) m.unhash (λ d e. f c d i (by_unhash e))) in
-      neither (some_span (test (span_of l.hash)) (told_life number m)) (passes (λ s. some_span (test s) (told_life number m)) (option_map span_of l.unhash))
+      or_from (some_span (test (span_of l.hash)) (told_life number m)) (passes (λ s. some_span (test s) (told_life number m)) (option_map span_of l.unhash))
       (inner l.hash (by_hash refl)) (none_by (λ s. some_span (test s) (told_life number m)) l.unhash (λ c e. inner c (by_unhash e)))
 
   numbers_clear : (l m : Life) → OfBook l → OfBook m → l.hash.begin < m.hash.begin → shares_number (told_life number l) (told_life number m) ≡ false
@@ -211,16 +203,16 @@ module _ (shape : Shape) (seed clock : ℕ) (number : ℕ → ℕ) (book : List 
       }) lt))
 
   span_is : (c : Change) → In c → is_span clock (span_of c) ≡ true
-  span_is c a = and_both (nat_lt c.begin c.end) (nat_lt c.end clock) (lt-ltb c.begin c.end (after c a))
-      (lt-ltb c.end clock (each_of (λ (n : ℕ). n < clock) (stamps_of book) below c.end (stamps_there book c a).1))
+  span_is c a = and_from (nat_lt c.begin c.end) (nat_lt c.end clock) (lt-ltb c.begin c.end (after c a))
+      (lt-ltb c.end clock (each_of (λ (n : ℕ). n < clock) (stamps_of book) below c.end (stamp_of book c a).1))
 
   ends_later : (l : Life) → OfBook l → (o : Option Change) → l.unhash ≡ o → ends_after (span_of l.hash) clock (option_map span_of o) ≡ true
   ends_later l b None e = refl
   ends_later l b (Some u) e = let f = ends_it l b u e in
-      and_both (nat_lt l.hash.end u.begin) (is_span clock (span_of u)) (lt-ltb l.hash.end u.begin f.follows.later) (span_is u f.there)
+      and_from (nat_lt l.hash.end u.begin) (is_span clock (span_of u)) (lt-ltb l.hash.end u.begin f.follows.later) (span_is u f.there)
 
   life_ascends : (l : Life) → OfBook l → ascends clock (told_life number l) ≡ true
-  life_ascends l b = and_both (is_span clock (span_of l.hash)) (ends_after (span_of l.hash) clock (option_map span_of l.unhash))
+  life_ascends l b = and_from (is_span clock (span_of l.hash)) (ends_after (span_of l.hash) clock (option_map span_of l.unhash))
       (span_is l.hash b.there) (ends_later l b l.unhash refl)
 
   life_home : (l : Life) → OfBook l → is_home shape seed (told_life number l) ≡ true

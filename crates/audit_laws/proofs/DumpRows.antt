@@ -2,7 +2,7 @@
 use Rattle.std.proofs.Common.{◌≡◌, ℕ, ◌/◌, ◌<◌, ◌≤◌, ◌^◌, true, false, List, [], ◌∷◌, ◌++◌, append_assoc, append-nil, length, map, codes, decimal, bytes_eq, ◌&&◌, ◌||◌, Some, refl, sym, ap, ◌∙◌, subst, arith}
 use Rattle.std.specs.List.{flat_map, list_all}
 use Rattle.std.specs.Str.Parse.{AllDigits}
-use Rattle.std.proofs.lemmas.Bool.{false_from_ne_true}
+use Rattle.std.proofs.lemmas.Bool.{false_from_ne_true, and_from}
 use Rattle.std.proofs.lemmas.Fmt.{decimal_is_IsNumeral}
 use Rattle.std.proofs.lemmas.Slice.Eq.{bytes_eq-Decides}
 use Rattle.std.proofs.lemmas.Str.Parse.{tells_digits}
@@ -16,7 +16,6 @@ use Rattle.flat_list.specs.declared.command.Command.TheVariants as commands
 use Rattle.flat_list.specs.declared.command.Reply.TheVariants as replies
 use Rattle.socket_list.specs.Listing.{Listing}
 use Rattle.socket_list.specs.declared.listing.Span.{Span}
-use Rattle.race_book.proofs.Checks.{and_both}
 use Rattle.sock_script.specs.Output.{label_in, listing_text}
 use Rattle.race_record.specs.Laws.{drew_for}
 use Rattle.race_record.specs.Record.{Step}
@@ -90,9 +89,9 @@ module _ (sections : List (List Command)) (n : ℕ) where
     list_is_row : (s : Step) (cards : List Card) (span : Span) → s.listings ≡ record { cards = cards; span = Some span } ∷ [] → s.reply ≡ replies.Ok → IsToldList sections cards span → IsRow (row_as commands.Dump n s)
     list_is_row s cards span is ok t =
         let plain : list_all is_plain (decimal (length cards) ∷ loads_words (Some span)) ≡ true =
-        and_both (is_plain (decimal (length cards))) (list_all is_plain (loads_words (Some span))) (decimal_plain (length cards) t.count)
-        (and_both (is_plain (decimal span.t0)) (list_all is_plain (codes "t1" ∷ decimal span.t1 ∷ [])) (decimal_plain span.t0 t.t0)
-        (and_both (is_plain (decimal span.t1)) true (decimal_plain span.t1 t.t1) refl)) in
+        and_from (is_plain (decimal (length cards))) (list_all is_plain (loads_words (Some span))) (decimal_plain (length cards) t.count)
+        (and_from (is_plain (decimal span.t0)) (list_all is_plain (codes "t1" ∷ decimal span.t1 ∷ [])) (decimal_plain span.t0 t.t0)
+        (and_from (is_plain (decimal span.t1)) true (decimal_plain span.t1 t.t1) refl)) in
         subst (λ ws. IsRow (record { words = decimal n ∷ codes "dump" ∷ ws; line = lines.Reply (drew_for s.reply) }))
         (sym (λ i. decimal (length (cards_are s cards span is i)) ∷ loads_are s cards span is i))
         (reply_row n (codes "dump") (decimal (length cards)) (loads_words (Some span)) (drew_for s.reply) low high refl refl plain (ap drew_for ok))

@@ -1,6 +1,7 @@
 -- How much a command does: a plan goes on by so many deeds at most.
-use Rattle.std.proofs.Common.{◌≡◌, ℕ, zero, suc, ◌+◌, ◌*◌, ◌/◌, ◌≤◌, ◌==◌, nat_lt, not, Bool, true, false, List, [], ◌∷◌, ◌++◌, length, length-append, append-nil, filter, Option, None, Some, if◌then◌else◌, refl, sym, ap, ◌∙◌, subst, arith}
+use Rattle.std.proofs.Common.{◌≡◌, ℕ, ◌+◌, ◌*◌, ◌/◌, ◌≤◌, ◌==◌, nat_lt, not, Bool, true, false, List, [], ◌∷◌, ◌++◌, length, length-append, append-nil, filter, Option, None, Some, if◌then◌else◌, sym, ap, ◌∙◌, subst, arith}
 use Rattle.std.proofs.lemmas.List.{length-map}
+use Rattle.std.proofs.lemmas.List.FromFn.{length-range_with_len}
 use Rattle.std.specs.List.{range_with_len}
 use Rattle.sock_card.specs.Conflict.{bind_key, owner_key}
 use Rattle.sock_card.specs.declared.card.Card.{Card}
@@ -279,12 +280,8 @@ f_then k p reply h deeds r g =
     let two : InTwo (λ x. ends (reply x)) p deeds r = goes_apart (λ x. ends (reply x)) p deeds r g in
     f_then_by k p reply h deeds r two.first two.rest two.did two.joined two.goes two.then_
 
-range_count : (a n : ℕ) → length (range_with_len a n) ≡ n
-range_count a zero = refl
-range_count a (suc n) = ap suc (range_count (a + 1) n)
-
 half_count : (r : Range) (distance : ℕ) → length (half_from r distance) ≡ size r / 2
-half_count r distance = length-map (range_with_len 0 (size r / 2)) _ ∙ range_count 0 (size r / 2)
+half_count r distance = length-map (range_with_len 0 (size r / 2)) _ ∙ length-range_with_len 0 (size r / 2)
 
 whole_count : (r : Range) (offset : ℕ) (first : First) → RangeFits r → length (whole_order r offset first) ≤ 65536
 whole_count r offset firsts.Odd f = omega (arith, length-append (half_from r (odd offset)) (half_from r (even offset)), half_count r (odd offset), half_count r (even offset), f.high, f.order)

@@ -2,6 +2,7 @@
 use Rattle.std.proofs.Common.{◌≡◌, ℕ, ◌<◌, ◌≤◌, ◌^◌, ◌==◌, Bool, true, false, List, [], ◌∷◌, ◌++◌, map, bytes_eq, codes, decimal, Option, None, Some, if◌then◌else◌, refl, ◌∙◌, arith}
 use Rattle.std.specs.List.{list_all, list_any}
 use Rattle.std.proofs.lemmas.List.Folds.{list_all-append}
+use Rattle.std.proofs.lemmas.Bool.{and_from}
 use Rattle.list_words.specs.Lists.{Each}
 use Rattle.inet_io.specs.Texts.{end_text}
 use Rattle.sock_card.specs.declared.card.Card.{Card}
@@ -9,7 +10,6 @@ use Rattle.sock_card.specs.declared.card.Kind.{Kind}
 use Rattle.sock_card.specs.declared.card.Kind.TheVariants as kinds
 use Rattle.sock_card.specs.declared.card.Packet.{Packet}
 use Rattle.chain_book.specs.declared.shape.Shape.{Shape}
-use Rattle.race_book.proofs.Checks.{and_both}
 use Rattle.book_audit.specs.declared.printed.Span.{Span}
 use Rattle.book_audit.specs.declared.printed.PrintedEnd.{PrintedEnd}
 use Rattle.book_audit.specs.declared.printed.PrintedEnd.TheVariants as ends
@@ -36,10 +36,10 @@ none_plain : ArePlain []
 none_plain = record { each = refl }
 
 and_words : (w : List ℕ) (ws : List (List ℕ)) → is_plain w ≡ true → ArePlain ws → ArePlain (w ∷ ws)
-and_words w ws p q = record { each = and_both (is_plain w) (list_all is_plain ws) p q.each }
+and_words w ws p q = record { each = and_from (is_plain w) (list_all is_plain ws) p q.each }
 
 both_plain : (xs ys : List (List ℕ)) → ArePlain xs → ArePlain ys → ArePlain (xs ++ ys)
-both_plain xs ys p q = record { each = list_all-append is_plain xs ys ∙ and_both (list_all is_plain xs) (list_all is_plain ys) p.each q.each }
+both_plain xs ys p q = record { each = list_all-append is_plain xs ys ∙ and_from (list_all is_plain xs) (list_all is_plain ys) p.each q.each }
 
 and_number : (n : ℕ) (ws : List (List ℕ)) → n < 2 ^ 64 → ArePlain ws → ArePlain (decimal n ∷ ws)
 and_number n ws f q = and_words (decimal n) ws (decimal_plain n f) q
@@ -72,7 +72,7 @@ pub reply_row : (n : ℕ) (verb word : List ℕ) (rest : List (List ℕ)) (vain 
     → IsRow (record { words = decimal n ∷ verb ∷ word ∷ rest; line = lines.Reply vain })
 reply_row n verb word rest vain low high known clear plain told = record {
   some = omega arith;
-  plain = and_both (is_plain (decimal n)) (list_all is_plain (verb ∷ word ∷ rest)) (decimal_plain n (omega (arith, high))) (and_both (is_plain verb) (list_all is_plain (word ∷ rest)) clear plain);
+  plain = and_from (is_plain (decimal n)) (list_all is_plain (verb ∷ word ∷ rest)) (decimal_plain n (omega (arith, high))) (and_from (is_plain verb) (list_all is_plain (word ∷ rest)) clear plain);
   form = record { section = n; verb = verb; word = word; rest = rest; spelled = refl; in_range = (low, high); known = known; plain = plain; told = told };
 }
 

@@ -31,8 +31,9 @@ use Rattle.record_reader.specs.declared.line.Line.{Line}
 use Rattle.record_reader.specs.declared.line.Line.TheVariants as lines
 use Rattle.record_reader.specs.Names.{name_of}
 use Rattle.record_reader.specs.Forms.{card_words, line_words}
-use Rattle.audit_laws.proofs.Printed.{span_of, told_end}
+use Rattle.audit_laws.proofs.Printed.{told_end}
 use Rattle.audit_laws.proofs.Rows.{Row}
+use Rattle.book_audit.proofs.Lives.{span_of}
 
 -- the row of a line that tells its words
 abbrev pub row : Line → Row

@@ -1,19 +1,17 @@
 -- The name of a section and a label.
-use Rattle.std.proofs.Common.{◌≡◌, ℕ, zero, suc, ◌-◌, ◌<◌, ◌≤◌, ◌==◌, ◌&&◌, ◌||◌, nat_le, true, List, [], ◌∷◌, ◌++◌, length, take, drop, replicate, get_or, codes, decimal, refl, sym, ap, ◌∙◌, subst, arith, IsTrue, inl, inr, length-append, length-drop}
+use Rattle.std.proofs.Common.{◌≡◌, ℕ, zero, suc, ◌-◌, ◌<◌, ◌≤◌, ◌==◌, ◌&&◌, ◌||◌, nat_le, true, List, [], ◌∷◌, ◌++◌, length, take, drop, replicate, get_or, codes, decimal, refl, sym, subst, arith, IsTrue, inl, inr, length-drop}
 use Rattle.std.specs.Int.{w64, to_be_bytes, from_be_bytes, is_in_range}
 use Rattle.std.specs.List.{list_all}
 use Rattle.std.specs.Char.{is_ascii_alphanumeric}
-use Rattle.std.proofs.lemmas.Bool.{leb-true, eqb-true}
-use Rattle.std.proofs.lemmas.List.{length-replicate, length-take}
+use Rattle.std.proofs.lemmas.Bool.{leb-true, eqb-true, or_cases}
+use Rattle.std.proofs.lemmas.List.{length-take}
 use Rattle.std.proofs.lemmas.Nat.{be_bytes_8}
 use Rattle.inet_io.specs.Labels.{is_label, is_label_byte}
 use Rattle.list_words.specs.Lists.{Each}
 use Rattle.list_words.proofs.EachLemmas.{each_append}
-use Rattle.race_book.proofs.Checks.{and_left, and_right, or_cases}
+use Rattle.race_book.proofs.Checks.{and_left, and_right}
 use Rattle.record_reader.specs.Names.{NameFits, label_of, name_of, name_text, padded}
-use Rattle.record_reader.specs.Forms.{is_plain}
-use Rattle.record_reader.proofs.Labels.{from_halves}
-use Rattle.audit_laws.proofs.Plain.{plain_front, decimal_plain, label_plain, plain_clear}
+use Rattle.record_reader.proofs.Labels.{from_halves, sixteen}
 
 abbrev pub AreBytes : List ℕ → Type 0
 AreBytes bytes = Each (λ b. b < 256) bytes
@@ -69,10 +67,6 @@ field_below label e =
     each_append (λ b. b < 256) label (replicate (16 - length label) 0)
     (bytes_below label (and_right (nat_le 1 (length label) && nat_le (length label) 16) (list_all is_label_byte label) e)) (zeros_below (16 - length label))
 
-field_length : (label : List ℕ) → length label ≤ 16 → length (padded label) ≡ 16
-field_length label few =
-    length-append label (replicate (16 - length label) 0) ∙ omega (arith, length-replicate {A = ℕ} (16 - length label) 0)
-
 -- a name tells its label
 pub label_back : (section : ℕ) (label : List ℕ) → is_label label ≡ true → label_of (name_of section label) ≡ label
 unfolding label_of name_of
@@ -80,7 +74,7 @@ label_back section label e =
     let field = padded label in
     let few = label_few label e in
     let below = field_below label e in
-    let long : length field ≡ 16 = field_length label few in
+    let long : length field ≡ 16 = sixteen label few in
     let high = take 8 field in
     let low = take 8 (drop 8 field) in
     from_halves label field (to_be_bytes w64 (from_be_bytes w64 high)) (to_be_bytes w64 (from_be_bytes w64 low)) few refl
@@ -103,8 +97,3 @@ name_fits section label low high e =
 pub name_text_is : (section : ℕ) (label : List ℕ) → is_label label ≡ true → name_text (name_of section label) ≡ decimal section ++ codes "." ++ label
 unfolding name_text
 name_text_is section label e = λ i. decimal (section_back section label i) ++ codes "." ++ label_back section label e i
-
-pub name_plain : (section : ℕ) (label : List ℕ) → section ≤ 64 → is_label label ≡ true → is_plain (name_text (name_of section label)) ≡ true
-name_plain section label high e =
-    ap is_plain (name_text_is section label e)
-    ∙ plain_front (decimal section ++ codes ".") label (plain_front (decimal section) (codes ".") (decimal_plain section (omega arith)) refl) (plain_clear label (label_plain label e))

@@ -1,6 +1,6 @@
 -- The lines of a race are in their order, and the clock's is the last.
-use Rattle.std.proofs.Common.{◌≡◌, ℕ, ◌+◌, ◌<◌, ◌≤◌, ◌==◌, ◌||◌, nat_lt, nat_le, Bool, true, false, List, [], ◌∷◌, ◌++◌, append_assoc, length, map, Option, None, Some, if◌then◌else◌, IsTrue, refl, sym, subst, arith}
-use Rattle.std.proofs.lemmas.Bool.{lt-ltb, le-leb, eq-eqb}
+use Rattle.std.proofs.Common.{◌≡◌, ℕ, ◌+◌, ◌<◌, ◌≤◌, ◌==◌, nat_lt, nat_le, Bool, true, false, List, [], ◌∷◌, ◌++◌, append_assoc, length, map, Option, None, Some, if◌then◌else◌, IsTrue, refl, sym, subst, arith}
+use Rattle.std.proofs.lemmas.Bool.{lt-ltb, le-leb, eq-eqb, or_left}
 use Rattle.std.specs.List.{flat_map}
 use Rattle.list_words.specs.Lists.{Each, Pairs}
 use Rattle.sock_card.specs.declared.card.Card.{Card}
@@ -26,10 +26,6 @@ record Before (k : ℕ) (b : Line) : Type 0 where
 -- what may come next is in order, behind any such line
 abbrev GoesOn : (Line → Type 0) → List Line → Type 0
 GoesOn May rest = (b : Line) → May b → AreInOrder (Some b) rest
-
-or_left : (a b : Bool) → a ≡ true → (a || b) ≡ true
-or_left true b e = refl
-or_left false b e = cc
 
 reply_may : (b : Line) (vain : Bool) → Before 3 b → IsTrue (may_follow (Some b) (lines.Reply vain))
 reply_may (lines.Race m n) vain h = absurd (omega (arith, h.later))

@@ -28,8 +28,9 @@ use Rattle.table_model.specs.declared.operation.OpEnd.TheVariants as errors
 use Rattle.table_model.specs.Asking.{Asking, ends}
 use Rattle.table_model.specs.Own.{Mine, is_over}
 use Rattle.table_model.specs.Operations as op
-use Rattle.table_model.specs.Operations.{Did, done, refused, Closed, gone, waiting, no_slot, when_done, found_next, search_bind, bound, bind_answered, bind_any, bind_unbound, bind_as, bind, give_up, listener, then_replaced, source_to, leave, drop_as, drop, wait_of, reaped_next, reap_each, reap, listens_in, listen_hashed, listen_in, listen_answered, listen_at, listen_found, listen_as, listen, full_in, full_done, connect_hashed, connect_bound, connect_tried, connect_free, search_connect, connect_from, connect, accept_hashed, accept_as, accept, request_in, syn_hashed, syn_as, syn, ack_hashed, ack_as, ack_by, ack_from, ack, waits_in, close_hashed, close_full, close_as, close}
-use Rattle.audit_laws.proofs.Asked.{Asked, asked_if, OutcomeFits}
+use Rattle.table_model.specs.Operations.{Did, done, refused, Closed, gone, waiting, no_slot, search_bind, bound, bind_answered, bind_any, bind_unbound, bind_as, bind, give_up, listener, source_to, drop, wait_of, reaped_next, reap_each, reap, listens_in, listen_hashed, listen_in, listen_answered, listen_at, listen_found, listen_as, listen, full_in, full_done, connect_hashed, connect_bound, connect_tried, connect_free, search_connect, connect_from, connect, accept_hashed, accept_as, accept, request_in, syn_hashed, syn_as, syn, ack_hashed, ack_as, ack_by, ack_from, ack, waits_in, close_hashed, close_full, close_as, close}
+use Rattle.race_record.proofs.Walks.{tries_if, whenever_done, searched, left_port, dropped, replaced_then}
+use Rattle.audit_laws.proofs.Asked.{Asked, asking, OutcomeFits}
 
 -- the name is that of one of the first so many labels of the section of that number
 pub record IsNamed (number count name : ℕ) : Type 0 where
@@ -120,20 +121,6 @@ module _ (number count : ℕ) where
   abbrev Didn : Asking Did → Type 0
   Didn = Asked IsGood DidFits
 
-  whenever_done : {R : Type 0} (Q : R → Type 0) (next : Asking R) → AskedWell Q next → (a : Answer) → AskedWell Q (when_done next a)
-  whenever_done Q next h answers.Done = h
-  whenever_done Q next h _ = tt
-
-  found_or_next : {R : Type 0} (Q : R → Type 0) (found next : Asking R) → AskedWell Q found → AskedWell Q next → (a : Answer) → AskedWell Q (found_next found next a)
-  found_or_next Q found next h k answers.Done = h
-  found_or_next Q found next h k (answers.InUse name) = k
-  found_or_next Q found next h k _ = tt
-
-  search_fits : {R : Type 0} (Q : R → Type 0) (a : Owner) (addr : ℕ) (found : ℕ → Asking R) (none : Asking R) (ports : List ℕ) → ((port : ℕ) → port < 2 ^ 16 → AskedWell Q (found port)) → AskedWell Q none → Ports ports → AskedWell Q (search_bind a addr found none ports)
-  search_fits Q a addr found none [] f n p = n
-  search_fits Q a addr found none (port ∷ ports) f n p =
-      found_or_next Q (found port) (search_bind a addr found none ports) (f port p.0) (search_fits Q a addr found none ports f n p.1)
-
   bind_said : (a : Owner) (end : End) → OwnerFits a → EndIn end.addr end.port → (answer : Answer) → Didn (bind_answered a end answer)
   bind_said a end f e answers.Done = ended a end.addr end.port states.Bound f e
   bind_said a end f e (answers.InUse name) = tt
@@ -141,13 +128,13 @@ module _ (number count : ℕ) where
 
   any_fits : (a : Owner) (addr : ℕ) (ports : List ℕ) → OwnerFits a → addr < 2 ^ 32 → Ports ports → Didn (bind_any a addr ports)
   any_fits a addr ports f e p =
-      asked_if IsGood DidFits a.noport (ends (done (op.plain (addressed a addr)))) (search_bind a addr (bound a addr) (ends (refused errors.NoPort)) ports)
+      tries_if (asking IsGood) (λ s. DidFits) tt a.noport (ends (done (op.plain (addressed a addr)))) (search_bind a addr (bound a addr) (ends (refused errors.NoPort)) ports)
       (ended a addr 0 states.Unbound f (record { addr = e; port = omega arith }))
-      (search_fits DidFits a addr (bound a addr) (ends (refused errors.NoPort)) ports (λ port l. ended a addr port states.Bound f (record { addr = e; port = l })) tt p)
+      (searched (asking IsGood) (λ s. DidFits) tt IsPort a addr (bound a addr) (ends (refused errors.NoPort)) ports (λ port l. ended a addr port states.Bound f (record { addr = e; port = l })) tt p)
 
   unbound_fits : (a : Owner) (end : End) (ports : List ℕ) → OwnerFits a → EndIn end.addr end.port → Ports ports → Didn (bind_unbound a end ports)
   unbound_fits a end ports f e p =
-      asked_if IsGood DidFits (end.port == 0) (bind_any a end.addr ports) _ (any_fits a end.addr ports f e.addr p) (bind_said a end f e)
+      tries_if (asking IsGood) (λ s. DidFits) tt (end.port == 0) (bind_any a end.addr ports) _ (any_fits a end.addr ports f e.addr p) (bind_said a end f e)
 
   bind_fits_as : (state : State) (m : Mine) (end : End) (ports : List ℕ) → OwnerFits m.owner → EndIn end.addr end.port → Ports ports → Didn (bind_as state m end ports)
   bind_fits_as states.Unbound m end ports f e p = unbound_fits m.owner end ports f e p
@@ -156,31 +143,16 @@ module _ (number count : ℕ) where
   pub bind_fits : (m : Mine) (end : End) (ports : List ℕ) → OwnerFits m.owner → EndIn end.addr end.port → Ports ports → Didn (bind m end ports)
   bind_fits m end ports f e p = bind_fits_as m.owner.state m end ports f e p
 
-  leave_fits : {R : Type 0} (Q : R → Type 0) (a : Owner) (result : R) → Q result → AskedWell Q (leave a result)
-  leave_fits Q a result q = whenever_done Q (ends result) q
-
-  drop_fits_as : {R : Type 0} (Q : R → Type 0) (state : State) (m : Mine) (result : R) → Q result → AskedWell Q (drop_as state m result)
-  drop_fits_as Q states.Unbound m result q = q
-  drop_fits_as Q states.Bound m result q = leave_fits Q m.owner result q
-  drop_fits_as Q states.Listening m result q = leave_fits Q m.owner result q
-  drop_fits_as Q states.Full m result q = leave_fits Q m.owner result q
-  drop_fits_as Q states.Request m result q = q
-  drop_fits_as Q states.TimeWait m result q = tt
-
   pub drop_fits : {R : Type 0} (Q : R → Type 0) (m : Mine) (result : R) → Q result → AskedWell Q (drop m result)
-  drop_fits Q m result q = drop_fits_as Q m.owner.state m result q
+  drop_fits Q m result q = dropped (asking IsGood) (λ s. Q) tt m.owner.state m result q
 
   give_up_fits : (took : Bool) (a : Owner) (end : OpEnd) → RefusalFits end → Didn (give_up took a end)
-  give_up_fits true a end h = whenever_done DidFits (ends (refused end)) h
+  give_up_fits true a end h = whenever_done (asking IsGood) (λ s. DidFits) tt (ends (refused end)) h
   give_up_fits false a end h = h
-
-  replaced_fits : {R : Type 0} (Q : R → Type 0) (old : Option Hashed) (next : Asking R) → AskedWell Q next → AskedWell Q (then_replaced old next)
-  replaced_fits Q None next h = h
-  replaced_fits Q (Some old) next h = λ answer. h
 
   module _ (shape : Shape) (seed : ℕ) where
     listened_fits : (took : Bool) (a : Owner) (l : Mine) → OwnerFits l.owner → (o : Outcome) → OutcomeFits o → Didn (listen_hashed shape seed took a l o)
-    listened_fits took a l f (put slot None) h = whenever_done DidFits (ends (done (listens_in shape seed l slot))) f
+    listened_fits took a l f (put slot None) h = whenever_done (asking IsGood) (λ s. DidFits) tt (ends (done (listens_in shape seed l slot))) f
     listened_fits took a l f (put slot (Some old)) h = tt
     listened_fits took a l f (taken name) h = tt
     listened_fits took a l f (full owned held) h = give_up_fits took a (errors.Full owned held) h
@@ -206,7 +178,7 @@ module _ (number count : ℕ) where
 
     listen_fits_as : (state : State) (m : Mine) (ports : List ℕ) → OwnerFits m.owner → Ports ports → Didn (listen_as shape seed state m ports)
     listen_fits_as states.Unbound m ports f p =
-        search_fits DidFits m.owner m.owner.addr (listen_found shape seed m.owner) (ends (refused errors.NoPort)) ports (listen_found_fits m.owner f) tt p
+        searched (asking IsGood) (λ s. DidFits) tt IsPort m.owner m.owner.addr (listen_found shape seed m.owner) (ends (refused errors.NoPort)) ports (listen_found_fits m.owner f) tt p
     listen_fits_as states.Bound m ports f p = listen_at_fits false m.owner f
     listen_fits_as states.Listening m ports f p = f
     listen_fits_as _ m ports f p = tt
@@ -215,15 +187,15 @@ module _ (number count : ℕ) where
     listen_fits m ports f p = listen_fits_as m.owner.state m ports f p
 
     full_fits : (a : Owner) (slot : ℕ) (old : Option Hashed) → OwnerFits a → Didn (full_done shape seed a slot old)
-    full_fits a slot old f = replaced_fits DidFits old (ends (done (full_in shape seed a slot))) f
+    full_fits a slot old f = replaced_then (asking IsGood) (λ s. DidFits) tt old (ends (done (full_in shape seed a slot))) f
 
     connected_fits : (a : Owner) → OwnerFits a → (o : Outcome) → OutcomeFits o → Didn (connect_hashed shape seed a o)
-    connected_fits a f (put slot old) h = whenever_done DidFits (full_done shape seed a slot old) (full_fits a slot old f)
+    connected_fits a f (put slot old) h = whenever_done (asking IsGood) (λ s. DidFits) tt (full_done shape seed a slot old) (full_fits a slot old f)
     connected_fits a f (taken name) h = tt
     connected_fits a f (full owned held) h = h
 
     tried_fits : (a : Owner) (next : Asking Did) → OwnerFits a → Didn next → (o : Outcome) → OutcomeFits o → Didn (connect_tried shape seed a next o)
-    tried_fits a next f n (put slot old) h = whenever_done DidFits (full_done shape seed a slot old) (full_fits a slot old f)
+    tried_fits a next f n (put slot old) h = whenever_done (asking IsGood) (λ s. DidFits) tt (full_done shape seed a slot old) (full_fits a slot old f)
     tried_fits a next f n (taken name) h = n
     tried_fits a next f n (full owned held) h = h
 
@@ -271,7 +243,7 @@ module _ (number count : ℕ) where
         (one_of (is_no_end to) None (source_of m.owner.addr from) tt (source_fits m.owner.addr from f.local.addr s)) e p
 
     accepted_fits : (l child : Owner) → OwnerFits child → (o : Outcome) → OutcomeFits o → Didn (accept_hashed shape seed l child o)
-    accepted_fits l child f (put slot old) h = whenever_done DidFits (full_done shape seed child slot old) (full_fits child slot old f)
+    accepted_fits l child f (put slot old) h = whenever_done (asking IsGood) (λ s. DidFits) tt (full_done shape seed child slot old) (full_fits child slot old f)
     accepted_fits l child f (taken name) h = tt
     accepted_fits l child f (full owned held) h = h
 
@@ -280,25 +252,25 @@ module _ (number count : ℕ) where
 
     pub accept_fits : (l : Mine) (name : ℕ) (from at : End) → OwnerFits l.owner → IsNamed number count name → EndIn from.addr from.port → EndIn at.addr at.port → Didn (accept shape seed l name from at)
     accept_fits l name from at f n e k =
-        asked_if IsGood DidFits (is_no_accept l.owner from at) (ends (refused errors.Inval)) (accept_as shape seed l.owner (child_owner l.owner name from at)) tt
+        tries_if (asking IsGood) (λ s. DidFits) tt (is_no_accept l.owner from at) (ends (refused errors.Inval)) (accept_as shape seed l.owner (child_owner l.owner name from at)) tt
         (good kinds.Full (child_owner l.owner name from at) 0 (child_fits l.owner name from at f n e k), accepted_fits l.owner (child_owner l.owner name from at) (child_fits l.owner name from at f n e k))
 
     request_fits : (l : Owner) (name : ℕ) (from at : End) → OwnerFits l → IsNamed number count name → EndIn from.addr from.port → EndIn at.addr at.port → OwnerFits (request_owner l name from at)
     request_fits l name from at f n e k = let c = child_fits l name from at f n e k in record { local = c.local; remote = c.remote; dev = c.dev; net = c.net; named = c.named }
 
     requested_fits : (r : Owner) → OwnerFits r → (o : Outcome) → OutcomeFits o → Didn (syn_hashed shape seed r o)
-    requested_fits r f (put slot old) h = replaced_fits DidFits old (ends (done (request_in shape seed r slot))) f
+    requested_fits r f (put slot old) h = replaced_then (asking IsGood) (λ s. DidFits) tt old (ends (done (request_in shape seed r slot))) f
     requested_fits r f (taken name) h = tt
     requested_fits r f (full owned held) h = h
 
     pub syn_fits : (l : Mine) (name : ℕ) (from at : End) → OwnerFits l.owner → IsNamed number count name → EndIn from.addr from.port → EndIn at.addr at.port → Didn (syn shape seed l name from at)
     syn_fits l name from at f n e k =
         let r = request_owner l.owner name from at in
-        asked_if IsGood DidFits (is_no_accept l.owner from at) (ends (refused errors.Inval)) (syn_as shape seed r) tt
+        tries_if (asking IsGood) (λ s. DidFits) tt (is_no_accept l.owner from at) (ends (refused errors.Inval)) (syn_as shape seed r) tt
         (good kinds.Request r 0 (request_fits l.owner name from at f n e k), requested_fits r (request_fits l.owner name from at f n e k))
 
     handed_fits : (r : Mine) (l child : Owner) → OwnerFits child → (o : Outcome) → OutcomeFits o → Didn (ack_hashed shape seed r l child o)
-    handed_fits r l child f (put slot None) h = whenever_done DidFits (ends (done (full_in shape seed child slot))) f
+    handed_fits r l child f (put slot None) h = whenever_done (asking IsGood) (λ s. DidFits) tt (ends (done (full_in shape seed child slot))) f
     handed_fits r l child f (put slot (Some old)) h = tt
     handed_fits r l child f (taken name) h = tt
     handed_fits r l child f (full owned held) h = h
@@ -310,7 +282,7 @@ module _ (number count : ℕ) where
     ack_fits_by r None name f g n = tt
     ack_fits_by r (Some l) name f g n =
         let child = heir_owner l.owner name r.owner in
-        asked_if IsGood DidFits (is_no_ack l.owner r.owner) (ends (refused errors.Inval)) (ack_as shape seed r l.owner child) tt
+        tries_if (asking IsGood) (λ s. DidFits) tt (is_no_ack l.owner r.owner) (ends (refused errors.Inval)) (ack_as shape seed r l.owner child) tt
         (good kinds.Full child 0 (heir_fits l.owner name r.owner g n f), handed_fits r l.owner child (heir_fits l.owner name r.owner g n f))
 
     ack_fits_from : (state : State) (r : Mine) (l : Option Mine) (name : ℕ) → OwnerFits r.owner → OpenFits l → IsNamed number count name → Didn (ack_from shape seed state r l name)
@@ -321,10 +293,10 @@ module _ (number count : ℕ) where
     ack_fits r l name f g n = ack_fits_from r.owner.state r l name f g n
 
     closed_fits : (m w : Mine) → OwnerFits w.owner → (o : Outcome) → OutcomeFits o → AskedWell ClosedFits (close_hashed shape seed m w o)
-    closed_fits m w f (put slot None) h = whenever_done ClosedFits (ends (waiting (waits_in shape seed w slot))) f
+    closed_fits m w f (put slot None) h = whenever_done (asking IsGood) (λ s. ClosedFits) tt (ends (waiting (waits_in shape seed w slot))) f
     closed_fits m w f (put slot (Some old)) h = tt
     closed_fits m w f (taken name) h = tt
-    closed_fits m w f (full owned held) h = leave_fits ClosedFits m.owner (no_slot owned held) h
+    closed_fits m w f (full owned held) h = left_port (asking IsGood) (λ s. ClosedFits) tt m.owner (no_slot owned held) h
 
     wait_fits : (m : Mine) (moment : ℕ) → OwnerFits m.owner → OwnerFits (wait_of m moment).owner
     wait_fits m moment f = record { local = f.local; remote = f.remote; dev = f.dev; net = f.net; named = f.named }
@@ -334,11 +306,11 @@ module _ (number count : ℕ) where
 
     close_fits_as : (state : State) (m : Mine) (moment : ℕ) → OwnerFits m.owner → AskedWell ClosedFits (close_as shape seed state m moment)
     close_fits_as states.Full m moment f = close_full_fits m (wait_of m moment) (wait_fits m moment f)
-    close_fits_as states.Unbound m moment f = drop_fits_as ClosedFits states.Unbound m gone tt
-    close_fits_as states.Bound m moment f = drop_fits_as ClosedFits states.Bound m gone tt
-    close_fits_as states.Listening m moment f = drop_fits_as ClosedFits states.Listening m gone tt
-    close_fits_as states.TimeWait m moment f = drop_fits_as ClosedFits states.TimeWait m gone tt
-    close_fits_as states.Request m moment f = drop_fits_as ClosedFits states.Request m gone tt
+    close_fits_as states.Unbound m moment f = dropped (asking IsGood) (λ s. ClosedFits) tt states.Unbound m gone tt
+    close_fits_as states.Bound m moment f = dropped (asking IsGood) (λ s. ClosedFits) tt states.Bound m gone tt
+    close_fits_as states.Listening m moment f = dropped (asking IsGood) (λ s. ClosedFits) tt states.Listening m gone tt
+    close_fits_as states.TimeWait m moment f = dropped (asking IsGood) (λ s. ClosedFits) tt states.TimeWait m gone tt
+    close_fits_as states.Request m moment f = dropped (asking IsGood) (λ s. ClosedFits) tt states.Request m gone tt
 
     pub close_fits : (m : Mine) (moment : ℕ) → OwnerFits m.owner → AskedWell ClosedFits (close shape seed m moment)
     close_fits m moment f = close_fits_as m.owner.state m moment f

@@ -4,13 +4,13 @@ use Rattle.std.specs.List.{list_all}
 use Rattle.std.specs.Char.{is_ascii_alphanumeric}
 use Rattle.std.specs.Int.{is_in_range}
 use Rattle.std.specs.Str.Parse.{AllDigits}
-use Rattle.std.proofs.lemmas.Bool.{lt-ltb, ltb-true, leb-true, eqb-true}
+use Rattle.std.proofs.lemmas.Bool.{lt-ltb, ltb-true, leb-true, eqb-true, and_from, or_cases}
 use Rattle.std.proofs.lemmas.Fmt.{decimal_is_IsNumeral}
 use Rattle.std.proofs.lemmas.Str.Parse.{tells_digits}
 use Rattle.std.proofs.lemmas.List.Folds.{list_all-append}
 use Rattle.inet_io.specs.Labels.{is_label, is_label_byte}
 use Rattle.inet_io.specs.Texts.{addr_text, end_text}
-use Rattle.race_book.proofs.Checks.{and_left, and_right, and_both, or_cases}
+use Rattle.race_book.proofs.Checks.{and_left, and_right}
 use Rattle.record_reader.specs.Forms.{is_plain}
 
 -- each byte is above the space
@@ -18,10 +18,10 @@ abbrev pub IsClear : List ℕ → Type 0
 IsClear bytes = list_all (nat_lt 32) bytes ≡ true
 
 pub clear_append : (xs ys : List ℕ) → IsClear xs → IsClear ys → IsClear (xs ++ ys)
-clear_append xs ys p q = list_all-append (nat_lt 32) xs ys ∙ and_both (list_all (nat_lt 32) xs) (list_all (nat_lt 32) ys) p q
+clear_append xs ys p q = list_all-append (nat_lt 32) xs ys ∙ and_from (list_all (nat_lt 32) xs) (list_all (nat_lt 32) ys) p q
 
 pub plain : (word : List ℕ) → 0 < length word → IsClear word → is_plain word ≡ true
-plain word some clear = and_both (nat_lt 0 (length word)) (list_all (nat_lt 32) word) (lt-ltb 0 (length word) some) clear
+plain word some clear = and_from (nat_lt 0 (length word)) (list_all (nat_lt 32) word) (lt-ltb 0 (length word) some) clear
 
 pub plain_clear : (word : List ℕ) → is_plain word ≡ true → IsClear word
 plain_clear word p = and_right (nat_lt 0 (length word)) (list_all (nat_lt 32) word) p
@@ -37,7 +37,7 @@ digits_clear : (xs : List ℕ) → AllDigits 10 xs → IsClear xs
 digits_clear [] h = refl
 digits_clear (c ∷ cs) h =
     let r = tells_digits.parts c cs h in
-    and_both (nat_lt 32 c) (list_all (nat_lt 32) cs) (lt-ltb 32 c (omega (arith, r.0.0))) (digits_clear cs r.1)
+    and_from (nat_lt 32 c) (list_all (nat_lt 32) cs) (lt-ltb 32 c (omega (arith, r.0.0))) (digits_clear cs r.1)
 
 pub decimal_plain : (n : ℕ) → n < 2 ^ 64 → is_plain (decimal n) ≡ true
 decimal_plain n fits =
@@ -84,7 +84,7 @@ byte_clear b e = elim (or_cases (is_ascii_alphanumeric b || (b == 95)) (b == 45)
 bytes_clear : (bytes : List ℕ) → list_all is_label_byte bytes ≡ true → IsClear bytes
 bytes_clear [] e = refl
 bytes_clear (b ∷ bs) e =
-    and_both (nat_lt 32 b) (list_all (nat_lt 32) bs) (lt-ltb 32 b (byte_clear b (and_left (is_label_byte b) (list_all is_label_byte bs) e)))
+    and_from (nat_lt 32 b) (list_all (nat_lt 32) bs) (lt-ltb 32 b (byte_clear b (and_left (is_label_byte b) (list_all is_label_byte bs) e)))
     (bytes_clear bs (and_right (is_label_byte b) (list_all is_label_byte bs) e))
 
 -- a label is a plain word

@@ -1,5 +1,5 @@
 -- The plan of each command: what it hashes is in range, and so are its reply and what it leaves of the section's own.
-use Rattle.std.proofs.Common.{◌≡◌, ℕ, ◌+◌, ◌<◌, ◌≤◌, ◌^◌, nat_lt, not, Bool, true, false, cond, List, [], ◌∷◌, length, length-append, find, Option, None, Some, option_and_then, unwrap_or, if◌then◌else◌, refl, sym, ap, ◌∙◌, subst, arith}
+use Rattle.std.proofs.Common.{◌≡◌, ℕ, ◌+◌, ◌<◌, ◌≤◌, ◌^◌, nat_lt, not, Bool, true, false, cond, List, [], ◌∷◌, length, length-append, find, Option, None, Some, option_and_then, if◌then◌else◌, refl, sym, ap, ◌∙◌, subst, arith}
 use Rattle.std.specs.Option.{option_map_or}
 use Rattle.list_words.specs.Lists.{Each}
 use Rattle.list_words.proofs.EachLemmas.{each_append, each_filter, each_map, each_weaken}
@@ -21,8 +21,10 @@ use Rattle.table_model.specs.Asking.{Asking, ends}
 use Rattle.table_model.specs.Own.{Own, Mine, Offsets, is_named, is_over, name_of, next_name, open_named, open_socket, replaced, with_socket, with_new, without, with_wait, with_label, past_offset, ports_of, offset_of}
 use Rattle.table_model.specs.Operations.{Did, done, refused, Closed, gone, waiting, no_slot, plain, bind, listen, connect, accept, syn, ack, close, reap, kept_waits}
 use Rattle.table_model.specs.Commands.{Replied, answers, replies_at_once, bind_error, connect_error, bind_reply, connect_reply, accept_reply, ack_reply, close_reply, after_search, bind_command, drop_command, at_command, reap_command, socket_command, listen_command, connect_command, accept_command, syn_command, ack_command, close_command, connect_rule, searches_port, plan}
-use Rattle.audit_laws.proofs.Asked.{Asked, asked_if, asked_then}
+use Rattle.race_record.proofs.Walks.{tries_if}
+use Rattle.audit_laws.proofs.Asked.{Asked, asked_then, asking}
 use Rattle.audit_laws.proofs.Owners.{IsNamed, Ports, RangeFits, ports_fit, shorter, EndIn, OwnerFits, OpenFits, IsGood, RefusalFits, DidFits, ClosedFits, SourceIn, bind_fits, drop_fits, listen_fits, connect_fits, accept_fits, syn_fits, ack_fits, close_fits, reap_fits}
+use Rattle.audit_laws.proofs.Scripts.{device_below, namespace_below}
 
 -- the numbers of a reply can be written
 abbrev pub ReplyFits : Reply → Type 0
@@ -54,14 +56,6 @@ gives (commands.Accept listener label from at) = 1
 gives (commands.Syn listener label from at) = 1
 gives (commands.Ack request label) = 1
 gives _ = 0
-
-device_in : (dev : Option ℕ) → DeviceFits dev → unwrap_or dev 0 < 2 ^ 16
-device_in None f = omega arith
-device_in (Some dev) f = f.1
-
-namespace_in : (net : Option ℕ) → NamespaceFits net → unwrap_or net 0 < 16
-namespace_in None f = omega arith
-namespace_in (Some net) f = f
 
 range_past_by : (o p : Offsets) (x : Option ℕ) → p.range ≡ o.range → (option_map_or (λ (offset : ℕ). o) x p).range ≡ o.range
 range_past_by o p None e = e
@@ -280,7 +274,7 @@ module _ (header : Header) (ranged : RangeFits header.range) (number count : ℕ
 
   at_plan : (given left : ℕ) (own : Own) → OwnFits given left own → (moment : ℕ) → GoodPlan (Kept given left) (at_command own moment)
   at_plan given left own f moment =
-      asked_if (IsGood number count) (Kept given left) (nat_lt moment own.moment) (replies_at_once own replies.Einval) (replies_at_once (record own { moment = moment }) replies.Ok)
+      tries_if (asking (IsGood number count)) (λ s. Kept given left) tt (nat_lt moment own.moment) (replies_at_once own replies.Einval) (replies_at_once (record own { moment = moment }) replies.Ok)
       (longer given left own f, tt)
       (longer given left (record own { moment = moment }) (record { number_is = f.number_is; given_is = f.given_is; range_is = f.range_is; sockets = f.sockets; waits = f.waits }), tt)
 
@@ -310,8 +304,8 @@ module _ (header : Header) (ranged : RangeFits header.range) (number count : ℕ
   new_fits given left own options f l d n = record {
     local = record { addr = omega arith; port = omega arith };
     remote = record { addr = omega arith; port = omega arith };
-    dev = device_in options.dev d;
-    net = namespace_in options.net n;
+    dev = device_below options.dev d;
+    net = namespace_below options.net n;
     named = next_named given left own f l;
   }
 

@@ -10,7 +10,6 @@ use Rattle.chain_book.specs.declared.book.PacketAnswer.TheVariants as answers
 use Rattle.chain_book.specs.declared.book.Receipt.{Receipt}
 use Rattle.race_book.specs.declared.lives.Life.{Life}
 use Rattle.race_book.specs.Listed.{lives_of}
-use Rattle.book_audit.specs.declared.printed.Span.{Span}
 use Rattle.book_audit.specs.declared.printed.PrintedLife.{PrintedLife}
 use Rattle.book_audit.specs.declared.printed.PrintedEnd.{PrintedEnd}
 use Rattle.book_audit.specs.declared.printed.PrintedEnd.TheVariants as printed_ends
@@ -19,11 +18,9 @@ use Rattle.book_audit.specs.declared.printed.PrintedAnswer.TheVariants as printe
 use Rattle.book_audit.specs.declared.printed.PrintedLook.{PrintedLook}
 use Rattle.book_audit.specs.declared.printed.PrintedPacket.{PrintedPacket}
 use Rattle.book_audit.specs.declared.printed.PrintedPacket.TheVariants as packets
+use Rattle.book_audit.proofs.Lives.{span_of}
 use Rattle.race_record.specs.declared.record.Looked.{Looked}
 use Rattle.race_record.specs.declared.record.Looked.TheVariants as looks
-
-abbrev pub span_of : Change → Span
-span_of c = record { begin = c.begin; end = c.end }
 
 abbrev pub told_end : PassEnd → PrintedEnd
 told_end (ends.Foreign b) = printed_ends.Foreign b

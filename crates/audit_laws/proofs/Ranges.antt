@@ -1,5 +1,5 @@
 -- The lines behind the replies of a lawful race have their numbers in range.
-use Rattle.std.proofs.Common.{◌≡◌, ℕ, ◌+◌, ◌/◌, ◌%◌, ◌<◌, ◌^◌, ◌==◌, Bool, true, false, List, [], ◌∷◌, length, Option, None, Some, if◌then◌else◌, refl, sym, ap, ◌∙◌, subst, arith, inl, inr}
+use Rattle.std.proofs.Common.{◌≡◌, ℕ, ◌+◌, ◌/◌, ◌%◌, ◌<◌, ◌^◌, ◌==◌, Bool, true, false, List, [], ◌∷◌, length, Option, None, Some, if◌then◌else◌, refl, sym, ◌∙◌, subst, arith, inl, inr}
 use Rattle.std.specs.Option.{option_map}
 use Rattle.std.proofs.lemmas.Nat.{mod_below}
 use Rattle.list_words.specs.Lists.{Each}
@@ -27,6 +27,7 @@ use Rattle.race_book.specs.Listed.{FitSlots, lives_of, stamps_of}
 use Rattle.race_book.specs.Explained.{MayAnswer, MayEnd, NamesItsBucket, at_home, buckets_of}
 use Rattle.race_book.specs.Serial.{AreHome}
 use Rattle.race_book.proofs.Endings.{each_of, to_each, ending_ends}
+use Rattle.race_book.proofs.Listing.{stamp_of}
 use Rattle.race_record.specs.declared.record.Looked.{Looked}
 use Rattle.race_record.specs.declared.record.Looked.TheVariants as looks
 use Rattle.race_record.specs.Lawful.{AreAnswered, IsReceiptOf}
@@ -35,7 +36,7 @@ use Rattle.record_reader.specs.declared.line.Line.TheVariants as lines
 use Rattle.chain_book.specs.Shapes.{ShapeFits}
 use Rattle.record_reader.specs.Forms.{AnswerFits, EndFits, ItemFits, LifeFits, PacketFits, UnhashFits}
 use Rattle.chain_book.proofs.Powers.{power_positive}
-use Rattle.audit_laws.proofs.Printed.{span_of, told_end}
+use Rattle.audit_laws.proofs.Printed.{told_end}
 use Rattle.audit_laws.proofs.Ascending.{IsOfBook, life_back}
 use Rattle.audit_laws.proofs.Captures.{ItemIn}
 use Rattle.audit_laws.proofs.Forms.{IsInRange}
@@ -43,6 +44,7 @@ use Rattle.audit_laws.proofs.Lines.{answer_line, cut_lines, item_line, journals_
 use Rattle.audit_laws.proofs.Names.{name_fits}
 use Rattle.audit_laws.proofs.Steps.{CardTold}
 use Rattle.audit_laws.proofs.Texts.{AnswerLabelled, Labelled, LookedLabelled}
+use Rattle.book_audit.proofs.Lives.{span_of}
 
 journals_by : (b : Bool) (bucket count : ℕ) (rest : List Line) → bucket < 2 ^ 64 → count < 2 ^ 64 → Each IsInRange rest → Each IsInRange (if b then rest else lines.Journal bucket count ∷ rest)
 journals_by true bucket count rest f g h = h
@@ -82,16 +84,11 @@ module _ (shape : Shape) (f : ShapeFits shape) where
 
   module _ (seed clock : ℕ) (sections : List (List Command)) (book : List Change) (small : clock < 2 ^ 64) (homes : AreHome (Among book) shape seed) (slots : FitSlots shape.slots book)
       (below : Each (λ (n : ℕ). n < clock) (stamps_of book)) (cards : (c : Change) → Among book c → c.act ≡ acts.Hash → CardTold sections c.card) where
-    stamps_there : (book : List Change) (d : Change) → Among book d → Among (stamps_of book) d.begin × Among (stamps_of book) d.end
-    stamps_there [] d a = absurd a
-    stamps_there (c ∷ rest) d (inl e) = (inl (ap (λ (x : Change). x.begin) e), inr (inl (ap (λ (x : Change). x.end) e)))
-    stamps_there (c ∷ rest) d (inr a) = let r = stamps_there rest d a in (inr (inr r.0), inr (inr r.1))
-
     begin_below : (c : Change) → Among book c → c.begin < 2 ^ 64
-    begin_below c a = omega (arith, small, each_of (λ (n : ℕ). n < clock) (stamps_of book) below c.begin (stamps_there book c a).0)
+    begin_below c a = omega (arith, small, each_of (λ (n : ℕ). n < clock) (stamps_of book) below c.begin (stamp_of book c a).0)
 
     end_below : (c : Change) → Among book c → c.end < 2 ^ 64
-    end_below c a = omega (arith, small, each_of (λ (n : ℕ). n < clock) (stamps_of book) below c.end (stamps_there book c a).1)
+    end_below c a = omega (arith, small, each_of (λ (n : ℕ). n < clock) (stamps_of book) below c.end (stamp_of book c a).1)
 
     bucket_below : (c : Change) → Among book c → c.bucket < 2 ^ 64
     bucket_below c a = omega (arith, homes c a, home_below seed c.card)

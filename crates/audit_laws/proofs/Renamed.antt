@@ -1,7 +1,7 @@
 -- The book of what is told of lives is the book itself, but for what no line tells of a card.
 use Rattle.std.proofs.Common.{◌≡◌, ℕ, ◌<◌, ◌==◌, ◌&&◌, nat_lt, true, List, Option, None, Some, refl, sym, ap, ◌∙◌, subst, arith}
 use Rattle.std.specs.Option.{option_map}
-use Rattle.std.proofs.lemmas.Bool.{true≢false, ltb-true, eqb-true}
+use Rattle.std.proofs.lemmas.Bool.{ltb-true, eqb-true}
 use Rattle.chain_book.specs.declared.book.Act.{Act}
 use Rattle.chain_book.specs.declared.book.Act.TheVariants as acts
 use Rattle.chain_book.specs.declared.book.Change.{Change}
@@ -12,13 +12,13 @@ use Rattle.race_book.specs.Laws.{BeginApart}
 use Rattle.race_book.specs.Listed.{life_in, lives_of}
 use Rattle.race_book.specs.Serial.{EachEndsOne, EndsOne}
 use Rattle.race_book.proofs.AmongLemmas.{among_map, Made, made_of}
-use Rattle.race_book.proofs.Checks.{and_left, and_right}
+use Rattle.race_book.proofs.Checks.{and_left, and_right, unhash_act}
 use Rattle.race_book.proofs.Endings.{IsFirstOr, first_is, ending_ends, one_beginning}
 use Rattle.book_audit.specs.declared.printed.Span.{Span}
 use Rattle.book_audit.specs.declared.printed.PrintedLife.{PrintedLife}
 use Rattle.book_audit.specs.Book.{hash_of, unhash_of, book_of}
-use Rattle.book_audit.proofs.Lives.{IsOf, by_hash, by_unhash, Whose, whose, hash_there, unhash_there}
-use Rattle.audit_laws.proofs.Printed.{span_of, told_card, told_life, told_lives}
+use Rattle.book_audit.proofs.Lives.{IsOf, by_hash, by_unhash, Whose, whose, hash_there, unhash_there, span_of}
+use Rattle.audit_laws.proofs.Printed.{told_card, told_life, told_lives}
 use Rattle.audit_laws.proofs.Ascending.{IsOfBook, life_there, life_back}
 
 -- what ends a life: an unhash of its slot, once it is in
@@ -27,14 +27,10 @@ pub record Follows (h u : Change) : Type 0 where
   pub slot : u.slot ≡ h.slot
   pub later : h.end < u.begin
 
-act_is : (a : Act) → is_unhash a ≡ true → a ≡ acts.Unhash
-act_is acts.Hash e = absurd (true≢false (sym e))
-act_is acts.Unhash e = refl
-
 pub follows : (h u : Change) → comes_after h u ≡ true → Follows h u
 follows h u t =
     let front = and_left (is_unhash u.act && (u.slot == h.slot)) (nat_lt h.end u.begin) t in record {
-      act = act_is u.act (and_left (is_unhash u.act) (u.slot == h.slot) front);
+      act = unhash_act u.act (and_left (is_unhash u.act) (u.slot == h.slot) front);
       slot = eqb-true u.slot h.slot (and_right (is_unhash u.act) (u.slot == h.slot) front);
       later = ltb-true h.end u.begin (and_right (is_unhash u.act && (u.slot == h.slot)) (nat_lt h.end u.begin) t);
     }

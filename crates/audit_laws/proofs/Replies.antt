@@ -2,7 +2,7 @@
 use Rattle.std.proofs.Common.{◌≡◌, ℕ, ◌+◌, ◌<◌, ◌≤◌, ◌^◌, true, false, List, [], ◌∷◌, ◌++◌, append_assoc, append-nil, length, length-append, drop, take, map, codes, decimal, position, bytes_eq, refl, sym, ap, ◌∙◌, subst, arith}
 use Rattle.std.specs.List.{flat_map, list_all, list_any}
 use Rattle.std.specs.Str.Parse.{AllDigits}
-use Rattle.std.proofs.lemmas.Bool.{true≢false, false_from_ne_true}
+use Rattle.std.proofs.lemmas.Bool.{true≢false, false_from_ne_true, and_from}
 use Rattle.std.proofs.lemmas.Fmt.{decimal_is_IsNumeral}
 use Rattle.std.proofs.lemmas.Grind.{flat_map-append}
 use Rattle.std.proofs.lemmas.Slice.Eq.{bytes_eq-Decides}
@@ -16,7 +16,6 @@ use Rattle.flat_list.specs.declared.command.Command.TheVariants as commands
 use Rattle.flat_list.specs.declared.command.Reply.{Reply}
 use Rattle.flat_list.specs.declared.command.Reply.TheVariants as replies
 use Rattle.flat_list.specs.Run.{Issued}
-use Rattle.race_book.proofs.Checks.{and_both}
 use Rattle.sock_script.specs.declared.parse.Mode.TheVariants as modes
 use Rattle.sock_script.specs.Forms.{CommandFits}
 use Rattle.sock_script.specs.Grammar.{is_allowed}
@@ -266,10 +265,10 @@ tells_drew replies.Emfile f = refl
 tells_drew (replies.Enfile owned held) f = refl
 
 one_plain : (w : List ℕ) → is_plain w ≡ true → list_all is_plain (w ∷ []) ≡ true
-one_plain w p = and_both (is_plain w) true p refl
+one_plain w p = and_from (is_plain w) true p refl
 
 two_plain : (v w : List ℕ) → is_plain v ≡ true → is_plain w ≡ true → list_all is_plain (v ∷ w ∷ []) ≡ true
-two_plain v w p q = and_both (is_plain v) (list_all is_plain (w ∷ [])) p (one_plain w q)
+two_plain v w p q = and_from (is_plain v) (list_all is_plain (w ∷ [])) p (one_plain w q)
 
 reply_plain : (reply : Reply) → ReplyFits reply → list_all is_plain (reply_words reply) ≡ true
 reply_plain replies.Ok f = refl
@@ -292,7 +291,7 @@ reply_plain (replies.Enfile owned held) f = two_plain (decimal owned) (decimal h
 labelled_row : (n : ℕ) (verb word : List ℕ) (reply : Reply) → 1 ≤ n → n ≤ 64 → list_any (bytes_eq verb) verbs ≡ true → is_plain verb ≡ true → is_plain word ≡ true → ReplyFits reply
     → IsRow (record { words = decimal n ∷ verb ∷ word ∷ reply_words reply; line = lines.Reply (drew_for reply) })
 labelled_row n verb word reply low high known clear plain f =
-    reply_row n verb word (reply_words reply) (drew_for reply) low high known clear (and_both (is_plain word) (list_all is_plain (reply_words reply)) plain (reply_plain reply f)) (tells_drew reply f)
+    reply_row n verb word (reply_words reply) (drew_for reply) low high known clear (and_from (is_plain word) (list_all is_plain (reply_words reply)) plain (reply_plain reply f)) (tells_drew reply f)
 
 reap_row : (n : ℕ) (reply : Reply) → 1 ≤ n → n ≤ 64 → IsReplyTo commands.Reap reply
     → IsRow (record { words = decimal n ∷ codes "reap" ∷ reply_words reply; line = lines.Reply (drew_for reply) })

@@ -51,11 +51,11 @@ may_come [] c m = absurd m
 may_come (s ∷ []) c m = and_left (is_allowed modes.Race c) (is_new (given_label c) s) m
 may_come (s ∷ t ∷ rest) c m = may_come (t ∷ rest) c m
 
-device_below : (dev : Option ℕ) → DeviceFits dev → unwrap_or dev 0 < 2 ^ 16
+pub device_below : (dev : Option ℕ) → DeviceFits dev → unwrap_or dev 0 < 2 ^ 16
 device_below None f = omega arith
 device_below (Some dev) f = f.1
 
-namespace_below : (net : Option ℕ) → NamespaceFits net → unwrap_or net 0 < 16
+pub namespace_below : (net : Option ℕ) → NamespaceFits net → unwrap_or net 0 < 16
 namespace_below None f = omega arith
 namespace_below (Some net) f = f
 

@@ -1,7 +1,7 @@
 -- The steps of a lawful race: their replies can be written, and so can each card that was hashed.
 use Rattle.std.proofs.Common.{◌≡◌, ℕ, zero, suc, ◌+◌, ◌/◌, ◌%◌, ◌<◌, ◌≤◌, ◌^◌, ◌==◌, ◌&&◌, Bool, true, false, cond, List, [], ◌∷◌, length, slice_get, unwrap_or, Some, refl, sym, ap, ◌∙◌, subst, arith, inl, inr}
-use Rattle.std.specs.List.{flat_map, slice_index_or}
-use Rattle.std.proofs.lemmas.Bool.{eqb-true, eq-eqb}
+use Rattle.std.specs.List.{slice_index_or}
+use Rattle.std.proofs.lemmas.Bool.{eqb-true, eq-eqb, and_from}
 use Rattle.std.proofs.lemmas.Grind.{flat_map-append}
 use Rattle.inet_io.specs.Labels.{is_label}
 use Rattle.list_words.specs.Lists.{Each, SameItems, total}
@@ -21,8 +21,8 @@ use Rattle.table_model.specs.Commands.{answers, plan}
 use Rattle.race_book.specs.Among.{Among}
 use Rattle.race_book.specs.Lives.{is_hash}
 use Rattle.race_book.proofs.Endings.{each_of, to_each}
-use Rattle.race_book.proofs.Checks.{and_left, and_right, and_both, hash_is}
-use Rattle.book_audit.proofs.Prefixes.{each_front, each_back}
+use Rattle.race_book.proofs.Checks.{and_left, and_right, hash_is}
+use Rattle.race_book.proofs.Joined.{each_unflat, each_flat}
 use Rattle.race_record.specs.Deeds.{Vain, changes_of, changes_in, vain_in}
 use Rattle.race_record.specs.Record.{Race, Step, Sighting, steps_of, deeds_of, all_deeds}
 use Rattle.race_record.specs.Lawful.{AreStepsOf, AreSectionsOf, NoneWasFree, SlotsWereUsed}
@@ -159,16 +159,8 @@ module _ (header : Header) (ranged : RangeFits header.range) (In : Change → Ty
 vain_fits : {In : Change → Type 0} {from to slots counts : ℕ} {sightings : List Sighting} (v : Vain) → slots ≤ 65536 → NoneWasFree In from to slots counts sightings v → VainFits v
 vain_fits v l n = (omega (arith, l, n.all, n.owned_count), omega (arith, l, n.all, n.held_count))
 
-pub each_flat : {A : Type 0} (P : A → Type 0) (xss : List (List A)) → Each P (flat_map (λ xs. xs) xss) → Each (Each P) xss
-each_flat P [] h = tt
-each_flat P (xs ∷ xss) h = (each_front P xs (flat_map (λ ys. ys) xss) h, each_flat P xss (each_back P xs (flat_map (λ ys. ys) xss) h))
-
-pub flat_each : {A : Type 0} (P : A → Type 0) (xss : List (List A)) → Each (Each P) xss → Each P (flat_map (λ xs. xs) xss)
-flat_each P [] h = tt
-flat_each P (xs ∷ xss) h = each_append P xs (flat_map (λ ys. ys) xss) h.0 (flat_each P xss h.1)
-
 pub vains_fit : (race : Race) → race.shape.slots ≤ 65536 → Each (SlotsWereUsed race) (steps_of race) → Each (Each VainsFit) race.sections
-vains_fit race l h = each_flat VainsFit race.sections
+vains_fit race l h = each_unflat VainsFit (λ steps. steps) race.sections
     (each_weaken (SlotsWereUsed race) VainsFit (steps_of race)
     (λ s u. each_weaken _ VainFits (vain_in s.deeds) (λ v n. vain_fits v l n) u) h)
 
@@ -185,10 +177,10 @@ alike k c =
 
 alike_itself : (k : Card) → alike k k ≡ true
 alike_itself k =
-    and_both (k.local == k.local) _ (eq-eqb k.local k.local refl)
-    (and_both (k.lport == k.lport) _ (eq-eqb k.lport k.lport refl) (and_both (k.remote == k.remote) _ (eq-eqb k.remote k.remote refl)
-    (and_both (k.rport == k.rport) _ (eq-eqb k.rport k.rport refl) (and_both (k.dev == k.dev) _ (eq-eqb k.dev k.dev refl)
-    (and_both (k.net == k.net) _ (eq-eqb k.net k.net refl) (eq-eqb k.name k.name refl))))))
+    and_from (k.local == k.local) _ (eq-eqb k.local k.local refl)
+    (and_from (k.lport == k.lport) _ (eq-eqb k.lport k.lport refl) (and_from (k.remote == k.remote) _ (eq-eqb k.remote k.remote refl)
+    (and_from (k.rport == k.rport) _ (eq-eqb k.rport k.rport refl) (and_from (k.dev == k.dev) _ (eq-eqb k.dev k.dev refl)
+    (and_from (k.net == k.net) _ (eq-eqb k.net k.net refl) (eq-eqb k.name k.name refl))))))
 
 alike_told : (sections : List (List Command)) (k c : Card) → alike k c ≡ true → CardTold sections c → CardTold sections k
 alike_told sections k c t1 f =
@@ -219,7 +211,7 @@ abbrev similar : Card → Change → Bool
 similar k c = is_hash c.act && alike k c.card
 
 similar_itself : (c : Change) → c.act ≡ acts.Hash → similar c.card c ≡ true
-similar_itself c e = and_both (is_hash c.act) (alike c.card c.card) (ap is_hash e) (alike_itself c.card)
+similar_itself c e = and_from (is_hash c.act) (alike c.card c.card) (ap is_hash e) (alike_itself c.card)
 
 similar_told : (sections : List (List Command)) (k : Card) (c : Change) → similar k c ≡ true → HashesGood (CardTold sections) c → CardTold sections k
 similar_told sections k c t g =
@@ -257,7 +249,7 @@ book_told sections book changes same told c a e =
     similar_told sections c.card f.which f.passes (each_of (HashesGood (CardTold sections)) changes told f.which f.there)
 
 pub all_told : (sections : List (List Command)) (race : Race) → Each (Each (StepTold sections)) race.sections → Each (HashesGood (CardTold sections)) (changes_in (all_deeds race))
-all_told sections race h = changes_told sections (steps_of race) (flat_each (StepTold sections) race.sections h)
+all_told sections race h = changes_told sections (steps_of race) (each_flat (StepTold sections) (λ steps. steps) race.sections h)
 
 -- cards that are others, each as often, are told as these are
 pub cards_told : (sections : List (List Command)) (cards others : List Card) → SameItems cards others → Each (CardTold sections) others → Each (CardTold sections) cards

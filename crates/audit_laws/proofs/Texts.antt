@@ -26,11 +26,12 @@ use Rattle.race_text.specs.Render.{race_line, shape_line, clock_line, journal_li
 use Rattle.record_reader.specs.declared.line.Line.{Line}
 use Rattle.record_reader.specs.declared.line.Line.TheVariants as lines
 use Rattle.record_reader.specs.Forms.{kind_word, race_words, shape_words, unhash_words, end_words}
-use Rattle.audit_laws.proofs.Printed.{span_of, told_end}
+use Rattle.audit_laws.proofs.Printed.{told_end}
 use Rattle.audit_laws.proofs.Names.{name_text_is}
 use Rattle.audit_laws.proofs.Rows.{Row, row_text, rows_text, spaced}
 use Rattle.audit_laws.proofs.Trees.{Tree, leaf, node, ◌⊕◌, text_is}
 use Rattle.audit_laws.proofs.Lines.{row, journals_from, cut_lines, item_row, life_line, item_line, packets_from}
+use Rattle.book_audit.proofs.Lives.{span_of}
 
 pub race_text : (lookers passes : ℕ) → race_line lookers passes ≡ row_text (row (lines.Race lookers passes))
 race_text lookers passes =

@@ -16,6 +16,7 @@ use Rattle.race_record.specs.declared.record.Looked.{Looked}
 use Rattle.race_record.specs.declared.record.Looked.TheVariants as looks
 use Rattle.race_record.specs.Laws.{drew_for, drew_in_vain}
 use Rattle.race_record.specs.Record.{Race, Step, steps_of}
+use Rattle.race_record.proofs.Weights.{kept_join}
 use Rattle.record_reader.specs.declared.line.Name.{Name}
 use Rattle.record_reader.specs.declared.line.Line.{Line}
 use Rattle.record_reader.specs.declared.line.Line.TheVariants as lines
@@ -73,14 +74,6 @@ nothing_told f k none (line ∷ rest) h = rw (none line h.0) (nothing_told f k n
 none_passes : (test : Line → Bool) (k : ℕ) → ((line : Line) → rank line ≡ k → test line ≡ false) → (all : List Line) → AreOf k all → filter test all ≡ []
 none_passes test k none [] h = refl
 none_passes test k none (line ∷ rest) h = rw (none line h.0) (none_passes test k none rest h.1)
-
-kept_by : (b : Bool) (x : Line) (xs ys zs : List Line) → length zs ≡ length xs + length ys → length (cond b (x ∷ zs) zs) ≡ length (cond b (x ∷ xs) xs) + length ys
-kept_by true x xs ys zs e = omega (arith, e)
-kept_by false x xs ys zs e = e
-
-filter-append : (test : Line → Bool) (xs ys : List Line) → length (filter test (xs ++ ys)) ≡ length (filter test xs) + length (filter test ys)
-filter-append test [] ys = omega arith
-filter-append test (x ∷ xs) ys = kept_by (test x) x (filter test xs) (filter test ys) (filter test (xs ++ ys)) (filter-append test xs ys)
 
 module _ (number : Name → ℕ) where
   life_none : (k : ℕ) → (k ≡ 4 → ⊥) → (line : Line) → rank line ≡ k → life_in number line ≡ None
@@ -194,22 +187,14 @@ steps_vain (s ∷ steps) =
     let items = items_of (listed_cards s) in
     let behind = flat_map step_lines steps in
     step_by (drew_for s.reply) (lines.Reply (drew_for s.reply)) s (filter is_vain (items ++ behind)) (filter drew_in_vain steps)
-    (omega (arith, filter-append is_vain items behind, items_vain (listed_cards s), steps_vain steps))
-
-steps-kept_by : (b : Bool) (x : Step) (xs ys zs : List Step) → length zs ≡ length xs + length ys → length (cond b (x ∷ zs) zs) ≡ length (cond b (x ∷ xs) xs) + length ys
-steps-kept_by true x xs ys zs e = omega (arith, e)
-steps-kept_by false x xs ys zs e = e
-
-steps-append : (xs ys : List Step) → length (filter drew_in_vain (xs ++ ys)) ≡ length (filter drew_in_vain xs) + length (filter drew_in_vain ys)
-steps-append [] ys = omega arith
-steps-append (x ∷ xs) ys = steps-kept_by (drew_in_vain x) x (filter drew_in_vain xs) (filter drew_in_vain ys) (filter drew_in_vain (xs ++ ys)) (steps-append xs ys)
+    (omega (arith, kept_join is_vain items behind, items_vain (listed_cards s), steps_vain steps))
 
 replies_vain : (sections : List (List Step)) → length (filter is_vain (reply_lines sections)) ≡ length (filter drew_in_vain (flat_map (λ steps. steps) sections))
 replies_vain [] = refl
 replies_vain (steps ∷ rest) = omega (
   arith,
-  filter-append is_vain (flat_map step_lines steps) (reply_lines rest),
-  steps-append steps (flat_map (λ ss. ss) rest),
+  kept_join is_vain (flat_map step_lines steps) (reply_lines rest),
+  kept_join drew_in_vain steps (flat_map (λ ss. ss) rest),
   steps_vain steps,
   replies_vain rest,
 )
@@ -228,11 +213,11 @@ vain_told sections race =
     omega (
       arith,
       length-filter is_vain (race_lines sections race),
-      filter-append is_vain (reply_lines race.sections) (later_lines sections race),
-      filter-append is_vain counts (lives ++ (packets ++ (cut ++ end))),
-      filter-append is_vain lives (packets ++ (cut ++ end)),
-      filter-append is_vain packets (cut ++ end),
-      filter-append is_vain cut end,
+      kept_join is_vain (reply_lines race.sections) (later_lines sections race),
+      kept_join is_vain counts (lives ++ (packets ++ (cut ++ end))),
+      kept_join is_vain lives (packets ++ (cut ++ end)),
+      kept_join is_vain packets (cut ++ end),
+      kept_join is_vain cut end,
       replies_vain race.sections,
       no_vain 3 (λ e. omega (arith, e)) counts (journals_are 0 (map length race.journals)),
       no_vain 4 (λ e. omega (arith, e)) lives (lives_are sections (lives_of race.book)),

@@ -30,13 +30,15 @@ use Rattle.race_book.specs.Among.{Among}
 use Rattle.race_book.specs.Laws.{BeginApart}
 use Rattle.race_book.specs.Listed.{lives_of}
 use Rattle.race_book.proofs.Listing.{begin_apart}
+use Rattle.race_book.proofs.Joined.{each_flat, each_unflat}
 use Rattle.race_record.specs.declared.record.Looked.{Looked}
 use Rattle.race_record.specs.Headline.{NumbersTell}
-use Rattle.race_record.specs.Record.{Race, Step, steps_of, command_of, commands_of}
+use Rattle.race_record.specs.Record.{Race, Step, steps_of, commands_of}
 use Rattle.race_record.specs.Laws.{drew_for}
 use Rattle.race_record.specs.Lawful.{AreAnswered, AreSectionsOf, AreStepsOf, Lawful, Lists}
 use Rattle.race_record.proofs.Drawn.{numbers_tell}
 use Rattle.race_text.specs.Render.{clock_line, command_lines, journal_lines, life_line, looked_lines, race_line, render, shape_line, told, told_text}
+use Rattle.race_text.proofs.Commands.{all_commands}
 use Rattle.book_audit.specs.declared.printed.Printed.{Printed}
 use Rattle.book_audit.specs.declared.printed.Finding.TheVariants as findings
 use Rattle.book_audit.specs.declared.printed.Why.{Why}
@@ -70,24 +72,12 @@ use Rattle.audit_laws.proofs.Ranges.{LookedFits, cut_in, journals_in, lives_in, 
 use Rattle.audit_laws.proofs.Replies.{IsFine, are_reply_rows, commands_text, rows_append}
 use Rattle.audit_laws.proofs.Rows.{EachIsRow, is_record, line_of, row_text, rows_text}
 use Rattle.audit_laws.proofs.Scripts.{RaceCommand, ScriptTold, script_told}
-use Rattle.audit_laws.proofs.Steps.{CardTold, StepTold, all_told, book_told, each_flat, flat_each, sections_told, vains_fit}
+use Rattle.audit_laws.proofs.Steps.{CardTold, StepTold, all_told, book_told, sections_told, vains_fit}
 use Rattle.audit_laws.proofs.Texts.{LookedLabelled, clock_text, cut_is, journals_text, lives_text, looked_text, race_text, shape_text}
 use Rattle.audit_laws.proofs.Told.{lives_told, numbered, packets_told, vain_told}
 
 -- the commands of steps are the section's
 module _ (header : Header) (In : Change → Type 0) where
-  steps_commands : (own : Own) (cs : List Command) (steps : List Step) → AreStepsOf header In own cs steps → map command_of steps ≡ cs
-  steps_commands own [] [] a = refl
-  steps_commands own (c ∷ cs) (s ∷ steps) a = λ i. a.1.command_is i ∷ steps_commands a.0 cs steps a.2 i
-  steps_commands own [] (s ∷ steps) a = absurd a
-  steps_commands own (c ∷ cs) [] a = absurd a
-
-  all_commands : (n : ℕ) (scripts : List (List Command)) (sections : List (List Step)) → AreSectionsOf header In n scripts sections → map (λ steps. map command_of steps) sections ≡ scripts
-  all_commands n [] [] a = refl
-  all_commands n (cs ∷ scripts) (steps ∷ sections) a = λ i. steps_commands (new_own header n) cs steps a.0 i ∷ all_commands (n + 1) scripts sections a.1 i
-  all_commands n [] (s ∷ sections) a = absurd a
-  all_commands n (cs ∷ scripts) [] a = absurd a
-
   same_count : (n : ℕ) (scripts : List (List Command)) (sections : List (List Step)) → AreSectionsOf header In n scripts sections → length sections ≡ length scripts
   same_count n [] [] a = refl
   same_count n (cs ∷ scripts) (steps ∷ sections) a = omega (arith, same_count (n + 1) scripts sections a.1)
@@ -216,7 +206,7 @@ module _ (input : List ℕ) (script : Script) (capture : Capture) (race : Race) 
   numbers = numbers_tell script capture race l
 
   few_each : Each DoesFew (steps_of race)
-  few_each = flat_each DoesFew race.sections (each_weaken (Each (StepTold sections)) (Each DoesFew) race.sections (λ steps h. each_weaken (StepTold sections) DoesFew steps (λ s t. t.few) h) steps_are_told)
+  few_each = each_flat DoesFew (λ steps. steps) race.sections (each_weaken (Each (StepTold sections)) (Each DoesFew) race.sections (λ steps h. each_weaken (StepTold sections) DoesFew steps (λ s t. t.few) h) steps_are_told)
 
   short : Each IsShort race.sections
   short = all_short script.header In 1 sections race.sections l.sections st.small.commands
@@ -231,7 +221,7 @@ module _ (input : List ℕ) (script : Script) (capture : Capture) (race : Race) 
   distinct = begin_apart race.book numbers.distinct
 
   lists_told : Each (Each (StepLists sections)) race.sections
-  lists_told = sections_list sections race clock_fits distinct (omega (arith, clock_fits, numbers.count)) cards race.sections l.spans (each_flat (Lists race) race.sections l.dumps)
+  lists_told = sections_list sections race clock_fits distinct (omega (arith, clock_fits, numbers.count)) cards race.sections l.spans (each_unflat (Lists race) (λ steps. steps) race.sections l.dumps)
 
   fine : Each (Each (IsFine sections)) race.sections
   fine = all_fine sections race.sections steps_are_told (all_each script.header In RaceCommand 1 sections race.sections l.sections st.commands) lists_told

@@ -69,5 +69,6 @@ SaysYes (Err (ends.BadLine n)) = ⊥
 -- so it is of whatever text is written for an input of 16 MiB at most
 abbrev pub WrittenPasses : Type 0
 WrittenPasses =
-    (lookers passes : ℕ) (input out : List ℕ) → lookers < 2 ^ 64 → passes < 2 ^ 64 → AreBytes input → length input ≤ 2 ^ 24
+    (lookers passes : ℕ) (input out : List ℕ) → lookers < 2 ^ 64 → passes < 2 ^ 64 → AreBytes input
+    → length input ≤ 2 ^ 24
     → RaceOut lookers passes input out → (answer : Result Verdict ReadEnd) → IsAnswer out answer → SaysYes answer

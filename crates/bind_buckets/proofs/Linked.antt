@@ -297,28 +297,6 @@ pub record AreRelinked (old new : List Place) (homes : List Ends) (count : ℕ) 
   pub keys : keys_in new ≡ keys_in old
   pub some : 0 < length homes
 
--- none is linked, where each home is empty
-pub none_linked : (places : List Place) (homes : List Ends) → ((h : ℕ) → home_at homes h ≡ no_ends) → AreLinked places homes 0
-none_linked places homes empty =
-    record {
-      oldest_is = λ h lt.
-          rw (empty h)
-          (record {
-            reaches = omega arith;
-            within = λ place e. absurd (cc);
-            passes = λ place d e. absurd (cc);
-            fails = λ j d above below. absurd (omega arith);
-          });
-      newest_is = λ h lt.
-          rw (empty h)
-          (record {
-            within = λ place e. absurd (cc);
-            passes = λ place d e. absurd (cc);
-            fails = λ j d above below. absurd (omega arith);
-          });
-      newer_is = λ place lt. absurd (omega arith);
-    }
-
 pub same_in_homes : (places places' : List Place) (homes homes' : List Ends) (capacity : ℕ) → places' ≡ places → homes' ≡ homes → 0 < length homes → AreLinked places homes (length places) → length places ≤ most_places → AreInHomes places' homes' capacity
 same_in_homes places places' homes homes' capacity p q some linked fits =
     rw (p, q) (record { linked = linked; some = λ has. some; fits = fits })

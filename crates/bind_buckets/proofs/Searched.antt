@@ -80,10 +80,6 @@ pub record IsSearched (asked : Asked) (but : Option ℕ) (one : ℕ) (other : Op
   pub far_is : IsFirstIn (is_other other) keys from (length keys) far
   pub failed : (j : ℕ) (d : Slot) → j < from → has asked (get_or (beside but slots) j d) ≡ false
 
-pub searched_first : (asked : Asked) (but : Option ℕ) (one : ℕ) (other : Option ℕ) (keys : List ℕ) (slots : List Slot) (near far : Option ℕ) → IsFirstIn (is_other (Some one)) keys 0 (length keys) near → IsFirstIn (is_other other) keys 0 (length keys) far → IsSearched asked but one other keys slots near far
-searched_first asked but one other keys slots near far near_is far_is =
-    record { from = 0; near_is = near_is; far_is = far_is; failed = λ j d below. absurd (omega arith) }
-
 -- a place of that key, where one is named
 after_other : (other : Option ℕ) (keys : List ℕ) (from : ℕ) (at : Option ℕ) → IsFirstIn (is_other other) keys from (length keys) at → IsAfterOther other at keys
 after_other None keys from None first = refl

@@ -1,5 +1,5 @@
 -- A bucket is sound after each allowed call.
-use Rattle.std.proofs.Common.{◌≡◌, ℕ, Option, None, Some, find, [], ◌∷◌, ◌++◌, refl, sym, ◌∙◌, ap}
+use Rattle.std.proofs.Common.{◌≡◌, ℕ, Option, None, Some, [], ◌∷◌, ◌++◌, refl, sym, ◌∙◌, ap}
 use Rattle.std.proofs.lemmas.List.{map-append}
 use Rattle.std.specs.Option.{IfSome}
 use Rattle.sock_card.specs.declared.owner.Owner.{Owner}
@@ -7,9 +7,9 @@ use Rattle.sock_card.specs.declared.owner.State.TheVariants as states
 use Rattle.bind_buckets.specs.declared.request.Request.{Request}
 use Rattle.bind_buckets.specs.declared.request.Request.TheVariants as requests
 use Rattle.bind_buckets.specs.declared.request.Entry.{Entry}
-use Rattle.bind_buckets.specs.OwnerStep.{owner_step, empty, has_name}
+use Rattle.bind_buckets.specs.OwnerStep.{owner_step, empty}
 use Rattle.bind_buckets.specs.Journal.{OwnersAgree}
-use Rattle.bind_buckets.specs.HeldBy.{CanBeAt, CanCarryOut}
+use Rattle.bind_buckets.specs.HeldBy.{CanBeAt}
 use Rattle.bind_buckets.specs.Bucket.{Bucket, IsAllowed, IsSound, StandsAt, called, step_of, entry_of, entries_of}
 use Rattle.bind_buckets.proofs.Journals.{replayed_push, legal_push}
 use Rattle.bind_buckets.proofs.StaysAgreed.{step_agrees, step_keys}
@@ -37,16 +37,3 @@ sound_called b request s allowed =
 bound_there : (local : ℕ) (bound : Option Owner) → IfSome bound (StandsAt states.Bound local) → CanBeAt local bound
 bound_there local None at = tt
 bound_there local (Some a) at = at.addr
-
-pub can_carry_out : (b : Bucket) (request : Request) → IsAllowed b request → CanCarryOut b.number b.held request
-can_carry_out b (requests.Bind a) h = tt
-can_carry_out b (requests.BindAuto a) h = tt
-can_carry_out b (requests.MayListen name) h = tt
-can_carry_out b (requests.Listen name slot) h = h
-can_carry_out b (requests.Free port net) h = tt
-can_carry_out b (requests.ConnectAuto a) h = tt
-can_carry_out b (requests.ConnectBound name local remote rport) h = bound_there local (find (has_name name) b.held.owners) h
-can_carry_out b (requests.Inherit parent name local remote rport) h = tt
-can_carry_out b (requests.ToTimeWait name) h = tt
-can_carry_out b (requests.Remove name) h = tt
-can_carry_out b (requests.RemoveWaiting name) h = tt

@@ -53,12 +53,14 @@ abbrev pub OwnAreTold : Type 0
 OwnAreTold =
     (t : Hash) (p : Pass) (turn : Out) (mine : ℕ → Bool) → IsOut t p turn → IsSound turn.value.value
     → AreOwn (words.caller p) mine → AllKeepOpen mine (own_of p turn)
-    → filter (is_mine mine) turn.value.value.held.owners ≡ told_from [] (filter (is_told mine) (entries_of (own_of p turn)))
+    → filter (is_mine mine) turn.value.value.held.owners
+    ≡ told_from [] (filter (is_told mine) (entries_of (own_of p turn)))
 
 -- and so is the first owner of each of these names
 abbrev pub FirstOwnIsTold : Type 0
 FirstOwnIsTold =
-    (t : Hash) (p : Pass) (turn : Out) (mine : ℕ → Bool) (name : ℕ) → mine name ≡ true → IsOut t p turn → IsSound turn.value.value
+    (t : Hash) (p : Pass) (turn : Out) (mine : ℕ → Bool) (name : ℕ) → mine name ≡ true → IsOut t p turn
+    → IsSound turn.value.value
     → AreOwn (words.caller p) mine → AllKeepOpen mine (own_of p turn)
     → find (has_name name) turn.value.value.held.owners
     ≡ find (has_name name) (told_from [] (filter (is_told mine) (entries_of (own_of p turn))))
@@ -95,7 +97,8 @@ is_named_as a name = name == a.name
 -- an owner of a new name that was taken in stands
 abbrev pub OwnComes : Type 0
 OwnComes =
-    (a : Owner) (place : ℕ) (request : Request) (v w : View) → OneAsked place request answers.Done v w → Brings a request
+    (a : Owner) (place : ℕ) (request : Request) (v w : View) → OneAsked place request answers.Done v w
+    → Brings a request
     → is_time_wait a.state ≡ false → MayName v.caller a.name
     → Each (λ (x : Note). is_told (is_named_as a) x.entry ≡ false) (own_given place v)
     → StandsOwn a place w

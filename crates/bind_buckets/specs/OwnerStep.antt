@@ -85,7 +85,8 @@ group_number number place = group_places * number + place
 abbrev pub group_answer : ℕ → Held → Option ℕ → Answer
 group_answer number h None = answers.GroupsFull
 group_answer number h (Some place) =
-    if nat_lt (length (members_at h place)) group_room then answers.Group (Some (group_number number place)) else answers.GroupFull
+    if nat_lt (length (members_at h place)) group_room then answers.Group
+    (Some (group_number number place)) else answers.GroupFull
 
 -- the answer to a listener that none refuses, or one does
 abbrev pub listener_answer : ℕ → Held → Owner → Option Owner → Answer
@@ -107,7 +108,10 @@ with_member (Some place) m groups = slice_set groups place (joined_by m (slice_i
 
 abbrev pub changed : Held → ℕ → (Owner → Owner) → List (List ℕ) → After
 changed h name change groups =
-    record { held = record { owners = change_first (has_name name) change h.owners; groups = groups }; answer = answers.Done }
+    record {
+      held = record { owners = change_first (has_name name) change h.owners; groups = groups };
+      answer = answers.Done;
+    }
 
 abbrev pub listening : Held → ℕ → ℕ → Owner → After
 listening h name slot a =

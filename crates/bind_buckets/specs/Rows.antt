@@ -62,18 +62,21 @@ beside_child reuseaddr =
 abbrev pub KeepsChildsPort : Type 0
 KeepsChildsPort =
     answers_from 0 empty (beside_child false)
-    ≡ answers.Done ∷ answers.Group None ∷ answers.Done ∷ answers.Done ∷ answers.Done ∷ answers.InUse 2 ∷ answers.Strange 3 ∷ []
+    ≡ answers.Done ∷ answers.Group None ∷ answers.Done ∷ answers.Done ∷ answers.Done ∷ answers.InUse 2
+    ∷ answers.Strange 3 ∷ []
 
 abbrev pub SharesChildsAddress : Type 0
 SharesChildsAddress =
     answers_from 0 empty (beside_child true)
-    ≡ answers.Done ∷ answers.Group None ∷ answers.Done ∷ answers.Done ∷ answers.Done ∷ answers.Done ∷ answers.Group None ∷ []
+    ≡ answers.Done ∷ answers.Group None ∷ answers.Done ∷ answers.Done ∷ answers.Done ∷ answers.Done
+    ∷ answers.Group None ∷ []
 
 -- two listeners that share an address by `reuseaddr` alone
 abbrev pub OneListens : Type 0
 OneListens =
     answers_from 0 empty
-    (takes 1 1 true false ∷ takes 2 1 true false ∷ requests.Listen 1 7 ∷ requests.MayListen 2 ∷ takes 3 1 true false ∷ [])
+    (takes 1 1 true false ∷ takes 2 1 true false ∷ requests.Listen 1 7 ∷ requests.MayListen 2 ∷ takes 3 1 true false
+    ∷ [])
     ≡ answers.Done ∷ answers.Done ∷ answers.Done ∷ answers.InUse 1 ∷ answers.InUse 1 ∷ []
 
 -- a search for a port honours no option, and `connect` shares no port that `bind` took

@@ -75,6 +75,7 @@ abbrev pub is_made : List Tally → Bool
 is_made tallies = not (nat_lt (length tallies) 256)
 
 -- the tallies are of these owners, by their places and marks
-pub record IsTallyOf (place_of : Owner → ℕ) (has_mark : Owner → Bool) (tallies : List Tally) (owners : List Owner) : Type 0 where
+pub record IsTallyOf (place_of : Owner → ℕ) (has_mark : Owner → Bool) (tallies : List Tally)
+    (owners : List Owner) : Type 0 where
   pub made : 0 < length owners → AreMade tallies
   pub counts : (place : ℕ) → Counts (has_place place_of place) has_mark (tally_at tallies place) owners

@@ -90,7 +90,8 @@ pub record IsOut (t : Hash) (p : Pass) (turn : Out) : Type 0 where
   pub knows : KnowsAll (words.places t) (known p)
   pub who : MayCall (words.home t) (words.caller p)
   pub from : Each (λ (x : Note). MayCall (words.home t) x.caller) turn.value.value.journal
-  pub own : by_caller (words.caller p) (words.found p) ≡ by_caller (words.caller p) (notes_at turn.place (words.given p))
+  pub own : by_caller (words.caller p) (words.found p)
+      ≡ by_caller (words.caller p) (notes_at turn.place (words.given p))
   pub all : IsAlone (known p) → words.found p ≡ notes_at turn.place (words.given p)
 
 -- a pass had no turn, and now has one in which it drew numbers
@@ -115,11 +116,13 @@ pub record Gave (v w : View) (new : List (Placed Entry)) : Type 0 where
   pub fresh : Each (λ (x : Placed Entry). v.seen ≤ number_of x) new
 
 -- a bucket that is out was asked so, and answered: its pass drew a number for that
-pub record Asks (t : Hash) (p : Pass) (turn : Out) (q : Pass) (after : Out) (request : Request) (answer : Answer) : Type 0 where
+pub record Asks (t : Hash) (p : Pass) (turn : Out) (q : Pass) (after : Out) (request : Request)
+    (answer : Answer) : Type 0 where
   pub out : IsOut t q after
   pub place : after.place ≡ turn.place
   pub value : after.value.value ≡ called (record turn.value.value { next = after.value.value.next }) request
-  pub made_is : entries_of (made q after) ≡ entries_of (made p turn) ++ record { request = request; answer = answer } ∷ []
+  pub made_is :
+      entries_of (made q after) ≡ entries_of (made p turn) ++ record { request = request; answer = answer } ∷ []
   pub draws : words.draws q ≡ words.draws p + 1
   pub caller : words.caller q ≡ words.caller p
   pub within : (v : View) → Within v (known p) → Within v (known q)

@@ -249,7 +249,8 @@ impl OwnerCounts {
     /// Where its address and 0.0.0.0 have one place, the tally there still counts it.
     pub fn no_other_refuses(&self, owner: &Owner) -> bool
         ensures alone { (port_tally self.now owner.now.port).owners ≡ 1 → result ≡ true }
-        ensures alone_there { spec.has_ends self.now ≡ true → (end_tally self.now owner.now.port owner.now.addr).owners ≡ 1
+        ensures alone_there { spec.has_ends self.now ≡ true
+            → (end_tally self.now owner.now.port owner.now.addr).owners ≡ 1
             → (end_tally self.now owner.now.port 0).owners ≡ 0 → (owner.now.addr ≡ 0 → ⊥) → result ≡ true }
         ensures none { result ≡ true → (is : Owner → Bool) (owners : List Owner) → find is owners ≡ Some owner.now
             → IsCountOf self.now owners → find (conflict_spec.refuses owner.now) (drop_first is owners) ≡ None }

@@ -89,7 +89,8 @@ impl Held {
 
     fn free(&self, port: u16, net: u8) -> Answer
         ensures { IsStep
-            (spec.kept (held_by self.now) (spec.free_answer (find (conflict_spec.holds port net) self.now.owners.owners)))
+            (spec.kept (held_by self.now)
+            (spec.free_answer (find (conflict_spec.holds port net) self.now.owners.owners)))
             self.now result }
     {
         match self.owners.holder(port, net) {
@@ -193,7 +194,8 @@ impl Held {
     }
 
     fn listen(&mut self, number: u32, name: u32, slot: u32) -> Answer
-        requires { IsGroup (spec.named (held_by self.old) name (spec.may_listen number (held_by self.old) name)).answer }
+        requires { IsGroup (spec.named (held_by self.old) name
+            (spec.may_listen number (held_by self.old) name)).answer }
         ensures step { IsStep
             (spec.named (held_by self.old) name (spec.listening (held_by self.old) name slot))
             self.new result }

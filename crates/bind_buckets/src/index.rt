@@ -146,7 +146,12 @@ impl Index {
 
     /// Forgets all slots, and keeps their room.
     pub fn clear(&mut self)
-        ensures { self.new ≡ record { names = []; ports = []; ends = []; room = self.old.room + length self.old.names } }
+        ensures { self.new ≡ record {
+          names = [];
+          ports = [];
+          ends = [];
+          room = self.old.room + length self.old.names;
+        } }
     {
         self.room += self.names.len();
         self.names.clear();

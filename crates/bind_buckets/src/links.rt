@@ -45,7 +45,10 @@ impl Model for Links {
 
     ghost Value = { Keyed };
 
-    ghost view = { λ l. record { keys = keys_in l.places.items; room = room_in (vec_capacity l.places) (vec_len l.places) } };
+    ghost view = { λ l. record {
+      keys = keys_in l.places.items;
+      room = room_in (vec_capacity l.places) (vec_len l.places);
+    } };
 
     ghost invariant = { λ l. AreInHomes l.places.items l.homes.items (vec_capacity l.places) };
 }

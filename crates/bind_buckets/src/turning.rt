@@ -136,7 +136,8 @@ fn ask_one(
     requires room { HasRoom turn.old.value.value request }
     ensures out { IsOut turns.now pass.new turn.new }
     ensures place { turn.new.place ≡ turn.old.place }
-    ensures after { turn.new.value.value ≡ called (record turn.old.value.value { next = turn.new.value.value.next }) request }
+    ensures after { turn.new.value.value
+        ≡ called (record turn.old.value.value { next = turn.new.value.value.next }) request }
     ensures answer { result ≡ answer_to turn.old.value.value request }
     ensures made { entries_of (made pass.new turn.new)
         ≡ entries_of (made pass.old turn.old) ++ record { request = request; answer = result } ∷ [] }
@@ -258,7 +259,8 @@ pub fn remove_waiting(
     requires out { IsOut turns.now pass.old turn.old }
     requires few { words.draws pass.old < 2 ^ 48 }
     requires entry { 1 ≤ turn.old.value.value.entries }
-    ensures asks { Asks turns.now pass.old turn.old pass.new turn.new (Request.RemoveWaiting name) (answer_of_name result) }
+    ensures asks { Asks turns.now pass.old turn.old pass.new turn.new (Request.RemoveWaiting name)
+        (answer_of_name result) }
 {
     name_result(ask(turns, pass, turn, Request::RemoveWaiting { name }))
 }
@@ -274,7 +276,8 @@ pub fn may_listen(
     requires few { words.draws pass.old < 2 ^ 48 }
     requires may { MayName (words.caller pass.old) name }
     requires entry { 1 ≤ turn.old.value.value.entries }
-    ensures asks { Asks turns.now pass.old turn.old pass.new turn.new (Request.MayListen name) (answer_of_listen result) }
+    ensures asks { Asks turns.now pass.old turn.old pass.new turn.new (Request.MayListen name)
+        (answer_of_listen result) }
     ensures free { OnOk result (CanListen turn.new.value.value name) }
     ensures entries { turn.new.value.value.entries + 1 ≡ turn.old.value.value.entries }
     ensures newcomers { turn.new.value.value.newcomers ≡ turn.old.value.value.newcomers }
@@ -317,7 +320,8 @@ pub fn connect_bound(
     requires may { MayName (words.caller pass.old) name }
     requires entry { 1 ≤ turn.old.value.value.entries }
     requires bound { NamesOne State.Bound local name turn.old.value.value }
-    ensures asks { Asks turns.now pass.old turn.old pass.new turn.new (Request.ConnectBound name local remote rport) (answer_of_name result) }
+    ensures asks { Asks turns.now pass.old turn.old pass.new turn.new (Request.ConnectBound name local remote rport)
+        (answer_of_name result) }
     ensures strange { KnowsOrSays name turn.old.value.value.held.owners result }
     ensures entries { turn.new.value.value.entries + 1 ≡ turn.old.value.value.entries }
     ensures newcomers { turn.new.value.value.newcomers ≡ turn.old.value.value.newcomers }
@@ -349,7 +353,8 @@ pub fn inherit(
     requires entry { 1 ≤ turn.old.value.value.entries }
     requires newcomer { 1 ≤ turn.old.value.value.newcomers }
     requires listening { NamesOne State.Listening local parent turn.old.value.value }
-    ensures asks { Asks turns.now pass.old turn.old pass.new turn.new (Request.Inherit parent name local remote rport) (answer_of_name result) }
+    ensures asks { Asks turns.now pass.old turn.old pass.new turn.new (Request.Inherit parent name local remote rport)
+        (answer_of_name result) }
     ensures strange { KnowsOrSays parent turn.old.value.value.held.owners result }
     ensures entries { turn.new.value.value.entries + 1 ≡ turn.old.value.value.entries }
     ensures newcomers { TakesIfOk result turn.old.value.value.newcomers turn.new.value.value.newcomers }
@@ -375,7 +380,8 @@ pub fn to_time_wait(
     requires few { words.draws pass.old < 2 ^ 48 }
     requires may { MayName (words.caller pass.old) name }
     requires entry { 1 ≤ turn.old.value.value.entries }
-    ensures asks { Asks turns.now pass.old turn.old pass.new turn.new (Request.ToTimeWait name) (answer_of_name result) }
+    ensures asks { Asks turns.now pass.old turn.old pass.new turn.new (Request.ToTimeWait name)
+        (answer_of_name result) }
     ensures strange { KnowsOrSays name turn.old.value.value.held.owners result }
     ensures entries { turn.new.value.value.entries + 1 ≡ turn.old.value.value.entries }
     ensures newcomers { turn.new.value.value.newcomers ≡ turn.old.value.value.newcomers }

@@ -3,7 +3,7 @@ use Rattle.std.proofs.Common.{◌≡◌, ℕ, ◌≤◌, IsTrue, IfOk, Result, O
 use Rattle.std.proofs.lemmas.List.{take_all}
 use Rattle.std.specs.declared.alloc.AllocError.{AllocError}
 use Rattle.std.specs.List.{flat_map}
-use Rattle.std.proofs.lemmas.Bool.{true≢false, ltb-true, le-ltb, eqb-true, false_from_ne_true}
+use Rattle.std.proofs.lemmas.Bool.{true≢false, ltb-true, le-ltb, eqb-true, false_from_ne_true, or_cases}
 use Rattle.list_words.specs.Lists.{Each, Pairs}
 use Rattle.list_words.proofs.EachLemmas.{each_both}
 use Rattle.list_words.proofs.PairsLemmas.{pairs_weaken}
@@ -12,7 +12,8 @@ use Rattle.sock_card.specs.declared.words.CardWords.{CardWords}
 use Rattle.sock_card.specs.Tuples.{tuple_of}
 use Rattle.sock_card.proofs.Tuples.{PartsAgree, parts_agree}
 use Rattle.chain_book.specs.Tuples.{same_cards, is_full_kind}
-use Rattle.race_book.proofs.Checks.{or_cases, and_left, and_right}
+use Rattle.race_book.proofs.Checks.{and_left, and_right}
+use Rattle.race_book.proofs.Joined.{each_front, each_back, pairs_across, pairs_back}
 use Rattle.book_audit.specs.declared.printed.Span.{Span}
 use Rattle.book_audit.specs.declared.printed.PrintedLife.{PrintedLife}
 use Rattle.book_audit.specs.declared.stays.Stay.{Stay}
@@ -20,7 +21,6 @@ use Rattle.book_audit.specs.declared.clashes.Clash.{Clash}
 use Rattle.book_audit.specs.declared.clashes.Clash.TheVariants as clashes
 use Rattle.book_audit.specs.Lines.{NoTwo, passes, some_span, share, shares_number, meet, overlap, is_out, share_slot, begins_after, comes_in_time, are_full, are_twins}
 use Rattle.book_audit.specs.Stays.{is_below, runs_into, NoneRunsInto, clash_of, stay_at, stay_in, span_stays, unhash_stays, begin_of, tuple_words, slot_stay, tuple_stay, stays_of}
-use Rattle.book_audit.proofs.Prefixes.{each_front, each_back, pairs_across, pairs_back}
 use Rattle.book_audit.proofs.Order.{Runs, into}
 
 module _ {A B : Type 0} where

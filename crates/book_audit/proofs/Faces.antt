@@ -1,8 +1,8 @@
 -- What marks tell of the lives that match a packet.
-use Rattle.std.proofs.Common.{◌≡◌, ℕ, ◌+◌, ◌<◌, ◌≤◌, ◌==◌, ◌&&◌, ◌||◌, not, nat_lt, nat_le, Bool, true, false, IsTrue, IfOk, Result, Ok, Err, List, [], ◌∷◌, ◌++◌, map, take, length, get_or, if◌then◌else◌, Option, None, Some, refl, sym, ◌∙◌, subst, arith, ◌⊎◌, inl, inr}
+use Rattle.std.proofs.Common.{◌≡◌, ℕ, ◌+◌, ◌<◌, ◌≤◌, ◌==◌, ◌&&◌, ◌||◌, not, nat_lt, nat_le, Bool, true, false, IsTrue, List, [], ◌∷◌, ◌++◌, map, take, length, get_or, if◌then◌else◌, Option, None, Some, refl, sym, ◌∙◌, subst, arith, ◌⊎◌, inl, inr}
 use Rattle.std.specs.List.Sorted.{IsPermutation}
 use Rattle.std.proofs.lemmas.List.{take_more}
-use Rattle.std.proofs.lemmas.Bool.{true≢false, ltb-true, lt-ltb, leb-true, eqb-true, eq-eqb, false_from_ne_true}
+use Rattle.std.proofs.lemmas.Bool.{true≢false, ltb-true, lt-ltb, leb-true, eqb-true, eq-eqb, false_from_ne_true, or_cases, not-true}
 use Rattle.list_words.specs.Lists.{Each}
 use Rattle.list_words.proofs.EachLemmas.{each_weaken, each_push}
 use Rattle.sock_card.specs.declared.card.Card.{Card}
@@ -15,7 +15,7 @@ use Rattle.sock_card.proofs.Tuples.{PartsAgree, parts_agree}
 use Rattle.race_book.proofs.AmongLemmas.{among_left, among_right}
 use Rattle.race_book.proofs.Endings.{each_of, to_each}
 use Rattle.race_book.proofs.Listing.{among_permuted}
-use Rattle.race_book.proofs.Checks.{or_cases, and_left, and_right, not_true}
+use Rattle.race_book.proofs.Checks.{and_left, and_right, Passing, any_is}
 use Rattle.book_audit.specs.declared.printed.Span.{Span}
 use Rattle.book_audit.specs.declared.printed.PrintedLife.{PrintedLife}
 use Rattle.book_audit.specs.declared.printed.PrintedLook.{PrintedLook}
@@ -25,7 +25,6 @@ use Rattle.book_audit.specs.Lines.{passes, is_out}
 use Rattle.book_audit.specs.Stays.{is_below, begin_of}
 use Rattle.book_audit.specs.Tried.{was_throughout, beats, is_beaten}
 use Rattle.book_audit.specs.Index.{face_as, connected_face, listening_face, mark, outlasts, StandsFor, IsMarked, AreOrdered, AreMarked, IsIndex, GoneAt, RulesOut}
-use Rattle.book_audit.proofs.Looked.{Passing, any_is}
 
 module _ (stays : List Stay) (look : PrintedLook) (least : ℕ) (low : 0 < least) where
   abbrev P : Packet
@@ -120,7 +119,7 @@ module _ (stays : List Stay) (look : PrintedLook) (least : ℕ) (low : 0 < least
       let gone : is_below s.until look.t1 ≡ true =
       r l.card (leb-true least (rank l.card look.packet) (and_left a was b)) s m.there m.stands.place m.stands.part f in
       let out : is_out l look.t1 ≡ true = out_of l.unhash look.t1 (below_by look.t1 s.until (begin_of l.unhash) m.stands.until gone) in
-      true≢false (sym out ∙ not_true (is_out l look.t1) (and_right before (not (is_out l look.t1)) w))
+      true≢false (sym out ∙ not-true (is_out l look.t1) (and_right before (not (is_out l look.t1)) w))
 
   pub unbeaten : RulesOut stays look least → (lives : List PrintedLife) → AreMarked stays lives → is_beaten lives look least ≡ false
   unbeaten r lives m = false_from_ne_true (is_beaten lives look least) (λ e.
@@ -145,10 +144,6 @@ pub marks_of : (lives : List PrintedLife) (ms sorted raised : List Stay) → ms 
 marks_of lives ms sorted raised is p e = each_unmap (IsMarked raised) mark lives
     (subst (λ xs. Each (IsMarked raised) xs) is
     (to_each (IsMarked raised) ms (λ s a. each_of (IsMarked raised) sorted e s (among_permuted ms sorted p s a))))
-
-pub if_ok : {T E : Type 0} (P Q : T → Type 0) (r : Result T E) → ((x : T) → P x → Q x) → IfOk r P → IfOk r Q
-if_ok P Q (Ok x) f p = f x p
-if_ok P Q (Err e) f p = p
 
 -- six tests that are passed together
 pub record Six (a b c d e f : Bool) : Type 0 where

@@ -1,6 +1,6 @@
 -- The book of some lives: whose its changes are, and what ends the lives.
 use Rattle.std.proofs.Common.{◌≡◌, ℕ, ◌<◌, ◌≤◌, ◌==◌, ◌&&◌, not, nat_lt, Bool, true, false, List, [], ◌∷◌, Option, None, Some, refl, sym, ap, ◌∙◌, subst, arith, ◌⊎◌, inl, inr}
-use Rattle.std.proofs.lemmas.Bool.{true≢false, ltb-true, lt-ltb, eqb-true, eq-eqb}
+use Rattle.std.proofs.lemmas.Bool.{true≢false, ltb-true, lt-ltb, eqb-true, eq-eqb, and_from}
 use Rattle.list_words.specs.Lists.{Pairs}
 use Rattle.list_words.proofs.EachLemmas.{some_same}
 use Rattle.list_words.proofs.PairsLemmas.{pairs_weaken}
@@ -10,7 +10,7 @@ use Rattle.race_book.specs.Among.{Among}
 use Rattle.race_book.specs.Lives.{IsLife, Ends, comes_after, is_hash}
 use Rattle.race_book.proofs.AmongLemmas.{among_either, among_left, among_right}
 use Rattle.race_book.proofs.Endings.{each_of}
-use Rattle.race_book.proofs.Checks.{and_left, and_right, and_both}
+use Rattle.race_book.proofs.Checks.{and_left, and_right}
 use Rattle.book_audit.specs.declared.printed.Span.{Span}
 use Rattle.book_audit.specs.declared.printed.PrintedLife.{PrintedLife}
 use Rattle.book_audit.specs.Book.{hash_of, unhash_of, with_unhash, changes_of, book_of}
@@ -20,6 +20,16 @@ use Rattle.book_audit.specs.Lines.{NoTwo, AreStamped, passes, is_span, ends_afte
 pub data IsOf (l : PrintedLife) (c : Change) : Type 0 where
   by_hash : c ≡ hash_of l → IsOf l c
   by_unhash : (s : Span) → l.unhash ≡ Some s → c ≡ unhash_of l s → IsOf l c
+
+pub slot_of : (l : PrintedLife) (c : Change) → IsOf l c → c.slot ≡ l.slot
+slot_of l c (by_hash p) = ap (λ (x : Change). x.slot) p
+slot_of l c (by_unhash s f p) = ap (λ (x : Change). x.slot) p
+
+abbrev pub span_of : Change → Span
+span_of c = record { begin = c.begin; end = c.end }
+
+pub passes_not : (test : Span → Bool) (o : Option Span) (s : Span) → o ≡ Some s → passes test o ≡ false → test s ≡ false
+passes_not test o s e f = subst (λ x. passes test x ≡ false) e f
 
 pub record Whose (lives : List PrintedLife) (c : Change) : Type 0 where
   pub life : PrintedLife
@@ -186,7 +196,7 @@ module _ (clock : ℕ) (lives : List PrintedLife) (stamped : AreStamped clock li
   pub ends_there : (l : PrintedLife) → Among lives l → (s : Span) → l.unhash ≡ Some s → Ends Book (hash_of l) (unhash_of l s)
   ends_there l a s e = record {
     there = unhash_there lives l a s e;
-    after = and_both (l.slot == l.slot) (nat_lt l.hash.end s.begin) (eq-eqb l.slot l.slot refl) (lt-ltb l.hash.end s.begin (unhash_ascends clock l (ascending l a) s e).after);
+    after = and_from (l.slot == l.slot) (nat_lt l.hash.end s.begin) (eq-eqb l.slot l.slot refl) (lt-ltb l.hash.end s.begin (unhash_ascends clock l (ascending l a) s e).after);
     first = λ c b t. let f : EndedBy l c = ended l a c b t in
         omega (arith, f.first, ap (λ (x : Span). x.begin) (some_same f.unhash s (sym f.is ∙ e)));
   }

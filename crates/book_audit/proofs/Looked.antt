@@ -1,7 +1,7 @@
 -- What the judge tries of a lookup is what race_book asks of it.
 use Rattle.std.proofs.Common.{◌≡◌, ℕ, ◌+◌, ◌≤◌, ◌==◌, ◌&&◌, ◌||◌, not, nat_lt, nat_le, Bool, true, false, List, [], ◌∷◌, Option, None, Some, refl, sym, ap, ◌∙◌, subst, arith, inl, inr}
 use Rattle.std.specs.List.{list_any}
-use Rattle.std.proofs.lemmas.Bool.{true≢false, ltb-true, ltb-false, lt-ltb, le-ltb, leb-true, le-leb, eqb-true, eq-eqb, or_left, or_right, false_from_ne_true}
+use Rattle.std.proofs.lemmas.Bool.{true≢false, ltb-true, ltb-false, lt-ltb, le-ltb, leb-true, le-leb, eqb-true, eq-eqb, or_left, or_right, false_from_ne_true, or_cases, and_from, not-true, not_from_false}
 use Rattle.sock_card.specs.declared.card.Card.{Card}
 use Rattle.sock_card.specs.declared.card.Kind.{Kind}
 use Rattle.sock_card.specs.Kinds.{same_kind}
@@ -16,7 +16,7 @@ use Rattle.race_book.specs.Among.{Among}
 use Rattle.race_book.specs.Lives.{IsHash, Ends, Throughout, Stood, Meets}
 use Rattle.race_book.specs.Explained.{NoneFrom, MayFind, MayEnd, MeetsSome, IsHashInto, IsOfSlot, IsAtHome, at_home, buckets_of, NamesItsBucket, IsExplained}
 use Rattle.race_book.proofs.Endings.{each_of}
-use Rattle.race_book.proofs.Checks.{or_cases, and_left, and_right, and_both, not_true, true_not}
+use Rattle.race_book.proofs.Checks.{and_left, and_right, Passing, any_is}
 use Rattle.book_audit.specs.declared.printed.Span.{Span}
 use Rattle.book_audit.specs.declared.printed.PrintedLife.{PrintedLife}
 use Rattle.book_audit.specs.declared.printed.PrintedEnd.{PrintedEnd}
@@ -30,20 +30,7 @@ use Rattle.book_audit.specs.Book.{hash_of, unhash_of, book_of}
 use Rattle.book_audit.specs.Lines.{NoTwo, AreStamped, AreHoused, passes, some_span, is_out, is_home, share_slot}
 use Rattle.book_audit.specs.Looks.{Tells, pass_end, receipt_of, IsLookExplained, IsLineExplained}
 use Rattle.book_audit.specs.Tried.{met, was_throughout, has_stood, beats, is_beaten, is_found, hashes_into, changes_in, hashes, may_end, is_bucket_of, explains, line_explained}
-use Rattle.book_audit.proofs.Lives.{IsOf, by_hash, by_unhash, Whose, whose, LifeOf, life_of, is_life, hash_there, unhash_there, OwnEnd, EndedBy, ended, ends_there, ends_only}
-
--- an item that passes a test
-pub record Passing {A : Type 0} (test : A → Bool) (xs : List A) : Type 0 where
-  pub which : A
-  pub there : Among xs which
-  pub passes : test which ≡ true
-
-pub any_is : {A : Type 0} (test : A → Bool) (xs : List A) → list_any test xs ≡ true → Passing test xs
-any_is test [] e = absurd (true≢false (sym e))
-any_is test (x ∷ xs) e = elim (or_cases (test x) (list_any test xs) e) as (λ _. Passing test (x ∷ xs)) [
-  | inl p ↦ record { which = x; there = inl refl; passes = p }
-  | inr q ↦ let s : Passing test xs = any_is test xs q in record { which = s.which; there = inr s.there; passes = s.passes }
-]
+use Rattle.book_audit.proofs.Lives.{IsOf, by_hash, by_unhash, Whose, whose, LifeOf, life_of, is_life, hash_there, unhash_there, OwnEnd, EndedBy, ended, ends_there, ends_only, slot_of, span_of, passes_not}
 
 pub any_if : {A : Type 0} (test : A → Bool) (xs : List A) (x : A) → Among xs x → test x ≡ true → list_any test xs ≡ true
 any_if test [] x a e = absurd a
@@ -53,15 +40,9 @@ any_if test (y ∷ ys) x (inr a) e = or_right (test y) (list_any test ys) (any_i
 passes_is : (test : Span → Bool) (o : Option Span) (s : Span) → o ≡ Some s → test s ≡ true → passes test o ≡ true
 passes_is test o s e p = subst (λ x. passes test x ≡ true) (sym e) p
 
-passes_not : (test : Span → Bool) (o : Option Span) (s : Span) → o ≡ Some s → passes test o ≡ false → test s ≡ false
-passes_not test o s e p = subst (λ x. passes test x ≡ false) e p
-
 none_passes : (test : Span → Bool) (l : PrintedLife) (o : Option Span) → l.unhash ≡ o → ((s : Span) → l.unhash ≡ Some s → test s ≡ false) → passes test o ≡ false
 none_passes test l None e f = refl
 none_passes test l (Some s) e f = f s e
-
-abbrev span_of : Change → Span
-span_of c = record { begin = c.begin; end = c.end }
 
 -- a change of a life that passes a test
 record ChangeOf (lives : List PrintedLife) (test : Span → Bool) (l : PrintedLife) : Type 0 where
@@ -86,10 +67,6 @@ change_passes test l c (by_hash p) e =
 change_passes test l c (by_unhash s f p) e =
     or_right (test l.hash) (passes test l.unhash) (passes_is test l.unhash s f (subst (λ x. test (span_of x) ≡ true) p e))
 
-slot_of : (l : PrintedLife) (c : Change) → IsOf l c → c.slot ≡ l.slot
-slot_of l c (by_hash p) = ap (λ (x : Change). x.slot) p
-slot_of l c (by_unhash s f p) = ap (λ (x : Change). x.slot) p
-
 met_is : (look : PrintedLook) (c : Change) → met look (span_of c) ≡ true → Meets c look.t0 look.t1
 met_is look c e = record {
   begun = ltb-true c.begin look.t1 (and_left (nat_lt c.begin look.t1) (nat_le look.t0 c.end) e);
@@ -97,7 +74,7 @@ met_is look c e = record {
 }
 
 met_back : (look : PrintedLook) (c : Change) → Meets c look.t0 look.t1 → met look (span_of c) ≡ true
-met_back look c m = and_both (nat_lt c.begin look.t1) (nat_le look.t0 c.end) (lt-ltb c.begin look.t1 m.begun) (le-leb look.t0 c.end m.lasting)
+met_back look c m = and_from (nat_lt c.begin look.t1) (nat_le look.t0 c.end) (lt-ltb c.begin look.t1 m.begun) (le-leb look.t0 c.end m.lasting)
 
 module _ (clock : ℕ) (shape : Shape) (seed : ℕ) (lives : List PrintedLife) (stamped : AreStamped clock lives) (slots : NoTwo share_slot lives) (housed : AreHoused shape seed lives) (look : PrintedLook) where
   abbrev Book : Change → Type 0
@@ -117,13 +94,13 @@ module _ (clock : ℕ) (shape : Shape) (seed : ℕ) (lives : List PrintedLife) (
           arith,
           f.first,
           ltb-false f.unhash.begin look.t1 (passes_not (λ s. nat_lt s.begin look.t1) l.unhash f.unhash f.is
-              (not_true (is_out l look.t1) (and_right (nat_lt l.hash.end look.t0) (not (is_out l look.t1)) e))),
+              (not-true (is_out l look.t1) (and_right (nat_lt l.hash.end look.t0) (not (is_out l look.t1)) e))),
         );
   }
 
   throughout_back : (l : PrintedLife) → Among lives l → There (hash_of l) → was_throughout look l ≡ true
-  throughout_back l a t = and_both (nat_lt l.hash.end look.t0) (not (is_out l look.t1)) (lt-ltb l.hash.end look.t0 t.before)
-      (true_not (is_out l look.t1) (none_passes (λ s. nat_lt s.begin look.t1) l l.unhash refl (λ s e.
+  throughout_back l a t = and_from (nat_lt l.hash.end look.t0) (not (is_out l look.t1)) (lt-ltb l.hash.end look.t0 t.before)
+      (not_from_false (is_out l look.t1) (none_passes (λ s. nat_lt s.begin look.t1) l l.unhash refl (λ s e.
       let f : Ends Book (hash_of l) (unhash_of l s) = ends_there clock lives stamped slots l a s e in
       le-ltb s.begin look.t1 (t.still (unhash_of l s) f.there f.after))))
 
@@ -135,14 +112,14 @@ module _ (clock : ℕ) (shape : Shape) (seed : ℕ) (lives : List PrintedLife) (
           arith,
           ap (λ (c : Change). c.end) g.same,
           ltb-false g.unhash.end look.t0 (passes_not (λ s. nat_lt s.end look.t0) l.unhash g.unhash g.is
-              (not_true gone (and_right (nat_lt l.hash.begin look.t1) (not gone) e))),
+              (not-true gone (and_right (nat_lt l.hash.begin look.t1) (not gone) e))),
         );
   }
 
   stood_back : (l : PrintedLife) → Among lives l → Stood Book (hash_of l) look.t0 look.t1 → has_stood look l ≡ true
   stood_back l a t = let gone : Bool = passes (λ s. nat_lt s.end look.t0) l.unhash in
-      and_both (nat_lt l.hash.begin look.t1) (not gone) (lt-ltb l.hash.begin look.t1 t.begun)
-      (true_not gone (none_passes (λ s. nat_lt s.end look.t0) l l.unhash refl (λ s e.
+      and_from (nat_lt l.hash.begin look.t1) (not gone) (lt-ltb l.hash.begin look.t1 t.begun)
+      (not_from_false gone (none_passes (λ s. nat_lt s.end look.t0) l l.unhash refl (λ s e.
       le-ltb s.end look.t0 (t.still (unhash_of l s) (ends_there clock lives stamped slots l a s e)))))
 
   abbrev None_from : ℕ → Type 0
@@ -151,7 +128,7 @@ module _ (clock : ℕ) (shape : Shape) (seed : ℕ) (lives : List PrintedLife) (
   none_by : (least : ℕ) → is_beaten lives look least ≡ false → (h : Change) → (w : LifeOf lives h) → least ≤ rank h.card look.packet → There h → ⊥
   none_by least e h w r t =
       let s = subst (λ (x : Change). There x) w.is t in
-      true≢false (sym (any_if (beats look least) lives w.life w.there (and_both (nat_le least (rank w.life.card look.packet)) (was_throughout look w.life)
+      true≢false (sym (any_if (beats look least) lives w.life w.there (and_from (nat_le least (rank w.life.card look.packet)) (was_throughout look w.life)
       (le-leb least (rank w.life.card look.packet) (subst (λ (x : Change). least ≤ rank x.card look.packet) w.is r)) (throughout_back w.life w.there s))) ∙ e)
 
   none_is : (least : ℕ) → is_beaten lives look least ≡ false → None_from least
@@ -188,7 +165,7 @@ module _ (clock : ℕ) (shape : Shape) (seed : ℕ) (lives : List PrintedLife) (
           same = refl;
           stood = stood_is l s.there (and_right (k && n) b p2);
           enough = leb-true 1 r (and_right (k && n && b) m p1);
-          best = none_is (r + 1) (not_true (is_beaten lives look (r + 1)) (and_right (k && n && b && m) o s.passes));
+          best = none_is (r + 1) (not-true (is_beaten lives look (r + 1)) (and_right (k && n && b && m) o s.passes));
         };
       }
 
@@ -199,15 +176,15 @@ module _ (clock : ℕ) (shape : Shape) (seed : ℕ) (lives : List PrintedLife) (
   found_by kind name card k n l a same stood f =
       let r : ℕ = rank l.card look.packet in
       any_if (is_found lives look kind name) lives l a
-      (and_both (same_kind l.card.kind kind && (l.card.name == name) && has_stood look l && nat_le 1 r) (not (is_beaten lives look (r + 1)))
-      (and_both (same_kind l.card.kind kind && (l.card.name == name) && has_stood look l) (nat_le 1 r)
-      (and_both (same_kind l.card.kind kind && (l.card.name == name)) (has_stood look l)
-      (and_both (same_kind l.card.kind kind) (l.card.name == name)
+      (and_from (same_kind l.card.kind kind && (l.card.name == name) && has_stood look l && nat_le 1 r) (not (is_beaten lives look (r + 1)))
+      (and_from (same_kind l.card.kind kind && (l.card.name == name) && has_stood look l) (nat_le 1 r)
+      (and_from (same_kind l.card.kind kind && (l.card.name == name)) (has_stood look l)
+      (and_from (same_kind l.card.kind kind) (l.card.name == name)
       (kinds_same l.card.kind kind (ap (λ (c : Card). c.kind) (sym same) ∙ k))
       (eq-eqb l.card.name name (ap (λ (c : Card). c.name) (sym same) ∙ n)))
       (stood_back l a stood))
       (le-leb 1 r (subst (λ (c : Card). 1 ≤ rank c look.packet) same f.enough)))
-      (true_not (is_beaten lives look (r + 1)) (none_back (r + 1) (subst (λ (c : Card). None_from (rank c look.packet + 1)) same f.best))))
+      (not_from_false (is_beaten lives look (r + 1)) (none_back (r + 1) (subst (λ (c : Card). None_from (rank c look.packet + 1)) same f.best))))
 
   found_back : (kind : Kind) (name : ℕ) (card : Card) → card.kind ≡ kind → card.name ≡ name → Find card → list_any (is_found lives look kind name) lives ≡ true
   found_back kind name card k n f =
@@ -227,7 +204,7 @@ module _ (clock : ℕ) (shape : Shape) (seed : ℕ) (lives : List PrintedLife) (
 
   into_by : (bucket : ℕ) (c : Change) → LifeOf lives c → c.bucket ≡ bucket → Meets c look.t0 look.t1 → list_any (hashes_into look bucket) lives ≡ true
   into_by bucket c w b m = any_if (hashes_into look bucket) lives w.life w.there
-      (and_both (w.life.bucket == bucket) (met look w.life.hash) (eq-eqb w.life.bucket bucket (ap (λ (x : Change). x.bucket) (sym w.is) ∙ b))
+      (and_from (w.life.bucket == bucket) (met look w.life.hash) (eq-eqb w.life.bucket bucket (ap (λ (x : Change). x.bucket) (sym w.is) ∙ b))
       (met_back look (hash_of w.life) (subst (λ (x : Change). Meets x look.t0 look.t1) w.is m)))
 
   into_back : (bucket : ℕ) → MeetsSome Book (IsHashInto bucket) look.t0 look.t1 → list_any (hashes_into look bucket) lives ≡ true
@@ -262,12 +239,12 @@ module _ (clock : ℕ) (shape : Shape) (seed : ℕ) (lives : List PrintedLife) (
   changed_back : (slot : ℕ) → MeetsSome Book (IsOfSlot slot) look.t0 look.t1 → list_any (changes_in look slot) lives ≡ true
   changed_back slot m = let w : Whose lives m.change = whose lives m.change m.there in
       any_if (changes_in look slot) lives w.life w.there
-      (and_both (w.life.slot == slot) (some_span (met look) w.life) (eq-eqb w.life.slot slot (sym (slot_of w.life m.change w.is) ∙ m.sort))
+      (and_from (w.life.slot == slot) (some_span (met look) w.life) (eq-eqb w.life.slot slot (sym (slot_of w.life m.change w.is) ∙ m.sort))
       (change_passes (met look) w.life m.change w.is (met_back look m.change m.meets)))
 
   end_is : (bucket : ℕ) (end : PrintedEnd) → may_end shape.slots lives look bucket end ≡ true → MayEnd Book shape.slots bucket look.t0 look.t1 (pass_end end)
   end_is bucket (ends.Foreign other) e = let any : Bool = list_any (hashes_into look other) lives in (
-    λ q. true≢false (sym (eq-eqb other bucket q) ∙ not_true (other == bucket) (and_left (not (other == bucket)) any e)),
+    λ q. true≢false (sym (eq-eqb other bucket q) ∙ not-true (other == bucket) (and_left (not (other == bucket)) any e)),
     into_is other (and_right (not (other == bucket)) any e),
   )
   end_is bucket (ends.Dead slot) e = changed_is slot e
@@ -276,12 +253,12 @@ module _ (clock : ℕ) (shape : Shape) (seed : ℕ) (lives : List PrintedLife) (
       (eqb-true n (shape.slots + 1) (and_left (n == shape.slots + 1) any e), hashed_is (and_right (n == shape.slots + 1) any e))
 
   end_back : (bucket : ℕ) (end : PrintedEnd) → MayEnd Book shape.slots bucket look.t0 look.t1 (pass_end end) → may_end shape.slots lives look bucket end ≡ true
-  end_back bucket (ends.Foreign other) m = and_both (not (other == bucket)) (list_any (hashes_into look other) lives)
-      (true_not (other == bucket) (false_from_ne_true (other == bucket) (λ q. m.0 (eqb-true other bucket q)))) (into_back other m.1)
+  end_back bucket (ends.Foreign other) m = and_from (not (other == bucket)) (list_any (hashes_into look other) lives)
+      (not_from_false (other == bucket) (false_from_ne_true (other == bucket) (λ q. m.0 (eqb-true other bucket q)))) (into_back other m.1)
   end_back bucket (ends.Dead slot) m = changed_back slot m
   end_back bucket (ends.Changed slot) m = changed_back slot m
   end_back bucket (ends.Long n) m =
-      and_both (n == shape.slots + 1) (list_any (hashes look) lives) (eq-eqb n (shape.slots + 1) m.0) (hashed_back m.1)
+      and_from (n == shape.slots + 1) (list_any (hashes look) lives) (eq-eqb n (shape.slots + 1) m.0) (hashed_back m.1)
 
   bucket_is : (bucket : ℕ) → is_bucket_of shape seed look.packet bucket ≡ true → Among (buckets_of shape seed look.packet) bucket
   bucket_is bucket e =
@@ -311,7 +288,7 @@ module _ (clock : ℕ) (shape : Shape) (seed : ℕ) (lives : List PrintedLife) (
     answer = packet_answers.None;
     told = subst (λ a. Tells a packet_answers.None) (sym q) tt;
     names = tt;
-    explained = none_is 1 (not_true (is_beaten lives look 1) e);
+    explained = none_is 1 (not-true (is_beaten lives look 1) e);
   }
   look_is (answers.Again bucket end) q e =
       let b : Bool = is_bucket_of shape seed look.packet bucket in
@@ -327,12 +304,12 @@ module _ (clock : ℕ) (shape : Shape) (seed : ℕ) (lives : List PrintedLife) (
   told_back (answers.Found kind name) packet_answers.None t n x = absurd t
   told_back (answers.Found kind name) (packet_answers.Again b e) t n x = absurd t
   told_back answers.None (packet_answers.Found card) t n x = absurd t
-  told_back answers.None packet_answers.None t n x = true_not (is_beaten lives look 1) (none_back 1 x)
+  told_back answers.None packet_answers.None t n x = not_from_false (is_beaten lives look 1) (none_back 1 x)
   told_back answers.None (packet_answers.Again b e) t n x = absurd t
   told_back (answers.Again bucket end) (packet_answers.Found card) t n x = absurd t
   told_back (answers.Again bucket end) packet_answers.None t n x = absurd t
   told_back (answers.Again bucket end) (packet_answers.Again b e) t n x =
-      and_both (is_bucket_of shape seed look.packet bucket) (may_end shape.slots lives look bucket end)
+      and_from (is_bucket_of shape seed look.packet bucket) (may_end shape.slots lives look bucket end)
       (bucket_back bucket (subst (λ k. Among (buckets_of shape seed look.packet) k) t.0 n))
       (end_back bucket end (subst (λ k. MayEnd Book shape.slots k look.t0 look.t1 (pass_end end)) t.0
       (subst (λ z. MayEnd Book shape.slots b look.t0 look.t1 z) t.1 x)))

@@ -1,12 +1,12 @@
 -- What stays in order tell at one place.
 use Rattle.std.proofs.Common.{◌≡◌, ℕ, zero, suc, ◌+◌, ◌-◌, ◌<◌, ◌≤◌, ◌==◌, ◌&&◌, ◌||◌, not, nat_lt, nat_le, Bool, true, false, List, [], ◌∷◌, ◌++◌, take, drop, length, get_or, Option, None, Some, refl, sym, ◌∙◌, subst, arith, ◌⊎◌, inl, inr, drop-cons}
-use Rattle.std.proofs.lemmas.Bool.{true≢false, ltb-true, lt-ltb, leb-true, le-leb, eqb-true, eq-eqb, or_left, or_right}
+use Rattle.std.proofs.lemmas.Bool.{true≢false, ltb-true, lt-ltb, leb-true, le-leb, eqb-true, eq-eqb, or_left, or_right, or_cases, and_from, not-true}
 use Rattle.std.proofs.lemmas.List.{take_more}
 use Rattle.list_words.specs.Lists.{Each}
 use Rattle.list_words.proofs.EachLemmas.{each_weaken}
 use Rattle.race_book.specs.Among.{Among}
 use Rattle.race_book.proofs.Endings.{each_of}
-use Rattle.race_book.proofs.Checks.{or_cases, and_left, and_right, and_both, not_true}
+use Rattle.race_book.proofs.Checks.{and_left, and_right}
 use Rattle.book_audit.specs.declared.stays.Stay.{Stay}
 use Rattle.book_audit.specs.Stays.{is_below}
 use Rattle.book_audit.specs.Index.{outlasts, goes_before, AreOrdered, precedes, is_over, NoneStays}
@@ -40,12 +40,12 @@ earlier s t e = elim (or_cases (nat_lt s.place t.place) _ e) as (λ _. Earlier s
 goes : (s t : Stay) → Earlier s t → Goes s t
 goes s t (by_place p) = or_left (nat_lt s.place t.place) _ (lt-ltb s.place t.place p)
 goes s t (by_part p q) = or_right (nat_lt s.place t.place) _
-    (and_both (s.place == t.place) _ (eq-eqb s.place t.place p) (or_left (nat_lt s.part t.part) _ (lt-ltb s.part t.part q)))
+    (and_from (s.place == t.place) _ (eq-eqb s.place t.place p) (or_left (nat_lt s.part t.part) _ (lt-ltb s.part t.part q)))
 goes s t (by_from p q l o) = or_right (nat_lt s.place t.place) _
-    (and_both (s.place == t.place) _ (eq-eqb s.place t.place p)
+    (and_from (s.place == t.place) _ (eq-eqb s.place t.place p)
     (or_right (nat_lt s.part t.part) _
-    (and_both ((s.part == t.part) && nat_le s.from t.from) (outlasts t.until s.until)
-    (and_both (s.part == t.part) (nat_le s.from t.from) (eq-eqb s.part t.part q) (le-leb s.from t.from l)) o)))
+    (and_from ((s.part == t.part) && nat_le s.from t.from) (outlasts t.until s.until)
+    (and_from (s.part == t.part) (nat_le s.from t.from) (eq-eqb s.part t.part q) (le-leb s.from t.from l)) o)))
 
 pub longer : (u v w : Option ℕ) → outlasts u v ≡ true → outlasts v w ≡ true → outlasts u w ≡ true
 longer None v w p q = refl
@@ -96,12 +96,12 @@ module _ (place part t0 t1 : ℕ) where
 
   under_part : (s : Stay) → s.place ≡ place → s.part < part → Under s
   under_part s p q = or_right (nat_lt s.place place) _
-      (and_both (s.place == place) _ (eq-eqb s.place place p) (or_left (nat_lt s.part part) _ (lt-ltb s.part part q)))
+      (and_from (s.place == place) _ (eq-eqb s.place place p) (or_left (nat_lt s.part part) _ (lt-ltb s.part part q)))
 
   under_from : (s : Stay) → s.place ≡ place → s.part ≡ part → s.from < t0 → Under s
   under_from s p q l = or_right (nat_lt s.place place) _
-      (and_both (s.place == place) _ (eq-eqb s.place place p)
-      (or_right (nat_lt s.part part) _ (and_both (s.part == part) (nat_lt s.from t0) (eq-eqb s.part part q) (lt-ltb s.from t0 l))))
+      (and_from (s.place == place) _ (eq-eqb s.place place p)
+      (or_right (nat_lt s.part part) _ (and_from (s.part == part) (nat_lt s.from t0) (eq-eqb s.part part q) (lt-ltb s.from t0 l))))
 
   -- what goes before a stay in the place is no later
   under_by : (y s : Stay) → Earlier y s → s.place ≡ place → s.part ≡ part → s.from < t0 → Under y
@@ -132,8 +132,8 @@ module _ (place part t0 t1 : ℕ) where
   over_is e o p q = elim (or_cases (not (e.place == place) || not (e.part == part)) (is_below e.until t1) o) as (λ _. is_below e.until t1 ≡ true) [
     | inr b ↦ b
     | inl n ↦ elim (or_cases (not (e.place == place)) (not (e.part == part)) n) as (λ _. is_below e.until t1 ≡ true) [
-      | inl a ↦ absurd (true≢false (sym (eq-eqb e.place place p) ∙ not_true (e.place == place) a))
-      | inr a ↦ absurd (true≢false (sym (eq-eqb e.part part q) ∙ not_true (e.part == part) a))
+      | inl a ↦ absurd (true≢false (sym (eq-eqb e.place place p) ∙ not-true (e.place == place) a))
+      | inr a ↦ absurd (true≢false (sym (eq-eqb e.part part q) ∙ not-true (e.part == part) a))
     ]
   ]
 

@@ -1,7 +1,7 @@
 -- No number of the clock stands twice among the changes of lives that are stamped.
-use Rattle.std.proofs.Common.{◌≡◌, ◌≢◌, ℕ, ◌==◌, ◌||◌, true, false, List, [], ◌∷◌, ◌++◌, Option, None, Some, refl, sym, ap, ◌∙◌, subst, arith, append_assoc, ◌⊎◌, inl, inr}
-use Rattle.std.specs.List.{flat_map}
-use Rattle.std.proofs.lemmas.Bool.{true≢false, eq-eqb}
+use Rattle.std.proofs.Common.{◌≡◌, ◌≢◌, ℕ, ◌==◌, ◌||◌, true, false, List, [], ◌∷◌, ◌++◌, Option, None, Some, refl, sym, ◌∙◌, subst, arith, ◌⊎◌, inl, inr}
+use Rattle.std.proofs.lemmas.Bool.{or_parts, eqb-false}
+use Rattle.std.proofs.lemmas.Grind.{flat_map-append}
 use Rattle.list_words.specs.Lists.{Each, Pairs}
 use Rattle.list_words.proofs.EachLemmas.{each_append}
 use Rattle.chain_book.specs.declared.book.Change.{Change}
@@ -14,19 +14,14 @@ use Rattle.book_audit.specs.declared.printed.Why.TheVariants as whys
 use Rattle.book_audit.specs.Book.{with_unhash, changes_of, book_of}
 use Rattle.book_audit.specs.Lines.{NoTwo, AreStamped, some_span, ascends, share, shares_number}
 use Rattle.book_audit.specs.Laws.{SoundStampsDiffer}
-use Rattle.book_audit.proofs.Lives.{of, Whose, whose, Ascending, hash_ascends, unhash_ascends}
-use Rattle.book_audit.proofs.Serial.{neither, span_of, span_not}
+use Rattle.book_audit.proofs.Lives.{of, Whose, whose, Ascending, hash_ascends, unhash_ascends, span_of}
+use Rattle.book_audit.proofs.Serial.{span_not}
 
 abbrev Differ : ℕ → ℕ → Type 0
 Differ n k = n ≢ k
 
 abbrev stamps : Change → List ℕ
 stamps c = c.begin ∷ c.end ∷ []
-
-flat_append : {A B : Type 0} (f : A → List B) (xs ys : List A) → flat_map f (xs ++ ys) ≡ flat_map f xs ++ flat_map f ys
-flat_append f [] ys = refl
-flat_append f (x ∷ xs) ys =
-    ap (λ zs. f x ++ zs) (flat_append f xs ys) ∙ sym (append_assoc (f x) (flat_map f xs) (flat_map f ys))
 
 pairs_join : {A : Type 0} (R : A → A → Type 0) (xs ys : List A) → Pairs R xs → Pairs R ys → Each (λ x. Each (R x) ys) xs → Pairs R (xs ++ ys)
 pairs_join R [] ys p q a = q
@@ -57,9 +52,6 @@ number_of (c ∷ rest) n (inr (inl p)) = record { change = c; there = inl refl; 
 number_of (c ∷ rest) n (inr (inr a)) =
     let r : HasNumber rest n = number_of rest n a in record { change = r.change; there = inr r.there; is = r.is }
 
-unequal : (n k : ℕ) → (n == k) ≡ false → n ≢ k
-unequal n k e p = true≢false (sym (eq-eqb n k p) ∙ e)
-
 -- what two changes that share no number have
 record Apart (s t : Span) : Type 0 where
   a : s.begin ≢ t.begin
@@ -69,13 +61,13 @@ record Apart (s t : Span) : Type 0 where
 
 no_share : (s t : Span) → share s t ≡ false → Apart s t
 no_share s t e =
-    let f = neither ((s.begin == t.begin) || (s.begin == t.end) || (s.end == t.begin)) (s.end == t.end) e in
-    let g = neither ((s.begin == t.begin) || (s.begin == t.end)) (s.end == t.begin) f.0 in
-    let h = neither (s.begin == t.begin) (s.begin == t.end) g.0 in record {
-      a = unequal s.begin t.begin h.0;
-      b = unequal s.begin t.end h.1;
-      c = unequal s.end t.begin g.1;
-      d = unequal s.end t.end f.1;
+    let f = or_parts ((s.begin == t.begin) || (s.begin == t.end) || (s.end == t.begin)) (s.end == t.end) e in
+    let g = or_parts ((s.begin == t.begin) || (s.begin == t.end)) (s.end == t.begin) f.0 in
+    let h = or_parts (s.begin == t.begin) (s.begin == t.end) g.0 in record {
+      a = eqb-false s.begin t.begin h.0;
+      b = eqb-false s.begin t.end h.1;
+      c = eqb-false s.end t.begin g.1;
+      d = eqb-false s.end t.end f.1;
     }
 
 numbers_apart : (s t : Span) (n k : ℕ) → Apart s t → (n ≡ s.begin) ⊎ (n ≡ s.end) → (k ≡ t.begin) ⊎ (k ≡ t.end) → n ≢ k
@@ -99,7 +91,7 @@ across l rest e = to_each (λ n. Each (Differ n) (stamps_of (book_of rest))) (st
 differ : (clock : ℕ) (lives : List PrintedLife) → Each (λ l. ascends clock l ≡ true) lives → NoTwo shares_number lives → StampsDiffer (book_of lives)
 differ clock [] e p = tt
 differ clock (l ∷ rest) e p =
-    subst (λ xs. Pairs Differ xs) (sym (flat_append stamps (changes_of l) (book_of rest)))
+    subst (λ xs. Pairs Differ xs) (sym (flat_map-append stamps (changes_of l) (book_of rest)))
     (pairs_join Differ (stamps_of (changes_of l)) (stamps_of (book_of rest)) (own_by clock l e.0 l.unhash refl) (differ clock rest e.1 p.1) (across l rest p.0))
 
 pub sound_differ : SoundStampsDiffer

@@ -1,6 +1,6 @@
 -- Stays that come one after the other don't run into each other.
 use Rattle.std.proofs.Common.{◌≡◌, ℕ, ◌+◌, ◌-◌, ◌<◌, ◌≤◌, ◌==◌, ◌&&◌, not, nat_lt, Bool, true, false, List, [], ◌∷◌, take, length, get_or, Option, None, Some, refl, sym, ◌∙◌, subst, arith, inl, inr}
-use Rattle.std.proofs.lemmas.Bool.{true≢false, ltb-true, lt-ltb, eqb-true, eq-eqb, leb-true, or_left, or_right, false_from_ne_true}
+use Rattle.std.proofs.lemmas.Bool.{true≢false, ltb-true, lt-ltb, eqb-true, eq-eqb, leb-true, or_left, or_right, false_from_ne_true, or_cases, and_from}
 use Rattle.std.proofs.lemmas.List.{take_all}
 use Rattle.std.specs.List.{IsDistinct, AllByRecursion}
 use Rattle.std.specs.List.Sorted.{IsPermutation}
@@ -9,7 +9,7 @@ use Rattle.std.proofs.lemmas.List.Sorted.{IsPermutation-sym}
 use Rattle.list_words.specs.Lists.{Each, Pairs}
 use Rattle.list_words.proofs.EachLemmas.{each_weaken}
 use Rattle.list_words.proofs.PairsLemmas.{pairs_weaken}
-use Rattle.race_book.proofs.Checks.{or_cases, and_left, and_right, and_both}
+use Rattle.race_book.proofs.Checks.{and_left, and_right}
 use Rattle.book_audit.specs.declared.stays.Stay.{Stay}
 use Rattle.book_audit.specs.Stays.{is_below, runs_into, comes_first, is_from, lasts, NoneRunsInto}
 use Rattle.book_audit.proofs.Prefixes.{pairs_line, pairs_last, each_line}
@@ -37,10 +37,10 @@ way s t e = elim (or_cases (nat_lt s.place t.place) _ e) as (λ _. Way s t) [
 first : (s t : Stay) → Way s t → First s t
 first s t (by_place p) = or_left (nat_lt s.place t.place) _ (lt-ltb s.place t.place p)
 first s t (by_part p q) = or_right (nat_lt s.place t.place) _
-    (and_both (s.place == t.place) _ (eq-eqb s.place t.place p) (or_left (nat_lt s.part t.part) _ (lt-ltb s.part t.part q)))
+    (and_from (s.place == t.place) _ (eq-eqb s.place t.place p) (or_left (nat_lt s.part t.part) _ (lt-ltb s.part t.part q)))
 first s t (by_time p q r) = or_right (nat_lt s.place t.place) _
-    (and_both (s.place == t.place) _ (eq-eqb s.place t.place p)
-    (or_right (nat_lt s.part t.part) _ (and_both (s.part == t.part) _ (eq-eqb s.part t.part q) r)))
+    (and_from (s.place == t.place) _ (eq-eqb s.place t.place p)
+    (or_right (nat_lt s.part t.part) _ (and_from (s.part == t.part) _ (eq-eqb s.part t.part q) r)))
 
 later : (u v : Option ℕ) (m n : ℕ) → is_below u m ≡ true → is_from m v ≡ true → is_below v n ≡ true → is_below u n ≡ true
 later None v m n p q r = p
@@ -91,7 +91,7 @@ into s t r =
     let a : Bool = (s.place == t.place) && (s.part == t.part) in
     let b : Bool = not (is_below s.until t.from) in
     let c : Bool = not (is_below t.until s.from) in
-    and_both (a && b) c (and_both a b (and_both (s.place == t.place) (s.part == t.part) (eq-eqb s.place t.place r.place) (eq-eqb s.part t.part r.part)) r.one) r.other
+    and_from (a && b) c (and_from a b (and_from (s.place == t.place) (s.part == t.part) (eq-eqb s.place t.place r.place) (eq-eqb s.part t.part r.part)) r.one) r.other
 
 turned : (s t : Stay) → runs_into s t ≡ true → runs_into t s ≡ true
 turned s t e = let r : Runs s t = runs s t e in

@@ -1,31 +1,12 @@
 -- Tests of the first so many lines.
-use Rattle.std.proofs.Common.{ℕ, ◌+◌, ◌<◌, List, [], ◌∷◌, ◌++◌, take, length, get_or, sym, subst}
+use Rattle.std.proofs.Common.{ℕ, ◌+◌, ◌<◌, List, [], ◌∷◌, take, length, get_or, sym, subst}
 use Rattle.std.proofs.lemmas.List.{take_more}
 use Rattle.list_words.specs.Lists.{Each, Pairs}
 use Rattle.list_words.proofs.EachLemmas.{each_push}
 use Rattle.list_words.proofs.PairsLemmas.{pairs_push}
+use Rattle.race_book.proofs.Joined.{each_back, pairs_across}
 
 module _ {A : Type 0} where
-  pub each_front : (P : A → Type 0) (xs ys : List A) → Each P (xs ++ ys) → Each P xs
-  each_front P [] ys e = tt
-  each_front P (x ∷ xs) ys e = (e.0, each_front P xs ys e.1)
-
-  pub each_back : (P : A → Type 0) (xs ys : List A) → Each P (xs ++ ys) → Each P ys
-  each_back P [] ys e = e
-  each_back P (x ∷ xs) ys e = each_back P xs ys e.1
-
-  pub pairs_front : (R : A → A → Type 0) (xs ys : List A) → Pairs R (xs ++ ys) → Pairs R xs
-  pairs_front R [] ys e = tt
-  pairs_front R (x ∷ xs) ys e = (each_front (R x) xs ys e.0, pairs_front R xs ys e.1)
-
-  pub pairs_across : (R : A → A → Type 0) (xs ys : List A) → Pairs R (xs ++ ys) → Each (λ x. Each (R x) ys) xs
-  pairs_across R [] ys e = tt
-  pairs_across R (x ∷ xs) ys e = (each_back (R x) xs ys e.0, pairs_across R xs ys e.1)
-
-  pub pairs_back : (R : A → A → Type 0) (xs ys : List A) → Pairs R (xs ++ ys) → Pairs R ys
-  pairs_back R [] ys e = e
-  pairs_back R (x ∷ xs) ys e = pairs_back R xs ys e.1
-
   heads : (R : A → A → Type 0) (x : A) (xs : List A) → Each (λ y. Each (R y) (x ∷ [])) xs → Each (λ y. R y x) xs
   heads R x [] e = tt
   heads R x (y ∷ ys) e = (e.0.0, heads R x ys e.1)

@@ -1,6 +1,6 @@
 -- The changes of sound lives are serial.
 use Rattle.std.proofs.Common.{◌≡◌, ◌≢◌, ℕ, ◌<◌, ◌==◌, ◌&&◌, ◌||◌, not, nat_lt, Bool, true, false, List, Option, None, Some, refl, sym, ap, ◌∙◌, subst, arith, ◌⊎◌, inl, inr}
-use Rattle.std.proofs.lemmas.Bool.{true≢false, ltb-true, ltb-false, lt-ltb, eqb-true, eq-eqb, cases_Bool}
+use Rattle.std.proofs.lemmas.Bool.{true≢false, ltb-true, ltb-false, lt-ltb, eqb-true, eq-eqb, cases_Bool, and_from, or_parts}
 use Rattle.list_words.proofs.EachLemmas.{some_same}
 use Rattle.list_words.proofs.PairsLemmas.{pairs_weaken}
 use Rattle.sock_card.specs.declared.card.Card.{Card}
@@ -13,7 +13,7 @@ use Rattle.race_book.specs.Among.{Among}
 use Rattle.race_book.specs.Lives.{IsLife, Ends, Leaves, is_unhash}
 use Rattle.race_book.specs.Serial.{IsSerial, EndsOne, AreTwins}
 use Rattle.race_book.proofs.Endings.{each_of}
-use Rattle.race_book.proofs.Checks.{and_left, and_right, and_both}
+use Rattle.race_book.proofs.Checks.{and_left, and_right}
 use Rattle.race_book.proofs.Twins.{cards_turned}
 use Rattle.book_audit.specs.declared.printed.Span.{Span}
 use Rattle.book_audit.specs.declared.printed.PrintedLife.{PrintedLife}
@@ -21,24 +21,14 @@ use Rattle.book_audit.specs.declared.printed.Why.TheVariants as whys
 use Rattle.book_audit.specs.Book.{hash_of, unhash_of, book_of}
 use Rattle.book_audit.specs.Lines.{NoTwo, AreStamped, AreHoused, ascends, passes, some_span, share, shares_number, is_home, meet, overlap, share_slot, begins_after, comes_in_time, are_full, are_twins}
 use Rattle.book_audit.specs.Laws.{SoundIsSerial}
-use Rattle.book_audit.proofs.Lives.{IsOf, by_hash, by_unhash, Whose, whose, LifeOf, life_of, is_life, either, Ascending, hash_ascends, unhash_ascends, OutBy, SlotsClear, OwnEnd, ascending, in_slots, ends_there, ends_only}
-
-pub neither : (a b : Bool) → (a || b) ≡ false → (a ≡ false) × (b ≡ false)
-neither true b e = absurd (true≢false e)
-neither false b e = (refl, e)
-
-abbrev pub span_of : Change → Span
-span_of c = record { begin = c.begin; end = c.end }
-
-passes_not : (test : Span → Bool) (o : Option Span) (s : Span) → o ≡ Some s → passes test o ≡ false → test s ≡ false
-passes_not test o s e f = subst (λ x. passes test x ≡ false) e f
+use Rattle.book_audit.proofs.Lives.{IsOf, by_hash, by_unhash, Whose, whose, LifeOf, life_of, is_life, either, Ascending, hash_ascends, unhash_ascends, OutBy, SlotsClear, OwnEnd, ascending, in_slots, ends_there, ends_only, span_of, passes_not}
 
 -- what no change of a life passes
 pub span_not : (test : Span → Bool) (l : PrintedLife) (c : Change) → IsOf l c → some_span test l ≡ false → test (span_of c) ≡ false
 span_not test l c (by_hash p) e =
-    subst (λ x. test (span_of x) ≡ false) (sym p) (neither (test l.hash) (passes test l.unhash) e).0
+    subst (λ x. test (span_of x) ≡ false) (sym p) (or_parts (test l.hash) (passes test l.unhash) e).0
 span_not test l c (by_unhash s f p) e =
-    subst (λ x. test (span_of x) ≡ false) (sym p) (passes_not test l.unhash s f (neither (test l.hash) (passes test l.unhash) e).1)
+    subst (λ x. test (span_of x) ≡ false) (sym p) (passes_not test l.unhash s f (or_parts (test l.hash) (passes test l.unhash) e).1)
 
 bucket_of : (l : PrintedLife) (c : Change) → IsOf l c → c.bucket ≡ l.bucket
 bucket_of l c (by_hash p) = ap (λ (x : Change). x.bucket) p
@@ -47,10 +37,6 @@ bucket_of l c (by_unhash s f p) = ap (λ (x : Change). x.bucket) p
 card_of : (l : PrintedLife) (c : Change) → IsOf l c → c.card ≡ l.card
 card_of l c (by_hash p) = ap (λ (x : Change). x.card) p
 card_of l c (by_unhash s f p) = ap (λ (x : Change). x.card) p
-
-slot_of : (l : PrintedLife) (c : Change) → IsOf l c → c.slot ≡ l.slot
-slot_of l c (by_hash p) = ap (λ (x : Change). x.slot) p
-slot_of l c (by_unhash s f p) = ap (λ (x : Change). x.slot) p
 
 abbrev Follow : Change → Change → Type 0
 Follow c d = (c.end < d.begin) ⊎ (d.end < c.begin)
@@ -65,7 +51,7 @@ follow false false e = absurd (true≢false e)
 
 buckets_clear : (l m : PrintedLife) → overlap l m ≡ false → BucketsClear l m
 buckets_clear l m e b c d i j = elim (cases_Bool (some_span (λ s. some_span (meet s) m) l)) as (λ _. Follow c d) [
-  | inl t ↦ absurd (true≢false (sym (and_both (l.bucket == m.bucket) _ (eq-eqb l.bucket m.bucket b) t) ∙ e))
+  | inl t ↦ absurd (true≢false (sym (and_from (l.bucket == m.bucket) _ (eq-eqb l.bucket m.bucket b) t) ∙ e))
   | inr n ↦
       let f = span_not (meet (span_of c)) m d j (span_not (λ s. some_span (meet s) m) l c i n) in
       elim (follow (nat_lt c.end d.begin) (nat_lt d.end c.begin) f) as (λ _. Follow c d) [
@@ -89,9 +75,9 @@ begin_clear l m e c d i j p =
     let s = span_of c in
     let t = span_of d in
     let f = span_not (share s) m d j (span_not (λ x. some_span (share x) m) l c i e) in
-    let g = (neither ((s.begin == t.begin) || (s.begin == t.end) || (s.end == t.begin)) (s.end == t.end) f).0 in
-    let h = (neither ((s.begin == t.begin) || (s.begin == t.end)) (s.end == t.begin) g).0 in
-    true≢false (sym (eq-eqb s.begin t.begin p) ∙ (neither (s.begin == t.begin) (s.begin == t.end) h).0)
+    let g = (or_parts ((s.begin == t.begin) || (s.begin == t.end) || (s.end == t.begin)) (s.end == t.end) f).0 in
+    let h = (or_parts ((s.begin == t.begin) || (s.begin == t.end)) (s.end == t.begin) g).0 in
+    true≢false (sym (eq-eqb s.begin t.begin p) ∙ (or_parts (s.begin == t.begin) (s.begin == t.end) h).0)
 
 begin_turned : (l m : PrintedLife) → BeginClear l m → BeginClear m l
 begin_turned l m f c d i j e = f d c j i (sym e)
@@ -113,7 +99,7 @@ twins_clear l m e f s = late (are_full l m) (same_cards l.card m.card) (comes_in
 
 twins_turned : (l m : PrintedLife) → TwinsClear l m → TwinsClear m l
 twins_turned l m c f s =
-    elim (c (and_both (is_full_kind l.card.kind) (is_full_kind m.card.kind) (and_right (is_full_kind m.card.kind) (is_full_kind l.card.kind) f) (and_left (is_full_kind m.card.kind) (is_full_kind l.card.kind) f)) (cards_turned m.card l.card s))
+    elim (c (and_from (is_full_kind l.card.kind) (is_full_kind m.card.kind) (and_right (is_full_kind m.card.kind) (is_full_kind l.card.kind) f) (and_left (is_full_kind m.card.kind) (is_full_kind l.card.kind) f)) (cards_turned m.card l.card s))
     as (λ _. (comes_in_time m l ≡ false) ⊎ (comes_in_time l m ≡ false)) [ inl p ↦ inr p | inr p ↦ inl p ]
 
 -- what comes too late finds the other on its way out
@@ -226,7 +212,7 @@ module _ (clock : ℕ) (lives : List PrintedLife) (stamped : AreStamped clock li
       let w : LifeOf lives g = life_of lives g j in
       subst (λ (x : Change). AreTwins h x → h.begin < x.begin → Leaves Book h x.begin) (sym w.is)
       (subst (λ (y : Change). AreTwins y (hash_of w.life) → y.begin < w.life.hash.begin → Leaves Book y w.life.hash.begin) (sym v.is)
-      (λ t n. twins_of v.life w.life v.there w.there (and_both (is_full_kind v.life.card.kind) (is_full_kind w.life.card.kind) t.one t.other) t.tuple n
+      (λ t n. twins_of v.life w.life v.there w.there (and_from (is_full_kind v.life.card.kind) (is_full_kind w.life.card.kind) t.one t.other) t.tuple n
       (either TwinsClear twins_turned lives (pairs_weaken (λ x y. are_twins x y ≡ false) TwinsClear lives twins_clear o) v.life w.life v.there w.there)))
 
   pub serial : (shape : Shape) (seed : ℕ) → AreHoused shape seed lives → NoTwo overlap lives → NoTwo are_twins lives → IsSerial Book shape seed

@@ -1,6 +1,5 @@
--- A race has one finding, and how the judge comes to it.
-use Rattle.std.proofs.Common.{◌≡◌, ℕ, zero, suc, ◌+◌, ◌<◌, ◌≤◌, ◌==◌, nat_lt, cond, List, [], ◌∷◌, take, refl, sym, ap, ◌∙◌, subst, arith, ◌⊎◌, inl, inr}
-use Rattle.std.proofs.lemmas.Bool.{ltb-true, ltb-false, cases_Bool}
+-- A race has one finding.
+use Rattle.std.proofs.Common.{◌≡◌, ℕ, zero, suc, ◌+◌, ◌<◌, ◌≤◌, ◌==◌, cond, List, [], ◌∷◌, take, refl, sym, ap, ◌∙◌, subst, arith}
 use Rattle.list_words.specs.Lists.{Each, Pairs}
 use Rattle.book_audit.specs.declared.printed.PrintedLife.{PrintedLife}
 use Rattle.book_audit.specs.declared.printed.Printed.{Printed}
@@ -99,33 +98,3 @@ one_finding p findings.Sound (findings.Wrong w a) f g = absurd (conflict p w a (
 one_finding p (findings.Wrong w a) findings.Sound f g = absurd (conflict p w a (g w) f.1)
 one_finding p (findings.Wrong w a) (findings.Wrong v b) f g = wrongs p w v a b f g
     (one_order w v (omega (arith, no_wrong p w v a b g.0 f.1, no_wrong p v w b a f.0 g.1)))
-
--- the tests before a place of the order are passed
-abbrev pub Upto : Printed → ℕ → Type 0
-Upto p n = (w : Why) → order w < n → Passes p w
-
-pub from_start : (p : Printed) → Upto p 0
-from_start p w l = absurd (omega (arith, l))
-
-next : (p : Printed) (v w : Why) → Upto p (order v) → Passes p v → (order w < order v) ⊎ (order w ≡ order v) → Passes p w
-next p v w u e (inl l) = u w l
-next p v w u e (inr q) = subst (λ x. Passes p x) (sym (one_order w v q)) e
-
-below_or : (n k : ℕ) → n < k + 1 → (n < k) ⊎ (n ≡ k)
-below_or n k l = elim (cases_Bool (nat_lt n k)) as (λ _. (n < k) ⊎ (n ≡ k)) [ inl t ↦ inl (ltb-true n k t) | inr f ↦ inr (omega (arith, ltb-false n k f)) ]
-
--- one more is passed
-pub and_next : (p : Printed) (v : Why) → Upto p (order v) → Passes p v → Upto p (order v + 1)
-and_next p v u e w l = next p v w u e (below_or (order w) (order v) l)
-
-order_below : (w : Why) → order w < 7
-order_below whys.Stamp = omega arith
-order_below whys.Home = omega arith
-order_below whys.Overlap = omega arith
-order_below whys.Slot = omega arith
-order_below whys.Twin = omega arith
-order_below whys.Receipt = omega arith
-order_below whys.Count = omega arith
-
-pub passes_all : (p : Printed) → Upto p 7 → (w : Why) → Passes p w
-passes_all p u w = u w (order_below w)

@@ -187,7 +187,8 @@ pub fn first_clash(
     clash: Clash,
     lives: &[PrintedLife],
 ) -> Result<Option<usize>, AllocError>
-    ensures { IfOk result (λ first. MatchOption first (NoTwo (clash_of clash) lives.now) (FailsAt (NoTwo (clash_of clash)) lives.now)) }
+    ensures { IfOk result (λ first. MatchOption first (NoTwo (clash_of clash) lives.now)
+        (FailsAt (NoTwo (clash_of clash)) lives.now)) }
 {
     if is_clear(alloc, clash, lives)? {
         return Ok(None);

@@ -354,7 +354,8 @@ pub fn index_of(alloc: Global, lives: &[PrintedLife]) -> Result<Index, AllocErro
 /// Whether it is told by the index that no life whose card matches so well, or better, was there throughout the call.
 pub fn is_unbeaten(index: &Index, look: &PrintedLook, least: u8) -> bool
     requires { 0 < least }
-    ensures { IsTrue result → (lives : List PrintedLife) → IsIndex index.now lives → is_beaten lives look.now least ≡ false }
+    ensures { IsTrue result → (lives : List PrintedLife) → IsIndex index.now lives
+        → is_beaten lives look.now least ≡ false }
 {
     index.ordered && rules_out(&index.stays, look, least)
 }

@@ -2,7 +2,7 @@
 
 ghost use Rattle.book_audit.specs.Laws as law;
 
-/// The changes of a sound race's lives are serial, and have each number of the clock once.
+/// The changes of a sound race's lives are serial, and no number of the clock stands in them twice.
 pub fn sound_is_serial()
     ensures serial { law.SoundIsSerial }
     ensures once { law.SoundStampsDiffer }

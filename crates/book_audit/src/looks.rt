@@ -252,7 +252,8 @@ fn explains(printed: &Printed, index: &Index, look: &PrintedLook) -> bool
     requires listen { 0 < printed.now.shape.listen }
     requires fits { printed.now.shape.hash + printed.now.shape.listen < 2 ^ 32 }
     requires index { IsIndex index.now printed.now.lives.items }
-    ensures { result ≡ spec.explains printed.now.shape printed.now.seed printed.now.lives.items look.now look.now.answer }
+    ensures { result
+        ≡ spec.explains printed.now.shape printed.now.seed printed.now.lives.items look.now look.now.answer }
 {
     let lives = printed.lives.as_slice();
     match &look.answer {

@@ -43,7 +43,8 @@ pub fn first_unexplained(alloc: Global, printed: &Printed) -> Result<Option<usiz
     requires homes { AreHoused printed.now.shape printed.now.seed printed.now.lives.items }
     requires slots { NoTwo share_slot printed.now.lives.items }
     ensures { let Explained = Each (IsLineExplained printed.now.shape printed.now.seed printed.now.lives.items) in
-        IfOk result (λ first. MatchOption first (Explained printed.now.packets.items) (FailsAt Explained printed.now.packets.items)) }
+        IfOk result (λ first. MatchOption first (Explained printed.now.packets.items)
+        (FailsAt Explained printed.now.packets.items)) }
 {
     let index = index_of(alloc, &printed.lives)?;
     Ok(searched(printed, &index))

@@ -37,7 +37,8 @@ pub fn first_unstamped(
     clock: u64,
     lives: &[PrintedLife],
 ) -> Result<Option<usize>, AllocError>
-    ensures { IfOk result (λ first. MatchOption first (AreStamped clock lives.now) (FailsAt (AreStamped clock) lives.now)) }
+    ensures { IfOk result (λ first. MatchOption first (AreStamped clock lives.now)
+        (FailsAt (AreStamped clock) lives.now)) }
 {
     if all_ascend(clock, lives) && is_clear(alloc, Clash::Number, lives)? {
         return Ok(None);

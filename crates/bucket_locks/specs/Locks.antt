@@ -14,9 +14,13 @@ use Rattle.table_rule.specs.declared.view.Seen.{Seen}
 abbrev pub IsAt : Layout → Locked → View → Type 0
 IsAt layout at v = (v.chain.locked ≡ at.bucket ∷ []) × (at.bucket < bucket_count layout)
     × (at.started ≡ false → (v.chain.walked ≡ []) × (v.chain.ahead ≡ []) × (v.chain.met ≡ 0))
-    × (at.started ≡ true → (at.link % 2 ≡ v.chain.met) × (at.link % 2 ≡ 0 → (at.link / 2 < layout.shape.slots) × IsSlot (at.link / 2) 4 v.chain.ahead) × (at.link % 2 ≡ 1 → v.chain.ahead ≡ []))
+    × (at.started ≡ true → (at.link % 2 ≡ v.chain.met)
+    × (at.link % 2 ≡ 0 → (at.link / 2 < layout.shape.slots) × IsSlot (at.link / 2) 4 v.chain.ahead)
+    × (at.link % 2 ≡ 1 → v.chain.ahead ≡ []))
 
 -- what is known of the list that was walked: each card was read whole, each slot is one of the table and stands there
 -- once, and where the end was met each place of the pass in this bucket is in the list
 abbrev pub WalkKnown : Layout → View → Type 0
-WalkKnown layout v = Each IsRead v.chain.walked × Each (λ (s : Seen). s.slot < layout.shape.slots) v.chain.walked × ((i : ℕ) → stands i v.chain.walked ≤ 1) × ((v.chain.met ≡ 0) ⊎ PlacesListed v)
+WalkKnown layout v =
+    Each IsRead v.chain.walked × Each (λ (s : Seen). s.slot < layout.shape.slots) v.chain.walked
+    × ((i : ℕ) → stands i v.chain.walked ≤ 1) × ((v.chain.met ≡ 0) ⊎ PlacesListed v)

@@ -80,8 +80,10 @@ pub fn lock<P: Patience>(
 pub fn unlock(chains: &Chains, steps: &mut Steps, locked: Locked)
     requires table { IsOf chains.now steps.old }
     requires closed { (view steps.old).book.opened ≡ [] }
-    requires at { ((view steps.old).chain.locked ≡ locked.bucket ∷ []) × (locked.bucket < bucket_count (layout_of chains.now)) }
-    requires idle { ((view steps.old).slot.tied ≡ []) × ((view steps.old).slot.hung ≡ []) × ((view steps.old).slot.dimmed ≡ []) }
+    requires at { ((view steps.old).chain.locked ≡ locked.bucket ∷ [])
+        × (locked.bucket < bucket_count (layout_of chains.now)) }
+    requires idle { ((view steps.old).slot.tied ≡ []) × ((view steps.old).slot.hung ≡ [])
+        × ((view steps.old).slot.dimmed ≡ []) }
     requires alone { MayUnlock (view steps.old) }
     ensures table { IsOf chains.now steps.new }
     ensures view { Becomes steps.old steps.new (unlocking (view steps.old)) }

@@ -1,6 +1,7 @@
-//! Tries for a lock that another pass has, once, for a while, and for good once it was given back.
+//! Tries for a lock that another pass has, once, for a while, and for good once it was given back; and what a patience
+//! is asked meanwhile.
 
-ghost use Rattle.std.specs.Prelude.{◌≡◌, ◌<◌, []};
+ghost use Rattle.std.specs.Prelude.{◌≡◌, ◌<◌, [], false};
 ghost use Rattle.table_rule.specs.Calls.{IsIdle, layout_of};
 ghost use Rattle.table_rule.specs.Passes.{IsPassOf, known};
 ghost use Rattle.table_rule.specs.Words.{bucket_count};
@@ -8,6 +9,7 @@ ghost use Rattle.table_rule.specs.Words.{bucket_count};
 use crate::locks::{lock, try_lock, unlock};
 use chain_book::Shape;
 use patience::{Patience, Tries, Waits};
+use std::sync::atomic::{AtomicU64, Ordering};
 use std::test::Fail;
 use table_rule::{Chains, Pass};
 
@@ -54,5 +56,43 @@ fn a_lock_that_is_held_is_not_taken(rt: HostRuntime) -> Result<(), Fail> {
         is_had(&chains, &Waits::by(&rt), &mut second, 0),
     );
     assert_eq!(rt; (meanwhile, afterwards), ((false, true), (true, true)));
+    Ok(())
+}
+
+/// Lasts for two tries more than one. It counts how often it is asked, and how often not after so many tries.
+#[derive(Drop)]
+struct Asked {
+    times: AtomicU64,
+    wrong: AtomicU64,
+}
+
+impl Patience for Asked {
+    ghost endless = { false };
+
+    fn lasts(&self, tries: u64) -> bool {
+        let times = self.times.fetch_add(1, Ordering::SeqCst);
+        if times != tries {
+            self.wrong.fetch_add(1, Ordering::SeqCst);
+        }
+        times < 2
+    }
+}
+
+#[test]
+fn a_patience_is_asked_after_each_try(rt: HostRuntime) -> Result<(), Fail> {
+    let (chains, mut first) = Chains::new(rt.alloc(), SHAPE, 7)?;
+    let mut second = chains.split(rt.alloc(), &mut first);
+    let asked = Asked {
+        times: AtomicU64::new(0),
+        wrong: AtomicU64::new(0),
+    };
+    let other = is_had(&chains, &asked, &mut second, 1);
+    let Some(_locked) = try_lock(&chains, &mut first.steps, 0) else {
+        panic!(rt; "nobody has the lock")
+    };
+    let same = is_had(&chains, &asked, &mut second, 0);
+    let times = asked.times.load(Ordering::SeqCst);
+    let wrong = asked.wrong.load(Ordering::SeqCst);
+    assert_eq!(rt; (other, same, times, wrong), (true, false, 3, 0));
     Ok(())
 }

@@ -63,7 +63,8 @@ abbrev pub IsBlock : ℕ → ℕ → BlockSection → List ℕ → Block → Typ
 IsBlock dev net section bytes (blocks.Section order) = IsSectionBlock order bytes
 IsBlock dev net section bytes (blocks.Interface link) = IsInterfaceBlock section.order bytes link
 IsBlock dev net section bytes (blocks.Packet item) =
-    (link : Option Link) × (stored : List ℕ) × IsPacketBlock section bytes link stored × (item ≡ item_on link dev net stored)
+    (link : Option Link) × (stored : List ℕ) × IsPacketBlock section bytes link stored
+    × (item ≡ item_on link dev net stored)
 IsBlock dev net section bytes blocks.Other = IsOtherBlock section.order bytes
 
 -- the section that the next block is in: another one begins, or this one has one more interface

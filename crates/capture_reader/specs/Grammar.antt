@@ -65,14 +65,17 @@ IsCapture dev net bytes capture =
 -- a text is one capture at most
 abbrev pub IsOneCapture : Type 0
 IsOneCapture =
-    (dev net : ℕ) (bytes : List ℕ) (a b : Capture) → AreBytes bytes → IsCapture dev net bytes a → IsCapture dev net bytes b → a ≡ b
+    (dev net : ℕ) (bytes : List ℕ) (a b : Capture) → AreBytes bytes → IsCapture dev net bytes a
+    → IsCapture dev net bytes b → a ≡ b
 
 -- a text without bytes is a capture, and so is each that begins with a header, whatever follows
 abbrev pub TakesEach : Type 0
 TakesEach =
-    (dev net : ℕ) (bytes : List ℕ) → (bytes ≡ []) ⊎ HasHeader bytes → (capture : Capture) × IsCapture dev net bytes capture
+    (dev net : ℕ) (bytes : List ℕ) → (bytes ≡ []) ⊎ HasHeader bytes → (capture : Capture)
+    × IsCapture dev net bytes capture
 
 -- no other text is one
 abbrev pub TakesNoOther : Type 0
 TakesNoOther =
-    (dev net : ℕ) (bytes : List ℕ) (capture : Capture) → bytes ≢ [] → ¬ (HasHeader bytes) → ¬ (IsCapture dev net bytes capture)
+    (dev net : ℕ) (bytes : List ℕ) (capture : Capture) → bytes ≢ [] → ¬ (HasHeader bytes)
+    → ¬ (IsCapture dev net bytes capture)

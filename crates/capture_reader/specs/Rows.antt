@@ -10,7 +10,8 @@ use Rattle.capture_reader.specs.Grammar.{IsCapture}
 -- a TCP packet from 10.0.0.2:1000 to 10.0.0.1:80, as the fragment that begins at this offset
 abbrev pub datagram : ℕ → List ℕ
 datagram offset =
-    0x45 ∷ 0 ∷ 0 ∷ 0x28 ∷ 0 ∷ 0 ∷ 0 ∷ offset ∷ 0x40 ∷ 6 ∷ 0 ∷ 0 ∷ 10 ∷ 0 ∷ 0 ∷ 2 ∷ 10 ∷ 0 ∷ 0 ∷ 1 ∷ 3 ∷ 0xe8 ∷ 0 ∷ 0x50 ∷ []
+    0x45 ∷ 0 ∷ 0 ∷ 0x28 ∷ 0 ∷ 0 ∷ 0 ∷ offset ∷ 0x40 ∷ 6 ∷ 0 ∷ 0 ∷ 10 ∷ 0 ∷ 0 ∷ 2 ∷ 10 ∷ 0 ∷ 0 ∷ 1 ∷ 3 ∷ 0xe8 ∷ 0 ∷ 0x50
+    ∷ []
 
 -- two addresses of Ethernet
 abbrev pub addresses : List ℕ
@@ -55,7 +56,8 @@ of_records =
     file_header
     ++ (stored_record 38 54 (frame (datagram 0))
     ++ (stored_record 14 14 arp_frame
-    ++ (stored_record 42 58 (tagged_frame (datagram 0)) ++ (stored_record 38 54 (frame (datagram 1)) ++ replicate 8 0))))
+    ++ (stored_record 42 58 (tagged_frame (datagram 0))
+    ++ (stored_record 38 54 (frame (datagram 1)) ++ replicate 8 0))))
 
 -- a number below 256 in four bytes, the lowest first, and the highest first
 abbrev pub word : ℕ → List ℕ
@@ -114,11 +116,19 @@ pub record RowsHold : Type 0 where
   -- without its last four bytes
   pub last_lost : IsCapture 3 2 (with_interface (take 68 (packet_block 0 38 72))) (cut_after [])
   -- a simple packet, an interface of another link type, and a packet of each interface
-  pub link_types : IsCapture 3 2 (with_interface (simple_block ++ (interface_block 113 ++ (packet_block 0 38 72 ++ packet_block 1 38 72)))) (whole (found ∷ items.Skip ∷ []))
+  pub link_types :
+      IsCapture 3 2 (with_interface
+      (simple_block ++ (interface_block 113 ++ (packet_block 0 38 72 ++ packet_block 1 38 72))))
+      (whole (found ∷ items.Skip ∷ []))
   -- another section, in the other order of bytes
-  pub orders : IsCapture 3 2 (with_interface (packet_block 0 38 72 ++ (big_section_block ++ (big_interface_block ++ big_packet_block)))) (whole (found ∷ found ∷ []))
+  pub orders :
+      IsCapture 3 2 (with_interface
+      (packet_block 0 38 72 ++ (big_section_block ++ (big_interface_block ++ big_packet_block))))
+      (whole (found ∷ found ∷ []))
   -- another section, which has no interface
-  pub sections : IsCapture 3 2 (with_interface (packet_block 0 38 72 ++ (section_block ++ packet_block 0 38 72))) (cut_after (found ∷ []))
+  pub sections :
+      IsCapture 3 2 (with_interface (packet_block 0 38 72 ++ (section_block ++ packet_block 0 38 72)))
+      (cut_after (found ∷ []))
   -- a packet of an interface that the section doesn't have
   pub no_interface : IsCapture 3 2 (with_interface (packet_block 1 38 72)) (cut_after [])
   -- a packet whose block tells two lengths

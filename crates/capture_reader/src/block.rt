@@ -113,7 +113,8 @@ fn packet_of<'a>(section: &Section, block: &'a [u8]) -> Option<(Option<Link>, &'
     requires whole { IsWhole section.now.order block.now }
     requires kind { number section.now.order 4 0 block.now ≡ 6 }
     ensures some { IfSome result (λ found. IsPacketBlock section.now block.now found.0 found.1.now) }
-    ensures none { IfNone result ((link : Option Link) (stored : List ℕ) → ¬ (IsPacketBlock section.now block.now link stored)) }
+    ensures none { IfNone result ((link : Option Link) (stored : List ℕ)
+        → ¬ (IsPacketBlock section.now block.now link stored)) }
 {
     if block.len() < PACKET {
         return None;

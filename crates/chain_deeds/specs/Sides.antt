@@ -35,7 +35,14 @@ act_of kind = cond (kind == 1) acts.Hash acts.Unhash
 -- a change that a pass closed, as a record tells it
 abbrev pub change_of : Closed → Change
 change_of c =
-    record { bucket = c.bucket; slot = c.slot; card = card_from c.card; act = act_of c.kind; begin = c.begins; end = c.ends }
+    record {
+      bucket = c.bucket;
+      slot = c.slot;
+      card = card_from c.card;
+      act = act_of c.kind;
+      begin = c.begins;
+      end = c.ends;
+    }
 
 -- all changes that it closed, oldest first
 abbrev pub changes_by : Side → List Change

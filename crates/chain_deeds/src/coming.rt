@@ -81,7 +81,8 @@ pub fn add<P: Patience>(
     requires room { HasRoom 1 pass.old }
     requires share { HasShares 2 (known pass.old.pass) }
     ensures rests { IsResting table.now pass.new }
-    ensures adds { IfSome result (λ answer. Adds card.now answer (side_of table.now pass.old) (side_of table.now pass.new)) }
+    ensures adds { IfSome result (λ answer. Adds card.now answer (side_of table.now pass.old)
+        (side_of table.now pass.new)) }
     ensures place { IfSome result (λ answer. IfOk answer (λ place. IsPlaced place (known pass.new.pass).book)) }
     ensures home { IfSome result (λ answer. IfOk answer (λ place. IsAtHome table.now place)) }
     ensures stay { PlacesStay (known pass.old.pass) (known pass.new.pass) }

@@ -39,7 +39,8 @@ pub fn lock_chain_of<P: Patience>(
     requires rests { IsResting table.now pass.old }
     requires home { IsAtHome table.now place.now }
     requires place { IsPlaced place.now (known pass.old.pass).book }
-    ensures locked { IfSome result (λ locked. HasLockSince (side_of table.now pass.old) table.now locked place.now pass.new) }
+    ensures locked { IfSome result
+        (λ locked. HasLockSince (side_of table.now pass.old) table.now locked place.now pass.new) }
     ensures rests { IfNone result (IsResting table.now pass.new) }
     ensures none { IfNone result (side_of table.now pass.new ≡ side_of table.now pass.old) }
     ensures place { IsPlaced place.now (known pass.new.pass).book }
@@ -137,7 +138,8 @@ pub fn remove_tw<P: Patience>(
     requires room { HasRoom 1 pass.old }
     requires share { HasShares 2 (known pass.old.pass) }
     ensures rests { IsResting table.now pass.new }
-    ensures reaps { IfSome result (λ slot. Reaps card.now slot (side_of table.now pass.old) (side_of table.now pass.new)) }
+    ensures reaps { IfSome result
+        (λ slot. Reaps card.now slot (side_of table.now pass.old) (side_of table.now pass.new)) }
     ensures stay { PlacesStay (known pass.old.pass) (known pass.new.pass) }
     ensures share { TwoDrawn (known pass.old.pass) (known pass.new.pass) }
     ensures room { TakesRoom 1 pass.old pass.new }

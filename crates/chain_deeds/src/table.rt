@@ -156,14 +156,17 @@ impl ChainTable {
 }
 
 impl ChainPass {
+    ghost use Rattle.std.specs.Prelude.{OnErr};
     ghost use Rattle.chain_deeds.specs.Sides.{IsResting, HasRoom, side_of};
+    ghost use Rattle.table_rule.specs.Changes.{len_of, capacity_of};
 
-    /// Makes room for so many changes more. Where memory is wanting nothing has changed.
+    /// Makes room for so many changes more. Where memory is wanting that room was not there, and nothing has changed.
     pub fn reserve(&mut self, table: &ChainTable, count: usize) -> Result<(), AllocError>
         requires rests { IsResting table.now self.old }
         ensures rests { IsResting table.now self.new }
         ensures same { side_of table.now self.new ≡ side_of table.now self.old }
         ensures room { OnOk result (HasRoom count self.new) }
+        ensures full { OnErr result (capacity_of self.old.pass.changes < len_of self.old.pass.changes + count) }
     {
         self.pass.reserve(count)
     }

@@ -14,7 +14,9 @@ use Rattle.nulls_chain.specs.Changes.{IsPlaced}
 
 -- it is in the middle of nothing, and can make so many changes more
 abbrev pub IsReady : Chains → Pass → ℕ → Type 0
-IsReady t pass changes = IsPassOf t pass × IsIdle (known pass).slot × ((known pass).book.opened ≡ []) × ((known pass).chain.locked ≡ []) × HasShares (changes + changes) (known pass) × (len_of pass.changes + changes ≤ capacity_of pass.changes)
+IsReady t pass changes =
+    IsPassOf t pass × IsIdle (known pass).slot × ((known pass).book.opened ≡ []) × ((known pass).chain.locked ≡ [])
+    × HasShares (changes + changes) (known pass) × (len_of pass.changes + changes ≤ capacity_of pass.changes)
 
 -- it may unhash the place
 abbrev pub CanUnhash : Chains → Pass → Place → Type 0
@@ -26,4 +28,5 @@ CanLook v = (v.read.reader ≡ []) × HasTwo v
 
 -- it never drew a number, holds nothing, and can be split so many times
 abbrev pub CanDeal : Chains → Pass → ℕ → Type 0
-CanDeal t pass times = IsPassOf t pass × (times < (known pass).slot.parts) × ((known pass).slot.holds ≡ []) × (drawn (known pass) ≡ 0)
+CanDeal t pass times =
+    IsPassOf t pass × (times < (known pass).slot.parts) × ((known pass).slot.holds ≡ []) × (drawn (known pass) ≡ 0)

@@ -38,11 +38,13 @@ pub fn hash_in<R: Wait, H: Halt>(
     halt: &mut H,
 ) -> Result<Place, Full>
     requires layout { layout_of chains.now ≡ record { shape = plan.now.shape; seed = plan.now.seed } }
-    requires shape { (0 < plan.now.shape.hash) × (0 < plan.now.shape.listen) × (plan.now.shape.hash + plan.now.shape.listen < 2 ^ 32) }
+    requires shape { (0 < plan.now.shape.hash) × (0 < plan.now.shape.listen)
+        × (plan.now.shape.hash + plan.now.shape.listen < 2 ^ 32) }
     requires kind { has_tuple (packed card.now).ports ≡ false }
     requires ready { IsReady chains.now pass.old (rest + 1) }
     ensures ready { IsReady chains.now pass.new rest }
-    ensures place { IfOk result (λ place. time_waits (words_of (packed card.now)) ≡ 0 → CanUnhash chains.now pass.new place) }
+    ensures place { IfOk result (λ place. time_waits (words_of (packed card.now)) ≡ 0
+        → CanUnhash chains.now pass.new place) }
     ensures others { (place : Place) → CanUnhash chains.now pass.old place → CanUnhash chains.now pass.new place }
 {
     let bucket = home(&plan.shape, plan.seed, card);

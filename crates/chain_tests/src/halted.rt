@@ -104,7 +104,8 @@ fn stopped<R: Wait>(
     pass: &mut Pass,
     looking: Steps,
 ) -> Option<(u32, u32, u32)>
-    requires layout { layout_of chains.now ≡ record { shape = record { slots = 1; bind = 1; hash = 1; listen = 1 }; seed = 7 } }
+    requires layout { layout_of chains.now
+        ≡ record { shape = record { slots = 1; bind = 1; hash = 1; listen = 1 }; seed = 7 } }
     requires ready { IsReady chains.now pass.old 2 }
     requires looking { IsOf chains.now looking × CanLook (view looking) }
 {

@@ -106,7 +106,8 @@ fn change_first<R: Wait>(
     pass: &mut Pass,
     stage: &AtomicU64,
 ) -> Option<(u32, u32)>
-    requires layout { layout_of chains.now ≡ record { shape = record { slots = 2; bind = 1; hash = 1; listen = 1 }; seed = 7 } }
+    requires layout { layout_of chains.now
+        ≡ record { shape = record { slots = 2; bind = 1; hash = 1; listen = 1 }; seed = 7 } }
     requires ready { IsReady chains.now pass.old 5 }
 {
     hash_in(
@@ -149,7 +150,8 @@ fn hash_beside<R: Wait>(
     card: &Card,
     rest: u32,
 ) -> Option<Place>
-    requires layout { layout_of chains.now ≡ record { shape = record { slots = 2; bind = 1; hash = 1; listen = 1 }; seed = 7 } }
+    requires layout { layout_of chains.now
+        ≡ record { shape = record { slots = 2; bind = 1; hash = 1; listen = 1 }; seed = 7 } }
     requires kind { has_tuple (packed card.now).ports ≡ false }
     requires place { CanUnhash chains.now pass.old place }
     requires ready { IsReady chains.now pass.old (rest + 1) }
@@ -169,7 +171,8 @@ fn change_better<R: Wait>(
     pass: &mut Pass,
     stage: &AtomicU64,
 ) -> Option<(u32, u32)>
-    requires layout { layout_of chains.now ≡ record { shape = record { slots = 2; bind = 1; hash = 1; listen = 1 }; seed = 7 } }
+    requires layout { layout_of chains.now
+        ≡ record { shape = record { slots = 2; bind = 1; hash = 1; listen = 1 }; seed = 7 } }
     requires ready { IsReady chains.now pass.old 5 }
 {
     let better = listener(80, DEVICE, 1);
@@ -189,7 +192,8 @@ fn change<R: Wait>(
     stage: &AtomicU64,
     row: Row,
 ) -> Option<(u32, u32)>
-    requires layout { layout_of chains.now ≡ record { shape = record { slots = 2; bind = 1; hash = 1; listen = 1 }; seed = 7 } }
+    requires layout { layout_of chains.now
+        ≡ record { shape = record { slots = 2; bind = 1; hash = 1; listen = 1 }; seed = 7 } }
     requires ready { IsReady chains.now pass 5 }
 {
     match row {
@@ -200,7 +204,8 @@ fn change<R: Wait>(
 
 /// Looks the packet up once the listeners have come.
 fn look_there(chains: &Chains, mut steps: Steps, stage: &AtomicU64) -> Answer
-    requires layout { layout_of chains.now ≡ record { shape = record { slots = 2; bind = 1; hash = 1; listen = 1 }; seed = 7 } }
+    requires layout { layout_of chains.now
+        ≡ record { shape = record { slots = 2; bind = 1; hash = 1; listen = 1 }; seed = 7 } }
     requires table { IsOf chains.now steps }
     requires ready { CanLook (view steps) }
 {
@@ -226,7 +231,8 @@ fn met<R: Wait + Threads + Sync>(
     steps: Steps,
     row: Row,
 ) -> (Answer, Option<(u32, u32)>)
-    requires layout { layout_of chains.now ≡ record { shape = record { slots = 2; bind = 1; hash = 1; listen = 1 }; seed = 7 } }
+    requires layout { layout_of chains.now
+        ≡ record { shape = record { slots = 2; bind = 1; hash = 1; listen = 1 }; seed = 7 } }
     requires ready { IsReady chains.now pass 5 }
     requires table { IsOf chains.now steps }
     requires look { CanLook (view steps) }

@@ -123,7 +123,8 @@ struct Meddler<'a, R: Wait> {
     row: Row,
     stage: u32,
     left: u32,
-    ghost layout: { layout_of chains.now ≡ record { shape = record { slots = 2; bind = 1; hash = 1; listen = 1 }; seed = 7 } },
+    ghost layout: { layout_of chains.now
+        ≡ record { shape = record { slots = 2; bind = 1; hash = 1; listen = 1 }; seed = 7 } },
     ghost ready: { 0 < left → IsReady chains.now pass left },
 }
 
@@ -216,7 +217,8 @@ fn met<R: Wait>(
     sockets: &[Socket],
     passes: u32,
 ) -> Answer
-    requires layout { layout_of chains.now ≡ record { shape = record { slots = 2; bind = 1; hash = 1; listen = 1 }; seed = 7 } }
+    requires layout { layout_of chains.now
+        ≡ record { shape = record { slots = 2; bind = 1; hash = 1; listen = 1 }; seed = 7 } }
     requires ready { IsReady chains.now pass 8 }
     requires looking { IsOf chains.now looking × CanLook (view looking) }
     requires passes { 0 < passes }

@@ -206,7 +206,8 @@ fn looker_of<'a>(
     pass: Pass,
     words: GroupPasses,
 ) -> Looker<'a>
-    requires layout { layout_of chains.now ≡ record { shape = record { slots = 8; bind = 1; hash = 2; listen = 2 }; seed = 559038725 } }
+    requires layout { layout_of chains.now
+        ≡ record { shape = record { slots = 8; bind = 1; hash = 2; listen = 2 }; seed = 559038725 } }
     requires table { IsOf chains.now pass.steps }
     requires ready { CanLook (view pass.steps) }
     requires words { group_words.IsPassOf groups.now words × (0 < group_words.groups groups.now) }
@@ -253,7 +254,8 @@ fn come_again<R: Wait>(
     looker: &mut Looker,
     replace: Replace,
 ) -> Option<Again>
-    requires layout { layout_of chains.now ≡ record { shape = record { slots = 8; bind = 1; hash = 2; listen = 2 }; seed = 559038725 } }
+    requires layout { layout_of chains.now
+        ≡ record { shape = record { slots = 8; bind = 1; hash = 2; listen = 2 }; seed = 559038725 } }
     requires ready { IsReady chains.now pass.old 9 }
 {
     let mut new = Newcomer {
@@ -313,7 +315,8 @@ fn rank_all<R: Wait>(
     pass: &mut Pass,
     looker: &mut Looker,
 ) -> Option<[Option<u32>; 7]>
-    requires layout { layout_of chains.now ≡ record { shape = record { slots = 8; bind = 1; hash = 2; listen = 2 }; seed = 559038725 } }
+    requires layout { layout_of chains.now
+        ≡ record { shape = record { slots = 8; bind = 1; hash = 2; listen = 2 }; seed = 559038725 } }
     requires ready { IsReady chains.now pass.old 6 }
 {
     let any = listening(0, 0, 1, 0);
@@ -367,7 +370,8 @@ fn choose_all<R: Wait>(
     pass: &mut Pass,
     looker: &mut Looker,
 ) -> Option<[Option<u32>; 5]>
-    requires layout { layout_of chains.now ≡ record { shape = record { slots = 8; bind = 1; hash = 2; listen = 2 }; seed = 559038725 } }
+    requires layout { layout_of chains.now
+        ≡ record { shape = record { slots = 8; bind = 1; hash = 2; listen = 2 }; seed = 559038725 } }
     requires ready { IsReady chains.now pass.old 4 }
 {
     let first = listening(HERE, 0, 1, 1);
@@ -419,7 +423,8 @@ fn fill<R: Wait>(
     pass: &mut Pass,
     looker: &mut Looker,
 ) -> Option<(Came, Came, bool, Option<u32>)>
-    requires layout { layout_of chains.now ≡ record { shape = record { slots = 1; bind = 1; hash = 1; listen = 1 }; seed = 559038725 } }
+    requires layout { layout_of chains.now
+        ≡ record { shape = record { slots = 1; bind = 1; hash = 1; listen = 1 }; seed = 559038725 } }
     requires ready { IsReady chains.now pass.old 8 }
 {
     let listener = listening(HERE, 0, 1, 0);

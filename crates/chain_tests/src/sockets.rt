@@ -206,7 +206,8 @@ struct Server<'a, R: Wait + Clock> {
     chains: &'a Chains,
     pass: Pass,
     left: u32,
-    ghost layout: { layout_of chains.now ≡ record { shape = record { slots = 5; bind = 1; hash = 2; listen = 2 }; seed = 7 } },
+    ghost layout: { layout_of chains.now
+        ≡ record { shape = record { slots = 5; bind = 1; hash = 2; listen = 2 }; seed = 7 } },
     ghost ready: { IsReady chains.now pass left },
 }
 
@@ -301,7 +302,8 @@ struct Looker<'a, R: Clock> {
     steps: Steps,
     group_passes: GroupPasses,
     looks: Vec<Looked>,
-    ghost layout: { layout_of chains.now ≡ record { shape = record { slots = 5; bind = 1; hash = 2; listen = 2 }; seed = 7 } },
+    ghost layout: { layout_of chains.now
+        ≡ record { shape = record { slots = 5; bind = 1; hash = 2; listen = 2 }; seed = 7 } },
     ghost table: { IsOf chains.now steps },
     ghost ready: { CanLook (view steps) },
     ghost words: { group_words.IsPassOf groups.now group_passes },
@@ -343,7 +345,8 @@ struct Job<'a> {
     pass: Pass,
     group_passes: GroupPasses,
     number: u32,
-    ghost layout: { layout_of chains.now ≡ record { shape = record { slots = 5; bind = 1; hash = 2; listen = 2 }; seed = 7 } },
+    ghost layout: { layout_of chains.now
+        ≡ record { shape = record { slots = 5; bind = 1; hash = 2; listen = 2 }; seed = 7 } },
     ghost ready: { IsReady chains.now pass 161 },
     ghost look: { CanLook (known pass) },
     ghost words: { group_words.IsPassOf groups.now group_passes },
@@ -447,11 +450,14 @@ fn deal<'a>(
     first_words: &mut GroupPasses,
     number: u32,
 ) -> Result<Job<'a>, AllocError>
-    requires layout { layout_of chains.now ≡ record { shape = record { slots = 5; bind = 1; hash = 2; listen = 2 }; seed = 7 } }
+    requires layout { layout_of chains.now
+        ≡ record { shape = record { slots = 5; bind = 1; hash = 2; listen = 2 }; seed = 7 } }
     requires first { CanDeal chains.now first.old (number + 1) }
-    requires words { group_words.IsPassOf groups.now first_words.old × (number + 1 < group_words.parts first_words.old) }
+    requires words { group_words.IsPassOf groups.now first_words.old
+        × (number + 1 < group_words.parts first_words.old) }
     ensures first { OnOk result (CanDeal chains.now first.new number) }
-    ensures words { OnOk result (group_words.IsPassOf groups.now first_words.new × (number < group_words.parts first_words.new)) }
+    ensures words { OnOk result (group_words.IsPassOf groups.now first_words.new
+        × (number < group_words.parts first_words.new)) }
 {
     let mut pass = chains.split(alloc, first);
     let group_passes = first_words.split(groups);
@@ -473,7 +479,8 @@ fn deal_all<'a>(
     first: &mut Pass,
     words: &mut GroupPasses,
 ) -> Result<Vec<Job<'a>>, AllocError>
-    requires layout { layout_of chains.now ≡ record { shape = record { slots = 5; bind = 1; hash = 2; listen = 2 }; seed = 7 } }
+    requires layout { layout_of chains.now
+        ≡ record { shape = record { slots = 5; bind = 1; hash = 2; listen = 2 }; seed = 7 } }
     requires first { CanDeal chains.now first.old 4 }
     requires words { group_words.IsPassOf groups.now words.old × (4 < group_words.parts words.old) }
 {

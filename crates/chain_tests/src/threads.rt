@@ -92,7 +92,8 @@ struct Job<'a> {
     chains: &'a Chains,
     pass: Pass,
     number: u32,
-    ghost layout: { layout_of chains.now ≡ record { shape = record { slots = 6; bind = 1; hash = 2; listen = 1 }; seed = 7 } },
+    ghost layout: { layout_of chains.now
+        ≡ record { shape = record { slots = 6; bind = 1; hash = 2; listen = 1 }; seed = 7 } },
     ghost ready: { IsReady chains.now pass 130 },
     ghost look: { CanLook (known pass) },
 }
@@ -105,7 +106,8 @@ struct Changer<'a, R: Wait + Clock> {
     chains: &'a Chains,
     pass: Pass,
     left: u32,
-    ghost layout: { layout_of chains.now ≡ record { shape = record { slots = 6; bind = 1; hash = 2; listen = 1 }; seed = 7 } },
+    ghost layout: { layout_of chains.now
+        ≡ record { shape = record { slots = 6; bind = 1; hash = 2; listen = 1 }; seed = 7 } },
     ghost ready: { IsReady chains.now pass left },
 }
 
@@ -216,7 +218,8 @@ struct Looker<'a, R: Clock> {
     chains: &'a Chains,
     steps: Steps,
     looks: Vec<Looked>,
-    ghost layout: { layout_of chains.now ≡ record { shape = record { slots = 6; bind = 1; hash = 2; listen = 1 }; seed = 7 } },
+    ghost layout: { layout_of chains.now
+        ≡ record { shape = record { slots = 6; bind = 1; hash = 2; listen = 1 }; seed = 7 } },
     ghost table: { IsOf chains.now steps },
     ghost ready: { CanLook (view steps) },
 }
@@ -364,7 +367,8 @@ fn deal<'a>(
     first: &mut Pass,
     number: u32,
 ) -> Result<Job<'a>, AllocError>
-    requires layout { layout_of chains.now ≡ record { shape = record { slots = 6; bind = 1; hash = 2; listen = 1 }; seed = 7 } }
+    requires layout { layout_of chains.now
+        ≡ record { shape = record { slots = 6; bind = 1; hash = 2; listen = 1 }; seed = 7 } }
     requires first { CanDeal chains.now first.old (number + 1) }
     ensures first { OnOk result (CanDeal chains.now first.new number) }
 {
@@ -383,7 +387,8 @@ fn deal_all<'a>(
     chains: &'a Chains,
     first: &mut Pass,
 ) -> Result<Vec<Job<'a>>, AllocError>
-    requires layout { layout_of chains.now ≡ record { shape = record { slots = 6; bind = 1; hash = 2; listen = 1 }; seed = 7 } }
+    requires layout { layout_of chains.now
+        ≡ record { shape = record { slots = 6; bind = 1; hash = 2; listen = 1 }; seed = 7 } }
     requires first { CanDeal chains.now first.old 4 }
 {
     let mut jobs = Vec::new(alloc);

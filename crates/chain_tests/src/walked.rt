@@ -54,7 +54,8 @@ const LATER: Card = Card {
 
 /// Hashes the two cards, and takes the earlier one out: the names in the chain before that and after it.
 fn walks<R: Wait>(rt: &R, chains: &Chains, pass: &mut Pass) -> Option<(Names, Names)>
-    requires layout { layout_of chains.now ≡ record { shape = record { slots = 2; bind = 1; hash = 1; listen = 1 }; seed = 7 } }
+    requires layout { layout_of chains.now
+        ≡ record { shape = record { slots = 2; bind = 1; hash = 1; listen = 1 }; seed = 7 } }
     requires ready { IsReady chains.now pass.old 3 }
 {
     hash_in(chains, rt, pass, &PLAN, &EARLIER, 2, &mut Unhalted).ok()?;

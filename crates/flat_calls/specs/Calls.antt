@@ -17,16 +17,25 @@ pub record Numbered : Type 0 where
 abbrev pub AreCounted : Flat → ℕ → Type 0
 AreCounted flat calls = (m : ℕ) → length (labels_of m flat.sections) ≤ calls
 
--- the list replied so, and is what the command leaves
+-- there is such a worker, and there is a call left
+pub record MayCall (t : Numbered) (worker : ℕ) : Type 0 where
+  pub least : 1 ≤ worker
+  pub most : worker ≤ 64
+  pub left : t.calls < 2 ^ 24 - 2
+
+-- the list was asked, replied so, and is what the command leaves
 pub record Steps (old new : Numbered) (worker : ℕ) (command : Command) (reply : Reply) : Type 0 where
+  pub may : MayCall old worker
   pub replies : step old.flat worker command ≡ record { flat = new.flat; reply = reply }
   pub counted : new.calls ≡ old.calls + 1
 
--- what came of the call of a worker: a reply, or nothing was asked, for a cause, and all is as it was
+-- What came of the call of a worker: a reply, or nothing was asked, for a cause, and all is as it was. The causes
+-- exclude each other, so it is told which of them comes; want of memory alone may come or not where a reply would.
 abbrev pub Called : Numbered → Numbered → ℕ → Command → Outcome → Type 0
 Called old new worker command (outcomes.Replied reply) = Steps old new worker command reply
 Called old new worker command outcomes.NoTables = ⊥
 Called old new worker command outcomes.Busy = ⊥
 Called old new worker command outcomes.NoWorker = (new ≡ old) × ((worker ≡ 0) ⊎ (64 < worker))
-Called old new worker command outcomes.NoNumber = (new ≡ old) × (2 ^ 24 - 2 ≤ old.calls)
-Called old new worker command outcomes.NoMemory = (new ≡ old) × (may_grow command ≡ true)
+Called old new worker command outcomes.NoNumber =
+    (new ≡ old) × (1 ≤ worker) × (worker ≤ 64) × (2 ^ 24 - 2 ≤ old.calls)
+Called old new worker command outcomes.NoMemory = (new ≡ old) × MayCall old worker × (may_grow command ≡ true)

@@ -24,8 +24,8 @@ errno_of_reply (replies.Found card) = 0
 errno_of_reply replies.Skip = 0
 errno_of_reply replies.Short = 0
 
--- EBADF where there are no tables, EAGAIN where another is there, ENOMEM, EINVAL of a worker that isn't, EOVERFLOW where
--- no call is left
+-- EBADF where there are no tables, EAGAIN where another is there, ENOMEM, EINVAL of a worker that isn't, EOVERFLOW
+-- where no call is left
 abbrev pub errno_of : Outcome → ℕ
 errno_of (outcomes.Replied reply) = errno_of_reply reply
 errno_of outcomes.NoTables = 9

@@ -21,7 +21,9 @@ kind_of kinds.Request = 4
 pub record Sees (t : Numbered) (card : Card) (sight : Sight) : Type 0 where
   pub kind : sight.kind ≡ kind_of card.kind
   pub worker : sight.worker ≡ card.name / 2 ^ 24
-  pub number : length (sections.label_of t.flat.sections card.name) ≡ 4 → label_of sight.socket ≡ sections.label_of t.flat.sections card.name
+  pub number :
+      length (sections.label_of t.flat.sections card.name) ≡ 4
+      → label_of sight.socket ≡ sections.label_of t.flat.sections card.name
 
 -- the flat list finds a card exactly where there is a sight, and the sight is of that
 abbrev pub SeesIf : Numbered → Option Card → Option Sight → Type 0

@@ -18,3 +18,4 @@ pub mod SlotsStay
 pub mod LabelKeys
 pub mod SectionsStay
 pub mod CardsOf
+pub mod ShortLabels

@@ -33,7 +33,10 @@ added flat socket reply =
 abbrev pub removed : Flat → Socket → Reply → Outcome
 removed flat socket reply =
     let name = socket.owner.name in
-    record { flat = record flat { sockets = without name flat.sockets; groups = leave name flat.groups }; reply = reply }
+    record {
+      flat = record flat { sockets = without name flat.sockets; groups = leave name flat.groups };
+      reply = reply;
+    }
 
 -- the section of that number has given one more label
 abbrev pub with_new_label : Flat → ℕ → List ℕ → Flat

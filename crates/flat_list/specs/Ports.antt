@@ -53,4 +53,5 @@ ports_of r = unreserved r (range_with_len r.low (size r))
 
 -- a range of an even number of ports is tried whole but for the reserved ones, and each port once
 abbrev pub TriesEachOnce : Type 0
-TriesEachOnce = (r : Range) (offset : ℕ) (first : First) → size r % 2 ≡ 0 → SameItems (port_order r offset first) (ports_of r)
+TriesEachOnce =
+    (r : Range) (offset : ℕ) (first : First) → size r % 2 ≡ 0 → SameItems (port_order r offset first) (ports_of r)

@@ -46,7 +46,8 @@ with_slots slots =
 
 -- a header with that range, and that offset if there is one
 abbrev pub with_range : ℕ → ℕ → Option ℕ → Header
-with_range low high offset = record (with_slots 1024) { range = record { low = low; high = high; reserved = none_reserved }; offset = offset }
+with_range low high offset =
+    record (with_slots 1024) { range = record { low = low; high = high; reserved = none_reserved }; offset = offset }
 
 -- a header with the range 40000 to 40003, of which 40001 and 40003 are reserved, and offset 0
 abbrev pub with_reserved : Header
@@ -523,7 +524,8 @@ abbrev pub listens_anywhere : List Line
 listens_anywhere =
     says (socket a) replies.Ok
     ∷ says (commands.Listen a) (replies.Port 40001)
-    ∷ says (look_for (two 5) (record { addr = 0x0A000007; port = 40001 }) None) (found kinds.Listen (name_at 1 0) (any 40001) nowhere)
+    ∷ says (look_for (two 5) (record { addr = 0x0A000007; port = 40001 }) None)
+    (found kinds.Listen (name_at 1 0) (any 40001) nowhere)
     ∷ []
 
 -- in a range of two ports: sockets of one address that take their ports late share one by their other ends, and a

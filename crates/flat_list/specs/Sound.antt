@@ -93,7 +93,9 @@ pub record IsGroupOf (buckets : ℕ) (sockets : List Socket) (g : Group) : Type 
   pub most : length g.members ≤ group_room
   pub differ : Pairs (λ a b. a ≢ b) g.members
   pub known : Each (λ name. list_any (has_name name) sockets ≡ true) g.members
-  pub bucket : Each (λ (s : Socket). has_member s.owner.name g ≡ true → bucket_of (owner_key s.owner) buckets ≡ g.number / 8) sockets
+  pub bucket :
+      Each (λ (s : Socket). has_member s.owner.name g ≡ true
+      → bucket_of (owner_key s.owner) buckets ≡ g.number / 8) sockets
 
 -- two groups have different numbers
 abbrev pub NumbersDiffer : Group → Group → Type 0
@@ -178,5 +180,6 @@ FindsOneOrOneGroup =
     (flat : Flat) (packet : Packet) → IsSound flat
     → let cards = cards_of flat.groups flat.sockets in
     Pairs
-    (λ a b. is_best packet cards a ≡ true → is_best packet cards b ≡ true → are_together flat.groups a.name b.name ≡ true)
+    (λ a b. is_best packet cards a ≡ true → is_best packet cards b ≡ true
+    → are_together flat.groups a.name b.name ≡ true)
     cards

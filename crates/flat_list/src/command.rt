@@ -1,6 +1,7 @@
 ghost use Rattle.std.specs.Prelude.{◌≡◌, ◌<◌, ◌≤◌, ◌+◌, length, take, drop, bytes_eq, IfNone, IfSome};
 ghost use Rattle.std.specs.Int.{w64, to_be_bytes, from_be_bytes};
 ghost use Rattle.flat_list.specs.Labels.{key_of, text_of};
+ghost use Rattle.flat_list.specs.Padded as spec;
 
 use crate::owned::Options;
 use sock_card::Card;
@@ -27,7 +28,8 @@ impl Model for Label {
 
     ghost inverse = { λ text. record { bytes = padded text; used = length text } };
 
-    ghost inverse_ok = { λ l h i. record { bytes = bytes_back l.bytes l.used h i; used = length_back l.bytes l.used h i } };
+    ghost inverse_ok = { λ l h i. record
+        { bytes = bytes_back l.bytes l.used h i; used = length_back l.bytes l.used h i } };
 }
 
 /// A label as numbers, which compare and hash faster than bytes.
@@ -80,6 +82,22 @@ impl Label {
         ensures { result.now ≡ self.now }
     {
         &self.bytes[..self.used as usize]
+    }
+
+    /// The label, and zeros behind it.
+    pub(crate) fn padded(&self) -> &[u8; 16]
+        ensures { result.now ≡ spec.padded self.now }
+    {
+        &self.bytes
+    }
+
+    /// The label that so many of these bytes are, with zeros behind it.
+    pub(crate) fn from_padded(bytes: [u8; 16], used: u8) -> Self
+        requires few { used ≤ 16 }
+        requires padded { bytes ≡ spec.padded (take used bytes) }
+        ensures { result ≡ take used bytes }
+    {
+        Label { bytes, used }
     }
 
     /// The label as numbers. Two labels have the same ones exactly where they have the same bytes.

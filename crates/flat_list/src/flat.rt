@@ -44,14 +44,24 @@ impl Model for Flat {
 
     ghost Value = { Kept };
 
-    ghost view = { λ f. record { header = f.header; sockets = f.sockets.items; groups = f.groups.items; sections = f.sections.items } };
+    ghost view = { λ f. record {
+      header = f.header;
+      sockets = f.sockets.items;
+      groups = f.groups.items;
+      sections = f.sections.items;
+    } };
 }
 
 /// Where a search begins; where the header names no offset, a word is drawn for it.
 fn draw_offset(header: &Header, section: u32, sections: &mut Vec<Section>) -> u16
     requires { sections_spec.labels_of section sections.old.items ≢ [] }
     ensures { (sockets : List Socket) (groups : List Group)
-        → outcome_spec.draw (record { header = header.now; sockets = sockets; groups = groups; sections = sections.old.items }) section header.now.offset
+        → outcome_spec.draw (record {
+          header = header.now;
+          sockets = sockets;
+          groups = groups;
+          sections = sections.old.items;
+        }) section header.now.offset
         ≡ record {
           offset = result;
           flat = record { header = header.now; sockets = sockets; groups = groups; sections = sections.new.items };
@@ -114,7 +124,8 @@ impl Flat {
     }
 
     fn listen(&mut self, section: u32, label: &Label) -> Result<Reply, AllocError>
-        ensures step { IfOk result (λ reply. spec.listen self.old section (outcome_spec.open_socket self.old section label.now)
+        ensures step { IfOk result (λ reply. spec.listen self.old section
+            (outcome_spec.open_socket self.old section label.now)
             ≡ record { flat = self.new; reply = reply }) }
         ensures err { OnErr result (self.new ≡ self.old) }
     {
@@ -158,14 +169,16 @@ impl Flat {
 
     /// Whether a search of `bind` at that address takes the port.
     fn can_bind_at(&self, socket: Socket, addr: u32, port: u16) -> bool
-        ensures { result ≡ (not (ports_spec.is_reserved self.now.header.range port) && spec.suits_bind self.now socket addr port) }
+        ensures { result ≡ (not (ports_spec.is_reserved self.now.header.range port)
+            && spec.suits_bind self.now socket addr port) }
     {
         !ports::is_reserved(&self.header.range, port) && self.suits_bind(socket, addr, port)
     }
 
     /// The first port of a search at that address at which no other owner overlaps.
     fn free_port(&self, socket: Socket, addr: u32, offset: u16) -> Option<u16>
-        ensures { result ≡ find (spec.suits_bind self.now socket addr) (ports_spec.port_order self.now.header.range offset First.Odd) }
+        ensures { result ≡ find (spec.suits_bind self.now socket addr)
+            (ports_spec.port_order self.now.header.range offset First.Odd) }
     {
         let range = &self.header.range;
         for number in 0..ports::count(range) {
@@ -390,7 +403,8 @@ impl Flat {
         to: End,
         offset: u16,
     ) -> Option<u16>
-        ensures { result ≡ find (connect_spec.suits_connect self.now section socket source to) (ports_spec.port_order self.now.header.range offset First.Even) }
+        ensures { result ≡ find (connect_spec.suits_connect self.now section socket source to)
+            (ports_spec.port_order self.now.header.range offset First.Even) }
     {
         let range = &self.header.range;
         for number in 0..ports::count(range) {
@@ -483,7 +497,10 @@ impl Flat {
     ) -> Result<Reply, AllocError>
         requires number { section ≤ 64 }
         requires room { length (sections_spec.labels_of section self.old.sections) + 1 < 2 ^ 24 }
-        ensures step { IfOk result (λ reply. connect_spec.accept (outcome_spec.with_new_label self.old section label.now) (sections_spec.next_name section self.old.sections) (outcome_spec.open_socket self.old section listener.now) from at
+        ensures step { IfOk result (λ reply. connect_spec.accept
+            (outcome_spec.with_new_label self.old section label.now)
+            (sections_spec.next_name section self.old.sections)
+            (outcome_spec.open_socket self.old section listener.now) from at
             ≡ record { flat = self.new; reply = reply }) }
         ensures err { OnErr result (self.new ≡ self.old) }
     {
@@ -537,7 +554,9 @@ impl Flat {
     ) -> Result<Reply, AllocError>
         requires number { section ≤ 64 }
         requires room { length (sections_spec.labels_of section self.old.sections) + 1 < 2 ^ 24 }
-        ensures step { IfOk result (λ reply. connect_spec.syn (outcome_spec.with_new_label self.old section label.now) (sections_spec.next_name section self.old.sections) (outcome_spec.open_socket self.old section listener.now) from at
+        ensures step { IfOk result (λ reply. connect_spec.syn (outcome_spec.with_new_label self.old section label.now)
+            (sections_spec.next_name section self.old.sections)
+            (outcome_spec.open_socket self.old section listener.now) from at
             ≡ record { flat = self.new; reply = reply }) }
         ensures err { OnErr result (self.new ≡ self.old) }
     {
@@ -557,9 +576,11 @@ impl Flat {
 
     /// The child that a request's listener accepts when the handshake is over, or the refusal.
     fn heir(&self, section: u32, request: &Socket, name: u32) -> Result<Socket, Reply>
-        ensures child { IfOk result (λ child. connect_spec.ack_socket self.now section name request.now request.now.owner.state
+        ensures child { IfOk result (λ child.
+            connect_spec.ack_socket self.now section name request.now request.now.owner.state
             ≡ outcome_spec.added (connect_spec.without_request self.now request.now) child Reply.Ok) }
-        ensures refusal { IfErr result (λ reply. connect_spec.ack_socket self.now section name request.now request.now.owner.state
+        ensures refusal { IfErr result
+            (λ reply. connect_spec.ack_socket self.now section name request.now request.now.owner.state
             ≡ outcome_spec.unchanged self.now reply) }
     {
         if !matches!(request.owner.state, State::Request) {
@@ -580,7 +601,9 @@ impl Flat {
     fn ack(&mut self, section: u32, request: &Label, label: &Label) -> Result<Reply, AllocError>
         requires number { section ≤ 64 }
         requires room { length (sections_spec.labels_of section self.old.sections) + 1 < 2 ^ 24 }
-        ensures step { IfOk result (λ reply. connect_spec.ack (outcome_spec.with_new_label self.old section label.now) section (sections_spec.next_name section self.old.sections) (outcome_spec.open_socket self.old section request.now)
+        ensures step { IfOk result (λ reply. connect_spec.ack
+            (outcome_spec.with_new_label self.old section label.now) section
+            (sections_spec.next_name section self.old.sections) (outcome_spec.open_socket self.old section request.now)
             ≡ record { flat = self.new; reply = reply }) }
         ensures err { OnErr result (self.new ≡ self.old) }
     {

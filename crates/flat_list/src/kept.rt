@@ -19,13 +19,14 @@ pub struct ShortLabel {
 }
 
 impl Model for ShortLabel {
-    ghost use Rattle.std.specs.Prelude.{List, ℕ, ◌≤◌, take};
+    ghost use Rattle.std.specs.Prelude.{List, ℕ, ◌≡◌, ◌≤◌, take};
+    ghost use Rattle.flat_list.specs.Padded.{padded};
 
     ghost Value = { List ℕ };
 
     ghost view = { λ l. take l.used l.bytes };
 
-    ghost invariant = { λ l. l.used ≤ 7 };
+    ghost invariant = { λ l. (l.used ≤ 7) × (l.bytes ≡ take 7 (padded (take l.used l.bytes))) };
 }
 
 impl ShortLabel {
@@ -34,15 +35,15 @@ impl ShortLabel {
         ensures some { IfSome result (λ short. short ≡ label.now) }
         ensures none { IfNone result (7 < length label.now) }
     {
-        let label = label.as_bytes();
-        if label.len() > 7 {
+        let used = label.as_bytes().len();
+        if used > 7 {
             return None;
         }
         let mut bytes = [0; 7];
-        bytes[..label.len()].copy_from_slice(label);
+        bytes.copy_from_slice(&label.padded()[..7]);
         Some(ShortLabel {
             bytes,
-            used: label.len() as u8,
+            used: used as u8,
         })
     }
 
@@ -57,8 +58,9 @@ impl ShortLabel {
     pub fn label(&self) -> Label
         ensures { result ≡ self.now }
     {
-        let label = &self.bytes[..self.used as usize];
-        Label::from_bytes(label).unwrap()
+        let mut bytes = [0; 16];
+        bytes[..7].copy_from_slice(&self.bytes);
+        Label::from_padded(bytes, self.used)
     }
 }
 
@@ -189,39 +191,6 @@ impl Model for KeptCommand {
     ghost view = { λ k. kept_command k.form };
 }
 
-/// How a `socket` is kept.
-fn socket(label: Label, options: Options) -> Form
-    ensures { kept_command result ≡ commands.Socket label options }
-{
-    let Options {
-        net,
-        uid,
-        dev,
-        reuseaddr,
-        reuseport,
-        noport,
-    } = options;
-    match uid {
-        None => Form::Socket {
-            label,
-            net,
-            dev,
-            reuseaddr,
-            reuseport,
-            noport,
-        },
-        Some(uid) => Form::UserSocket {
-            label,
-            net,
-            dev,
-            reuseaddr,
-            reuseport,
-            noport,
-            uid,
-        },
-    }
-}
-
 /// Both labels, where both are short.
 fn short_labels(of: &Label, given: &Label) -> Option<(ShortLabel, ShortLabel)>
     ensures { IfSome result (λ r. (r.0 ≡ of.now) × (r.1 ≡ given.now)) }
@@ -238,117 +207,6 @@ fn long_labels(alloc: Global, of: &Label, given: &Label) -> Result<Box<TwoLabels
         given: *given,
     };
     Ok(Box::new(alloc, labels)?)
-}
-
-/// How an `accept` is kept.
-fn accept(
-    alloc: Global,
-    listener: &Label,
-    label: &Label,
-    from: End,
-    at: End,
-) -> Result<Form, AllocError>
-    ensures { IfOk result (λ form. kept_command form ≡ commands.Accept listener.now label.now from at) }
-{
-    match short_labels(listener, label) {
-        Some((listener, label)) => Ok(Form::Accept {
-            listener,
-            label,
-            from_port: from.port,
-            at_port: at.port,
-            from_addr: from.addr,
-            at_addr: at.addr,
-        }),
-        None => Ok(Form::LongAccept {
-            from_port: from.port,
-            at_port: at.port,
-            from_addr: from.addr,
-            at_addr: at.addr,
-            labels: long_labels(alloc, listener, label)?,
-        }),
-    }
-}
-
-/// How a `syn` is kept.
-fn syn(
-    alloc: Global,
-    listener: &Label,
-    label: &Label,
-    from: End,
-    at: End,
-) -> Result<Form, AllocError>
-    ensures { IfOk result (λ form. kept_command form ≡ commands.Syn listener.now label.now from at) }
-{
-    match short_labels(listener, label) {
-        Some((listener, label)) => Ok(Form::Syn {
-            listener,
-            label,
-            from_port: from.port,
-            at_port: at.port,
-            from_addr: from.addr,
-            at_addr: at.addr,
-        }),
-        None => Ok(Form::LongSyn {
-            from_port: from.port,
-            at_port: at.port,
-            from_addr: from.addr,
-            at_addr: at.addr,
-            labels: long_labels(alloc, listener, label)?,
-        }),
-    }
-}
-
-/// How an `ack` is kept.
-fn ack(alloc: Global, request: &Label, label: &Label) -> Result<Form, AllocError>
-    ensures { IfOk result (λ form. kept_command form ≡ commands.Ack request.now label.now) }
-{
-    match short_labels(request, label) {
-        Some((request, label)) => Ok(Form::Ack { request, label }),
-        None => Ok(Form::LongAck {
-            labels: long_labels(alloc, request, label)?,
-        }),
-    }
-}
-
-/// How a command is kept.
-fn form_of(alloc: Global, command: &Command) -> Result<Form, AllocError>
-    ensures { IfOk result (λ form. kept_command form ≡ command.now) }
-{
-    match command {
-        Command::Socket { label, options } => Ok(socket(*label, *options)),
-        Command::Bind { label, end } => Ok(Form::Bind {
-            label: *label,
-            port: end.port,
-            addr: end.addr,
-        }),
-        Command::Listen { label } => Ok(Form::Listen { label: *label }),
-        Command::Connect { label, from, to } => Ok(Form::Connect {
-            label: *label,
-            port: to.port,
-            addr: to.addr,
-            from: *from,
-        }),
-        Command::Accept {
-            listener,
-            label,
-            from,
-            at,
-        } => accept(alloc, listener, label, *from, *at),
-        Command::Syn {
-            listener,
-            label,
-            from,
-            at,
-        } => syn(alloc, listener, label, *from, *at),
-        Command::Ack { request, label } => ack(alloc, request, label),
-        Command::Close { label } => Ok(Form::Close { label: *label }),
-        Command::Drop { label } => Ok(Form::Drop { label: *label }),
-        Command::At { moment } => Ok(Form::At { moment: *moment }),
-        Command::Reap => Ok(Form::Reap),
-        Command::Look { query } => Ok(Form::Look { query: *query }),
-        Command::Packets { count } => Ok(Form::Packets { count: *count }),
-        Command::Dump => Ok(Form::Dump),
-    }
 }
 
 /// The command that is kept so.
@@ -477,13 +335,238 @@ fn command_of(form: &Form) -> Command
 }
 
 impl KeptCommand {
+    /// A `socket`.
+    pub fn socket(label: Label, options: Options) -> Self
+        ensures { result ≡ commands.Socket label options }
+    {
+        let Options {
+            net,
+            uid,
+            dev,
+            reuseaddr,
+            reuseport,
+            noport,
+        } = options;
+        let form = match uid {
+            None => Form::Socket {
+                label,
+                net,
+                dev,
+                reuseaddr,
+                reuseport,
+                noport,
+            },
+            Some(uid) => Form::UserSocket {
+                label,
+                net,
+                dev,
+                reuseaddr,
+                reuseport,
+                noport,
+                uid,
+            },
+        };
+        KeptCommand { form }
+    }
+
+    /// A `bind`.
+    pub fn bind(label: Label, end: End) -> Self
+        ensures { result ≡ commands.Bind label end }
+    {
+        KeptCommand {
+            form: Form::Bind {
+                label,
+                port: end.port,
+                addr: end.addr,
+            },
+        }
+    }
+
+    /// A `listen`.
+    pub fn listen(label: Label) -> Self
+        ensures { result ≡ commands.Listen label }
+    {
+        KeptCommand {
+            form: Form::Listen { label },
+        }
+    }
+
+    /// A `connect`.
+    pub fn connect(label: Label, from: Option<u32>, to: End) -> Self
+        ensures { result ≡ commands.Connect label from to }
+    {
+        KeptCommand {
+            form: Form::Connect {
+                label,
+                port: to.port,
+                addr: to.addr,
+                from,
+            },
+        }
+    }
+
+    /// An `accept`. Takes memory only where one of the labels has more than seven bytes; so do `syn` and `ack`.
+    pub fn accept(
+        alloc: Global,
+        listener: &Label,
+        label: &Label,
+        from: End,
+        at: End,
+    ) -> Result<Self, AllocError>
+        ensures { IfOk result (λ kept. kept ≡ commands.Accept listener.now label.now from at) }
+    {
+        let form = match short_labels(listener, label) {
+            Some((listener, label)) => Form::Accept {
+                listener,
+                label,
+                from_port: from.port,
+                at_port: at.port,
+                from_addr: from.addr,
+                at_addr: at.addr,
+            },
+            None => Form::LongAccept {
+                from_port: from.port,
+                at_port: at.port,
+                from_addr: from.addr,
+                at_addr: at.addr,
+                labels: long_labels(alloc, listener, label)?,
+            },
+        };
+        Ok(KeptCommand { form })
+    }
+
+    /// A `syn`.
+    pub fn syn(
+        alloc: Global,
+        listener: &Label,
+        label: &Label,
+        from: End,
+        at: End,
+    ) -> Result<Self, AllocError>
+        ensures { IfOk result (λ kept. kept ≡ commands.Syn listener.now label.now from at) }
+    {
+        let form = match short_labels(listener, label) {
+            Some((listener, label)) => Form::Syn {
+                listener,
+                label,
+                from_port: from.port,
+                at_port: at.port,
+                from_addr: from.addr,
+                at_addr: at.addr,
+            },
+            None => Form::LongSyn {
+                from_port: from.port,
+                at_port: at.port,
+                from_addr: from.addr,
+                at_addr: at.addr,
+                labels: long_labels(alloc, listener, label)?,
+            },
+        };
+        Ok(KeptCommand { form })
+    }
+
+    /// An `ack`.
+    pub fn ack(alloc: Global, request: &Label, label: &Label) -> Result<Self, AllocError>
+        ensures { IfOk result (λ kept. kept ≡ commands.Ack request.now label.now) }
+    {
+        let form = match short_labels(request, label) {
+            Some((request, label)) => Form::Ack { request, label },
+            None => Form::LongAck {
+                labels: long_labels(alloc, request, label)?,
+            },
+        };
+        Ok(KeptCommand { form })
+    }
+
+    /// A `close`.
+    pub fn close(label: Label) -> Self
+        ensures { result ≡ commands.Close label }
+    {
+        KeptCommand {
+            form: Form::Close { label },
+        }
+    }
+
+    /// A `drop`.
+    pub fn drop(label: Label) -> Self
+        ensures { result ≡ commands.Drop label }
+    {
+        KeptCommand {
+            form: Form::Drop { label },
+        }
+    }
+
+    /// An `at`.
+    pub fn at(moment: u32) -> Self
+        ensures { result ≡ commands.At moment }
+    {
+        KeptCommand {
+            form: Form::At { moment },
+        }
+    }
+
+    /// A `reap`.
+    pub fn reap() -> Self
+        ensures { result ≡ commands.Reap }
+    {
+        KeptCommand { form: Form::Reap }
+    }
+
+    /// A `look`.
+    pub fn look(query: Query) -> Self
+        ensures { result ≡ commands.Look query }
+    {
+        KeptCommand {
+            form: Form::Look { query },
+        }
+    }
+
+    /// A `packets`.
+    pub fn packets(count: u32) -> Self
+        ensures { result ≡ commands.Packets count }
+    {
+        KeptCommand {
+            form: Form::Packets { count },
+        }
+    }
+
+    /// A `dump`.
+    pub fn dump() -> Self
+        ensures { result ≡ commands.Dump }
+    {
+        KeptCommand { form: Form::Dump }
+    }
+
     /// A command, as it is kept. Takes memory only where it has two labels, of which one has more than seven bytes.
     pub fn of(alloc: Global, command: &Command) -> Result<Self, AllocError>
         ensures { IfOk result (λ kept. kept ≡ command.now) }
     {
-        Ok(KeptCommand {
-            form: form_of(alloc, command)?,
-        })
+        match command {
+            Command::Socket { label, options } => Ok(Self::socket(*label, *options)),
+            Command::Bind { label, end } => Ok(Self::bind(*label, *end)),
+            Command::Listen { label } => Ok(Self::listen(*label)),
+            Command::Connect { label, from, to } => Ok(Self::connect(*label, *from, *to)),
+            Command::Accept {
+                listener,
+                label,
+                from,
+                at,
+            } => Self::accept(alloc, listener, label, *from, *at),
+            Command::Syn {
+                listener,
+                label,
+                from,
+                at,
+            } => Self::syn(alloc, listener, label, *from, *at),
+            Command::Ack { request, label } => Self::ack(alloc, request, label),
+            Command::Close { label } => Ok(Self::close(*label)),
+            Command::Drop { label } => Ok(Self::drop(*label)),
+            Command::At { moment } => Ok(Self::at(*moment)),
+            Command::Reap => Ok(Self::reap()),
+            Command::Look { query } => Ok(Self::look(*query)),
+            Command::Packets { count } => Ok(Self::packets(*count)),
+            Command::Dump => Ok(Self::dump()),
+        }
     }
 
     /// The command, as others take it.

@@ -75,7 +75,8 @@ pub fn rows()
 pub fn more_rows()
     ensures refusals { Answer (with_slots 3) more.refusals }
     ensures full_and_grouped { Answer (with_slots 8) more.full_and_grouped }
-    ensures sections { more.AllAnswer (new_flat more.for_sections) 1 (more.section_one ∷ more.section_two ∷ more.section_three ∷ []) }
+    ensures sections { more.AllAnswer (new_flat more.for_sections) 1
+        (more.section_one ∷ more.section_two ∷ more.section_three ∷ []) }
     ensures waits { Answer (with_slots 3) more.waits }
     ensures wait_taken { Answer (with_slots 1024) more.wait_taken }
     ensures requests { Answer (with_slots 2) more.requests }

@@ -29,7 +29,11 @@ impl Model for Script {
 
     ghost Value = { Text };
 
-    ghost view = { λ s. record { header = s.header; sections = map (λ v. v.items) s.sections.items; capture = s.capture } };
+    ghost view = { λ s. record {
+      header = s.header;
+      sections = map (λ v. v.items) s.sections.items;
+      capture = s.capture;
+    } };
 }
 
 impl Script {

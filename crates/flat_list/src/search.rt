@@ -127,7 +127,8 @@ fn gives_way(switch: bool, moment: u32, socket: &Socket) -> bool
 
 /// Whether a TIME_WAIT of the owner's four-tuple doesn't give way.
 fn is_kept_waiting(switch: bool, moment: u32, owner: &Owner, sockets: &[Socket]) -> bool
-    ensures { result ≡ list_any (λ s. spec.waits_at owner.now s && not (time_wait.gives_way switch moment s.stamp)) sockets.now }
+    ensures { result ≡ list_any (λ s. spec.waits_at owner.now s
+        && not (time_wait.gives_way switch moment s.stamp)) sockets.now }
 {
     sockets
         .iter()

@@ -27,7 +27,12 @@ impl Model for Section {
 
     ghost Value = { Kept };
 
-    ghost view = { λ s. record { number = s.number; labels = s.labels.items; moment = s.moment; generator = s.generator } };
+    ghost view = { λ s. record {
+      number = s.number;
+      labels = s.labels.items;
+      moment = s.moment;
+      generator = s.generator;
+    } };
 
     ghost invariant = { λ s. (s.number ≤ 64) × (length s.labels.items < 2 ^ 24) };
 }
@@ -63,7 +68,8 @@ impl Section {
 
     /// The name of the socket that a label stands for.
     pub fn name_of(&self, label: &Label) -> Option<u32>
-        ensures { result ≡ option_map (spec.name_at self.now.number) (position (λ l. bytes_eq l label.now) self.now.labels) }
+        ensures { result ≡ option_map (spec.name_at self.now.number)
+            (position (λ l. bytes_eq l label.now) self.now.labels) }
     {
         let place = place_of(label, &self.labels)?;
         Some(self.number * 0x100_0000 + place as u32 + 1)

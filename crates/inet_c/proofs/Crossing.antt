@@ -1,14 +1,11 @@
 -- What a handle holds may go to another thread, layer by layer.
-use denote.Param.Send.{IsSend, IsSync, sendable}
+use denote.Param.Send.{IsSend, sendable}
 use Rattle.std.proofs.Crossing.{crosses}
 use Rattle.std.proofs.MapsCrossing as maps
 use Rattle.atomic_table.proofs.shared.Seat.TheSendSync as seat
 use Rattle.atomic_table.proofs.shared.Shared.TheSendSync as shared
 use Rattle.atomic_table.proofs.send_lease.SendLease.TheSendSync as lease
-use Rattle.bind_buckets.specs.contracts.bucket.Bucket as Bucket
-use Rattle.bind_buckets.specs.contracts.journal.Journal as Journal
 use Rattle.bind_buckets.proofs.journal.Log.TheLaws.TheKnot as knot
-use Rattle.bind_buckets.proofs.held.Held.TheSendSync as owners
 use Rattle.flat_calls.proofs.tables.Tables.TheSendSync as lists
 use Rattle.flat_list.proofs.command.LabelKey.TheSendSync as keys
 use Rattle.flat_list.proofs.header.Header.TheSendSync as headers
@@ -22,21 +19,13 @@ use Rattle.section_machine.specs.contracts.machine.Machine as Machine
 use Rattle.shared_calls.specs.contracts.caller.Caller as Caller
 use Rattle.shared_calls.specs.contracts.looker.Looker as Looker
 use Rattle.shared_calls.specs.contracts.tables.SharedTables as SharedTables
+use Rattle.shared_ops.proofs.Crossing.{bucket_send, tables_sync}
 use Rattle.shared_ops.proofs.sock.Sock.TheSendSync as sock
 use Rattle.shared_ops.specs.contracts.tables.Tables as Tables
 use Rattle.inet_c.specs.contracts.held.Held as Held
 
-journal_send : IsSend Journal.the_row
-journal_send = search (sendable, crosses) depth 30
-
-bucket_send : IsSend Bucket.the_row
-bucket_send = search (sendable, crosses, journal_send, owners.the_send) depth 30
-
 tables_send : IsSend Tables.the_row
 tables_send = search (shared.the_send, lease.the_send, bucket_send, crosses, knot.crosses, sendable) depth 60 fits 400000
-
-tables_sync : IsSync Tables.the_row
-tables_sync = search (shared.the_sync, lease.the_sync, bucket_send, crosses, knot.crosses, sendable) depth 60 fits 400000
 
 index_send : IsSend LabelIndex.the_row
 index_send = search (keys.the_send, seeds.the_send, maps.crosses, crosses, log_knot.crosses, sendable) depth 60 fits 400000

@@ -1,5 +1,5 @@
 -- How workers and lookers are handed out of shared tables. Our own.
-use Rattle.std.specs.Prelude.{◌≡◌, ◌≢◌, ℕ, Option, None, Some}
+use Rattle.std.specs.Prelude.{◌≡◌, ◌≢◌, ℕ, ◌+◌, ◌≤◌, Option, None, Some}
 use Rattle.shared_calls.specs.Callings.{Calling}
 use Rattle.shared_calls.specs.Lookings.{Looking}
 use Rattle.shared_calls.specs.Sharings.{Sharing, HandsCaller, HandsLooker}
@@ -11,7 +11,8 @@ use Rattle.inet_c.specs.declared.making.Making.TheVariants as makings
 -- the next worker, which tries so often, and its number
 abbrev pub IsWorker : (tries number : ℕ) → Sharing → Sharing → Held → Type 0
 IsWorker tries number old new held =
-    (caller : Calling) × (held ≡ helds.Worker caller tries) × (number ≡ caller.kept.own.number) × HandsCaller old new caller
+    (caller : Calling) × (held ≡ helds.Worker caller tries) × (number ≡ caller.kept.own.number)
+    × HandsCaller old new caller
 
 -- a looker
 abbrev pub IsLooker : Sharing → Sharing → Held → Type 0
@@ -27,16 +28,37 @@ pub record Gives (Is : Sharing → Sharing → Held → Type 0) (from to out : O
   pub out_is : out ≡ Some held
   pub is : Is old new held
 
--- the handle holds the same tables, of which a worker or a looker more may have been counted
-abbrev pub KeepsTables : Option Held → Option Held → Type 0
-KeepsTables (Some (helds.Shared old)) (Some (helds.Shared new)) = new.tables ≡ old.tables
-KeepsTables old new = new ≡ old
+-- the handle holds shared tables of which that is true
+abbrev pub HoldsShared : (Sharing → Type 0) → Option Held → Type 0
+HoldsShared Is (Some (helds.Shared tables)) = Is tables
+HoldsShared Is _ = ⊥
 
--- what came of it: it went from the tables of one handle into another that held nothing, or that is as it was
-abbrev pub Hands : (Sharing → Sharing → Held → Type 0) → Option Held → Option Held → Option Held → Option Held → Making → Type 0
-Hands Is from to old new makings.Made = (old ≡ None) × Gives Is from to new
-Hands Is from to old new makings.There = (old ≢ None) × (new ≡ old) × (to ≡ from)
-Hands Is from to old new makings.NoTables = (new ≡ old) × (to ≡ from)
-Hands Is from to old new makings.AllOut = (new ≡ old) × (to ≡ from)
-Hands Is from to old new makings.NoMemory = (new ≡ old) × KeepsTables from to
-Hands Is from to old new makings.Unfit = ⊥
+-- the same tables, of which one worker or one looker more may be counted
+pub record MayCount (old new : Sharing) : Type 0 where
+  pub tables : new.tables ≡ old.tables
+  pub header : new.header ≡ old.header
+  pub callers : (old.callers ≤ new.callers) × (new.callers ≤ old.callers + 1)
+  pub lookers : (old.lookers ≤ new.lookers) × (new.lookers ≤ old.lookers + 1)
+
+-- so of the tables that a handle held
+abbrev pub KeepsTables : Option Held → Option Held → Type 0
+KeepsTables (Some (helds.Shared old)) to = HoldsShared (MayCount old) to
+KeepsTables _ to = ⊥
+
+-- What came of it: it went from the tables of one handle into another that held nothing, or that is as it was. The
+-- causes exclude each other; want of memory alone may come or not where tables have not handed all out.
+abbrev pub Hands : (Sharing → Sharing → Held → Type 0) → (Sharing → Type 0)
+    → Option Held → Option Held → Option Held → Option Held → Making → Type 0
+Hands Is All from to old new makings.Made = (old ≡ None) × HoldsShared (λ t. All t → ⊥) from × Gives Is from to new
+Hands Is All from to old new makings.There = (old ≢ None) × (new ≡ old) × (to ≡ from)
+Hands Is All from to old new makings.NoTables =
+    (old ≡ None) × (HoldsShared (λ _. Unit {0}) from → ⊥) × (new ≡ old) × (to ≡ from)
+Hands Is All from to old new makings.AllOut = (old ≡ None) × HoldsShared All from × (new ≡ old) × (to ≡ from)
+Hands Is All from to old new makings.NoMemory =
+    (old ≡ None) × HoldsShared (λ t. All t → ⊥) from × (new ≡ old) × KeepsTables from to
+Hands Is All from to old new makings.Unfit = ⊥
+
+-- no number is told of a worker that wasn't handed out
+abbrev pub NumberedIf : Making → ℕ → Type 0
+NumberedIf makings.Made number = Unit {0}
+NumberedIf _ number = number ≡ 0

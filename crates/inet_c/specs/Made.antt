@@ -1,8 +1,11 @@
 -- What tables are made of, and what comes of it. Our own.
-use Rattle.std.specs.Prelude.{◌≡◌, ◌≢◌, ℕ, Option, None, Some}
+use Rattle.std.specs.Prelude.{◌≡◌, ◌≢◌, ℕ, ◌%◌, ◌<◌, ◌≤◌, Option, None, Some}
+use Rattle.chain_book.specs.Shapes.{ShapeFits}
 use Rattle.flat_list.specs.declared.header.Header.{Header}
+use Rattle.flat_list.specs.declared.header.Range.{Range}
 use Rattle.flat_list.specs.declared.header.TheConstants.{NONE_RESERVED}
 use Rattle.flat_list.specs.Flat.{new_flat}
+use Rattle.flat_list.specs.Ports.{size}
 use Rattle.flat_calls.specs.Calls.{Numbered}
 use Rattle.inet_c.specs.declared.whole.InetSizes.{InetSizes}
 use Rattle.shared_calls.specs.Sharings.{Sharing, IsNew}
@@ -22,6 +25,17 @@ header_of sizes =
       twreuse = sizes.twreuse;
     }
 
+-- an even number of ports, from 1 on
+pub record PortsFit (range : Range) : Type 0 where
+  pub low : 1 ≤ range.low
+  pub order : range.low < range.high
+  pub even : size range % 2 ≡ 0
+
+-- the sizes that tables may have: those that a script may name
+pub record SizesFit (header : Header) : Type 0 where
+  pub shape : ShapeFits header.shape
+  pub range : PortsFit header.range
+
 -- tables without sockets
 abbrev pub empty_tables : Header → Numbered
 empty_tables header = record { flat = new_flat header; calls = 0 }
@@ -39,13 +53,15 @@ Holds held new makings.Made = new ≡ Some held
 Holds held new makings.NoMemory = new ≡ None
 Holds held new _ = ⊥
 
--- what came of the making of tables in a handle: they are made where it held nothing, or all is as it was
-abbrev pub Makes : (Held → Type 0) → Option Held → Option Held → Making → Type 0
-Makes Is old new makings.Made = (old ≡ None) × ((held : Held) × (new ≡ Some held) × Is held)
-Makes Is old new makings.There = (old ≢ None) × (new ≡ old)
-Makes Is old new makings.Unfit = new ≡ old
-Makes Is old new makings.NoMemory = new ≡ old
-Makes Is old new _ = ⊥
+-- What came of the making of tables of that header in a handle: they are made where the sizes fit and it held
+-- nothing, or all is as it was. The causes exclude each other; want of memory alone may come or not where tables would.
+abbrev pub Makes : (Header → Held → Type 0) → Header → Option Held → Option Held → Making → Type 0
+Makes Is header old new makings.Made =
+    SizesFit header × (old ≡ None) × ((held : Held) × (new ≡ Some held) × Is header held)
+Makes Is header old new makings.Unfit = (SizesFit header → ⊥) × (new ≡ old)
+Makes Is header old new makings.There = SizesFit header × (old ≢ None) × (new ≡ old)
+Makes Is header old new makings.NoMemory = SizesFit header × (old ≡ None) × (new ≡ old)
+Makes Is header old new _ = ⊥
 
 -- EBUSY of a handle that holds something, EINVAL of sizes that don't fit, ENOMEM; EBADF of one that holds no shared
 -- tables, and EUSERS where as many were handed out as there may be

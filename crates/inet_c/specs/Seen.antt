@@ -23,7 +23,8 @@ told (Some s) = record { kind = s.kind; worker = s.worker; socket = s.socket }
 
 -- the socket that a looker found, by its name: its worker's number above, and its own in the lower 24 bits
 abbrev pub told_by : PacketAnswer → InetSight
-told_by (answers.Found card) = record { kind = kind_of card.kind; worker = card.name / 2 ^ 24; socket = card.name % 2 ^ 24 }
+told_by (answers.Found card) =
+    record { kind = kind_of card.kind; worker = card.name / 2 ^ 24; socket = card.name % 2 ^ 24 }
 told_by _ = nobody
 
 -- EAGAIN where others changed the chains at each pass
@@ -31,10 +32,10 @@ abbrev pub errno_by : PacketAnswer → ℕ
 errno_by (answers.Again bucket stop) = 11
 errno_by _ = 0
 
--- a looker looked so
+-- a looker looked so, in 16 passes through a chain at most
 pub record LooksAs (old new : Looking) (packet : Packet) (sight : InetSight) (errno : ℕ) : Type 0 where
   pub look : PacketLook
-  pub looks : Looks old new packet look
+  pub looks : Looks old new packet 16 look
   pub sight_is : sight ≡ told_by look.end
   pub errno_is : errno ≡ errno_by look.end
 

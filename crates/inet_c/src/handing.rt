@@ -1,8 +1,9 @@
 //! How workers and lookers are handed out of shared tables, each into a handle of its own.
 
 ghost use Rattle.std.specs.Prelude.{◌≡◌, None, Some};
-ghost use Rattle.inet_c.specs.Handed.{Hands, IsLooker, IsWorker};
+ghost use Rattle.inet_c.specs.Handed.{Hands, IsLooker, IsWorker, NumberedIf};
 ghost use Rattle.inet_c.specs.declared.held.Held.TheVariants as helds;
+ghost use Rattle.shared_calls.specs.Sharings.{HasNoCaller, HasNoLooker};
 
 use crate::handle::InetTables;
 use crate::held::Held;
@@ -17,14 +18,22 @@ fn give_worker(
     worker: &mut InetTables,
     number: &mut u32,
 ) -> Making
-    requires { worker.old.held ≡ None }
-    ensures { Hands (IsWorker tries number.new) (Some (helds.Shared tables.old)) (Some (helds.Shared tables.new))
-        worker.old.held worker.new.held result }
+    requires none { worker.old.held ≡ None }
+    requires zero { number.old ≡ 0 }
+    ensures hands { Hands (IsWorker tries number.new) HasNoCaller (Some (helds.Shared tables.old))
+        (Some (helds.Shared tables.new)) worker.old.held worker.new.held result }
+    ensures number { NumberedIf result number.new }
 {
     match tables.caller(alloc) {
         Ok(caller) => {
-            *number = caller.number();
-            hold(worker, alloc, Held::Worker { caller, tries })
+            let given = caller.number();
+            match hold(worker, alloc, Held::Worker { caller, tries }) {
+                Making::Made => {
+                    *number = given;
+                    Making::Made
+                }
+                refused => refused,
+            }
         }
         Err(Refused::AllOut) => Making::AllOut,
         Err(Refused::Memory) => Making::NoMemory,
@@ -33,7 +42,7 @@ fn give_worker(
 
 fn give_looker(tables: &mut SharedTables, alloc: Global, looker: &mut InetTables) -> Making
     requires { looker.old.held ≡ None }
-    ensures { Hands IsLooker (Some (helds.Shared tables.old)) (Some (helds.Shared tables.new))
+    ensures { Hands IsLooker HasNoLooker (Some (helds.Shared tables.old)) (Some (helds.Shared tables.new))
         looker.old.held looker.new.held result }
 {
     match tables.looker(alloc) {
@@ -43,8 +52,8 @@ fn give_looker(tables: &mut SharedTables, alloc: Global, looker: &mut InetTables
     }
 }
 
-/// The next worker of shared tables, into a handle that holds nothing, and its number, or 0. It tries so often again for
-/// what another worker has.
+/// The next worker of shared tables, into a handle that holds nothing, and its number, or 0. It tries so often again
+/// for what another worker has.
 pub fn hand_worker(
     handle: &mut InetTables,
     alloc: Global,
@@ -52,7 +61,9 @@ pub fn hand_worker(
     worker: &mut InetTables,
     number: &mut u32,
 ) -> Making
-    ensures { Hands (IsWorker tries number.new) handle.old.held handle.new.held worker.old.held worker.new.held result }
+    ensures hands { Hands (IsWorker tries number.new) HasNoCaller handle.old.held handle.new.held
+        worker.old.held worker.new.held result }
+    ensures number { NumberedIf result number.new }
 {
     *number = 0;
     if is_there(worker, alloc) {
@@ -73,7 +84,7 @@ pub fn hand_worker(
 
 /// A looker in shared tables, into a handle that holds nothing.
 pub fn hand_looker(handle: &mut InetTables, alloc: Global, looker: &mut InetTables) -> Making
-    ensures { Hands IsLooker handle.old.held handle.new.held looker.old.held looker.new.held result }
+    ensures { Hands IsLooker HasNoLooker handle.old.held handle.new.held looker.old.held looker.new.held result }
 {
     if is_there(looker, alloc) {
         return Making::There;

@@ -1,10 +1,10 @@
 //! How tables are made.
 
-ghost use Rattle.std.specs.Prelude.{◌≡◌, ◌≤◌, ◌%◌, pos, true, None, is_some};
+ghost use Rattle.std.specs.Prelude.{◌≡◌, ◌↔◌, pos, None, IsTrue, is_some};
+ghost use Rattle.chain_book.specs.Shapes.{IsPowerTo, ShapeFits};
 ghost use Rattle.flat_list.specs.Fits.{FitsTables};
-ghost use Rattle.flat_list.specs.Ports.{size};
 ghost use Rattle.inet_c.specs.Made as spec;
-ghost use Rattle.inet_c.specs.Made.{Holds, IsList, IsShared, Makes};
+ghost use Rattle.inet_c.specs.Made.{Holds, IsList, IsShared, Makes, PortsFit, SizesFit};
 
 use crate::handle::InetTables;
 use crate::held::Held;
@@ -46,16 +46,13 @@ pub fn errno_of(making: Making) -> i32
 
 /// Whether a number of buckets is a power of two to that one.
 fn is_count(count: u32, most: u32) -> bool
-    ensures { result ≡ true → (1 ≤ count) × (count ≤ most) }
+    ensures { IsTrue result ↔ IsPowerTo most count }
 {
     count.is_power_of_two() && count <= most
 }
 
 fn is_shape(shape: &Shape) -> bool
-    ensures slots { result ≡ true → shape.now.slots ≤ 65536 }
-    ensures bind { result ≡ true → (1 ≤ shape.now.bind) × (shape.now.bind ≤ 256) }
-    ensures hash { result ≡ true → (1 ≤ shape.now.hash) × (shape.now.hash ≤ 65536) }
-    ensures listen { result ≡ true → (1 ≤ shape.now.listen) × (shape.now.listen ≤ 4096) }
+    ensures { IsTrue result ↔ ShapeFits shape.now }
 {
     1 <= shape.slots
         && shape.slots <= 65_536
@@ -66,15 +63,15 @@ fn is_shape(shape: &Shape) -> bool
 
 /// Whether a range has an even number of ports, from 1 on.
 fn is_range(range: &Range) -> bool
-    ensures order { result ≡ true → range.now.low ≤ range.now.high }
-    ensures even { result ≡ true → size range.now % 2 ≡ 0 }
+    ensures { IsTrue result ↔ PortsFit range.now }
 {
     1 <= range.low && range.low < range.high && range.low % 2 != range.high % 2
 }
 
 /// Whether tables may be of that header.
 fn is_header(header: &Header) -> bool
-    ensures { result ≡ true → FitsTables header.now }
+    ensures sizes { IsTrue result ↔ SizesFit header.now }
+    ensures fits { IsTrue result → FitsTables header.now }
 {
     is_shape(&header.shape) && is_range(&header.range)
 }
@@ -109,7 +106,7 @@ pub(crate) fn is_there(handle: &mut InetTables, alloc: Global) -> bool
 
 /// Makes a list in a handle that holds nothing.
 pub fn make(handle: &mut InetTables, alloc: Global, header: &Header) -> Making
-    ensures { Makes (IsList header.now) handle.old.held handle.new.held result }
+    ensures { Makes IsList header.now handle.old.held handle.new.held result }
 {
     if !is_header(header) {
         return Making::Unfit;
@@ -122,7 +119,7 @@ pub fn make(handle: &mut InetTables, alloc: Global, header: &Header) -> Making
 
 /// Makes shared tables in a handle that holds nothing.
 pub fn share(handle: &mut InetTables, alloc: Global, header: &Header) -> Making
-    ensures { Makes (IsShared header.now) handle.old.held handle.new.held result }
+    ensures { Makes IsShared header.now handle.old.held handle.new.held result }
 {
     if !is_header(header) {
         return Making::Unfit;

@@ -95,8 +95,8 @@ fn look_in(held: &mut Held, packet: &Packet, sight: &mut InetSight) -> i32
     }
 }
 
-/// Looks a packet up in a list or by a looker, and answers 0, EAGAIN where others changed the chains each time, or EBADF
-/// where the handle holds neither.
+/// Looks a packet up in a list or by a looker, and answers 0, EAGAIN where others changed the chains each time, or
+/// EBADF where the handle holds neither.
 pub fn look(handle: &mut InetTables, alloc: Global, packet: &Packet, sight: &mut InetSight) -> i32
     ensures { (errno : ℕ) × (result ≡ pos errno) × LooksOn handle.old.held handle.new.held packet.now sight.new errno }
 {

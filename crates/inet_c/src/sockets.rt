@@ -32,7 +32,8 @@ pub extern "C" fn inet_tables_socket(
 ) -> i32
     ensures number { socket.new ≡ next_number tables.old.held }
     ensures called { (outcome : Outcome) × CalledOn tables.old.held tables.new.held worker
-        (commands.socket socket.new (words.options net uid dev flags)) outcome × (result ≡ pos (told.errno_of outcome)) }
+        (commands.socket socket.new (words.options net uid dev flags)) outcome
+        × (result ≡ pos (told.errno_of outcome)) }
 {
     let number = calls::next_number(tables, alloc);
     *socket = number;
@@ -123,7 +124,8 @@ pub extern "C" fn inet_tables_accept(
 ) -> i32
     ensures number { socket.new ≡ next_number tables.old.held }
     ensures called { (outcome : Outcome) × CalledOn tables.old.held tables.new.held worker
-        (commands.accept listener socket.new (record { addr = from_addr; port = from_port }) (record { addr = at_addr; port = at_port })) outcome
+        (commands.accept listener socket.new (record { addr = from_addr; port = from_port })
+        (record { addr = at_addr; port = at_port })) outcome
         × (result ≡ pos (told.errno_of outcome)) }
 {
     let number = calls::next_number(tables, alloc);
@@ -155,7 +157,8 @@ pub extern "C" fn inet_tables_syn(
 ) -> i32
     ensures number { request.new ≡ next_number tables.old.held }
     ensures called { (outcome : Outcome) × CalledOn tables.old.held tables.new.held worker
-        (commands.syn listener request.new (record { addr = from_addr; port = from_port }) (record { addr = at_addr; port = at_port })) outcome
+        (commands.syn listener request.new (record { addr = from_addr; port = from_port })
+        (record { addr = at_addr; port = at_port })) outcome
         × (result ≡ pos (told.errno_of outcome)) }
 {
     let number = calls::next_number(tables, alloc);
@@ -218,7 +221,8 @@ pub extern "C" fn inet_tables_drop(
     worker: u32,
     socket: u32,
 ) -> i32
-    ensures { (outcome : Outcome) × CalledOn tables.old.held tables.new.held worker (commands.drop_socket socket) outcome
+    ensures { (outcome : Outcome)
+        × CalledOn tables.old.held tables.new.held worker (commands.drop_socket socket) outcome
         × (result ≡ pos (told.errno_of outcome)) }
 {
     let command = commands::drop_socket(socket);

@@ -1,13 +1,14 @@
 //! Tables made, shared, given up, and looked into, as C does it.
 
 ghost use Rattle.std.specs.Prelude.{◌≡◌, ℕ, pos, None};
-ghost use Rattle.inet_c.specs.Handed.{Hands, IsLooker, IsWorker};
+ghost use Rattle.inet_c.specs.Handed.{Hands, IsLooker, IsWorker, NumberedIf};
 ghost use Rattle.inet_c.specs.Listed as listed;
 ghost use Rattle.inet_c.specs.Made as made;
 ghost use Rattle.inet_c.specs.Made.{IsList, IsShared, Makes};
 ghost use Rattle.inet_c.specs.Seen.{LooksOn};
 ghost use Rattle.inet_c.specs.declared.listing.Telling.{Telling};
 ghost use Rattle.inet_c.specs.declared.making.Making.{Making};
+ghost use Rattle.shared_calls.specs.Sharings.{HasNoCaller, HasNoLooker};
 
 use crate::handing::{hand_looker, hand_worker};
 use crate::handle::InetTables;
@@ -61,7 +62,7 @@ fn header_of(sizes: &InetSizes) -> Header
 /// Makes one list of sockets in a handle that holds nothing.
 #[unsafe(no_mangle)]
 pub extern "C" fn inet_tables_new(tables: &mut InetTables, alloc: Global, sizes: &InetSizes) -> i32
-    ensures { (making : Making) × Makes (IsList (made.header_of sizes.now)) tables.old.held tables.new.held making
+    ensures { (making : Making) × Makes IsList (made.header_of sizes.now) tables.old.held tables.new.held making
         × (result ≡ pos (made.errno_of making)) }
 {
     errno_of(make(tables, alloc, &header_of(sizes)))
@@ -74,7 +75,7 @@ pub extern "C" fn inet_tables_share(
     alloc: Global,
     sizes: &InetSizes,
 ) -> i32
-    ensures { (making : Making) × Makes (IsShared (made.header_of sizes.now)) tables.old.held tables.new.held making
+    ensures { (making : Making) × Makes IsShared (made.header_of sizes.now) tables.old.held tables.new.held making
         × (result ≡ pos (made.errno_of making)) }
 {
     errno_of(share(tables, alloc, &header_of(sizes)))
@@ -91,8 +92,9 @@ pub extern "C" fn inet_tables_worker(
     number: &mut u32,
 ) -> i32
     ensures { (making : Making)
-        × Hands (IsWorker tries number.new) tables.old.held tables.new.held worker.old.held worker.new.held making
-        × (result ≡ pos (made.errno_of making)) }
+        × Hands (IsWorker tries number.new) HasNoCaller tables.old.held tables.new.held
+        worker.old.held worker.new.held making
+        × NumberedIf making number.new × (result ≡ pos (made.errno_of making)) }
 {
     errno_of(hand_worker(tables, alloc, tries, worker, number))
 }
@@ -105,7 +107,7 @@ pub extern "C" fn inet_tables_looker(
     looker: &mut InetTables,
 ) -> i32
     ensures { (making : Making)
-        × Hands IsLooker tables.old.held tables.new.held looker.old.held looker.new.held making
+        × Hands IsLooker HasNoLooker tables.old.held tables.new.held looker.old.held looker.new.held making
         × (result ≡ pos (made.errno_of making)) }
 {
     errno_of(hand_looker(tables, alloc, looker))
@@ -120,8 +122,8 @@ pub extern "C" fn inet_tables_free(tables: &mut InetTables, alloc: Global)
     drop(tables.take(alloc));
 }
 
-/// Which socket of a list, or of a looker's tables, takes a packet from `src` and `sport` to `dst` and `dport` that came in at device `dev` in network
-/// namespace `net`.
+/// Which socket of a list, or of a looker's tables, takes a packet from `src` and `sport` to `dst` and `dport` that
+/// came in at device `dev` in network namespace `net`.
 #[unsafe(no_mangle)]
 pub extern "C" fn inet_tables_look(
     tables: &mut InetTables,
@@ -148,8 +150,8 @@ pub extern "C" fn inet_tables_look(
     look(tables, alloc, &packet, sight)
 }
 
-/// All sockets of a list that packets can find, by their workers, and those of one in the order in which they were made: the
-/// first of them in `items`, as many as fit. `count` is how many there are.
+/// All sockets of a list that packets can find, by their workers, and those of one in the order in which they were
+/// made: the first of them in `items`, as many as fit. `count` is how many there are.
 #[unsafe(no_mangle)]
 pub extern "C" fn inet_tables_list(
     tables: &mut InetTables,

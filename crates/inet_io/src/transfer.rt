@@ -4,7 +4,7 @@ ghost use Rattle.std.specs.Io.KnownBytes.{Appends};
 ghost use Rattle.inet_io.specs.Ends.{Rose, HasCause, ReadsWhole, ReadsMoreThan, AppendsFront};
 
 use crate::ends::{Failed, Sink, Source};
-use std::alloc::Global;
+use std::alloc::{AllocError, Global};
 
 /// Why a source wasn't read whole.
 #[derive(Clone, Copy, Debug, PartialEq, Eq)]
@@ -20,11 +20,27 @@ pub enum ReadEnd {
 /// How many bytes are asked for at once: what a pipe of Linux holds, pipe(7).
 const PIECE: usize = 65_536;
 
+/// A block of so many bytes. It isn't inlined, so that a block that nobody fills is asked for all the same.
+#[inline(never)]
+fn block(alloc: Global, size: usize) -> Result<Vec<u8>, AllocError> {
+    Vec::with_capacity(alloc, size)
+}
+
+/// Asks for a block of so many bytes, and lets go of it.
+///
+/// glibc gives a large block back to the kernel as it is let go, and takes the pages of the next one anew, until a
+/// block of that size was let go once, mallopt(3) under `M_MMAP_THRESHOLD`. From then on it gives out again what it
+/// has.
+fn keep_blocks(alloc: Global, size: usize) {
+    let _block = block(alloc, size);
+}
+
 /// Reads a source to its end.
 ///
 /// That takes at most `limit + 1` reads, since each but the last gives a byte, and one read for each
 /// 65,536 bytes where the source gives what it is asked for. The first failed read ends the call.
-/// `TooLong` comes once `limit + 1` bytes came: what more there is stays unread.
+/// `TooLong` comes once `limit + 1` bytes came: what more there is stays unread. Before the first read a
+/// block of `limit` bytes is asked for and let go of, so that later blocks may lie where these bytes lay.
 pub fn read_all<S: Source>(alloc: Global, source: &mut S, limit: usize) -> Result<Vec<u8>, ReadEnd>
     requires { limit < 2 ^ 32 }
     ensures whole { IfOk result (λ v. ReadsWhole (S.left source.old) (S.left source.new) v.items) }
@@ -35,6 +51,7 @@ pub fn read_all<S: Source>(alloc: Global, source: &mut S, limit: usize) -> Resul
     ensures later { S.faults source.old ≤ S.faults source.new }
     ensures reads { S.calls source.new ≤ S.calls source.old + limit + 1 }
 {
+    keep_blocks(alloc, limit);
     let mut buf = [0u8; PIECE];
     let mut bytes = Vec::new(alloc);
     for _turn in 0..limit + 1 {

@@ -1,6 +1,6 @@
 -- What the matches of words that clap takes give to be read.
 use Rattle.std.proofs.Common.{◌≡◌, ◌≤◌, ◌<◌, ◌^◌, ◌∙◌, ℕ, List, [], Option, Some, None, refl, ap, sym, subst, arith, codes, option_map}
-use Rattle.std.specs.Prelude.{Result, false, true, unwrap_or}
+use Rattle.std.specs.Prelude.{Result, true, unwrap_or}
 use Rattle.std.specs.Str.Parse.{IsNumeral, ParsesUnsigned, digits_value, without_leading_plus}
 use Rattle.clap.specs.Lexer.{without_minus}
 use Rattle.clap.specs.declared.parser.matches.ArgMatches.TheViews.{out-ArgMatches}
@@ -22,9 +22,6 @@ use Rattle.inet_tool.proofs.Numbers.{reads, u32_reads}
 -- two names are not one
 pub not_both : {P : Type 0} (o : Option Text) (a b : Text) → o ≡ Some a → o ≡ Some b → (a ≡ b → ⊥) → P
 not_both o a b is_a is_b differ = absurd (differ (ap (λ (v : Option Text). unwrap_or v a) (sym is_a ∙ is_b)))
-
-pub not_true : false ≡ true → ⊥
-not_true same = cc
 
 -- a text of the matches that is a number from the least to the most
 pub record IsGiven (id : Text) (least most : ℕ) (m : ArgMatches) (text : Text) : Type 0 where

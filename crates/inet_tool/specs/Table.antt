@@ -47,7 +47,8 @@ fault_text faults.Capture = codes "bad capture\n"
 abbrev pub IsGood : Mode → List ℕ → Type 0
 IsGood mode bytes =
     (script : Script) × (capture : Capture) × IsScript mode bytes script
-    × IsCapture (capture_device script.capture) (capture_namespace script.capture) (capture_bytes script.capture bytes) capture
+    × IsCapture (capture_device script.capture) (capture_namespace script.capture)
+    (capture_bytes script.capture bytes) capture
 
 -- Whatever script these bytes are, each list that it runs through is sound: no two bound sockets of different origin
 -- conflict, but for those whose ports `connect` chose, and no two sockets of one namespace that are full, in

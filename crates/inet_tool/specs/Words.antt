@@ -126,8 +126,10 @@ MakeAsks = (name : Text) (seed count : ℕ) → seed < 2 ^ 32 → count ≤ 1000
 -- `race` with both options in range, in either order, is taken, and asks to race with these
 abbrev pub RaceAsks : Type 0
 RaceAsks = (name : Text) (lookers passes : ℕ) → 1 ≤ lookers → lookers ≤ 16 → 1 ≤ passes → passes ≤ 64
-    → IsRace (name ∷ codes "race" ∷ codes "--lookers" ∷ decimal lookers ∷ codes "--passes" ∷ decimal passes ∷ []) lookers passes
-    × IsRace (name ∷ codes "race" ∷ codes "--passes" ∷ decimal passes ∷ codes "--lookers" ∷ decimal lookers ∷ []) lookers passes
+    → IsRace (name ∷ codes "race" ∷ codes "--lookers" ∷ decimal lookers ∷ codes "--passes" ∷ decimal passes
+    ∷ []) lookers passes
+    × IsRace (name ∷ codes "race" ∷ codes "--passes" ∷ decimal passes ∷ codes "--lookers" ∷ decimal lookers
+    ∷ []) lookers passes
 
 -- the numbers that words ask for are in range
 abbrev pub MakesInRange : Type 0

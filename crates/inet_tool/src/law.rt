@@ -30,7 +30,10 @@ pub fn refused_words()
     ensures seed { faults (codes "make" ∷ codes "4294967296" ∷ codes "1" ∷ []) ≡ kinds.ValueValidation ∷ [] }
     ensures count { faults (codes "make" ∷ codes "1" ∷ codes "100001" ∷ []) ≡ kinds.ValueValidation ∷ [] }
     ensures race { faults (codes "race" ∷ codes "--lookers" ∷ codes "1" ∷ []) ≡ kinds.MissingRequiredArgument ∷ [] }
-    ensures no_lookers { faults (codes "race" ∷ codes "--lookers" ∷ codes "0" ∷ codes "--passes" ∷ codes "1" ∷ []) ≡ kinds.ValueValidation ∷ [] }
-    ensures lookers { faults (codes "race" ∷ codes "--lookers" ∷ codes "17" ∷ codes "--passes" ∷ codes "1" ∷ []) ≡ kinds.ValueValidation ∷ [] }
-    ensures passes { faults (codes "race" ∷ codes "--lookers" ∷ codes "1" ∷ codes "--passes" ∷ codes "65" ∷ []) ≡ kinds.ValueValidation ∷ [] }
+    ensures no_lookers { faults (codes "race" ∷ codes "--lookers" ∷ codes "0" ∷ codes "--passes" ∷ codes "1" ∷ [])
+        ≡ kinds.ValueValidation ∷ [] }
+    ensures lookers { faults (codes "race" ∷ codes "--lookers" ∷ codes "17" ∷ codes "--passes" ∷ codes "1" ∷ [])
+        ≡ kinds.ValueValidation ∷ [] }
+    ensures passes { faults (codes "race" ∷ codes "--lookers" ∷ codes "1" ∷ codes "--passes" ∷ codes "65" ∷ [])
+        ≡ kinds.ValueValidation ∷ [] }
 {}

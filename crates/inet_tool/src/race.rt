@@ -96,7 +96,8 @@ fn reply_to<R: Threads + Wait + Sync, G: Gate>(
     requires some { 1 ≤ lookers }
     requires few { lookers ≤ 16 }
     requires passes { 1 ≤ passes }
-    ensures { IfOk result (λ reply. IsReply modes.Race (IsRaceOf lookers passes) bytes.now reply.fault reply.text.items) }
+    ensures { IfOk result (λ reply. IsReply modes.Race
+        (IsRaceOf lookers passes) bytes.now reply.fault reply.text.items) }
 {
     let script = match parse(alloc, seed, bytes, Mode::Race) {
         Ok(script) => script,

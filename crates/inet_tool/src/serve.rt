@@ -35,7 +35,8 @@ pub fn run<R: Wait, S: Source, K: Sink>(
     ensures read_fault { result ≡ Status.ReadFault
         → Rose (S.faults source.old) (S.faults source.new) × (sink.new ≡ sink.old) }
     ensures write_fault { result ≡ Status.WriteFault → Rose (K.faults sink.old) (K.faults sink.new)
-        × WritesFront modes.Run IsRunOf (S.left source.old) (S.left source.new) (K.written sink.old) (K.written sink.new) }
+        × WritesFront modes.Run IsRunOf (S.left source.old) (S.left source.new) (K.written sink.old)
+        (K.written sink.new) }
     ensures memory { result ≡ Status.Memory → sink.new ≡ sink.old }
     ensures reads { S.calls source.new ≤ S.calls source.old + limit + 1 }
     ensures verdict { IfSome (S.left source.old) (λ bytes. verdicts.Answers modes.Run bytes result) }

@@ -68,6 +68,13 @@ impl LabelIndex {
         }
     }
 
+    /// Makes room for so many labels more, so that giving them moves none of those that are there.
+    pub fn reserve(&mut self, more: usize) -> Result<(), AllocError>
+        ensures { self.new ≡ self.old }
+    {
+        self.firsts.reserve(more)
+    }
+
     /// How many labels were given, each as often as it was. Constant cost.
     pub fn len(&self) -> usize
         ensures { result ≡ length self.now }

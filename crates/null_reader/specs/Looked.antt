@@ -33,7 +33,8 @@ use Rattle.table_rule.specs.Words.{words_of, bucket_count}
 
 -- a view during a lookup: its reader, what it keeps and holds, and how often it has taken a count
 abbrev pub looking : View → Reader → List Kept → List ℕ → (taken : ℕ) → View
-looking v q ks hs taken = record v { slot = record v.slot { holds = hs; taken = taken }; read = record v.read { reader = q ∷ []; kept = ks } }
+looking v q ks hs taken =
+    record v { slot = record v.slot { holds = hs; taken = taken }; read = record v.read { reader = q ∷ []; kept = ks } }
 
 abbrev pub stop_of : PassEnd → Stop
 stop_of (Foreign b) = record { kind = 0; at = b }
@@ -76,18 +77,32 @@ pub record IsChecking (slot : ℕ) (key : Packet) (before : ℕ) (v : View) : Ty
   pub slot-is : kept.slot ≡ slot
   pub none : kept.words ≡ []
 
-abbrev pub Checked : (slot : ℕ) (key : Packet) (before : ℕ) → Reader → Kept → List Kept → Sat → Option CardWords → Sat → Type 0
-Checked slot key before q h hs m (Some card) n = (rank_of key (words_of card) ≡ before) × (n ≡ (with_reader (with_kept m.0 (with_words h (words_of card) ∷ hs)) (record q { best = before } ∷ []), m.1))
-Checked slot key before q h hs m None n = (ws : List ℕ) × (n ≡ (with_reader (with_kept m.0 (with_words h ws ∷ hs)) (stopping q 2 slot ∷ []), m.1))
+abbrev pub Checked :
+    (slot : ℕ) (key : Packet) (before : ℕ) → Reader → Kept → List Kept → Sat → Option CardWords → Sat → Type 0
+Checked slot key before q h hs m (Some card) n =
+    (rank_of key (words_of card) ≡ before)
+    × (n ≡ (with_reader (with_kept m.0 (with_words h (words_of card) ∷ hs)) (record q { best = before } ∷ []), m.1))
+Checked slot key before q h hs m None n =
+    (ws : List ℕ) × (n ≡ (with_reader (with_kept m.0 (with_words h ws ∷ hs)) (stopping q 2 slot ∷ []), m.1))
 
 abbrev pub held : Best → ℕ → Kept
 held t since = record { slot = t.slot; since = since; words = words_of t.card }
 
-abbrev pub Visited : (slot : ℕ) (key : Packet) (least best : ℕ) → Reader → Sat → Result (Option Best) PassEnd → Sat → Type 0
-Visited slot key least best q m (Ok None) n = (a : ℕ) × (b : ℕ) × ((rank key a b < least) ⊎ (rank key a b ≤ best)) × (n ≡ (with_reader m.0 (keyed q slot a b ∷ []), m.1))
-Visited slot key least best q m (Ok (Some t)) n = (a : ℕ) × (b : ℕ) × (t.slot ≡ slot) × (t.rank ≡ rank key a b) × (rank_of key (words_of t.card) ≡ t.rank) × (least ≤ t.rank)
-    × (n ≡ (looking m.0 (record (keyed q slot a b) { best = t.rank }) (held t m.0.seen ∷ m.0.read.kept) (slot ∷ m.0.slot.holds) (m.0.slot.taken + 1), m.1))
-Visited slot key least best q m (Err e) n = n ≡ (looking m.0 (stopped q e) m.0.read.kept m.0.slot.holds (m.0.slot.taken + 1), m.1)
+abbrev pub Visited :
+    (slot : ℕ) (key : Packet) (least best : ℕ) → Reader → Sat → Result (Option Best) PassEnd → Sat → Type 0
+Visited slot key least best q m (Ok None) n =
+    (a : ℕ) × (b : ℕ) × ((rank key a b < least) ⊎ (rank key a b ≤ best))
+    × (n ≡ (with_reader m.0 (keyed q slot a b ∷ []), m.1))
+Visited slot key least best q m (Ok (Some t)) n =
+    (a : ℕ) × (b : ℕ) × (t.slot ≡ slot) × (t.rank ≡ rank key a b) × (rank_of key (words_of t.card) ≡ t.rank)
+    × (least ≤ t.rank)
+    × (n ≡ (
+      looking m.0 (record (keyed q slot a b) { best = t.rank }) (held t m.0.seen ∷ m.0.read.kept)
+          (slot ∷ m.0.slot.holds) (m.0.slot.taken + 1),
+      m.1,
+    ))
+Visited slot key least best q m (Err e) n =
+    n ≡ (looking m.0 (stopped q e) m.0.read.kept m.0.slot.holds (m.0.slot.taken + 1), m.1)
 
 abbrev pub so_far : Option Best → ℕ
 so_far None = 0
@@ -103,10 +118,14 @@ pub record IsLookup (q₀ q : Reader) : Type 0 where
 -- a pass has no best yet, or holds it
 abbrev pub IsBest : Layout → View → Reader → Option Best → List Kept → List ℕ → Type 0
 IsBest layout v q None ks hs = (q.best ≡ 0) × (ks ≡ v.read.kept) × (hs ≡ v.slot.holds)
-IsBest layout v q (Some t) ks hs = (since : ℕ) × (q.best ≡ t.rank) × (rank_of q.key (words_of t.card) ≡ t.rank) × (q.least ≤ t.rank) × (q.since ≤ since) × (ks ≡ held t since ∷ v.read.kept) × (hs ≡ t.slot ∷ v.slot.holds) × (t.slot < layout.shape.slots)
+IsBest layout v q (Some t) ks hs =
+    (since : ℕ) × (q.best ≡ t.rank) × (rank_of q.key (words_of t.card) ≡ t.rank) × (q.least ≤ t.rank)
+    × (q.since ≤ since) × (ks ≡ held t since ∷ v.read.kept) × (hs ≡ t.slot ∷ v.slot.holds)
+    × (t.slot < layout.shape.slots)
 
 -- a pass of the lookup q₀, begun at the view of m₀, has this best and has loaded this link
-pub record Walking (layout : Layout) (m₀ : Sat) (q₀ : Reader) (best : Option Best) (link followed : ℕ) (n : Sat) : Type 0 where
+pub record Walking (layout : Layout) (m₀ : Sat) (q₀ : Reader) (best : Option Best) (link followed : ℕ)
+    (n : Sat) : Type 0 where
   pub q : Reader
   pub ks : List Kept
   pub hs : List ℕ
@@ -115,7 +134,9 @@ pub record Walking (layout : Layout) (m₀ : Sat) (q₀ : Reader) (best : Option
   pub is : n ≡ (looking m₀.0 q ks hs taken, m₀.1)
   pub same : IsLookup q₀ q
   pub best-is : IsBest layout m₀.0 q best ks hs
-  pub slot : link % 2 ≡ 0 → followed ≤ layout.shape.slots → (q.walking ≡ 1) × (q.link ≡ link) × (q.followed ≡ followed) × (q.peeked ≡ record { slot = link / 2; words = [] } ∷ []) × (link / 2 < layout.shape.slots) × (q.stops ≡ q₀.stops)
+  pub slot : link % 2 ≡ 0 → followed ≤ layout.shape.slots → (q.walking ≡ 1) × (q.link ≡ link) × (q.followed ≡ followed)
+      × (q.peeked ≡ record { slot = link / 2; words = [] } ∷ []) × (link / 2 < layout.shape.slots)
+      × (q.stops ≡ q₀.stops)
   pub long : link % 2 ≡ 0 → layout.shape.slots < followed → q.stops ≡ q₀.stops ++ stop_of (Long followed) ∷ []
   pub own : link ≡ 2 * q₀.bucket + 1 → IsAtEnd q × (q.stops ≡ q₀.stops)
   pub near : link % 2 ≡ 1 → link / 2 < bucket_count layout
@@ -123,9 +144,16 @@ pub record Walking (layout : Layout) (m₀ : Sat) (q₀ : Reader) (best : Option
 
 -- what a pass of the lookup q₀ leaves
 abbrev pub Passed : Layout → Sat → Reader → Result (Option Best) PassEnd → Sat → Type 0
-Passed layout m q₀ (Ok None) n = (q : Reader) × IsLookup q₀ q × IsAtEnd q × (q.best ≡ 0) × (q.stops ≡ q₀.stops) × (taken : ℕ) × (m.0.slot.taken ≤ taken) × (n ≡ (looking m.0 q m.0.read.kept m.0.slot.holds taken, m.1))
-Passed layout m q₀ (Ok (Some t)) n = (q : Reader) × (ks : List Kept) × (hs : List ℕ) × IsLookup q₀ q × (IsAtEnd q ⊎ (q.best ≡ 5)) × IsBest layout m.0 q (Some t) ks hs × (q.stops ≡ q₀.stops) × (taken : ℕ) × (m.0.slot.taken ≤ taken) × (n ≡ (looking m.0 q ks hs taken, m.1))
-Passed layout m q₀ (Err e) n = (q : Reader) × IsLookup q₀ q × (q.stops ≡ q₀.stops ++ stop_of e ∷ []) × (taken : ℕ) × (m.0.slot.taken ≤ taken) × (n ≡ (looking m.0 q m.0.read.kept m.0.slot.holds taken, m.1))
+Passed layout m q₀ (Ok None) n =
+    (q : Reader) × IsLookup q₀ q × IsAtEnd q × (q.best ≡ 0) × (q.stops ≡ q₀.stops) × (taken : ℕ)
+    × (m.0.slot.taken ≤ taken) × (n ≡ (looking m.0 q m.0.read.kept m.0.slot.holds taken, m.1))
+Passed layout m q₀ (Ok (Some t)) n =
+    (q : Reader) × (ks : List Kept) × (hs : List ℕ) × IsLookup q₀ q × (IsAtEnd q ⊎ (q.best ≡ 5))
+    × IsBest layout m.0 q (Some t) ks hs × (q.stops ≡ q₀.stops) × (taken : ℕ) × (m.0.slot.taken ≤ taken)
+    × (n ≡ (looking m.0 q ks hs taken, m.1))
+Passed layout m q₀ (Err e) n =
+    (q : Reader) × IsLookup q₀ q × (q.stops ≡ q₀.stops ++ stop_of e ∷ []) × (taken : ℕ) × (m.0.slot.taken ≤ taken)
+    × (n ≡ (looking m.0 q m.0.read.kept m.0.slot.holds taken, m.1))
 
 -- what a turn of a pass leaves: it found the best there is, or goes on
 abbrev pub Turned : Layout → Sat → Reader → ℕ → Result Turn PassEnd → Sat → Type 0
@@ -150,17 +178,66 @@ pub record Between (m : Sat) (q₀ : Reader) (passes : ℕ) (last : PassEnd) (n 
 -- a view after a lookup: nothing else changed than what is held, how often a count was taken, the receipts, and what
 -- is seen
 abbrev pub looked_view : View → ℕ → List Kept → List ℕ → (taken : ℕ) → Receipt → View
-looked_view v t₀ ks hs taken c = record v { slot = record v.slot { holds = hs; taken = taken }; read = record v.read { kept = ks; reader = []; receipts = v.read.receipts ++ c ∷ [] }; seen = c.to; sights = settled v.sights t₀ }
+looked_view v t₀ ks hs taken c =
+    record v {
+      slot = record v.slot { holds = hs; taken = taken };
+      read = record v.read { kept = ks; reader = []; receipts = v.read.receipts ++ c ∷ [] };
+      seen = c.to;
+      sights = settled v.sights t₀;
+    }
 
 abbrev pub LookedAs : (bucket : ℕ) (key : Packet) (least passes : ℕ) → Sat → WordsEnd → (t₀ t₁ : ℕ) → Sat → Type 0
 -- the count on the slot is held, with the card's words, and its card is of rank least or more
-LookedAs bucket key least passes m (ends.Found h card) t₀ t₁ n = (since : ℕ) × (stops : List Stop) × (t₀ ≤ since) × (least ≤ rank_of key (words_of card)) × (taken : ℕ) × (m.0.slot.taken ≤ taken)
-    × (n ≡ (looked_view m.0 t₀ (record { slot = h.slot; since = since; words = words_of card } ∷ m.0.read.kept) (h.slot ∷ m.0.slot.holds) taken (record { bucket = bucket; key = key; least = least; from = t₀; to = t₁; kind = 1; card = words_of card; stops = stops }), m.1))
+LookedAs bucket key least passes m (ends.Found h card) t₀ t₁ n =
+    (since : ℕ) × (stops : List Stop) × (t₀ ≤ since) × (least ≤ rank_of key (words_of card)) × (taken : ℕ)
+    × (m.0.slot.taken ≤ taken)
+    × (n ≡ (
+      looked_view m.0 t₀ (record { slot = h.slot; since = since; words = words_of card } ∷ m.0.read.kept)
+          (h.slot ∷ m.0.slot.holds) taken
+          (record {
+            bucket = bucket;
+            key = key;
+            least = least;
+            from = t₀;
+            to = t₁;
+            kind = 1;
+            card = words_of card;
+            stops = stops;
+          }),
+      m.1,
+    ))
 LookedAs bucket key least passes m ends.None t₀ t₁ n = (stops : List Stop) × (taken : ℕ) × (m.0.slot.taken ≤ taken)
-    × (n ≡ (looked_view m.0 t₀ m.0.read.kept m.0.slot.holds taken (record { bucket = bucket; key = key; least = least; from = t₀; to = t₁; kind = 0; card = []; stops = stops }), m.1))
+    × (n ≡ (
+      looked_view m.0 t₀ m.0.read.kept m.0.slot.holds taken
+          (record {
+            bucket = bucket;
+            key = key;
+            least = least;
+            from = t₀;
+            to = t₁;
+            kind = 0;
+            card = [];
+            stops = stops;
+          }),
+      m.1,
+    ))
 -- each of the passes stopped, the last of them so
-LookedAs bucket key least passes m (ends.Again b stop) t₀ t₁ n = (b ≡ bucket) × ((front : List Stop) × (length front + 1 ≡ passes) × (taken : ℕ) × (m.0.slot.taken ≤ taken)
-    × (n ≡ (looked_view m.0 t₀ m.0.read.kept m.0.slot.holds taken (record { bucket = bucket; key = key; least = least; from = t₀; to = t₁; kind = 2; card = []; stops = front ++ stop_of stop ∷ [] }), m.1)))
+LookedAs bucket key least passes m (ends.Again b stop) t₀ t₁ n =
+    (b ≡ bucket) × ((front : List Stop) × (length front + 1 ≡ passes) × (taken : ℕ) × (m.0.slot.taken ≤ taken)
+    × (n ≡ (
+      looked_view m.0 t₀ m.0.read.kept m.0.slot.holds taken
+          (record {
+            bucket = bucket;
+            key = key;
+            least = least;
+            from = t₀;
+            to = t₁;
+            kind = 2;
+            card = [];
+            stops = front ++ stop_of stop ∷ [];
+          }),
+      m.1,
+    )))
 
 -- the pass's changes are all there are, and none is open
 abbrev pub IsWhole : View → Type 0
@@ -172,7 +249,8 @@ HadEnded v number = (n : ℕ) (c : Change) → get_elem? v.book.closed n ≡ som
 
 -- then the answer is the one of its own changes, and never that the passes stopped
 abbrev pub SoleAs : (bucket : ℕ) (key : Packet) (least : ℕ) → View → WordsEnd → Type 0
-SoleAs bucket key least v (ends.Found h card) = CardStands v (words_of card) × NoneStands v bucket key least (rank_of key (words_of card))
+SoleAs bucket key least v (ends.Found h card) =
+    CardStands v (words_of card) × NoneStands v bucket key least (rank_of key (words_of card))
 SoleAs bucket key least v ends.None = NoneStands v bucket key least 0
 SoleAs bucket key least v (ends.Again b stop) = ⊥
 

@@ -63,7 +63,9 @@ fn check<P: Pace>(
     requires slot { slot < (layout_of chains.now).shape.slots }
     requires at { IsChecking slot key rank_before (view steps.old) }
     ensures table { IsOf chains.now steps.new }
-    ensures checked { (q : Reader) (h : Kept) (hs : List Kept) → Looks (view steps.old) q → (view steps.old).read.kept ≡ h ∷ hs → Checked slot key rank_before q h hs (me steps.old) result (me steps.new) }
+    ensures checked { (q : Reader) (h : Kept) (hs : List Kept) → Looks (view steps.old) q
+        → (view steps.old).read.kept ≡ h ∷ hs
+        → Checked slot key rank_before q h hs (me steps.old) result (me steps.new) }
 {
     pace.step(Point::Check(slot));
     let ends = chains.step_read_held(steps, slot, 0);
@@ -103,7 +105,8 @@ fn visit<P: Pace>(
     requires best { (q : Reader) → Looks (view steps.old) q → q.best ≡ best }
     ensures table { IsOf chains.now steps.new }
     ensures inside { IfErr result (IsStopInside (layout_of chains.now)) }
-    ensures visited { (q : Reader) → Looks (view steps.old) q → Visited slot key least best q (me steps.old) result (me steps.new) }
+    ensures visited { (q : Reader) → Looks (view steps.old) q
+        → Visited slot key least best q (me steps.old) result (me steps.new) }
 {
     let rank_before = key_rank(chains, steps, slot, key, pace);
     if rank_before < least || rank_before <= best {
@@ -136,7 +139,8 @@ fn drop_best<P: Pace>(chains: &Chains, steps: &mut Steps, best: Option<Best>, pa
     requires held { IfSome best (λ t. (t.slot < (layout_of chains.now).shape.slots) × IsNth 0 t.slot (view steps.old)) }
     ensures table { IsOf chains.now steps.new }
     ensures none { IfNone best (Stays steps.old steps.new) }
-    ensures some { IfSome best (λ t. Becomes steps.old steps.new (with_kept (letting_go (view steps.old) t.slot) (drop_at 0 (view steps.old).read.kept))) }
+    ensures some { IfSome best (λ t. Becomes steps.old steps.new
+        (with_kept (letting_go (view steps.old) t.slot) (drop_at 0 (view steps.old).read.kept))) }
 {
     if let Some(held) = best {
         pace.step(Point::Put(held.slot));
@@ -151,7 +155,8 @@ fn change_best<P: Pace>(chains: &Chains, steps: &mut Steps, best: Option<Best>, 
     requires held { IfSome best (λ t. (t.slot < (layout_of chains.now).shape.slots) × IsNth 1 t.slot (view steps.old)) }
     ensures table { IsOf chains.now steps.new }
     ensures none { IfNone best (Stays steps.old steps.new) }
-    ensures some { IfSome best (λ t. Becomes steps.old steps.new (with_kept (letting_go (view steps.old) t.slot) (drop_at 1 (view steps.old).read.kept))) }
+    ensures some { IfSome best (λ t. Becomes steps.old steps.new
+        (with_kept (letting_go (view steps.old) t.slot) (drop_at 1 (view steps.old).read.kept))) }
 {
     if let Some(held) = best {
         pace.step(Point::Put(held.slot));
@@ -174,10 +179,13 @@ fn pass_by<P: Pace>(
     requires table { IsOf chains.now steps.old }
     requires even { (link % 2 ≡ 0) × (followed ≤ (layout_of chains.now).shape.slots) }
     requires room { HasRoom (view steps.old) }
-    requires walking { (m : Sat) × (q : Reader) × (q.key ≡ key) × (q.least ≡ least) × (q.since ≤ m.0.seen) × Walking (layout_of chains.now) m q best link followed (me steps.old) }
+    requires walking { (m : Sat) × (q : Reader) × (q.key ≡ key) × (q.least ≡ least) × (q.since ≤ m.0.seen)
+        × Walking (layout_of chains.now) m q best link followed (me steps.old) }
     ensures table { IsOf chains.now steps.new }
     ensures inside { IfErr result (IsStopInside (layout_of chains.now)) }
-    ensures turned { (m : Sat) (q : Reader) → Walking (layout_of chains.now) m q best link followed (me steps.old) → q.key ≡ key → q.least ≡ least → q.since ≤ m.0.seen → Turned (layout_of chains.now) m q followed result (me steps.new) }
+    ensures turned { (m : Sat) (q : Reader) → Walking (layout_of chains.now) m q best link followed (me steps.old)
+        → q.key ≡ key → q.least ≡ least → q.since ≤ m.0.seen
+        → Turned (layout_of chains.now) m q followed result (me steps.new) }
 {
     let slot = (link / 2) as u32;
     match visit(chains, steps, slot, key, least, rank_so_far(best), pace) {
@@ -215,10 +223,12 @@ fn one_pass<P: Pace>(
     requires table { IsOf chains.now steps.old }
     requires bucket { bucket < bucket_count (layout_of chains.now) }
     requires room { HasTwo (view steps.old) }
-    requires looks { (q : Reader) × Looks (view steps.old) q × (q.bucket ≡ bucket) × (q.key ≡ key) × (q.least ≡ least) × (q.since ≤ (view steps.old).seen) }
+    requires looks { (q : Reader) × Looks (view steps.old) q × (q.bucket ≡ bucket) × (q.key ≡ key) × (q.least ≡ least)
+        × (q.since ≤ (view steps.old).seen) }
     ensures table { IsOf chains.now steps.new }
     ensures inside { IfErr result (IsStopInside (layout_of chains.now)) }
-    ensures passed { (q : Reader) → Looks (view steps.old) q → Passed (layout_of chains.now) (me steps.old) q result (me steps.new) }
+    ensures passed { (q : Reader) → Looks (view steps.old) q
+        → Passed (layout_of chains.now) (me steps.old) q result (me steps.new) }
 {
     pace.step(Point::Head);
     let mut link = chains.step_peek_head(steps, bucket);

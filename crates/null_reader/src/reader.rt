@@ -49,7 +49,8 @@ pub fn look<P: Pace>(
     ensures table { IsOf chains.now steps.new }
     ensures fresh { (view steps.old).seen ≤ result.t0 }
     ensures span { result.t0 ≤ result.t1 }
-    ensures looked { LookedAs bucket packet.now least passes (me steps.old) (words_end result.end) result.t0 result.t1 (me steps.new) }
+    ensures looked { LookedAs bucket packet.now least passes (me steps.old) (words_end result.end) result.t0 result.t1
+        (me steps.new) }
     ensures inside { IsInside (layout_of chains.now) (words_end result.end) }
     ensures sole { IsWhole (view steps.old) → SoleAs bucket packet.now least (view steps.old) (words_end result.end) }
     ensures known { KnownAs bucket packet.now least (view steps.old) (words_end result.end) result.t0 }

@@ -43,7 +43,10 @@ hashed v slot card = record v { walked = seen_of slot card ∷ v.walked }
 
 -- the slot stands in the list behind another, or first, and the walk tells its link
 abbrev pub StandsAfter : Layout → ℕ → ℕ → View → Type 0
-StandsAfter layout before slot v = (before < layout.shape.slots) × ((front : List Seen) × (p : Seen) × (s : Seen) × (back : List Seen) × (p.slot ≡ before) × (s.slot ≡ slot) × (v.chain.walked ≡ (front ++ p ∷ []) ++ s ∷ back) × Tells v back)
+StandsAfter layout before slot v =
+    (before < layout.shape.slots)
+    × ((front : List Seen) × (p : Seen) × (s : Seen) × (back : List Seen) × (p.slot ≡ before) × (s.slot ≡ slot)
+    × (v.chain.walked ≡ (front ++ p ∷ []) ++ s ∷ back) × Tells v back)
 
 abbrev pub StandsFirst : ℕ → View → Type 0
 StandsFirst slot v = (s : Seen) × (back : List Seen) × (s.slot ≡ slot) × (v.chain.walked ≡ s ∷ back) × Tells v back
@@ -62,7 +65,10 @@ Same v w = (w.slot.parts ≡ v.slot.parts) × (w.slot.holds ≡ v.slot.holds) ×
 
 -- one change more is closed, later than all that the pass had seen, with these numbers
 abbrev pub AddsAt : View → View → ℕ → ℕ → ℕ → List ℕ → ℕ → ℕ → Type 0
-AddsAt v w kind bucket slot card b e = (v.seen ≤ b) × (b < e) × (e < w.seen) × (w.book.closed ≡ v.book.closed ++ record { kind = kind; bucket = bucket; slot = slot; card = card; begins = b; ends = e } ∷ []) × Same v w
+AddsAt v w kind bucket slot card b e =
+    (v.seen ≤ b) × (b < e) × (e < w.seen)
+    × (w.book.closed ≡ v.book.closed
+    ++ record { kind = kind; bucket = bucket; slot = slot; card = card; begins = b; ends = e } ∷ []) × Same v w
 
 -- the same, with some numbers
 abbrev pub Adds : View → View → ℕ → ℕ → ℕ → List ℕ → Type 0
@@ -70,7 +76,8 @@ Adds v w kind bucket slot card = (b : ℕ) × (e : ℕ) × AddsAt v w kind bucke
 
 -- what a change leaves: its parts and counts, its lookups, the numbers that it lost
 abbrev pub Rest : View → View → Type 0
-Rest v w = (w.slot.parts ≡ v.slot.parts) × (w.slot.holds ≡ v.slot.holds) × (w.book.lost ≡ v.book.lost) × (w.slot.taken ≡ v.slot.taken) × (w.read ≡ v.read) × (w.since ≡ v.since)
+Rest v w = (w.slot.parts ≡ v.slot.parts) × (w.slot.holds ≡ v.slot.holds) × (w.book.lost ≡ v.book.lost)
+    × (w.slot.taken ≡ v.slot.taken) × (w.read ≡ v.read) × (w.since ≡ v.since)
 
 -- a sighting as it was, or one that waited for its second number and got one that is no smaller than this
 abbrev pub IsSettled : (least : ℕ) → Sight → Sight → Type 0
@@ -83,7 +90,8 @@ AreSettled least ss ts = ⊥
 
 -- all that the pass saw before stands, with more behind it
 abbrev pub Sees : View → View → Type 0
-Sees v w = (earlier : List Sight) × (more : List Sight) × AreSettled v.seen v.sights earlier × (w.sights ≡ earlier ++ more)
+Sees v w = (earlier : List Sight) × (more : List Sight) × AreSettled v.seen v.sights earlier
+    × (w.sights ≡ earlier ++ more)
 
 -- each place of the pass but those in that slot stays one
 abbrev pub OthersStay : ℕ → View → View → Type 0
@@ -95,7 +103,8 @@ PlacesStay v w = (hash : Change) → IsPlace v.book hash → IsPlace w.book hash
 
 -- each place of the pass with another card than this place's stays one
 abbrev pub OtherPlacesStay : Place → View → View → Type 0
-OtherPlacesStay place v w = (hash : Change) → hash.card ≢ words_of (packed place.card) → IsPlace v.book hash → IsPlace w.book hash
+OtherPlacesStay place v w =
+    (hash : Change) → hash.card ≢ words_of (packed place.card) → IsPlace v.book hash → IsPlace w.book hash
 
 -- no place of the pass in another bucket has this place's slot
 abbrev pub IsApart : Place → BookView → Type 0
@@ -103,11 +112,15 @@ IsApart place b = (hash : Change) → IsPlace b hash → hash.slot ≡ place.slo
 
 -- the pass hashed this card, no TIME_WAIT's, into this slot of this bucket, and has not begun to unhash it
 abbrev pub IsPlaced : Place → BookView → Type 0
-IsPlaced place b = (hash : Change) × (hash.bucket ≡ place.bucket) × (hash.slot ≡ place.slot) × (hash.card ≡ words_of (packed place.card)) × IsPlace b hash
+IsPlaced place b =
+    (hash : Change) × (hash.bucket ≡ place.bucket) × (hash.slot ≡ place.slot)
+    × (hash.card ≡ words_of (packed place.card)) × IsPlace b hash
 
 -- that is so by the pass's change of this number
 abbrev pub IsPlacedBy : (nth : ℕ) → Place → BookView → Type 0
-IsPlacedBy nth place b = (hash : Change) × (get_elem? b.closed nth ≡ some hash) × (hash.bucket ≡ place.bucket) × (hash.slot ≡ place.slot) × (hash.card ≡ words_of (packed place.card)) × IsPlace b hash
+IsPlacedBy nth place b =
+    (hash : Change) × (get_elem? b.closed nth ≡ some hash) × (hash.bucket ≡ place.bucket) × (hash.slot ≡ place.slot)
+    × (hash.card ≡ words_of (packed place.card)) × IsPlace b hash
 
 -- a change draws two numbers of the clock at most: what else the pass could draw it still can
 abbrev pub TwoDrawn : View → View → Type 0
@@ -127,8 +140,12 @@ WasChain whole bucket v = IsSole v → whole ≡ chain_from v.book.closed bucket
 
 -- the first TIME_WAIT of this name was taken out of the chain
 abbrev pub TookWait : (name bucket slot : ℕ) → View → View → Type 0
-TookWait name bucket slot v w = (whole : List Seen) × (s : Seen) × WasChain whole bucket v × (wait_in name whole ≡ Some s) × (s.slot ≡ slot) × Adds v w 0 bucket slot s.words × (w.chain.walked ≡ without slot whole)
+TookWait name bucket slot v w =
+    (whole : List Seen) × (s : Seen) × WasChain whole bucket v × (wait_in name whole ≡ Some s) × (s.slot ≡ slot)
+    × Adds v w 0 bucket slot s.words × (w.chain.walked ≡ without slot whole)
 
 -- the chain has no TIME_WAIT of this name, and the walk has met its end
 abbrev pub HasNoWait : (name bucket : ℕ) → View → View → Type 0
-HasNoWait name bucket v w = WasChain w.chain.walked bucket v × (wait_in name w.chain.walked ≡ None) × (w.chain.met ≡ 1) × (w ≡ record v { chain = w.chain })
+HasNoWait name bucket v w =
+    WasChain w.chain.walked bucket v × (wait_in name w.chain.walked ≡ None) × (w.chain.met ≡ 1)
+    × (w ≡ record v { chain = w.chain })

@@ -46,7 +46,8 @@ fn link<H: Halt>(
     requires held { (view steps.old).chain.locked ≡ bucket ∷ [] }
     requires whole { ((view steps.old).chain.met ≡ 1) × ((view steps.old).chain.ahead ≡ []) }
     requires fresh { (view steps.old).slot.fresh ≡ seen_of slot card.now ∷ [] }
-    requires idle { ((view steps.old).slot.tied ≡ []) × ((view steps.old).slot.hung ≡ []) × ((view steps.old).slot.dimmed ≡ []) × ((view steps.old).slot.loose ≡ []) }
+    requires idle { ((view steps.old).slot.tied ≡ []) × ((view steps.old).slot.hung ≡ [])
+        × ((view steps.old).slot.dimmed ≡ []) × ((view steps.old).slot.loose ≡ []) }
     requires begun { IsHashOf slot (view steps.old) × ((view steps.old).done ≡ 0) }
     requires twin { HasNoTwin card.now (view steps.old).chain.walked }
     requires words { IsCardWords (words_of card.now) }
@@ -59,7 +60,9 @@ fn link<H: Halt>(
     ensures sights { (view steps.new).sights ≡ (view steps.old).sights }
     ensures twice { IsAlone card.now (view steps.old).chain.walked → (view steps.new).twice ≡ (view steps.old).twice }
     ensures hand { steps.new.seat.me.1 ≡ steps.old.seat.me.1 }
-    ensures book { ((view steps.new).book ≡ record (view steps.old).book { opened = carding (view steps.old).book.opened (words_of card.now) }) × ((view steps.new).done ≡ 1) }
+    ensures book { ((view steps.new).book
+        ≡ record (view steps.old).book { opened = carding (view steps.old).book.opened (words_of card.now) })
+        × ((view steps.new).done ≡ 1) }
 {
     let head = chains.step_again_head(steps, bucket);
     halt.step(Turning::Link);
@@ -91,17 +94,32 @@ pub(crate) fn hash_numbered<H: Halt>(
     ensures table { IsOf chains.now steps.new }
     ensures at { IsAt (layout_of chains.now) locked.now (view steps.new) }
     ensures idle { IsIdle (view steps.new).slot × ((view steps.new).book.opened ≡ []) }
-    ensures some { IfOk result (λ d. (d.slot < (layout_of chains.now).shape.slots) × ((view steps.new).chain ≡ hashed (view steps.old).chain d.slot card.now)) }
+    ensures some { IfOk result (λ d. (d.slot < (layout_of chains.now).shape.slots)
+        × ((view steps.new).chain ≡ hashed (view steps.old).chain d.slot card.now)) }
     ensures far { IfOk result (λ d. stands d.slot (view steps.old).chain.walked ≡ 0) }
-    ensures first { IfOk result (λ d. IsBare (view steps.old) → FirstFree (view steps.old).book.closed (layout_of chains.now).shape.slots from d.slot) }
-    ensures all { IfErr result (λ f. IsBare (view steps.old) → AllUsed (view steps.old).book.closed 0 (layout_of chains.now).shape.slots × (f.held ≡ 0)) }
-    ensures place { IfOk result (λ d. time_waits (words_of card.now) ≡ 0 → IsPlace (view steps.new).book (record { kind = 1; bucket = locked.now.bucket; slot = d.slot; card = words_of card.now; begins = d.begin; ends = d.end })) }
-    ensures change { IfOk result (λ d. AddsAt (view steps.old) (view steps.new) 1 locked.now.bucket d.slot (words_of card.now) d.begin d.end) }
+    ensures first { IfOk result (λ d. IsBare (view steps.old)
+        → FirstFree (view steps.old).book.closed (layout_of chains.now).shape.slots from d.slot) }
+    ensures all { IfErr result (λ f. IsBare (view steps.old)
+        → AllUsed (view steps.old).book.closed 0 (layout_of chains.now).shape.slots × (f.held ≡ 0)) }
+    ensures place { IfOk result (λ d. time_waits (words_of card.now) ≡ 0
+        → IsPlace (view steps.new).book
+        (record {
+          kind = 1;
+          bucket = locked.now.bucket;
+          slot = d.slot;
+          card = words_of card.now;
+          begins = d.begin;
+          ends = d.end;
+        })) }
+    ensures change { IfOk result (λ d. AddsAt (view steps.old) (view steps.new) 1 locked.now.bucket d.slot
+        (words_of card.now) d.begin d.end) }
     ensures rest { IfOk result (λ d. Rest (view steps.old) (view steps.new)) }
     ensures saw { Sees (view steps.old) (view steps.new) }
     ensures twice { IsAlone card.now (view steps.old).chain.walked → (view steps.new).twice ≡ (view steps.old).twice }
     ensures hand { steps.new.seat.me.1 ≡ steps.old.seat.me.1 }
-    ensures full { IfErr result (λ f. (b : ℕ) × (w : View) × IsFull (layout_of chains.now) (beginning (view steps.old) b) w f × ((view steps.old).seen ≤ b) × ((view steps.new) ≡ dropping_beginning w)) }
+    ensures full { IfErr result (λ f. (b : ℕ) × (w : View)
+        × IsFull (layout_of chains.now) (beginning (view steps.old) b) w f × ((view steps.old).seen ≤ b)
+        × ((view steps.new) ≡ dropping_beginning w)) }
     ensures same { IfErr result (λ f. (view steps.new).book.closed ≡ (view steps.old).book.closed) }
 {
     halt.step(Turning::Begin);
@@ -137,18 +155,21 @@ pub(crate) fn unhash_numbered<H: Halt>(
     requires slot { slot < (layout_of chains.now).shape.slots }
     requires idle { IsIdle (view steps.old).slot × ((view steps.old).book.opened ≡ []) }
     requires share { HasShares 2 (view steps.old) }
-    requires card { (a : ℕ) × (b : ℕ) × (c : ℕ) × (d : ℕ) × (card_in slot (view steps.old).chain.walked ≡ a ∷ b ∷ c ∷ d ∷ []) }
+    requires card { (a : ℕ) × (b : ℕ) × (c : ℕ) × (d : ℕ)
+        × (card_in slot (view steps.old).chain.walked ≡ a ∷ b ∷ c ∷ d ∷ []) }
     requires listed { Stands (layout_of chains.now) before slot (view steps.old) }
     requires own { MayUnhash slot (view steps.old) }
     ensures table { IsOf chains.now steps.new }
     ensures idle { IsIdle (view steps.new).slot × ((view steps.new).book.opened ≡ []) }
-    ensures change { AddsAt (view steps.old) (view steps.new) 0 locked.now.bucket slot (card_in slot (view steps.old).chain.walked) result.begin result.end }
+    ensures change { AddsAt (view steps.old) (view steps.new) 0 locked.now.bucket slot
+        (card_in slot (view steps.old).chain.walked) result.begin result.end }
     ensures rest { Rest (view steps.old) (view steps.new) }
     ensures saw { Sees (view steps.old) (view steps.new) }
     ensures twice { (view steps.new).twice ≡ (view steps.old).twice }
     ensures hand { steps.new.seat.me.1 ≡ steps.old.seat.me.1 }
     ensures at { IsAt (layout_of chains.now) locked.now (view steps.new) }
-    ensures gone { (view steps.new).chain ≡ record (view steps.old).chain { walked = without slot (view steps.old).chain.walked } }
+    ensures gone { (view steps.new).chain
+        ≡ record (view steps.old).chain { walked = without slot (view steps.old).chain.walked } }
 {
     halt.step(Turning::Begin);
     let begin = chains.step_begin_unhash(steps, slot);
@@ -180,7 +201,8 @@ fn leave<H: Halt>(
     ensures sights { (view steps.new).sights ≡ (view steps.old).sights }
     ensures twice { (view steps.new).twice ≡ (view steps.old).twice }
     ensures hand { steps.new.seat.me.1 ≡ steps.old.seat.me.1 }
-    ensures gone { (view steps.new).chain ≡ record (view steps.old).chain { walked = without slot (view steps.old).chain.walked } }
+    ensures gone { (view steps.new).chain
+        ≡ record (view steps.old).chain { walked = without slot (view steps.old).chain.walked } }
     ensures book { ((view steps.new).book ≡ (view steps.old).book) × ((view steps.new).done ≡ 1) }
 {
     halt.step(Turning::Clear);

@@ -47,13 +47,16 @@ pub fn walk_to_end(chains: &Chains, steps: &mut Steps, locked: &mut Locked)
     requires at { IsAt (layout_of chains.now) locked.old (view steps.old) }
     requires known { WalkKnown (layout_of chains.now) (view steps.old) }
     ensures table { IsOf chains.now steps.new }
-    ensures at { IsAt (layout_of chains.now) locked.new (view steps.new) × (locked.new.started ≡ true) × (locked.new.bucket ≡ locked.old.bucket) }
+    ensures at { IsAt (layout_of chains.now) locked.new (view steps.new) × (locked.new.started ≡ true)
+        × (locked.new.bucket ≡ locked.old.bucket) }
     ensures kept { Becomes steps.old steps.new (record (view steps.old) { chain = (view steps.new).chain }) }
     ensures whole { ((view steps.new).chain.met ≡ 1) × ((view steps.new).chain.ahead ≡ []) }
     ensures known { WalkKnown (layout_of chains.now) (view steps.new) }
-    ensures on { (more : List Seen) × ((view steps.new).chain.walked ≡ ((view steps.old).chain.walked ++ (view steps.old).chain.ahead) ++ more) }
+    ensures on { (more : List Seen)
+        × ((view steps.new).chain.walked ≡ ((view steps.old).chain.walked ++ (view steps.old).chain.ahead) ++ more) }
     ensures still { (view steps.old).chain.met ≡ 1 → (view steps.new).chain ≡ (view steps.old).chain }
-    ensures sole { (view steps.old).chain.met ≡ 0 → WasChain (view steps.new).chain.walked locked.old.bucket (view steps.old) }
+    ensures sole { (view steps.old).chain.met ≡ 0
+        → WasChain (view steps.new).chain.walked locked.old.bucket (view steps.old) }
     ensures apart { (view steps.old).chain.met ≡ 0 → PlacesApart (view steps.new) }
     ensures tuples { (view steps.old).chain.met ≡ 0 → TuplesListed (view steps.new) }
 {
@@ -91,9 +94,12 @@ pub(crate) fn find_wait(
     ensures at { IsAt (layout_of chains.now) locked.new (view steps.new) × (locked.new.bucket ≡ locked.old.bucket) }
     ensures kept { Becomes steps.old steps.new (record (view steps.old) { chain = (view steps.new).chain }) }
     ensures known { WalkKnown (layout_of chains.now) (view steps.new) }
-    ensures some { IfSome result (λ t. ((view steps.new).chain.ahead ≡ seen_of t.0 t.1 ∷ []) × ((view steps.new).chain.met ≡ 0) × (wait_in name (view steps.new).chain.walked ≡ None)) }
-    ensures card { IfSome result (λ t. (spec.waits_as name (words_of t.1) ≡ true) × IsCardWords (words_of t.1) × (t.0 < (layout_of chains.now).shape.slots)) }
-    ensures none { IfNone result (((view steps.new).chain.met ≡ 1) × ((view steps.new).chain.ahead ≡ []) × (wait_in name (view steps.new).chain.walked ≡ None)) }
+    ensures some { IfSome result (λ t. ((view steps.new).chain.ahead ≡ seen_of t.0 t.1 ∷ [])
+        × ((view steps.new).chain.met ≡ 0) × (wait_in name (view steps.new).chain.walked ≡ None)) }
+    ensures card { IfSome result (λ t. (spec.waits_as name (words_of t.1) ≡ true) × IsCardWords (words_of t.1)
+        × (t.0 < (layout_of chains.now).shape.slots)) }
+    ensures none { IfNone result (((view steps.new).chain.met ≡ 1) × ((view steps.new).chain.ahead ≡ [])
+        × (wait_in name (view steps.new).chain.walked ≡ None)) }
     ensures sole { IfNone result (WasChain (view steps.new).chain.walked locked.old.bucket (view steps.old)) }
 {
     for _count in 0..u64::from(chains.slot_count()) + 1 {

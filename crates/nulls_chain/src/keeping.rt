@@ -61,22 +61,33 @@ pub fn hash(
     ensures table { IsPassOf chains.now pass.new }
     ensures at { IsAt (layout_of chains.now) locked.now (known pass.new) }
     ensures idle { IsIdle (known pass.new).slot × ((known pass.new).book.opened ≡ []) }
-    ensures some { IfOk result (λ place. (place.slot < (layout_of chains.now).shape.slots) × (place.bucket ≡ locked.now.bucket) × (place.card ≡ card.now)) }
-    ensures chain { IfOk result (λ place. (known pass.new).chain ≡ hashed (known pass.old).chain place.slot (packed card.now)) }
+    ensures some { IfOk result (λ place. (place.slot < (layout_of chains.now).shape.slots)
+        × (place.bucket ≡ locked.now.bucket) × (place.card ≡ card.now)) }
+    ensures chain { IfOk result (λ place. (known pass.new).chain
+        ≡ hashed (known pass.old).chain place.slot (packed card.now)) }
     ensures far { IfOk result (λ place. stands place.slot (known pass.old).chain.walked ≡ 0) }
-    ensures known { IfOk result (λ place. WalkKnown (layout_of chains.now) (known pass.old) → WalkKnown (layout_of chains.now) (known pass.new)) }
-    ensures first { IfOk result (λ place. IsBare (known pass.old) → FirstFree (known pass.old).book.closed (layout_of chains.now).shape.slots from place.slot) }
-    ensures all { IfErr result (λ f. IsBare (known pass.old) → AllUsed (known pass.old).book.closed 0 (layout_of chains.now).shape.slots × (f.held ≡ 0)) }
-    ensures place { IfOk result (λ place. time_waits (words_of (packed card.now)) ≡ 0 → IsPlaced place (known pass.new).book) }
-    ensures newest { IfOk result (λ place. time_waits (words_of (packed card.now)) ≡ 0 → IsPlacedBy (length (known pass.old).book.closed) place (known pass.new).book) }
+    ensures known { IfOk result (λ place. WalkKnown (layout_of chains.now) (known pass.old)
+        → WalkKnown (layout_of chains.now) (known pass.new)) }
+    ensures first { IfOk result (λ place. IsBare (known pass.old)
+        → FirstFree (known pass.old).book.closed (layout_of chains.now).shape.slots from place.slot) }
+    ensures all { IfErr result (λ f. IsBare (known pass.old)
+        → AllUsed (known pass.old).book.closed 0 (layout_of chains.now).shape.slots × (f.held ≡ 0)) }
+    ensures place { IfOk result (λ place. time_waits (words_of (packed card.now)) ≡ 0
+        → IsPlaced place (known pass.new).book) }
+    ensures newest { IfOk result (λ place. time_waits (words_of (packed card.now)) ≡ 0
+        → IsPlacedBy (length (known pass.old).book.closed) place (known pass.new).book) }
     ensures stay { PlacesStay (known pass.old) (known pass.new) }
     ensures share { TwoDrawn (known pass.old) (known pass.new) }
-    ensures change { IfOk result (λ place. Adds (known pass.old) (known pass.new) 1 locked.now.bucket place.slot (words_of (packed card.now))) }
+    ensures change { IfOk result (λ place. Adds (known pass.old) (known pass.new) 1 locked.now.bucket place.slot
+        (words_of (packed card.now))) }
     ensures rest { IfOk result (λ place. Rest (known pass.old) (known pass.new)) }
     ensures saw { Sees (known pass.old) (known pass.new) }
-    ensures twice { IsAlone (packed card.now) (known pass.old).chain.walked → (known pass.new).twice ≡ (known pass.old).twice }
+    ensures twice { IsAlone (packed card.now) (known pass.old).chain.walked
+        → (known pass.new).twice ≡ (known pass.old).twice }
     ensures hand { pass.new.steps.seat.me.1 ≡ pass.old.steps.seat.me.1 }
-    ensures full { IfErr result (λ f. (b : ℕ) × (w : View) × IsFull (layout_of chains.now) (beginning (known pass.old) b) w f × ((known pass.old).seen ≤ b) × ((known pass.new) ≡ dropping_beginning w)) }
+    ensures full { IfErr result (λ f. (b : ℕ) × (w : View)
+        × IsFull (layout_of chains.now) (beginning (known pass.old) b) w f × ((known pass.old).seen ≤ b)
+        × ((known pass.new) ≡ dropping_beginning w)) }
     ensures same { IfErr result (λ f. (known pass.new).book.closed ≡ (known pass.old).book.closed) }
     ensures room { capacity_of pass.new.changes ≡ capacity_of pass.old.changes }
     ensures len { len_of pass.new.changes ≤ len_of pass.old.changes + 1 }
@@ -105,22 +116,33 @@ pub fn hash_with<H: Halt>(
     ensures table { IsPassOf chains.now pass.new }
     ensures at { IsAt (layout_of chains.now) locked.now (known pass.new) }
     ensures idle { IsIdle (known pass.new).slot × ((known pass.new).book.opened ≡ []) }
-    ensures some { IfOk result (λ place. (place.slot < (layout_of chains.now).shape.slots) × (place.bucket ≡ locked.now.bucket) × (place.card ≡ card.now)) }
-    ensures chain { IfOk result (λ place. (known pass.new).chain ≡ hashed (known pass.old).chain place.slot (packed card.now)) }
+    ensures some { IfOk result (λ place. (place.slot < (layout_of chains.now).shape.slots)
+        × (place.bucket ≡ locked.now.bucket) × (place.card ≡ card.now)) }
+    ensures chain { IfOk result (λ place. (known pass.new).chain
+        ≡ hashed (known pass.old).chain place.slot (packed card.now)) }
     ensures far { IfOk result (λ place. stands place.slot (known pass.old).chain.walked ≡ 0) }
-    ensures known { IfOk result (λ place. WalkKnown (layout_of chains.now) (known pass.old) → WalkKnown (layout_of chains.now) (known pass.new)) }
-    ensures first { IfOk result (λ place. IsBare (known pass.old) → FirstFree (known pass.old).book.closed (layout_of chains.now).shape.slots from place.slot) }
-    ensures all { IfErr result (λ f. IsBare (known pass.old) → AllUsed (known pass.old).book.closed 0 (layout_of chains.now).shape.slots × (f.held ≡ 0)) }
-    ensures place { IfOk result (λ place. time_waits (words_of (packed card.now)) ≡ 0 → IsPlaced place (known pass.new).book) }
-    ensures newest { IfOk result (λ place. time_waits (words_of (packed card.now)) ≡ 0 → IsPlacedBy (length (known pass.old).book.closed) place (known pass.new).book) }
+    ensures known { IfOk result (λ place. WalkKnown (layout_of chains.now) (known pass.old)
+        → WalkKnown (layout_of chains.now) (known pass.new)) }
+    ensures first { IfOk result (λ place. IsBare (known pass.old)
+        → FirstFree (known pass.old).book.closed (layout_of chains.now).shape.slots from place.slot) }
+    ensures all { IfErr result (λ f. IsBare (known pass.old)
+        → AllUsed (known pass.old).book.closed 0 (layout_of chains.now).shape.slots × (f.held ≡ 0)) }
+    ensures place { IfOk result (λ place. time_waits (words_of (packed card.now)) ≡ 0
+        → IsPlaced place (known pass.new).book) }
+    ensures newest { IfOk result (λ place. time_waits (words_of (packed card.now)) ≡ 0
+        → IsPlacedBy (length (known pass.old).book.closed) place (known pass.new).book) }
     ensures stay { PlacesStay (known pass.old) (known pass.new) }
     ensures share { TwoDrawn (known pass.old) (known pass.new) }
-    ensures change { IfOk result (λ place. Adds (known pass.old) (known pass.new) 1 locked.now.bucket place.slot (words_of (packed card.now))) }
+    ensures change { IfOk result (λ place. Adds (known pass.old) (known pass.new) 1 locked.now.bucket place.slot
+        (words_of (packed card.now))) }
     ensures rest { IfOk result (λ place. Rest (known pass.old) (known pass.new)) }
     ensures saw { Sees (known pass.old) (known pass.new) }
-    ensures twice { IsAlone (packed card.now) (known pass.old).chain.walked → (known pass.new).twice ≡ (known pass.old).twice }
+    ensures twice { IsAlone (packed card.now) (known pass.old).chain.walked
+        → (known pass.new).twice ≡ (known pass.old).twice }
     ensures hand { pass.new.steps.seat.me.1 ≡ pass.old.steps.seat.me.1 }
-    ensures full { IfErr result (λ f. (b : ℕ) × (w : View) × IsFull (layout_of chains.now) (beginning (known pass.old) b) w f × ((known pass.old).seen ≤ b) × ((known pass.new) ≡ dropping_beginning w)) }
+    ensures full { IfErr result (λ f. (b : ℕ) × (w : View)
+        × IsFull (layout_of chains.now) (beginning (known pass.old) b) w f × ((known pass.old).seen ≤ b)
+        × ((known pass.new) ≡ dropping_beginning w)) }
     ensures same { IfErr result (λ f. (known pass.new).book.closed ≡ (known pass.old).book.closed) }
     ensures room { capacity_of pass.new.changes ≡ capacity_of pass.old.changes }
     ensures len { len_of pass.new.changes ≤ len_of pass.old.changes + 1 }
@@ -175,7 +197,8 @@ pub fn unhash_slot(chains: &Chains, pass: &mut Pass, locked: &Locked, slot: u32,
     ensures twice { (known pass.new).twice ≡ (known pass.old).twice }
     ensures hand { pass.new.steps.seat.me.1 ≡ pass.old.steps.seat.me.1 }
     ensures at { IsAt (layout_of chains.now) locked.now (known pass.new) }
-    ensures gone { (known pass.new).chain ≡ record (known pass.old).chain { walked = without slot (known pass.old).chain.walked } }
+    ensures gone { (known pass.new).chain
+        ≡ record (known pass.old).chain { walked = without slot (known pass.old).chain.walked } }
     ensures room { capacity_of pass.new.changes ≡ capacity_of pass.old.changes }
     ensures len { len_of pass.new.changes ≡ len_of pass.old.changes + 1 }
 {
@@ -212,7 +235,8 @@ pub(crate) fn unhash_slot_with<H: Halt>(
     ensures twice { (known pass.new).twice ≡ (known pass.old).twice }
     ensures hand { pass.new.steps.seat.me.1 ≡ pass.old.steps.seat.me.1 }
     ensures at { IsAt (layout_of chains.now) locked.now (known pass.new) }
-    ensures gone { (known pass.new).chain ≡ record (known pass.old).chain { walked = without slot (known pass.old).chain.walked } }
+    ensures gone { (known pass.new).chain
+        ≡ record (known pass.old).chain { walked = without slot (known pass.old).chain.walked } }
     ensures room { capacity_of pass.new.changes ≡ capacity_of pass.old.changes }
     ensures len { len_of pass.new.changes ≡ len_of pass.old.changes + 1 }
 {

@@ -28,7 +28,8 @@ pub fn unhash(chains: &Chains, pass: &mut Pass, locked: &mut Locked, place: Plac
     requires room { len_of pass.old.changes < capacity_of pass.old.changes }
     ensures table { IsPassOf chains.now pass.new }
     ensures idle { IsIdle (known pass.new).slot × ((known pass.new).book.opened ≡ []) }
-    ensures change { Adds (known pass.old) (known pass.new) 0 locked.old.bucket place.slot (words_of (packed place.card)) }
+    ensures change { Adds (known pass.old) (known pass.new) 0 locked.old.bucket place.slot
+        (words_of (packed place.card)) }
     ensures stay { OthersStay place.slot (known pass.old) (known pass.new) }
     // Where the chain was walked before, its caller knows that no place of another bucket has this slot.
     ensures others { ((known pass.old).chain.met ≡ 0) ⊎ IsApart place (known pass.old).book
@@ -38,9 +39,12 @@ pub fn unhash(chains: &Chains, pass: &mut Pass, locked: &mut Locked, place: Plac
     ensures saw { Sees (known pass.old) (known pass.new) }
     ensures twice { (known pass.new).twice ≡ (known pass.old).twice }
     ensures hand { pass.new.steps.seat.me.1 ≡ pass.old.steps.seat.me.1 }
-    ensures at { IsAt (layout_of chains.now) locked.new (known pass.new) × (locked.new.started ≡ true) × (locked.new.bucket ≡ locked.old.bucket) }
+    ensures at { IsAt (layout_of chains.now) locked.new (known pass.new) × (locked.new.started ≡ true)
+        × (locked.new.bucket ≡ locked.old.bucket) }
     ensures whole { ((known pass.new).chain.met ≡ 1) × ((known pass.new).chain.ahead ≡ []) }
-    ensures gone { (known pass.old).chain.met ≡ 1 → (known pass.new).chain ≡ record (known pass.old).chain { walked = without place.slot (known pass.old).chain.walked } }
+    ensures gone { (known pass.old).chain.met ≡ 1
+        → (known pass.new).chain ≡ record (known pass.old).chain
+        { walked = without place.slot (known pass.old).chain.walked } }
     ensures room { capacity_of pass.new.changes ≡ capacity_of pass.old.changes }
     ensures len { len_of pass.new.changes ≡ len_of pass.old.changes + 1 }
 {
@@ -64,7 +68,8 @@ pub fn unhash_with<H: Halt>(
     requires room { len_of pass.old.changes < capacity_of pass.old.changes }
     ensures table { IsPassOf chains.now pass.new }
     ensures idle { IsIdle (known pass.new).slot × ((known pass.new).book.opened ≡ []) }
-    ensures change { Adds (known pass.old) (known pass.new) 0 locked.old.bucket place.slot (words_of (packed place.card)) }
+    ensures change { Adds (known pass.old) (known pass.new) 0 locked.old.bucket place.slot
+        (words_of (packed place.card)) }
     ensures stay { OthersStay place.slot (known pass.old) (known pass.new) }
     // Where the chain was walked before, its caller knows that no place of another bucket has this slot.
     ensures others { ((known pass.old).chain.met ≡ 0) ⊎ IsApart place (known pass.old).book
@@ -74,9 +79,12 @@ pub fn unhash_with<H: Halt>(
     ensures saw { Sees (known pass.old) (known pass.new) }
     ensures twice { (known pass.new).twice ≡ (known pass.old).twice }
     ensures hand { pass.new.steps.seat.me.1 ≡ pass.old.steps.seat.me.1 }
-    ensures at { IsAt (layout_of chains.now) locked.new (known pass.new) × (locked.new.started ≡ true) × (locked.new.bucket ≡ locked.old.bucket) }
+    ensures at { IsAt (layout_of chains.now) locked.new (known pass.new) × (locked.new.started ≡ true)
+        × (locked.new.bucket ≡ locked.old.bucket) }
     ensures whole { ((known pass.new).chain.met ≡ 1) × ((known pass.new).chain.ahead ≡ []) }
-    ensures gone { (known pass.old).chain.met ≡ 1 → (known pass.new).chain ≡ record (known pass.old).chain { walked = without place.slot (known pass.old).chain.walked } }
+    ensures gone { (known pass.old).chain.met ≡ 1
+        → (known pass.new).chain ≡ record (known pass.old).chain
+        { walked = without place.slot (known pass.old).chain.walked } }
     ensures room { capacity_of pass.new.changes ≡ capacity_of pass.old.changes }
     ensures len { len_of pass.new.changes ≡ len_of pass.old.changes + 1 }
 {

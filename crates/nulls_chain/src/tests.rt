@@ -44,7 +44,8 @@ const CARD: Card = Card {
 fn come_and_go(chains: &Chains, pass: &mut Pass, locked: &mut Locked, card: &Card) -> Option<u32>
     requires table { IsPassOf chains.now pass.old }
     requires at { IsAt (layout_of chains.now) locked.old (known pass.old) × (locked.old.started ≡ true) }
-    requires empty { ((known pass.old).chain.walked ≡ []) × ((known pass.old).chain.met ≡ 1) × ((known pass.old).chain.ahead ≡ []) }
+    requires empty { ((known pass.old).chain.walked ≡ []) × ((known pass.old).chain.met ≡ 1)
+        × ((known pass.old).chain.ahead ≡ []) }
     requires walked { WalkKnown (layout_of chains.now) (known pass.old) }
     requires idle { IsIdle (known pass.old).slot × ((known pass.old).book.opened ≡ []) }
     requires home { home (layout_of chains.now).shape (layout_of chains.now).seed card.now ≡ locked.old.bucket }

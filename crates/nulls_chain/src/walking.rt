@@ -17,9 +17,11 @@ fn read_card(chains: &Chains, steps: &mut Steps, slot: u32) -> CardWords
     requires slot { slot < (layout_of chains.now).shape.slots }
     requires ahead { (view steps.old).chain.ahead ≡ record { slot = slot; words = [] } ∷ [] }
     ensures table { IsOf chains.now steps.new }
-    ensures ahead { Becomes steps.old steps.new (record (view steps.old) { chain = record (view steps.old).chain { ahead = seen_of slot result ∷ [] } }) }
+    ensures ahead { Becomes steps.old steps.new
+        (record (view steps.old) { chain = record (view steps.old).chain { ahead = seen_of slot result ∷ [] } }) }
     ensures small { result.ports < 18446744073709551616 }
-    ensures card { (b : ℕ) → (view steps.old).chain.locked ≡ b ∷ [] → IsIdle (view steps.old).slot → IsCardWords (words_of result) }
+    ensures card { (b : ℕ) → (view steps.old).chain.locked ≡ b ∷ [] → IsIdle (view steps.old).slot
+        → IsCardWords (words_of result) }
 {
     let ends = chains.step_read(steps, slot, 0);
     let ports = chains.step_read(steps, slot, 1);
@@ -66,15 +68,18 @@ pub fn walk(chains: &Chains, steps: &mut Steps, locked: &mut Locked) -> Option<(
     ensures locked { (locked.new.bucket ≡ locked.old.bucket) × (locked.new.started ≡ true) }
     ensures kept { Becomes steps.old steps.new (record (view steps.old) { chain = (view steps.new).chain }) }
     ensures some { IfSome result (λ t. (view steps.new).chain ≡ going (view steps.old).chain (seen_of t.0 t.1 ∷ []) 0) }
-    ensures near { IfSome result (λ t. (t.0 < (layout_of chains.now).shape.slots) × (locked.new.link % 2 ≡ 0) × (t.1.ports < 18446744073709551616)) }
+    ensures near { IfSome result (λ t. (t.0 < (layout_of chains.now).shape.slots) × (locked.new.link % 2 ≡ 0)
+        × (t.1.ports < 18446744073709551616)) }
     ensures cards { IfSome result (λ t. IsIdle (view steps.old).slot → IsCardWords (words_of t.1)) }
-    ensures none { IfNone result (((view steps.new).chain.walked ≡ (view steps.old).chain.walked ++ (view steps.old).chain.ahead) × ((view steps.new).chain.ahead ≡ []) × ((view steps.new).chain.met ≡ 1)) }
+    ensures none { IfNone result (((view steps.new).chain.walked ≡ (view steps.old).chain.walked
+        ++ (view steps.old).chain.ahead) × ((view steps.new).chain.ahead ≡ []) × ((view steps.new).chain.met ≡ 1)) }
     ensures known { IfNone result (SoleKnown (view steps.new)) }
     ensures places { IfNone result (PlacesListed (view steps.new)) }
     ensures apart { IfNone result (PlacesApart (view steps.new)) }
     ensures tuples { IfNone result (TuplesListed (view steps.new)) }
     ensures fits { Fits (layout_of chains.now) (view steps.new) }
-    ensures walked { WalkKnown (layout_of chains.now) (view steps.old) → WalkKnown (layout_of chains.now) (view steps.new) }
+    ensures walked { WalkKnown (layout_of chains.now) (view steps.old)
+        → WalkKnown (layout_of chains.now) (view steps.new) }
 {
     let link = step(chains, steps, locked);
     locked.started = true;

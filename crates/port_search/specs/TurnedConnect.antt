@@ -30,7 +30,8 @@ pub record IsHeld (count net port : ℕ) (x : Placed Entry) : Type 0 where
   pub asked : IsAsked (bind_key port net % count) (requests.Free port net) (answers.NotFree name) x
 
 -- the caller's call, at its own context and that port, may answer so and leave the context so
-pub record Tries {C T : Type 0} (post : MutBor C → ℕ → Attempt T → MutBor C → Type 0) (old : C) (port : ℕ) (answer : Attempt T) (new : C) : Type 0 where
+pub record Tries {C T : Type 0} (post : MutBor C → ℕ → Attempt T → MutBor C → Type 0) (old : C) (port : ℕ)
+    (answer : Attempt T) (new : C) : Type 0 where
   pub shown : MutBor C
   pub shows : shown.now ≡ old
   pub left : MutBor C
@@ -38,7 +39,8 @@ pub record Tries {C T : Type 0} (post : MutBor C → ℕ → Attempt T → MutBo
   pub leaves : left.now ≡ new
 
 -- it may be called at each port, as long as it said Taken before
-abbrev pub MayTry : {C T : Type 0} → (MutBor C → ℕ → Type 0) → (MutBor C → ℕ → Attempt T → MutBor C → Type 0) → C → Type 0
+abbrev pub MayTry :
+    {C T : Type 0} → (MutBor C → ℕ → Type 0) → (MutBor C → ℕ → Attempt T → MutBor C → Type 0) → C → Type 0
 MayTry {C} pre post context =
     (ports : List ℕ) (now : C) → FoldsTo (SaysTaken (Tries post)) context ports now
     → (shown : MutBor C) (port : ℕ) → shown.now ≡ now → port < 2 ^ 16 → pre shown port
@@ -74,9 +76,11 @@ module _ {C T : Type 0} (step : C → ℕ → Attempt T → C → Type 0) (count
 -- the owner came to the port, in its namespace: the entries of that turn
 abbrev pub IsCome : ℕ → Owner → ℕ → Option ℕ → List (Placed Entry) → Type 0
 IsCome count a port None (x ∷ y ∷ []) =
-    IsFree count a.net port x × IsAsked (bind_key port a.net % count) (requests.ConnectAuto (chosen_at a port)) answers.Done y
+    IsFree count a.net port x × IsAsked (bind_key port a.net % count)
+    (requests.ConnectAuto (chosen_at a port)) answers.Done y
 IsCome count a port (Some name) (x ∷ y ∷ z ∷ []) =
-    IsFree count a.net port x × IsAsked (bind_key port a.net % count) (requests.ConnectAuto (chosen_at a port)) answers.Done y
+    IsFree count a.net port x × IsAsked (bind_key port a.net % count)
+    (requests.ConnectAuto (chosen_at a port)) answers.Done y
     × (answer : Answer) × IsAsked (bind_key port a.net % count) (requests.RemoveWaiting name) answer z
 IsCome count a port replaced _ = ⊥
 

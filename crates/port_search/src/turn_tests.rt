@@ -279,7 +279,8 @@ fn bind_two<R: Threads + Wait + Sync>(
             requires { IsIdle turns.now one × (words.caller one ≡ section) × (words.draws one ≡ 0) × (section < 50) }
         { bind_ten(rt, alloc, turns, one, section) },
         || -> Result<Vec<u16>, AllocError>
-            requires { IsIdle turns.now two × (words.caller two ≡ section + 1) × (words.draws two ≡ 0) × (section < 50) }
+            requires { IsIdle turns.now two × (words.caller two ≡ section + 1) × (words.draws two ≡ 0)
+                × (section < 50) }
         { bind_ten(rt, alloc, turns, two, section + 1) },
     );
     both(a?, b?)
@@ -305,10 +306,12 @@ fn bind_four<R: Threads + Wait + Sync>(rt: &R, alloc: Global) -> Result<Vec<u16>
     let (a, b) = join(
         rt,
         || -> Result<Vec<u16>, AllocError>
-            requires { IsIdle shared.now one × (words.caller one ≡ 1) × (words.draws one ≡ 0) × IsIdle shared.now two × (words.caller two ≡ 2) × (words.draws two ≡ 0) }
+            requires { IsIdle shared.now one × (words.caller one ≡ 1) × (words.draws one ≡ 0) × IsIdle shared.now two
+                × (words.caller two ≡ 2) × (words.draws two ≡ 0) }
         { bind_two(rt, alloc, shared, one, two, 1) },
         || -> Result<Vec<u16>, AllocError>
-            requires { IsIdle shared.now three × (words.caller three ≡ 3) × (words.draws three ≡ 0) × IsIdle shared.now four × (words.caller four ≡ 4) × (words.draws four ≡ 0) }
+            requires { IsIdle shared.now three × (words.caller three ≡ 3) × (words.draws three ≡ 0)
+                × IsIdle shared.now four × (words.caller four ≡ 4) × (words.draws four ≡ 0) }
         { bind_two(rt, alloc, shared, three, four, 3) },
     );
     both(a?, b?)

@@ -80,7 +80,8 @@ pub fn find_bind_turn<P: Patience>(
     requires may { MayName (words.caller pass.old) owner.name }
     ensures bound { IfOk result (λ found. BindsIn turns.now owner ports (known pass.old) pass.new found.0 found.1) }
     ensures out { IfOk result (λ found. IsOut turns.now pass.new found.1) }
-    ensures place { IfOk result (λ found. found.1.place ≡ conflict.bind_key found.0 owner.net % words.places turns.now) }
+    ensures place { IfOk result (λ found. found.1.place
+        ≡ conflict.bind_key found.0 owner.net % words.places turns.now) }
     ensures entries { IfOk result (λ found. 2 ≤ found.1.value.value.entries) }
     ensures newcomer { IfOk result (λ found. 1 ≤ found.1.value.value.newcomers) }
     ensures idle { OnErr result (IsIdle turns.now pass.new) }
@@ -216,7 +217,8 @@ fn connect_at(
     ensures idle { IsIdle turns.now pass.new }
     ensures draws { words.draws pass.new ≤ words.draws pass.old + 2 }
     ensures came { (v : View) → Within v (known pass.old)
-        → entries_of (made pass.old turn) ≡ record { request = requests.Free port owner.net; answer = answers.Done } ∷ []
+        → entries_of (made pass.old turn) ≡ record { request = requests.Free port owner.net; answer = answers.Done }
+        ∷ []
         → CameAt (words.places turns.now) owner port replaced v (known pass.new) }
 {
     let mut turn = turn;

@@ -2,7 +2,6 @@
 use Rattle.std.proofs.Common.{◌≡◌, ◌≢◌, ℕ, ◌+◌, ◌<◌, ◌≤◌, ◌^◌, false, List, [], ◌∷◌, ◌++◌, length, map, find, None, unwrap_or, Option, refl, sym, ap, ◌∙◌, subst, arith}
 use Rattle.std.specs.List.{flat_map}
 use Rattle.std.proofs.lemmas.Bool.{true≢false}
-use Rattle.std.proofs.lemmas.Grind.{flat_map-append}
 use Rattle.list_words.specs.Lists.{Each}
 use Rattle.capture_reader.specs.Captures.{Capture}
 use Rattle.flat_list.specs.declared.header.Header.{Header}
@@ -16,6 +15,7 @@ use Rattle.flat_list.specs.Sound.{IsSound}
 use Rattle.flat_list.specs.Step.{step}
 use Rattle.flat_list.proofs.Soundness.{starts as starts_sound}
 use Rattle.sock_script.specs.Output.{asked, events_from, replies_from, issued_from, flat_replies}
+use Rattle.sock_script.specs.Steps.{issue}
 use Rattle.table_model.specs.Tables.{Tables, new_tables}
 use Rattle.table_model.specs.Own.{Own, new_own}
 use Rattle.table_model.specs.Means.{Means, TablesMean, IsShape, is_lookup}
@@ -25,16 +25,13 @@ use Rattle.chain_book.specs.declared.book.Change.{Change}
 use Rattle.race_record.specs.Deeds.{Deed}
 use Rattle.race_record.specs.Lawful.{Lawful, IsStepOf, AreStepsOf, AreSectionsOf}
 use Rattle.race_record.specs.Record.{Race, Step, deeds_of, all_deeds, reply_of}
+use Rattle.race_record.proofs.Drawn.{deeds_join}
 use Rattle.race_alone.specs.Plays.{Plays, StepRefines}
 use Rattle.race_alone.specs.Order.{AsksNone}
 use Rattle.race_alone.specs.Sole.{all_replies}
 use Rattle.race_alone.proofs.Played.{PlaysTwo, plays_two}
 use Rattle.race_alone.proofs.Alone.{step_refines, labels_grow}
 use Rattle.flat_list.proofs.SectionsStay.{step_stays}
-
--- the commands of a section
-abbrev issue : ℕ → List Command → List Issued
-issue n commands = map (λ command. record { section = n; command = command }) commands
 
 -- what stands after the commands of section n
 record SectionRan (n : ℕ) (flat : Flat) (commands : List Command) (steps : List Step) (new : Tables) : Type 0 where
@@ -72,10 +69,6 @@ module _ (In : Change → Type 0) (n : ℕ) (few : n ≤ 64) where
       }
   section_ran own t new flat [] (s ∷ ss) room none means are plays = absurd are
   section_ran own t new flat (c ∷ cs) [] room none means are plays = absurd are
-
--- deeds of steps, and of others after them
-deeds_join : (xs ys : List Step) → deeds_of (xs ++ ys) ≡ deeds_of xs ++ deeds_of ys
-deeds_join xs ys = flat_map-append (λ (s : Step). s.deeds) xs ys
 
 -- a command that asks for no lookup is one event
 one_event : (n : ℕ) (c : Command) (rest : List Issued) → is_lookup c ≡ false → events_from [] (record { section = n; command = c } ∷ rest) ≡ asked (record { section = n; command = c }) ∷ events_from [] rest

@@ -25,13 +25,6 @@ use Rattle.race_alone.specs.Plays.{Plays, GoesTo}
 abbrev change : ℕ → ℕ → Card → Act → Change
 change bucket slot card act = record { bucket = bucket; slot = slot; card = card; act = act; begin = 0; end = 0 }
 
-abbrev tells : {A : Type 0} → Option A → Bool
-tells None = false
-tells (Some x) = true
-
-some_not_none : {A : Type 0} {x : A} → Some x ≡ None → ⊥
-some_not_none e = absurd (true≢false (ap (λ o. tells o) e))
-
 -- what is found is there, and passes
 record Found {A : Type 0} (test : A → Bool) (xs : List A) (x : A) : Type 0 where
   there : Among xs x
@@ -43,12 +36,12 @@ found_by test y ys x more true e q =
 found_by test y ys x more false e q = let r = more q in record { there = inr r.there; passes = r.passes }
 
 found_at : {A : Type 0} (test : A → Bool) (xs : List A) (x : A) → find test xs ≡ Some x → Found test xs x
-found_at test [] x e = absurd (some_not_none (sym e))
+found_at test [] x e = absurd (cc)
 found_at test (y ∷ ys) x e = found_by test y ys x (found_at test ys x) (test y) refl e
 
 -- where nothing is found, nothing passes
 none_by : {A : Type 0} (test : A → Bool) (y : A) (ys : List A) (x : A) → (find test ys ≡ None → Among ys x → test x ≡ false) → (b : Bool) → test y ≡ b → cond b (Some y) (find test ys) ≡ None → Among (y ∷ ys) x → test x ≡ false
-none_by test y ys x more true e q a = absurd (some_not_none q)
+none_by test y ys x more true e q a = absurd (cc)
 none_by test y ys x more false e q (inl p) = ap test p ∙ e
 none_by test y ys x more false e q (inr a) = more q a
 
@@ -157,7 +150,7 @@ ran (reaps card then_) t ended e =
     let r = ran (then_ (was_there told.unhash)) (with_chains t (reaped_from t.chains card (waiting t.chains card))) ended
     (subst (λ (b : Bool). run (with_chains t (reaped_from t.chains card (waiting t.chains card))) (then_ b) ≡ Some ended) (sym told.same) e) in
     record { deeds = reaped card told.unhash ∷ r.deeds; goes = (refl, told.is, r.goes); plays = (told.same, r.plays) }
-ran impossible t ended e = absurd (some_not_none (sym e))
+ran impossible t ended e = absurd (cc)
 
 pub runs_go : (p : Asking Replied) (t : Tables) (ended : Ended Replied) → run t p ≡ Some ended → GoesTo t p ended
 runs_go p t ended e = let r = ran p t ended e in record { deeds = r.deeds; goes = r.goes; plays = r.plays }

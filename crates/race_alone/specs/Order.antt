@@ -55,6 +55,7 @@ replies_of flat (c ∷ rest) = let next = step flat c.section c.command in next.
 abbrev pub TurnsAreFlat : Type 0
 TurnsAreFlat =
     (script : Script) (capture : Capture) (race : Race) (turns : List Turn) (after : Tables) → IsSmall script
-    → IsShape script.header → Each AsksNone script.sections → Lawful script capture race → AreTurnsOf race.sections turns
+    → IsShape script.header → Each AsksNone script.sections → Lawful script capture race
+    → AreTurnsOf race.sections turns
     → Plays (new_tables script.header.shape script.header.seed) (deeds_of (map step_in turns)) after
     → map reply_in turns ≡ replies_of (new_flat script.header) (map issued_in turns)

@@ -1,6 +1,6 @@
 -- How often a card, and changes, hash a name as a kind.
 use Rattle.std.proofs.Common.{◌≡◌, ℕ, ◌+◌, ◌==◌, ◌&&◌, Bool, true, false, cond, List, ◌++◌, Option, None, Some, refl, sym, ap, ◌∙◌}
-use Rattle.std.proofs.lemmas.Bool.{eqb-true, eq-eqb}
+use Rattle.std.proofs.lemmas.Bool.{eqb-true, eq-eqb, and_from}
 use Rattle.list_words.specs.Lists.{total}
 use Rattle.list_words.proofs.TotalLemmas.{total-append}
 use Rattle.sock_card.specs.declared.card.Card.{Card}
@@ -10,7 +10,7 @@ use Rattle.sock_card.specs.Words.{number_of, kind_at}
 use Rattle.chain_book.specs.declared.book.Act.TheVariants as acts
 use Rattle.chain_book.specs.declared.book.Change.{Change}
 use Rattle.race_book.specs.Lives.{is_hash}
-use Rattle.race_book.proofs.Checks.{and_left, and_right, and_both}
+use Rattle.race_book.proofs.Checks.{and_left, and_right}
 
 kind_back : (k : Kind) → kind_at (number_of k) ≡ k
 kind_back kinds.Full = refl
@@ -38,7 +38,7 @@ is_as_tells name kind c e = record {
 
 pub told_as : (name : ℕ) (kind : Kind) (c : Card) → IsAs name kind c → is_as name kind c ≡ true
 told_as name kind c h =
-    and_both (c.name == name) (number_of c.kind == number_of kind) (eq-eqb c.name name h.name_is)
+    and_from (c.name == name) (number_of c.kind == number_of kind) (eq-eqb c.name name h.name_is)
     (eq-eqb (number_of c.kind) (number_of kind) (ap number_of h.kind_is))
 
 -- how often a card is of that name and kind

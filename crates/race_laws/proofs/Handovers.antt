@@ -1,7 +1,7 @@
 -- Each `ack` that a lawful race answers with Ok handed a request over to a connection.
 use Rattle.std.proofs.Common.{◌≡◌, ℕ, ◌+◌, ◌<◌, ◌==◌, Bool, true, false, ◌||◌, ◌&&◌, not, List, [], ◌∷◌, ◌++◌, Option, None, Some, if◌then◌else◌, refl, sym, ap, ◌∙◌, subst, inl, inr}
 use Rattle.std.specs.List.{flat_map}
-use Rattle.std.proofs.lemmas.Bool.{or_parts, not-false, eqb-true, eq-eqb}
+use Rattle.std.proofs.lemmas.Bool.{or_parts, not-false, eqb-true, eq-eqb, and_from}
 use Rattle.list_words.specs.Lists.{Each, Pairs}
 use Rattle.list_words.proofs.EachLemmas.{each_append}
 use Rattle.sock_card.specs.Conflict.{is_listening}
@@ -33,7 +33,6 @@ use Rattle.table_model.specs.Own.{Mine, Own, card_of, next_name, open_named, ope
 use Rattle.race_book.specs.Among.{Among}
 use Rattle.race_book.specs.Serial.{IsSerial, EndsOne}
 use Rattle.race_book.proofs.AmongLemmas.{among_left, among_right}
-use Rattle.race_book.proofs.Checks.{and_both}
 use Rattle.race_record.specs.Deeds.{Deed, hashed, kept_out, no_slot, entered, inserted, added, left, reaped, changes_in, drawn_in}
 use Rattle.race_record.specs.Goes.{Goes, IsHashOf, IsUnhashAt}
 use Rattle.race_record.specs.Record.{Race, Step, steps_of, deeds_of}
@@ -170,10 +169,10 @@ fits_of l r e =
 one_tuple : (l : Owner) (name : ℕ) (r : Mine) → Fits l r.owner → same_cards (full_card (heir_owner l name r.owner)) (card_of kinds.Request r) ≡ true
 one_tuple l name r f =
     let o = r.owner in
-    and_both ((l.net == o.net) && (o.addr == o.addr) && (l.port == o.port) && (o.remote == o.remote)) (o.rport == o.rport)
-    (and_both ((l.net == o.net) && (o.addr == o.addr) && (l.port == o.port)) (o.remote == o.remote)
-    (and_both ((l.net == o.net) && (o.addr == o.addr)) (l.port == o.port)
-    (and_both (l.net == o.net) (o.addr == o.addr) (eq-eqb l.net o.net f.net) (eq-eqb o.addr o.addr refl))
+    and_from ((l.net == o.net) && (o.addr == o.addr) && (l.port == o.port) && (o.remote == o.remote)) (o.rport == o.rport)
+    (and_from ((l.net == o.net) && (o.addr == o.addr) && (l.port == o.port)) (o.remote == o.remote)
+    (and_from ((l.net == o.net) && (o.addr == o.addr)) (l.port == o.port)
+    (and_from (l.net == o.net) (o.addr == o.addr) (eq-eqb l.net o.net f.net) (eq-eqb o.addr o.addr refl))
     (eq-eqb l.port o.port f.port)) (eq-eqb o.remote o.remote refl)) (eq-eqb o.rport o.rport refl)
 
 one_home : (shape : Shape) (seed : ℕ) (l : Owner) (name : ℕ) (r : Mine) → Fits l r.owner → home shape seed (full_card (heir_owner l name r.owner)) ≡ home shape seed (card_of kinds.Request r)

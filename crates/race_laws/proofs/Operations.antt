@@ -20,7 +20,8 @@ use Rattle.table_model.specs.Asking.{Asking, ends}
 use Rattle.table_model.specs.Own.{Mine, card_of, is_over}
 use Rattle.table_model.specs.Operations as op
 use Rattle.table_model.specs.Operations.{Did, done, refused, Closed, gone, waiting, no_slot}
-use Rattle.race_laws.proofs.Hashed.{Hashes, hashed_by, hashes_if}
+use Rattle.race_record.proofs.Walks.{whenever_done, searched_any, left_port, dropped, replaced_then, tries_if}
+use Rattle.race_laws.proofs.Hashed.{Hashes, hashed_by, hashing}
 use Rattle.race_laws.proofs.Kept.{IsAsCard}
 
 -- What `bind`, `listen` or `connect` of a socket comes to: where nothing was hashed, one of its name and kind; else
@@ -60,39 +61,6 @@ abbrev pub Closes : Mine → Option Card → Closed → Type 0
 Closes m None closed = Unit {0}
 Closes m (Some c) closed = HasLeft m c
 
-module _ {R : Type 0} (Q : Option Card → R → Type 0) (did : Option Card) where
-  whenever_done : (next : Asking R) → Hashes Q did next → (a : Answer) → Hashes Q did (op.when_done next a)
-  whenever_done next h answers.Done = h
-  whenever_done next h _ = tt
-
-  found_or_next : (found next : Asking R) → Hashes Q did found → Hashes Q did next → (a : Answer) → Hashes Q did (op.found_next found next a)
-  found_or_next found next h k answers.Done = h
-  found_or_next found next h k (answers.InUse name) = k
-  found_or_next found next h k _ = tt
-
-  searched : (a : Owner) (addr : ℕ) (found : ℕ → Asking R) (none : Asking R) (ports : List ℕ) → ((port : ℕ) → Hashes Q did (found port)) → Hashes Q did none → Hashes Q did (op.search_bind a addr found none ports)
-  searched a addr found none [] h k = k
-  searched a addr found none (port ∷ ports) h k =
-      found_or_next (found port) (op.search_bind a addr found none ports) (h port) (searched a addr found none ports h k)
-
-  left_port : (a : Owner) (result : R) → Q did result → Hashes Q did (op.leave a result)
-  left_port a result q = whenever_done (ends result) q
-
-  dropped_as : (state : State) (m : Mine) (result : R) → Q did result → Hashes Q did (op.drop_as state m result)
-  dropped_as states.Unbound m result q = q
-  dropped_as states.Bound m result q = left_port m.owner result q
-  dropped_as states.Listening m result q = left_port m.owner result q
-  dropped_as states.Full m result q = left_port m.owner result q
-  dropped_as states.Request m result q = q
-  dropped_as states.TimeWait m result q = tt
-
-  pub dropped : (m : Mine) (result : R) → Q did result → Hashes Q did (op.drop m result)
-  dropped m result q = dropped_as m.owner.state m result q
-
-  replaced_then : (old : Option Hashed) (next : Asking R) → Hashes Q did next → Hashes Q did (op.then_replaced old next)
-  replaced_then None next h = h
-  replaced_then (Some old) next h = λ answer. h
-
 no_kind : (s : State) (m : Mine) → m.owner.state ≡ s → kind_of s ≡ None → kind_of m.owner.state ≡ None
 no_kind s m e none = ap kind_of e ∙ none
 
@@ -106,27 +74,27 @@ bind_said m end none _ = tt
 
 bound_any : (m : Mine) (addr : ℕ) (ports : List ℕ) → kind_of m.owner.state ≡ None → Hashes (Moves m) None (op.bind_any m.owner addr ports)
 bound_any m addr ports none =
-    hashes_if (Moves m) None m.owner.noport (ends (done (op.plain (addressed m.owner addr)))) (op.search_bind m.owner addr (op.bound m.owner addr) (ends (refused errors.NoPort)) ports)
+    tries_if hashing (Moves m) None m.owner.noport (ends (done (op.plain (addressed m.owner addr)))) (op.search_bind m.owner addr (op.bound m.owner addr) (ends (refused errors.NoPort)) ports)
     (stays_bound m (addressed m.owner addr) refl refl none)
-    (searched (Moves m) None m.owner addr (op.bound m.owner addr) (ends (refused errors.NoPort)) ports (λ port. stays_bound m (bound_at m.owner addr port) refl refl none) tt)
+    (searched_any hashing (Moves m) None m.owner addr (op.bound m.owner addr) (ends (refused errors.NoPort)) ports (λ port. stays_bound m (bound_at m.owner addr port) refl refl none) tt)
 
 bound_as : (state : State) (m : Mine) (end : End) (ports : List ℕ) → m.owner.state ≡ state → Hashes (Moves m) None (op.bind_as state m end ports)
 bound_as states.Unbound m end ports e =
     let none : kind_of m.owner.state ≡ None = no_kind states.Unbound m e refl in
-    hashes_if (Moves m) None (end.port == 0) (op.bind_any m.owner end.addr ports) _ (bound_any m end.addr ports none) (bind_said m end none)
+    tries_if hashing (Moves m) None (end.port == 0) (op.bind_any m.owner end.addr ports) _ (bound_any m end.addr ports none) (bind_said m end none)
 bound_as _ m end ports e = tt
 
 pub binds : (m : Mine) (end : End) (ports : List ℕ) → Hashes (Moves m) None (op.bind m end ports)
 binds m end ports = bound_as m.owner.state m end ports refl
 
 given_up : (m : Mine) (took : Bool) (a : Owner) (end : OpEnd) → Hashes (Moves m) None (op.give_up took a end)
-given_up m true a end = whenever_done (Moves m) None (ends (refused end)) tt
+given_up m true a end = whenever_done hashing (Moves m) None (ends (refused end)) tt
 given_up m false a end = tt
 
 module _ (shape : Shape) (seed : ℕ) where
   listened : (m : Mine) (took : Bool) (a : Owner) (l : Mine) → HasTurned m l (card_of kinds.Listen l) → (o : Outcome) → Hashes (Moves m) (hashed_by (card_of kinds.Listen l) o) (op.listen_hashed shape seed took a l o)
   listened m took a l h (put slot None) =
-      whenever_done (Moves m) (Some (card_of kinds.Listen l)) (ends (done (op.listens_in shape seed l slot)))
+      whenever_done hashing (Moves m) (Some (card_of kinds.Listen l)) (ends (done (op.listens_in shape seed l slot)))
       (record { name = h.name; before = h.before; is = record { name = h.is.name; kind = h.is.kind } })
   listened m took a l h (put slot (Some old)) = tt
   listened m took a l h (taken name) = tt
@@ -142,7 +110,7 @@ module _ (shape : Shape) (seed : ℕ) where
 
   listened_as : (state : State) (m : Mine) (ports : List ℕ) → m.owner.state ≡ state → Hashes (Moves m) None (op.listen_as shape seed state m ports)
   listened_as states.Unbound m ports e =
-      searched (Moves m) None m.owner m.owner.addr (op.listen_found shape seed m.owner) (ends (refused errors.NoPort)) ports
+      searched_any hashing (Moves m) None m.owner m.owner.addr (op.listen_found shape seed m.owner) (ends (refused errors.NoPort)) ports
       (λ port. listen_said m true (bound_at m.owner m.owner.addr port) refl (no_kind states.Unbound m e refl)) tt
   listened_as states.Bound m ports e = listen_said m false m.owner refl (no_kind states.Bound m e refl)
   listened_as states.Listening m ports e = record { name = refl; kind = refl }
@@ -155,7 +123,7 @@ module _ (shape : Shape) (seed : ℕ) where
   full_said : (Q : Option Card → Did → Type 0) (a : Owner) (slot : ℕ) (old : Option Hashed) → Q (Some (op.full_card a)) (done (op.full_in shape seed a slot)) → (answer : Answer)
       → Hashes Q (Some (op.full_card a)) (op.when_done (op.full_done shape seed a slot old) answer)
   full_said Q a slot old q =
-      whenever_done Q (Some (op.full_card a)) (op.full_done shape seed a slot old) (replaced_then Q (Some (op.full_card a)) old (ends (done (op.full_in shape seed a slot))) q)
+      whenever_done hashing Q (Some (op.full_card a)) (op.full_done shape seed a slot old) (replaced_then hashing Q (Some (op.full_card a)) old (ends (done (op.full_in shape seed a slot))) q)
 
   full_turned : (m : Mine) (a : Owner) (slot : ℕ) → a.name ≡ m.owner.name → kind_of a.state ≡ Some kinds.Full → kind_of m.owner.state ≡ None → HasTurned m (op.full_in shape seed a slot) (op.full_card a)
   full_turned m a slot name kind none = record { name = name; before = none; is = record { name = refl; kind = kind } }
@@ -201,23 +169,23 @@ module _ (shape : Shape) (seed : ℕ) where
 
   pub accepts : (l : Mine) (name : ℕ) (from at : End) → Hashes (Brings name) None (op.accept shape seed l name from at)
   accepts l name from at =
-      hashes_if (Brings name) None (is_no_accept l.owner from at) (ends (refused errors.Inval)) (op.accept_as shape seed l.owner (child_owner l.owner name from at)) tt
+      tries_if hashing (Brings name) None (is_no_accept l.owner from at) (ends (refused errors.Inval)) (op.accept_as shape seed l.owner (child_owner l.owner name from at)) tt
       (refl, accepted name l.owner (child_owner l.owner name from at) refl refl)
 
   asked_in : (name : ℕ) (r : Owner) → r.name ≡ name → kind_of r.state ≡ Some kinds.Request → (o : Outcome) → Hashes (Brings name) (hashed_by (op.request_card r) o) (op.syn_hashed shape seed r o)
   asked_in name r is kind (put slot old) =
-      replaced_then (Brings name) (Some (op.request_card r)) old (ends (done (op.request_in shape seed r slot))) (record { name_is = is; is = record { name = refl; kind = kind } })
+      replaced_then hashing (Brings name) (Some (op.request_card r)) old (ends (done (op.request_in shape seed r slot))) (record { name_is = is; is = record { name = refl; kind = kind } })
   asked_in name r is kind (taken other) = tt
   asked_in name r is kind (full owned held) = tt
 
   pub syns : (l : Mine) (name : ℕ) (from at : End) → Hashes (Brings name) None (op.syn shape seed l name from at)
   syns l name from at =
-      hashes_if (Brings name) None (is_no_accept l.owner from at) (ends (refused errors.Inval)) (op.syn_as shape seed (request_owner l.owner name from at)) tt
+      tries_if hashing (Brings name) None (is_no_accept l.owner from at) (ends (refused errors.Inval)) (op.syn_as shape seed (request_owner l.owner name from at)) tt
       (refl, asked_in name (request_owner l.owner name from at) refl refl)
 
   inherited : (name : ℕ) (r : Mine) (l child : Owner) → child.name ≡ name → kind_of child.state ≡ Some kinds.Full → (o : Outcome) → Hashes (Brings name) (hashed_by (op.full_card child) o) (op.ack_hashed shape seed r l child o)
   inherited name r l child is kind (put slot None) =
-      whenever_done (Brings name) (Some (op.full_card child)) (ends (done (op.full_in shape seed child slot))) (full_come name child slot is kind)
+      whenever_done hashing (Brings name) (Some (op.full_card child)) (ends (done (op.full_in shape seed child slot))) (full_come name child slot is kind)
   inherited name r l child is kind (put slot (Some old)) = tt
   inherited name r l child is kind (taken other) = tt
   inherited name r l child is kind (full owned held) = tt
@@ -225,7 +193,7 @@ module _ (shape : Shape) (seed : ℕ) where
   acked_by : (r : Mine) (l : Option Mine) (name : ℕ) → Hashes (Brings name) None (op.ack_by shape seed r l name)
   acked_by r None name = tt
   acked_by r (Some l) name =
-      hashes_if (Brings name) None (is_no_ack l.owner r.owner) (ends (refused errors.Inval)) (op.ack_as shape seed r l.owner (heir_owner l.owner name r.owner)) tt
+      tries_if hashing (Brings name) None (is_no_ack l.owner r.owner) (ends (refused errors.Inval)) (op.ack_as shape seed r l.owner (heir_owner l.owner name r.owner)) tt
       (refl, inherited name r l.owner (heir_owner l.owner name r.owner) refl refl)
 
   acked_from : (state : State) (r : Mine) (l : Option Mine) (name : ℕ) → Hashes (Brings name) None (op.ack_from shape seed state r l name)
@@ -237,19 +205,19 @@ module _ (shape : Shape) (seed : ℕ) where
 
   waits : (m w : Mine) → HasLeft m (card_of kinds.TimeWait w) → (o : Outcome) → Hashes (Closes m) (hashed_by (card_of kinds.TimeWait w) o) (op.close_hashed shape seed m w o)
   waits m w h (put slot None) =
-      whenever_done (Closes m) (Some (card_of kinds.TimeWait w)) (ends (waiting (op.waits_in shape seed w slot))) h
+      whenever_done hashing (Closes m) (Some (card_of kinds.TimeWait w)) (ends (waiting (op.waits_in shape seed w slot))) h
   waits m w h (put slot (Some old)) = tt
   waits m w h (taken name) = tt
-  waits m w h (full owned held) = left_port (Closes m) None m.owner (no_slot owned held) tt
+  waits m w h (full owned held) = left_port hashing (Closes m) None m.owner (no_slot owned held) tt
 
   closed_as : (state : State) (m : Mine) (moment : ℕ) → m.owner.state ≡ state → Hashes (Closes m) None (op.close_as shape seed state m moment)
   closed_as states.Full m moment e =
       (refl, waits m (op.wait_of m moment) (record { name = refl; other = λ is. absurd (let no : Some kinds.Full ≡ Some kinds.TimeWait = sym (ap kind_of e) ∙ is in cc) }))
-  closed_as states.Unbound m moment e = dropped_as (Closes m) None states.Unbound m gone tt
-  closed_as states.Bound m moment e = dropped_as (Closes m) None states.Bound m gone tt
-  closed_as states.Listening m moment e = dropped_as (Closes m) None states.Listening m gone tt
-  closed_as states.Request m moment e = dropped_as (Closes m) None states.Request m gone tt
-  closed_as states.TimeWait m moment e = dropped_as (Closes m) None states.TimeWait m gone tt
+  closed_as states.Unbound m moment e = dropped hashing (Closes m) None states.Unbound m gone tt
+  closed_as states.Bound m moment e = dropped hashing (Closes m) None states.Bound m gone tt
+  closed_as states.Listening m moment e = dropped hashing (Closes m) None states.Listening m gone tt
+  closed_as states.Request m moment e = dropped hashing (Closes m) None states.Request m gone tt
+  closed_as states.TimeWait m moment e = dropped hashing (Closes m) None states.TimeWait m gone tt
 
   pub closes : (m : Mine) (moment : ℕ) → Hashes (Closes m) None (op.close shape seed m moment)
   closes m moment = closed_as m.owner.state m moment refl

@@ -17,9 +17,10 @@ use Rattle.table_model.specs.Operations as op
 use Rattle.table_model.specs.Operations.{Did, done, refused, Closed, gone, waiting, no_slot}
 use Rattle.table_model.specs.Commands as command
 use Rattle.table_model.specs.Commands.{Replied, answers, plan, after_search}
-use Rattle.race_laws.proofs.Hashed.{Hashes, hashes_then, hashes_if}
+use Rattle.race_record.proofs.Walks.{dropped, tries_then, tries_if}
+use Rattle.race_laws.proofs.Hashed.{Hashes, hashing}
 use Rattle.race_laws.proofs.Kept.{History, after, IsOpen, Kept, labelled, stayed, turned, gone_from, closed_from, came, made}
-use Rattle.race_laws.proofs.Operations.{Moves, Brings, Closes, Reaps, binds, listens, connects, accepts, syns, acks, closes, dropped, reaps_none}
+use Rattle.race_laws.proofs.Operations.{Moves, Brings, Closes, Reaps, binds, listens, connects, accepts, syns, acks, closes, reaps_none}
 
 module _ (number : ℕ) where
   -- a section of that number keeps to it, and has given so many labels
@@ -136,18 +137,18 @@ module _ (number : ℕ) where
     bind_plan : (own : Own) → OwnKept given f own → (o : Option Mine) → SomeOpen given f o → (end : End) → GoodPlan (command.bind_command own o end)
     bind_plan own h None k end = unchanged own _ h refl
     bind_plan own h (Some m) k end =
-        hashes_then (Moves m) (Leaves given f) (op.bind m end (ports_of own.offsets firsts.Odd)) _ None (binds m end (ports_of own.offsets firsts.Odd))
+        tries_then hashing (Moves m) (Leaves given f) (op.bind m end (ports_of own.offsets firsts.Odd)) _ None (binds m end (ports_of own.offsets firsts.Odd))
         (bind_replied _ m (searched _ own h) k)
 
     drop_plan : (own : Own) → OwnKept given f own → (o : Option Mine) → GoodPlan (command.drop_command own o)
     drop_plan own h None = unchanged own _ h refl
     drop_plan own h (Some m) =
-        dropped (Leaves given f) None m (answers (without own m.owner.name) replies.Ok)
+        dropped hashing (Leaves given f) None m.owner.state m (answers (without own m.owner.name) replies.Ok)
         (record { now = given; few = omega arith; own = record { number_is = h.number_is; given_is = h.given_is; kept = gone_from number given f own.sockets m.owner.name h.kept } })
 
     at_plan : (own : Own) → OwnKept given f own → (moment : ℕ) → GoodPlan (command.at_command own moment)
     at_plan own h moment =
-        hashes_if (Leaves given f) None (nat_lt moment own.moment) (command.replies_at_once own replies.Einval) (command.replies_at_once (record own { moment = moment }) replies.Ok)
+        tries_if hashing (Leaves given f) None (nat_lt moment own.moment) (command.replies_at_once own replies.Einval) (command.replies_at_once (record own { moment = moment }) replies.Ok)
         (unchanged own _ h refl)
         (record { now = given; few = omega arith; own = record { number_is = h.number_is; given_is = h.given_is; kept = h.kept } })
 
@@ -156,7 +157,7 @@ module _ (number : ℕ) where
     reap_replied own h (Some c) count r = absurd r
 
     reap_plan : (own : Own) → OwnKept given f own → GoodPlan (command.reap_command own)
-    reap_plan own h = hashes_then Reaps (Leaves given f) (op.reap own.waits own.moment) _ None (reaps_none own.waits own.moment) (reap_replied own h)
+    reap_plan own h = tries_then hashing Reaps (Leaves given f) (op.reap own.waits own.moment) _ None (reaps_none own.waits own.moment) (reap_replied own h)
 
     socket_plan : (own : Own) → OwnKept given f own → (label : List ℕ) (options : Options) → GoodPlan (command.socket_command own label options)
     socket_plan own h label options = record {
@@ -173,13 +174,13 @@ module _ (number : ℕ) where
       listen_plan : (own : Own) → OwnKept given f own → (o : Option Mine) → SomeOpen given f o → GoodPlan (command.listen_command header own o)
       listen_plan own h None k = unchanged own _ h refl
       listen_plan own h (Some m) k =
-          hashes_then (Moves m) (Leaves given f) (op.listen header.shape header.seed m (ports_of own.offsets firsts.Odd)) _ None
+          tries_then hashing (Moves m) (Leaves given f) (op.listen header.shape header.seed m (ports_of own.offsets firsts.Odd)) _ None
           (listens header.shape header.seed m (ports_of own.offsets firsts.Odd)) (bind_replied _ m (searched _ own h) k)
 
       connect_plan : (own : Own) → OwnKept given f own → (o : Option Mine) → SomeOpen given f o → (from : Option ℕ) (to : End) → GoodPlan (command.connect_command header own o from to)
       connect_plan own h None k from to = unchanged own _ h refl
       connect_plan own h (Some m) k from to =
-          hashes_then (Moves m) (Leaves given f) (op.connect header.shape header.seed m from to own.moment (command.connect_rule header) (ports_of own.offsets firsts.Even)) _ None
+          tries_then hashing (Moves m) (Leaves given f) (op.connect header.shape header.seed m from to own.moment (command.connect_rule header) (ports_of own.offsets firsts.Even)) _ None
           (connects header.shape header.seed m from to own.moment (command.connect_rule header) (ports_of own.offsets firsts.Even)) (connect_replied _ m (searched _ own h) k)
 
       no_other : (own : Own) → OwnKept given f own → (label : List ℕ) → GoodPlan (command.replies_at_once (with_label own label) replies.Ebadf)
@@ -188,25 +189,25 @@ module _ (number : ℕ) where
       accept_plan : (own : Own) → OwnKept given f own → (label : List ℕ) (o : Option Mine) (from at : End) → GoodPlan (command.accept_command header (with_label own label) (next_name own) o from at)
       accept_plan own h label None from at = no_other own h label
       accept_plan own h label (Some l) from at =
-          hashes_then (Brings (next_name own)) (Leaves given f) (op.accept header.shape header.seed l (next_name own) from at) _ None
+          tries_then hashing (Brings (next_name own)) (Leaves given f) (op.accept header.shape header.seed l (next_name own) from at) _ None
           (accepts header.shape header.seed l (next_name own) from at) (accept_replied own label h)
 
       syn_plan : (own : Own) → OwnKept given f own → (label : List ℕ) (o : Option Mine) (from at : End) → GoodPlan (command.syn_command header (with_label own label) (next_name own) o from at)
       syn_plan own h label None from at = no_other own h label
       syn_plan own h label (Some l) from at =
-          hashes_then (Brings (next_name own)) (Leaves given f) (op.syn header.shape header.seed l (next_name own) from at) _ None
+          tries_then hashing (Brings (next_name own)) (Leaves given f) (op.syn header.shape header.seed l (next_name own) from at) _ None
           (syns header.shape header.seed l (next_name own) from at) (accept_replied own label h)
 
       ack_plan : (own : Own) → OwnKept given f own → (label : List ℕ) (o : Option Mine) → GoodPlan (command.ack_command header (with_label own label) (next_name own) o)
       ack_plan own h label None = no_other own h label
       ack_plan own h label (Some r) =
-          hashes_then (Brings (next_name own)) (Leaves given f) (op.ack header.shape header.seed r (open_named (with_label own label) r.owner.origin) (next_name own)) _ None
+          tries_then hashing (Brings (next_name own)) (Leaves given f) (op.ack header.shape header.seed r (open_named (with_label own label) r.owner.origin) (next_name own)) _ None
           (acks header.shape header.seed r (open_named (with_label own label) r.owner.origin) (next_name own)) (ack_replied own label r.owner.name h)
 
       close_plan : (own : Own) → OwnKept given f own → (o : Option Mine) → SomeOpen given f o → GoodPlan (command.close_command header own o)
       close_plan own h None k = unchanged own _ h refl
       close_plan own h (Some m) k =
-          hashes_then (Closes m) (Leaves given f) (op.close header.shape header.seed m own.moment) _ None (closes header.shape header.seed m own.moment) (close_replied own m h k)
+          tries_then hashing (Closes m) (Leaves given f) (op.close header.shape header.seed m own.moment) _ None (closes header.shape header.seed m own.moment) (close_replied own m h k)
 
       pub plan_keeps : (own : Own) → OwnKept given f own → (c : Command) → GoodPlan (plan header own c)
       unfolding plan

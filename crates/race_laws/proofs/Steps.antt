@@ -49,7 +49,7 @@ module _ (header : Header) (In : Change → Type 0) where
         λ name kind.
         let split : hashes name kind (changes_in (deeds_of (s ∷ steps))) ≡ hashes name kind (changes_in s.deeds) + hashes name kind (changes_in (deeds_of steps)) =
         ap (hashes name kind) (changes_more s.deeds (deeds_of steps)) ∙ hashes_more name kind (changes_in s.deeds) (changes_in (deeds_of steps)) in
-        omega (arith, split, r.count name kind, after_is f r.now name kind) in record {
+        omega (arith, split, r.made name kind, after_is f r.now name kind) in record {
           once = λ name kind. omega (arith, same name kind, rest.once name kind);
           below = λ name kind l. omega (arith, same name kind, rest.below name kind l);
           above = λ name kind l. omega (arith, same name kind, rest.above name kind l);

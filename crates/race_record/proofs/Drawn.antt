@@ -1,7 +1,7 @@
 -- What the numbers that were drawn tell of a book.
-use Rattle.std.proofs.Common.{◌≡◌, ◌≢◌, ℕ, zero, suc, ◌+◌, ◌*◌, ◌<◌, ◌≤◌, ◌==◌, Bool, true, false, cond, nat_lt, List, [], ◌∷◌, ◌++◌, length, filter, None, Some, refl, sym, ap, ◌∙◌, subst, arith, inl, inr}
+use Rattle.std.proofs.Common.{◌≡◌, ℕ, zero, suc, ◌+◌, ◌*◌, ◌<◌, ◌≤◌, Bool, true, false, cond, nat_lt, List, [], ◌∷◌, ◌++◌, length, filter, None, Some, refl, sym, ap, ◌∙◌, subst, arith, inl, inr, length-append}
 use Rattle.std.specs.List.{flat_map}
-use Rattle.std.proofs.lemmas.Bool.{ltb-true, ltb-false, lt-ltb, eqb-true, eq-eqb}
+use Rattle.std.proofs.lemmas.Bool.{ltb-true, ltb-false, lt-ltb}
 use Rattle.std.proofs.lemmas.Grind.{flat_map-append}
 use Rattle.list_words.specs.Lists.{Each, Pairs, total}
 use Rattle.list_words.proofs.TotalLemmas.{total-append}
@@ -15,12 +15,14 @@ use Rattle.table_model.specs.Own.{Own, new_own}
 use Rattle.race_book.specs.Among.{Among}
 use Rattle.race_book.specs.Laws.{EndAfter}
 use Rattle.race_book.specs.Listed.{stamps_of}
+use Rattle.race_book.proofs.Joined.{pairs_front, pairs_back}
 use Rattle.race_record.specs.Deeds.{Deed, Vain, hashed, kept_out, no_slot, entered, inserted, added, left, reaped, changes_of, changes_in, vain_of, vain_in, drawn_of, drawn_in}
 use Rattle.race_record.specs.Record.{Race, Step, deeds_of, steps_of}
 use Rattle.race_record.specs.Laws.{drew_in_vain}
 use Rattle.race_record.specs.Lawful.{Lawful, AreInOrder, IsSpanned, AreStepsOf, AreSectionsOf}
 use Rattle.race_record.specs.Headline.{NumbersTell}
 use Rattle.race_record.proofs.Vain.{replies_tell}
+use Rattle.race_record.proofs.Weights.{is, is_self, beyond, once, all_differ, ones, kept_join}
 
 -- a change weighs what its numbers weigh
 abbrev pub weigh : (ℕ → ℕ) → Change → ℕ
@@ -54,36 +56,9 @@ drawn_weighs f (d ∷ deeds) = omega (
   drawn_weighs f deeds,
 )
 
-stamps_weigh : (f : ℕ → ℕ) (book : List Change) → total f (stamps_of book) ≡ total (weigh f) book
+pub stamps_weigh : (f : ℕ → ℕ) (book : List Change) → total f (stamps_of book) ≡ total (weigh f) book
 stamps_weigh f [] = refl
 stamps_weigh f (c ∷ book) = omega (arith, stamps_weigh f book)
-
-abbrev is : ℕ → ℕ → ℕ
-is n m = cond (m == n) 1 0
-
-is_by : (n m : ℕ) (b : Bool) → (m == n) ≡ b → m ≢ n → ◌≡◌ {A = ℕ} (cond b 1 0) 0
-is_by n m true e d = absurd (d (eqb-true m n e))
-is_by n m false e d = refl
-
-is_not : (n m : ℕ) → m ≢ n → is n m ≡ 0
-is_not n m = is_by n m (m == n) refl
-
-is_self : (n : ℕ) → is n n ≡ 1
-is_self n = ap {B = ℕ} (λ (b : Bool). cond b 1 0) (eq-eqb n n refl)
-
--- a number from the bound on isn't among those below it
-beyond : (n c : ℕ) → c ≤ n → total (is n) (numbers_below c) ≡ 0
-beyond n zero l = refl
-beyond n (suc c) l = omega (arith, total-append (is n) (numbers_below c) (c ∷ []), beyond n c (omega (arith, l)), is_not n c (λ e. absurd (omega (arith, l, e))))
-
-once_by : (n c : ℕ) → total (is n) (numbers_below c) ≤ 1 → (b : Bool) → (c == n) ≡ b → total (is n) (numbers_below c) + cond b 1 0 ≤ 1
-once_by n c h true e = omega (arith, beyond n c (omega (arith, eqb-true c n e)))
-once_by n c h false e = omega (arith, h)
-
--- none is there twice
-once : (n c : ℕ) → total (is n) (numbers_below c) ≤ 1
-once n zero = omega arith
-once n (suc c) = omega (arith, total-append (is n) (numbers_below c) (c ∷ []), once_by n c (once n c) (c == n) refl)
 
 below_by : (x c : ℕ) (rest : List ℕ) → (c ≤ x → total (is x) (x ∷ rest) ≡ 0) → (b : Bool) → nat_lt x c ≡ b → x < c
 below_by x c rest h true e = ltb-true x c e
@@ -92,27 +67,6 @@ below_by x c rest h false e = absurd (omega (arith, h (ltb-false x c e), is_self
 pub each_below : (c : ℕ) (xs : List ℕ) → ((n : ℕ) → c ≤ n → total (is n) xs ≡ 0) → Each (λ (n : ℕ). n < c) xs
 each_below c [] h = tt
 each_below c (x ∷ xs) h = (below_by x c xs (h x) (nat_lt x c) refl, each_below c xs (λ n l. omega (arith, h n l)))
-
-none_equal : (x : ℕ) (xs : List ℕ) → total (is x) xs ≡ 0 → Each (λ (y : ℕ). x ≢ y) xs
-none_equal x [] e = tt
-none_equal x (y ∷ ys) e = (λ q. absurd (omega (arith, e, ap {B = ℕ} (λ (b : Bool). cond b 1 0) (eq-eqb y x (sym q)))), none_equal x ys (omega (arith, e)))
-
-pub all_differ : (xs : List ℕ) → ((n : ℕ) → total (is n) xs ≤ 1) → Pairs (λ (a b : ℕ). a ≢ b) xs
-all_differ [] h = tt
-all_differ (x ∷ xs) h = (none_equal x xs (omega (arith, h x, is_self x)), all_differ xs (λ n. omega (arith, h n)))
-
--- of pairs of a joined list, those of its parts
-each_left : {A : Type 0} (P : A → Type 0) (xs ys : List A) → Each P (xs ++ ys) → Each P xs
-each_left P [] ys e = tt
-each_left P (x ∷ xs) ys e = (e.0, each_left P xs ys e.1)
-
-pairs_left : {A : Type 0} (R : A → A → Type 0) (xs ys : List A) → Pairs R (xs ++ ys) → Pairs R xs
-pairs_left R [] ys p = tt
-pairs_left R (x ∷ xs) ys p = (each_left (R x) xs ys p.0, pairs_left R xs ys p.1)
-
-pairs_right : {A : Type 0} (R : A → A → Type 0) (xs ys : List A) → Pairs R (xs ++ ys) → Pairs R ys
-pairs_right R [] ys p = p
-pairs_right R (x ∷ xs) ys p = pairs_right R xs ys p.1
 
 -- a change that doesn't end after it begins weighs 1
 abbrev bad : Change → ℕ
@@ -143,15 +97,15 @@ good_deeds [] p = refl
 good_deeds (d ∷ deeds) p = omega (
   arith,
   total-append bad (changes_of d) (changes_in deeds),
-  good_deed d (pairs_left (λ (n m : ℕ). n < m) (drawn_of d) (drawn_in deeds) p),
-  good_deeds deeds (pairs_right (λ (n m : ℕ). n < m) (drawn_of d) (drawn_in deeds) p),
+  good_deed d (pairs_front (λ (n m : ℕ). n < m) (drawn_of d) (drawn_in deeds) p),
+  good_deeds deeds (pairs_back (λ (n m : ℕ). n < m) (drawn_of d) (drawn_in deeds) p),
 )
 
 -- of the deeds of two lists of steps, the changes of both
 changes_join : (f : Change → ℕ) (xs ys : List Deed) → total f (changes_in (xs ++ ys)) ≡ total f (changes_in xs) + total f (changes_in ys)
 changes_join f xs ys = ap (total f) (flat_map-append changes_of xs ys) ∙ total-append f (changes_in xs) (changes_in ys)
 
-deeds_join : (xs ys : List Step) → deeds_of (xs ++ ys) ≡ deeds_of xs ++ deeds_of ys
+pub deeds_join : (xs ys : List Step) → deeds_of (xs ++ ys) ≡ deeds_of xs ++ deeds_of ys
 deeds_join xs ys = flat_map-append (λ (s : Step). s.deeds) xs ys
 
 good_steps : (clock : ℕ) (steps : List Step) → Each (IsSpanned clock) steps → total bad (changes_in (deeds_of steps)) ≡ 0
@@ -179,13 +133,8 @@ good_book [] h c a = absurd a
 good_book (x ∷ xs) h c (inl e) = subst (λ (y : Change). y.begin < y.end) (sym e) (good_by x (nat_lt x.begin x.end) refl (omega (arith, h)))
 good_book (x ∷ xs) h c (inr a) = good_book xs (omega (arith, h)) c a
 
--- as many numbers as steps that sought in vain were drawn in vain
-length_join : (xs ys : List Vain) → length (xs ++ ys) ≡ length xs + length ys
-length_join [] ys = omega arith
-length_join (x ∷ xs) ys = omega (arith, length_join xs ys)
-
 vain_join : (xs ys : List Deed) → length (vain_in (xs ++ ys)) ≡ length (vain_in xs) + length (vain_in ys)
-vain_join xs ys = ap length (flat_map-append vain_of xs ys) ∙ length_join (vain_in xs) (vain_in ys)
+vain_join xs ys = ap length (flat_map-append vain_of xs ys) ∙ length-append (vain_in xs) (vain_in ys)
 
 one_more : (s : Step) (steps : List Step) (b : Bool) → length (cond b (s ∷ filter drew_in_vain steps) (filter drew_in_vain steps)) ≡ cond b 1 0 + length (filter drew_in_vain steps)
 one_more s steps true = omega arith
@@ -204,10 +153,6 @@ module _ (header : Header) (In : Change → Type 0) where
   steps_vain own [] (s ∷ steps) a = absurd a
   steps_vain own (c ∷ cs) [] a = absurd a
 
-  filter_join : (xs ys : List Step) → length (filter drew_in_vain (xs ++ ys)) ≡ length (filter drew_in_vain xs) + length (filter drew_in_vain ys)
-  filter_join [] ys = omega arith
-  filter_join (s ∷ xs) ys = omega (arith, filter_join xs ys, one_more s xs (drew_in_vain s), one_more s (xs ++ ys) (drew_in_vain s))
-
   all_vain : (n : ℕ) (scripts : List (List Command)) (sections : List (List Step)) → AreSectionsOf header In n scripts sections
       → length (vain_in (deeds_of (flat_map (λ steps. steps) sections))) ≡ length (filter drew_in_vain (flat_map (λ steps. steps) sections))
   all_vain n [] [] a = refl
@@ -219,7 +164,7 @@ module _ (header : Header) (In : Change → Type 0) where
         vain_join (deeds_of steps) (deeds_of rest),
         steps_vain (new_own header n) cs steps a.0,
         all_vain (n + 1) scripts sections a.1,
-        filter_join steps rest,
+        kept_join drew_in_vain steps rest,
       )
   all_vain n [] (steps ∷ sections) a = absurd a
   all_vain n (cs ∷ scripts) [] a = absurd a
@@ -227,10 +172,6 @@ module _ (header : Header) (In : Change → Type 0) where
 twos : (xs : List Change) → total (weigh (λ n. 1)) xs ≡ 2 * length xs
 twos [] = refl
 twos (x ∷ xs) = omega (arith, twos xs)
-
-ones : {A : Type 0} (xs : List A) → total (λ x. 1) xs ≡ length xs
-ones [] = refl
-ones (x ∷ xs) = omega (arith, ones xs)
 
 count_below : (c : ℕ) → total (λ n. 1) (numbers_below c) ≡ c
 count_below zero = refl

@@ -1,5 +1,6 @@
 pub mod Checks
 pub mod Turns
+pub mod Walks
 pub mod Vain
 pub mod Says
 pub mod Gather
@@ -10,3 +11,4 @@ pub mod Leads
 pub mod Listener
 pub mod Dumps
 pub mod HashedFirst
+pub mod Weights

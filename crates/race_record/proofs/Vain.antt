@@ -1,21 +1,18 @@
 -- How often a plan's deeds seek a slot in vain.
-use Rattle.std.proofs.Common.{◌≡◌, ℕ, ◌+◌, ◌==◌, Bool, true, false, cond, nat_lt, List, [], ◌∷◌, ◌++◌, length, Option, None, Some, append-nil, if◌then◌else◌, refl, sym, ap, ◌∙◌, arith}
-use Rattle.sock_card.specs.Conflict.{owner_key, bind_key}
+use Rattle.std.proofs.Common.{◌≡◌, ℕ, ◌+◌, ◌==◌, Bool, true, false, cond, nat_lt, List, [], ◌∷◌, length, Option, None, Some, refl, ◌∙◌, arith, ◌&&◌, filter}
 use Rattle.sock_card.specs.declared.owner.Owner.{Owner}
 use Rattle.sock_card.specs.declared.owner.State.{State}
 use Rattle.sock_card.specs.declared.owner.State.TheVariants as states
 use Rattle.sock_card.specs.declared.card.Card.{Card}
-use Rattle.bind_buckets.specs.declared.request.Request.{Request}
-use Rattle.bind_buckets.specs.declared.request.Request.TheVariants as requests
 use Rattle.flat_list.specs.Owned.{addressed, bound_at, is_no_accept, is_no_ack, connected_at, connected_to, child_owner, request_owner, heir_owner}
 use Rattle.bind_buckets.specs.declared.request.Answer.{Answer}
 use Rattle.bind_buckets.specs.declared.request.Answer.TheVariants as answers_
-use Rattle.chain_book.specs.declared.outcome.Place.{Place}
 use Rattle.chain_book.specs.declared.outcome.Hashed.{Hashed}
 use Rattle.chain_book.specs.declared.outcome.Replace.{Replace}
 use Rattle.chain_book.specs.declared.shape.Shape.{Shape}
 use Rattle.chain_book.specs.Chains.{Outcome, put, taken, full}
 use Rattle.flat_list.specs.declared.header.Header.{Header}
+use Rattle.flat_list.specs.declared.header.First.TheVariants as firsts
 use Rattle.flat_list.specs.declared.command.End.{End}
 use Rattle.flat_list.specs.declared.command.Command.{Command}
 use Rattle.flat_list.specs.declared.command.Command.TheVariants as commands
@@ -23,98 +20,66 @@ use Rattle.flat_list.specs.declared.command.Reply.{Reply}
 use Rattle.flat_list.specs.declared.command.Reply.TheVariants as replies
 use Rattle.table_model.specs.declared.operation.OpEnd.{OpEnd}
 use Rattle.table_model.specs.declared.operation.OpEnd.TheVariants as errors
-use Rattle.table_model.specs.Asking.{Asking, ends, asks, inserts, adds, unhashes, reaps, impossible, and_then}
-use Rattle.table_model.specs.Own.{Own, Mine, next_name, open_named, open_socket, with_label}
+use Rattle.table_model.specs.Asking.{Asking, ends, and_then}
+use Rattle.table_model.specs.Own.{Own, Mine, is_over, next_name, open_named, open_socket, ports_of, with_label, without}
 use Rattle.table_model.specs.Operations as op
-use Rattle.table_model.specs.Operations.{Did, done, refused, Closed, gone, waiting, no_slot as closed_without}
+use Rattle.table_model.specs.Operations.{Did, done, refused, Closed, gone, waiting, no_slot as closed_without, source_to}
 use Rattle.table_model.specs.Commands as command
-use Rattle.table_model.specs.Commands.{Replied, answers, plan}
-use Rattle.race_record.specs.Deeds.{Deed, hashed, kept_out, no_slot, entered, inserted, added, left, reaped, vain_in}
-use Rattle.race_record.specs.Goes.{Goes, was_there}
+use Rattle.table_model.specs.Commands.{Replied, after_search, answers, connect_rule, is_unbound, plan, searches_port}
+use Rattle.race_record.specs.Deeds.{Deed, Tried, Wish, hashed, kept_out, no_slot, inserted, added, vain_in}
+use Rattle.race_record.specs.Goes.{Goes, Grants, Admits, outcome_of}
 use Rattle.race_record.specs.Laws.{drew_for}
-use Rattle.race_record.proofs.Turns.{goes_apart, InTwo}
+use Rattle.race_record.proofs.Walks as walks
+use Rattle.race_record.proofs.Walks.{Walk, Tries, tries_then, tries_if, whenever_done, searched_any, left_port, dropped, replaced_then, AnyTried, any_outcome}
 
--- with so many before, the plan's deeds seek in vain as often as its result tells
+-- one more, where a slot was sought in vain
+abbrev vain_by : ℕ → Outcome → ℕ
+vain_by k (put slot old) = k
+vain_by k (taken name) = k
+vain_by k (full owned held) = k + 1
+
+-- how often a slot was sought in vain so far
+abbrev counting : Walk
+counting = record {
+  Known = ℕ;
+  May = λ k card. Unit {0};
+  Every = λ P. (o : Outcome) → P o;
+  after = λ k card o. vain_by k o;
+  weaken = λ P Q f h o. f o (h o);
+}
+
+-- with so many before, the plan seeks in vain as often as its result tells
+abbrev IsTold : {R : Type 0} → (R → ℕ) → ℕ → R → Type 0
+IsTold told k r = k ≡ told r
+
 abbrev Vains : {R : Type 0} → ℕ → (R → ℕ) → Asking R → Type 0
-Vains {R} k told p = (deeds : List Deed) (r : R) → Goes p deeds r → k + length (vain_in deeds) ≡ told r
+Vains k told p = Tries counting (IsTold told) k p
 
-module _ {R : Type 0} (k : ℕ) (told : R → ℕ) where
-  v_ends : (x : R) → k ≡ told x → Vains k told (ends x)
-  v_ends x e [] r g = omega (arith, e, ap told g)
-  v_ends x e (d ∷ deeds) r g = absurd g
+-- deeds, before which so many were in vain, make them so many
+abbrev Adds : ℕ → List Deed → ℕ → Type 0
+Adds k deeds n = k + length (vain_in deeds) ≡ n
 
-  v_impossible : Vains k told impossible
-  v_impossible deeds r g = absurd g
+insert_adds : (k n : ℕ) (card : Card) (wish : Wish) (tried : Tried) (deeds : List Deed) → wish.card ≡ card → Unit {0} → Grants wish tried → Adds (vain_by k (outcome_of tried)) deeds n → Adds k (inserted wish tried ∷ deeds) n
+insert_adds k n card wish (hashed c None) deeds is may g h = h
+insert_adds k n card wish (hashed c (Some u)) deeds is may g h = h
+insert_adds k n card wish (kept_out name) deeds is may g h = h
+insert_adds k n card wish (no_slot number owned held) deeds is may g h = omega (arith, h)
 
-  v_asks : (port : ℕ) (request : Request) (then_ : Answer → Asking R) → ((a : Answer) → Vains k told (then_ a)) → Vains k told (asks port request then_)
-  v_asks port request then_ h (entered p note ∷ deeds) r g = h note.entry.answer deeds r g.2
-  v_asks port request then_ h deeds r g = absurd g
+add_adds : (k n : ℕ) (card x : Card) (tried : Tried) (deeds : List Deed) → Unit {0} → Admits card tried → Adds (vain_by k (outcome_of tried)) deeds n → Adds k (added x tried ∷ deeds) n
+add_adds k n card x (hashed c None) deeds may g h = h
+add_adds k n card x (hashed c (Some u)) deeds may g h = h
+add_adds k n card x (kept_out name) deeds may g h = h
+add_adds k n card x (no_slot number owned held) deeds may g h = omega (arith, h)
 
-  v_unhashes : (place : Place) (card : Card) (then_ : Asking R) → Vains k told then_ → Vains k told (unhashes place card then_)
-  v_unhashes place card then_ h (left u ∷ deeds) r g = h deeds r g.1
-  v_unhashes place card then_ h deeds r g = absurd g
-
-  v_reaps : (card : Card) (then_ : Bool → Asking R) → ((b : Bool) → Vains k told (then_ b)) → Vains k told (reaps card then_)
-  v_reaps card then_ h (reaped c unhash ∷ deeds) r g = h (was_there unhash) deeds r g.2
-  v_reaps card then_ h deeds r g = absurd g
-
-  -- what the outcomes lead to
-  record Tries (then_ : Outcome → Asking R) : Type 0 where
-    puts : (slot : ℕ) (old : Option Hashed) → Vains k told (then_ (put slot old))
-    takes : (name : ℕ) → Vains k told (then_ (taken name))
-    none : (owned held : ℕ) → Vains (k + 1) told (then_ (full owned held))
-
-  v_inserts : (card : Card) (moment : ℕ) (rule : Replace) (then_ : Outcome → Asking R) → Tries then_ → Vains k told (inserts card moment rule then_)
-  v_inserts card moment rule then_ h (inserted wish (hashed c None) ∷ deeds) r g = h.puts c.slot None deeds r g.2
-  v_inserts card moment rule then_ h (inserted wish (hashed c (Some u)) ∷ deeds) r g = h.puts c.slot (Some _) deeds r g.2
-  v_inserts card moment rule then_ h (inserted wish (kept_out name) ∷ deeds) r g = h.takes name deeds r g.2
-  v_inserts card moment rule then_ h (inserted wish (no_slot number owned held) ∷ deeds) r g = omega (arith, h.none owned held deeds r g.2)
-  v_inserts card moment rule then_ h deeds r g = absurd g
-
-  v_adds : (card : Card) (then_ : Outcome → Asking R) → Tries then_ → Vains k told (adds card then_)
-  v_adds card then_ h (added wish (hashed c None) ∷ deeds) r g = h.puts c.slot None deeds r g.2
-  v_adds card then_ h (added wish (hashed c (Some u)) ∷ deeds) r g = absurd g.1
-  v_adds card then_ h (added wish (kept_out name) ∷ deeds) r g = absurd g.1
-  v_adds card then_ h (added wish (no_slot number owned held) ∷ deeds) r g = omega (arith, h.none owned held deeds r g.2)
-  v_adds card then_ h deeds r g = absurd g
-
-  v_done : (next : Asking R) (a : Answer) → Vains k told next → Vains k told (op.when_done next a)
-  v_done next answers_.Done h = h
-  v_done next (answers_.Group g) h = v_impossible
-  v_done next (answers_.InUse n) h = v_impossible
-  v_done next answers_.GroupFull h = v_impossible
-  v_done next answers_.GroupsFull h = v_impossible
-  v_done next (answers_.Strange n) h = v_impossible
-  v_done next (answers_.NotFree n) h = v_impossible
-
-  v_found : (found next : Asking R) (a : Answer) → Vains k told found → Vains k told next → Vains k told (op.found_next found next a)
-  v_found found next answers_.Done h i = h
-  v_found found next (answers_.InUse n) h i = i
-  v_found found next (answers_.Group g) h i = v_impossible
-  v_found found next answers_.GroupFull h i = v_impossible
-  v_found found next answers_.GroupsFull h i = v_impossible
-  v_found found next (answers_.Strange n) h i = v_impossible
-  v_found found next (answers_.NotFree n) h i = v_impossible
-
-  v_search : (a : Owner) (addr : ℕ) (found : ℕ → Asking R) (none : Asking R) → ((port : ℕ) → Vains k told (found port)) → Vains k told none → (ports : List ℕ) → Vains k told (op.search_bind a addr found none ports)
-  v_search a addr found none h i [] = i
-  v_search a addr found none h i (port ∷ ports) =
-      v_asks (bind_key port a.net) _ _ (λ answer. v_found (found port) (op.search_bind a addr found none ports) answer (h port) (v_search a addr found none h i ports))
-
-  v_leave : (a : Owner) (x : R) → k ≡ told x → Vains k told (op.leave a x)
-  v_leave a x e = v_asks (owner_key a) _ _ (λ answer. v_done (ends x) answer (v_ends x e))
-
-  v_drop_as : (s : State) (m : Mine) (x : R) → k ≡ told x → Vains k told (op.drop_as s m x)
-  v_drop_as states.Unbound m x e = v_ends x e
-  v_drop_as states.Bound m x e = v_leave m.owner x e
-  v_drop_as states.Listening m x e = v_unhashes m.place _ (op.leave m.owner x) (v_leave m.owner x e)
-  v_drop_as states.Full m x e = v_unhashes m.place _ (op.leave m.owner x) (v_leave m.owner x e)
-  v_drop_as states.Request m x e = v_unhashes m.place _ (ends x) (v_ends x e)
-  v_drop_as states.TimeWait m x e = v_impossible
-
-  v_replaced : (old : Option Hashed) (next : Asking R) → Vains k told next → Vains k told (op.then_replaced old next)
-  v_replaced None next h = h
-  v_replaced (Some x) next h = v_asks (bind_key x.card.lport x.card.net) _ _ (λ answer. h)
+steps : walks.Steps counting AnyTried any_outcome Adds
+steps = record {
+  none = λ k. omega arith;
+  of_entry = λ k n key note deeds h. h;
+  of_insert = insert_adds;
+  of_add = add_adds;
+  of_leave = λ k n place card u deeds g h. h;
+  of_reap = λ k n card x unhash deeds g h. h;
+}
 
 -- how often an operation that came to that sought in vain
 abbrev told_end : OpEnd → ℕ
@@ -133,320 +98,244 @@ told_closed (closed_without owned held) = 1
 abbrev told_count : ℕ → ℕ
 told_count n = 0
 
-v_give_up : (took : Bool) (a : Owner) (end : OpEnd) (k : ℕ) → k ≡ told_end end → Vains k told_did (op.give_up took a end)
-v_give_up true a end k e = v_asks k told_did (owner_key a) _ _ (λ answer. v_done k told_did (ends (refused end)) answer (v_ends k told_did (refused end) e))
-v_give_up false a end k e = v_ends k told_did (refused end) e
+given_up : (took : Bool) (a : Owner) (end : OpEnd) (k : ℕ) → k ≡ told_end end → Vains k told_did (op.give_up took a end)
+given_up true a end k e = whenever_done counting (IsTold told_did) k (ends (refused end)) e
+given_up false a end k e = e
 
-v_bind_answered : (a : Owner) (end : End) (answer : Answer) → Vains 0 told_did (op.bind_answered a end answer)
-v_bind_answered a end answers_.Done = v_ends 0 told_did _ refl
-v_bind_answered a end (answers_.InUse n) = v_ends 0 told_did _ refl
-v_bind_answered a end (answers_.Group g) = v_impossible 0 told_did
-v_bind_answered a end answers_.GroupFull = v_impossible 0 told_did
-v_bind_answered a end answers_.GroupsFull = v_impossible 0 told_did
-v_bind_answered a end (answers_.Strange n) = v_impossible 0 told_did
-v_bind_answered a end (answers_.NotFree n) = v_impossible 0 told_did
+ports_found : (a : Owner) (addr : ℕ) (found : ℕ → Asking Did) (ports : List ℕ) → ((port : ℕ) → Vains 0 told_did (found port)) → Vains 0 told_did (op.search_bind a addr found (ends (refused errors.NoPort)) ports)
+ports_found a addr found ports h =
+    searched_any counting (IsTold told_did) 0 a addr found (ends (refused errors.NoPort)) ports h refl
 
-v_bind_any : (a : Owner) (addr : ℕ) (ports : List ℕ) (late : Bool) → Vains 0 told_did (if late then ends (done (op.plain (addressed a addr))) else op.search_bind a addr (op.bound a addr) (ends (refused errors.NoPort)) ports)
-v_bind_any a addr ports true = v_ends 0 told_did _ refl
-v_bind_any a addr ports false = v_search 0 told_did a addr _ _ (λ port. v_ends 0 told_did _ refl) (v_ends 0 told_did _ refl) ports
+bind_answered : (a : Owner) (end : End) (answer : Answer) → Vains 0 told_did (op.bind_answered a end answer)
+bind_answered a end answers_.Done = refl
+bind_answered a end (answers_.InUse n) = refl
+bind_answered a end _ = tt
 
-v_bind_by : (a : Owner) (end : End) (ports : List ℕ) (b : Bool) → Vains 0 told_did (if b then op.bind_any a end.addr ports else asks (bind_key end.port a.net) (requests.Bind (bound_at a end.addr end.port)) (op.bind_answered a end))
-v_bind_by a end ports true = v_bind_any a end.addr ports a.noport
-v_bind_by a end ports false = v_asks 0 told_did (bind_key end.port a.net) _ _ (λ answer. v_bind_answered a end answer)
+bind_any : (a : Owner) (addr : ℕ) (ports : List ℕ) → Vains 0 told_did (op.bind_any a addr ports)
+bind_any a addr ports =
+    tries_if counting (IsTold told_did) 0 a.noport (ends (done (op.plain (addressed a addr)))) (op.search_bind a addr (op.bound a addr) (ends (refused errors.NoPort)) ports) refl
+    (ports_found a addr (op.bound a addr) ports (λ port. refl))
 
-v_bind : (s : State) (m : Mine) (end : End) (ports : List ℕ) → Vains 0 told_did (op.bind_as s m end ports)
-v_bind states.Unbound m end ports = v_bind_by m.owner end ports (end.port == 0)
-v_bind states.Bound m end ports = v_ends 0 told_did _ refl
-v_bind states.Listening m end ports = v_ends 0 told_did _ refl
-v_bind states.Full m end ports = v_ends 0 told_did _ refl
-v_bind states.TimeWait m end ports = v_ends 0 told_did _ refl
-v_bind states.Request m end ports = v_ends 0 told_did _ refl
-
-v_refused : (end : OpEnd) → told_end end ≡ 0 → Vains 0 told_did (ends (refused end))
-v_refused end e = v_ends 0 told_did (refused end) (sym e)
+bind_vains : (s : State) (m : Mine) (end : End) (ports : List ℕ) → Vains 0 told_did (op.bind_as s m end ports)
+bind_vains states.Unbound m end ports =
+    tries_if counting (IsTold told_did) 0 (end.port == 0) (op.bind_any m.owner end.addr ports) _ (bind_any m.owner end.addr ports) (bind_answered m.owner end)
+bind_vains _ m end ports = refl
 
 module _ (shape : Shape) (seed : ℕ) where
-  v_listen_put : (took : Bool) (a : Owner) (l : Mine) (slot : ℕ) (old : Option Hashed) → Vains 0 told_did (op.listen_hashed shape seed took a l (put slot old))
-  v_listen_put took a l slot None = v_asks 0 told_did (owner_key a) _ _ (λ answer. v_done 0 told_did (ends (done (op.listens_in shape seed l slot))) answer (v_ends 0 told_did _ refl))
-  v_listen_put took a l slot (Some x) = v_impossible 0 told_did
+  listen_hashed : (took : Bool) (a : Owner) (l : Mine) (o : Outcome) → Vains (vain_by 0 o) told_did (op.listen_hashed shape seed took a l o)
+  listen_hashed took a l (put slot None) = whenever_done counting (IsTold told_did) 0 (ends (done (op.listens_in shape seed l slot))) refl
+  listen_hashed took a l (put slot (Some x)) = tt
+  listen_hashed took a l (taken name) = tt
+  listen_hashed took a l (full owned held) = given_up took a (errors.Full owned held) 1 refl
 
-  v_listen_in : (took : Bool) (a : Owner) (l : Mine) → Vains 0 told_did (op.listen_in shape seed took a l)
-  v_listen_in took a l = v_adds 0 told_did _ (op.listen_hashed shape seed took a l) (record {
-    puts = v_listen_put took a l;
-    takes = λ name. v_impossible 0 told_did;
-    none = λ owned held. v_give_up took a (errors.Full owned held) 1 refl;
-  })
+  listen_answered : (took : Bool) (a : Owner) (answer : Answer) → Vains 0 told_did (op.listen_answered shape seed took a answer)
+  listen_answered took a (answers_.Group group) = (tt, listen_hashed took a (op.listener a group))
+  listen_answered took a (answers_.InUse n) = given_up took a (errors.InUse n) 0 refl
+  listen_answered took a answers_.GroupFull = given_up took a errors.GroupFull 0 refl
+  listen_answered took a answers_.GroupsFull = given_up took a errors.GroupsFull 0 refl
+  listen_answered took a _ = tt
 
-  v_listen_answered : (took : Bool) (a : Owner) (answer : Answer) → Vains 0 told_did (op.listen_answered shape seed took a answer)
-  v_listen_answered took a (answers_.Group group) = v_listen_in took a (op.listener a group)
-  v_listen_answered took a (answers_.InUse n) = v_give_up took a (errors.InUse n) 0 refl
-  v_listen_answered took a answers_.GroupFull = v_give_up took a errors.GroupFull 0 refl
-  v_listen_answered took a answers_.GroupsFull = v_give_up took a errors.GroupsFull 0 refl
-  v_listen_answered took a answers_.Done = v_impossible 0 told_did
-  v_listen_answered took a (answers_.Strange n) = v_impossible 0 told_did
-  v_listen_answered took a (answers_.NotFree n) = v_impossible 0 told_did
+  listen_vains : (s : State) (m : Mine) (ports : List ℕ) → Vains 0 told_did (op.listen_as shape seed s m ports)
+  listen_vains states.Unbound m ports =
+      ports_found m.owner m.owner.addr (op.listen_found shape seed m.owner) ports (λ port. listen_answered true (bound_at m.owner m.owner.addr port))
+  listen_vains states.Bound m ports = listen_answered false m.owner
+  listen_vains _ m ports = refl
 
-  v_listen_at : (took : Bool) (a : Owner) → Vains 0 told_did (op.listen_at shape seed took a)
-  v_listen_at took a = v_asks 0 told_did (owner_key a) _ (op.listen_answered shape seed took a) (v_listen_answered took a)
+  full_then : (a : Owner) (slot : ℕ) (old : Option Hashed) (answer : Answer) → Vains 0 told_did (op.when_done (op.full_done shape seed a slot old) answer)
+  full_then a slot old =
+      whenever_done counting (IsTold told_did) 0 (op.full_done shape seed a slot old) (replaced_then counting (IsTold told_did) 0 old (ends (done (op.full_in shape seed a slot))) refl)
 
-  v_listen : (s : State) (m : Mine) (ports : List ℕ) → Vains 0 told_did (op.listen_as shape seed s m ports)
-  v_listen states.Unbound m ports = v_search 0 told_did m.owner m.owner.addr (op.listen_found shape seed m.owner) (ends (refused errors.NoPort)) (λ port. v_listen_at true (bound_at m.owner m.owner.addr port)) (v_refused errors.NoPort refl) ports
-  v_listen states.Bound m ports = v_listen_at false m.owner
-  v_listen states.Listening m ports = v_ends 0 told_did (done m) refl
-  v_listen states.Full m ports = v_refused errors.Inval refl
-  v_listen states.TimeWait m ports = v_refused errors.Inval refl
-  v_listen states.Request m ports = v_refused errors.Inval refl
+  connect_hashed : (a : Owner) (o : Outcome) → Vains (vain_by 0 o) told_did (op.connect_hashed shape seed a o)
+  connect_hashed a (put slot old) = full_then a slot old
+  connect_hashed a (taken name) = refl
+  connect_hashed a (full owned held) = refl
 
-  v_full : (a : Owner) (slot : ℕ) (old : Option Hashed) → Vains 0 told_did (op.full_done shape seed a slot old)
-  v_full a slot old = v_replaced 0 told_did old (ends (done (op.full_in shape seed a slot))) (v_ends 0 told_did _ refl)
+  connect_tried : (a : Owner) (next : Asking Did) → Vains 0 told_did next → (o : Outcome) → Vains (vain_by 0 o) told_did (op.connect_tried shape seed a next o)
+  connect_tried a next h (put slot old) = full_then a slot old
+  connect_tried a next h (taken name) = h
+  connect_tried a next h (full owned held) = refl
 
-  v_full_then : (port : ℕ) (request : Request) (a : Owner) (slot : ℕ) (old : Option Hashed) → Vains 0 told_did (asks port request (op.when_done (op.full_done shape seed a slot old)))
-  v_full_then port request a slot old = v_asks 0 told_did port request (op.when_done (op.full_done shape seed a slot old)) (λ answer. v_done 0 told_did (op.full_done shape seed a slot old) answer (v_full a slot old))
+  connect_free : (a : Owner) (moment : ℕ) (rule : Replace) (next : Asking Did) → Vains 0 told_did next → (answer : Answer) → Vains 0 told_did (op.connect_free shape seed a moment rule next answer)
+  connect_free a moment rule next h answers_.Done = (tt, connect_tried a next h)
+  connect_free a moment rule next h (answers_.NotFree n) = h
+  connect_free a moment rule next h _ = tt
 
-  v_connect_bound : (a : Owner) (moment : ℕ) (rule : Replace) → Vains 0 told_did (op.connect_bound shape seed a moment rule)
-  v_connect_bound a moment rule = v_inserts 0 told_did _ moment rule (op.connect_hashed shape seed a) (record {
-    puts = λ slot old. v_full_then (owner_key a) (requests.ConnectBound a.name a.addr a.remote a.rport) a slot old;
-    takes = λ name. v_refused (errors.Taken name) refl;
-    none = λ owned held. v_ends 1 told_did (refused (errors.Full owned held)) refl;
-  })
+  search_connect : (a : Owner) (source : ℕ) (to : End) (moment : ℕ) (rule : Replace) (ports : List ℕ) → Vains 0 told_did (op.search_connect shape seed a source to moment rule ports)
+  search_connect a source to moment rule [] = refl
+  search_connect a source to moment rule (port ∷ ports) =
+      connect_free (connected_at a source port to) moment rule (op.search_connect shape seed a source to moment rule ports) (search_connect a source to moment rule ports)
 
-  v_tried : (a : Owner) (next : Asking Did) → Vains 0 told_did next → Tries 0 told_did (op.connect_tried shape seed a next)
-  v_tried a next h = record {
-    puts = λ slot old. v_full_then (owner_key a) (requests.ConnectAuto a) a slot old;
-    takes = λ name. h;
-    none = λ owned held. v_ends 1 told_did (refused (errors.Full owned held)) refl;
-  }
+  connect_vains : (s : State) (a : Owner) (source : Option ℕ) (to : End) (moment : ℕ) (rule : Replace) (ports : List ℕ) → Vains 0 told_did (op.connect_from shape seed s a source to moment rule ports)
+  connect_vains states.Unbound a (Some source) to moment rule ports = search_connect a source to moment rule ports
+  connect_vains states.Bound a (Some source) to moment rule ports = (tt, connect_hashed (connected_to a source to))
+  connect_vains states.Unbound a None to moment rule ports = refl
+  connect_vains states.Bound a None to moment rule ports = refl
+  connect_vains _ a source to moment rule ports = refl
 
-  v_connect_free : (a : Owner) (moment : ℕ) (rule : Replace) (next : Asking Did) (answer : Answer) → Vains 0 told_did next → Vains 0 told_did (op.connect_free shape seed a moment rule next answer)
-  v_connect_free a moment rule next answers_.Done h = v_inserts 0 told_did _ moment rule (op.connect_tried shape seed a next) (v_tried a next h)
-  v_connect_free a moment rule next (answers_.NotFree n) h = h
-  v_connect_free a moment rule next (answers_.Group g) h = v_impossible 0 told_did
-  v_connect_free a moment rule next (answers_.InUse n) h = v_impossible 0 told_did
-  v_connect_free a moment rule next answers_.GroupFull h = v_impossible 0 told_did
-  v_connect_free a moment rule next answers_.GroupsFull h = v_impossible 0 told_did
-  v_connect_free a moment rule next (answers_.Strange n) h = v_impossible 0 told_did
+  accept_hashed : (l child : Owner) (o : Outcome) → Vains (vain_by 0 o) told_did (op.accept_hashed shape seed l child o)
+  accept_hashed l child (put slot old) = full_then child slot old
+  accept_hashed l child (taken name) = refl
+  accept_hashed l child (full owned held) = refl
 
-  v_search_connect : (a : Owner) (source : ℕ) (to : End) (moment : ℕ) (rule : Replace) (ports : List ℕ) → Vains 0 told_did (op.search_connect shape seed a source to moment rule ports)
-  v_search_connect a source to moment rule [] = v_refused errors.NoPort refl
-  v_search_connect a source to moment rule (port ∷ ports) =
-      v_asks 0 told_did (bind_key port a.net) _ (op.connect_free shape seed (connected_at a source port to) moment rule (op.search_connect shape seed a source to moment rule ports))
-      (λ answer. v_connect_free (connected_at a source port to) moment rule (op.search_connect shape seed a source to moment rule ports) answer (v_search_connect a source to moment rule ports))
+  accept_vains : (l : Mine) (name : ℕ) (from at : End) → Vains 0 told_did (op.accept shape seed l name from at)
+  accept_vains l name from at =
+      let child = child_owner l.owner name from at in
+      tries_if counting (IsTold told_did) 0 (is_no_accept l.owner from at) (ends (refused errors.Inval)) (op.accept_as shape seed l.owner child) refl (tt, accept_hashed l.owner child)
 
-  v_connect : (s : State) (a : Owner) (source : Option ℕ) (to : End) (moment : ℕ) (rule : Replace) (ports : List ℕ) → Vains 0 told_did (op.connect_from shape seed s a source to moment rule ports)
-  v_connect states.Unbound a (Some source) to moment rule ports = v_search_connect a source to moment rule ports
-  v_connect states.Bound a (Some source) to moment rule ports = v_connect_bound (connected_to a source to) moment rule
-  v_connect states.Unbound a None to moment rule ports = v_refused errors.Inval refl
-  v_connect states.Bound a None to moment rule ports = v_refused errors.Inval refl
-  v_connect states.Listening a source to moment rule ports = v_refused errors.IsConn refl
-  v_connect states.Full a source to moment rule ports = v_refused errors.IsConn refl
-  v_connect states.TimeWait a source to moment rule ports = v_refused errors.IsConn refl
-  v_connect states.Request a source to moment rule ports = v_refused errors.Inval refl
+  syn_hashed : (r : Owner) (o : Outcome) → Vains (vain_by 0 o) told_did (op.syn_hashed shape seed r o)
+  syn_hashed r (put slot old) = replaced_then counting (IsTold told_did) 0 old (ends (done (op.request_in shape seed r slot))) refl
+  syn_hashed r (taken name) = refl
+  syn_hashed r (full owned held) = refl
 
-  v_accept_as : (l child : Owner) → Vains 0 told_did (op.accept_as shape seed l child)
-  v_accept_as l child = v_inserts 0 told_did _ 0 _ (op.accept_hashed shape seed l child) (record {
-    puts = λ slot old. v_full_then (owner_key l) (requests.Inherit l.name child.name child.addr child.remote child.rport) child slot old;
-    takes = λ name. v_refused (errors.Taken name) refl;
-    none = λ owned held. v_ends 1 told_did (refused (errors.Full owned held)) refl;
-  })
+  syn_vains : (l : Mine) (name : ℕ) (from at : End) → Vains 0 told_did (op.syn shape seed l name from at)
+  syn_vains l name from at =
+      let r = request_owner l.owner name from at in
+      tries_if counting (IsTold told_did) 0 (is_no_accept l.owner from at) (ends (refused errors.Inval)) (op.syn_as shape seed r) refl (tt, syn_hashed r)
 
-  v_accept_by : (l : Mine) (name : ℕ) (from at : End) (b : Bool) → Vains 0 told_did (if b then ends (refused errors.Inval) else op.accept_as shape seed l.owner (child_owner l.owner name from at))
-  v_accept_by l name from at true = v_refused errors.Inval refl
-  v_accept_by l name from at false = v_accept_as l.owner (child_owner l.owner name from at)
+  ack_hashed : (r : Mine) (l child : Owner) (o : Outcome) → Vains (vain_by 0 o) told_did (op.ack_hashed shape seed r l child o)
+  ack_hashed r l child (put slot None) = whenever_done counting (IsTold told_did) 0 (ends (done (op.full_in shape seed child slot))) refl
+  ack_hashed r l child (put slot (Some x)) = tt
+  ack_hashed r l child (taken name) = tt
+  ack_hashed r l child (full owned held) = refl
 
-  v_syn_as : (r : Owner) → Vains 0 told_did (op.syn_as shape seed r)
-  v_syn_as r = v_inserts 0 told_did _ 0 _ (op.syn_hashed shape seed r) (record {
-    puts = λ slot old. v_replaced 0 told_did old (ends (done (op.request_in shape seed r slot))) (v_ends 0 told_did _ refl);
-    takes = λ name. v_refused (errors.Taken name) refl;
-    none = λ owned held. v_ends 1 told_did (refused (errors.Full owned held)) refl;
-  })
+  ack_by : (r : Mine) (o : Option Mine) (name : ℕ) → Vains 0 told_did (op.ack_by shape seed r o name)
+  ack_by r None name = refl
+  ack_by r (Some l) name =
+      let child = heir_owner l.owner name r.owner in
+      tries_if counting (IsTold told_did) 0 (is_no_ack l.owner r.owner) (ends (refused errors.Inval)) (op.ack_as shape seed r l.owner child) refl (tt, ack_hashed r l.owner child)
 
-  v_syn_by : (l : Mine) (name : ℕ) (from at : End) (b : Bool) → Vains 0 told_did (if b then ends (refused errors.Inval) else op.syn_as shape seed (request_owner l.owner name from at))
-  v_syn_by l name from at true = v_refused errors.Inval refl
-  v_syn_by l name from at false = v_syn_as (request_owner l.owner name from at)
+  ack_vains : (s : State) (r : Mine) (o : Option Mine) (name : ℕ) → Vains 0 told_did (op.ack_from shape seed s r o name)
+  ack_vains states.Request r o name = ack_by r o name
+  ack_vains _ r o name = refl
 
-  v_ack_put : (r : Mine) (l child : Owner) (slot : ℕ) (old : Option Hashed) → Vains 0 told_did (op.ack_hashed shape seed r l child (put slot old))
-  v_ack_put r l child slot None = v_unhashes 0 told_did r.place _ (asks (owner_key l) (requests.Inherit l.name child.name child.addr child.remote child.rport) (op.when_done (ends (done (op.full_in shape seed child slot)))))
-      (v_asks 0 told_did (owner_key l) _ (op.when_done (ends (done (op.full_in shape seed child slot)))) (λ answer. v_done 0 told_did (ends (done (op.full_in shape seed child slot))) answer (v_ends 0 told_did _ refl)))
-  v_ack_put r l child slot (Some x) = v_impossible 0 told_did
+  close_hashed : (m w : Mine) (o : Outcome) → Vains (vain_by 0 o) told_closed (op.close_hashed shape seed m w o)
+  close_hashed m w (put slot None) = whenever_done counting (IsTold told_closed) 0 (ends (waiting (op.waits_in shape seed w slot))) refl
+  close_hashed m w (put slot (Some x)) = tt
+  close_hashed m w (taken name) = tt
+  close_hashed m w (full owned held) = left_port counting (IsTold told_closed) 1 m.owner (closed_without owned held) refl
 
-  v_ack_as : (r : Mine) (l child : Owner) → Vains 0 told_did (op.ack_as shape seed r l child)
-  v_ack_as r l child = v_adds 0 told_did _ (op.ack_hashed shape seed r l child) (record {
-    puts = v_ack_put r l child;
-    takes = λ name. v_impossible 0 told_did;
-    none = λ owned held. v_ends 1 told_did (refused (errors.Full owned held)) refl;
-  })
+  close_vains : (s : State) (m : Mine) (moment : ℕ) → Vains 0 told_closed (op.close_as shape seed s m moment)
+  close_vains states.Full m moment = (tt, close_hashed m (op.wait_of m moment))
+  close_vains states.Unbound m moment = dropped counting (IsTold told_closed) 0 states.Unbound m gone refl
+  close_vains states.Bound m moment = dropped counting (IsTold told_closed) 0 states.Bound m gone refl
+  close_vains states.Listening m moment = dropped counting (IsTold told_closed) 0 states.Listening m gone refl
+  close_vains states.TimeWait m moment = dropped counting (IsTold told_closed) 0 states.TimeWait m gone refl
+  close_vains states.Request m moment = dropped counting (IsTold told_closed) 0 states.Request m gone refl
 
-  v_ack_unless : (r l : Mine) (name : ℕ) (b : Bool) → Vains 0 told_did (if b then ends (refused errors.Inval) else op.ack_as shape seed r l.owner (heir_owner l.owner name r.owner))
-  v_ack_unless r l name true = v_refused errors.Inval refl
-  v_ack_unless r l name false = v_ack_as r l.owner (heir_owner l.owner name r.owner)
+reaped_next : (w : Mine) (count : ℕ) (next : ℕ → Asking ℕ) → ((n : ℕ) → Vains 0 told_count (next n)) → (b : Bool) → Vains 0 told_count (op.reaped_next w count next b)
+reaped_next w count next h true = λ answer. h (count + 1)
+reaped_next w count next h false = h count
 
-  v_ack_by : (r : Mine) (o : Option Mine) (name : ℕ) → Vains 0 told_did (op.ack_by shape seed r o name)
-  v_ack_by r None name = v_refused errors.Inval refl
-  v_ack_by r (Some l) name = v_ack_unless r l name (is_no_ack l.owner r.owner)
-
-  v_ack : (s : State) (r : Mine) (o : Option Mine) (name : ℕ) → Vains 0 told_did (op.ack_from shape seed s r o name)
-  v_ack states.Request r o name = v_ack_by r o name
-  v_ack states.Unbound r o name = v_refused errors.Inval refl
-  v_ack states.Bound r o name = v_refused errors.Inval refl
-  v_ack states.Listening r o name = v_refused errors.Inval refl
-  v_ack states.Full r o name = v_refused errors.Inval refl
-  v_ack states.TimeWait r o name = v_refused errors.Inval refl
-
-  v_close_put : (m w : Mine) (slot : ℕ) (old : Option Hashed) → Vains 0 told_closed (op.close_hashed shape seed m w (put slot old))
-  v_close_put m w slot None = v_unhashes 0 told_closed m.place _ (asks (owner_key m.owner) (requests.ToTimeWait m.owner.name) (op.when_done (ends (waiting (op.waits_in shape seed w slot)))))
-      (v_asks 0 told_closed (owner_key m.owner) _ (op.when_done (ends (waiting (op.waits_in shape seed w slot)))) (λ answer. v_done 0 told_closed (ends (waiting (op.waits_in shape seed w slot))) answer (v_ends 0 told_closed _ refl)))
-  v_close_put m w slot (Some x) = v_impossible 0 told_closed
-
-  v_close_full : (m w : Mine) → Vains 0 told_closed (op.close_full shape seed m w)
-  v_close_full m w = v_adds 0 told_closed _ (op.close_hashed shape seed m w) (record {
-    puts = v_close_put m w;
-    takes = λ name. v_impossible 0 told_closed;
-    none = λ owned held. v_unhashes 1 told_closed m.place _ (op.leave m.owner (closed_without owned held)) (v_leave 1 told_closed m.owner (closed_without owned held) refl);
-  })
-
-  v_close : (s : State) (m : Mine) (moment : ℕ) → Vains 0 told_closed (op.close_as shape seed s m moment)
-  v_close states.Full m moment = v_close_full m (op.wait_of m moment)
-  v_close states.Unbound m moment = v_drop_as 0 told_closed states.Unbound m gone refl
-  v_close states.Bound m moment = v_drop_as 0 told_closed states.Bound m gone refl
-  v_close states.Listening m moment = v_drop_as 0 told_closed states.Listening m gone refl
-  v_close states.TimeWait m moment = v_drop_as 0 told_closed states.TimeWait m gone refl
-  v_close states.Request m moment = v_drop_as 0 told_closed states.Request m gone refl
-
-v_reaped : (w : Mine) (count : ℕ) (next : ℕ → Asking ℕ) (b : Bool) → ((n : ℕ) → Vains 0 told_count (next n)) → Vains 0 told_count (op.reaped_next w count next b)
-v_reaped w count next true h = v_asks 0 told_count (owner_key w.owner) _ (λ answer. next (count + 1)) (λ answer. h (count + 1))
-v_reaped w count next false h = h count
-
-v_reap : (ws : List Mine) (count : ℕ) → Vains 0 told_count (op.reap_each ws count)
-v_reap [] count = v_ends 0 told_count count refl
-v_reap (w ∷ rest) count = v_reaps 0 told_count _ (op.reaped_next w count (op.reap_each rest)) (λ b. v_reaped w count (op.reap_each rest) b (v_reap rest))
+reap_each : (ws : List Mine) (count : ℕ) → Vains 0 told_count (op.reap_each ws count)
+reap_each [] count = refl
+reap_each (w ∷ rest) count = reaped_next w count (op.reap_each rest) (reap_each rest)
 
 -- what a command's reply tells
 abbrev told_reply : Replied → ℕ
 told_reply r = cond (drew_for r.reply) 1 0
 
 -- an operation, and the reply that is made of its result
-v_then_by : {R : Type 0} (told : R → ℕ) (p : Asking R) (reply : R → Replied) → Vains 0 told p → ((x : R) → told x ≡ told_reply (reply x)) → (deeds : List Deed) (r : Replied) (first rest : List Deed) (x : R)
-    → deeds ≡ first ++ rest → Goes p first x → Goes (ends (reply x)) rest r → 0 + length (vain_in deeds) ≡ told_reply r
-v_then_by told p reply h same deeds r first [] x j g e =
-    let one : length (vain_in deeds) ≡ length (vain_in first) = ap (λ l. length (vain_in l)) (j ∙ append-nil first) in
-    omega (arith, one, h first x g, same x, ap told_reply e)
-v_then_by told p reply h same deeds r first (d ∷ rest) x j g e = absurd e
-
-v_then : {R : Type 0} (told : R → ℕ) (p : Asking R) (reply : R → Replied) → Vains 0 told p → ((x : R) → told x ≡ told_reply (reply x)) → Vains 0 told_reply (and_then p (λ x. ends (reply x)))
-v_then told p reply h same deeds r g =
-    let two : InTwo (λ x. ends (reply x)) p deeds r = goes_apart (λ x. ends (reply x)) p deeds r g in
-    v_then_by told p reply h same deeds r two.first two.rest two.did two.joined two.goes two.then_
+replied : {R : Type 0} (told : R → ℕ) (p : Asking R) (reply : R → Replied) → Vains 0 told p → ((x : R) → told x ≡ told_reply (reply x)) → Vains 0 told_reply (and_then p (λ x. ends (reply x)))
+replied told p reply h same = tries_then counting (IsTold told) (IsTold told_reply) p (λ x. ends (reply x)) 0 h (λ k x e. e ∙ same x)
 
 -- how each operation's result is told
 same_bind : (own : Own) (d : Did) → told_did d ≡ told_reply (command.bind_reply own d)
-same_bind own (done m) = refl
-same_bind own (refused (errors.InUse n)) = refl
-same_bind own (refused errors.NoPort) = refl
-same_bind own (refused (errors.Taken n)) = refl
-same_bind own (refused errors.Inval) = refl
-same_bind own (refused errors.IsConn) = refl
-same_bind own (refused errors.GroupFull) = refl
-same_bind own (refused errors.GroupsFull) = refl
 same_bind own (refused (errors.Full o h)) = refl
-same_bind own (refused (errors.LeftOff cause)) = refl
+same_bind own d = refl
 
 same_connect : (own : Own) (d : Did) → told_did d ≡ told_reply (command.connect_reply own d)
-same_connect own (done m) = refl
-same_connect own (refused (errors.InUse n)) = refl
-same_connect own (refused errors.NoPort) = refl
-same_connect own (refused (errors.Taken n)) = refl
-same_connect own (refused errors.Inval) = refl
-same_connect own (refused errors.IsConn) = refl
-same_connect own (refused errors.GroupFull) = refl
-same_connect own (refused errors.GroupsFull) = refl
 same_connect own (refused (errors.Full o h)) = refl
-same_connect own (refused (errors.LeftOff cause)) = refl
+same_connect own d = refl
 
 same_accept : (own : Own) (d : Did) → told_did d ≡ told_reply (command.accept_reply own d)
-same_accept own (done m) = refl
-same_accept own (refused (errors.InUse n)) = refl
-same_accept own (refused errors.NoPort) = refl
-same_accept own (refused (errors.Taken n)) = refl
-same_accept own (refused errors.Inval) = refl
-same_accept own (refused errors.IsConn) = refl
-same_accept own (refused errors.GroupFull) = refl
-same_accept own (refused errors.GroupsFull) = refl
 same_accept own (refused (errors.Full o h)) = refl
-same_accept own (refused (errors.LeftOff cause)) = refl
+same_accept own d = refl
 
 same_ack : (own : Own) (name : ℕ) (d : Did) → told_did d ≡ told_reply (command.ack_reply own name d)
-same_ack own name (done m) = refl
-same_ack own name (refused (errors.InUse n)) = refl
-same_ack own name (refused errors.NoPort) = refl
-same_ack own name (refused (errors.Taken n)) = refl
-same_ack own name (refused errors.Inval) = refl
-same_ack own name (refused errors.IsConn) = refl
-same_ack own name (refused errors.GroupFull) = refl
-same_ack own name (refused errors.GroupsFull) = refl
 same_ack own name (refused (errors.Full o h)) = refl
-same_ack own name (refused (errors.LeftOff cause)) = refl
+same_ack own name d = refl
 
 same_close : (own : Own) (name : ℕ) (c : Closed) → told_closed c ≡ told_reply (command.close_reply own name c)
 same_close own name gone = refl
 same_close own name (waiting w) = refl
 same_close own name (closed_without o h) = refl
 
-v_at : (own : Own) (moment : ℕ) (b : Bool) → Vains 0 told_reply (if b then command.replies_at_once own replies.Einval else command.replies_at_once (record own { moment = moment }) replies.Ok)
-v_at own moment true = v_ends 0 told_reply _ refl
-v_at own moment false = v_ends 0 told_reply _ refl
+bind_command : (own : Own) (o : Option Mine) (end : End) → Vains 0 told_reply (command.bind_command own o end)
+bind_command own None end = refl
+bind_command own (Some m) end =
+    let ports : List ℕ = ports_of own.offsets firsts.Odd in
+    let began : Own = after_search (searches_port m.owner end) own in
+    replied told_did (op.bind m end ports) (command.bind_reply began) (bind_vains m.owner.state m end ports) (same_bind began)
 
-v_none : (own : Own) → Vains 0 told_reply (command.replies_at_once own replies.Ebadf)
-v_none own = v_ends 0 told_reply (answers own replies.Ebadf) refl
+drop_command : (own : Own) (o : Option Mine) → Vains 0 told_reply (command.drop_command own o)
+drop_command own None = refl
+drop_command own (Some m) =
+    dropped counting (IsTold told_reply) 0 m.owner.state m (answers (without own m.owner.name) replies.Ok) refl
 
-v_bind_command : (own : Own) (o : Option Mine) (end : End) → Vains 0 told_reply (command.bind_command own o end)
-v_bind_command own None end = v_none own
-v_bind_command own (Some m) end = v_then told_did _ _ (v_bind m.owner.state m end _) (same_bind _)
-
-v_drop_command : (own : Own) (o : Option Mine) → Vains 0 told_reply (command.drop_command own o)
-v_drop_command own None = v_none own
-v_drop_command own (Some m) = v_drop_as 0 told_reply m.owner.state m _ refl
+at_command : (own : Own) (moment : ℕ) → Vains 0 told_reply (command.at_command own moment)
+at_command own moment =
+    tries_if counting (IsTold told_reply) 0 (nat_lt moment own.moment) (command.replies_at_once own replies.Einval) (command.replies_at_once (record own { moment = moment }) replies.Ok) refl refl
 
 module _ (header : Header) where
-  v_listen_command : (own : Own) (o : Option Mine) → Vains 0 told_reply (command.listen_command header own o)
-  v_listen_command own None = v_none own
-  v_listen_command own (Some m) = v_then told_did _ _ (v_listen header.shape header.seed m.owner.state m _) (same_bind _)
+  listen_command : (own : Own) (o : Option Mine) → Vains 0 told_reply (command.listen_command header own o)
+  listen_command own None = refl
+  listen_command own (Some m) =
+      let ports : List ℕ = ports_of own.offsets firsts.Odd in
+      let began : Own = after_search (is_unbound m.owner.state) own in
+      replied told_did (op.listen header.shape header.seed m ports) (command.bind_reply began) (listen_vains header.shape header.seed m.owner.state m ports) (same_bind began)
 
-  v_connect_command : (own : Own) (o : Option Mine) (from : Option ℕ) (to : End) → Vains 0 told_reply (command.connect_command header own o from to)
-  v_connect_command own None from to = v_none own
-  v_connect_command own (Some m) from to = v_then told_did _ _ (v_connect header.shape header.seed m.owner.state m.owner _ to own.moment _ _) (same_connect _)
+  connect_command : (own : Own) (o : Option Mine) (from : Option ℕ) (to : End) → Vains 0 told_reply (command.connect_command header own o from to)
+  connect_command own None from to = refl
+  connect_command own (Some m) from to =
+      let ports : List ℕ = ports_of own.offsets firsts.Even in
+      let source : Option ℕ = source_to m.owner from to in
+      let began : Own = after_search (is_unbound m.owner.state && command.is_some source) own in
+      replied told_did (op.connect header.shape header.seed m from to own.moment (connect_rule header) ports) (command.connect_reply began)
+      (connect_vains header.shape header.seed m.owner.state m.owner source to own.moment (connect_rule header) ports) (same_connect began)
 
-  v_accept_command : (own : Own) (name : ℕ) (o : Option Mine) (from at : End) → Vains 0 told_reply (command.accept_command header own name o from at)
-  v_accept_command own name None from at = v_none own
-  v_accept_command own name (Some l) from at = v_then told_did _ _ (v_accept_by header.shape header.seed l name from at (is_no_accept l.owner from at)) (same_accept _)
+  accept_command : (own : Own) (name : ℕ) (o : Option Mine) (from at : End) → Vains 0 told_reply (command.accept_command header own name o from at)
+  accept_command own name None from at = refl
+  accept_command own name (Some l) from at =
+      replied told_did (op.accept header.shape header.seed l name from at) (command.accept_reply own) (accept_vains header.shape header.seed l name from at) (same_accept own)
 
-  v_syn_command : (own : Own) (name : ℕ) (o : Option Mine) (from at : End) → Vains 0 told_reply (command.syn_command header own name o from at)
-  v_syn_command own name None from at = v_none own
-  v_syn_command own name (Some l) from at = v_then told_did _ _ (v_syn_by header.shape header.seed l name from at (is_no_accept l.owner from at)) (same_accept _)
+  syn_command : (own : Own) (name : ℕ) (o : Option Mine) (from at : End) → Vains 0 told_reply (command.syn_command header own name o from at)
+  syn_command own name None from at = refl
+  syn_command own name (Some l) from at =
+      replied told_did (op.syn header.shape header.seed l name from at) (command.accept_reply own) (syn_vains header.shape header.seed l name from at) (same_accept own)
 
-  v_ack_command : (own : Own) (name : ℕ) (o : Option Mine) → Vains 0 told_reply (command.ack_command header own name o)
-  v_ack_command own name None = v_none own
-  v_ack_command own name (Some r) = v_then told_did _ _ (v_ack header.shape header.seed r.owner.state r (open_named own r.owner.origin) name) (same_ack own r.owner.name)
+  ack_command : (own : Own) (name : ℕ) (o : Option Mine) → Vains 0 told_reply (command.ack_command header own name o)
+  ack_command own name None = refl
+  ack_command own name (Some r) =
+      let listener : Option Mine = open_named own r.owner.origin in
+      replied told_did (op.ack header.shape header.seed r listener name) (command.ack_reply own r.owner.name) (ack_vains header.shape header.seed r.owner.state r listener name) (same_ack own r.owner.name)
 
-  v_close_command : (own : Own) (o : Option Mine) → Vains 0 told_reply (command.close_command header own o)
-  v_close_command own None = v_none own
-  v_close_command own (Some m) = v_then told_closed _ _ (v_close header.shape header.seed m.owner.state m own.moment) (same_close own m.owner.name)
+  close_command : (own : Own) (o : Option Mine) → Vains 0 told_reply (command.close_command header own o)
+  close_command own None = refl
+  close_command own (Some m) =
+      replied told_closed (op.close header.shape header.seed m own.moment) (command.close_reply own m.owner.name) (close_vains header.shape header.seed m.owner.state m own.moment) (same_close own m.owner.name)
 
-  v_plan : (own : Own) (c : Command) → Vains 0 told_reply (plan header own c)
+  plan_vains : (own : Own) (c : Command) → Vains 0 told_reply (plan header own c)
   unfolding plan
-  v_plan own (commands.Socket label options) = v_ends 0 told_reply _ refl
-  v_plan own (commands.Bind label end) = v_bind_command own _ end
-  v_plan own (commands.Listen label) = v_listen_command own _
-  v_plan own (commands.Connect label from to) = v_connect_command own _ from to
-  v_plan own (commands.Accept listener label from at) = v_accept_command _ _ _ from at
-  v_plan own (commands.Syn listener label from at) = v_syn_command _ _ _ from at
-  v_plan own (commands.Ack request label) = v_ack_command (with_label own label) (next_name own) (open_socket own request)
-  v_plan own (commands.Close label) = v_close_command own _
-  v_plan own (commands.Drop label) = v_drop_command own _
-  v_plan own (commands.At moment) = v_at own moment (nat_lt moment own.moment)
-  v_plan own commands.Reap = v_then told_count _ _ (v_reap _ 0) (λ count. refl)
-  v_plan own (commands.Look query) = v_impossible 0 told_reply
-  v_plan own (commands.Packets count) = v_impossible 0 told_reply
-  v_plan own commands.Dump = v_ends 0 told_reply _ refl
+  plan_vains own (commands.Socket label options) = refl
+  plan_vains own (commands.Bind label end) = bind_command own (open_socket own label) end
+  plan_vains own (commands.Listen label) = listen_command own (open_socket own label)
+  plan_vains own (commands.Connect label from to) = connect_command own (open_socket own label) from to
+  plan_vains own (commands.Accept listener label from at) = accept_command (with_label own label) (next_name own) (open_socket own listener) from at
+  plan_vains own (commands.Syn listener label from at) = syn_command (with_label own label) (next_name own) (open_socket own listener) from at
+  plan_vains own (commands.Ack request label) = ack_command (with_label own label) (next_name own) (open_socket own request)
+  plan_vains own (commands.Close label) = close_command own (open_socket own label)
+  plan_vains own (commands.Drop label) = drop_command own (open_socket own label)
+  plan_vains own (commands.At moment) = at_command own moment
+  plan_vains own commands.Reap =
+      replied told_count (op.reap own.waits own.moment) (λ count. answers (record own { waits = op.kept_waits own.waits own.moment }) (replies.Count count))
+      (reap_each (filter (is_over own.moment) own.waits) 0) (λ count. refl)
+  plan_vains own (commands.Look query) = tt
+  plan_vains own (commands.Packets count) = tt
+  plan_vains own commands.Dump = refl
 
   pub replies_tell : (own next : Own) (c : Command) (reply : Reply) (deeds : List Deed) → Goes (plan header own c) deeds (answers next reply) → length (vain_in deeds) ≡ cond (drew_for reply) 1 0
-  replies_tell own next c reply deeds g = omega (arith, v_plan own c deeds (answers next reply) g)
+  replies_tell own next c reply deeds g =
+      let came : walks.Comes counting AnyTried any_outcome Adds (IsTold told_reply) 0 deeds (answers next reply) =
+      walks.comes counting AnyTried any_outcome Adds steps (IsTold told_reply) (plan header own c) 0 deeds (answers next reply)
+      (walks.all_fit counting AnyTried any_outcome Adds (λ tried. tt) deeds) (plan_vains own c) g in
+      omega (arith, came.made, came.result)

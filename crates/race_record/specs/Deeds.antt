@@ -20,7 +20,8 @@ pub record Wish : Type 0 where
 pub data Tried : Type 0 where
   hashed : Change → Option Change → Tried  -- its hash, and the unhash of the TIME_WAIT that it replaced
   kept_out : ℕ → Tried  -- the socket of that name keeps its four-tuple from it
-  no_slot : ℕ → ℕ → ℕ → Tried  -- a number of the clock was drawn in vain: so many slots were owned, and so many only held
+  no_slot : ℕ → ℕ → ℕ
+      → Tried  -- a number of the clock was drawn in vain: so many slots were owned, and so many only held
 
 pub data Deed : Type 0 where
   entered : ℕ → Note Entry → Deed  -- a call on the bind bucket of that key, as its journal has it

@@ -31,7 +31,8 @@ AlwaysAgree number journal = (k : ℕ) → OwnersAgree (replayed number (take k 
 -- owners of different buckets have one port of one namespace
 abbrev pub AlwaysAtHome : ℕ → ℕ → List (Note Entry) → Type 0
 AlwaysAtHome buckets number journal =
-    (k : ℕ) → Each (λ (a : Owner). owner_key a % buckets ≡ number) (replayed number (take k (map entry_in journal))).owners
+    (k : ℕ) → Each (λ (a : Owner). owner_key a % buckets ≡ number)
+    (replayed number (take k (map entry_in journal))).owners
 
 -- what was found, or wasn't, has its cause among all lives
 abbrev pub HasCause : (Change → Type 0) → Shape → Looked → Type 0

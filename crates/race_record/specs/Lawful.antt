@@ -57,7 +57,8 @@ ReapsAll In own to _ = Unit {0}
 
 -- The step is the command's: by its plan, from what the section knows of itself, what was done leads to the reply and
 -- to what the section knows then.
-pub record IsStepOf (header : Header) (In : Change → Type 0) (own next : Own) (command : Command) (step : Step) : Type 0 where
+pub record IsStepOf (header : Header) (In : Change → Type 0) (own next : Own) (command : Command)
+    (step : Step) : Type 0 where
   pub command_is : step.command ≡ command
   pub goes : Goes (plan header own command) step.deeds (answers next step.reply)
   pub reaps : ReapsAll In own step.to command
@@ -204,7 +205,8 @@ Lists race s = ListsAs race s.command s
 
 -- a packet's receipt: by the seed, between two loads of the clock, explained by the changes; and where it was given
 -- up, it names the bucket
-pub record IsReceiptOf (In : Change → Type 0) (shape : Shape) (seed clock : ℕ) (packet : Packet) (r : Receipt) : Type 0 where
+pub record IsReceiptOf (In : Change → Type 0) (shape : Shape) (seed clock : ℕ) (packet : Packet)
+    (r : Receipt) : Type 0 where
   pub packet_is : r.packet ≡ packet
   pub seed_is : r.seed ≡ seed
   pub order : r.t0 ≤ r.t1

@@ -41,7 +41,8 @@ RepliesTellVain =
     → Goes (plan header own command) deeds (answers next reply) → length (vain_in deeds) ≡ cond (drew_for reply) 1 0
 
 -- a command's deeds are an operation's, and then what its result makes
-pub record GoesInTwo (p : Asking Did) (next : Did → Asking Replied) (deeds : List Deed) (result : Replied) : Type 0 where
+pub record GoesInTwo (p : Asking Did) (next : Did → Asking Replied) (deeds : List Deed)
+    (result : Replied) : Type 0 where
   pub first : List Deed
   pub rest : List Deed
   pub did : Did

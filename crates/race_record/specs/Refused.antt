@@ -32,8 +32,10 @@ refused_script =
     record {
       header = with_slots 2;
       sections =
-          (reusable a ∷ commands.Bind a (one 90) ∷ connect a 80 ∷ socket d ∷ commands.Bind d (one 92) ∷ connect d 80 ∷ commands.Drop d ∷ [])
-          ∷ (reusable b ∷ commands.Bind b (one 90) ∷ connect b 80 ∷ socket c ∷ commands.Bind c (one 91) ∷ connect c 80 ∷ [])
+          (reusable a ∷ commands.Bind a (one 90) ∷ connect a 80 ∷ socket d ∷ commands.Bind d (one 92) ∷ connect d 80
+          ∷ commands.Drop d ∷ [])
+          ∷ (reusable b ∷ commands.Bind b (one 90) ∷ connect b 80 ∷ socket c ∷ commands.Bind c (one 91) ∷ connect c 80
+          ∷ [])
           ∷ [];
       capture = None;
     }
@@ -43,7 +45,10 @@ to_d = record { src = 0x0A000002; sport = 80; dst = 0x0A000001; dport = 92; dev 
 
 abbrev pub refused_capture : Capture
 refused_capture =
-    record { items = items.Packet to_d ∷ items.Packet to_d ∷ items.Packet to_d ∷ items.Packet to_d ∷ items.Short ∷ []; cut = false }
+    record {
+      items = items.Packet to_d ∷ items.Packet to_d ∷ items.Packet to_d ∷ items.Packet to_d ∷ items.Short ∷ [];
+      cut = false;
+    }
 
 abbrev pub reusing : ℕ → Owner
 reusing name =

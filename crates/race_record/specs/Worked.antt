@@ -149,7 +149,8 @@ second_script =
     record {
       header = with_slots 4;
       sections =
-          (socket a ∷ commands.Bind a (one 80) ∷ commands.Listen a ∷ accept a b ∷ commands.Close b ∷ accept a d ∷ commands.At 60 ∷ commands.Reap ∷ [])
+          (socket a ∷ commands.Bind a (one 80) ∷ commands.Listen a ∷ accept a b ∷ commands.Close b ∷ accept a d
+          ∷ commands.At 60 ∷ commands.Reap ∷ [])
           ∷ (socket e ∷ commands.Bind e (any 90) ∷ commands.Listen e ∷ [])
           ∷ [];
       capture = None;
@@ -259,7 +260,8 @@ second_race =
           ∷ step (commands.Close b) replies.TimeWait
           (added card_w (hashed hash_w None) ∷ left unhash_b ∷ entered 80 waits_b ∷ []) 5 10
           ∷ step (accept a d) replies.Ok
-          (inserted (newcomer card_d) (hashed hash_d (Some unhash_w)) ∷ entered 80 inherit_d ∷ entered 80 gone_b ∷ []) 10 14
+          (inserted (newcomer card_d) (hashed hash_d (Some unhash_w)) ∷ entered 80 inherit_d ∷ entered 80 gone_b
+          ∷ []) 10 14
           ∷ step (commands.At 60) replies.Ok [] 14 14
           ∷ step commands.Reap (replies.Count 0) (reaped card_w None ∷ []) 14 14
           ∷ [])
@@ -341,7 +343,8 @@ handshake_race =
       passes = 1;
       shape = record { slots = 4; bind = 1; hash = 1; listen = 1 };
       seed = 0;
-      sections = acknowledged_by (added card_d (hashed hash_child None) ∷ left unhash_r ∷ entered 80 inherit_child ∷ []);
+      sections = acknowledged_by (added card_d (hashed hash_child None) ∷ left unhash_r ∷ entered 80 inherit_child
+          ∷ []);
       journals = (first_bind ∷ first_may ∷ first_listen ∷ inherit_child ∷ []) ∷ [];
       book = hash_a ∷ hash_r ∷ hash_child ∷ unhash_r ∷ [];
       looked = found_by_two (found.Found card_r) (found.Found card_d);

@@ -78,7 +78,10 @@ two_packets =
 abbrev pub FromTheStart : Type 0
 FromTheStart =
     ¬ (Lawful first_script two_packets
-    (record first_race { looked = answered (found.Found card_a) 2 2 ∷ answered found.None 0 2 ∷ []; shares = (0 ∷ 1 ∷ []) ∷ [] }))
+    (record first_race {
+      looked = answered (found.Found card_a) 2 2 ∷ answered found.None 0 2 ∷ [];
+      shares = (0 ∷ 1 ∷ []) ∷ [];
+    }))
 
 -- one that was given up at a slot of which there was no change
 abbrev pub CauseNeverWas : Type 0
@@ -113,7 +116,8 @@ twins_race =
           (step (reusable a) replies.Ok [] 0 0
           ∷ step (commands.Bind a (one 90)) (replies.Port 90) (entered 90 refused.bind_a ∷ []) 0 0
           ∷ step (connect a 80) (replies.End (one 90))
-          (inserted (refused.wished refused.owner_a) (hashed refused.hash_a None) ∷ entered 90 refused.connect_a ∷ []) 0 4
+          (inserted (refused.wished refused.owner_a) (hashed refused.hash_a None) ∷ entered 90 refused.connect_a
+          ∷ []) 0 4
           ∷ [])
           ∷ (step (reusable b) replies.Ok [] 0 0
           ∷ step (commands.Bind b (one 90)) (replies.Port 90) (entered 90 refused.bind_b ∷ []) 0 0

@@ -18,7 +18,7 @@ module _ (header : Header) (In : Change → Type 0) where
   steps_commands own [] (s ∷ steps) a = absurd a
   steps_commands own (c ∷ cs) [] a = absurd a
 
-  all_commands : (n : ℕ) (scripts : List (List Command)) (sections : List (List Step)) → AreSectionsOf header In n scripts sections → map (λ steps. map command_of steps) sections ≡ scripts
+  pub all_commands : (n : ℕ) (scripts : List (List Command)) (sections : List (List Step)) → AreSectionsOf header In n scripts sections → map (λ steps. map command_of steps) sections ≡ scripts
   all_commands n [] [] a = refl
   all_commands n (cs ∷ scripts) (steps ∷ sections) a = λ i. steps_commands (new_own header n) cs steps a.0 i ∷ all_commands (n + 1) scripts sections a.1 i
   all_commands n [] (s ∷ sections) a = absurd a

@@ -97,7 +97,8 @@ module _ (label_of : ℕ → List ℕ) where
 
   abbrev pub life_line : Life → List ℕ
   life_line l =
-      codes "life " ++ decimal l.hash.bucket ++ codes " " ++ decimal l.hash.slot ++ codes " " ++ whole_card_text l.hash.card
+      codes "life " ++ decimal l.hash.bucket ++ codes " " ++ decimal l.hash.slot ++ codes " "
+      ++ whole_card_text l.hash.card
       ++ codes " " ++ span_text l ++ codes "\n"
 
   abbrev pub answer_text : PacketAnswer → List ℕ
@@ -123,12 +124,14 @@ module _ (label_of : ℕ → List ℕ) where
 
 -- the lines that `run` writes for the commands of these sections, with these replies and listings
 abbrev pub command_lines : List (List Command) → List Reply → List Listing → List ℕ
-command_lines sections replies listings = lines_text sections 1 (events_from [] (issued_from 1 sections)) replies listings
+command_lines sections replies listings =
+    lines_text sections 1 (events_from [] (issued_from 1 sections)) replies listings
 
 -- the whole text of what is told of a race of these sections
 abbrev pub told_text : List (List Command) → Told → List ℕ
 told_text sections t =
-    race_line t.lookers t.passes ++ shape_line t.shape t.seed ++ command_lines sections t.replies t.listings ++ journal_lines 0 t.journals
+    race_line t.lookers t.passes ++ shape_line t.shape t.seed ++ command_lines sections t.replies t.listings
+    ++ journal_lines 0 t.journals
     ++ flat_map (life_line (label_in sections)) (lives_of t.book) ++ looked_lines (label_in sections) 1 t.looked
     ++ cut_text t.cut ++ clock_line t.clock
 
@@ -156,7 +159,9 @@ render race = told_text (commands_of race) (told race)
 -- the text is a script for a race, with that capture
 pub record HasRace (input : List ℕ) (script : Script) (capture : Capture) : Type 0 where
   pub script_is : IsScript modes.Race input script
-  pub capture_is : IsCapture (capture_device script.capture) (capture_namespace script.capture) (capture_bytes script.capture input) capture
+  pub capture_is :
+      IsCapture (capture_device script.capture) (capture_namespace script.capture)
+      (capture_bytes script.capture input) capture
 
 -- what is written for a text that is a script for a race, by so many lookers with so many passes: some lawful record
 -- of it

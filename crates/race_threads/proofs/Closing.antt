@@ -28,12 +28,14 @@ use Rattle.table_model.specs.Own.{Own, new_own}
 use Rattle.nulls_chain.specs.Changes.{Sees}
 use Rattle.race_book.specs.Among.{Among}
 use Rattle.race_book.proofs.Endings.{to_each}
+use Rattle.race_book.proofs.Joined.{each_flat}
 use Rattle.race_record.specs.Deeds.{Vain, changes_of, vain_of, entries_in, changes_in, taken_in, vain_in, drawn_in}
 use Rattle.race_record.specs.Gathered.{numbered, GaveItsOwn, IsInOrderOf, WereGathered}
 use Rattle.race_record.specs.Record.{Race, Step, steps_of, deeds_of, all_deeds}
 use Rattle.race_record.specs.Lawful.{EachFrom, AreStepsOf, AreSectionsOf, AreInOrder, IsSpanned, IsLegalJournal, IsCalledBy, AreJournalsOf, IsBookOf, itself, WasKept, TakenWereKept, NoneWasFree, SlotsWereUsed, Lists}
 use Rattle.race_record.proofs.Drawn.{weigh, drawn_weighs}
 use Rattle.race_record.proofs.Gather.{gathered_journals}
+use Rattle.race_record.proofs.Weights.{total_flat}
 use Rattle.chain_deeds.specs.Sides.{change_of}
 use Rattle.chain_deeds.specs.Made.{IsHomeIfHash, HasWords, number_of}
 use Rattle.nulls_chain.proofs.Saw.{are_settled}
@@ -48,7 +50,7 @@ use Rattle.race_threads.proofs.Listings.{lists}
 use Rattle.race_threads.proofs.Refusals.{was_kept, none_was_free}
 use Rattle.race_threads.proofs.Sightings.{keeper_moves, none_moves, no_wait_moves, ended_sees, same_sees, Moves}
 use Rattle.race_threads.proofs.Sums.{sum_sections, each_number, each_section, many_sections, replies_are, listings_are, weigh_all, sum_numbers, weigh_filter, flat_filter, flat_same}
-use Rattle.race_threads.proofs.Weights.{total_flat, each_flat, map_flat, among_flat, same_each, same_among, flipped, weigh_map, same_each_of}
+use Rattle.race_threads.proofs.Weights.{map_flat, among_flat, same_each, same_among, flipped, weigh_map, same_each_of}
 
 -- what a number weighs that was drawn in vain
 abbrev in_vain : (ℕ → ℕ) → Vain → ℕ

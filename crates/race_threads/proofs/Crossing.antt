@@ -10,12 +10,9 @@ use Rattle.std.proofs.Crossing.{crosses}
 use Rattle.atomic_table.proofs.shared.Seat.TheSendSync as seat
 use Rattle.atomic_table.proofs.shared.Shared.TheSendSync as shared
 use Rattle.atomic_table.proofs.send_lease.SendLease.TheSendSync as lease
-use Rattle.bind_buckets.specs.contracts.bucket.Bucket as Bucket
-use Rattle.bind_buckets.specs.contracts.journal.Journal as Journal
 use Rattle.bind_buckets.proofs.journal.Log.TheLaws.TheKnot as knot
-use Rattle.bind_buckets.proofs.held.Held.TheSendSync as held
-use Rattle.shared_ops.specs.contracts.tables.Worker as Worker
 use Rattle.shared_ops.specs.contracts.tables.Tables as Tables
+use Rattle.shared_ops.proofs.Crossing.{bucket_send, tables_sync}
 use Rattle.flat_list.proofs.command.Reply.TheSendSync as replies
 use Rattle.flat_list.specs.contracts.script.Script as Script
 use Rattle.flat_list.proofs.script.Script.TheSendSync as scripts
@@ -26,20 +23,8 @@ use Rattle.socket_list.proofs.listing.Listing.TheSendSync as listings
 use Rattle.tickets.specs.contracts.pass.Tickets as TicketTable
 use Rattle.race_threads.specs.contracts.jobs.Job as Job
 
-journal_send : IsSend Journal.the_row
-journal_send = search (sendable, crosses) depth 30
-
-bucket_send : IsSend Bucket.the_row
-bucket_send = search (sendable, crosses, journal_send, held.the_send) depth 30
-
-worker_send : IsSend Worker.the_row
-worker_send = search (seat.the_send, bucket_send, crosses, knot.crosses, sendable) depth 60 fits 200000
-
 pub job_send : IsSend Job.the_row
 job_send = search (seat.the_send, bucket_send, replies.the_send, listings.the_send, looks.the_send, crosses, knot.crosses, sendable) depth 60 fits 400000
-
-pub tables_sync : IsSync Tables.the_row
-tables_sync = search (shared.the_sync, lease.the_sync, bucket_send, crosses, knot.crosses, sendable) depth 60 fits 400000
 
 pub tickets_sync : IsSync TicketTable.the_row
 tickets_sync = search (shared.the_sync, lease.the_sync, crosses, sendable) depth 60 fits 400000

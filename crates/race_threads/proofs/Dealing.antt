@@ -2,7 +2,7 @@
 use Rattle.std.proofs.Common.{◌≡◌, ℕ, ◌+◌, ◌<◌, List, [], ◌∷◌, ◌++◌, length, get_or, refl, sym, ap, ◌∙◌, subst, arith}
 use mathlib.Core.Logic.{dite}
 use native.Mathlib.Decide.{ℕ_discrete}
-use Rattle.std.proofs.lemmas.List.{get_or_append_left, get_or_push}
+use Rattle.std.proofs.lemmas.List.{get_or_append_left, get_or_push, length_push}
 use Rattle.flat_list.specs.declared.header.Header.{Header}
 use Rattle.shared_ops.specs.declared.tables.Tables.{Tables}
 use Rattle.tickets.specs.declared.pass.Tickets.{Tickets}
@@ -11,14 +11,10 @@ use Rattle.race_threads.specs.Jobs.{IsReady, AllReady}
 use Rattle.race_threads.specs.Shares.{HasDrawnNothing}
 use Rattle.race_threads.specs.Workers.{AreTables, IsFresh}
 
-longer : {A : Type 0} (l : List A) (x : A) → length (l ++ x ∷ []) ≡ length l + 1
-longer [] x = refl
-longer (y ∷ ys) x = omega (arith, longer ys x)
-
 ready_push : (header : Header) (t : Tables) (q : Tickets) (jobs all : List Job) (j : Job) (n : ℕ) → AllReady header t q jobs → length jobs ≡ n → IsReady header t q n j → all ≡ jobs ++ j ∷ [] → AllReady header t q all
 ready_push header t q jobs all j n ready len r is i x lt e =
     let there : x ≡ get_or (jobs ++ j ∷ []) i x = e ∙ ap (λ l. get_or l i x) is in
-    let few : length all ≡ length jobs + 1 = ap length is ∙ longer jobs j in
+    let few : length all ≡ length jobs + 1 = ap length is ∙ length_push jobs j in
     dite (ℕ_discrete i (length jobs))
     (λ at. let same : x ≡ j = there ∙ (ap (λ k. get_or (jobs ++ j ∷ []) k x) at ∙ get_or_push jobs j x (length jobs) refl) in
     subst (IsReady header t q i) (sym same) (subst (λ k. IsReady header t q k j) (let z : n ≡ i = omega (arith, len, at) in z) r))

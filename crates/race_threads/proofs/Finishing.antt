@@ -1,5 +1,7 @@
 -- A race at its end: what its jobs did, section by section and looker by looker.
 use Rattle.std.proofs.Common.{◌≡◌, ℕ, zero, suc, ◌+◌, ◌-◌, ◌<◌, ◌≤◌, List, [], ◌∷◌, ◌++◌, length, map, take, drop, get_or, Result, Ok, Err, IfOk, alloc_error, refl, sym, ap, ◌∙◌, subst, arith}
+use Rattle.std.proofs.lemmas.List.{length-map, length-drop, get_or-drop, get_or_past}
+use Rattle.std.proofs.lemmas.List.Folds.{flat_map-map}
 use Rattle.std.specs.List.{flat_map, range_with_len}
 use Rattle.std.specs.declared.alloc.AllocError.{AllocError}
 use mathlib.Core.Logic.{dite}
@@ -52,28 +54,8 @@ stands_at [] i l = absurd (omega (arith, l))
 stands_at (x ∷ xs) zero l = (x, λ d. refl)
 stands_at (x ∷ xs) (suc i) l = stands_at xs i (omega (arith, l))
 
-past_end : {A : Type 0} (xs : List A) (i : ℕ) (d : A) → length xs ≤ i → get_or xs i d ≡ d
-past_end [] i d l = refl
-past_end (x ∷ xs) zero d l = absurd (omega (arith, l))
-past_end (x ∷ xs) (suc i) d l = past_end xs i d (omega (arith, l))
-
-len_map : {A B : Type 0} (f : A → B) (xs : List A) → length (map f xs) ≡ length xs
-len_map f [] = refl
-len_map f (x ∷ xs) = omega (arith, len_map f xs)
-
 len_drop : {A : Type 0} (n : ℕ) (xs : List A) → n ≤ length xs → length (drop n xs) + n ≡ length xs
-len_drop zero xs l = omega arith
-len_drop (suc n) [] l = absurd (omega (arith, l))
-len_drop (suc n) (x ∷ xs) l = let e = len_drop n xs (omega (arith, l)) in omega (arith, e)
-
-at_drop : {A : Type 0} (n : ℕ) (xs : List A) (i : ℕ) (d : A) → get_or (drop n xs) i d ≡ get_or xs (n + i) d
-at_drop zero xs i d = ap (λ k. get_or xs k d) (let e : i ≡ 0 + i = omega arith in e)
-at_drop (suc n) [] i d = refl
-at_drop (suc n) (x ∷ xs) i d = at_drop n xs i d ∙ ap (λ k. get_or (x ∷ xs) k d) (let e : suc (n + i) ≡ suc n + i = omega arith in e)
-
-flat_of_map : {A B C : Type 0} (g : B → List C) (h : A → B) (xs : List A) → flat_map g (map h xs) ≡ flat_map (λ x. g (h x)) xs
-flat_of_map g h [] = refl
-flat_of_map g h (x ∷ xs) = ap (λ l. g (h x) ++ l) (flat_of_map g h xs)
+len_drop n xs l = omega (arith, length-drop n xs)
 
 -- nothing comes of those behind the first n
 flat_front : {A C : Type 0} (f : A → List C) (n : ℕ) (xs : List A) → ((i : ℕ) (x : A) → n ≤ i → i < length xs → get_or xs i x ≡ x → f x ≡ []) → flat_map f xs ≡ flat_map f (take n xs)
@@ -118,10 +100,10 @@ outcomes_are : (js : List Job) → outcomes_in (map Ok js) ≡ map outcome js
 outcomes_are [] = refl
 outcomes_are (j ∷ js) = ap (λ l. outcome j ∷ l) (outcomes_are js)
 
-pub all_over : (script : Script) (all : List Item) (t : Tables) (q : Tickets) (done : List (Result Job AllocError)) → AllWorked script all t q (length done) done → AllOver t q done
-all_over script all t q done w i d l = over (get_or done i d) (w i d l)
+pub all_over : (script : Script) (passes : ℕ) (all : List Item) (t : Tables) (q : Tickets) (done : List (Result Job AllocError)) → AllWorked script passes all t q (length done) done → AllOver t q done
+all_over script passes all t q done w i d l = over (get_or done i d) (w i d l)
   where
-    over : (r : Result Job AllocError) → IfOk r (IsWorked script all t q i) → IfOk r (IsOver t q)
+    over : (r : Result Job AllocError) → IfOk r (IsWorked script passes all t q i) → IfOk r (IsOver t q)
     over (Ok j) h = h.over
     over (Err e) h = tt
 
@@ -146,21 +128,21 @@ module _ (header : Header) (part : ℕ → Part) where
 
   -- Lookers
 
-  looked_all : (all : List Item) (n : ℕ) (js : List Job) → ((i : ℕ) (j : Job) → i < length js → get_or js i j ≡ j → HasShared header all j × (part (n + i) ≡ part_of j.worker)) → AllLooked header all part n (map tells js)
-  looked_all all n [] h = tt
-  looked_all all n (j ∷ js) h =
+  looked_all : (passes : ℕ) (all : List Item) (n : ℕ) (js : List Job) → ((i : ℕ) (j : Job) → i < length js → get_or js i j ≡ j → HasShared header passes all j × (part (n + i) ≡ part_of j.worker)) → AllLooked header passes all part n (map tells js)
+  looked_all passes all n [] h = tt
+  looked_all passes all n (j ∷ js) h =
       let here = h 0 j (omega arith) refl in (
-        subst (λ (p : Part). HasLooked header all p j.told.items) (sym (ap part (let e : n ≡ n + 0 = omega arith in e) ∙ here.1)) here.0.looked,
-        looked_all all (n + 1) js (λ i x k is.
+        subst (λ (p : Part). HasLooked header passes all p j.told.items) (sym (ap part (let e : n ≡ n + 0 = omega arith in e) ∙ here.1)) here.0.looked,
+        looked_all passes all (n + 1) js (λ i x k is.
             let a : n + suc i ≡ n + 1 + i = omega arith in
-            subst (λ (p : ℕ). HasShared header all x × (part p ≡ part_of x.worker)) a (h (suc i) x (omega (arith, k)) is)),
+            subst (λ (p : ℕ). HasShared header passes all x × (part p ≡ part_of x.worker)) a (h (suc i) x (omega (arith, k)) is)),
       )
 
 -- The whole
 
 -- what came of the jobs, the sections first
-module _ (script : Script) (all : List Item) (lookers : ℕ) (t : Tables) (q : Tickets) (other : Part) (only : HasOnlyLooked other) (some : 0 < lookers) (js : List Job) (count : length js ≡ length script.sections + lookers)
-    (work : AllWorked script all t q (length js) (map Ok js)) where
+module _ (script : Script) (passes : ℕ) (all : List Item) (lookers : ℕ) (t : Tables) (q : Tickets) (other : Part) (only : HasOnlyLooked other) (some : 0 < lookers) (js : List Job) (count : length js ≡ length script.sections + lookers)
+    (work : AllWorked script passes all t q (length js) (map Ok js)) where
   abbrev sections : ℕ
   sections = length script.sections
 
@@ -173,8 +155,8 @@ module _ (script : Script) (all : List Item) (lookers : ℕ) (t : Tables) (q : T
   ok_at : (i : ℕ) (j : Job) (d : Result Job AllocError) → i < length js → get_or js i j ≡ j → get_or (map Ok js) i d ≡ Ok j
   ok_at i j d l is = get_map Ok js i j d l (sym is)
 
-  worked_at : (i : ℕ) (j : Job) → i < length js → get_or js i j ≡ j → IsWorked script all t q i j
-  worked_at i j l is = let P : Result Job AllocError → Type 0 = λ r. IfOk r (IsWorked script all t q i) in
+  worked_at : (i : ℕ) (j : Job) → i < length js → get_or js i j ≡ j → IsWorked script passes all t q i j
+  worked_at i j l is = let P : Result Job AllocError → Type 0 = λ r. IfOk r (IsWorked script passes all t q i) in
       let o : P (Ok j) = subst P (ok_at i j (Ok j) l is) (work i (Ok j) l) in o
 
   part_at : (m i : ℕ) (j : Job) → m ≡ i + 1 → i < length js → get_or js i j ≡ j → part m ≡ part_of j.worker
@@ -191,17 +173,17 @@ module _ (script : Script) (all : List Item) (lookers : ℕ) (t : Tables) (q : T
   len_last : length last ≡ lookers
   len_last = let e = len_drop sections js (omega (arith, count)) in omega (arith, e, count)
 
-  share_at : (i : ℕ) (j : Job) → i < length last → get_or last i j ≡ j → HasShared script.header all j × (part (sections + 1 + i) ≡ part_of j.worker)
+  share_at : (i : ℕ) (j : Job) → i < length last → get_or last i j ≡ j → HasShared script.header passes all j × (part (sections + 1 + i) ≡ part_of j.worker)
   share_at i j l is =
-      let at : get_or js (sections + i) j ≡ j = sym (at_drop sections js i j) ∙ is in
+      let at : get_or js (sections + i) j ≡ j = sym (get_or-drop sections js i j) ∙ is in
       let few : sections + i < length js = omega (arith, l, len_last, count) in
       ((worked_at (sections + i) j few at).looker (omega arith), part_at (sections + 1 + i) (sections + i) j (omega arith) few at)
 
-  pub looked_last : AllLooked script.header all part (sections + 1) (map tells last)
-  looked_last = looked_all script.header part all (sections + 1) last share_at
+  pub looked_last : AllLooked script.header passes all part (sections + 1) (map tells last)
+  looked_last = looked_all script.header part passes all (sections + 1) last share_at
 
   pub told_last : length (map tells last) ≡ lookers
-  told_last = len_map tells last ∙ len_last
+  told_last = length-map last tells ∙ len_last
 
   -- the last job is a looker's
   pub missed : (p : TicketPass) → HasMissedAsThey (map Ok js) 0 p → HasMissed p
@@ -217,25 +199,25 @@ module _ (script : Script) (all : List Item) (lookers : ℕ) (t : Tables) (q : T
       (λ le. let s = stands_at js (m - 1) (omega (arith, l, le)) in
       let w = (worked_at (m - 1) s.0 (omega (arith, l, le)) (s.1 s.0)).looker (omega (arith, l)) in
       subst HasOnlyLooked (sym (part_at m (m - 1) s.0 (omega (arith, l)) (omega (arith, l, le)) (s.1 s.0))) w.looked.only)
-      (λ gt. subst HasOnlyLooked (sym (ap (part_or other) (past_end (map Ok js) (m - 1) (Err alloc_error) (let e = len_map {B = Result Job AllocError} Ok js in omega (arith, e, gt))))) only)
+      (λ gt. subst HasOnlyLooked (sym (ap (part_or other) (get_or_past (map Ok js) (m - 1) (Err alloc_error) (let e = length-map {B = Result Job AllocError} js Ok in omega (arith, e, gt))))) only)
 
   pub all_replied : flat_map replies_in (map outcome js) ≡ flat_map replied_in (map said_by (take sections js))
   all_replied =
-      flat_of_map replies_in outcome js
+      flat_map-map replies_in outcome js
       ∙ flat_front replied sections js (λ i j a l is. ((worked_at i j l is).looker a).replies)
-      ∙ sym (flat_of_map replied_in said_by (take sections js))
+      ∙ sym (flat_map-map replied_in said_by (take sections js))
 
   pub all_listed : flat_map listings_in (map outcome js) ≡ flat_map listed_in (map said_by (take sections js))
   all_listed =
-      flat_of_map listings_in outcome js
+      flat_map-map listings_in outcome js
       ∙ flat_front listed sections js (λ i j a l is. ((worked_at i j l is).looker a).listings)
-      ∙ sym (flat_of_map listed_in said_by (take sections js))
+      ∙ sym (flat_map-map listed_in said_by (take sections js))
 
   pub all_tells : flat_map told_in (map outcome js) ≡ flat_map (λ (took : List Look). took) (map tells last)
   all_tells =
-      flat_of_map told_in outcome js
+      flat_map-map told_in outcome js
       ∙ flat_back tells sections js (λ i j a l is. ((worked_at i j l is).section a).told)
-      ∙ sym (flat_of_map (λ (took : List Look). took) tells last)
+      ∙ sym (flat_map-map (λ (took : List Look). took) tells last)
 
   all_items : flat_map items_in (map outcome js) ≡ flat_map (λ took. map item_of took) (map tells last)
   all_items = sym (map_flat item_of told_in (map outcome js)) ∙ ap (map item_of) all_tells ∙ map_flat item_of (λ (took : List Look). took) (map tells last)
@@ -244,26 +226,26 @@ module _ (script : Script) (all : List Item) (lookers : ℕ) (t : Tables) (q : T
   each_once p numbers a b f = ap (total f) (sym all_items) ∙ sym (a f) ∙ b f
 
 -- what such a race leaves
-pub finished : (script : Script) (all : List Item) (lookers : ℕ) (t : Tables) (q : Tickets) (first w : Worker) (p : TicketPass) (done : List (Result Job AllocError)) (given : List Outcome) (e : Ended)
-    → 0 < lookers → length done ≡ length script.sections + lookers → AreTables script.header t → IsFirst t (length done) first → AllWorked script all t q (length done) done → tickets q ≡ length all
+pub finished : (script : Script) (passes : ℕ) (all : List Item) (lookers : ℕ) (t : Tables) (q : Tickets) (first w : Worker) (p : TicketPass) (done : List (Result Job AllocError)) (given : List Outcome) (e : Ended)
+    → 0 < lookers → length done ≡ length script.sections + lookers → AreTables script.header t → IsFirst t (length done) first → AllWorked script passes all t q (length done) done → tickets q ≡ length all
     → IsAtRest t w → HasAllParts w → HasDrawnAll q done given p → (parts p ≡ all_parts → HasMissed p → SameItems (drawn p) (numbers_below (tickets q))) → ((other : Part) → IsGathered (part_in other done) 0 (length done) (part_of w)) → given ≡ outcomes_in done → length given ≡ length done → e.outcomes.items ≡ given
     → (part_of w).chain.seen ≤ e.clock → chain_words.known e.chain.pass ≡ seeing (part_of w).chain e.clock → WholeBook (chain_words.known e.chain.pass) e.clock
     → are_kept e.chain.pass.changes ≡ t.chains.keeps_changes → length e.buckets.items ≡ buckets_of t → AreLeft 0 (buckets_of t) e.buckets.items → HoldsWhatWasGiven notes_in (part_of w).turns e.buckets.items → IsInTheOrderOfEach notes_in (part_of w).turns e.buckets.items
-    → HasFinished script all lookers e
-finished script all lookers t q first w p done given e some count tables fresh work many_items rest whole drew counted gathered are many outcomes later sees book kept long left given_all in_order =
+    → HasFinished script passes all lookers e
+finished script passes all lookers t q first w p done given e some count tables fresh work many_items rest whole drew counted gathered are many outcomes later sees book kept long left given_all in_order =
     let oks = all_ok done (sym (ap length are) ∙ many) in
     let js : List Job = oks.0 in
-    let len : length js ≡ length script.sections + lookers = sym (len_map {B = Result Job AllocError} Ok js) ∙ sym (ap length oks.1) ∙ count in
-    let worked : AllWorked script all t q (length js) (map Ok js) = subst (λ n. AllWorked script all t q n (map Ok js)) (len_map {B = Result Job AllocError} Ok js) (subst (λ (l : List (Result Job AllocError)). AllWorked script all t q (length l) l) oks.1 work) in
+    let len : length js ≡ length script.sections + lookers = sym (length-map {B = Result Job AllocError} js Ok) ∙ sym (ap length oks.1) ∙ count in
+    let worked : AllWorked script passes all t q (length js) (map Ok js) = subst (λ n. AllWorked script passes all t q n (map Ok js)) (length-map {B = Result Job AllocError} js Ok) (subst (λ (l : List (Result Job AllocError)). AllWorked script passes all t q (length l) l) oks.1 work) in
     let other : Part = part_of first in
     let only : HasOnlyLooked other = record { mine = fresh.blank.mine; closed = fresh.blank.closed; lost = fresh.blank.lost } in
     let part : ℕ → Part = part_in other (map Ok js) in
-    let g : IsGathered part 0 (length js) (part_of w) = subst (λ n. IsGathered part 0 n (part_of w)) (len_map {B = Result Job AllocError} Ok js) (subst (λ (l : List (Result Job AllocError)). IsGathered (part_in other l) 0 (length l) (part_of w)) oks.1 (gathered other)) in
+    let g : IsGathered part 0 (length js) (part_of w) = subst (λ n. IsGathered part 0 n (part_of w)) (length-map {B = Result Job AllocError} js Ok) (subst (λ (l : List (Result Job AllocError)). IsGathered (part_in other l) 0 (length l) (part_of w)) oks.1 (gathered other)) in
     let tooks : List (List Look) = map tells (drop (length script.sections) js) in
     let x : View = (part_of w).chain in
-    let runs : length tooks ≡ lookers = told_last script all lookers t q other only some js len worked in
+    let runs : length tooks ≡ lookers = told_last script passes all lookers t q other only some js len worked in
     let given_is : given ≡ map outcome js = are ∙ ap outcomes_in oks.1 ∙ outcomes_are js in
-    let missed_all : HasMissed p = missed script all lookers t q other only some js len worked p (subst (λ (l : List (Result Job AllocError)). HasMissedAsThey l 0 p) oks.1 drew.missed) in
+    let missed_all : HasMissed p = missed script passes all lookers t q other only some js len worked p (subst (λ (l : List (Result Job AllocError)). HasMissedAsThey l 0 p) oks.1 drew.missed) in
     let once : SameItems (drawn p) (numbers_below (length all)) = subst (λ n. SameItems (drawn p) (numbers_below n)) many_items (counted drew.parts missed_all) in
     let outs : e.outcomes.items ≡ map outcome js = outcomes ∙ given_is in
     record {
@@ -278,8 +260,8 @@ finished script all lookers t q first w p done given e some count tables fresh w
         order = g.order;
         each_once = λ f. g.once f ∙ ap (λ k. total f (range_with_len 1 k)) (let q : length js - 0 ≡ length script.sections + length tooks = omega (arith, len, runs) in q);
         joined = g.joined;
-        done = done_all script all lookers t q other only some js len worked;
-        others = others script all lookers t q other only some js len worked;
+        done = done_all script passes all lookers t q other only some js len worked;
+        others = others script passes all lookers t q other only some js len worked;
         layout = rest.rests.table.1 ∙ sym t.chains.laid ∙ tables.layout;
         sized = subst (λ (y : Layout). IsSized y.shape) tables.layout t.chains.sized;
         later = later;
@@ -289,10 +271,10 @@ finished script all lookers t q first w p done given e some count tables fresh w
         given = given_all;
         in_order = in_order;
       };
-      looked = looked_last script all lookers t q other only some js len worked;
-      lookers_are = told_last script all lookers t q other only some js len worked;
-      once = each_once script all lookers t q other only some js len worked p (numbers_below (length all)) (subst (λ (l : List Outcome). SameItems (drawn p) (flat_map items_in l)) given_is drew.drawn) once;
-      replied = ap (flat_map replies_in) outs ∙ all_replied script all lookers t q other only some js len worked;
-      listed = ap (flat_map listings_in) outs ∙ all_listed script all lookers t q other only some js len worked;
-      tells = ap (flat_map told_in) outs ∙ all_tells script all lookers t q other only some js len worked;
+      looked = looked_last script passes all lookers t q other only some js len worked;
+      lookers_are = told_last script passes all lookers t q other only some js len worked;
+      once = each_once script passes all lookers t q other only some js len worked p (numbers_below (length all)) (subst (λ (l : List Outcome). SameItems (drawn p) (flat_map items_in l)) given_is drew.drawn) once;
+      replied = ap (flat_map replies_in) outs ∙ all_replied script passes all lookers t q other only some js len worked;
+      listed = ap (flat_map listings_in) outs ∙ all_listed script passes all lookers t q other only some js len worked;
+      tells = ap (flat_map told_in) outs ∙ all_tells script passes all lookers t q other only some js len worked;
     }

@@ -49,14 +49,15 @@ use Rattle.race_book.proofs.Endings.{each_of, one_beginning, to_each}
 use Rattle.race_book.proofs.Listing.{begin_apart}
 use Rattle.race_book.proofs.Checks.{unhash_act}
 use Rattle.race_book.proofs.Twins.{one_home, replay_has_none}
-use Rattle.race_record.proofs.Drawn.{weigh, all_differ}
 use Rattle.chain_deeds.specs.Sides.{act_of, change_of}
 use Rattle.chain_deeds.specs.Made.{IsHome, IsHomeIfHash, HasWords}
 use Rattle.race_threads.specs.Lookers.{IsTold, whole_for}
 use Rattle.race_threads.specs.Races.{IsWhole, book_of}
 use Rattle.race_threads.specs.Sections.{layout_in}
 use Rattle.race_threads.proofs.CardsTold.{show_both}
-use Rattle.race_threads.proofs.Weights.{is, same_total, weigh_map}
+use Rattle.race_threads.proofs.Weights.{same_total, weigh_map}
+use Rattle.race_record.proofs.Drawn.{weigh, stamps_weigh}
+use Rattle.race_record.proofs.Weights.{is, all_differ, once}
 
 act_one : (k : ℕ) → k ≡ 1 → act_of k ≡ acts.Hash
 act_one k e = ap (λ b. cond b acts.Hash acts.Unhash) (eq-eqb k 1 e)
@@ -117,29 +118,9 @@ place_of (x ∷ xs) a h = ⊎_elim (λ e. (0, ap some (sym e))) (λ b. let f = p
 
 -- the numbers below the clock
 
-stamps_weigh : (f : ℕ → ℕ) (book : List Change) → total f (stamps_of book) ≡ total (weigh f) book
-stamps_weigh f [] = refl
-stamps_weigh f (c ∷ book) = omega (arith, stamps_weigh f book)
-
 below_weighs : (f : ℕ → ℕ) (n : ℕ) → total f (numbers_below n) ≡ below f n
 below_weighs f zero = refl
 below_weighs f (suc n) = omega (arith, total-append f (numbers_below n) (n ∷ []), below_weighs f n)
-
-not_it : (n k : ℕ) → k ≢ n → is n k ≡ 0
-not_it n k ne = ap {B = ℕ} (λ b. cond b 1 0) (ne_eqb k n ne)
-
-it_is : (n : ℕ) → is n n ≡ 1
-it_is n = ap {B = ℕ} (λ b. cond b 1 0) (eq-eqb n n refl)
-
-below_none : (n m : ℕ) → m ≤ n → below (is n) m ≡ 0
-below_none n zero h = refl
-below_none n (suc m) h = omega (arith, below_none n m (omega (arith, h)), not_it n m (λ e. absurd (omega (arith, e, h))))
-
-below_one : (n m : ℕ) → below (is n) m ≤ 1
-below_one n zero = omega arith
-below_one n (suc m) = dite (ℕ_discrete m n)
-    (λ e. omega (arith, below_none n m (omega (arith, e)), ap (is n) e, it_is n))
-    (λ ne. omega (arith, below_one n m, not_it n m ne))
 
 -- each hash stands at home, and has the words of a card
 pub record AreGood (header : Header) (v : View) : Type 0 where
@@ -244,7 +225,7 @@ module _ (header : Header) (v : View) (clock : ℕ) (w : IsWhole v clock) (good 
       omega (arith, s, a, b, o, same_total f v.book.lost, below_weighs f clock)
 
   differ : StampsDiffer book
-  differ = all_differ (stamps_of book) (λ n. omega (arith, stamps (is n), stamps_weigh (is n) book, below_weighs (is n) clock, below_one n clock))
+  differ = all_differ (stamps_of book) (λ n. omega (arith, stamps (is n), stamps_weigh (is n) book, below_weighs (is n) clock, once n clock))
 
   begin : BeginApart book
   begin = begin_apart book differ

@@ -10,7 +10,7 @@ use Rattle.race_threads.specs.Joins.{Part, Joined, IsBlank}
 use Rattle.race_threads.proofs.Weights.{flat_push, total_push}
 
 pub joins_none : (part : ℕ → Part) (v : BindView) (x : View) → IsBlank v x → Joined part [] v x
-joins_none part v x h = record { mine = h.mine; closed = h.closed; lost = h.lost; sights = h.sights; wholes = h.wholes; taken = h.taken; seen = tt }
+joins_none part v x h = record { mine = h.mine; closed = h.closed; lost = h.lost; sights = h.sights; wholes = h.wholes; receipts = h.receipts; taken = h.taken; seen = tt }
 
 pub joins_more : (part : ℕ → Part) (order : List ℕ) (v : BindView) (x : View) (m : ℕ) → Joined part order v x → Joined part (order ++ m ∷ []) (joined v (part m).turns) (both x (part m).chain)
 joins_more part order v x m h =
@@ -21,6 +21,7 @@ joins_more part order v x m h =
       lost = ap (λ l. l ++ p.chain.book.lost) h.lost ∙ sym (flat_push (λ n. (part n).chain.book.lost) order m);
       sights = ap (λ l. l ++ p.chain.sights) h.sights ∙ sym (flat_push (λ n. (part n).chain.sights) order m);
       wholes = ap (λ l. l ++ p.chain.read.wholes) h.wholes ∙ sym (flat_push (λ n. (part n).chain.read.wholes) order m);
+      receipts = ap (λ l. l ++ p.chain.read.receipts) h.receipts ∙ sym (flat_push (λ n. (part n).chain.read.receipts) order m);
       taken = omega (arith, h.taken, total_push (λ n. (part n).chain.slot.taken) order m);
       seen = each_push (λ n. (part n).chain.seen ≤ max x.seen p.chain.seen) order m
           (each_weaken (λ n. (part n).chain.seen ≤ x.seen) (λ n. (part n).chain.seen ≤ max x.seen p.chain.seen) order (λ n l. omega (arith, l, le-max_left x.seen p.chain.seen)) h.seen)

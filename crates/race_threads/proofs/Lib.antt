@@ -16,6 +16,7 @@ pub mod Reaping
 pub mod Closing
 pub mod Reaped
 pub mod Looking
+pub mod Searching
 pub mod Looked
 pub mod Items
 pub mod Placing

@@ -1,5 +1,6 @@
 -- A looker takes one item more.
 use Rattle.std.proofs.Common.{◌≡◌, ℕ, ◌<◌, ◌≤◌, List, [], ◌∷◌, ◌++◌, refl, sym, ap, ◌∙◌, subst, arith, inl, inr, ⊎_elim}
+use Rattle.std.proofs.lemmas.List.{append-nil}
 use Rattle.list_words.proofs.EachLemmas.{each_weaken, each_both, each_push}
 use Rattle.list_words.proofs.PairsLemmas.{pairs_push}
 use Rattle.bind_buckets.specs.Turned.{View as BindView}
@@ -17,6 +18,7 @@ use Rattle.shared_demux.specs.Concludes.{Concluded, AfterListener, AfterFull, By
 use Rattle.shared_finds.specs.Finds.{InOrder}
 use Rattle.table_rule.specs.Plays.{Sat}
 use Rattle.table_rule.specs.declared.view.Layout.{Layout}
+use Rattle.table_rule.specs.declared.view.Receipt.{Receipt as Search}
 use Rattle.table_rule.specs.declared.view.Whole.{Whole}
 use Rattle.table_rule.specs.declared.view.BookView.{BookView}
 use Rattle.race_book.specs.Among.{Among}
@@ -27,11 +29,26 @@ use Rattle.race_record.specs.declared.record.Looked.{Looked}
 use Rattle.race_record.specs.declared.record.Looked.TheVariants as looks
 use Rattle.race_threads.specs.declared.looker.Look.{Look}
 use Rattle.race_threads.specs.Joins.{Part}
-use Rattle.race_threads.specs.Lookers.{IsLookup, IsLooked, item_at, Before, HasLooked, LookedUp, looking, AllBefore, IsPassedOver, whole_for}
-use Rattle.race_threads.specs.Races.{HasOnlyLooked}
+use Rattle.race_threads.specs.Lookers.{IsLookup, IsLooked, item_at, Before, HasLooked, HasLookedNothingUp, LookedUp, looking, AllBefore, IsPassedOver, whole_for}
+use Rattle.race_threads.specs.Searches.{LooksAfter, AllLookAfter, HasSearched}
+use Rattle.race_threads.proofs.Weights.{flat_push}
 
-pub looks_none : (header : Header) (all : List Item) (p : Part) → HasOnlyLooked p → HasLooked header all p []
-looks_none header all p h = record { each = tt; turns = tt; only = h }
+pub looks_none : (header : Header) (passes : ℕ) (all : List Item) (p : Part) → HasLookedNothingUp p → HasLooked header passes all p []
+looks_none header passes all p h = record { each = tt; turns = tt; searched = record { searches = []; all = h.receipts; each = tt }; only = h.only }
+
+-- the searches for one item more
+after_more : (passes : ℕ) (all : List (List Search)) (took : List Look) (searches : List Search) (k : Look) → AllLookAfter passes all took → LooksAfter passes searches k.looked → AllLookAfter passes (all ++ searches ∷ []) (took ++ k ∷ [])
+after_more passes [] [] searches k h a = (a, tt)
+after_more passes (s ∷ all) (j ∷ took) searches k h a = (h.0, after_more passes all took searches k h.1 a)
+after_more passes [] (j ∷ took) searches k h a = absurd h
+after_more passes (s ∷ all) [] searches k h a = absurd h
+
+searched_more : (passes : ℕ) (before after searches : List Search) (took : List Look) (k : Look) → HasSearched passes before took → after ≡ before ++ searches → LooksAfter passes searches k.looked → HasSearched passes after (took ++ k ∷ [])
+searched_more passes before after searches took k h more a = record {
+  searches = h.searches ++ searches ∷ [];
+  all = more ∙ ap (λ (l : List Search). l ++ searches) h.all ∙ sym (flat_push (λ (mine : List Search). mine) h.searches searches);
+  each = after_more passes h.searches took searches k h.each a;
+}
 
 -- more receipts, and a later number
 module _ (header : Header) (xs ys : List Whole) (a b : ℕ) (more : (c : Whole) → Among xs c → Among ys c) (le : a ≤ b) where
@@ -85,8 +102,8 @@ leaves m n c h =
       seen = ap (λ (z : Sat). z.0.seen) h.2;
     }
 
-module _ (header : Header) (all : List Item) (v : BindView) (took : List Look) (i : ℕ) (packet : Packet) (m n : Sat) (r : Receipt)
-    (h : HasLooked header all (looking v m.0) took) (at : item_at all i ≡ items.Packet packet) (before : AllBefore i took) (l : LookedUp header packet m n r) where
+module _ (header : Header) (passes : ℕ) (all : List Item) (v : BindView) (took : List Look) (i : ℕ) (packet : Packet) (m n : Sat) (r : Receipt)
+    (h : HasLooked header passes all (looking v m.0) took) (at : item_at all i ≡ items.Packet packet) (before : AllBefore i took) (l : LookedUp header passes packet m n r) where
   abbrev look : Look
   look = record { item = i; looked = looks.Answered r }
 
@@ -113,13 +130,14 @@ module _ (header : Header) (all : List Item) (v : BindView) (took : List Look) (
   abbrev Now : Look → Type 0
   Now k = IsLooked header n.0.read.wholes n.0.seen (item_at all k.item) k.looked
 
-  pub looks_more : HasLooked header all (looking v n.0) (took ++ look ∷ [])
+  pub looks_more : HasLooked header passes all (looking v n.0) (took ++ look ∷ [])
   looks_more = record {
     each = each_push Now took look
         (each_weaken Was Now took (λ k z. looked_later header m.0.read.wholes n.0.read.wholes m.0.seen n.0.seen more (omega (arith, left.seen, l.fresh, l.order)) (item_at all k.item) k.looked z) h.each)
         (subst (λ x. IsLooked header n.0.read.wholes n.0.seen x (looks.Answered r)) (sym at) it);
     turns = pairs_push Before took look h.turns
         (each_weaken (λ (k : Look). Was k × (k.item < i)) (λ k. Before k look) took (λ k z. (z.1, ended_by header m.0.read.wholes m.0.seen (item_at all k.item) k.looked r l.fresh z.0)) (each_both Was (λ (k : Look). k.item < i) took h.each before));
+    searched = searched_more passes m.0.read.receipts n.0.read.receipts l.searches took look h.searched l.searched l.after;
     only = record {
       mine = h.only.mine;
       closed = ap (λ (b : BookView). b.closed) left.book ∙ h.only.closed;
@@ -128,6 +146,15 @@ module _ (header : Header) (all : List Item) (v : BindView) (took : List Look) (
   }
 
 -- An item that is passed over
+
+past_after : (passes : ℕ) (item : Item) (k : Looked) → IsPassedOver item k → LooksAfter passes [] k
+past_after passes items.Skip looks.Skip h = refl
+past_after passes items.Short looks.Short h = refl
+past_after passes items.Skip looks.Short h = absurd h
+past_after passes items.Skip (looks.Answered r) h = absurd h
+past_after passes items.Short looks.Skip h = absurd h
+past_after passes items.Short (looks.Answered r) h = absurd h
+past_after passes (items.Packet packet) k h = absurd h
 
 past_is : (header : Header) (wholes : List Whole) (seen : ℕ) (item : Item) (k : Looked) → IsPassedOver item k → IsLooked header wholes seen item k
 past_is header wholes seen items.Skip looks.Skip h = tt
@@ -151,13 +178,14 @@ past_follows items.Short looks.Skip h earlier = absurd h
 past_follows items.Short (looks.Answered r) h earlier = absurd h
 past_follows (items.Packet packet) k h earlier = absurd h
 
-pub looks_past : (header : Header) (all : List Item) (p : Part) (took : List Look) (i : ℕ) (looked : Looked) → HasLooked header all p took → IsPassedOver (item_at all i) looked → AllBefore i took
-    → HasLooked header all p (took ++ record { item = i; looked = looked } ∷ [])
-looks_past header all p took i looked h over before =
+pub looks_past : (header : Header) (passes : ℕ) (all : List Item) (p : Part) (took : List Look) (i : ℕ) (looked : Looked) → HasLooked header passes all p took → IsPassedOver (item_at all i) looked → AllBefore i took
+    → HasLooked header passes all p (took ++ record { item = i; looked = looked } ∷ [])
+looks_past header passes all p took i looked h over before =
     let look : Look = record { item = i; looked = looked } in
     record {
       each = each_push (λ (k : Look). IsLooked header p.chain.read.wholes p.chain.seen (item_at all k.item) k.looked) took look h.each (past_is header p.chain.read.wholes p.chain.seen (item_at all i) looked over);
       turns = pairs_push Before took look h.turns (each_weaken (λ (k : Look). k.item < i) (λ k. Before k look) took (λ k l. (l, past_follows (item_at all i) looked over k.looked)) before);
+      searched = searched_more passes p.chain.read.receipts p.chain.read.receipts [] took look h.searched (sym (append-nil p.chain.read.receipts)) (past_after passes (item_at all i) looked over);
       only = h.only;
     }
 

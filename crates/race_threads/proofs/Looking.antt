@@ -1,5 +1,5 @@
 -- What lookers told of a capture, with what the sections did, is a whole record.
-use Rattle.std.proofs.Common.{◌≡◌, ℕ, zero, suc, ◌+◌, ◌<◌, ◌≤◌, List, [], ◌∷◌, ◌++◌, length, map, refl, sym, ap, ◌∙◌, subst, arith, inl}
+use Rattle.std.proofs.Common.{◌≡◌, ℕ, zero, suc, ◌+◌, ◌<◌, ◌≤◌, List, [], ◌∷◌, ◌++◌, length, map, false, refl, sym, ap, ◌∙◌, subst, arith, inl}
 use Rattle.std.specs.List.{flat_map, range_with_len}
 use Rattle.std.specs.Global.{Box}
 use mathlib.Core.Logic.{dite}
@@ -19,15 +19,18 @@ use Rattle.capture_reader.specs.declared.packet.Item.TheVariants as items
 use Rattle.capture_reader.specs.Captures.{Capture}
 use Rattle.flat_list.specs.declared.header.Header.{Header}
 use Rattle.flat_list.specs.Script.{Script}
+use Rattle.flat_list.specs.declared.command.Command.{Command}
 use Rattle.table_rule.specs.Alone.{mine}
-use Rattle.table_rule.specs.Explained.{IsWholeExplained}
+use Rattle.table_rule.specs.Explained.{IsExplained, IsWholeExplained}
 use Rattle.table_rule.specs.Plays.{seeing}
 use Rattle.table_rule.specs.declared.view.Layout.{Layout}
+use Rattle.table_rule.specs.declared.view.Receipt.{Receipt as Search}
 use Rattle.table_rule.specs.declared.view.View.{View}
 use Rattle.table_rule.specs.declared.view.Whole.{Whole}
 use Rattle.race_book.specs.Among.{Among}
 use Rattle.race_book.proofs.AmongLemmas.{among_left, among_right}
 use Rattle.race_book.proofs.Endings.{each_of}
+use Rattle.race_book.proofs.Joined.{each_flat}
 use Rattle.race_record.specs.Record.{Race}
 use Rattle.race_record.specs.Lawful.{Lawful, IsReceiptOf, Answers, AreAnswered, Follows, looked_at, AreTakenInTurn, AreSharesOf}
 use Rattle.race_record.specs.declared.record.Looked.{Looked}
@@ -41,7 +44,7 @@ use Rattle.race_threads.specs.Sections.{layout_in}
 use Rattle.race_threads.proofs.Closing.{closes, good, each_there}
 use Rattle.race_threads.proofs.FromRaw.{explained, place_of}
 use Rattle.race_threads.proofs.Reaped.{reaped as reaped_all}
-use Rattle.race_threads.proofs.Weights.{each_flat, among_flat, same_each, flipped}
+use Rattle.race_threads.proofs.Weights.{among_flat, same_each, flipped}
 
 -- the numbers below n
 among_below : (n i : ℕ) → i < n → Among (numbers_below n) i
@@ -106,7 +109,7 @@ module _ (script : Script) (capture : Capture) (part : ℕ → Part) (tooks : Li
   Tells k = looked_at looked k.item ≡ k.looked
 
   -- of each looker
-  right_all : (n : ℕ) (rest : List (List Look)) → AllLooked header capture.items part n rest → Each (λ took. Each Tells took) rest → Each (λ m. Among e.order m × ((part m).chain.seen ≤ x.seen)) (range_with_len n (length rest))
+  right_all : (n : ℕ) (rest : List (List Look)) → AllLooked header passes capture.items part n rest → Each (λ took. Each Tells took) rest → Each (λ m. Among e.order m × ((part m).chain.seen ≤ x.seen)) (range_with_len n (length rest))
       → Each (λ took. Each IsRight (map item_of took)) rest
   right_all n [] a t h = tt
   right_all n (took ∷ rest) a t h = (
@@ -117,7 +120,7 @@ module _ (script : Script) (capture : Capture) (part : ℕ → Part) (tooks : Li
     right_all (n + 1) rest a.1 t.1 h.1,
   )
 
-  turn_all : (n : ℕ) (rest : List (List Look)) → AllLooked header capture.items part n rest → Each (λ took. Each Tells took) rest → Each (AreTakenInTurn looked) (map (λ took. map item_of took) rest)
+  turn_all : (n : ℕ) (rest : List (List Look)) → AllLooked header passes capture.items part n rest → Each (λ took. Each Tells took) rest → Each (AreTakenInTurn looked) (map (λ took. map item_of took) rest)
   turn_all n [] a t = tt
   turn_all n (took ∷ rest) a t = (
     record {
@@ -130,7 +133,7 @@ module _ (script : Script) (capture : Capture) (part : ℕ → Part) (tooks : Li
     turn_all (n + 1) rest a.1 t.1,
   )
 
-  module _ (all : AllLooked header capture.items part (length script.sections + 1) tooks) where
+  module _ (all : AllLooked header passes capture.items part (length script.sections + 1) tooks) where
     there_all : Each (λ m. Among e.order m × ((part m).chain.seen ≤ x.seen)) (range_with_len (length script.sections + 1) (length tooks))
     there_all = each_there header script.sections part (length tooks) v x values says clock (looks_by passes tooks looked capture) e
 
@@ -176,3 +179,17 @@ module _ (script : Script) (capture : Capture) (part : ℕ → Part) (tooks : Li
           },
           c.1,
         )
+
+-- The searches of lookers are explained
+
+pub searches_explained : (header : Header) (scripts : List (List Command)) (part : ℕ → Part) (lookers : ℕ) (v : BindView) (x : View) (values : List (Box Bucket)) (says : List Said) (clock : ℕ)
+    → HasEnded header scripts part lookers v x values says clock
+    → Each (λ m. (s : Search) → Among (part m).chain.read.receipts s → IsExplained (mine (seeing x clock)) header.shape.slots s) (range_with_len (length scripts + 1) lookers)
+searches_explained header scripts part lookers v x values says clock e =
+    each_weaken (λ m. Among e.order m × ((part m).chain.seen ≤ x.seen)) (λ m. (s : Search) → Among (part m).chain.read.receipts s → IsExplained (mine (seeing x clock)) header.shape.slots s) (range_with_len (length scripts + 1) lookers)
+    (λ m there s h.
+    let y : View = seeing x clock in
+    let a : Among y.read.receipts s = subst (λ (l : List Search). Among l s) (sym e.joined.receipts) (among_flat (λ n. (part n).chain.read.receipts) e.order m s there.0 h) in
+    let p = place_of y.read.receipts s a in
+    subst (λ (l : Layout). IsExplained (mine y) l.shape.slots s) e.layout ((e.whole.book e.whole.parts e.whole.opened).3 p.0 s p.1))
+    (each_there header scripts part lookers v x values says clock (record { lookers = 0; passes = 0; looked = []; shares = []; cut = false }) e)

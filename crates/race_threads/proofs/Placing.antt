@@ -1,7 +1,7 @@
 -- Answers that are put at their items' places.
-use Rattle.std.proofs.Common.{◌≡◌, ◌≢◌, ℕ, zero, suc, ◌+◌, ◌<◌, ◌≤◌, List, [], ◌∷◌, ◌++◌, length, map, take, drop, set, get_or, refl, sym, ap, ◌∙◌, subst, arith}
+use Rattle.std.proofs.Common.{◌≡◌, ◌≢◌, ℕ, suc, ◌+◌, ◌<◌, ◌≤◌, List, [], ◌∷◌, ◌++◌, length, map, take, drop, set, get_or, refl, sym, ap, ◌∙◌, subst, arith}
 use Rattle.std.specs.List.{flat_map}
-use Rattle.std.proofs.lemmas.List.{length-set, get_or-set_same, get_or-set_other}
+use Rattle.std.proofs.lemmas.List.{length-set, get_or-set_same, get_or-set_other, take_all}
 use Rattle.std.proofs.Math.Seq.{take-suc, take-append_seam}
 use Rattle.list_words.specs.Lists.{Each, Pairs, SameItems, total}
 use Rattle.turn_table.specs.Journals.{numbers_below}
@@ -13,9 +13,10 @@ use Rattle.race_threads.specs.declared.looker.Look.{Look}
 use Rattle.race_threads.specs.Finished.{told_in}
 use Rattle.race_threads.specs.Lookers.{item_of}
 use Rattle.race_threads.specs.Shares.{items_in, put_all}
-use Rattle.race_threads.proofs.Items.{each_unmap}
 use Rattle.race_threads.proofs.Running.{each_get}
-use Rattle.race_threads.proofs.Weights.{below_apart, below_inside, each_unflat, flat_push, map_flat}
+use Rattle.race_threads.proofs.Weights.{below_apart, below_inside, flat_push, map_flat}
+use Rattle.table_model.proofs.parts.Standing.{each_unmap}
+use Rattle.race_book.proofs.Joined.{each_unflat}
 
 pub put_len : (told : List Look) (l : List Looked) → length (put_all told l) ≡ length l
 put_len [] l = refl
@@ -42,13 +43,7 @@ put_there (k ∷ told) l p b = (
 
 apart_unmap : (told : List Look) → Pairs (λ (i j : ℕ). i ≢ j) (map item_of told) → Pairs Differs told
 apart_unmap [] h = tt
-apart_unmap (k ∷ told) h = (each_unmap item_of (λ j. k.item ≢ j) told h.0, apart_unmap told h.1)
-
-taken : {A : Type 0} (n : ℕ) (l : List A) → length l ≤ n → take n l ≡ l
-taken zero [] h = refl
-taken (suc n) [] h = refl
-taken zero (x ∷ xs) h = absurd (omega (arith, h))
-taken (suc n) (x ∷ xs) h = ap (λ l. x ∷ l) (taken n xs (omega (arith, h)))
+apart_unmap (k ∷ told) h = (each_unmap (λ j. k.item ≢ j) item_of told h.0, apart_unmap told h.1)
 
 -- one answer more
 pub put_step : (told : List Look) (l now : List Looked) (i : ℕ) (d : Look) → now ≡ put_all (take i told) l → i < length told → set now (get_or told i d).item (get_or told i d).looked ≡ put_all (take (i + 1) told) l
@@ -63,7 +58,7 @@ module _ (outs : List Outcome) (n : ℕ) (once : SameItems (flat_map items_in ou
   items_are f = ap (total f) (map_flat item_of told_in outs) ∙ once f
 
   inside : Each (λ k. item_of k < n) (flat_map told_in outs)
-  inside = each_unmap item_of (λ k. k < n) (flat_map told_in outs) (below_inside (map item_of (flat_map told_in outs)) n items_are)
+  inside = each_unmap (λ k. k < n) item_of (flat_map told_in outs) (below_inside (map item_of (flat_map told_in outs)) n items_are)
 
   pub all_inside : Each (λ o. Each (λ k. item_of k < n) (told_in o)) outs
   all_inside = each_unflat (λ k. item_of k < n) told_in outs inside
@@ -96,7 +91,7 @@ module _ (outs : List Outcome) (n : ℕ) (once : SameItems (flat_map items_in ou
   -- once all are put
   module _ (i : ℕ) (end : length outs ≤ i) (blank looked : List Looked) (len : length blank ≡ n) (is : looked ≡ put_all (flat_map told_in (take i outs)) blank) where
     is_all : looked ≡ put_all (flat_map told_in outs) blank
-    is_all = is ∙ ap (λ l. put_all (flat_map told_in l) blank) (taken i outs end)
+    is_all = is ∙ ap (λ l. put_all (flat_map told_in l) blank) (take_all i outs end)
 
     pub all_put : length looked ≡ n
     all_put = ap (λ (l : List Looked). length l) is_all ∙ put_len (flat_map told_in outs) blank ∙ len

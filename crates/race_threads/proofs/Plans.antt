@@ -26,10 +26,10 @@ use Rattle.table_model.proofs.commands.Asks.{FitsPort, AsksOnly, AnyDid, NamedBy
 use Rattle.table_model.proofs.parts.Own.{own_names}
 use Rattle.race_book.specs.Among.{Among}
 use Rattle.race_book.specs.Lives.{is_unhash}
+use Rattle.race_book.proofs.Joined.{each_flat}
 use Rattle.race_record.specs.Deeds.{Wish, Tried, Deed, hashed, kept_out, no_slot, inserted, added, reaped, changes_of, changes_in}
 use Rattle.race_record.specs.Goes.{Goes, Grants, Admits, IsReapOf}
 use Rattle.race_record.proofs.Asked.{Steps, all_so}
-use Rattle.race_threads.proofs.Weights.{each_flat}
 
 -- Lists
 

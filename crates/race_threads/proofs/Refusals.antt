@@ -19,15 +19,16 @@ use Rattle.table_rule.specs.declared.view.Seen.{Seen}
 use Rattle.shared_slots.specs.Claims.{Read, slot_in, owned_in, held_in as held_of, Between}
 use Rattle.shared_sockets.specs.Rows.{HasCard}
 use Rattle.race_book.specs.Among.{Among}
+use Rattle.race_book.proofs.Joined.{each_flat}
 use Rattle.race_record.specs.Deeds.{Taken, Vain}
 use Rattle.race_record.specs.Record.{Sighting}
 use Rattle.race_record.specs.Lawful.{WasKept, WasOwned, WasHeld, NoneWasFree}
-use Rattle.race_record.proofs.Drawn.{all_differ}
+use Rattle.race_record.proofs.Weights.{is, all_differ}
 use Rattle.race_threads.specs.Made.{SawKeeper, SawRead, SawNone, IsBy, held_by}
 use Rattle.race_threads.specs.Races.{IsWhole, book_of, held_in}
 use Rattle.race_threads.proofs.CardsTold.{found_seen, same_told}
 use Rattle.race_threads.proofs.FromRaw.{AreGood, each_at, seen_life}
-use Rattle.race_threads.proofs.Weights.{is, same_total, same_each_of, each_flat, weigh_map, among_flat}
+use Rattle.race_threads.proofs.Weights.{same_total, same_each_of, weigh_map, among_flat}
 
 -- Slots that were read
 

@@ -40,11 +40,9 @@ use Rattle.race_threads.specs.Sections.{Makes, IsShown, EndsBefore, HasDone, Has
 use Rattle.race_threads.proofs.Dumping.{Lasts, lasts, saw_as_moves, saw_step}
 use Rattle.race_threads.proofs.Leaving.{all_made}
 use Rattle.race_threads.proofs.Sightings.{each_by_place, keeper_moves, none_moves, ended_sees, all_loaded, any_sees, moves_both, same_sees, Moves, no_wait_moves}
+use Rattle.race_threads.proofs.Weights.{flat_push}
 
 -- One step more
-
-flat_push : {X A : Type 0} (f : X → List A) (xs : List X) (x : X) → flat_map f (xs ++ x ∷ []) ≡ flat_map f xs ++ f x
-flat_push f xs x = flat_map-append f xs (x ∷ []) ∙ ap (λ l. flat_map f xs ++ l) (append-nil (f x))
 
 deeds_more : (steps : List Step) (s : Step) → deeds_of (steps ++ s ∷ []) ≡ deeds_of steps ++ s.deeds
 deeds_more steps s = flat_push (λ (t : Step). t.deeds) steps s

@@ -17,5 +17,5 @@ module _ (header : Header) (t : Tables) (m : ℕ) (w : Worker) (fresh : IsFresh 
   may_look = record { rests = fresh.rest.rests; nothing = fresh.rest.nothing; part = let one = fresh.chain_part in omega (arith, one) }
 
   -- what the share tells
-  pub looked_of : (other : Header) → AreTables other t → (all : List Item) (n : Sat) (told : List Look) → TakesAll t.chains all (me w.chain.pass.steps) n told → HasLooked other all (looking (turned w) n.0) told
-  looked_of other are all n told takes = takes other (turned w) are.layout (record { mine = fresh.nothing.mine; closed = fresh.nothing.closed; lost = fresh.nothing.lost })
+  pub looked_of : (other : Header) → AreTables other t → (passes : ℕ) (all : List Item) (n : Sat) (told : List Look) → TakesAll t.chains passes all (me w.chain.pass.steps) n told → HasLooked other passes all (looking (turned w) n.0) told
+  looked_of other are passes all n told takes = takes other (turned w) are.layout (record { only = record { mine = fresh.nothing.mine; closed = fresh.nothing.closed; lost = fresh.nothing.lost }; receipts = fresh.nothing.receipts })

@@ -1,6 +1,6 @@
 -- Jobs that have ended are taken in, the last one first.
 use Rattle.std.proofs.Common.{inl, inr, ◌⊎◌, length-append, ◌≡◌, ℕ, zero, suc, ◌+◌, ◌-◌, ◌<◌, ◌≤◌, List, [], ◌∷◌, ◌++◌, length, take, drop, reverse, get_or, Result, Ok, Err, IfOk, alloc_error, refl, sym, ap, ◌∙◌, subst, arith}
-use Rattle.std.proofs.lemmas.List.{get_or_push, reverse-append}
+use Rattle.std.proofs.lemmas.List.{get_or_push, reverse-append, length_push}
 use Rattle.std.proofs.Math.Seq.{drop-cons}
 use Rattle.std.specs.List.{flat_map, range_with_len}
 use mathlib.Core.Logic.{dite}
@@ -110,8 +110,4 @@ module _ (done left new : List (Result Job AllocError)) (x : Result Job AllocErr
 
 -- one outcome more
 pub one_more : (given all : List Outcome) (x : Outcome) → all ≡ given ++ x ∷ [] → length all ≡ length given + 1
-one_more given all x is = ap length is ∙ longer given x
-  where
-    longer : (l : List Outcome) (x : Outcome) → length (l ++ x ∷ []) ≡ length l + 1
-    longer [] x = refl
-    longer (y ∷ l) x = omega (arith, longer l x)
+one_more given all x is = ap length is ∙ length_push given x

@@ -30,7 +30,8 @@ use Rattle.race_threads.specs.Said.{Said, replied_in}
 use Rattle.race_threads.specs.Scripts.{IsForRace}
 use Rattle.race_threads.specs.Told.{IsToldOf}
 use Rattle.race_threads.proofs.Looking.{looks_too}
-use Rattle.race_threads.proofs.Weights.{each_unflat, map_flat}
+use Rattle.race_threads.proofs.Weights.{map_flat}
+use Rattle.race_book.proofs.Joined.{each_unflat}
 
 counts_are : (bs : List (Box Bucket)) → map count_in bs ≡ map length (map notes_in bs)
 counts_are [] = refl
@@ -45,11 +46,11 @@ flat_of_all [] = refl
 flat_of_all (s ∷ says) = ap (λ l. s.replies ++ l) (flat_of_all says)
 
 -- the items of which the outcomes tell are those of the capture, each once
-pub items_once : (script : Script) (capture : Capture) (lookers : ℕ) (e : Ended) → HasFinished script capture.items lookers e → SameItems (flat_map items_in e.outcomes.items) (numbers_below (length capture.items))
-items_once script capture lookers e h f =
+pub items_once : (script : Script) (passes : ℕ) (capture : Capture) (lookers : ℕ) (e : Ended) → HasFinished script passes capture.items lookers e → SameItems (flat_map items_in e.outcomes.items) (numbers_below (length capture.items))
+items_once script passes capture lookers e h f =
     ap (total f) (sym (map_flat item_of told_in e.outcomes.items) ∙ ap (map item_of) h.tells ∙ map_flat item_of (λ (took : List Look). took) h.tooks) ∙ h.once f
 
-module _ (script : Script) (capture : Capture) (lookers passes : ℕ) (e : Ended) (looked : List Looked) (fits : IsForRace script) (h : HasFinished script capture.items lookers e)
+module _ (script : Script) (capture : Capture) (lookers passes : ℕ) (e : Ended) (looked : List Looked) (fits : IsForRace script) (h : HasFinished script passes capture.items lookers e)
     (many : length looked ≡ length capture.items) (there : Each (λ k. looked_at looked k.item ≡ k.looked) (flat_map told_in e.outcomes.items)) where
   abbrev race : Race
   race = race_by script.header (looks_by passes h.tooks looked capture) (steps_by script.header h.part 1 script.sections h.says h.ended.done) e.buckets.items (seeing h.chain e.clock) e.clock

@@ -1,34 +1,24 @@
 -- Lists that are made of parts, and what their items weigh.
 use Rattle.std.proofs.Common.{◌≢◌, reverse, ◌≡◌, ℕ, zero, suc, ◌+◌, ◌<◌, ◌≤◌, ◌==◌, Bool, true, false, cond, List, [], ◌∷◌, ◌++◌, map, refl, sym, ap, ◌∙◌, subst, arith, inl, inr}
 use Rattle.std.specs.List.{flat_map, range_with_len}
-use Rattle.std.proofs.lemmas.Bool.{eqb-true, eq-eqb, ne_eqb}
+use Rattle.std.proofs.lemmas.Bool.{eqb-true}
 use Rattle.std.proofs.lemmas.List.{append-nil, map-append, reverse-append}
-use mathlib.Core.Logic.{dite}
-use native.Mathlib.Decide.{ℕ_discrete}
 use Rattle.std.proofs.lemmas.Grind.{flat_map-append}
 use Rattle.list_words.specs.Lists.{Each, Pairs, total, SameItems}
-use Rattle.list_words.proofs.EachLemmas.{each_append, each_push, each_weaken}
+use Rattle.list_words.proofs.EachLemmas.{each_push, each_weaken}
 use Rattle.list_words.proofs.TotalLemmas.{total-append}
 use Rattle.table_rule.specs.Lists as slots
 use Rattle.turn_table.specs.Journals.{numbers_below}
 use Rattle.race_book.specs.Among.{Among}
 use Rattle.race_book.proofs.AmongLemmas.{among_left, among_right}
 use Rattle.race_book.proofs.Endings.{each_of, to_each}
+use Rattle.race_record.proofs.Weights.{total_flat, is, is_self, all_differ, once}
 
 pub flat_push : {X A : Type 0} (f : X → List A) (xs : List X) (x : X) → flat_map f (xs ++ x ∷ []) ≡ flat_map f xs ++ f x
 flat_push f xs x = flat_map-append f xs (x ∷ []) ∙ ap (λ l. flat_map f xs ++ l) (append-nil (f x))
 
 pub total_push : {A : Type 0} (f : A → ℕ) (xs : List A) (x : A) → total f (xs ++ x ∷ []) ≡ total f xs + f x
 total_push f xs x = omega (arith, total-append f xs (x ∷ []))
-
--- a list that is made of parts weighs what they weigh
-pub total_flat : {X A : Type 0} (f : A → ℕ) (g : X → List A) (xs : List X) → total f (flat_map g xs) ≡ total (λ x. total f (g x)) xs
-total_flat f g [] = refl
-total_flat f g (x ∷ xs) = omega (arith, total-append f (g x) (flat_map g xs), total_flat f g xs)
-
-pub each_flat : {X A : Type 0} (P : A → Type 0) (g : X → List A) (xs : List X) → Each (λ x. Each P (g x)) xs → Each P (flat_map g xs)
-each_flat P g [] h = tt
-each_flat P g (x ∷ xs) h = each_append P (g x) (flat_map g xs) h.0 (each_flat P g xs h.1)
 
 pub map_flat : {X A B : Type 0} (f : A → B) (g : X → List A) (xs : List X) → map f (flat_map g xs) ≡ flat_map (λ x. map f (g x)) xs
 map_flat f g [] = refl
@@ -38,13 +28,6 @@ pub among_flat : {X A : Type 0} (g : X → List A) (xs : List X) (x : X) (a : A)
 among_flat g [] x a h k = absurd h
 among_flat g (y ∷ ys) x a (inl e) k = among_left a (g y) (flat_map g ys) (subst (λ z. Among (g z) a) e k)
 among_flat g (y ∷ ys) x a (inr b) k = among_right a (g y) (flat_map g ys) (among_flat g ys x a b k)
-
--- each of the one list is among the other
-abbrev pub is : ℕ → ℕ → ℕ
-is n m = cond (m == n) 1 0
-
-is_self : (n : ℕ) → is n n ≡ 1
-is_self n = ap {B = ℕ} (λ (b : Bool). cond b 1 0) (eq-eqb n n refl)
 
 weighs : (n : ℕ) (xs : List ℕ) → Among xs n → 1 ≤ total (is n) xs
 weighs n [] a = absurd a
@@ -93,39 +76,10 @@ flat_back_weighs f g xs = total_flat f g (reverse xs) ∙ back_weighs (λ x. tot
     back_weighs h [] = refl
     back_weighs h (x ∷ xs) = ap (total h) (reverse-append (x ∷ []) xs) ∙ omega (arith, total_push h (reverse xs) x, back_weighs h xs)
 
--- a fact of each of the parts
-pub each_unflat : {X A : Type 0} (P : A → Type 0) (g : X → List A) (xs : List X) → Each P (flat_map g xs) → Each (λ x. Each P (g x)) xs
-each_unflat P g [] h = tt
-each_unflat P g (x ∷ xs) h = let b = parted P (g x) (flat_map g xs) h in (b.0, each_unflat P g xs b.1)
-  where
-    parted : {A : Type 0} (P : A → Type 0) (xs ys : List A) → Each P (xs ++ ys) → Each P xs × Each P ys
-    parted P [] ys h = (tt, h)
-    parted P (x ∷ xs) ys h = let b = parted P xs ys h.1 in ((h.0, b.0), b.1)
-
 -- numbers that are those below a bound, each once
 
-is_other : (n m : ℕ) → m ≢ n → is n m ≡ 0
-is_other n m ne = ap {B = ℕ} (λ (b : Bool). cond b 1 0) (ne_eqb m n ne)
-
-below_none : (n m : ℕ) → m ≤ n → total (is n) (numbers_below m) ≡ 0
-below_none n zero l = refl
-below_none n (suc m) l = omega (arith, total_push (is n) (numbers_below m) m, below_none n m (omega (arith, l)), is_other n m (λ e. absurd (omega (arith, l, e))))
-
-below_once : (n m : ℕ) → total (is n) (numbers_below m) ≤ 1
-below_once n zero = omega arith
-below_once n (suc m) = dite (ℕ_discrete m n)
-    (λ e. omega (arith, total_push (is n) (numbers_below m) m, below_none n m (omega (arith, e)), ap (is n) e, is_self n))
-    (λ ne. omega (arith, total_push (is n) (numbers_below m) m, below_once n m, is_other n m ne))
-
-once_apart : (xs : List ℕ) → ((n : ℕ) → total (is n) xs ≤ 1) → Pairs (λ (i j : ℕ). i ≢ j) xs
-once_apart [] h = tt
-once_apart (x ∷ xs) h = (
-  to_each (λ j. x ≢ j) xs (λ j a e. absurd (omega (arith, h x, is_self x, weighs x xs (subst (Among xs) (sym e) a)))),
-  once_apart xs (λ n. omega (arith, h n)),
-)
-
 pub below_apart : (xs : List ℕ) (n : ℕ) → SameItems xs (numbers_below n) → Pairs (λ (i j : ℕ). i ≢ j) xs
-below_apart xs n s = once_apart xs (λ k. omega (arith, s (is k), below_once k n))
+below_apart xs n s = all_differ xs (λ k. omega (arith, s (is k), once k n))
 
 below_each : (n : ℕ) → Each (λ k. k < n) (numbers_below n)
 below_each zero = tt

@@ -1,5 +1,6 @@
 -- A job, by the script.
-use Rattle.std.proofs.Common.{◌≡◌, ℕ, zero, suc, ◌+◌, ◌<◌, ◌≤◌, ◌^◌, List, [], ◌∷◌, length, map, get_or, refl, sym, ap, ◌∙◌, subst, arith}
+use Rattle.std.proofs.Common.{◌≡◌, ℕ, zero, suc, ◌+◌, ◌<◌, ◌≤◌, ◌^◌, List, [], ◌∷◌, length, map, get_or, sym, ap, ◌∙◌, subst, arith}
+use Rattle.std.proofs.lemmas.List.{length-map}
 use Rattle.capture_reader.specs.declared.packet.Item.{Item}
 use Rattle.flat_list.specs.Script.{Script}
 use Rattle.flat_list.specs.declared.command.Command.{Command}
@@ -23,16 +24,12 @@ get_map f [] i x e l is = absurd (omega (arith, l))
 get_map f (y ∷ ys) zero x e l is = ap f (sym is)
 get_map f (y ∷ ys) (suc i) x e l is = get_map f ys i x e (omega (arith, l)) is
 
-len_map : {A B : Type 0} (f : A → B) (xs : List A) → length (map f xs) ≡ length xs
-len_map f [] = refl
-len_map f (x ∷ xs) = omega (arith, len_map f xs)
-
 -- the commands at a place
 pub commands_at : {A : Type 0} (f : A → List Command) (script : Script) (xs : List A) (i : ℕ) (x : A) → map f xs ≡ script.sections → i < length xs → x ≡ get_or xs i x → f x ≡ get_or script.sections i []
 commands_at f script xs i x all l is = sym (ap (λ (l : List (List Command)). get_or l i []) (sym all) ∙ get_map f xs i x [] l is)
 
 pub count_is : {A : Type 0} (f : A → List Command) (script : Script) (xs : List A) → map f xs ≡ script.sections → length xs ≡ length script.sections
-count_is f script xs all = sym (len_map f xs) ∙ ap (λ (l : List (List Command)). length l) all
+count_is f script xs all = sym (length-map xs f) ∙ ap (λ (l : List (List Command)). length l) all
 
 pub few_in : (script : Script) (i : ℕ) (commands : List Command) → IsForRace script → i < length script.sections → commands ≡ get_or script.sections i [] → length commands < 2 ^ 24
 few_in script i commands fits l is = subst (λ (cs : List Command). length cs < 2 ^ 24) (sym is) (each_get (λ (cs : List Command). length cs < 2 ^ 24) script.sections i [] fits.small.commands l)
@@ -40,11 +37,11 @@ few_in script i commands fits l is = subst (λ (cs : List Command). length cs < 
 pub looks_in : (script : Script) (i : ℕ) (commands : List Command) → IsForRace script → i < length script.sections → commands ≡ get_or script.sections i [] → LooksNothingUp commands
 looks_in script i commands fits l is = subst LooksNothingUp (sym is) (each_get LooksNothingUp script.sections i [] fits.looks l)
 
-module _ (script : Script) (all : List Item) (t : Tables) (q : Tickets) (n : ℕ) (j : Job) (over : IsOver t q j) where
-  pub worked_section : n < length script.sections → HasRun script.header (n + 1) (get_or script.sections n []) j → IsWorked script all t q n j
+module _ (script : Script) (passes : ℕ) (all : List Item) (t : Tables) (q : Tickets) (n : ℕ) (j : Job) (over : IsOver t q j) where
+  pub worked_section : n < length script.sections → HasRun script.header (n + 1) (get_or script.sections n []) j → IsWorked script passes all t q n j
   worked_section l run = record { over = over; section = λ l. run; looker = λ le. absurd (omega (arith, l, le)) }
 
-  pub worked_looker : length script.sections ≤ n → HasShared script.header all j → IsWorked script all t q n j
+  pub worked_looker : length script.sections ≤ n → HasShared script.header passes all j → IsWorked script passes all t q n j
   worked_looker le share = record { over = over; section = λ l. absurd (omega (arith, l, le)); looker = λ le. share }
 
 -- who drew nothing has told of nothing

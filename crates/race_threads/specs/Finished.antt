@@ -32,9 +32,9 @@ listings_in o = o.listings.items
 abbrev pub told_in : Outcome → List Look
 told_in o = o.told.items
 
--- This is what the script's sections and so many lookers of these items left: the chain pass into which all others
--- were joined, with all changes, the buckets, and what came of each job.
-pub record HasFinished (script : Script) (all : List Item) (lookers : ℕ) (e : Ended) : Type 0 where
+-- This is what the script's sections and so many lookers of these items, with so many passes a lookup, left: the chain
+-- pass into which all others were joined, with all changes, the buckets, and what came of each job.
+pub record HasFinished (script : Script) (passes : ℕ) (all : List Item) (lookers : ℕ) (e : Ended) : Type 0 where
   pub part : ℕ → Part
   pub turns : BindView
   pub chain : View
@@ -43,7 +43,7 @@ pub record HasFinished (script : Script) (all : List Item) (lookers : ℕ) (e : 
   pub sees : known e.chain.pass ≡ seeing chain e.clock
   pub kept : are_kept e.chain.pass.changes ≡ true
   pub ended : HasEnded script.header script.sections part (length tooks) turns chain e.buckets.items says e.clock
-  pub looked : AllLooked script.header all part (length script.sections + 1) tooks
+  pub looked : AllLooked script.header passes all part (length script.sections + 1) tooks
   pub lookers_are : length tooks ≡ lookers
   pub once : SameItems (flat_map (λ took. map item_of took) tooks) (numbers_below (length all))
   pub replied : flat_map replies_in e.outcomes.items ≡ flat_map replied_in says

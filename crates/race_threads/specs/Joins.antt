@@ -17,6 +17,7 @@ pub record Joined (part : ℕ → Part) (order : List ℕ) (v : BindView) (x : V
   pub lost : x.book.lost ≡ flat_map (λ m. (part m).chain.book.lost) order
   pub sights : x.sights ≡ flat_map (λ m. (part m).chain.sights) order
   pub wholes : x.read.wholes ≡ flat_map (λ m. (part m).chain.read.wholes) order
+  pub receipts : x.read.receipts ≡ flat_map (λ m. (part m).chain.read.receipts) order
   pub taken : x.slot.taken ≡ total (λ m. (part m).chain.slot.taken) order
   pub seen : Each (λ m. (part m).chain.seen ≤ x.seen) order
 
@@ -27,4 +28,5 @@ pub record IsBlank (v : BindView) (x : View) : Type 0 where
   pub lost : x.book.lost ≡ []
   pub sights : x.sights ≡ []
   pub wholes : x.read.wholes ≡ []
+  pub receipts : x.read.receipts ≡ []
   pub taken : x.slot.taken ≡ 0

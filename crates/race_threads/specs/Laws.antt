@@ -1,5 +1,6 @@
 -- Laws of what workers did: our own.
 use Rattle.std.specs.Prelude.{◌≡◌, ℕ, ◌+◌, List, [], ◌∷◌, ◌++◌, length}
+use Rattle.std.specs.List.{range_with_len}
 use Rattle.std.specs.Global.{Box}
 use Rattle.list_words.specs.Lists.{Each}
 use Rattle.turn_table.specs.Views.{joined}
@@ -17,8 +18,11 @@ use Rattle.flat_list.specs.declared.command.Command.{Command}
 use Rattle.flat_list.specs.declared.command.Reply.{Reply}
 use Rattle.socket_list.specs.Listing.{Listing}
 use Rattle.table_model.specs.Own.{Own, new_own}
+use Rattle.table_rule.specs.Alone.{mine}
+use Rattle.table_rule.specs.Explained.{IsExplained}
 use Rattle.table_rule.specs.Plays.{Sat, both, seeing}
 use Rattle.table_rule.specs.declared.view.Layout.{Layout}
+use Rattle.table_rule.specs.declared.view.Receipt.{Receipt as Search}
 use Rattle.table_rule.specs.declared.view.Whole.{Whole}
 use Rattle.table_rule.specs.declared.view.View.{View}
 use Rattle.reuseport_group.specs.declared.pass.GroupPasses.{GroupPasses}
@@ -35,10 +39,11 @@ use Rattle.section_machine.specs.Sections.{Did}
 use Rattle.race_threads.specs.declared.looker.Look.{Look}
 use Rattle.race_threads.specs.Dumped.{Listed}
 use Rattle.race_threads.specs.Joins.{Part, Joined, IsBlank}
-use Rattle.race_threads.specs.Lookers.{item_at, HasLooked, LookedUp, looking, AllBefore, IsPassedOver, AllLooked, AreTold, looks_by}
+use Rattle.race_threads.specs.Lookers.{item_at, HasLooked, LookedUp, HasLookedNothingUp, looking, AllBefore, IsPassedOver, AllLooked, AreTold, looks_by}
 use Rattle.race_threads.specs.Made.{MadeAll, Loads, loaded}
-use Rattle.race_threads.specs.Races.{HasEnded, HasOnlyLooked, Looks, AreFew, AllReaped, IsLawfulBut, SaysSo, race_by, steps_by}
+use Rattle.race_threads.specs.Races.{HasEnded, Looks, AreFew, AllReaped, IsLawfulBut, SaysSo, race_by, steps_by}
 use Rattle.race_threads.specs.Said.{Said, said_as, saying}
+use Rattle.race_threads.specs.Searches.{AnswersAfter}
 use Rattle.race_threads.specs.Sections.{HasDone, HasNothing}
 
 -- deeds one after the other leave what all of them make
@@ -47,7 +52,8 @@ AllMade = (deeds : List Deed) (c d : Side) → AllLeave deeds c d → MadeAll de
 
 -- a section begins
 abbrev pub Begins : Type 0
-Begins = (header : Header) (n : ℕ) (v : BindView) (c : Side) → HasNothing header n v c → HasDone header n [] (new_own header n) v c (said_as [] [])
+Begins = (header : Header) (n : ℕ) (v : BindView) (c : Side) → HasNothing header n v c
+    → HasDone header n [] (new_own header n) v c (said_as [] [])
 
 -- one command more, what it listed, and a load of the clock
 abbrev pub OneMore : Type 0
@@ -90,36 +96,62 @@ Closes =
 -- a pass's receipts are what came of the items, and with what the sections did that is a whole record
 abbrev pub LooksToo : Type 0
 LooksToo =
-    (script : Script) (capture : Capture) (part : ℕ → Part) (tooks : List (List Look)) (looked : List Looked) (passes : ℕ)
+    (script : Script) (capture : Capture) (part : ℕ → Part) (tooks : List (List Look)) (looked : List Looked)
+    (passes : ℕ)
     (v : BindView) (x : View) (values : List (Box Bucket)) (says : List Said) (clock : ℕ)
     → (e : HasEnded script.header script.sections part (length tooks) v x values says clock)
-    → AllLooked script.header capture.items part (length script.sections + 1) tooks → AreTold capture.items tooks looked
+    → AllLooked script.header passes capture.items part (length script.sections + 1) tooks
+    → AreTold capture.items tooks looked
     → Each AreFew script.sections
-    → let race = race_by script.header (looks_by passes tooks looked capture) (steps_by script.header part 1 script.sections says e.done) values (seeing x clock) clock in
+    → let race = race_by script.header (looks_by passes tooks looked capture)
+    (steps_by script.header part 1 script.sections says e.done) values (seeing x clock) clock in
     Lawful script capture race × SaysSo race says
 
 -- a looker begins
 abbrev pub LooksNone : Type 0
-LooksNone = (header : Header) (all : List Item) (p : Part) → HasOnlyLooked p → HasLooked header all p []
+LooksNone =
+    (header : Header) (passes : ℕ) (all : List Item) (p : Part) → HasLookedNothingUp p
+    → HasLooked header passes all p []
 
 -- it looks one packet up
 abbrev pub LooksMore : Type 0
 LooksMore =
-    (header : Header) (all : List Item) (v : BindView) (took : List Look) (i : ℕ) (packet : Packet) (m n : Sat) (r : Receipt)
-    → HasLooked header all (looking v m.0) took → item_at all i ≡ items.Packet packet → AllBefore i took
-    → LookedUp header packet m n r
-    → HasLooked header all (looking v n.0) (took ++ record { item = i; looked = looks.Answered r } ∷ [])
+    (header : Header) (passes : ℕ) (all : List Item) (v : BindView) (took : List Look) (i : ℕ) (packet : Packet)
+    (m n : Sat) (r : Receipt)
+    → HasLooked header passes all (looking v m.0) took → item_at all i ≡ items.Packet packet → AllBefore i took
+    → LookedUp header passes packet m n r
+    → HasLooked header passes all (looking v n.0) (took ++ record { item = i; looked = looks.Answered r } ∷ [])
 
 -- it passes over an item
 abbrev pub LooksPast : Type 0
 LooksPast =
-    (header : Header) (all : List Item) (p : Part) (took : List Look) (i : ℕ) (looked : Looked)
-    → HasLooked header all p took → IsPassedOver (item_at all i) looked → AllBefore i took
-    → HasLooked header all p (took ++ record { item = i; looked = looked } ∷ [])
+    (header : Header) (passes : ℕ) (all : List Item) (p : Part) (took : List Look) (i : ℕ) (looked : Looked)
+    → HasLooked header passes all p took → IsPassedOver (item_at all i) looked → AllBefore i took
+    → HasLooked header passes all p (took ++ record { item = i; looked = looked } ∷ [])
+
+-- once all are joined, all changes explain each search of a looker: so each pass of one that was given up met a change
+abbrev pub SearchesMeetChanges : Type 0
+SearchesMeetChanges =
+    (header : Header) (scripts : List (List Command)) (part : ℕ → Part) (lookers : ℕ) (v : BindView) (x : View)
+    (values : List (Box Bucket)) (says : List Said) (clock : ℕ)
+    → HasEnded header scripts part lookers v x values says clock
+    → Each (λ m. (s : Search) → Among (part m).chain.read.receipts s
+    → IsExplained (mine (seeing x clock)) header.shape.slots s) (range_with_len (length scripts + 1) lookers)
 
 -- a lookup that was given up names one of the buckets through which it went
 abbrev pub NamesBuckets : Type 0
 NamesBuckets =
-    (slots groups : ℕ) (layout : Layout) (packet : Packet) (passes : ℕ) (m : Sat) (p p' : GroupPasses) (end : PacketAnswer)
+    (slots groups : ℕ) (layout : Layout) (packet : Packet) (passes : ℕ) (m : Sat) (p p' : GroupPasses)
+    (end : PacketAnswer)
     (from : ℕ) (c : Whole) (n : Sat)
     → ByOrder slots groups layout packet passes m p end p' from c n → NamesItsBucket layout.shape layout.seed packet end
+
+-- the searches by which a lookup went, whose receipts its pass has then; where it was given up, it was after so many
+-- passes
+abbrev pub GivesUpAfter : Type 0
+GivesUpAfter =
+    (slots groups : ℕ) (layout : Layout) (packet : Packet) (passes : ℕ) (m : Sat) (p p' : GroupPasses)
+    (end : PacketAnswer) (from : ℕ) (c : Whole) (n : Sat)
+    → ByOrder slots groups layout packet passes m p end p' from c n
+    → (searches : List Search) × (n.0.read.receipts ≡ m.0.read.receipts ++ searches)
+    × AnswersAfter passes searches packet end

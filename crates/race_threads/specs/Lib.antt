@@ -5,6 +5,7 @@ pub mod Dumped
 pub mod Sections
 pub mod Joins
 pub mod Races
+pub mod Searches
 pub mod Lookers
 pub mod Looking
 pub mod Workers

@@ -1,5 +1,5 @@
 -- What lookers told of the items of a capture, by the receipts of their passes: our own.
-use Rattle.std.specs.Prelude.{◌≡◌, ℕ, ◌+◌, ◌<◌, ◌≤◌, List, [], ◌∷◌, length, map}
+use Rattle.std.specs.Prelude.{◌≡◌, ℕ, ◌+◌, ◌<◌, ◌≤◌, List, [], ◌∷◌, ◌++◌, length, map}
 use Rattle.std.specs.List.{flat_map, slice_index_or}
 use Rattle.list_words.specs.Lists.{Each, Pairs, SameItems}
 use Rattle.turn_table.specs.Journals.{numbers_below}
@@ -15,6 +15,7 @@ use Rattle.capture_reader.specs.Captures.{Capture}
 use Rattle.flat_list.specs.declared.header.Header.{Header}
 use Rattle.table_rule.specs.Plays.{Sat}
 use Rattle.table_rule.specs.Wholes.{whole_of}
+use Rattle.table_rule.specs.declared.view.Receipt.{Receipt as Search}
 use Rattle.table_rule.specs.declared.view.View.{View}
 use Rattle.table_rule.specs.declared.view.Whole.{Whole}
 use Rattle.race_book.specs.Among.{Among}
@@ -26,6 +27,7 @@ use Rattle.shared_demux.specs.Concludes.{Concluded}
 use Rattle.race_threads.specs.declared.looker.Look.{Look}
 use Rattle.race_threads.specs.Joins.{Part}
 use Rattle.race_threads.specs.Races.{HasOnlyLooked, Looks}
+use Rattle.race_threads.specs.Searches.{HasSearched, LooksAfter}
 
 -- a packet's receipt, as a pass keeps it
 abbrev pub whole_for : Receipt → Whole
@@ -63,16 +65,23 @@ item_of k = k.item
 abbrev pub Before : Look → Look → Type 0
 Before k later = (k.item < later.item) × Follows k.looked later.looked
 
--- a looker looked these items up, and did nothing else
-pub record HasLooked (header : Header) (all : List Item) (p : Part) (took : List Look) : Type 0 where
+-- a looker looked these items up, with so many passes a lookup, and did nothing else
+pub record HasLooked (header : Header) (passes : ℕ) (all : List Item) (p : Part) (took : List Look) : Type 0 where
   pub each : Each (λ (k : Look). IsLooked header p.chain.read.wholes p.chain.seen (item_at all k.item) k.looked) took
   pub turns : Pairs Before took
+  pub searched : HasSearched passes p.chain.read.receipts took
   pub only : HasOnlyLooked p
 
+-- it has looked nothing up yet
+pub record HasLookedNothingUp (p : Part) : Type 0 where
+  pub only : HasOnlyLooked p
+  pub receipts : p.chain.read.receipts ≡ []
+
 -- so did all lookers, of which the first has that number
-abbrev pub AllLooked : Header → List Item → (ℕ → Part) → ℕ → List (List Look) → Type 0
-AllLooked header all part n [] = Unit {0}
-AllLooked header all part n (took ∷ rest) = HasLooked header all (part n) took × AllLooked header all part (n + 1) rest
+abbrev pub AllLooked : Header → (passes : ℕ) → List Item → (ℕ → Part) → ℕ → List (List Look) → Type 0
+AllLooked header passes all part n [] = Unit {0}
+AllLooked header passes all part n (took ∷ rest) =
+    HasLooked header passes all (part n) took × AllLooked header passes all part (n + 1) rest
 
 -- each item was taken once, and what is told of it is what came of it
 pub record AreTold (all : List Item) (tooks : List (List Look)) (looked : List Looked) : Type 0 where
@@ -91,8 +100,9 @@ looks_by passes tooks looked capture =
       cut = capture.cut;
     }
 
--- a packet was looked up: nothing else is left than one receipt of it more
-pub record LookedUp (header : Header) (packet : Packet) (m n : Sat) (r : Receipt) : Type 0 where
+-- a packet was looked up, with so many passes: nothing else is left than one receipt of it more, and those of the
+-- searches by which it went
+pub record LookedUp (header : Header) (passes : ℕ) (packet : Packet) (m n : Sat) (r : Receipt) : Type 0 where
   pub concluded : Concluded m (whole_for r) n
   pub packet_is : r.packet ≡ packet
   pub seed_is : r.seed ≡ header.seed
@@ -100,6 +110,9 @@ pub record LookedUp (header : Header) (packet : Packet) (m n : Sat) (r : Receipt
   pub order : r.t0 ≤ r.t1
   pub told : IsTold r.answer
   pub bucket : NamesItsBucket header.shape header.seed packet r.answer
+  pub searches : List Search
+  pub searched : n.0.read.receipts ≡ m.0.read.receipts ++ searches
+  pub after : LooksAfter passes searches (looks.Answered r)
 
 -- the chains' view of a looker
 abbrev pub looking : BindView → View → Part

@@ -12,8 +12,7 @@ use Rattle.sock_card.specs.declared.card.Packet.{Packet}
 use Rattle.table_rule.specs.Passes.{known}
 use Rattle.table_rule.specs.Plays.{Sat}
 use Rattle.race_threads.specs.declared.looker.Look.{Look}
-use Rattle.race_threads.specs.Lookers.{item_at, AllBefore, HasLooked, LookedUp, looking}
-use Rattle.race_threads.specs.Races.{HasOnlyLooked}
+use Rattle.race_threads.specs.Lookers.{item_at, AllBefore, HasLooked, HasLookedNothingUp, LookedUp, looking}
 use Rattle.race_threads.specs.Sections.{layout_in}
 
 -- a pass of that table between two lookups
@@ -22,19 +21,20 @@ pub record MayLook (t : ChainTable) (p : ChainPass) : Type 0 where
   pub nothing : HoldsNothing (known p.pass)
   pub part : 0 < (known p.pass).slot.parts
 
--- a packet was looked up, whatever script the table is of
-abbrev pub LooksUp : ChainTable → Packet → Sat → Sat → Receipt → Type 0
-LooksUp t packet m n r = (header : Header) → t.layout ≡ layout_in header → LookedUp header packet m n r
+-- a packet was looked up with so many passes, whatever script the table is of
+abbrev pub LooksUp : ChainTable → (passes : ℕ) → Packet → Sat → Sat → Receipt → Type 0
+LooksUp t passes packet m n r = (header : Header) → t.layout ≡ layout_in header → LookedUp header passes packet m n r
 
 -- one item more was taken, of whatever capture, behind whatever was taken before
-abbrev pub TakesItem : ChainTable → Item → Sat → Sat → Looked → Type 0
-TakesItem t item m n looked =
+abbrev pub TakesItem : ChainTable → (passes : ℕ) → Item → Sat → Sat → Looked → Type 0
+TakesItem t passes item m n looked =
     (header : Header) (all : List Item) (v : BindView) (took : List Look) (i : ℕ)
-    → t.layout ≡ layout_in header → item_at all i ≡ item → AllBefore i took → HasLooked header all (looking v m.0) took
-    → HasLooked header all (looking v n.0) (took ++ record { item = i; looked = looked } ∷ [])
+    → t.layout ≡ layout_in header → item_at all i ≡ item → AllBefore i took
+    → HasLooked header passes all (looking v m.0) took
+    → HasLooked header passes all (looking v n.0) (took ++ record { item = i; looked = looked } ∷ [])
 
 -- all these were taken by a pass that had done nothing else
-abbrev pub TakesAll : ChainTable → List Item → Sat → Sat → List Look → Type 0
-TakesAll t all m n took =
-    (header : Header) (v : BindView) → t.layout ≡ layout_in header → HasOnlyLooked (looking v m.0)
-    → HasLooked header all (looking v n.0) took
+abbrev pub TakesAll : ChainTable → (passes : ℕ) → List Item → Sat → Sat → List Look → Type 0
+TakesAll t passes all m n took =
+    (header : Header) (v : BindView) → t.layout ≡ layout_in header → HasLookedNothingUp (looking v m.0)
+    → HasLooked header passes all (looking v n.0) took

@@ -48,7 +48,9 @@ AllDone header part n (cs ∷ scripts) (said ∷ says) =
 AllDone header part n _ _ = ⊥
 
 -- their steps
-abbrev pub steps_by : (header : Header) (part : ℕ → Part) (n : ℕ) (scripts : List (List Command)) (says : List Said) → AllDone header part n scripts says → List (List Step)
+abbrev pub steps_by :
+    (header : Header) (part : ℕ → Part) (n : ℕ) (scripts : List (List Command)) (says : List Said)
+    → AllDone header part n scripts says → List (List Step)
 steps_by header part n [] [] d = []
 steps_by header part n (cs ∷ scripts) (said ∷ says) d = d.0.done.steps ∷ steps_by header part (n + 1) scripts says d.1
 steps_by header part n [] (said ∷ says) d = []
@@ -62,7 +64,8 @@ pub record HasOnlyLooked (p : Part) : Type 0 where
 
 -- each section and so many lookers were joined to the first worker, each once, whose passes then came to an end: by
 -- the one the clock was loaded, and by the other the bind buckets were taken
-pub record HasEnded (header : Header) (scripts : List (List Command)) (part : ℕ → Part) (lookers : ℕ) (v : BindView) (x : View) (values : List (Box Bucket)) (says : List Said) (clock : ℕ) : Type 0 where
+pub record HasEnded (header : Header) (scripts : List (List Command)) (part : ℕ → Part) (lookers : ℕ) (v : BindView)
+    (x : View) (values : List (Box Bucket)) (says : List Said) (clock : ℕ) : Type 0 where
   pub order : List ℕ
   pub each_once : SameItems order (range_with_len 1 (length scripts + lookers))
   pub joined : Joined part order v x
@@ -81,7 +84,8 @@ pub record HasEnded (header : Header) (scripts : List (List Command)) (part : �
 abbrev pub AreReaped : Header → (Change → Type 0) → Own → List Command → List Step → Type 0
 AreReaped header In own (command ∷ cs) (step ∷ steps) =
     ReapsAll In own step.to command
-    × ((next : Own) → Goes (plan header own command) step.deeds (answers next step.reply) → AreReaped header In next cs steps)
+    × ((next : Own) → Goes (plan header own command) step.deeds (answers next step.reply)
+    → AreReaped header In next cs steps)
 AreReaped header In own _ _ = Unit {0}
 
 abbrev pub AllReaped : Header → (Change → Type 0) → ℕ → List (List Command) → List (List Step) → Type 0

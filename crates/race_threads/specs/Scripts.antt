@@ -19,4 +19,5 @@ pub record IsForRace (script : Script) : Type 0 where
 
 -- so is each small script that a text is by the grammar of a race
 abbrev pub ScriptsAreForRace : Type 0
-ScriptsAreForRace = (text : List ℕ) (script : Script) → IsScript modes.Race text script → IsSmall script → IsForRace script
+ScriptsAreForRace =
+    (text : List ℕ) (script : Script) → IsScript modes.Race text script → IsSmall script → IsForRace script

@@ -29,7 +29,8 @@ layout_in header = record { shape = header.shape; seed = header.seed }
 abbrev pub Makes : Header → Own → List Command → List Step → Own → Type 0
 Makes header own [] [] last = own ≡ last
 Makes header own (c ∷ cs) (s ∷ ss) last =
-    (next : Own) × (s.command ≡ c) × Goes (plan header own c) s.deeds (answers next s.reply) × Makes header next cs ss last
+    (next : Own) × (s.command ≡ c) × Goes (plan header own c) s.deeds (answers next s.reply)
+    × Makes header next cs ss last
 Makes header own _ _ last = ⊥
 
 -- what refused a step was seen between its numbers, and so was that what it sought was gone, and what it listed
@@ -47,7 +48,8 @@ abbrev pub EndsBefore : Step → Step → Type 0
 EndsBefore s later = s.to ≤ later.from
 
 -- a worker did these commands of section n from its beginning, and nothing else
-pub record HasDone (header : Header) (n : ℕ) (commands : List Command) (own : Own) (v : BindView) (c : Side) (s : Said) : Type 0 where
+pub record HasDone (header : Header) (n : ℕ) (commands : List Command) (own : Own) (v : BindView) (c : Side)
+    (s : Said) : Type 0 where
   pub layout : c.layout ≡ layout_in header
   pub few : c.view.seen < open-end
   pub steps : List Step
@@ -75,3 +77,4 @@ pub record HasNothing (header : Header) (n : ℕ) (v : BindView) (c : Side) : Ty
   pub closed : c.view.book.closed ≡ []
   pub lost : c.view.book.lost ≡ []
   pub wholes : c.view.read.wholes ≡ []
+  pub receipts : c.view.read.receipts ≡ []

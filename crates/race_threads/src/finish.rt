@@ -1,7 +1,7 @@
 //! The end of a race: all workers and passes are joined, the clock and the count of tickets are loaded, and the bind
 //! buckets are taken.
 
-ghost use Rattle.std.specs.Prelude.{◌≡◌, ◌+◌, ◌^◌, ◌<◌, length, IfOk};
+ghost use Rattle.std.specs.Prelude.{◌≡◌, ℕ, ◌+◌, ◌^◌, ◌<◌, length, IfOk};
 ghost use Rattle.race_threads.specs.Finished.{HasFinished};
 ghost use Rattle.race_threads.specs.Scripts.{IsForRace};
 ghost use Rattle.race_threads.specs.Shares.{IsFirstPass};
@@ -52,8 +52,12 @@ pub fn finish(
     requires count { length done.items ≡ length script.now.sections + lookers }
     requires first { IsFirst tables (length done.items) first }
     requires draws { IsFirstPass tickets.now (length done.items) draws }
-    requires worked { AllWorked script.now capture.now.items tables tickets.now (length done.items) done.items }
-    ensures { IfOk result (HasFinished script.now capture.now.items lookers) }
+    requires worked { (passes : ℕ)
+        × AllWorked script.now passes capture.now.items tables tickets.now (length done.items) done.items }
+    ensures { IfOk result
+        (λ ended. (passes : ℕ)
+        → AllWorked script.now passes capture.now.items tables tickets.now (length done.items) done.items
+        → HasFinished script.now passes capture.now.items lookers ended) }
 {
     let outcomes = gather(alloc, &tables, tickets, &mut first, &mut draws, done)?;
     let _count = tickets.count(&mut draws);

@@ -32,12 +32,18 @@ pub fn looks()
     ensures { law.LooksToo }
 {}
 
+/// All changes explain each search of a looker.
+pub fn searches()
+    ensures { law.SearchesMeetChanges }
+{}
+
 /// A looker, one item after the other.
 pub fn lookers()
     ensures none { law.LooksNone }
     ensures more { law.LooksMore }
     ensures past { law.LooksPast }
     ensures buckets { law.NamesBuckets }
+    ensures passes { law.GivesUpAfter }
 {}
 
 /// There can be a race of each small script that a text is by the grammar of a race.

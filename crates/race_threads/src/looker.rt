@@ -53,7 +53,7 @@ fn look_one<P: Pace>(
     ensures looks { MayLook table.now pass.new }
     ensures groups { IsPassOf groups.now group_passes.new }
     ensures part { (known pass.new.pass).slot.parts ≡ (known pass.old.pass).slot.parts }
-    ensures up { LooksUp table.now packet.now (me pass.old.pass.steps) (me pass.new.pass.steps) result }
+    ensures up { LooksUp table.now passes packet.now (me pass.old.pass.steps) (me pass.new.pass.steps) result }
 {
     let tables = Lookups {
         chains: &table.chains,
@@ -94,7 +94,7 @@ fn look_item<P: Pace>(
     ensures looks { MayLook table.now pass.new }
     ensures groups { IsPassOf groups.now group_passes.new }
     ensures part { (known pass.new.pass).slot.parts ≡ (known pass.old.pass).slot.parts }
-    ensures takes { TakesItem table.now item.now (me pass.old.pass.steps) (me pass.new.pass.steps) result }
+    ensures takes { TakesItem table.now passes item.now (me pass.old.pass.steps) (me pass.new.pass.steps) result }
 {
     match item {
         Item::Packet(packet) => Looked::Answered(look_one(
@@ -142,7 +142,7 @@ pub fn look_drawn<P: Pace, G: Gate>(
     ensures draws { IfOk result (λ told. HasTold tickets.now draws.new told.items) }
     ensures missed { IfOk result (λ told. HasMissed draws.new) }
     ensures takes { IfOk result
-        (λ told. TakesAll table.now items.now (me pass.old.pass.steps) (me pass.new.pass.steps) told.items) }
+        (λ told. TakesAll table.now passes items.now (me pass.old.pass.steps) (me pass.new.pass.steps) told.items) }
 {
     let mut told = Vec::new(alloc);
     while let Some(item) = tickets.next(draws) {

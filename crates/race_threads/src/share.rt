@@ -58,7 +58,7 @@ pub fn look_share<G: Gate>(
     ensures draws { IfOk result (λ told. HasTold tickets.now draws.new told.items) }
     ensures missed { IfOk result (λ told. HasMissed draws.new) }
     ensures looked { IfOk result (λ told. (header : Header) → AreTables header tables.now
-        → HasLooked header items.now (part_of worker.new) told.items) }
+        → HasLooked header passes items.now (part_of worker.new) told.items) }
 {
     let told = look_drawn(
         alloc,

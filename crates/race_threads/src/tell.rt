@@ -121,7 +121,7 @@ pub fn tell(
     ended: Ended,
 ) -> Result<Record, AllocError>
     requires script { IsForRace script.now }
-    requires ended { HasFinished script.now capture.now.items lookers ended }
+    requires ended { HasFinished script.now passes capture.now.items lookers ended }
     ensures { IfOk result (IsToldOf script.now capture.now lookers passes) }
 {
     let header = script.header();

@@ -44,7 +44,7 @@ pub fn run_all<R: Threads + Wait + Sync, G: Gate>(
     requires passes { 0 < passes }
     ensures count { IfOk result (λ done. length done.items ≡ length jobs.items) }
     ensures worked { IfOk result
-        (λ done. AllWorked script.now capture.now.items tables.now tickets.now (length jobs.items) done.items) }
+        (λ done. AllWorked script.now passes capture.now.items tables.now tickets.now (length jobs.items) done.items) }
 {
     let run = |job: Job| -> Result<Job, AllocError>
         requires { AreTables script.now.header tables.now × IsForRace script.now
@@ -52,7 +52,7 @@ pub fn run_all<R: Threads + Wait + Sync, G: Gate>(
             × IsReady script.now.header tables.now tickets.now job.number job
             × (job.number < 2 ^ 13) × (0 < passes) }
         ensures { IfOk result
-            (IsWorked script.entry.now capture.entry.now.items tables.entry.now tickets.entry.now job.number) }
+            (IsWorked script.entry.now passes capture.entry.now.items tables.entry.now tickets.entry.now job.number) }
     {
         work(
             rt, alloc, seed, tables, tickets, script, capture, passes, gate, job,

@@ -43,7 +43,7 @@ pub fn work<R: Wait, G: Gate>(
     requires ready { IsReady script.now.header tables.now tickets.now job.number job }
     requires few { job.number < 2 ^ 13 }
     requires passes { 0 < passes }
-    ensures { IfOk result (IsWorked script.now capture.now.items tables.now tickets.now job.number) }
+    ensures { IfOk result (IsWorked script.now passes capture.now.items tables.now tickets.now job.number) }
 {
     let Job {
         mut worker,

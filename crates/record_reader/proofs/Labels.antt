@@ -9,7 +9,7 @@ halves bytes sixteen =
     let whole : take 8 (drop 8 bytes) ≡ drop 8 bytes = take_all 8 (drop 8 bytes) (omega (arith, length-drop 8 bytes)) in
     ap (λ t. take 8 bytes ++ t) whole ∙ take-append-drop 8 bytes
 
-sixteen : (label : List ℕ) → length label ≤ 16 → length (padded label) ≡ 16
+pub sixteen : (label : List ℕ) → length label ≤ 16 → length (padded label) ≡ 16
 sixteen label few =
     length-append label (replicate (16 - length label) 0) ∙ ap (λ m. length label + m) (length-replicate (16 - length label) 0) ∙ omega arith
 

@@ -237,11 +237,6 @@ reply_told words a b r s =
     let rest : r.rest ≡ s.rest = cc in
     r.told ∙ ap tells_vain rest ∙ sym s.told
 
--- the first word of a command's line is of digits, and that of no other line is
-abbrev pub IsReplyLine : Line → Type 0
-IsReplyLine (lines.Reply vain) = Unit {0}
-IsReplyLine _ = ⊥
-
 pub reply_alone : (words : List (List ℕ)) (a : Bool) (k : Line) → IsReply words a → HasForm words k → lines.Reply a ≡ k
 reply_alone words a (lines.Reply b) r h = ap lines.Reply (reply_told words a b r h)
 reply_alone words a k r h =

@@ -1,6 +1,6 @@
 -- Lines that are read one after the other.
 use Rattle.std.proofs.Common.{◌≡◌, ℕ, zero, suc, ◌+◌, ◌-◌, ◌<◌, ◌≤◌, List, [], ◌∷◌, ◌++◌, length, length-append, take, drop, Option, Some, None, slice_get, IsTrue, true, false, refl, sym, ap, subst, ◌∙◌, arith, add-one, length-drop}
-use Rattle.std.proofs.lemmas.List.{take-append-drop}
+use Rattle.std.proofs.lemmas.List.{take-append-drop, take-take}
 use Rattle.std.proofs.lemmas.List.Splits.{length-slice_split}
 use Rattle.record_reader.specs.declared.line.Line.{Line}
 use Rattle.record_reader.specs.Words.{is_line_feed, pieces_of, words_of}
@@ -85,18 +85,12 @@ order_take before zero all o = tt
 order_take before (suc n) [] o = tt
 order_take before (suc n) (l ∷ ls) o = (o.0, order_take (Some l) n ls o.1)
 
-take_fewer : {A : Type 0} (m n : ℕ) (xs : List A) → m ≤ n → take m (take n xs) ≡ take m xs
-take_fewer zero n xs h = refl
-take_fewer (suc m) zero xs h = absurd (omega arith)
-take_fewer (suc m) (suc n) [] h = refl
-take_fewer (suc m) (suc n) (x ∷ xs) h = ap (λ ys. x ∷ ys) (take_fewer m n xs (omega arith))
-
 -- fewer of the first lines may begin a record too
 pub begins_fewer : (m n : ℕ) (texts : List (List ℕ)) → m ≤ n → Begins (take n texts) → Begins (take m texts)
 begins_fewer m n texts h b = (
   take m b.0,
   record {
-    forms = subst (λ ts. HaveForms ts (take m b.0)) (take_fewer m n texts h) (forms_take m (take n texts) b.0 b.1.forms);
+    forms = subst (λ ts. HaveForms ts (take m b.0)) (take-take m n texts h) (forms_take m (take n texts) b.0 b.1.forms);
     order = order_take None m b.0 b.1.order;
   },
 )

@@ -1,11 +1,11 @@
 -- A line's kind is told by its first word.
-use Rattle.std.proofs.Common.{◌≡◌, ℕ, List, [], ◌∷◌, Bool, Option, Some, None, codes, refl, sym, subst, ap, arith, IfNone}
+use Rattle.std.proofs.Common.{◌≡◌, ℕ, List, ◌∷◌, Option, Some, None, codes, refl, sym, subst, ap, arith, IfNone}
 use Rattle.chain_book.specs.declared.shape.Shape.{Shape}
 use Rattle.record_reader.specs.declared.line.ItemLine.{ItemLine}
 use Rattle.record_reader.specs.declared.line.LifeLine.{LifeLine}
 use Rattle.record_reader.specs.declared.line.Line.{Line}
 use Rattle.record_reader.specs.declared.line.Line.TheVariants as lines
-use Rattle.record_reader.specs.Forms.{HasForm, IsReply, line_words}
+use Rattle.record_reader.specs.Forms.{HasForm, line_words}
 use Rattle.record_reader.proofs.Heads.{head_word, all_digits, heads_apart}
 
 -- what follows from what is asked where there is no value
@@ -68,17 +68,3 @@ module _ (words ws : List (List ℕ)) where
 
   pub clock_alone : words ≡ codes "clock" ∷ ws → ((n : ℕ) → HasForm (codes "clock" ∷ ws) (lines.Clock n) → ⊥) → (k : Line) → HasForm words k → ⊥
   clock_alone e none k h = clock_by ws none k (subst (λ t. HasForm t k) e h)
-
--- and words that begin with no verb, and aren't `cut`, are the line of a command
-pub reply_alone_left : (words : List (List ℕ)) → ((rest : List (List ℕ)) → words ≡ codes "life" ∷ rest → ⊥) → ((rest : List (List ℕ)) → words ≡ codes "packet" ∷ rest → ⊥)
-    → ((rest : List (List ℕ)) → words ≡ codes "race" ∷ rest → ⊥) → ((rest : List (List ℕ)) → words ≡ codes "shape" ∷ rest → ⊥)
-    → ((rest : List (List ℕ)) → words ≡ codes "journal" ∷ rest → ⊥) → ((rest : List (List ℕ)) → words ≡ codes "clock" ∷ rest → ⊥)
-    → (words ≡ codes "cut" ∷ [] → ⊥) → ((vain : Bool) → IsReply words vain → ⊥) → (k : Line) → HasForm words k → ⊥
-reply_alone_left words life packet race shape journal clock cut reply (lines.Race m n) h = race _ h.0
-reply_alone_left words life packet race shape journal clock cut reply (lines.Shape s n) h = shape _ h.0
-reply_alone_left words life packet race shape journal clock cut reply (lines.Reply vain) h = reply vain h
-reply_alone_left words life packet race shape journal clock cut reply (lines.Journal m n) h = journal _ h.0
-reply_alone_left words life packet race shape journal clock cut reply (lines.Life l) h = life _ h.0
-reply_alone_left words life packet race shape journal clock cut reply (lines.Packet n i) h = packet _ h.0
-reply_alone_left words life packet race shape journal clock cut reply lines.Cut h = cut h.0
-reply_alone_left words life packet race shape journal clock cut reply (lines.Clock n) h = clock _ h.0

@@ -32,8 +32,8 @@ HasOneRecord = (text : List ℕ) (a b : List Line) → IsRecord text a → IsRec
 abbrev pub HasOneVerdict : Type 0
 HasOneVerdict = (text : List ℕ) (a b : Verdict) → IsVerdict text a → IsVerdict text b → a ≡ b
 
--- what a race says that passes each test: its changes are serial, and have each number of the clock once, each
--- packet's line has its cause among them, and the clock counts them and the slots that were sought in vain
+-- what a race says that passes each test: its changes are serial, and no number of the clock stands in them twice,
+-- each packet's line has its cause among them, and the clock counts them and the slots that were sought in vain
 pub record IsSoundRace (p : Printed) : Type 0 where
   pub serial : IsSerial (Among (book_of p.lives.items)) p.shape p.seed
   pub once : StampsDiffer (book_of p.lives.items)

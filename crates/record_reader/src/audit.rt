@@ -62,7 +62,8 @@ fn line_of(why: Why, lines: &[Line], at: usize) -> u64
 
 /// What is said of a race that passes each test.
 fn yes(printed: &Printed) -> Verdict
-    ensures { result ≡ Verdict.Yes (length printed.now.lives.items) (length printed.now.packets.items) printed.now.clock }
+    ensures { result ≡ Verdict.Yes (length printed.now.lives.items)
+        (length printed.now.packets.items) printed.now.clock }
 {
     let lives = printed.lives.as_slice();
     let packets = printed.packets.as_slice();

@@ -70,7 +70,8 @@ fn is_only(word: &[u8], words: &[&[u8]]) -> bool
 /// A number from `least` to `most` as the first word, and the words after it.
 fn number_first<'a>(least: u64, most: u64, words: &'a [&'a [u8]]) -> Option<(u64, &'a [&'a [u8]])>
     ensures some { IfSome result (λ r. (texts words.now ≡ decimal r.0 ∷ texts r.1.now) × (least ≤ r.0) × (r.0 ≤ most)) }
-    ensures none { IfNone result ((n : ℕ) (rest : List (List ℕ)) → texts words.now ≡ decimal n ∷ rest → least ≤ n → n ≤ most → ⊥) }
+    ensures none { IfNone result ((n : ℕ) (rest : List (List ℕ)) → texts words.now ≡ decimal n ∷ rest → least ≤ n
+        → n ≤ most → ⊥) }
 {
     let (word, rest) = words.split_first()?;
     let n = number_of(word, least, most)?;
@@ -88,7 +89,8 @@ fn count_first<'a>(words: &'a [&'a [u8]]) -> Option<(u64, &'a [&'a [u8]])>
 /// That word and any number of 64 bits as the first words, and the words after them.
 fn count_after<'a>(first: &[u8], words: &'a [&'a [u8]]) -> Option<(u64, &'a [&'a [u8]])>
     ensures some { IfSome result (λ r. (texts words.now ≡ first.now ∷ decimal r.0 ∷ texts r.1.now) × Fits r.0) }
-    ensures none { IfNone result ((n : ℕ) (rest : List (List ℕ)) → texts words.now ≡ first.now ∷ decimal n ∷ rest → Fits n → ⊥) }
+    ensures none { IfNone result ((n : ℕ) (rest : List (List ℕ)) → texts words.now ≡ first.now ∷ decimal n ∷ rest
+        → Fits n → ⊥) }
 {
     count_first(after(first, words)?)
 }
@@ -115,7 +117,8 @@ fn two_counts(words: &[&[u8]]) -> Option<(u64, u64)>
 /// A power of two to `most` as the first word, and the words after it.
 fn power_first<'a>(most: u32, words: &'a [&'a [u8]]) -> Option<(u32, &'a [&'a [u8]])>
     ensures some { IfSome result (λ r. (texts words.now ≡ decimal r.0 ∷ texts r.1.now) × IsPowerTo most r.0) }
-    ensures none { IfNone result ((n : ℕ) (rest : List (List ℕ)) → texts words.now ≡ decimal n ∷ rest → IsPowerTo most n → ⊥) }
+    ensures none { IfNone result ((n : ℕ) (rest : List (List ℕ)) → texts words.now ≡ decimal n ∷ rest
+        → IsPowerTo most n → ⊥) }
 {
     let (n, rest) = number_first(1, u64::from(most), words)?;
     let n = n as u32;
@@ -127,8 +130,10 @@ fn power_first<'a>(most: u32, words: &'a [&'a [u8]]) -> Option<(u32, &'a [&'a [u
 
 /// An end as the first word, and the words after it.
 fn end_first<'a>(words: &'a [&'a [u8]]) -> Option<(u32, u16, &'a [&'a [u8]])>
-    ensures some { IfSome result (λ r. (texts words.now ≡ end_text r.0 r.1 ∷ texts r.2.now) × (r.0 < 2 ^ 32) × (r.1 < 2 ^ 16)) }
-    ensures none { IfNone result ((addr port : ℕ) (rest : List (List ℕ)) → texts words.now ≡ end_text addr port ∷ rest → addr < 2 ^ 32 → port < 2 ^ 16 → ⊥) }
+    ensures some { IfSome result (λ r. (texts words.now ≡ end_text r.0 r.1 ∷ texts r.2.now) × (r.0 < 2 ^ 32)
+        × (r.1 < 2 ^ 16)) }
+    ensures none { IfNone result ((addr port : ℕ) (rest : List (List ℕ)) → texts words.now ≡ end_text addr port ∷ rest
+        → addr < 2 ^ 32 → port < 2 ^ 16 → ⊥) }
 {
     let (word, rest) = words.split_first()?;
     let (addr, port) = get_end(word, 0)?;
@@ -137,8 +142,10 @@ fn end_first<'a>(words: &'a [&'a [u8]]) -> Option<(u32, u16, &'a [&'a [u8]])>
 
 /// That word and an end as the first words, and the words after them.
 fn end_after<'a>(first: &[u8], words: &'a [&'a [u8]]) -> Option<(u32, u16, &'a [&'a [u8]])>
-    ensures some { IfSome result (λ r. (texts words.now ≡ first.now ∷ end_text r.0 r.1 ∷ texts r.2.now) × (r.0 < 2 ^ 32) × (r.1 < 2 ^ 16)) }
-    ensures none { IfNone result ((addr port : ℕ) (rest : List (List ℕ)) → texts words.now ≡ first.now ∷ end_text addr port ∷ rest → addr < 2 ^ 32 → port < 2 ^ 16 → ⊥) }
+    ensures some { IfSome result (λ r. (texts words.now ≡ first.now ∷ end_text r.0 r.1 ∷ texts r.2.now)
+        × (r.0 < 2 ^ 32) × (r.1 < 2 ^ 16)) }
+    ensures none { IfNone result ((addr port : ℕ) (rest : List (List ℕ))
+        → texts words.now ≡ first.now ∷ end_text addr port ∷ rest → addr < 2 ^ 32 → port < 2 ^ 16 → ⊥) }
 {
     end_first(after(first, words)?)
 }
@@ -146,7 +153,8 @@ fn end_after<'a>(first: &[u8], words: &'a [&'a [u8]]) -> Option<(u32, u16, &'a [
 /// A name as the first word, and the words after it.
 fn name_first<'a>(words: &'a [&'a [u8]]) -> Option<(Name, &'a [&'a [u8]])>
     ensures some { IfSome result (λ r. (texts words.now ≡ name_text r.0 ∷ texts r.1.now) × NameFits r.0) }
-    ensures none { IfNone result ((name : Name) (rest : List (List ℕ)) → texts words.now ≡ name_text name ∷ rest → NameFits name → ⊥) }
+    ensures none { IfNone result ((name : Name) (rest : List (List ℕ)) → texts words.now ≡ name_text name ∷ rest
+        → NameFits name → ⊥) }
 {
     let (word, rest) = words.split_first()?;
     let name = name_from(word)?;
@@ -184,7 +192,8 @@ fn kind_first<'a>(words: &'a [&'a [u8]]) -> Option<(Kind, &'a [&'a [u8]])>
 /// A device as the first words, and the words after it.
 fn device_first<'a>(words: &'a [&'a [u8]]) -> Option<(u16, &'a [&'a [u8]])>
     ensures some { IfSome result (λ r. (texts words.now ≡ codes "dev" ∷ decimal r.0 ∷ texts r.1.now) × (r.0 < 2 ^ 16)) }
-    ensures none { IfNone result ((dev : ℕ) (rest : List (List ℕ)) → texts words.now ≡ codes "dev" ∷ decimal dev ∷ rest → dev < 2 ^ 16 → ⊥) }
+    ensures none { IfNone result ((dev : ℕ) (rest : List (List ℕ)) → texts words.now ≡ codes "dev" ∷ decimal dev ∷ rest
+        → dev < 2 ^ 16 → ⊥) }
 {
     let (dev, rest) = number_first(0, 65535, after(b"dev", words)?)?;
     Some((dev as u16, rest))
@@ -192,8 +201,10 @@ fn device_first<'a>(words: &'a [&'a [u8]]) -> Option<(u16, &'a [&'a [u8]])>
 
 /// The number behind `net`, from 1 to 15, as the first words, and the words after it.
 fn other_net_first<'a>(words: &'a [&'a [u8]]) -> Option<(u8, &'a [&'a [u8]])>
-    ensures some { IfSome result (λ r. (texts words.now ≡ codes "net" ∷ decimal r.0 ∷ texts r.1.now) × (1 ≤ r.0) × (r.0 < 16)) }
-    ensures none { IfNone result ((net : ℕ) (rest : List (List ℕ)) → texts words.now ≡ codes "net" ∷ decimal net ∷ rest → 1 ≤ net → net < 16 → ⊥) }
+    ensures some { IfSome result (λ r. (texts words.now ≡ codes "net" ∷ decimal r.0 ∷ texts r.1.now) × (1 ≤ r.0)
+        × (r.0 < 16)) }
+    ensures none { IfNone result ((net : ℕ) (rest : List (List ℕ)) → texts words.now ≡ codes "net" ∷ decimal net ∷ rest
+        → 1 ≤ net → net < 16 → ⊥) }
 {
     let (net, rest) = number_first(1, 15, after(b"net", words)?)?;
     Some((net as u8, rest))
@@ -205,7 +216,8 @@ fn net_first<'a>(words: &'a [&'a [u8]]) -> (u8, &'a [&'a [u8]])
     ensures fits { result.0 < 16 }
 
     // However they are read, the same words are left, if no `net` comes next.
-    ensures only { (net : ℕ) (rest : List (List ℕ)) → texts words.now ≡ net_words net ++ rest → net < 16 → slice_get rest 0 ≢ Some (codes "net") → rest ≡ texts result.1.now }
+    ensures only { (net : ℕ) (rest : List (List ℕ)) → texts words.now ≡ net_words net ++ rest → net < 16
+        → slice_get rest 0 ≢ Some (codes "net") → rest ≡ texts result.1.now }
 {
     match other_net_first(words) {
         Some((net, rest)) => (net, rest),
@@ -219,8 +231,11 @@ fn card_first<'a>(words: &'a [&'a [u8]]) -> Option<(Name, Card, &'a [&'a [u8]])>
     ensures fits { IfSome result (λ r. NameFits r.0 × CardFits r.1) }
 
     // However they are read, the same words are left, if no `net` comes next.
-    ensures only { IfSome result (λ r. (name : Name) (card : Card) (rest : List (List ℕ)) → texts words.now ≡ card_words name card ++ rest → CardFits card → slice_get rest 0 ≢ Some (codes "net") → rest ≡ texts r.2.now) }
-    ensures none { IfNone result ((name : Name) (card : Card) (rest : List (List ℕ)) → texts words.now ≡ card_words name card ++ rest → NameFits name → CardFits card → ⊥) }
+    ensures only { IfSome result (λ r. (name : Name) (card : Card) (rest : List (List ℕ))
+        → texts words.now ≡ card_words name card ++ rest → CardFits card → slice_get rest 0 ≢ Some (codes "net")
+        → rest ≡ texts r.2.now) }
+    ensures none { IfNone result ((name : Name) (card : Card) (rest : List (List ℕ))
+        → texts words.now ≡ card_words name card ++ rest → NameFits name → CardFits card → ⊥) }
 {
     let (kind, words) = kind_first(words)?;
     let (name, words) = name_first(words)?;
@@ -245,7 +260,8 @@ fn card_first<'a>(words: &'a [&'a [u8]]) -> Option<(Name, Card, &'a [&'a [u8]])>
 /// The span that two numbers as the only words tell.
 fn span_alone(words: &[&[u8]]) -> Option<Span>
     ensures some { IfSome result (λ s. (texts words.now ≡ decimal s.begin ∷ decimal s.end ∷ []) × SpanFits s) }
-    ensures none { IfNone result ((s : Span) → texts words.now ≡ decimal s.begin ∷ decimal s.end ∷ [] → SpanFits s → ⊥) }
+    ensures none { IfNone result ((s : Span) → texts words.now ≡ decimal s.begin ∷ decimal s.end ∷ [] → SpanFits s
+        → ⊥) }
 {
     let (begin, end) = two_counts(words)?;
     Some(Span { begin, end })
@@ -253,8 +269,10 @@ fn span_alone(words: &[&[u8]]) -> Option<Span>
 
 /// The span that two numbers as the first words tell, and the words after them.
 fn span_first<'a>(words: &'a [&'a [u8]]) -> Option<(Span, &'a [&'a [u8]])>
-    ensures some { IfSome result (λ r. (texts words.now ≡ decimal r.0.begin ∷ decimal r.0.end ∷ texts r.1.now) × SpanFits r.0) }
-    ensures none { IfNone result ((s : Span) (rest : List (List ℕ)) → texts words.now ≡ decimal s.begin ∷ decimal s.end ∷ rest → SpanFits s → ⊥) }
+    ensures some { IfSome result (λ r. (texts words.now ≡ decimal r.0.begin ∷ decimal r.0.end ∷ texts r.1.now)
+        × SpanFits r.0) }
+    ensures none { IfNone result ((s : Span) (rest : List (List ℕ))
+        → texts words.now ≡ decimal s.begin ∷ decimal s.end ∷ rest → SpanFits s → ⊥) }
 {
     let (begin, words) = count_first(words)?;
     let (end, words) = count_first(words)?;
@@ -264,7 +282,8 @@ fn span_first<'a>(words: &'a [&'a [u8]]) -> Option<(Span, &'a [&'a [u8]])>
 /// The unhash that the words after `unhash` tell: a dash stands for none.
 fn unhash_of(words: &[&[u8]]) -> Option<Option<Span>>
     ensures some { IfSome result (λ u. (codes "unhash" ∷ texts words.now ≡ spec.unhash_words u) × UnhashFits u) }
-    ensures none { IfNone result ((u : Option Span) → codes "unhash" ∷ texts words.now ≡ spec.unhash_words u → UnhashFits u → ⊥) }
+    ensures none { IfNone result ((u : Option Span) → codes "unhash" ∷ texts words.now ≡ spec.unhash_words u
+        → UnhashFits u → ⊥) }
 {
     if is_only(b"-", words) {
         return Some(None);
@@ -276,7 +295,8 @@ fn unhash_of(words: &[&[u8]]) -> Option<Option<Span>>
 /// When a card was hashed and unhashed.
 fn spans_of(words: &[&[u8]]) -> Option<(Span, Option<Span>)>
     ensures some { IfSome result (λ r. (texts words.now ≡ spec.span_words r.0 r.1) × SpanFits r.0 × UnhashFits r.1) }
-    ensures none { IfNone result ((s : Span) (u : Option Span) → texts words.now ≡ spec.span_words s u → SpanFits s → UnhashFits u → ⊥) }
+    ensures none { IfNone result ((s : Span) (u : Option Span) → texts words.now ≡ spec.span_words s u → SpanFits s
+        → UnhashFits u → ⊥) }
 {
     let (hash, words) = span_first(after(b"hash", words)?)?;
     let unhash = unhash_of(after(b"unhash", words)?)?;
@@ -305,8 +325,10 @@ fn life_of(words: &[&[u8]]) -> Option<LifeLine>
 /// How a lookup's last pass ended, as the first words, and the words after them.
 fn end_of_pass_first<'a>(words: &'a [&'a [u8]]) -> Option<(PrintedEnd, &'a [&'a [u8]])>
     ensures some { IfSome result (λ r. (texts words.now ≡ spec.end_words r.0 (texts r.1.now)) × spec.EndFits r.0) }
-    ensures only { IfSome result (λ r. (end : PrintedEnd) (rest : List (List ℕ)) → texts words.now ≡ spec.end_words end rest → rest ≡ texts r.1.now) }
-    ensures none { IfNone result ((end : PrintedEnd) (rest : List (List ℕ)) → texts words.now ≡ spec.end_words end rest → spec.EndFits end → ⊥) }
+    ensures only { IfSome result (λ r. (end : PrintedEnd) (rest : List (List ℕ))
+        → texts words.now ≡ spec.end_words end rest → rest ≡ texts r.1.now) }
+    ensures none { IfNone result ((end : PrintedEnd) (rest : List (List ℕ)) → texts words.now ≡ spec.end_words end rest
+        → spec.EndFits end → ⊥) }
 {
     let (word, rest) = words.split_first()?;
     let (number, rest) = count_first(rest)?;
@@ -326,9 +348,12 @@ fn end_of_pass_first<'a>(words: &'a [&'a [u8]]) -> Option<(PrintedEnd, &'a [&'a 
 
 /// What the words after `again` tell of a lookup that was given up, and the words after them.
 fn again_first<'a>(words: &'a [&'a [u8]]) -> Option<(Answer, &'a [&'a [u8]])>
-    ensures some { IfSome result (λ r. (codes "again" ∷ texts words.now ≡ answer_words r.0 (texts r.1.now)) × AnswerFits r.0) }
-    ensures only { IfSome result (λ r. (a : Answer) (rest : List (List ℕ)) → codes "again" ∷ texts words.now ≡ answer_words a rest → rest ≡ texts r.1.now) }
-    ensures none { IfNone result ((a : Answer) (rest : List (List ℕ)) → codes "again" ∷ texts words.now ≡ answer_words a rest → AnswerFits a → ⊥) }
+    ensures some { IfSome result (λ r. (codes "again" ∷ texts words.now ≡ answer_words r.0 (texts r.1.now))
+        × AnswerFits r.0) }
+    ensures only { IfSome result (λ r. (a : Answer) (rest : List (List ℕ))
+        → codes "again" ∷ texts words.now ≡ answer_words a rest → rest ≡ texts r.1.now) }
+    ensures none { IfNone result ((a : Answer) (rest : List (List ℕ))
+        → codes "again" ∷ texts words.now ≡ answer_words a rest → AnswerFits a → ⊥) }
 {
     let (end, words) = end_of_pass_first(words)?;
     let (bucket, words) = count_after(b"in", words)?;
@@ -338,8 +363,10 @@ fn again_first<'a>(words: &'a [&'a [u8]]) -> Option<(Answer, &'a [&'a [u8]])>
 /// The kind and the name of a found card as the first words, and the words after them.
 fn found_first<'a>(words: &'a [&'a [u8]]) -> Option<(Answer, &'a [&'a [u8]])>
     ensures some { IfSome result (λ r. (texts words.now ≡ answer_words r.0 (texts r.1.now)) × AnswerFits r.0) }
-    ensures only { IfSome result (λ r. (a : Answer) (rest : List (List ℕ)) → texts words.now ≡ answer_words a rest → rest ≡ texts r.1.now) }
-    ensures none { IfNone result ((kind : Kind) (name : Name) (rest : List (List ℕ)) → texts words.now ≡ kind_word kind ∷ name_text name ∷ rest → NameFits name → ⊥) }
+    ensures only { IfSome result (λ r. (a : Answer) (rest : List (List ℕ)) → texts words.now ≡ answer_words a rest
+        → rest ≡ texts r.1.now) }
+    ensures none { IfNone result ((kind : Kind) (name : Name) (rest : List (List ℕ))
+        → texts words.now ≡ kind_word kind ∷ name_text name ∷ rest → NameFits name → ⊥) }
 {
     let (kind, words) = kind_first(words)?;
     let (name, words) = name_first(words)?;
@@ -349,8 +376,10 @@ fn found_first<'a>(words: &'a [&'a [u8]]) -> Option<(Answer, &'a [&'a [u8]])>
 /// What a lookup answered as the first words, and the words after them.
 fn answer_first<'a>(words: &'a [&'a [u8]]) -> Option<(Answer, &'a [&'a [u8]])>
     ensures some { IfSome result (λ r. (texts words.now ≡ answer_words r.0 (texts r.1.now)) × AnswerFits r.0) }
-    ensures only { IfSome result (λ r. (a : Answer) (rest : List (List ℕ)) → texts words.now ≡ answer_words a rest → rest ≡ texts r.1.now) }
-    ensures none { IfNone result ((a : Answer) (rest : List (List ℕ)) → texts words.now ≡ answer_words a rest → AnswerFits a → ⊥) }
+    ensures only { IfSome result (λ r. (a : Answer) (rest : List (List ℕ)) → texts words.now ≡ answer_words a rest
+        → rest ≡ texts r.1.now) }
+    ensures none { IfNone result ((a : Answer) (rest : List (List ℕ)) → texts words.now ≡ answer_words a rest
+        → AnswerFits a → ⊥) }
 {
     if let Some(words) = after(b"none", words) {
         return Some((Answer::None, words));
@@ -418,7 +447,8 @@ fn item_of(words: &[&[u8]]) -> Option<ItemLine>
 /// The line of a packet that the words after `packet` are.
 fn packet_line_of(words: &[&[u8]]) -> Option<Line>
     ensures some { IfSome result (λ l. HasForm (codes "packet" ∷ texts words.now) l) }
-    ensures none { IfNone result ((n : ℕ) (i : ItemLine) → HasForm (codes "packet" ∷ texts words.now) (lines.Packet n i) → ⊥) }
+    ensures none { IfNone result ((n : ℕ) (i : ItemLine)
+        → HasForm (codes "packet" ∷ texts words.now) (lines.Packet n i) → ⊥) }
 {
     let (number, words) = count_first(words)?;
     let item = item_of(words)?;
@@ -437,8 +467,12 @@ fn race_of(words: &[&[u8]]) -> Option<Line>
 
 /// The shape of the tables as the first words, and the words after them.
 fn shape_first<'a>(words: &'a [&'a [u8]]) -> Option<(Shape, &'a [&'a [u8]])>
-    ensures some { IfSome result (λ r. (texts words.now ≡ decimal r.0.slots ∷ decimal r.0.bind ∷ decimal r.0.hash ∷ decimal r.0.listen ∷ texts r.1.now) × ShapeFits r.0) }
-    ensures none { IfNone result ((s : Shape) (rest : List (List ℕ)) → texts words.now ≡ decimal s.slots ∷ decimal s.bind ∷ decimal s.hash ∷ decimal s.listen ∷ rest → ShapeFits s → ⊥) }
+    ensures some { IfSome result (λ r.
+        (texts words.now ≡ decimal r.0.slots ∷ decimal r.0.bind ∷ decimal r.0.hash ∷ decimal r.0.listen
+        ∷ texts r.1.now) × ShapeFits r.0) }
+    ensures none { IfNone result ((s : Shape) (rest : List (List ℕ))
+        → texts words.now ≡ decimal s.slots ∷ decimal s.bind ∷ decimal s.hash ∷ decimal s.listen ∷ rest → ShapeFits s
+        → ⊥) }
 {
     let (slots, words) = number_first(1, 65536, words)?;
     let (bind, words) = power_first(256, words)?;
@@ -456,7 +490,8 @@ fn shape_first<'a>(words: &'a [&'a [u8]]) -> Option<(Shape, &'a [&'a [u8]])>
 /// The line of the tables' shape that the words after `shape` are.
 fn shape_of(words: &[&[u8]]) -> Option<Line>
     ensures some { IfSome result (λ l. HasForm (codes "shape" ∷ texts words.now) l) }
-    ensures none { IfNone result ((s : Shape) (n : ℕ) → HasForm (codes "shape" ∷ texts words.now) (lines.Shape s n) → ⊥) }
+    ensures none { IfNone result ((s : Shape) (n : ℕ) → HasForm (codes "shape" ∷ texts words.now) (lines.Shape s n)
+        → ⊥) }
 {
     let (shape, words) = shape_first(words)?;
     let words = after(b"seed", words)?;

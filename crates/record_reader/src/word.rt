@@ -29,7 +29,8 @@ fn place_of_line_feed(text: &[u8]) -> Option<usize>
 
 /// The line that a text begins with, without its line feed, and the text behind that. None where no line feed comes.
 pub fn line_first(text: &[u8]) -> Option<(&[u8], &[u8])>
-    ensures line { MatchOption result (pieces_of text.now ≡ text.now ∷ []) (λ r. pieces_of text.now ≡ r.0.now ∷ pieces_of r.1.now) }
+    ensures line { MatchOption result (pieces_of text.now ≡ text.now ∷ [])
+        (λ r. pieces_of text.now ≡ r.0.now ∷ pieces_of r.1.now) }
     ensures shorter { IfSome result (λ r. length r.1.now < length text.now) }
 {
     let end = place_of_line_feed(text)?;

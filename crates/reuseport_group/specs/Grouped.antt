@@ -27,4 +27,5 @@ pub record Grouped (n : ℕ) (s : State (Unit {0}) GroupView) : Type 0 where
   -- each store is one of some passes, and each once
   pub balance : (f : Stored → ℕ) → total f history ≡ total (λ (v : GroupView). total f v.mine) s.views
   pub knows : (k : ℕ) (v : GroupView) → get_elem? s.views k ≡ some v → Knows history v
-  pub sole : (k : ℕ) (v : GroupView) → get_elem? s.views k ≡ some v → v.sole ≡ true → (length s.views ≡ 1) × (history ≡ v.mine)
+  pub sole : (k : ℕ) (v : GroupView) → get_elem? s.views k ≡ some v → v.sole ≡ true → (length s.views ≡ 1)
+      × (history ≡ v.mine)

@@ -26,7 +26,8 @@ cut v = record v { parts = v.parts - 1; sole = false }
 
 -- after others were joined
 abbrev pub joined : GroupView → GroupView → GroupView
-joined v w = record { parts = v.parts + w.parts; sole = false; moments = v.moments ++ w.moments; mine = v.mine ++ w.mine }
+joined v w =
+    record { parts = v.parts + w.parts; sole = false; moments = v.moments ++ w.moments; mine = v.mine ++ w.mine }
 
 -- after they loaded a word at a moment
 abbrev pub looking : GroupView → List Stored → GroupView

@@ -43,7 +43,8 @@ list_at group (e ∷ es) = if (e.group == group) && (e.at == 0) then e.members e
 -- the stores of the first n members of a list, or of zeros in their place
 abbrev pub members_stored : ℕ → List ℕ → ℕ → List Stored
 members_stored group list zero = []
-members_stored group list (suc place) = record { group = group; at = suc place; members = list } ∷ members_stored group list place
+members_stored group list (suc place) =
+    record { group = group; at = suc place; members = list } ∷ members_stored group list place
 
 -- the stores of a whole list: its members, zeros after them, and last its count, as __reuseport_add_sock of
 -- net/core/sock_reuseport.c stores a member before it raises the count
@@ -68,11 +69,14 @@ WasPublished group list moment = (j : ℕ) → j ≤ most → Occurs record { gr
 
 -- it was stored by that moment at that place of that group, as the member there of some list
 abbrev pub WasMember : ℕ → ℕ → ℕ → List Stored → Type 0
-WasMember group place member moment = (list : List ℕ) × Occurs record { group = group; at = 1 + place; members = list } moment × (slice_get list place ≡ Some member)
+WasMember group place member moment =
+    (list : List ℕ) × Occurs record { group = group; at = 1 + place; members = list } moment
+    × (slice_get list place ≡ Some member)
 
 -- each member of that list was stored in that group by that moment, and zeros after them
 abbrev pub HasMembers : ℕ → List ℕ → List Stored → Type 0
-HasMembers group list moment = (place : ℕ) → place < most → Occurs record { group = group; at = suc place; members = list } moment
+HasMembers group list moment =
+    (place : ℕ) → place < most → Occurs record { group = group; at = suc place; members = list } moment
 
 -- no count was stored before the members of its list: smp_wmb in __reuseport_add_sock
 abbrev pub Ordered : List Stored → Type 0

@@ -90,7 +90,8 @@ impl Groups {
         requires group { group < words.groups self.now }
         requires few { length members.now ≤ most }
         ensures table { passes.new.seat.table_id ≡ passes.old.seat.table_id }
-        ensures view { known passes.new ≡ storing (known passes.old) (words.moments passes.new) (members_stored group members.now most) }
+        ensures view { known passes.new
+            ≡ storing (known passes.old) (words.moments passes.new) (members_stored group members.now most) }
         ensures later { Follows (words.moments passes.new) (words.moments passes.old) }
     {
         for i in 0..MOST {
@@ -110,7 +111,9 @@ impl Groups {
         requires few { length members.now ≤ most }
         requires members { HasMembers group members.now (words.stored passes.old) }
         ensures table { passes.new.seat.table_id ≡ passes.old.seat.table_id }
-        ensures view { known passes.new ≡ storing (known passes.old) (words.now passes.new ∷ []) (record { group = group; at = 0; members = members.now } ∷ []) }
+        ensures view { known passes.new
+            ≡ storing (known passes.old) (words.now passes.new ∷ [])
+            (record { group = group; at = 0; members = members.now } ∷ []) }
         ensures later { Each (NotBefore (words.now passes.new)) (words.moments passes.old) }
         ensures own { AllOccur (words.stored passes.new) (words.now passes.new) }
         ensures stands { list_at group (words.now passes.new) ≡ members.now }
@@ -128,7 +131,8 @@ impl Groups {
         requires group { group < words.groups self.now }
         requires few { length members.now ≤ most }
         ensures table { passes.new.seat.table_id ≡ passes.old.seat.table_id }
-        ensures view { known passes.new ≡ storing (known passes.old) (words.moments passes.new) (members_stored group members.now most) }
+        ensures view { known passes.new
+            ≡ storing (known passes.old) (words.moments passes.new) (members_stored group members.now most) }
         ensures later { Follows (words.moments passes.new) (words.moments passes.old) }
         ensures members { HasMembers group members.now (words.stored passes.new) }
         ensures apart { (known passes.old).sole ≡ false → IsPassOf self.now passes.new }
@@ -144,7 +148,9 @@ impl Groups {
         requires few { length members.now ≤ most }
         requires members { HasMembers group members.now (words.stored passes.old) }
         ensures table { passes.new.seat.table_id ≡ passes.old.seat.table_id }
-        ensures view { known passes.new ≡ storing (known passes.old) (words.now passes.new ∷ []) (record { group = group; at = 0; members = members.now } ∷ []) }
+        ensures view { known passes.new
+            ≡ storing (known passes.old) (words.now passes.new ∷ [])
+            (record { group = group; at = 0; members = members.now } ∷ []) }
         ensures later { Each (NotBefore (words.now passes.new)) (words.moments passes.old) }
         ensures own { AllOccur (words.stored passes.new) (words.now passes.new) }
         ensures stands { list_at group (words.now passes.new) ≡ members.now }
@@ -175,7 +181,8 @@ impl Groups {
         ensures stands { list_at group (words.now passes.new) ≡ members.now }
 
         ensures list { words.published passes.new group ≡ members.now }
-        ensures others { (other : ℕ) → other ≢ group → words.published passes.new other ≡ words.published passes.old other }
+        ensures others { (other : ℕ) → other ≢ group
+            → words.published passes.new other ≡ words.published passes.old other }
     {
         self.store_members(passes, group, members);
         self.store_count(passes, group, members);
@@ -204,10 +211,12 @@ impl Groups {
 
         // Of passes that were never split it is the plain choice of the list that they published last.
         ensures sole { IsSole passes.old → result ≡ present (pick (words.published passes.old group) hash) }
-        ensures pick { IsSole passes.old → AreMembers (words.published passes.old group) → result ≡ pick (words.published passes.old group) hash }
+        ensures pick { IsSole passes.old → AreMembers (words.published passes.old group)
+            → result ≡ pick (words.published passes.old group) hash }
 
         // What passes with all parts stored is all that was stored.
-        ensures whole { words.parts passes.old ≡ all_parts → SameItems (words.now passes.new) (words.stored passes.old) }
+        ensures whole { words.parts passes.old ≡ all_parts
+            → SameItems (words.now passes.new) (words.stored passes.old) }
     {
         let count = self.load(passes, group, 0);
         if count == 0 {

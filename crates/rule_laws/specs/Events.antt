@@ -37,7 +37,8 @@ EventsAreAll = (items : List Item) (commands : List Issued) → AreAll (events_f
 -- there are as many replies as events
 abbrev pub RepliesAreAll : Type 0
 RepliesAreAll =
-    (script : Script) (items : List Item) → length (flat_replies script items) ≡ length (events_from items (issued script))
+    (script : Script) (items : List Item)
+    → length (flat_replies script items) ≡ length (events_from items (issued script))
 
 abbrev pub asks_list : Issued → Bool
 asks_list c = is_dump c.command

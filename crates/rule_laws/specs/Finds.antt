@@ -24,4 +24,5 @@ abbrev pub FindsTheBest : Type 0
 FindsTheBest =
     (flat : Flat) (packet : Packet) → IsSound flat
     → let cards : List Card = cards_of flat.groups flat.sockets in
-    MatchOption (look packet flat.header.seed flat.sockets flat.groups) (NoneMatches packet cards) (IsBestOf packet cards)
+    MatchOption (look packet flat.header.seed flat.sockets flat.groups) (NoneMatches packet cards)
+    (IsBestOf packet cards)

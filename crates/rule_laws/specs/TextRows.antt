@@ -111,7 +111,8 @@ first_section =
     ∷ commands.Listen (codes "Z")
     ∷ commands.Connect (codes "Z") (Some 0x0A000001) (record { addr = 0x0A000002; port = 0 })
     ∷ commands.Accept (codes "Z") (codes "y") (record { addr = 0; port = 1 }) (record { addr = 0x0A000001; port = 80 })
-    ∷ commands.Syn (codes "Z") (codes "x") (record { addr = 4294967295; port = 65535 }) (record { addr = 0x0A000001; port = 80 })
+    ∷ commands.Syn (codes "Z") (codes "x") (record { addr = 4294967295; port = 65535 })
+    (record { addr = 0x0A000001; port = 80 })
     ∷ commands.Ack (codes "x") (codes "w")
     ∷ commands.Close (codes "y")
     ∷ commands.Drop (codes "Z")
@@ -122,7 +123,12 @@ second_section =
     commands.Socket (codes "Z") no_options
     ∷ commands.At 4294967295
     ∷ commands.Reap
-    ∷ commands.Look (record { from = (record { addr = 0x0A000002; port = 5 }); to = (record { addr = 0x0A000001; port = 80 }); dev = Some 1; net = Some 0 })
+    ∷ commands.Look (record {
+      from = (record { addr = 0x0A000002; port = 5 });
+      to = (record { addr = 0x0A000001; port = 80 });
+      dev = Some 1;
+      net = Some 0;
+    })
     ∷ commands.Packets 1000000
     ∷ commands.Dump
     ∷ []

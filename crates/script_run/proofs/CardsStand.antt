@@ -1,5 +1,5 @@
 -- The cards of the list are those that stand in the chains, each at home.
-use Rattle.std.proofs.Common.{◌≡◌, ℕ, ◌+◌, zero, suc, Bool, true, false, ◌||◌, List, [], ◌∷◌, get_or, refl, sym, ap, ◌∙◌, subst, arith}
+use Rattle.std.proofs.Common.{◌≡◌, ℕ, zero, suc, Bool, true, false, ◌||◌, List, [], ◌∷◌, get_or, refl, sym, ap, ◌∙◌, subst}
 use Rattle.std.specs.List.{list_any}
 use Rattle.std.proofs.lemmas.Bool.{or_left, or_right}
 use Rattle.list_words.specs.Lists.{total}
@@ -11,12 +11,9 @@ use Rattle.flat_list.specs.Look.{cards_of}
 use Rattle.table_model.specs.Means.{ChainsMean, weigh_cards}
 use Rattle.table_model.proofs.lists.Passing.{Weighs, ind, any_weighs, same_answer}
 use Rattle.table_model.proofs.lists.Rows.{weigh}
+use Rattle.table_model.proofs.parts.MemberPlaces.{weighs_or}
 use Rattle.list_words.proofs.Items.{In, each_in, any_in, any_item}
 use Rattle.script_run.proofs.CardsSame.{is_card, card_is, card_itself}
-
-weighs_or : (b c : Bool) (n m : ℕ) → Weighs b n → Weighs c m → Weighs (b || c) (n + m)
-weighs_or true c n m h k = (λ e. omega (arith, h.0 refl), λ e. absurd (cc))
-weighs_or false c n m h k = (λ e. omega (arith, k.0 e), λ e. omega (arith, h.1 refl, k.1 e))
 
 module _ {A : Type 0} (p : A → Bool) where
   rows_weigh : (rows : List (List A)) → Weighs (list_any (λ row. list_any p row) rows) (weigh (ind p) rows)

@@ -1,5 +1,5 @@
 -- What the steps of a run leave: our own. No public contract cites this file.
-use Rattle.std.specs.Prelude.{◌≡◌, ℕ, ◌+◌, ◌-◌, ◌*◌, ◌^◌, ◌≤◌, List, ◌++◌, map, length, None, find}
+use Rattle.std.specs.Prelude.{◌≡◌, ℕ, ◌+◌, ◌-◌, ◌*◌, ◌^◌, ◌≤◌, List, ◌++◌, map, None, find}
 use Rattle.capture_reader.specs.declared.packet.Item.{Item}
 use Rattle.flat_list.specs.declared.header.Header.{Header}
 use Rattle.flat_list.specs.declared.command.Command.{Command}
@@ -58,7 +58,8 @@ ListsFor t command before out =
 
 -- From whatever list the tables and the section's own meant, the command was run: what is shown of the replies to it
 -- and to the items that it comes to, and what it lists, is the list's, and what the list leaves is meant now.
-pub record RunsOne (number : ℕ) (flat : Flat) (command : Command) (items left : List Item) (before out : Replies) (own : Own) (new : Tables) : Type 0 where
+pub record RunsOne (number : ℕ) (flat : Flat) (command : Command) (items left : List Item) (before out : Replies)
+    (own : Own) (new : Tables) : Type 0 where
   pub runs : RunsCommand flat (step flat number command).flat number command items left before out
   pub means : Means number own new (step flat number command).flat
 
@@ -77,7 +78,8 @@ pub record StartsAt (header : Header) (n : ℕ) (t : Tables) (flat : Flat) : Typ
 
 -- section n was run from that list on: what was shown and listed is the list's, and the tables mean what the list has
 -- become
-pub record RanSection (header : Header) (n : ℕ) (t : Tables) (first : Flat) (commands : List Command) (items left : List Item) (before out : Replies) : Type 0 where
+pub record RanSection (header : Header) (n : ℕ) (t : Tables) (first : Flat) (commands : List Command)
+    (items left : List Item) (before out : Replies) : Type 0 where
   pub runs : RunsSection first (after first (issue n commands)) n commands items left before out
   pub starts : StartsAt header (n + 1) t (after first (issue n commands))
 

@@ -26,7 +26,8 @@ pub(crate) fn list<R: Wait>(
     requires sole { IsSole tables.now worker.old }
     ensures sole { OnOk result (IsSole tables.now worker.new) }
     ensures looked { OnOk result (Looked tables.now worker.old worker.new) }
-    ensures lists { OnOk result (ListsFor (tables_of tables.now worker.old) command.now listings.old.items listings.new.items) }
+    ensures lists { OnOk result (ListsFor
+        (tables_of tables.now worker.old) command.now listings.old.items listings.new.items) }
 {
     if let Form::Dump = command.form() {
         let mut listing = dump(rt, alloc, tables, worker)?;

@@ -23,6 +23,7 @@ use flat_list::{Header, KeptCommand, Reply, Script};
 use label_index::LabelSeed;
 use section_machine::{Machine, laws};
 use shared_ops::{Tables, Worker};
+use sock_script::label::gives_label;
 use sock_script::{Replies, Shown};
 use std::alloc::{AllocError, Global};
 use std::sync::Wait;
@@ -120,6 +121,17 @@ fn run_command<'a, R: Wait>(
     Ok(items)
 }
 
+/// How many of a section's commands give a label to a new socket.
+fn label_count(commands: &[KeptCommand]) -> usize {
+    let mut count: usize = 0;
+    for command in commands {
+        if gives_label(command) {
+            count = count.saturating_add(1);
+        }
+    }
+    count
+}
+
 /// Runs the commands of section `n` on a machine of its own, appends what is replied and listed, and tells the
 /// items that are left then.
 fn run_section<'a, R: Wait>(
@@ -151,6 +163,7 @@ fn run_section<'a, R: Wait>(
 {
     laws::section_comes_next();
     let mut machine = Machine::new(alloc, seed, header, n);
+    machine.reserve(label_count(commands))?;
     let mut left = items;
     for command in commands {
         left = run_command(
@@ -203,8 +216,9 @@ pub fn run<R: Wait>(
     ensures listed { IfOk result (λ replies. replies.listings ≡ flat_listings script.now capture.now.items) }
 {
     let header = script.header();
-    let (tables, mut worker) = start(alloc, header)?;
+    // What is kept longest is asked for first, where the text of the script lay.
     let mut replies = no_replies(alloc, script, capture)?;
+    let (tables, mut worker) = start(alloc, header)?;
     let mut left = capture.items();
     for (i, commands) in script.sections().iter().enumerate() {
         left = run_section(

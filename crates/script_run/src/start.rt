@@ -1,6 +1,6 @@
 //! The tables with which a run starts.
 
-ghost use Rattle.std.specs.Prelude.{◌≡◌, IfOk};
+ghost use Rattle.std.specs.Prelude.{◌≡◌, IfOk, false};
 ghost use Rattle.flat_list.specs.Fits.{FitsTables};
 ghost use Rattle.script_run.specs.Sole.{IsSole, tables_of};
 ghost use Rattle.script_run.specs.Steps.{AreUnspoken, commands_after};
@@ -15,7 +15,7 @@ use reuseport_group::Groups;
 use shared_ops::{Tables, Worker};
 use std::alloc::{AllocError, Global};
 
-/// Empty tables of that header, and the worker that is alone at them.
+/// Empty tables of that header, and the worker that is alone at them. Their chains keep no changes.
 ///
 /// # Errors
 ///
@@ -23,6 +23,7 @@ use std::alloc::{AllocError, Global};
 pub(crate) fn start(alloc: Global, header: &Header) -> Result<(Tables, Worker), AllocError>
     requires { FitsTables header.now }
     ensures of { IfOk result (λ t. AreOf header.now t.0) }
+    ensures counts { IfOk result (λ t. t.0.chains.keeps_changes ≡ false) }
     ensures sole { IfOk result (λ t. IsSole t.0 t.1) }
     ensures empty { IfOk result (λ t. tables_of t.0 t.1 ≡ new_tables header.now.shape header.now.seed) }
     ensures unspoken { IfOk result (λ t. AreUnspoken 1 t.1) }

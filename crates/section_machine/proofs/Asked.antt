@@ -400,6 +400,17 @@ abbrev pub WaitsSince : ℕ → Closed → Type 0
 WaitsSince moment (waiting w) = w.extra ≡ moment
 WaitsSince moment _ = Unit {0}
 
+-- a TIME_WAIT is left of a full socket alone
+abbrev pub WaitsFull : Type 0 → Closed → Type 0
+WaitsFull W (waiting w) = W
+WaitsFull W _ = Unit {0}
+
+-- what it comes to, whichever it is
+pub record AnyEnd (W : Type 0) (moment : ℕ) (Q : Closed → Type 0) : Type 0 where
+  pub is_gone : Q gone
+  pub no_slot_left : (owned held : ℕ) → Q (no_slot owned held)
+  pub waits : (w : Mine) → W → w.extra ≡ moment → Q (waiting w)
+
 module _ (W : Type 0) where
   of_leave : {R : Type 0} (a : Owner) (result : R) (Q : R → Type 0) → Q result → IsGoing W a.name Q (plans.leave a result)
   of_leave a result Q q = (refl, all_when (IsEnd W a.name) (HasName a.name) Q (ends result) q)
@@ -415,25 +426,37 @@ module _ (W : Type 0) where
   pub of_drop : {R : Type 0} (m : Mine) (result : R) (Q : R → Type 0) → Q result → IsGoing W m.owner.name Q (plans.drop m result)
   of_drop m result Q q = of_drop_as m result Q q m.owner.state
 
-  module _ (shape : Shape) (seed : ℕ) where
-    of_close_hashed : (m w : Mine) (moment : ℕ) → W → w.extra ≡ moment → (o : Outcome) → IsGoing W m.owner.name (WaitsSince moment) (plans.close_hashed shape seed m w o)
-    of_close_hashed m w moment may e (put slot None) =
-        (refl, ((may, refl), all_when (IsEnd W m.owner.name) (HasName m.owner.name) (WaitsSince moment) (ends (waiting (plans.waits_in shape seed w slot))) e))
-    of_close_hashed m w moment may e (put slot (Some old)) = tt
-    of_close_hashed m w moment may e (taken n) = tt
-    of_close_hashed m w moment may e (full owned held) = (refl, of_leave m.owner (no_slot owned held) (WaitsSince moment) tt)
+  module _ (shape : Shape) (seed : ℕ) (m : Mine) (moment : ℕ) (Q : Closed → Type 0) (any : AnyEnd W moment Q) where
+    of_close_hashed : (w : Mine) → W → w.extra ≡ moment → (o : Outcome) → IsGoing W m.owner.name Q (plans.close_hashed shape seed m w o)
+    of_close_hashed w may e (put slot None) =
+        let there = plans.waits_in shape seed w slot in
+        (refl, ((may, refl), all_when (IsEnd W m.owner.name) (HasName m.owner.name) Q (ends (waiting there)) (any.waits there may e)))
+    of_close_hashed w may e (put slot (Some old)) = tt
+    of_close_hashed w may e (taken n) = tt
+    of_close_hashed w may e (full owned held) = (refl, of_leave m.owner (no_slot owned held) Q (any.no_slot_left owned held))
 
-    of_close_as : (m : Mine) (moment : ℕ) (state : State) → (state ≡ states.Full → W) → IsGoing W m.owner.name (WaitsSince moment) (plans.close_as shape seed state m moment)
-    of_close_as m moment states.Full may = of_close_hashed m (plans.wait_of m moment) moment (may refl) refl
-    of_close_as m moment states.Unbound may = of_drop_as m gone (WaitsSince moment) tt states.Unbound
-    of_close_as m moment states.Bound may = of_drop_as m gone (WaitsSince moment) tt states.Bound
-    of_close_as m moment states.Listening may = of_drop_as m gone (WaitsSince moment) tt states.Listening
-    of_close_as m moment states.TimeWait may = of_drop_as m gone (WaitsSince moment) tt states.TimeWait
-    of_close_as m moment states.Request may = of_drop_as m gone (WaitsSince moment) tt states.Request
+    of_close_as : (state : State) → (state ≡ states.Full → W) → IsGoing W m.owner.name Q (plans.close_as shape seed state m moment)
+    of_close_as states.Full may = of_close_hashed (plans.wait_of m moment) (may refl) refl
+    of_close_as states.Unbound may = of_drop_as m gone Q any.is_gone states.Unbound
+    of_close_as states.Bound may = of_drop_as m gone Q any.is_gone states.Bound
+    of_close_as states.Listening may = of_drop_as m gone Q any.is_gone states.Listening
+    of_close_as states.TimeWait may = of_drop_as m gone Q any.is_gone states.TimeWait
+    of_close_as states.Request may = of_drop_as m gone Q any.is_gone states.Request
 
 -- only a full socket goes into TIME_WAIT
-pub of_close : (shape : Shape) (seed : ℕ) (m : Mine) (moment : ℕ) → IsGoing (m.owner.state ≡ states.Full) m.owner.name (WaitsSince moment) (plans.close shape seed m moment)
-of_close shape seed m moment = of_close_as (m.owner.state ≡ states.Full) shape seed m moment m.owner.state (λ full. full)
+module _ (shape : Shape) (seed : ℕ) (m : Mine) (moment : ℕ) where
+  abbrev its_full : Type 0
+  its_full = m.owner.state ≡ states.Full
+
+  pub of_close : IsGoing its_full m.owner.name (WaitsSince moment) (plans.close shape seed m moment)
+  of_close =
+      of_close_as its_full shape seed m moment (WaitsSince moment) (record { is_gone = tt; no_slot_left = λ owned held. tt; waits = λ w full since. since })
+      m.owner.state (λ full. full)
+
+  pub of_close_full : IsGoing its_full m.owner.name (WaitsFull its_full) (plans.close shape seed m moment)
+  of_close_full =
+      of_close_as its_full shape seed m moment (WaitsFull its_full) (record { is_gone = tt; no_slot_left = λ owned held. tt; waits = λ w full since. full })
+      m.owner.state (λ full. full)
 
 -- what an operation leaves of a socket has its name
 pub still_named : (old new : Mine) (p : Asking Did) (count : ℕ) (v u : View) (c d : Side) → Keeps old p → Went count p v u c d (ends (done new)) → new.owner.name ≡ old.owner.name

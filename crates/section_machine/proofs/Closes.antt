@@ -1,6 +1,7 @@
 -- The TIME_WAIT that a closed socket leaves, and that nothing but a plan left off keeps one from its end.
-use Rattle.std.proofs.Common.{◌≡◌, ℕ, ◌≤◌, true, List, [], ◌∷◌, ◌++◌, Err, refl, arith, ◌+◌, length, length-append}
+use Rattle.std.proofs.Common.{◌≡◌, ℕ, ◌≤◌, true, List, [], ◌∷◌, ◌++◌, Err, refl, sym, subst, arith, ◌+◌, length, length-append}
 use Rattle.list_words.proofs.EachLemmas.{each_push}
+use Rattle.sock_card.specs.declared.owner.State.{State}
 use Rattle.sock_card.specs.declared.owner.State.TheVariants as states
 use Rattle.bind_buckets.specs.Turned.{View}
 use Rattle.chain_book.specs.declared.shape.Shape.{Shape}
@@ -13,15 +14,33 @@ use Rattle.table_model.specs.Operations as plans
 use Rattle.table_model.specs.Operations.{gone, waiting, no_slot}
 use Rattle.shared_ops.specs.Closes.{ClosedBy}
 use Rattle.shared_ops.specs.Goes as ops
-use Rattle.shared_ops.specs.Goes.{Went}
+use Rattle.shared_ops.specs.Goes.{Went, IsUndecided}
 use Rattle.section_machine.specs.Carried.{is_left_off, waits_by}
-use Rattle.section_machine.specs.Waits.{AreBefore, AreInOrder}
-use Rattle.section_machine.proofs.Asked.{asked_so, of_close, IsEnd, HasName, WaitsSince}
+use Rattle.section_machine.specs.Waits.{AreBefore, AreInOrder, HasRoomFor}
+use Rattle.section_machine.proofs.Asked.{asked_so, of_close, of_close_full, IsEnd, HasName, WaitsSince, WaitsFull}
 
 -- its stamp is the moment of the end
 pub since : (count : ℕ) (shape : Shape) (seed : ℕ) (m : Mine) (moment : ℕ) (v u : View) (c d : Side) (closed : plans.Closed) → Went count (plans.close shape seed m moment) v u c d (ends closed) → WaitsSince moment closed
 since count shape seed m moment v u c d closed went =
     (asked_so (IsEnd (m.owner.state ≡ states.Full) m.owner.name) (HasName m.owner.name) (WaitsSince moment) count (plans.close shape seed m moment) (ends closed) went.deeds went.leads (of_close shape seed m moment)).left
+
+-- there is room for it, where there is room for that of a full socket
+room_by : (W : Type 0) (kept room : ℕ) (closed : plans.Closed) → WaitsFull W closed → (W → kept + 1 ≤ room) → HasRoomFor closed kept room
+room_by W kept room gone is has = tt
+room_by W kept room (waiting w) is has = has is
+room_by W kept room (no_slot owned held) is has = tt
+
+pub has_room : (count : ℕ) (shape : Shape) (seed : ℕ) (m : Mine) (moment : ℕ) (v u : View) (c d : Side) (kept room : ℕ) (closed : plans.Closed) → Went count (plans.close shape seed m moment) v u c d (ends closed)
+    → (m.owner.state ≡ states.Full → kept + 1 ≤ room) → HasRoomFor closed kept room
+has_room count shape seed m moment v u c d kept room closed went =
+    let full : Type 0 = m.owner.state ≡ states.Full in
+    room_by full kept room closed
+    (asked_so (IsEnd full m.owner.name) (HasName m.owner.name) (WaitsFull full) count (plans.close shape seed m moment) (ends closed) went.deeds went.leads (of_close_full shape seed m moment)).left
+
+-- of a full socket a question is left before it is closed
+pub asks_full : (shape : Shape) (seed : ℕ) (m : Mine) (moment : ℕ) (state : State) → state ≡ states.Full → IsUndecided (plans.close_as shape seed state m moment) []
+asks_full shape seed m moment state full =
+    subst (λ (s : State). IsUndecided (plans.close_as shape seed s m moment) []) (sym full) tt
 
 before_last : (moment : ℕ) (ws : List Mine) (w : Mine) → w.extra ≡ moment → AreBefore moment ws → AreBefore moment (ws ++ w ∷ [])
 before_last moment ws w is before = each_push (λ (x : Mine). x.extra ≤ moment) ws w before (omega (arith, is))

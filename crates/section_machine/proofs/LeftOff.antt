@@ -1,5 +1,5 @@
 -- What a command leaves that is left off.
-use Rattle.std.proofs.Common.{◌≡◌, ◌&&◌, ℕ, Bool, false, List, filter, [], ◌∷◌, Option, Some, Err, inl, inr, refl, sym, ap, ◌∙◌, subst, append-nil}
+use Rattle.std.proofs.Common.{◌≡◌, ◌&&◌, ℕ, Bool, true, false, cond, List, filter, [], ◌∷◌, Option, Some, Err, inl, inr, refl, sym, ap, ◌∙◌, subst, append-nil}
 use Rattle.std.specs.Option.{option_map, option_map_or}
 use Rattle.turn_table.specs.declared.note.Placed.{Placed}
 use Rattle.bind_buckets.specs.declared.request.Entry.{Entry}
@@ -18,7 +18,7 @@ use Rattle.race_record.specs.Deeds.{Deed, entered, inserted, added, left, reaped
 use Rattle.table_model.specs.declared.operation.OpEnd.{OpEnd}
 use Rattle.table_model.specs.declared.operation.Cause.{Cause}
 use Rattle.table_model.specs.declared.operation.OpEnd.TheVariants as errors
-use Rattle.table_model.specs.Asking.{Asking, ends, asks, inserts, adds, unhashes, reaps, and_then}
+use Rattle.table_model.specs.Asking.{Asking, ends, asks, inserts, adds, unhashes, reaps, impossible, and_then}
 use Rattle.table_model.specs.Own.{Own, Mine, Offsets, open_socket, open_named as socket_of, with_label, without, next_name, is_over, ports_of}
 use Rattle.table_model.specs.Operations as plans
 use Rattle.table_model.specs.Operations.{Did, refused, kept_waits}
@@ -27,19 +27,21 @@ use Rattle.shared_ops.specs.declared.sock.Sock.{Sock}
 use Rattle.shared_ops.specs.declared.tables.Tables.{Tables}
 use Rattle.shared_ops.specs.declared.tables.Worker.{Worker}
 use Rattle.shared_ops.specs.Goes as ops
-use Rattle.shared_ops.specs.Goes.{CarriedOut}
+use Rattle.shared_ops.specs.Goes.{CarriedOut, IsUndecided}
 use Rattle.shared_ops.specs.Leads.{Leads}
 use Rattle.shared_ops.specs.Socks.{mine_of}
 use Rattle.shared_ops.specs.Stands.{buckets_of, turned, chained}
 use Rattle.shared_ops.proofs.Goes.{does_none}
-use Rattle.section_machine.specs.LeftOff.{IsLeftOff, Leaves, GivesLabel, GivesBack, StopsReaping, speaker, socket_name, is_of_socket}
+use Rattle.section_machine.specs.LeftOff.{IsLeftOff, Leaves, LacksLabel, GivesLabel, GivesBack, StopsReaping, speaker, socket_name, is_of_socket, IsUntouched}
 use Rattle.section_machine.specs.Places.{Labelled, Takes, own_of, with_given, with_place, named_by}
 use Rattle.section_machine.specs.Searches as searches
 use Rattle.section_machine.specs.Sections.{Kept, kept}
+use Rattle.section_machine.specs.Waits.{first_over}
 use Rattle.section_machine.specs.Standing.{AreOf}
 use Rattle.section_machine.proofs.Ended.{drop_then}
 use Rattle.section_machine.proofs.Owns.{label_given, put_same}
 use Rattle.section_machine.proofs.Places.{open_named}
+use Rattle.section_machine.proofs.Reaps.{heads}
 use Rattle.section_machine.proofs.Settled.{Before, began_as}
 
 -- a plan that goes on so goes on so where another follows it
@@ -56,6 +58,16 @@ leads_then next (unhashes place card then_) rest (left u ∷ deeds) l =
 leads_then next (reaps card then_) rest (reaped c unhash ∷ deeds) l =
     (and_then l.0 next, (l.1.0, l.1.1, ap (λ q. and_then q next) l.1.2), leads_then next l.0 rest deeds l.2)
 leads_then next p rest (deed ∷ deeds) l = absurd l.1
+
+-- and so is what is left of it
+undecided_then : {R S : Type 0} (next : R → Asking S) (rest : Asking R) (back : List (Placed Entry)) → IsUndecided rest back → IsUndecided (and_then rest next) back
+undecided_then next (ends r) back is = absurd is
+undecided_then next (asks port request then_) back is = is
+undecided_then next (inserts card moment rule then_) back is = tt
+undecided_then next (adds card then_) back is = tt
+undecided_then next (unhashes place card then_) back is = tt
+undecided_then next (reaps card then_) back is = tt
+undecided_then next impossible back is = absurd is
 
 -- an operation that was left off
 pub op_off : {X R : Type 0} (did : X → R) (not_done : OpEnd → R) (count name : ℕ) (p : Asking R) (v u : View) (c d : Side) (end : OpEnd) (cause : Cause) → end ≡ errors.LeftOff cause → CarriedOut did not_done count name p v u c d (Err end) → ops.LeftOff count name p v u c d
@@ -78,8 +90,8 @@ off_as did header t f p name v u c d end cause are same is carried =
     (subst (λ (q : Asking Did). ops.LeftOff (buckets_of t) name q v u c d) same (op_off did refused (buckets_of t) name p v u c d end cause is carried))
 
 -- nothing was asked, and nothing done
-pub untouched : (t : Tables) (k new : Kept) (command : Command) (w : Worker) → ((n : ℕ) → GivesBack n (speaker k.own command) []) → Leaves k.own command [] [] new.own → IsLeftOff t k command new w w
-untouched t k new command w gives leaves =
+pub untouched : (t : Tables) (k new : Kept) (command : Command) (w : Worker) → ((n : ℕ) → GivesBack n (speaker k.own command) []) → LacksLabel k.own command [] [] new.own → Leaves k.own command [] [] new.own → IsLeftOff t k command new w w
+untouched t k new command w gives lacks leaves =
     record {
       rest = plan k.header k.own command;
       deeds = [];
@@ -88,6 +100,8 @@ untouched t k new command w gives leaves =
       gives = gives k.header.shape.bind;
       gave = gave_none (turned w);
       does = does_none (chained t w);
+      still = λ other. refl;
+      undecided = inr lacks;
       leaves = leaves;
     }
 
@@ -103,6 +117,8 @@ op_left t header own new command w u p next name is speaks leaves off =
       gives = subst (λ (o : Option ℕ). GivesBack header.shape.bind o off.back) (sym speaks) off.gives;
       gave = off.gave;
       does = off.does;
+      still = λ other. off.still;
+      undecided = inl (undecided_then next off.rest off.back off.undecided);
       leaves = leaves off.deeds off.back;
     }
 
@@ -168,15 +184,16 @@ module _ (header : Header) (own : Own) (label : List ℕ) (m : Mine) (named : op
 pub record GivesFirst (command : Command) (label : List ℕ) : Type 0 where
   pub speaks : (own : Own) → speaker own command ≡ Some (next_name own)
   pub leaves : (own : Own) (deeds : List Deed) (back : List (Placed Entry)) (next : Own) → GivesLabel own label deeds back next → Leaves own command deeds back next
+  pub lacks : (own : Own) (deeds : List Deed) (back : List (Placed Entry)) (next : Own) → IsUntouched own deeds back next → LacksLabel own command deeds back next
 
 pub accept_gives : (listener label : List ℕ) (from at : End) → GivesFirst (commands.Accept listener label from at) label
-accept_gives listener label from at = record { speaks = λ own. refl; leaves = λ own deeds back next h. h }
+accept_gives listener label from at = record { speaks = λ own. refl; leaves = λ own deeds back next h. h; lacks = λ own deeds back next h. h }
 
 pub syn_gives : (listener label : List ℕ) (from at : End) → GivesFirst (commands.Syn listener label from at) label
-syn_gives listener label from at = record { speaks = λ own. refl; leaves = λ own deeds back next h. h }
+syn_gives listener label from at = record { speaks = λ own. refl; leaves = λ own deeds back next h. h; lacks = λ own deeds back next h. h }
 
 pub ack_gives : (request label : List ℕ) → GivesFirst (commands.Ack request label) label
-ack_gives request label = record { speaks = λ own. refl; leaves = λ own deeds back next h. h }
+ack_gives request label = record { speaks = λ own. refl; leaves = λ own deeds back next h. h; lacks = λ own deeds back next h. h }
 
 -- what it is by the socket that its other label names
 module _ (header : Header) (own : Own) (m : Mine) (name label : List ℕ) (named : open_socket own name ≡ Some m) where
@@ -214,10 +231,24 @@ module _ {command : Command} {label : List ℕ} (first : GivesFirst command labe
   -- or for its label
   pub no_label : l1 ≡ l → IsLeftOff t k command (kept header (own_of l1 moment o waits)) w w
   no_label same =
+      let same_own : own_of l1 moment o waits ≡ its_own = ap (λ (x : Labelled). own_of x moment o waits) same in
+      let none : IsUntouched its_own [] [] (own_of l1 moment o waits) = record { none = refl; nor_back = refl; same = same_own } in
       subst (λ (x : Kept). IsLeftOff t x command (kept header (own_of l1 moment o waits)) w w) b.view
       (untouched t (kept header its_own) (kept header (own_of l1 moment o waits)) command w
       (λ n. subst (λ (s : Option ℕ). GivesBack n s []) (sym (first.speaks its_own)) tt)
-      (first.leaves its_own [] [] (own_of l1 moment o waits) (inr (record { none = refl; nor_back = refl; same = ap (λ (x : Labelled). own_of x moment o waits) same }))))
+      (first.lacks its_own [] [] (own_of l1 moment o waits) none)
+      (first.leaves its_own [] [] (own_of l1 moment o waits) (inr none)))
+
+-- the first of these TIME_WAITs is to be reaped yet
+asks_by : (moment n : ℕ) (over : Bool) (w : Mine) (rest : List Mine) → over ≡ true → IsUndecided (plans.reap_each (cond over (w ∷ rest) rest) n) []
+asks_by moment n true w rest is = tt
+asks_by moment n false w rest is = absurd (cc)
+
+asks_on : (moment n : ℕ) (waits : List Mine) (w : Mine) → first_over moment waits ≡ Some w → IsUndecided (plans.reap_each (filter (is_over moment) waits) n) []
+asks_on moment n waits w first =
+    let h = heads moment waits w first in
+    subst (λ (ws : List Mine). IsUndecided (plans.reap_each (filter (is_over moment) ws) n) []) (sym h.is)
+    (asks_by moment n (is_over moment w) w (filter (is_over moment) h.rest) h.over)
 
 -- TIME_WAITs are reaped up to one at which memory is wanting
 module _ (t : Tables) (header : Header) (l : Labelled) (moment : ℕ) (o : Offsets) (waits after : List Mine) (w u : Worker) where
@@ -242,6 +273,8 @@ module _ (t : Tables) (header : Header) (l : Labelled) (moment : ℕ) (o : Offse
         gives = refl;
         gave = subst (Gave (turned w) (turned u)) (sym (append-nil (entries_in header.shape.bind s.went.deeds))) s.went.gave;
         does = s.went.does;
+        still = λ other. absurd (other refl);
+        undecided = inl (undecided_then reaped_all rest [] (asks_on moment s.reaped after s.front.at s.front.first));
         leaves = record { front = s.front; count = s.reaped; reaps = s.went.leads; rest = refl };
       }
 
@@ -254,4 +287,6 @@ module _ (t : Tables) (header : Header) (l : Labelled) (moment : ℕ) (o : Offse
 -- a socket whose label isn't given
 pub made_none : (t : Tables) (old new : Kept) (label : List ℕ) (options : Options) (w : Worker) → new ≡ old → IsLeftOff t old (commands.Socket label options) new w w
 made_none t old new label options w same =
-    untouched t old new (commands.Socket label options) w (λ n. refl) (ap (λ (x : Kept). x.own) same)
+    untouched t old new (commands.Socket label options) w (λ n. refl)
+    (record { none = refl; nor_back = refl; same = ap (λ (x : Kept). x.own) same })
+    (ap (λ (x : Kept). x.own) same)

@@ -22,7 +22,8 @@ use Rattle.section_machine.specs.Sections.{Kept}
 use Rattle.section_machine.specs.Standing.{IsSection}
 
 -- The plan went by these deeds to that reply, and the section is the worker's still, with what it keeps then.
-pub record Carries (t : Tables) (old : Kept) (plan : Asking Replied) (new : Kept) (w u : Worker) (reply : Reply) : Type 0
+pub record Carries (t : Tables) (old : Kept) (plan : Asking Replied) (new : Kept) (w u : Worker)
+    (reply : Reply) : Type 0
   where
     pub deeds : List Deed
     pub goes : Goes plan deeds (answers new.own reply)
@@ -70,7 +71,8 @@ waits_by waits (plans.waiting w) = waits ++ w ∷ []
 waits_by waits closed = waits
 
 -- a socket's plan went on to its end, and left its TIME_WAIT with the others
-pub record Ends (count : ℕ) (plan : Asking plans.Closed) (v w : View) (c d : Side) (before after : List Mine) (reply : Reply) : Type 0
+pub record Ends (count : ℕ) (plan : Asking plans.Closed) (v w : View) (c d : Side) (before after : List Mine)
+    (reply : Reply) : Type 0
   where
     pub closed : plans.Closed
     pub went : Went count plan v w c d (ends closed)

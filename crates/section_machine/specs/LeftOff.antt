@@ -1,5 +1,5 @@
 -- What a command of a section leaves that is left off, whoever else was at the tables: our own.
-use Rattle.std.specs.Prelude.{◌≡◌, ◌⊎◌, ℕ, ◌&&◌, Bool, true, false, List, [], ◌++◌, Option, None, Some, filter}
+use Rattle.std.specs.Prelude.{◌≡◌, ◌≢◌, ◌⊎◌, ℕ, ◌&&◌, Bool, true, false, List, [], ◌++◌, Option, None, Some, filter}
 use Rattle.std.specs.Option.{option_map, option_map_or}
 use Rattle.list_words.specs.Lists.{Each}
 use Rattle.turn_table.specs.declared.note.Placed.{Placed}
@@ -9,7 +9,7 @@ use Rattle.flat_list.specs.declared.command.Command.{Command}
 use Rattle.flat_list.specs.declared.command.Command.TheVariants as commands
 use Rattle.flat_list.specs.declared.header.Header.{Header}
 use Rattle.chain_deeds.specs.Made.{Does}
-use Rattle.chain_deeds.specs.Sides.{Side}
+use Rattle.chain_deeds.specs.Sides.{Side, changes_by}
 use Rattle.race_record.specs.Deeds.{Deed, entries_in}
 use Rattle.table_model.specs.Asking.{Asking}
 use Rattle.table_model.specs.Operations.{reap, reap_each, source_to}
@@ -17,7 +17,7 @@ use Rattle.table_model.specs.Commands.{Replied, plan, after_search, searches_por
 use Rattle.table_model.specs.Own.{Own, Mine, open_socket, next_name, with_label, is_over}
 use Rattle.shared_ops.specs.declared.tables.Tables.{Tables}
 use Rattle.shared_ops.specs.declared.tables.Worker.{Worker}
-use Rattle.shared_ops.specs.Goes.{Went, GivesUp}
+use Rattle.shared_ops.specs.Goes.{Went, GivesUp, IsUndecided}
 use Rattle.shared_ops.specs.Leads.{Leads}
 use Rattle.shared_ops.specs.Stands.{turned, chained}
 use Rattle.section_machine.specs.Sections.{Kept}
@@ -92,9 +92,19 @@ Leaves own (commands.At moment) deeds back next = ⊥
 Leaves own commands.Dump deeds back next = ⊥
 Leaves own command deeds back next = next ≡ after_search (searches own command) own
 
--- The command's plan went so far by these deeds, and was left off; a port that it had taken was given up. The pass of
--- the buckets gave their entries, the pass of the chains made their changes, and neither did anything else.
-pub record LeftOff (header : Header) (own : Own) (command : Command) (v w : View) (c d : Side) (next : Own) : Type 0 where
+-- the label that the command gives was not given, and so nothing was done
+abbrev pub LacksLabel : Own → Command → List Deed → List (Placed Entry) → Own → Type 0
+LacksLabel own (commands.Socket label options) deeds back next = IsUntouched own deeds back next
+LacksLabel own (commands.Accept listener label from at) deeds back next = IsUntouched own deeds back next
+LacksLabel own (commands.Syn listener label from at) deeds back next = IsUntouched own deeds back next
+LacksLabel own (commands.Ack request label) deeds back next = IsUntouched own deeds back next
+LacksLabel own command deeds back next = ⊥
+
+-- The command's plan went so far by these deeds, and was left off before it came to an end, or for want of its label; a
+-- port that it had taken was given up. The pass of the buckets gave their entries, the pass of the chains made their
+-- changes, and neither did anything else. Any but `reap` was left off before it changed a chain.
+pub record LeftOff (header : Header) (own : Own) (command : Command) (v w : View) (c d : Side)
+    (next : Own) : Type 0 where
   pub rest : Asking Replied
   pub deeds : List Deed
   pub leads : Leads (plan header own command) deeds rest
@@ -102,6 +112,8 @@ pub record LeftOff (header : Header) (own : Own) (command : Command) (v w : View
   pub gives : GivesBack header.shape.bind (speaker own command) back
   pub gave : Gave v w (entries_in header.shape.bind deeds ++ back)
   pub does : Does deeds c d
+  pub still : command ≢ commands.Reap → changes_by d ≡ changes_by c
+  pub undecided : IsUndecided rest back ⊎ LacksLabel own command deeds back next
   pub leaves : Leaves own command deeds back next
 
 -- so at these tables, by this worker

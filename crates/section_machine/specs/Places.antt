@@ -64,4 +64,11 @@ pub record Takes (old : Labelled) (label : List ℕ) (new : Labelled) (place : �
 -- a section's own, with those labels and sockets
 abbrev pub own_of : Labelled → ℕ → Offsets → List Mine → Own
 own_of l moment offsets waits =
-    record { number = l.number; labels = l.labels; moment = moment; offsets = offsets; sockets = those l.places; waits = waits }
+    record {
+      number = l.number;
+      labels = l.labels;
+      moment = moment;
+      offsets = offsets;
+      sockets = those l.places;
+      waits = waits;
+    }

@@ -41,7 +41,8 @@ GivesLabels command old new (Err e) = (new ≡ old ++ given_by command) ⊎ (new
 
 -- The command's plan went by these deeds to that reply, and left of the section's own what is next; the pass of the
 -- buckets gave their entries, the pass of the chains made their changes, and neither did anything else.
-pub record Did (header : Header) (own : Own) (command : Command) (v w : View) (c d : Side) (next : Own) (reply : Reply) : Type 0 where
+pub record Did (header : Header) (own : Own) (command : Command) (v w : View) (c d : Side) (next : Own)
+    (reply : Reply) : Type 0 where
   pub deeds : List Deed
   pub goes : Goes (plan header own command) deeds (answers next reply)
   pub gave : Gave v w (entries_in header.shape.bind deeds)

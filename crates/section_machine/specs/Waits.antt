@@ -1,8 +1,9 @@
 -- The sockets in TIME_WAIT that a section left, and what `close` leaves of a socket: inet_twsk_hashdance_schedule of
 -- net/ipv4/inet_timewait_sock.c. That they are kept in the order of closing is our own.
-use Rattle.std.specs.Prelude.{ℕ, ◌≤◌, List, [], ◌∷◌, Option, Some, None, if◌then◌else◌}
+use Rattle.std.specs.Prelude.{ℕ, ◌+◌, ◌≤◌, List, [], ◌∷◌, Option, Some, None, if◌then◌else◌}
 use Rattle.list_words.specs.Lists.{Each, Pairs}
 use Rattle.table_model.specs.Own.{Mine, is_over}
+use Rattle.table_model.specs.Operations.{Closed, waiting}
 
 -- stamps never fall
 abbrev pub AreInOrder : List Mine → Type 0
@@ -16,3 +17,8 @@ AreBefore moment waits = Each (λ (w : Mine). w.extra ≤ moment) waits
 abbrev pub first_over : ℕ → List Mine → Option Mine
 first_over moment [] = None
 first_over moment (w ∷ rest) = if is_over moment w then Some w else None
+
+-- with so many kept and room for so many there is room for the TIME_WAIT that a socket left, if it left one
+abbrev pub HasRoomFor : Closed → ℕ → ℕ → Type 0
+HasRoomFor (waiting w) kept room = kept + 1 ≤ room
+HasRoomFor closed kept room = Unit {0}

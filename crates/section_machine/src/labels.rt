@@ -58,6 +58,14 @@ impl Labels {
         }
     }
 
+    /// Makes room for so many labels more.
+    pub(crate) fn reserve(&mut self, more: usize) -> Result<(), AllocError>
+        ensures { self.new ≡ self.old }
+    {
+        self.given.reserve(more)?;
+        self.sockets.reserve(more)
+    }
+
     /// The section's number.
     pub fn number(&self) -> u32
         ensures { result ≡ self.now.number }

@@ -107,6 +107,13 @@ impl Machine {
         }
     }
 
+    /// Makes room for the sockets of so many labels more, so that they aren't moved as they become many.
+    pub fn reserve(&mut self, more: usize) -> Result<(), AllocError>
+        ensures { self.new ≡ self.old }
+    {
+        self.labels.reserve(more)
+    }
+
     /// The section's number.
     pub fn number(&self) -> u32
         ensures { result ≡ self.now.own.number }
@@ -379,7 +386,9 @@ impl Machine {
     {
         match self.try_step(&patience::Waits::by(rt), tables, worker, command) {
             Ok(reply) => Ok(reply),
-            Err(_) => Err(AllocError),
+            Err(Cause::Memory) => Err(AllocError),
+            // Who waits for good is never told that another was in the way.
+            Err(Cause::Busy) => unreachable!(),
         }
     }
 }

@@ -100,7 +100,8 @@ impl Waits {
         ensures before { AreBefore moment self.new }
         ensures ready { IsReady tables.now worker.new }
         ensures caller { words.caller worker.new.turns ≡ words.caller worker.old.turns }
-        ensures entered { words.draws worker.new.turns + length self.new ≤ words.draws worker.old.turns + length self.old }
+        ensures entered { words.draws worker.new.turns + length self.new ≤ words.draws worker.old.turns
+            + length self.old }
         ensures drawn { (more : ℕ) → MayDraw (more + 2 * length self.old) worker.old
             → MayDraw (more + 2 * length self.new) worker.new }
         ensures listed { KeepsLists tables.now worker.old worker.new }

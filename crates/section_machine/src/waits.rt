@@ -1,6 +1,6 @@
 //! The sockets in TIME_WAIT that a section left.
 
-ghost use Rattle.std.specs.Prelude.{◌≡◌, true, ◌+◌, ◌≤◌, [], length, IfOk, IfErr, OnErr};
+ghost use Rattle.std.specs.Prelude.{◌≡◌, true, ◌+◌, ◌≤◌, [], length, IfOk, IfErr, OnOk, OnErr};
 ghost use Rattle.std.specs.VecDeque.{deque_len, deque_capacity};
 ghost use Rattle.turn_table.specs.Passes as words;
 ghost use Rattle.bind_buckets.specs.Turned.{Gave};
@@ -14,12 +14,13 @@ ghost use Rattle.shared_ops.specs.Spends.{Draws};
 ghost use Rattle.shared_ops.specs.Stands.{IsReady, MayDraw, MayEnter, MayTell, StandsAs, buckets_of, chained, turned};
 ghost use Rattle.shared_ops.specs.Closes.{became};
 ghost use Rattle.section_machine.specs.Carried.{Ends, close_answer, is_left_off, waits_by};
-ghost use Rattle.section_machine.specs.Waits.{AreBefore};
+ghost use Rattle.section_machine.specs.Waits.{AreBefore, HasRoomFor};
 
 use flat_list::Reply;
 use patience::Patience;
 use shared_ops::{Cause, Closed, OpEnd, Sock, Tables, Waiting, Worker, close};
-use std::alloc::Global;
+use sock_card::State;
+use std::alloc::{AllocError, Global};
 use std::collections::VecDeque;
 use std::marker::Model;
 
@@ -55,9 +56,22 @@ pub(crate) fn cause_of(end: OpEnd) -> Cause
     }
 }
 
+/// Makes room for the TIME_WAIT that a connected socket may leave; one in any other state leaves none, and takes no
+/// memory. Where that is wanting nothing has changed.
+fn make_room(items: &mut VecDeque<Waiting>, state: State) -> Result<(), AllocError>
+    ensures same { items.new.items ≡ items.old.items }
+    ensures room { OnOk result (state ≡ State.Full → deque_len items.new + 1 ≤ deque_capacity items.new) }
+    ensures full { OnErr result (state ≡ State.Full) }
+{
+    match state {
+        State::Full => items.reserve(1),
+        _ => Ok(()),
+    }
+}
+
 /// Keeps the TIME_WAIT of a socket that ended, if it left one, where there is room for it; and how that end is called.
 fn keep(items: &mut VecDeque<Waiting>, closed: Closed) -> Reply
-    requires { deque_len items.old + 1 ≤ deque_capacity items.old }
+    requires { HasRoomFor (became closed) (deque_len items.old) (deque_capacity items.old) }
     ensures left { items.new.items ≡ waits_by items.old.items (became closed) }
     ensures called { result ≡ close_answer (became closed) }
 {
@@ -120,7 +134,7 @@ impl Waits {
         ensures back { IfErr result (λ kept. kept.0 ≡ socket) }
         ensures patient { P.endless ≡ true → IfErr result (λ kept. kept.1 ≡ causes.Memory) }
     {
-        match self.items.reserve(1) {
+        match make_room(&mut self.items, socket.owner().state) {
             Ok(()) => {}
             Err(_) => return Err((socket, Cause::Memory)),
         }

@@ -30,8 +30,14 @@ pub record IsCalling (c : Calling) : Type 0 where
   pub few : length c.kept.own.labels + 1 < 2 ^ 24
   pub may : MayGoOn c.left c.kept c.worker
 
+-- it replies to a call more, and has a number for the socket that the command makes
+pub record MayCall (c : Calling) (command : Command) : Type 0 where
+  pub left : 0 < c.left
+  pub number : 0 < length (given_by command) → length c.kept.own.labels < 2 ^ 24 - 2
+
 -- one command was tried, at the same tables and under the same header
-pub record Tried (old new : Calling) : Type 0 where
+pub record Tried (old new : Calling) (command : Command) : Type 0 where
+  pub may : MayCall old command
   pub tables : new.tables ≡ old.tables
   pub header : new.kept.header ≡ old.kept.header
   pub number : new.kept.own.number ≡ old.kept.own.number
@@ -39,13 +45,13 @@ pub record Tried (old new : Calling) : Type 0 where
 
 -- the command's plan went to that reply, by what this caller asked and changed, whoever else was there
 pub record Carried (old new : Calling) (command : Command) (reply : Reply) : Type 0 where
-  pub tried : Tried old new
+  pub tried : Tried old new command
   pub did : Did old.kept.header old.kept.own command (turned old.worker) (turned new.worker)
       (chained old.tables old.worker) (chained old.tables new.worker) new.kept.own reply
 
 -- it was left off
 pub record Left (old new : Calling) (command : Command) : Type 0 where
-  pub tried : Tried old new
+  pub tried : Tried old new command
   pub left : IsLeftOff old.tables old.kept command new.kept old.worker new.worker
 
 -- it has replied to as many calls as it does, or made as many sockets

@@ -6,11 +6,12 @@ use Rattle.chain_book.specs.declared.book.PacketLook.{PacketLook}
 use Rattle.chain_deeds.specs.Sides.{IsResting, HoldsNothing}
 use Rattle.chain_deeds.specs.declared.table.ChainPass.{ChainPass}
 use Rattle.reuseport_group.specs.declared.pass.GroupPasses.{GroupPasses}
-use Rattle.shared_demux.specs.Concludes.{Concluded, whole_to}
+use Rattle.reuseport_group.specs.Passes as lists
+use Rattle.shared_demux.specs.Concludes.{ByOrder, Concluded, whole_to}
 use Rattle.shared_ops.specs.Stands.{HasGroups}
 use Rattle.shared_ops.specs.declared.tables.Tables.{Tables}
 use Rattle.table_rule.specs.Alone.{IsKnownWhole}
-use Rattle.table_rule.specs.Calls.{me, view}
+use Rattle.table_rule.specs.Calls.{layout_of, me, view}
 use Rattle.table_rule.specs.Passes.{known}
 use Rattle.table_rule.specs.declared.view.Whole.{Whole}
 
@@ -34,11 +35,19 @@ pub record IsLooking (l : Looking) : Type 0 where
 abbrev pub receipt_of : Looking → Packet → PacketLook → Whole
 receipt_of l packet look = whole_to packet l.tables.chains.layout.seed look.t0 look.t1 look.end
 
+-- the searches through chains came in their order, and one that gave up had made so many passes
+abbrev pub LooksInOrder : Looking → Looking → Packet → (passes : ℕ) → PacketLook → Type 0
+LooksInOrder old new packet passes look =
+    ByOrder (layout_of old.tables.chains.chains).shape.slots (lists.groups old.tables.groups) old.tables.chains.layout
+    packet passes (me old.chain.pass.steps) old.groups look.end new.groups look.t0 (receipt_of old packet look)
+    (me new.chain.pass.steps)
+
 -- The lookup began once all was done that this looker had seen, and has a receipt among those that the rule of the
 -- chains keeps: each of them is explained by what stood hashed, once all passes are taken in.
-pub record Looks (old new : Looking) (packet : Packet) (look : PacketLook) : Type 0 where
+pub record Looks (old new : Looking) (packet : Packet) (passes : ℕ) (look : PacketLook) : Type 0 where
   pub tables : new.tables ≡ old.tables
   pub fresh : (known old.chain.pass).seen ≤ look.t0
   pub span : look.t0 ≤ look.t1
+  pub order : LooksInOrder old new packet passes look
   pub concluded : Concluded (me old.chain.pass.steps) (receipt_of old packet look) (me new.chain.pass.steps)
   pub known_whole : IsKnownWhole (view old.chain.pass.steps) (receipt_of old packet look)

@@ -1,5 +1,5 @@
 -- What shared tables are between two calls, and what they hand out: our own.
-use Rattle.std.specs.Prelude.{◌≡◌, ℕ, ◌+◌, ◌≤◌, [], ◌^◌}
+use Rattle.std.specs.Prelude.{◌≡◌, ℕ, ◌+◌, ◌≤◌, [], ◌^◌, false}
 use Rattle.bind_buckets.specs.declared.request.Sharing.TheVariants as sharings
 use Rattle.chain_deeds.specs.Sides.{IsResting, HoldsNothing}
 use Rattle.flat_list.specs.Fits.{FitsTables}
@@ -34,11 +34,13 @@ pub record HasDoneNothing (v : View) : Type 0 where
   pub nothing : HoldsNothing v
   pub drew : drawn v ≡ 0
 
--- of the 16,384 parts of each pass the first worker has those that were not handed out
+-- The chains count their changes and keep none, so no pass of them grows with what it does. Of the 16,384 parts of
+-- each pass the first worker has those that were not handed out.
 pub record IsSharing (s : Sharing) : Type 0 where
   pub are : AreOf s.header s.tables
   pub fits : FitsTables s.header
   pub shared : words.home s.tables.buckets ≡ sharings.Shared
+  pub counts : s.tables.chains.keeps_changes ≡ false
   pub few_callers : s.callers ≤ 64
   pub few_lookers : s.lookers ≤ 16000
   pub turns : words.IsPassOf s.tables.buckets s.first.turns
@@ -57,6 +59,14 @@ pub record IsNew (header : Header) (s : Sharing) : Type 0 where
   pub header_is : s.header ≡ header
   pub no_caller : s.callers ≡ 0
   pub no_looker : s.lookers ≡ 0
+
+-- as many callers were handed out as there may be
+abbrev pub HasNoCaller : Sharing → Type 0
+HasNoCaller s = s.callers ≡ 64
+
+-- as many lookers
+abbrev pub HasNoLooker : Sharing → Type 0
+HasNoLooker s = s.lookers ≡ 16000
 
 -- the caller of the next number, with no sockets, which has asked nothing
 pub record HandsCaller (old new : Sharing) (c : Calling) : Type 0 where

@@ -65,17 +65,17 @@ impl Caller {
         self.machine.given() as u32 + 1
     }
 
-    /// Carries a command out, any but a lookup, whoever else is at the tables, and tells what comes of it. A command that
-    /// makes a socket has the next number's label for it.
+    /// Carries a command out, any but a lookup, whoever else is at the tables, and tells what comes of it. A command
+    /// that makes a socket has the next number's label for it.
     ///
     /// It takes the turn of one bucket and the lock of one chain at a time, and tries for each as long as the patience
     /// lasts.
     ///
     /// # Errors
     ///
-    /// `Busy`: another had a bucket or a chain for longer than the patience lasted. `NoMemory`: memory was wanting. The caller's sockets
-    /// stand as they did, a number that the command gives is given, and of a `reap` a first part is done. `NoNumber`: it
-    /// has replied to as many calls as it does, or made as many sockets; nothing has changed.
+    /// `Busy`: another had a bucket or a chain for longer than the patience lasted. `NoMemory`: memory was wanting.
+    /// The caller's sockets stand as they did, a number that the command gives is given, and of a `reap` a first part
+    /// is done. `NoNumber`: it has replied to as many calls as it does, or made as many sockets; nothing has changed.
     pub fn call<P: Patience>(&mut self, patience: &P, command: &Command) -> Outcome
         requires look { is_lookup command.now ≡ false }
         requires next { IsNext (length self.old.kept.own.labels + 1) command.now }

@@ -1,8 +1,8 @@
 //! The tables that threads share, for callers that don't write scripts: sockets by numbers.
 //!
 //! [`SharedTables`] are made once, and hand out what threads hold: a [`Caller`] is a section of its own, with its
-//! sockets, its moment and its searches, and a [`Looker`] looks packets up, locks nothing and waits for nobody. Each goes
-//! to the thread that uses it; the tables go when the last of them does.
+//! sockets, its moment and its searches, and a [`Looker`] looks packets up, locks nothing and waits for nobody. Each
+//! goes to the thread that uses it; the tables go when the last of them does.
 //!
 //! A socket's label is its number's four bytes, and its name has that number in its lower 24 bits, and its caller's in
 //! those above. So a lookup, which sees names, tells both numbers.

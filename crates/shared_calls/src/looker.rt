@@ -35,11 +35,12 @@ impl Model for Looker {
 impl Looker {
     /// Which socket takes a packet, and between which two numbers of the clock that was so.
     ///
-    /// It locks nothing, waits for nobody and takes no memory. Each of the three searches through chains makes at most
-    /// so many passes: where others change a chain each time, the answer is `Again`, and the caller may try anew.
+    /// It locks nothing, waits for nobody and takes no memory. Each of the three searches through chains makes at
+    /// most so many passes: where others changed a chain at each of them, the answer is `Again`, and the caller may
+    /// try anew.
     pub fn look(&mut self, packet: &Packet, passes: u32) -> PacketLook
         requires { 0 < passes }
-        ensures { Looks self.old self.new packet.now result }
+        ensures { Looks self.old self.new packet.now passes result }
     {
         let tables: &Tables = &self.tables;
         let lookups = Lookups {

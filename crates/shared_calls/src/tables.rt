@@ -1,8 +1,8 @@
 //! How tables are made, and what they hand out.
 
-ghost use Rattle.std.specs.Prelude.{◌≡◌, IfOk, OnErr};
+ghost use Rattle.std.specs.Prelude.{◌≡◌, ◌↔◌, IfOk, IsErrOf, OnErr};
 ghost use Rattle.flat_list.specs.Fits.{FitsTables};
-ghost use Rattle.shared_calls.specs.Sharings.{HandsCaller, HandsLooker, IsNew};
+ghost use Rattle.shared_calls.specs.Sharings.{HandsCaller, HandsLooker, HasNoCaller, HasNoLooker, IsNew};
 
 use crate::caller::{CALLS, Caller};
 use crate::looker::Looker;
@@ -92,6 +92,7 @@ impl SharedTables {
     /// `AllOut`: there were 64. `Memory`: memory ran out. Nothing has changed.
     pub fn caller(&mut self, alloc: Global) -> Result<Caller, Refused>
         ensures hands { IfOk result (HandsCaller self.old self.new) }
+        ensures all_out { IsErrOf result Refused.AllOut ↔ HasNoCaller self.old }
         ensures same { OnErr result (self.new ≡ self.old) }
     {
         if self.callers >= CALLERS {
@@ -123,6 +124,7 @@ impl SharedTables {
     /// `AllOut`: there were 16,000. `Memory`: memory ran out. Nothing has changed.
     pub fn looker(&mut self, alloc: Global) -> Result<Looker, Refused>
         ensures hands { IfOk result (HandsLooker self.old self.new) }
+        ensures all_out { IsErrOf result Refused.AllOut ↔ HasNoLooker self.old }
         ensures same { OnErr result (self.new ≡ self.old) }
     {
         if self.lookers >= LOOKERS {

@@ -29,7 +29,14 @@ group_in card count = group_as card.kind card.extra count
 
 -- a count was taken while LIVE stood, the card loaded, and the count put: the card stood
 abbrev pub sighted_view : View → Card → View
-sighted_view v card = record v { slot = record v.slot { taken = v.slot.taken + 1 }; read = record v.read { sighted = v.read.sighted ++ record { since = v.seen; card = words_of (packed card) } ∷ [] } }
+sighted_view v card =
+    record v {
+      slot = record v.slot { taken = v.slot.taken + 1 };
+      read = record v.read {
+        sighted = v.read.sighted ++ record { since = v.seen; card = words_of (packed card) }
+            ∷ [];
+      };
+    }
 
 -- on a pass whose changes are all there are it is the card that stands in the slot
 abbrev pub StandsThere : View → (slot : ℕ) → Card → Type 0
@@ -49,7 +56,9 @@ abbrev pub Chosen : (slots : ℕ) → Packet → Sat → (best : Card) → (memb
 Chosen slots packet m best member result n =
     ((slots ≤ slot_of member) × (result ≡ best) × (n ≡ m))
     ⊎ ((slot_of member < slots) × (result ≡ best) × (n ≡ (trying m.0, m.1)) × IsGone m.0 (slot_of member))
-    ⊎ ((slot_of member < slots) × ((card : Card) × (n ≡ (sighted_view m.0 card, m.1)) × StandsThere m.0 (slot_of member) card × IsBetween packet best member card result × (card.name < 2 ^ 32)))
+    ⊎ ((slot_of member < slots) ×
+    ((card : Card) × (n ≡ (sighted_view m.0 card, m.1)) × StandsThere m.0 (slot_of member) card
+    × IsBetween packet best member card result × (card.name < 2 ^ 32)))
 
 -- or where no member was chosen
 abbrev pub ChosenBy : (slots : ℕ) → Packet → Sat → (best : Card) → Option Choice → (result : Card) → Sat → Type 0
@@ -65,7 +74,11 @@ abbrev pub LeavesLists : GroupPasses → GroupPasses → Type 0
 LeavesLists p q = (stored q ≡ stored p) × ((known q).sole ≡ (known p).sole)
 
 -- or where the best names no group
-abbrev pub ByGroup : (slots groups : ℕ) → Packet → (hash : ℕ) → Sat → (best : Card) → GroupPasses → (result : Card) → Sat → GroupPasses → Type 0
+abbrev pub ByGroup :
+    (slots groups : ℕ) → Packet → (hash : ℕ) → Sat → (best : Card) → GroupPasses → (result : Card) → Sat → GroupPasses
+    → Type 0
 ByGroup slots groups packet hash m best p result n p' =
     ((group_in best groups ≡ None) × (result ≡ best) × (n ≡ m) × (p' ≡ p))
-    ⊎ ((group : ℕ) × (group_in best groups ≡ Some group) × ((choice : Option Choice) × Chose p p' group hash choice × Picked p group hash choice × ChosenBy slots packet m best choice result n))
+    ⊎ ((group : ℕ) × (group_in best groups ≡ Some group)
+    × ((choice : Option Choice) × Chose p p' group hash choice × Picked p group hash choice
+    × ChosenBy slots packet m best choice result n))

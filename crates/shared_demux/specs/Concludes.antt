@@ -58,29 +58,40 @@ abbrev pub Sums : Sat → Whole → Sat → Type 0
 Sums k c n = n ≡ (summing k.0 c, k.1)
 
 -- after the lookup of a listener: of one that was found, its group's choice, while it is held
-abbrev pub AfterListener : (slots groups : ℕ) → (seed : ℕ) → Packet → Sat → GroupPasses → LookEnd → PacketAnswer → GroupPasses → Whole → Sat → Type 0
+abbrev pub AfterListener :
+    (slots groups : ℕ) → (seed : ℕ) → Packet → Sat → GroupPasses → LookEnd → PacketAnswer → GroupPasses → Whole → Sat
+    → Type 0
 AfterListener slots groups seed packet k p (looks.Found held best) end p' c n =
     (card : Card) × (chosen : Sat) × (put : Sat) × (end ≡ answers.Found card)
-    × ByGroup slots groups packet (packet_hash packet seed) k best p card chosen p' × LetsGo chosen held.slot put × Sums put c n
+    × ByGroup slots groups packet (packet_hash packet seed) k best p card chosen p' × LetsGo chosen held.slot put
+    × Sums put c n
 AfterListener slots groups seed packet k p looks.None end p' c n = (end ≡ answers.None) × (p' ≡ p) × Sums k c n
 AfterListener slots groups seed packet k p (looks.Again bucket stop) end p' c n =
     (end ≡ answers.Again bucket (book_end stop)) × (p' ≡ p) × Sums k c n
 
-abbrev pub ByListener : (slots groups : ℕ) → Layout → Packet → (passes : ℕ) → Sat → GroupPasses → PacketAnswer → GroupPasses → Whole → Sat → Type 0
+abbrev pub ByListener :
+    (slots groups : ℕ) → Layout → Packet → (passes : ℕ) → Sat → GroupPasses → PacketAnswer → GroupPasses → Whole → Sat
+    → Type 0
 ByListener slots groups layout packet passes m p end p' c n =
     (look : LookEnd) × (from : ℕ) × (to : ℕ) × (k : Sat) × InOrder layout packet passes m look from to k
     × AfterListener slots groups layout.seed packet k p look end p' c n × (m.0.seen ≤ k.0.seen)
 
 -- after the lookup of a connected socket
-abbrev pub AfterFull : (slots groups : ℕ) → Layout → Packet → (passes : ℕ) → Sat → GroupPasses → LookEnd → PacketAnswer → GroupPasses → Whole → Sat → Type 0
+abbrev pub AfterFull :
+    (slots groups : ℕ) → Layout → Packet → (passes : ℕ) → Sat → GroupPasses → LookEnd → PacketAnswer → GroupPasses
+    → Whole → Sat → Type 0
 AfterFull slots groups layout packet passes k p (looks.Found held card) end p' c n =
     (put : Sat) × (end ≡ answers.Found card) × (p' ≡ p) × LetsGo k held.slot put × Sums put c n
-AfterFull slots groups layout packet passes k p looks.None end p' c n = ByListener slots groups layout packet passes k p end p' c n
+AfterFull slots groups layout packet passes k p looks.None end p' c n =
+    ByListener slots groups layout packet passes k p end p' c n
 AfterFull slots groups layout packet passes k p (looks.Again bucket stop) end p' c n =
     (end ≡ answers.Again bucket (book_end stop)) × (p' ≡ p) × Sums k c n
 
 -- the whole lookup began as that of a connected socket did
-abbrev pub ByOrder : (slots groups : ℕ) → Layout → Packet → (passes : ℕ) → Sat → GroupPasses → PacketAnswer → GroupPasses → (from : ℕ) → Whole → Sat → Type 0
+abbrev pub ByOrder :
+    (slots groups : ℕ) → Layout → Packet → (passes : ℕ) → Sat → GroupPasses → PacketAnswer → GroupPasses → (from : ℕ)
+    → Whole → Sat → Type 0
 ByOrder slots groups layout packet passes m p end p' from c n =
-    (look : LookEnd) × (to : ℕ) × (k : Sat) × LookedAs (full_home layout packet) packet 5 passes m (words_end look) from to k
+    (look : LookEnd) × (to : ℕ) × (k : Sat)
+    × LookedAs (full_home layout packet) packet 5 passes m (words_end look) from to k
     × AfterFull slots groups layout packet passes k p look end p' c n × (m.0.seen ≤ k.0.seen)

@@ -53,7 +53,8 @@ fn card_of<P: Pace>(chains: &Chains, steps: &mut Steps, slot: u32, pace: &mut P)
     requires slot { slot < (layout_of chains.now).shape.slots }
     requires taken { IsTaken slot (view steps.old) }
     ensures table { IsOf chains.now steps.new }
-    ensures card { (h : Kept) (hs : List Kept) → (view steps.old).read.kept ≡ h ∷ hs → Becomes steps.old steps.new (with_kept (view steps.old) (with_words h (words_of (packed result)) ∷ hs)) }
+    ensures card { (h : Kept) (hs : List Kept) → (view steps.old).read.kept ≡ h ∷ hs
+        → Becomes steps.old steps.new (with_kept (view steps.old) (with_words h (words_of (packed result)) ∷ hs)) }
     ensures named { result.name < 2 ^ 32 }
 {
     pace.step(Point::Check(slot));
@@ -108,7 +109,8 @@ fn member_or_best<P: Pace>(
     requires table { IsOf chains.now steps.old }
     requires room { HasRoom (view steps.old) }
     ensures table { IsOf chains.now steps.new }
-    ensures chosen { Chosen (layout_of chains.now).shape.slots packet.now (me steps.old) best.now member result (me steps.new) }
+    ensures chosen { Chosen (layout_of chains.now).shape.slots packet.now (me steps.old) best.now member result
+        (me steps.new) }
 {
     let slot = slot_of(member);
     if slot >= chains.slot_count() {
@@ -142,7 +144,8 @@ pub(crate) fn by_group<P: Pace>(
     requires groups { IsPassOf groups.now group_passes.old }
     ensures table { IsOf chains.now steps.new }
     ensures groups { IsPassOf groups.now group_passes.new }
-    ensures chosen { ByGroup (layout_of chains.now).shape.slots (words.groups groups.now) packet.now (packet_hash packet.now seed) (me steps.old) best.now group_passes.old result (me steps.new) group_passes.new }
+    ensures chosen { ByGroup (layout_of chains.now).shape.slots (words.groups groups.now) packet.now
+        (packet_hash packet.now seed) (me steps.old) best.now group_passes.old result (me steps.new) group_passes.new }
     ensures lists { LeavesLists group_passes.old group_passes.new }
 {
     let Some(group) = group_of(best, groups.count()) else {

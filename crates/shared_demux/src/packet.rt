@@ -57,7 +57,9 @@ fn put_best<P: Pace>(chains: &Chains, steps: &mut Steps, held: Held, pace: &mut 
     requires slot { held.slot < (layout_of chains.now).shape.slots }
     requires held { 0 < keeps_at held.slot (view steps.old).read }
     ensures table { IsOf chains.now steps.new }
-    ensures put { Becomes steps.old steps.new (with_kept (letting_go (view steps.old) held.slot) (drop_at (place_of held.slot (view steps.old).read.kept) (view steps.old).read.kept)) }
+    ensures put { Becomes steps.old steps.new
+        (with_kept (letting_go (view steps.old) held.slot)
+        (drop_at (place_of held.slot (view steps.old).read.kept) (view steps.old).read.kept)) }
 {
     pace.step(Point::Put(held.slot));
     put(chains, steps, held);
@@ -77,10 +79,15 @@ fn finish<P: Pace>(
     ensures table { IsOf tables.now.chains.now steps.new }
     ensures answer { (result.end ≡ end) × (result.t0 ≡ from) }
     ensures seen { (view steps.old).seen ≤ result.t1 }
-    ensures view { Becomes steps.old steps.new (summing (view steps.old) (whole_to packet.now tables.now.layout.seed from result.t1 result.end)) }
-    ensures sole { IsAlone (view steps.old) from → IsSoleWhole (view steps.old) (whole_to packet.now tables.now.layout.seed from result.t1 result.end) }
-    ensures known { IsKnownWhole (view steps.old) (whole_to packet.now tables.now.layout.seed from result.t1 result.end) }
-    ensures own { DrewAll (view steps.old) result.t1 → IsWholeExplained (mine (view steps.old)) (view steps.old).layout (whole_to packet.now tables.now.layout.seed from result.t1 result.end) }
+    ensures view { Becomes steps.old steps.new
+        (summing (view steps.old) (whole_to packet.now tables.now.layout.seed from result.t1 result.end)) }
+    ensures sole { IsAlone (view steps.old) from
+        → IsSoleWhole (view steps.old) (whole_to packet.now tables.now.layout.seed from result.t1 result.end) }
+    ensures known { IsKnownWhole (view steps.old)
+        (whole_to packet.now tables.now.layout.seed from result.t1 result.end) }
+    ensures own { DrewAll (view steps.old) result.t1
+        → IsWholeExplained (mine (view steps.old)) (view steps.old).layout
+        (whole_to packet.now tables.now.layout.seed from result.t1 result.end) }
 {
     pace.step(Point::End);
     let t1 = tables
@@ -112,11 +119,19 @@ fn look_listener<P: Pace>(
     ensures lists { LeavesLists group_passes.old group_passes.new }
     ensures from { result.t0 ≡ from }
     ensures span { (view steps.old).seen ≤ result.t1 }
-    ensures concluded { Concluded (me steps.old) (whole_to packet.now tables.now.layout.seed from result.t1 result.end) (me steps.new) }
-    ensures order { ByListener (layout_of tables.now.chains.now).shape.slots (group_words.groups tables.now.groups.now) tables.now.layout packet.now passes (me steps.old) group_passes.old result.end group_passes.new (whole_to packet.now tables.now.layout.seed from result.t1 result.end) (me steps.new) }
-    ensures sole { IsAlone (view steps.old) from → IsSoleWhole (view steps.old) (whole_to packet.now tables.now.layout.seed from result.t1 result.end) }
-    ensures known { IsKnownWhole (view steps.old) (whole_to packet.now tables.now.layout.seed from result.t1 result.end) }
-    ensures own { DrewAll (view steps.old) result.t1 → IsWholeExplained (mine (view steps.old)) (view steps.old).layout (whole_to packet.now tables.now.layout.seed from result.t1 result.end) }
+    ensures concluded { Concluded (me steps.old) (whole_to packet.now tables.now.layout.seed from result.t1 result.end)
+        (me steps.new) }
+    ensures order { ByListener (layout_of tables.now.chains.now).shape.slots
+        (group_words.groups tables.now.groups.now) tables.now.layout packet.now passes
+        (me steps.old) group_passes.old result.end group_passes.new
+        (whole_to packet.now tables.now.layout.seed from result.t1 result.end) (me steps.new) }
+    ensures sole { IsAlone (view steps.old) from
+        → IsSoleWhole (view steps.old) (whole_to packet.now tables.now.layout.seed from result.t1 result.end) }
+    ensures known { IsKnownWhole (view steps.old)
+        (whole_to packet.now tables.now.layout.seed from result.t1 result.end) }
+    ensures own { DrewAll (view steps.old) result.t1
+        → IsWholeExplained (mine (view steps.old)) (view steps.old).layout
+        (whole_to packet.now tables.now.layout.seed from result.t1 result.end) }
 {
     let chains = tables.chains;
     let layout = tables.layout;
@@ -181,11 +196,19 @@ pub fn look_packet<P: Pace>(
     ensures lists { LeavesLists group_passes.old group_passes.new }
     ensures fresh { (view steps.old).seen ≤ result.t0 }
     ensures span { result.t0 ≤ result.t1 }
-    ensures concluded { Concluded (me steps.old) (whole_to packet.now tables.now.layout.seed result.t0 result.t1 result.end) (me steps.new) }
-    ensures order { ByOrder (layout_of tables.now.chains.now).shape.slots (group_words.groups tables.now.groups.now) tables.now.layout packet.now passes (me steps.old) group_passes.old result.end group_passes.new result.t0 (whole_to packet.now tables.now.layout.seed result.t0 result.t1 result.end) (me steps.new) }
-    ensures sole { IsWhole (view steps.old) → IsSoleWhole (view steps.old) (whole_to packet.now tables.now.layout.seed result.t0 result.t1 result.end) }
-    ensures known { IsKnownWhole (view steps.old) (whole_to packet.now tables.now.layout.seed result.t0 result.t1 result.end) }
-    ensures own { DrewAll (view steps.old) result.t1 → IsWholeExplained (mine (view steps.old)) (view steps.old).layout (whole_to packet.now tables.now.layout.seed result.t0 result.t1 result.end) }
+    ensures concluded { Concluded (me steps.old)
+        (whole_to packet.now tables.now.layout.seed result.t0 result.t1 result.end) (me steps.new) }
+    ensures order { ByOrder (layout_of tables.now.chains.now).shape.slots
+        (group_words.groups tables.now.groups.now) tables.now.layout packet.now passes
+        (me steps.old) group_passes.old result.end group_passes.new result.t0
+        (whole_to packet.now tables.now.layout.seed result.t0 result.t1 result.end) (me steps.new) }
+    ensures sole { IsWhole (view steps.old)
+        → IsSoleWhole (view steps.old) (whole_to packet.now tables.now.layout.seed result.t0 result.t1 result.end) }
+    ensures known { IsKnownWhole (view steps.old)
+        (whole_to packet.now tables.now.layout.seed result.t0 result.t1 result.end) }
+    ensures own { DrewAll (view steps.old) result.t1
+        → IsWholeExplained (mine (view steps.old)) (view steps.old).layout
+        (whole_to packet.now tables.now.layout.seed result.t0 result.t1 result.end) }
 {
     let layout = tables.layout;
     let Look { end, t0, t1: _ } = established::find(

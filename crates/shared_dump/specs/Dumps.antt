@@ -50,4 +50,5 @@ pub record Saw (layout : Layout) (dump : Dump) (v w : View) : Type 0 where
   pub each : length rows ≡ bucket_count layout
   pub items : dump.items.items ≡ all_cards rows
   pub sights : w.sights ≡ settled (settled v.sights dump.t0) dump.t1 ++ sightings dump.t0 dump.t1 0 rows
-  pub told : (views : List Part) → Each (SightTrue views) (sightings dump.t0 dump.t1 0 rows) → AreTold views (bucket_count layout) dump.t0 dump.t1 dump.items.items
+  pub told : (views : List Part) → Each (SightTrue views) (sightings dump.t0 dump.t1 0 rows)
+      → AreTold views (bucket_count layout) dump.t0 dump.t1 dump.items.items

@@ -10,7 +10,8 @@ use Rattle.table_rule.specs.declared.view.View.{View}
 
 -- the whole chain of a bucket was seen, between these numbers of the clock
 abbrev pub sighting : (from to bucket : ℕ) → List Seen → Sight
-sighting from to bucket xs = record { bucket = bucket ∷ []; listed = xs; held = []; whole = 1; since = from; until = to }
+sighting from to bucket xs =
+    record { bucket = bucket ∷ []; listed = xs; held = []; whole = 1; since = from; until = to }
 
 -- those of several buckets, from this one on
 abbrev pub sightings : (from to bucket : ℕ) → List (List Seen) → List Sight

@@ -40,7 +40,8 @@ fn list_buckets<R: Wait>(
     ensures free { (view steps.new).chain.locked ≡ [] }
     ensures keeps { Keeps (view steps.old) (view steps.new) }
     ensures seen { (view steps.new).seen ≡ (view steps.old).seen }
-    ensures lists { IfOk result (λ _. ListsAll buckets items.old.items items.new.items (view steps.old) (view steps.new)) }
+    ensures lists { IfOk result (λ _. ListsAll buckets items.old.items items.new.items (view steps.old)
+        (view steps.new)) }
     ensures hand { steps.new.seat.me.1 ≡ steps.old.seat.me.1 }
 {
     for bucket in 0..buckets {
@@ -78,8 +79,10 @@ pub fn dump_sockets<R: Wait>(
     ensures span { IfOk result (λ d. d.t0 ≤ d.t1) }
     ensures ends { IfOk result (λ d. (known pass.new).seen ≡ d.t1) }
     ensures saw { IfOk result (λ d. Saw (layout_of chains.now) d (known pass.old) (known pass.new)) }
-    ensures own { IfOk result (λ d. (known pass.old).slot.parts ≡ 16384 → AreTold (mine (known pass.new)) (bucket_count (layout_of chains.now)) d.t0 d.t1 d.items.items) }
-    ensures sole { IfOk result (λ d. IsSole (known pass.old) → d.items.items ≡ cards_from (layout_of chains.now) (known pass.old).book.closed) }
+    ensures own { IfOk result (λ d. (known pass.old).slot.parts ≡ 16384
+        → AreTold (mine (known pass.new)) (bucket_count (layout_of chains.now)) d.t0 d.t1 d.items.items) }
+    ensures sole { IfOk result (λ d. IsSole (known pass.old)
+        → d.items.items ≡ cards_from (layout_of chains.now) (known pass.old).book.closed) }
 {
     let t0 = chains.step_clock(&mut pass.steps);
     let mut items = Vec::new(alloc);

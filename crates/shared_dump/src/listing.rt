@@ -25,7 +25,8 @@ pub fn list(chains: &Chains, steps: &mut Steps, locked: &mut Locked, items: &mut
     requires known { WalkKnown (layout_of chains.now) (view steps.old) }
     requires room { vec_len items.old + (layout_of chains.now).shape.slots ≤ vec_capacity items.old }
     ensures table { IsOf chains.now steps.new }
-    ensures at { IsAt (layout_of chains.now) locked.new (view steps.new) × (locked.new.started ≡ true) × (locked.new.bucket ≡ locked.old.bucket) }
+    ensures at { IsAt (layout_of chains.now) locked.new (view steps.new) × (locked.new.started ≡ true)
+        × (locked.new.bucket ≡ locked.old.bucket) }
     ensures kept { Becomes steps.old steps.new (record (view steps.old) { chain = (view steps.new).chain }) }
     ensures whole { ((view steps.new).chain.met ≡ 1) × ((view steps.new).chain.ahead ≡ []) }
     ensures known { WalkKnown (layout_of chains.now) (view steps.new) }

@@ -43,7 +43,8 @@ const CARD: Card = Card {
 fn come_alone(chains: &Chains, pass: &mut Pass, locked: &Locked, card: &Card) -> bool
     requires table { IsPassOf chains.now pass.old }
     requires at { IsAt (layout_of chains.now) locked.now (known pass.old) × (locked.now.started ≡ true) }
-    requires empty { ((known pass.old).chain.walked ≡ []) × ((known pass.old).chain.met ≡ 1) × ((known pass.old).chain.ahead ≡ []) }
+    requires empty { ((known pass.old).chain.walked ≡ []) × ((known pass.old).chain.met ≡ 1)
+        × ((known pass.old).chain.ahead ≡ []) }
     requires idle { IsIdle (known pass.old).slot × ((known pass.old).book.opened ≡ []) }
     requires home { home (layout_of chains.now).shape (layout_of chains.now).seed card.now ≡ locked.now.bucket }
     requires share { HasShares 2 (known pass.old) }

@@ -26,7 +26,8 @@ abbrev pub FindsFull : Layout → Packet → Sat → LookEnd → (from : ℕ) �
 FindsFull layout packet m (answers.Found held card) from n =
     Holds m held.slot card n × FoundIn n.0.read from (words_of (packed card)) × (5 ≤ card_rank packet card)
 FindsFull layout packet m answers.None from n = Stays m n × Clears n.0.read packet from (full_home layout packet) 5 0
-FindsFull layout packet m (answers.Again bucket stop) from n = Stays m n × StoppedIn n.0.read from bucket (stop_of stop ∷ [])
+FindsFull layout packet m (answers.Again bucket stop) from n =
+    Stays m n × StoppedIn n.0.read from bucket (stop_of stop ∷ [])
 
 -- The listener: no better one stands in either chain where it would belong
 abbrev pub FindsListener : Layout → Packet → Sat → LookEnd → (from : ℕ) → Sat → Type 0
@@ -35,8 +36,10 @@ FindsListener layout packet m (answers.Found held card) from n =
     × ((4 ≤ card_rank packet card) ⊎ Clears n.0.read packet from (exact_home layout packet) 3 (card_rank packet card))
     × ((2 ≤ card_rank packet card) ⊎ Clears n.0.read packet from (any_home layout packet) 1 (card_rank packet card))
 FindsListener layout packet m answers.None from n =
-    Stays m n × Clears n.0.read packet from (exact_home layout packet) 3 0 × Clears n.0.read packet from (any_home layout packet) 1 0
-FindsListener layout packet m (answers.Again bucket stop) from n = Stays m n × StoppedIn n.0.read from bucket (stop_of stop ∷ [])
+    Stays m n × Clears n.0.read packet from (exact_home layout packet) 3 0
+    × Clears n.0.read packet from (any_home layout packet) 1 0
+FindsListener layout packet m (answers.Again bucket stop) from n =
+    Stays m n × StoppedIn n.0.read from bucket (stop_of stop ∷ [])
 
 -- The order of the two lookups
 

@@ -19,8 +19,15 @@ settled_by sights [] = sights
 settled_by sights (number ∷ numbers) = settled_by (settled sights number) numbers
 
 -- a view with these counts, receipts and cards that were put
-abbrev pub adding : View → List Kept → List ℕ → (taken : ℕ) → List Receipt → List Sighted → (seen : ℕ) → List Sight → View
-adding v ks hs taken receipts sighted seen sights = record v { slot = record v.slot { holds = hs; taken = taken }; read = record v.read { kept = ks; receipts = receipts; sighted = sighted }; seen = seen; sights = sights }
+abbrev pub adding :
+    View → List Kept → List ℕ → (taken : ℕ) → List Receipt → List Sighted → (seen : ℕ) → List Sight → View
+adding v ks hs taken receipts sighted seen sights =
+    record v {
+      slot = record v.slot { holds = hs; taken = taken };
+      read = record v.read { kept = ks; receipts = receipts; sighted = sighted };
+      seen = seen;
+      sights = sights;
+    }
 
 -- each receipt and each card that was put stands where it stood
 pub record More (v w : ReadView) : Type 0 where
@@ -46,4 +53,6 @@ Stays m n = Adds m m.0.read.kept m.0.slot.holds n
 
 -- and one more, of a card that was loaded under it
 abbrev pub Holds : Sat → (slot : ℕ) → Card → Sat → Type 0
-Holds m slot card n = (since : ℕ) × Adds m (record { slot = slot; since = since; words = words_of (packed card) } ∷ m.0.read.kept) (slot ∷ m.0.slot.holds) n
+Holds m slot card n =
+    (since : ℕ) × Adds m (record { slot = slot; since = since; words = words_of (packed card) } ∷ m.0.read.kept)
+    (slot ∷ m.0.slot.holds) n

@@ -32,11 +32,14 @@ pub fn find<P: Pace>(
     ensures table { IsOf chains.now steps.new }
     ensures fresh { (view steps.old).seen ≤ result.t0 }
     ensures span { result.t0 ≤ result.t1 }
-    ensures looked { LookedAs (full_home layout.now packet.now) packet.now 5 passes (me steps.old) (words_end result.end) result.t0 result.t1 (me steps.new) }
+    ensures looked { LookedAs (full_home layout.now packet.now) packet.now 5 passes (me steps.old)
+        (words_end result.end) result.t0 result.t1 (me steps.new) }
     ensures finds { FindsFull layout.now packet.now (me steps.old) result.end result.t0 (me steps.new) }
     ensures inside { IsInside (layout_of chains.now) (words_end result.end) }
-    ensures sole { IsWhole (view steps.old) → SoleAs (full_home layout.now packet.now) packet.now 5 (view steps.old) (words_end result.end) }
-    ensures known { KnownAs (full_home layout.now packet.now) packet.now 5 (view steps.old) (words_end result.end) result.t0 }
+    ensures sole { IsWhole (view steps.old)
+        → SoleAs (full_home layout.now packet.now) packet.now 5 (view steps.old) (words_end result.end) }
+    ensures known { KnownAs (full_home layout.now packet.now) packet.now 5 (view steps.old)
+        (words_end result.end) result.t0 }
     ensures before { HadEnded (view steps.old) result.t0 }
 {
     let bucket = packet_home(&layout.shape, layout.seed, packet);

@@ -102,7 +102,7 @@ module _ (count : ℕ) (l a : Owner) (port : owner_key a ≡ owner_key l) (v w :
   accept_refused errors.GroupFull ins gave = absurd ins
   accept_refused errors.GroupsFull ins gave = absurd ins
   accept_refused (errors.LeftOff causes.Memory) ins gave = absurd ins
-  accept_refused (errors.LeftOff causes.Busy) ins gave = left_nowhere count a.name plan v w c d ins gave
+  accept_refused (errors.LeftOff causes.Busy) ins gave = left_nowhere count a.name plan v w c d ins tt gave
 
 module _ (l a : Owner) (place : ℕ) (v w : View) (replaced : Option ℕ) (answer : Answer) (stands : StandsOwn l place v) (all : AskedAll place (child_entry l a ∷ gone_of replaced answer) v w) where
   -- the child stands

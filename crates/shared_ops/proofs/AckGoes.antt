@@ -97,7 +97,7 @@ module _ (count : ℕ) (r : Mine) (l a : Owner) (v w : View) (c d : Side) where
   ack_refused errors.GroupFull none gave = absurd none
   ack_refused errors.GroupsFull none gave = absurd none
   ack_refused (errors.LeftOff causes.Memory) none gave = absurd none
-  ack_refused (errors.LeftOff causes.Busy) none gave = left_nowhere count a.name plan v w c d none gave
+  ack_refused (errors.LeftOff causes.Busy) none gave = left_nowhere count a.name plan v w c d none tt gave
 
 -- what is handed back beside the answer
 pub ack_answers : (count name : ℕ) (p : Asking Did) (v w : View) (c d : Side) (s : Sock) (r : Result Mine OpEnd) → CarriedOut {X = Mine} done refused count name p v w c d r → CarriedOut accepted refused count name p v w c d (without_socket (ack_answer s r))

@@ -96,7 +96,7 @@ given_back at place es e fs v w made_ same told all =
 pub carried_at_once : {X R : Type 0} (did : X → R) (not_done : OpEnd → R) (count name place : ℕ) (p : Asking R) (v w : View) (c d : Side) (r : Result X OpEnd)
     → HoldsAfter place [] v (λ u. CarriedOut did not_done count name p u w c d r) → CarriedOut did not_done count name p v w c d r
 carried_at_once did not_done count name place p v w c d r h =
-    carried_both did not_done count name p p v h.then_ w c c d (went_so_far count p v h.then_ c (all_none place v h.then_ h.asked)) r h.holds
+    carried_both did not_done count name p p v h.then_ w c c d (went_so_far count p v h.then_ c (all_none place v h.then_ h.asked)) refl r h.holds
 
 asked_past : (place at : ℕ) (es : List Entry) (v u w : View) → AskedAll at [] v u → AskedAll place es u w → AskedAll place es v w
 asked_past place at es v u w none all =

@@ -32,7 +32,7 @@ use Rattle.chain_deeds.specs.Made.{Does}
 use Rattle.shared_ops.specs.declared.sock.Sock.{Sock}
 use Rattle.shared_ops.specs.Binding.{end_of_bind, end_of_search, bound_to, bound_answer}
 use Rattle.shared_ops.specs.Leads.{Leads}
-use Rattle.shared_ops.specs.Goes.{Went, LeftOff, CarriedOut, NotBusy}
+use Rattle.shared_ops.specs.Goes.{Went, LeftOff, IsUndecided, CarriedOut, NotBusy}
 use Rattle.shared_ops.specs.Socks.{first_mine, without_socket}
 use Rattle.shared_ops.specs.Stands.{IsAway}
 use Rattle.shared_ops.proofs.Goes.{deed_at, entry_is, by_entry, leads_both, entries_both, does_both, does_none, does_entry, went_nowhere, same_err}
@@ -52,8 +52,9 @@ went_one count port request answer then_ v w c o =
 pub went_so_far : {R : Type 0} (count : ℕ) (plan : Asking R) (v w : View) (c : Side) → Gave v w [] → Went count plan v w c c plan
 went_so_far count plan v w c gave = record { deeds = []; leads = refl; gave = gave; does = does_none c }
 
-pub left_at_once : {R : Type 0} (count name : ℕ) (plan : Asking R) (v w : View) (c : Side) → Gave v w [] → LeftOff count name plan v w c c
-left_at_once count name plan v w c gave = record { rest = plan; deeds = []; leads = refl; back = []; gives = tt; gave = gave; does = does_none c }
+pub left_at_once : {R : Type 0} (count name : ℕ) (plan : Asking R) (v w : View) (c : Side) → IsUndecided plan [] → Gave v w [] → LeftOff count name plan v w c c
+left_at_once count name plan v w c undecided gave =
+    record { rest = plan; deeds = []; leads = refl; back = []; gives = tt; gave = gave; does = does_none c; still = refl; undecided = undecided }
 
 -- each of these ports of a namespace was asked once
 abbrev deeds_of : ℕ → List ℕ → List (Placed Entry) → List Deed
@@ -167,6 +168,8 @@ module _ (count : ℕ) (a : Owner) (v w : View) where
           gives = tt;
           gave = subst (Gave v w) (sym (append-nil (entries_in count (deeds_of a.net at.before at.refused)) ∙ entries_each count b at.before at.refused at.refusals)) at.gave;
           does = does_each a.net at.before at.refused c;
+          still = refl;
+          undecided = tt;
         }
 
   pub searched_goes : (addr : ℕ) (ports : List ℕ) (r : Result ℕ SearchEnd) (c : Side) → IfOk r (BindsAt count (bound_at a addr 0) ports v w) → (r ≡ Err searches.NoPort → BindsNowhere count (bound_at a addr 0) ports v w) → (r ≡ Err searches.Memory → BindsNotYet count (bound_at a addr 0) ports v w) → (r ≡ Err searches.Busy → BindsNotYet count (bound_at a addr 0) ports v w) → IfErr r IsNotFull

@@ -46,7 +46,7 @@ use Rattle.shared_ops.specs.declared.sock.Sock.TheVariants as socks
 use Rattle.shared_ops.specs.declared.leaving.Closed.{Closed}
 use Rattle.shared_ops.specs.Socks.{mine_of, FitsState, without_socket}
 use Rattle.shared_ops.specs.Closes.{Replaces, GoesAlone, ClosedBy, ClosedByAlone, Leaves, became, close_answer, drop_answer, is_gone, leave_entry, spot_of}
-use Rattle.shared_ops.specs.Goes.{Went, LeftOff, AskedAll, AreAsked, NotBusy}
+use Rattle.shared_ops.specs.Goes.{Went, LeftOff, IsUndecided, AskedAll, AreAsked, NotBusy}
 use Rattle.shared_ops.specs.Leads.{Leads}
 use Rattle.shared_ops.specs.Stands.{IsHashed, place_in}
 use Rattle.shared_ops.specs.Groups.{KeepsListed, LeavesAs, ListsOfLeave}
@@ -196,10 +196,10 @@ leaves_err did count name p v w c d (Ok x) is k = absurd (cc)
 leaves_err did count name p v w c d (Err end) is k = k
 
 -- where nothing was given and done in its turn if that is an error
-pub turn_leaves : {X E : Type 0} (did : X → plan.Closed) (count name : ℕ) (p : Asking plan.Closed) (u v w : View) (c d : Side) (r : Result X E) → Within v u
+pub turn_leaves : {X E : Type 0} (did : X → plan.Closed) (count name : ℕ) (p : Asking plan.Closed) (u v w : View) (c d : Side) (r : Result X E) → IsUndecided p [] → Within v u
     → IfOk r (λ x. (k : View) → Within k u → Went count p k w c d (ends (did x))) → OnErr r ((k : View) → Within k u → Gave k w []) → OnErr r (d ≡ c) → Leaves did count name p v w c d r
-turn_leaves did count name p u v w c d (Ok x) within went nothing same = went v within
-turn_leaves did count name p u v w c d (Err end) within went nothing same = left_nowhere count name p v w c d (sym same) (nothing v within)
+turn_leaves did count name p u v w c d (Ok x) undecided within went nothing same = went v within
+turn_leaves did count name p u v w c d (Err end) undecided within went nothing same = left_nowhere count name p v w c d (sym same) undecided (nothing v within)
 
 -- Where nothing was given
 
@@ -225,7 +225,7 @@ turn_kept kind m place u v w c d (Err end) within stands stood nothing same =
 pub port_leaves : {E : Type 0} (count : ℕ) (m : Mine) (v w : View) (c : Side) (p q : GroupPasses) (r : Result (Unit {0}) E)
     → OnOk r (AskedAll (owner_key m.owner % count) (leave_entry m.owner ∷ []) v w) → OnErr r ((w ≡ v) × (q ≡ p)) → Leaves is_gone count m.owner.name (leave m.owner plan.gone) v w c c r
 port_leaves count m v w c p q (Ok done) asked same = bound_leaves count m.owner v w c asked
-port_leaves count m v w c p q (Err end) asked same = left_nowhere count m.owner.name (leave m.owner plan.gone) v w c c refl (subst (λ (k : View). Gave v k []) (sym same.0) (gave_none v))
+port_leaves count m v w c p q (Err end) asked same = left_nowhere count m.owner.name (leave m.owner plan.gone) v w c c refl tt (subst (λ (k : View). Gave v k []) (sym same.0) (gave_none v))
 
 -- nothing was given or done then
 pub turn_nothing : {X E : Type 0} (u v w : View) (r : Result X E) → Within v u → OnErr r ((k : View) → Within k u → Gave k w []) → OnErr r (Gave v w [])

@@ -134,7 +134,7 @@ module _ (count : ℕ) (a : Owner) (moment : ℕ) (rule : Replace) (v w : View) 
   connect_refused errors.IsConn ins gave = absurd ins
   connect_refused errors.GroupFull ins gave = absurd ins
   connect_refused errors.GroupsFull ins gave = absurd ins
-  connect_refused (errors.LeftOff causes.Busy) ins gave = left_nowhere count a.name plan v w c d ins gave
+  connect_refused (errors.LeftOff causes.Busy) ins gave = left_nowhere count a.name plan v w c d ins tt gave
   connect_refused (errors.LeftOff causes.Memory) ins gave = absurd ins
 
 -- the connected owner stands

@@ -31,10 +31,10 @@ use Rattle.race_record.specs.Goes.{Goes, Grants, Admits, IsUnhashAt, outcome_of,
 use Rattle.race_record.specs.Laws.{told_of}
 use Rattle.race_record.proofs.Leads.{tells_entries}
 use Rattle.port_search.proofs.TurnSearch.{gave_none, gave_both}
-use Rattle.chain_deeds.specs.Sides.{Side, chains_by}
+use Rattle.chain_deeds.specs.Sides.{Side, chains_by, changes_by}
 use Rattle.chain_deeds.specs.Made.{Does, AllLeave, Spares}
 use Rattle.shared_ops.specs.Leads.{Leads}
-use Rattle.shared_ops.specs.Goes.{Went, LeftOff, CarriedOut, CarriedOutAlone, AreAsked, AskedAll}
+use Rattle.shared_ops.specs.Goes.{Went, LeftOff, IsUndecided, CarriedOut, CarriedOutAlone, AreAsked, AskedAll}
 
 -- What was asked in one turn
 
@@ -212,8 +212,8 @@ went_both count p q r u v w c d e a b =
       does = does_both a.deeds b.deeds c d e a.does b.does;
     }
 
-pub left_both : {R : Type 0} (count name : ℕ) (p q : Asking R) (u v w : View) (c d e : Side) → Went count p u v c d q → LeftOff count name q v w d e → LeftOff count name p u w c e
-left_both count name p q u v w c d e a b =
+pub left_both : {R : Type 0} (count name : ℕ) (p q : Asking R) (u v w : View) (c d e : Side) → Went count p u v c d q → changes_by d ≡ changes_by c → LeftOff count name q v w d e → LeftOff count name p u w c e
+left_both count name p q u v w c d e a still b =
     record {
       rest = b.rest;
       deeds = a.deeds ++ b.deeds;
@@ -224,28 +224,50 @@ left_both count name p q u v w c d e a b =
           (sym (ap (λ (xs : List (Placed Entry)). xs ++ b.back) (entries_both count a.deeds b.deeds) ∙ append_assoc (entries_in count a.deeds) (entries_in count b.deeds) b.back))
           (gave_both u v w (entries_in count a.deeds) (entries_in count b.deeds ++ b.back) a.gave b.gave);
       does = does_both a.deeds b.deeds c d e a.does b.does;
+      still = b.still ∙ still;
+      undecided = b.undecided;
     }
 
-pub left_there : {R : Type 0} (count name : ℕ) (p q : Asking R) (u v : View) (c d : Side) → Went count p u v c d q → LeftOff count name p u v c d
-left_there count name p q u v c d a =
-    record { rest = q; deeds = a.deeds; leads = a.leads; back = []; gives = tt; gave = subst (Gave u v) (sym (append-nil (entries_in count a.deeds))) a.gave; does = a.does }
+pub left_there : {R : Type 0} (count name : ℕ) (p q : Asking R) (u v : View) (c d : Side) → c ≡ d → IsUndecided q [] → Went count p u v c d q → LeftOff count name p u v c d
+left_there count name p q u v c d same undecided a =
+    record {
+      rest = q;
+      deeds = a.deeds;
+      leads = a.leads;
+      back = [];
+      gives = tt;
+      gave = subst (Gave u v) (sym (append-nil (entries_in count a.deeds))) a.gave;
+      does = a.does;
+      still = ap changes_by (sym same);
+      undecided = undecided;
+    }
 
 -- nothing was asked, and nothing done
-pub left_nowhere : {R : Type 0} (count name : ℕ) (p : Asking R) (v w : View) (c d : Side) → c ≡ d → Gave v w [] → LeftOff count name p v w c d
-left_nowhere count name p v w c d same gave =
-    record { rest = p; deeds = []; leads = refl; back = []; gives = tt; gave = gave; does = subst (Does [] c) same (does_none c) }
+pub left_nowhere : {R : Type 0} (count name : ℕ) (p : Asking R) (v w : View) (c d : Side) → c ≡ d → IsUndecided p [] → Gave v w [] → LeftOff count name p v w c d
+left_nowhere count name p v w c d same undecided gave =
+    record {
+      rest = p;
+      deeds = [];
+      leads = refl;
+      back = [];
+      gives = tt;
+      gave = gave;
+      does = subst (Does [] c) same (does_none c);
+      still = ap changes_by (sym same);
+      undecided = undecided;
+    }
 
 -- a turn or room wasn't had: the plan is left off where it begins
 pub begun_not : {X R : Type 0} (did : X → R) (not_done : OpEnd → R) (count name : ℕ) (p : Asking R) (v w : View) (c d : Side) (cause : Cause) (r : Result X OpEnd)
-    → IsErrAnd r (λ end. end ≡ errors.LeftOff cause) → d ≡ c → Gave v w [] → CarriedOut did not_done count name p v w c d r
-begun_not did not_done count name p v w c d cause (Ok x) is same gave = absurd is
-begun_not did not_done count name p v w c d cause (Err end) is same gave =
-    subst (λ (e : OpEnd). CarriedOut did not_done count name p v w c d (Err e)) (sym is) (left_nowhere count name p v w c d (sym same) gave)
+    → IsErrAnd r (λ end. end ≡ errors.LeftOff cause) → d ≡ c → IsUndecided p [] → Gave v w [] → CarriedOut did not_done count name p v w c d r
+begun_not did not_done count name p v w c d cause (Ok x) is same undecided gave = absurd is
+begun_not did not_done count name p v w c d cause (Err end) is same undecided gave =
+    subst (λ (e : OpEnd). CarriedOut did not_done count name p v w c d (Err e)) (sym is) (left_nowhere count name p v w c d (sym same) undecided gave)
 
-module _ {X R : Type 0} (did : X → R) (not_done : OpEnd → R) (count name : ℕ) (p q : Asking R) (u v w : View) (c d e : Side) (a : Went count p u v c d q) where
+module _ {X R : Type 0} (did : X → R) (not_done : OpEnd → R) (count name : ℕ) (p q : Asking R) (u v w : View) (c d e : Side) (a : Went count p u v c d q) (still : changes_by d ≡ changes_by c) where
   pub carried_both : (r : Result X OpEnd) → CarriedOut did not_done count name q v w d e r → CarriedOut did not_done count name p u w c e r
   carried_both (Ok x) b = went_both count p q (ends (did x)) u v w c d e a b
-  carried_both (Err (errors.LeftOff cause)) b = left_both count name p q u v w c d e a b
+  carried_both (Err (errors.LeftOff cause)) b = left_both count name p q u v w c d e a still b
   carried_both (Err (errors.InUse n)) b = went_both count p q (ends (not_done (errors.InUse n))) u v w c d e a b
   carried_both (Err errors.NoPort) b = went_both count p q (ends (not_done errors.NoPort)) u v w c d e a b
   carried_both (Err (errors.Taken n)) b = went_both count p q (ends (not_done (errors.Taken n))) u v w c d e a b

@@ -1,5 +1,5 @@
 -- What hashing a connected socket came to.
-use Rattle.std.proofs.Common.{◌≡◌, true, Option, Some, None, Result, Ok, Err, [], ◌∷◌, refl, sym, ap, subst, ◌∙◌, arith}
+use Rattle.std.proofs.Common.{◌≡◌, ℕ, true, Option, Some, None, Result, Ok, Err, [], ◌∷◌, refl, sym, ap, subst, ◌∙◌, append-nil, arith}
 use Rattle.std.specs.Option.{option_map}
 use Rattle.std.proofs.lemmas.Bool.{and_parts}
 use Rattle.sock_card.specs.Conflict.{bind_key}
@@ -23,7 +23,7 @@ use Rattle.race_record.specs.Deeds.{Wish, Tried, hashed, kept_out, no_slot, inse
 use Rattle.race_record.specs.Goes.{Grants, IsHashOf, outcome_of, hashed_of}
 use Rattle.table_model.specs.declared.operation.OpEnd.{OpEnd}
 use Rattle.table_model.specs.declared.operation.OpEnd.TheVariants as errors
-use Rattle.chain_deeds.specs.Sides.{Side}
+use Rattle.chain_deeds.specs.Sides.{Side, changes_by}
 use Rattle.chain_deeds.specs.Made.{Does}
 use Rattle.chain_deeds.specs.Answers.{Inserts, IsInserted, DrawnBy, name_in}
 use Rattle.shared_sockets.specs.Comings.{FourDrawn}
@@ -33,6 +33,11 @@ use Rattle.shared_ops.specs.Hashing.{PutsIn, InsertsAs, DrawnAs, insert_error}
 -- what was tried was granted
 pub grants_of : (wish : Wish) (tried : Tried) (c d : Side) → Does (inserted wish tried ∷ []) c d → Grants wish tried
 grants_of wish tried c d does = does.leaves.1.fits
+
+-- a refused four-tuple changes no chain
+pub kept_still : (wish : Wish) (name : ℕ) (c d : Side) → Does (inserted wish (kept_out name) ∷ []) c d → changes_by d ≡ changes_by c
+kept_still wish name c d does =
+    let left = does.leaves in sym (ap changes_by left.2) ∙ left.1.changes ∙ append-nil (changes_by c)
 
 is_hash : (wish : Wish) (hash : Change) (old : Option Change) → Grants wish (hashed hash old) → IsHashOf wish.card hash
 is_hash wish hash None g = g

@@ -20,3 +20,4 @@ pub mod Listed
 mod Lists
 mod ListTurns
 mod AskedFirst
+pub mod Crossing

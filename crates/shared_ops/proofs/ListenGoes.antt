@@ -23,7 +23,7 @@ use Rattle.table_model.specs.Own.{Mine, card_of}
 use Rattle.table_model.specs.Asking.{Asking, ends}
 use Rattle.table_model.specs.Operations.{Did, done, refused, give_up, when_done, listener, listen_at, listen_answered, listen_hashed, listens_in}
 use Rattle.race_record.specs.Deeds.{Deed, Tried, hashed, no_slot, added, entries_in}
-use Rattle.chain_deeds.specs.Sides.{Side}
+use Rattle.chain_deeds.specs.Sides.{Side, changes_by}
 use Rattle.chain_deeds.specs.Made.{Does}
 use Rattle.shared_ops.specs.declared.sock.Sock.{Sock}
 use Rattle.shared_ops.specs.Leads.{Leads}
@@ -124,6 +124,8 @@ module _ (count : ℕ) (a : Owner) (took : Bool) (v w : View) (c d : Side) where
         gives = gave_up took f.zs f.more;
         gave = subst (λ (p : Placed Entry). Gave v w (p ∷ f.zs)) (sym (entry_is count (owner_key a) (requests.MayListen a.name) (answers.Group group) f.x f.is)) f.gave;
         does = subst (λ (k : Side). Does (deed_at (owner_key a) f.x ∷ []) c k) same (does_entry (owner_key a) f.x c);
+        still = ap changes_by (sym same);
+        undecided = tt;
       }
 
   pub listen_full : (group : Option ℕ) (l : Owner) (extra : ℕ) (card : Card) (end : OpEnd)
@@ -182,6 +184,8 @@ module _ (count : ℕ) (a : Owner) (took : Bool) (v w : View) (c d : Side) where
         gives = gave_up took all.xs all.asked;
         gave = all.gave;
         does = subst (λ (k : Side). Does [] c k) same (does_none c);
+        still = ap changes_by (sym same);
+        undecided = tt;
       }
 
 -- what is handed back beside the answer

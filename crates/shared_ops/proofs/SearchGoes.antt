@@ -25,7 +25,7 @@ use Rattle.table_model.specs.Asking.{Asking, ends}
 use Rattle.table_model.specs.Operations.{Did, done, refused, full_card, full_in, full_done, when_done, connect_free, connect_tried, search_connect}
 use Rattle.race_record.specs.Deeds.{Deed, Tried, hashed, kept_out, no_slot, inserted}
 use Rattle.race_record.specs.Goes.{outcome_of, hashed_of}
-use Rattle.chain_deeds.specs.Sides.{Side}
+use Rattle.chain_deeds.specs.Sides.{Side, changes_by}
 use Rattle.chain_deeds.specs.Made.{Does}
 use Rattle.shared_ops.specs.Leads.{Leads}
 use Rattle.shared_ops.specs.Goes.{Went, LeftOff, CarriedOut, AreAsked, AskedAll, gone_of}
@@ -37,7 +37,7 @@ use Rattle.shared_ops.specs.declared.tables.Tables.{Tables}
 use Rattle.shared_ops.specs.declared.tables.Worker.{Worker}
 use Rattle.table_rule.specs.Passes as chain_words
 use Rattle.shared_ops.proofs.Goes.{deed_at, entry_is, by_entry, by_inserted, all_entries, does_both, does_entry, does_entries, One, all_one, went_both, went_nowhere, left_there, left_nowhere, carried_both}
-use Rattle.shared_ops.proofs.Inserted.{grants_of, put_outcome, keys_of, names_of}
+use Rattle.shared_ops.proofs.Inserted.{kept_still, grants_of, put_outcome, keys_of, names_of}
 use Rattle.shared_ops.proofs.ConnectGoes.{replaced_leads, full_is, gone_quiet}
 use Rattle.shared_ops.proofs.Knows.{AllQuiet, after, grows, grows_first, grows_rest, all_pass, asked_quiet, away_on, came_on, came_stands, comes, knows_on}
 
@@ -121,17 +121,20 @@ module _ (count : ℕ) (a : Owner) (moment : ℕ) (rule : Replace) (v w : View) 
       }
 
   pub tries_held : (name : ℕ) → c ≡ d → AskedAll (owner_key a % count) (held_entry a name ∷ []) v w → TriesAt count c.layout a moment rule v w c d (Ok None)
-  tries_held name same all = asked_goes (answers.NotFree name) same (all_one (owner_key a % count) (held_entry a name) v w all)
+  tries_held name same all =
+      (asked_goes (answers.NotFree name) same (all_one (owner_key a % count) (held_entry a name) v w all), ap changes_by (sym same))
 
   -- the chain was another's for too long: the plan stands where the four-tuple was to be had
   tries_busy : c ≡ d → One (owner_key a % count) (free_entry a) v w → (next : Asking Did) → LeftOff count a.name (port_plan c.layout a moment rule next) v w c d
   tries_busy same o next =
-      left_there count a.name (port_plan c.layout a moment rule next) (connect_free c.layout.shape c.layout.seed a moment rule next answers.Done) v w c d
+      left_there count a.name (port_plan c.layout a moment rule next) (connect_free c.layout.shape c.layout.seed a moment rule next answers.Done) v w c d same tt
       (asked_goes answers.Done same o next)
 
   pub tries_refused : (end : OpEnd) → InsertsAs (wish_for a moment rule) c d (Err end) → AskedAll (owner_key a % count) (free_entry a ∷ []) v w → TriesAt count c.layout a moment rule v w c d (next_or end)
-  tries_refused (errors.Taken name) ins all = λ next.
-      refused_goes (kept_out name) next next refl ins (all_one (owner_key a % count) (free_entry a) v w all)
+  tries_refused (errors.Taken name) ins all = (
+    λ next. refused_goes (kept_out name) next next refl ins (all_one (owner_key a % count) (free_entry a) v w all),
+    kept_still (wish_for a moment rule) name c d ins,
+  )
   tries_refused (errors.Full owned held) ins all = λ next.
       refused_goes (no_slot ins.number owned held) next (ends (refused (errors.Full owned held))) refl ins.does (all_one (owner_key a % count) (free_entry a) v w all)
   tries_refused (errors.LeftOff causes.Busy) ins all = tries_busy ins (all_one (owner_key a % count) (free_entry a) v w all)
@@ -147,7 +150,7 @@ module _ (count : ℕ) (a : Owner) (moment : ℕ) (rule : Replace) (v w : View) 
   pub tries_not : (cause : Cause) (r : Result (Option Mine) OpEnd) → IsErrAnd r (λ end. end ≡ errors.LeftOff cause) → d ≡ c → Gave v w [] → TriesAt count c.layout a moment rule v w c d r
   tries_not cause (Ok found) is same gave = absurd is
   tries_not cause (Err end) is same gave =
-      subst (λ (e : OpEnd). TriesAt count c.layout a moment rule v w c d (Err e)) (sym is) (λ next. left_nowhere count a.name (port_plan c.layout a moment rule next) v w c d (sym same) gave)
+      subst (λ (e : OpEnd). TriesAt count c.layout a moment rule v w c d (Err e)) (sym is) (λ next. left_nowhere count a.name (port_plan c.layout a moment rule next) v w c d (sym same) tt gave)
 
   -- a search that ends here
   pub tried_err : (next : Asking Did) (end : OpEnd) → TriesAt count c.layout a moment rule v w c d (Err end) → CarriedOut {X = Mine} done refused count a.name (port_plan c.layout a moment rule next) v w c d (Err end)
@@ -220,12 +223,12 @@ module _ (count : ℕ) (a : Owner) (source : ℕ) (to : End) (moment : ℕ) (rul
   abbrev search : List ℕ → Asking Did
   search rest = search_connect c.layout.shape c.layout.seed a source to moment rule rest
 
-  -- all ports before those that are left were passed over
+  -- all ports before those that are left were passed over, and no chain was changed
   abbrev pub Seeking : List ℕ → View → Side → Type 0
-  Seeking rest u k = Went count (search ports) v u c k (search rest)
+  Seeking rest u k = Went count (search ports) v u c k (search rest) × (changes_by k ≡ changes_by c)
 
   pub seeks : (rest : List ℕ) → rest ≡ ports → Seeking rest v c
-  seeks rest all = subst (λ ps. Went count (search ps) v v c c (search rest)) all (went_nowhere count (search rest) v c)
+  seeks rest all = (subst (λ ps. Went count (search ps) v v c c (search rest)) all (went_nowhere count (search rest) v c), refl)
 
   module _ (rest left : List ℕ) (port : ℕ) (b : Owner) (u w : View) (k d : Side) (s : Seeking rest u k) (same : k.layout ≡ c.layout) (here : rest ≡ port ∷ left) (b_is : b ≡ connected_at a source port to) where
     -- the plan at this port
@@ -236,20 +239,20 @@ module _ (count : ℕ) (a : Owner) (source : ℕ) (to : End) (moment : ℕ) (rul
         ∙ ap search (sym here)
 
     so_far : Went count (search ports) v u c k (port_plan k.layout b moment rule (search left))
-    so_far = subst (Went count (search ports) v u c k) (sym at_port) s
+    so_far = subst (Went count (search ports) v u c k) (sym at_port) s.0
 
     pub seek_found : (m : Mine) → TriesAt count k.layout b moment rule u w k d (Ok (Some m)) → Went count (search ports) v w c d (ends (done m))
     seek_found m t = went_both count (search ports) (port_plan k.layout b moment rule (search left)) (ends (done m)) v u w c k d so_far (t (search left))
 
     pub seek_on : TriesAt count k.layout b moment rule u w k d (Ok None) → Seeking left w d
-    seek_on t = went_both count (search ports) (port_plan k.layout b moment rule (search left)) (search left) v u w c k d so_far (t (search left))
+    seek_on t = (went_both count (search ports) (port_plan k.layout b moment rule (search left)) (search left) v u w c k d so_far (t.0 (search left)), t.1 ∙ s.1)
 
     pub seek_err : (end : OpEnd) → TriesAt count k.layout b moment rule u w k d (Err end) → CarriedOut {X = Mine} done refused count a.name (search ports) v w c d (Err end)
-    seek_err end t = carried_both {X = Mine} done refused count a.name (search ports) (port_plan k.layout b moment rule (search left)) v u w c k d so_far (Err end)
+    seek_err end t = carried_both {X = Mine} done refused count a.name (search ports) (port_plan k.layout b moment rule (search left)) v u w c k d so_far s.1 (Err end)
         (subst (λ n. CarriedOut {X = Mine} done refused count n (port_plan k.layout b moment rule (search left)) u w k d (Err end)) (ap (λ (o : Owner). o.name) b_is) (tried_err count b moment rule u w k d (search left) end t))
 
   pub seek_none : (rest : List ℕ) (u : View) (k : Side) → Seeking rest u k → rest ≡ [] → Went count (search ports) v u c k (ends (refused errors.NoPort))
-  seek_none rest u k s none = subst (λ ps. Went count (search ports) v u c k (search ps)) none s
+  seek_none rest u k s none = subst (λ ps. Went count (search ports) v u c k (search ps)) none s.0
 
 -- a port passed over is one port less to try
 pub enough : (most old new more : ℕ) (rest left : List ℕ) (port : ℕ) → rest ≡ port ∷ left → new ≡ old + 1 → old + (length rest + more) ≤ most → new + (length left + more) ≤ most

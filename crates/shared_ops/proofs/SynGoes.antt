@@ -101,7 +101,7 @@ module _ (count : ℕ) (r : Owner) (v w : View) (c d : Side) where
   syn_refused errors.GroupFull ins gave = absurd ins
   syn_refused errors.GroupsFull ins gave = absurd ins
   syn_refused (errors.LeftOff causes.Memory) ins gave = absurd ins
-  syn_refused (errors.LeftOff causes.Busy) ins gave = left_nowhere count r.name plan v w c d ins gave
+  syn_refused (errors.LeftOff causes.Busy) ins gave = left_nowhere count r.name plan v w c d ins tt gave
 
 -- who stands in a bucket stays, whichever TIME_WAIT's owner leaves
 pub owners_stay : (t : Tables) (place : ℕ) (replaced : Option ℕ) (answer : Answer) (v w : View) → AskedAll place (gone_of replaced answer) v w → OwnersStay t v w

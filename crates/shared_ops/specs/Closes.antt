@@ -61,17 +61,21 @@ became (closes.TimeWait m) = plan.waiting m
 became (closes.NoSlot owned held) = plan.no_slot owned held
 
 -- the plan of a socket of that name went on to its end, or was left off
-abbrev pub Leaves : {X E : Type 0} → (X → plan.Closed) → ℕ → ℕ → Asking plan.Closed → View → View → Side → Side → Result X E → Type 0
+abbrev pub Leaves :
+    {X E : Type 0} → (X → plan.Closed) → ℕ → ℕ → Asking plan.Closed → View → View → Side → Side → Result X E → Type 0
 Leaves did count name p v w c d (Ok x) = Went count p v w c d (ends (did x))
 Leaves did count name p v w c d (Err end) = LeftOff count name p v w c d
 
 -- there is no refusal but that it was left off
-abbrev pub ClosedBy : {X : Type 0} → (X → plan.Closed) → ℕ → ℕ → Asking plan.Closed → View → View → Side → Side → Result X OpEnd → Type 0
+abbrev pub ClosedBy :
+    {X : Type 0} → (X → plan.Closed) → ℕ → ℕ → Asking plan.Closed → View → View → Side → Side → Result X OpEnd → Type 0
 ClosedBy did count name p v w c d (Ok x) = Went count p v w c d (ends (did x))
 ClosedBy did count name p v w c d (Err (errors.LeftOff cause)) = LeftOff count name p v w c d
 ClosedBy did count name p v w c d (Err end) = ⊥
 
-abbrev pub ClosedByAlone : {X : Type 0} → (X → plan.Closed) → ℕ → Asking plan.Closed → List (Placed Entry) → List (Placed Entry) → Side → Side → Result X OpEnd → Type 0
+abbrev pub ClosedByAlone :
+    {X : Type 0} → (X → plan.Closed) → ℕ → Asking plan.Closed → List (Placed Entry) → List (Placed Entry) → Side → Side
+    → Result X OpEnd → Type 0
 ClosedByAlone did count p old new c d (Ok x) = Comes count p old new c d (did x)
 ClosedByAlone did count p old new c d (Err end) = (cause : Cause) × (end ≡ errors.LeftOff cause)
 

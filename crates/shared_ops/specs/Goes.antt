@@ -3,16 +3,17 @@ use Rattle.std.specs.Prelude.{◌≡◌, ℕ, ◌%◌, Bool, true, false, List, 
 use Rattle.sock_card.specs.declared.owner.Owner.{Owner}
 use Rattle.turn_table.specs.declared.note.Placed.{Placed}
 use Rattle.bind_buckets.specs.declared.request.Entry.{Entry}
+use Rattle.bind_buckets.specs.declared.request.Request.{Request}
 use Rattle.bind_buckets.specs.declared.request.Request.TheVariants as requests
 use Rattle.bind_buckets.specs.declared.request.Answer.{Answer}
 use Rattle.bind_buckets.specs.declared.request.Answer.TheVariants as answers
 use Rattle.bind_buckets.specs.Turned.{View, Gave, IsAsked}
-use Rattle.chain_deeds.specs.Sides.{Side, chains_by}
+use Rattle.chain_deeds.specs.Sides.{Side, chains_by, changes_by}
 use Rattle.chain_deeds.specs.Made.{Does}
 use Rattle.table_model.specs.declared.operation.Cause.TheVariants as causes
 use Rattle.table_model.specs.declared.operation.OpEnd.{OpEnd}
 use Rattle.table_model.specs.declared.operation.OpEnd.TheVariants as errors
-use Rattle.table_model.specs.Asking.{Asking, ends}
+use Rattle.table_model.specs.Asking.{Asking, ends, asks, impossible}
 use Rattle.table_model.specs.Tables.{run}
 use Rattle.table_model.specs.Goes.{tables_by}
 use Rattle.race_record.specs.Deeds.{Deed, entries_in}
@@ -32,9 +33,22 @@ GivesUp count name [] = Unit {0}
 GivesUp count name (x ∷ []) = (key : ℕ) × IsAsked (key % count) (requests.Remove name) answers.Done x
 GivesUp count name _ = ⊥
 
--- For want of memory or of patience the plan was left off somewhere, and then the owner left its port, or nothing more
--- was asked. That no port stays taken is said by each call's clause on what it kept. How much of the plan is left isn't said: `rest`
--- may be its end, so a plan that went to its end meets this, too.
+-- A question that isn't that for which these entries stand: where the owner has left its port, another than that it
+-- leave it, with which a refused `listen` ends.
+abbrev pub IsOther : Request → List (Placed Entry) → Type 0
+IsOther (requests.Remove name) (x ∷ more) = ⊥
+IsOther request back = Unit {0}
+
+-- A plan that has a question left, beside these entries: it was neither carried out nor refused.
+abbrev pub IsUndecided : {R : Type 0} → Asking R → List (Placed Entry) → Type 0
+IsUndecided (ends result) back = ⊥
+IsUndecided impossible back = ⊥
+IsUndecided (asks key request then_) back = IsOther request back
+IsUndecided rest back = Unit {0}
+
+-- For want of memory or of patience the plan was left off before it changed a chain and before it came to an end, and
+-- then the owner left its port, or nothing more was asked. That no port stays taken is said by each call's clause on
+-- what it kept.
 pub record LeftOff {R : Type 0} (count name : ℕ) (plan : Asking R) (v w : View) (c d : Side) : Type 0 where
   pub rest : Asking R
   pub deeds : List Deed
@@ -43,6 +57,8 @@ pub record LeftOff {R : Type 0} (count name : ℕ) (plan : Asking R) (v w : View
   pub gives : GivesUp count name back
   pub gave : Gave v w (entries_in count deeds ++ back)
   pub does : Does deeds c d
+  pub still : changes_by d ≡ changes_by c
+  pub undecided : IsUndecided rest back
 
 -- it wasn't left off since another had a bucket or a chain for too long
 abbrev pub NotBusy : OpEnd → Type 0
@@ -50,7 +66,8 @@ NotBusy (errors.LeftOff causes.Busy) = ⊥
 NotBusy end = Unit {0}
 
 -- the plan of a socket of that name went on to the end that the result says, whoever else was there
-abbrev pub CarriedOut : {X R : Type 0} → (X → R) → (OpEnd → R) → ℕ → ℕ → Asking R → View → View → Side → Side → Result X OpEnd → Type 0
+abbrev pub CarriedOut :
+    {X R : Type 0} → (X → R) → (OpEnd → R) → ℕ → ℕ → Asking R → View → View → Side → Side → Result X OpEnd → Type 0
 CarriedOut did not_done count name plan v w c d (Ok x) = Went count plan v w c d (ends (did x))
 CarriedOut did not_done count name plan v w c d (Err (errors.LeftOff cause)) = LeftOff count name plan v w c d
 CarriedOut did not_done count name plan v w c d (Err end) = Went count plan v w c d (ends (not_done end))
@@ -58,9 +75,12 @@ CarriedOut did not_done count name plan v w c d (Err end) = Went count plan v w 
 -- the plan comes to that on the tables that the old entries and changes make, and leaves those that all of them make
 abbrev pub Comes : {R : Type 0} → ℕ → Asking R → List (Placed Entry) → List (Placed Entry) → Side → Side → R → Type 0
 Comes count plan old new c d did =
-    run (tables_by count old (chains_by c)) plan ≡ Some (record { tables = tables_by count new (chains_by d); result = did })
+    run (tables_by count old (chains_by c)) plan
+    ≡ Some (record { tables = tables_by count new (chains_by d); result = did })
 
-abbrev pub CarriedOutAlone : {X R : Type 0} → (X → R) → (OpEnd → R) → ℕ → Asking R → List (Placed Entry) → List (Placed Entry) → Side → Side → Result X OpEnd → Type 0
+abbrev pub CarriedOutAlone :
+    {X R : Type 0} → (X → R) → (OpEnd → R) → ℕ → Asking R → List (Placed Entry) → List (Placed Entry) → Side → Side
+    → Result X OpEnd → Type 0
 CarriedOutAlone did not_done count plan old new c d (Ok x) = Comes count plan old new c d (did x)
 CarriedOutAlone did not_done count plan old new c d (Err (errors.LeftOff cause)) = Unit {0}
 CarriedOutAlone did not_done count plan old new c d (Err end) = Comes count plan old new c d (not_done end)

@@ -80,7 +80,8 @@ pub record ListsIn (place : ℕ) (es : List Entry) (group : Option ℕ) (v : Vie
   pub added : List Note
   pub asked : entries_of added ≡ es
   pub left : IsLeft place v (before ++ added)
-  pub lists : Follows place group (replayed place (entries_of before)) (replayed place (entries_of (before ++ added))) p q
+  pub lists : Follows place group (replayed place (entries_of before))
+      (replayed place (entries_of (before ++ added))) p q
 
 -- What an operation did
 
@@ -88,7 +89,8 @@ pub record ListsIn (place : ℕ) (es : List Entry) (group : Option ℕ) (v : Vie
 pub record ListensAs (place : ℕ) (l : Mine) (v : View) (p q : GroupPasses) : Type 0 where
   pub group : Option ℕ
   pub extra : l.extra ≡ option_map_or (λ (number : ℕ). number + 1) group 0
-  pub lists : ListsIn place (asked_listen l.owner (answers.Group group) ∷ said_listen l.owner l.place.slot ∷ []) group v p q
+  pub lists : ListsIn place (asked_listen l.owner (answers.Group group) ∷ said_listen l.owner l.place.slot
+      ∷ []) group v p q
 
 -- the owner left its bucket, and the list of the group that it was a member of was published, if there was one
 pub record LeavesAs (place : ℕ) (a : Owner) (v : View) (p q : GroupPasses) : Type 0 where

@@ -10,7 +10,8 @@ abbrev pub Takes : {R : Type 0} → Asking R → Deed → Asking R → Type 0
 Takes (asks key request then_) (entered k note) next =
     (k ≡ key) × (note.entry.request ≡ request) × (next ≡ then_ note.entry.answer)
 Takes (inserts card moment rule then_) (inserted wish tried) next =
-    (wish ≡ record { card = card; moment = moment; rule = rule }) × Grants wish tried × (next ≡ then_ (outcome_of tried))
+    (wish ≡ record { card = card; moment = moment; rule = rule }) × Grants wish tried
+    × (next ≡ then_ (outcome_of tried))
 Takes (adds card then_) (added c tried) next = (c ≡ card) × Admits card tried × (next ≡ then_ (outcome_of tried))
 Takes (unhashes place card then_) (left u) next = IsUnhashAt place card u × (next ≡ then_)
 Takes (reaps card then_) (reaped c unhash) next = (c ≡ card) × IsReapOf card unhash × (next ≡ then_ (was_there unhash))

@@ -13,7 +13,7 @@ use Rattle.table_model.specs.declared.operation.OpEnd.TheVariants as errors
 use Rattle.table_model.specs.Own.{Mine}
 use Rattle.table_model.specs.Asking.{Asking, ends, asks}
 use Rattle.table_model.specs.Operations.{Did, done, refused, connect_free}
-use Rattle.chain_deeds.specs.Sides.{Side}
+use Rattle.chain_deeds.specs.Sides.{Side, changes_by}
 use Rattle.shared_ops.specs.declared.tables.Tables.{Tables}
 use Rattle.shared_ops.specs.declared.tables.Worker.{Worker}
 use Rattle.shared_ops.specs.Connecting.{StandsFull}
@@ -29,12 +29,14 @@ abbrev pub port_plan : Layout → Owner → ℕ → Replace → Asking Did → A
 port_plan layout a moment rule next =
     asks (owner_key a) (requests.Free a.port a.net) (connect_free layout.shape layout.seed a moment rule next)
 
--- the connection is made, or the next port is to be tried, or the search ends; whatever the next is
+-- the connection is made, or no chain was changed and the next port is to be tried, or the search ends; whatever the
+-- next is
 abbrev pub TriesAt : ℕ → Layout → Owner → ℕ → Replace → View → View → Side → Side → Result (Option Mine) OpEnd → Type 0
 TriesAt count layout a moment rule v w c d (Ok (Some m)) =
     (next : Asking Did) → Went count (port_plan layout a moment rule next) v w c d (ends (done m))
 TriesAt count layout a moment rule v w c d (Ok None) =
-    (next : Asking Did) → Went count (port_plan layout a moment rule next) v w c d next
+    ((next : Asking Did) → Went count (port_plan layout a moment rule next) v w c d next)
+    × (changes_by d ≡ changes_by c)
 TriesAt count layout a moment rule v w c d (Err (errors.LeftOff cause)) =
     (next : Asking Did) → LeftOff count a.name (port_plan layout a moment rule next) v w c d
 TriesAt count layout a moment rule v w c d (Err end) =

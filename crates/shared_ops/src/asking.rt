@@ -59,7 +59,8 @@ pub(crate) fn may_listen(
     requires entry { 1 ≤ turn.old.value.value.entries }
     ensures asks { Asks buckets.now pass.old turn.old pass.new turn.new
         (requests.MayListen owner.now.name) (answer_of_listen result) }
-    ensures says { IfOk result (λ group. answer_to turn.new.value.value (requests.MayListen owner.now.name) ≡ answers.Group group) }
+    ensures says { IfOk result (λ group. answer_to turn.new.value.value (requests.MayListen owner.now.name)
+        ≡ answers.Group group) }
     // A bucket's number is below 256, and it has eight groups.
     ensures few { IfOk result (λ group. IfSome group (λ number. number < 2048)) }
     ensures known { IsKnown result }

@@ -72,10 +72,12 @@ fn bind_given<P: Patience>(
     ensures draws { words.draws pass.new ≤ words.draws pass.old + 1 }
     ensures carried { (c : Side) → CarriedOut (λ _. bound_to owner end.addr end.port) refused
         (words.places buckets.now) owner.name
-        (asks (bind_key end.port owner.net) (requests.Bind (bound_at owner end.addr end.port)) (bind_answered owner end))
+        (asks (bind_key end.port owner.net) (requests.Bind (bound_at owner end.addr end.port))
+        (bind_answered owner end))
         (known pass.old) (known pass.new) c c result }
     ensures stands { IsAway owner.name (known pass.old) → IfOk result (λ _.
-        StandsOwn (bound_at owner end.addr end.port) (bind_key end.port owner.net % words.places buckets.now) (known pass.new)) }
+        StandsOwn (bound_at owner end.addr end.port) (bind_key end.port owner.net % words.places buckets.now)
+        (known pass.new)) }
     ensures kept { IsAway owner.name (known pass.old) → OnErr result (IsAway owner.name (known pass.new)) }
     ensures spares { GaveSparing (known pass.old) (known pass.new) }
     ensures patient { P.endless ≡ true → IfErr result NotBusy }
@@ -146,7 +148,8 @@ fn bind_unbound<P: Patience>(
     ensures carried { (c : Side) → CarriedOut (bound_to owner end.addr) refused (words.places buckets.now) owner.name
         (plans.bind_unbound owner end ports) (known pass.old) (known pass.new) c c result }
     ensures stands { IsAway owner.name (known pass.old) → IfOk result (λ port.
-        StandsOwn (bound_at owner end.addr port) (bind_key port owner.net % words.places buckets.now) (known pass.new)) }
+        StandsOwn (bound_at owner end.addr port) (bind_key port owner.net % words.places buckets.now)
+        (known pass.new)) }
     ensures kept { IsAway owner.name (known pass.old) → OnErr result (IsAway owner.name (known pass.new)) }
     ensures spares { GaveSparing (known pass.old) (known pass.new) }
     ensures patient { P.endless ≡ true → IfErr result NotBusy }

@@ -163,17 +163,21 @@ fn wait_in<P: Patience>(
     ensures entered { words.draws worker.new.turns ≤ words.draws worker.old.turns + 1 }
     ensures drawn { Draws 4 worker.old worker.new }
     ensures went { IfOk result (λ closed. (v : View) → Within v (turned worker.old) → Went (buckets_of tables.now)
-        (plans.close_full tables.now.chains.layout.shape tables.now.chains.layout.seed full.now (plans.wait_of full.now moment))
-        v (turned worker.new) (chained tables.now worker.old) (chained tables.now worker.new) (ends (spec.became closed))) }
+        (plans.close_full tables.now.chains.layout.shape tables.now.chains.layout.seed full.now
+        (plans.wait_of full.now moment))
+        v (turned worker.new) (chained tables.now worker.old) (chained tables.now worker.new)
+        (ends (spec.became closed))) }
     ensures nothing { OnErr result ((v : View) → Within v (turned worker.old) → Gave v (turned worker.new) []) }
     ensures side { OnErr result (chained tables.now worker.new ≡ chained tables.now worker.old) }
     ensures none { OnErr result (worker.new.groups ≡ worker.old.groups) }
     ensures patient { P.endless ≡ true → OnErr result ⊥ }
-    ensures lists { (v : View) → Within v (turned worker.old) → LeavesOrStays (owner_key full.now.owner % buckets_of tables.now)
+    ensures lists { (v : View) → Within v (turned worker.old)
+        → LeavesOrStays (owner_key full.now.owner % buckets_of tables.now)
         full.now.owner (turned worker.new) worker.old.groups worker.new.groups }
     ensures listed { (v : View) → Within v (turned worker.old) → KeepsListed (words_of_groups.groups tables.now.groups)
         v (turned worker.new) worker.old.groups worker.new.groups }
-    ensures stay { OthersStay full.now.place.slot (chained tables.now worker.old).view (chained tables.now worker.new).view }
+    ensures stay { OthersStay full.now.place.slot (chained tables.now worker.old).view
+        (chained tables.now worker.new).view }
 {
     let waiting = as_waiting(full.owner);
     let card = owned::card_as(Kind::TimeWait, &waiting, moment);
@@ -234,7 +238,8 @@ fn close_full<P: Patience>(
     ensures entered { words.draws worker.new.turns ≤ words.draws worker.old.turns + 1 }
     ensures drawn { Draws 4 worker.old worker.new }
     ensures carried { Leaves spec.became (buckets_of tables.now) full.now.owner.name
-        (plans.close_full tables.now.chains.layout.shape tables.now.chains.layout.seed full.now (plans.wait_of full.now moment))
+        (plans.close_full tables.now.chains.layout.shape tables.now.chains.layout.seed full.now
+        (plans.wait_of full.now moment))
         (turned worker.old) (turned worker.new)
         (chained tables.now worker.old) (chained tables.now worker.new) result }
     ensures kept { OnErr result (IsOwner tables.now full.now.owner (turned worker.new)
@@ -245,7 +250,8 @@ fn close_full<P: Patience>(
         full.now.owner (turned worker.new) worker.old.groups worker.new.groups }
     ensures none { OnErr result (worker.new.groups ≡ worker.old.groups) }
     ensures listed { KeepsLists tables.now worker.old worker.new }
-    ensures stay { OthersStay full.now.place.slot (chained tables.now worker.old).view (chained tables.now worker.new).view }
+    ensures stay { OthersStay full.now.place.slot (chained tables.now worker.old).view
+        (chained tables.now worker.new).view }
     ensures patient { P.endless ≡ true → IfErr result (λ cause. cause ≡ causes.Memory) }
 {
     let turn = begin_with(patience, tables, worker, &full.owner, 2)?;
@@ -272,8 +278,10 @@ fn leave_port<P: Patience>(
     ensures gave { OnOk result (AskedAll (owner_key owner.now % buckets_of tables.now) (leave_entry owner.now ∷ [])
         (known pass.old) (known pass.new)) }
     ensures same { OnErr result ((known pass.new ≡ known pass.old) × (passes.new ≡ passes.old)) }
-    ensures lists { OnOk result (LeavesAs (owner_key owner.now % buckets_of tables.now) owner.now (known pass.new) passes.old passes.new) }
-    ensures listed { KeepsListed (words_of_groups.groups tables.now.groups) (known pass.old) (known pass.new) passes.old passes.new }
+    ensures lists { OnOk result (LeavesAs (owner_key owner.now % buckets_of tables.now) owner.now
+        (known pass.new) passes.old passes.new) }
+    ensures listed { KeepsListed (words_of_groups.groups tables.now.groups) (known pass.old)
+        (known pass.new) passes.old passes.new }
     ensures patient { P.endless ≡ true → OnErr result ⊥ }
 {
     let Some(mut turn) = asking::take(patience, &tables.buckets, pass, owner) else {
@@ -359,7 +367,8 @@ fn leave_request<P: Patience>(
         (turned worker.old) (turned worker.new)
         (chained tables.now worker.old) (chained tables.now worker.new) result }
     ensures side { OnErr result (chained tables.now worker.new ≡ chained tables.now worker.old) }
-    ensures stay { OthersStay request.now.place.slot (chained tables.now worker.old).view (chained tables.now worker.new).view }
+    ensures stay { OthersStay request.now.place.slot (chained tables.now worker.old).view
+        (chained tables.now worker.new).view }
     ensures patient { P.endless ≡ true → IfErr result (λ cause. cause ≡ causes.Memory) }
 {
     worker.chain.reserve(&tables.chains, 1)?;

@@ -397,7 +397,8 @@ fn listen_shared<P: Patience>(
         (chained tables.now worker.old) (chained tables.now worker.new) (without_socket result) }
     ensures port { IfOk result (λ listens. listens.1 ≡ (mine_of listens.0).owner.port) }
     ensures back { IfErr result (λ refusal. refusal.0 ≡ socket) }
-    ensures stands { IfOk result (λ listens. StandsAs tables.now listens.0 (turned worker.new) (chained tables.now worker.new)) }
+    ensures stands { IfOk result (λ listens. StandsAs tables.now listens.0 (turned worker.new)
+        (chained tables.now worker.new)) }
     ensures kept { OnErr result (StandsAs tables.now socket (turned worker.new) (chained tables.now worker.new)) }
     ensures lists { ListsOfListen (buckets_of tables.now) socket (turned worker.new)
         worker.old.groups worker.new.groups (without_socket result) }
@@ -463,7 +464,8 @@ pub fn listen<P: Patience>(
         (chained tables.now worker.old) (chained tables.now worker.new) (without_socket result) }
     ensures port { IfOk result (λ listens. listens.1 ≡ (mine_of listens.0).owner.port) }
     ensures back { IfErr result (λ refusal. refusal.0 ≡ socket) }
-    ensures stands { IfOk result (λ listens. StandsAs tables.now listens.0 (turned worker.new) (chained tables.now worker.new)) }
+    ensures stands { IfOk result (λ listens. StandsAs tables.now listens.0 (turned worker.new)
+        (chained tables.now worker.new)) }
     ensures kept { OnErr result (StandsAs tables.now socket (turned worker.new) (chained tables.now worker.new)) }
     ensures lists { ListsOfListen (buckets_of tables.now) socket (turned worker.new)
         worker.old.groups worker.new.groups (without_socket result) }

@@ -58,6 +58,7 @@ fn reap_in<P: Patience>(
         v (turned worker.new) (chained tables.now worker.old) (chained tables.now worker.new)) }
     ensures nothing { OnErr result ((v : View) → Within v (turned worker.old) → Gave v (turned worker.new) []) }
     ensures side { OnErr result (chained tables.now worker.new ≡ chained tables.now worker.old) }
+    ensures busy { IfErr result (λ cause. cause ≡ causes.Busy) }
     ensures patient { P.endless ≡ true → OnErr result ⊥ }
     ensures stay { PlacesStay (chained tables.now worker.old).view (chained tables.now worker.new).view }
     ensures groups { worker.new.groups ≡ worker.old.groups }

@@ -24,11 +24,17 @@ fn claim_within(chains: &Chains, steps: &mut Steps, start: u32, end: u32) -> Res
     requires free { (view steps.old).slot.fresh ≡ [] }
     requires span { (start ≤ end) × (end ≤ (layout_of chains.now).shape.slots) }
     ensures table { IsOf chains.now steps.new }
-    ensures some { IfOk result (λ slot. (slot < (layout_of chains.now).shape.slots) × (start ≤ slot) × (slot < end) × (w : View) × (owned : ℕ) × (held : ℕ) × Tried (view steps.old) w owned held (Between start slot) × (Becomes steps.old steps.new (claiming w slot))) }
+    ensures some { IfOk result (λ slot. (slot < (layout_of chains.now).shape.slots) × (start ≤ slot) × (slot < end)
+        × (w : View) × (owned : ℕ) × (held : ℕ) × Tried (view steps.old) w owned held (Between start slot)
+        × (Becomes steps.old steps.new (claiming w slot))) }
     ensures far { IfOk result (λ slot. stands slot (view steps.old).chain.walked ≡ 0) }
-    ensures full { IfErr result (λ f. (start + f.owned + f.held ≡ end) × Tried (view steps.old) (view steps.new) f.owned f.held (Between start end) × ((me steps.new).1 ≡ (me steps.old).1)) }
-    ensures first { IfOk result (λ slot. IsBare (view steps.old) → (used_in (view steps.old).book.closed slot ≡ false) × AllUsed (view steps.old).book.closed start slot) }
-    ensures all { IfErr result (λ f. IsBare (view steps.old) → AllUsed (view steps.old).book.closed start end × (f.held ≡ 0)) }
+    ensures full { IfErr result (λ f. (start + f.owned + f.held ≡ end)
+        × Tried (view steps.old) (view steps.new) f.owned f.held (Between start end)
+        × ((me steps.new).1 ≡ (me steps.old).1)) }
+    ensures first { IfOk result (λ slot. IsBare (view steps.old) → (used_in (view steps.old).book.closed slot ≡ false)
+        × AllUsed (view steps.old).book.closed start slot) }
+    ensures all { IfErr result (λ f. IsBare (view steps.old) → AllUsed (view steps.old).book.closed start end
+        × (f.held ≡ 0)) }
 {
     let mut owned = 0;
     let mut held = 0;
@@ -56,11 +62,16 @@ pub fn claim(chains: &Chains, steps: &mut Steps, from: u32) -> Result<u32, Full>
     requires free { (view steps.old).slot.fresh ≡ [] }
     requires from { from ≤ (layout_of chains.now).shape.slots }
     ensures table { IsOf chains.now steps.new }
-    ensures some { IfOk result (λ slot. (slot < (layout_of chains.now).shape.slots) × (w : View) × (owned : ℕ) × (held : ℕ) × Tried (view steps.old) w owned held (Between 0 (layout_of chains.now).shape.slots) × (Becomes steps.old steps.new (claiming w slot))) }
+    ensures some { IfOk result (λ slot. (slot < (layout_of chains.now).shape.slots) × (w : View) × (owned : ℕ)
+        × (held : ℕ) × Tried (view steps.old) w owned held (Between 0 (layout_of chains.now).shape.slots)
+        × (Becomes steps.old steps.new (claiming w slot))) }
     ensures far { IfOk result (λ slot. stands slot (view steps.old).chain.walked ≡ 0) }
-    ensures full { IfErr result (λ f. IsFull (layout_of chains.now) (view steps.old) (view steps.new) f × ((me steps.new).1 ≡ (me steps.old).1)) }
-    ensures first { IfOk result (λ slot. IsBare (view steps.old) → FirstFree (view steps.old).book.closed (layout_of chains.now).shape.slots from slot) }
-    ensures all { IfErr result (λ f. IsBare (view steps.old) → AllUsed (view steps.old).book.closed 0 (layout_of chains.now).shape.slots × (f.held ≡ 0)) }
+    ensures full { IfErr result (λ f. IsFull (layout_of chains.now) (view steps.old) (view steps.new) f
+        × ((me steps.new).1 ≡ (me steps.old).1)) }
+    ensures first { IfOk result (λ slot. IsBare (view steps.old)
+        → FirstFree (view steps.old).book.closed (layout_of chains.now).shape.slots from slot) }
+    ensures all { IfErr result (λ f. IsBare (view steps.old)
+        → AllUsed (view steps.old).book.closed 0 (layout_of chains.now).shape.slots × (f.held ≡ 0)) }
 {
     match claim_within(chains, steps, from, chains.slot_count()) {
         Ok(slot) => Ok(slot),
@@ -81,7 +92,8 @@ pub fn write_card(chains: &Chains, steps: &mut Steps, slot: u32, card: &CardWord
     requires begun { IsHashOf slot (view steps.old) }
     requires fresh { (view steps.old).slot.fresh ≡ record { slot = slot; words = [] } ∷ [] }
     ensures table { IsOf chains.now steps.new }
-    ensures fresh { Becomes steps.old steps.new (record (view steps.old) { slot = record (view steps.old).slot { fresh = seen_of slot card.now ∷ [] } }) }
+    ensures fresh { Becomes steps.old steps.new
+        (record (view steps.old) { slot = record (view steps.old).slot { fresh = seen_of slot card.now ∷ [] } }) }
 {
     chains.step_card(steps, slot, 0, card.ends);
     chains.step_card(steps, slot, 1, card.ports);

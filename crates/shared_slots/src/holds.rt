@@ -48,7 +48,9 @@ pub fn put(chains: &Chains, steps: &mut Steps, held: Held)
     requires slot { held.slot < (layout_of chains.now).shape.slots }
     requires held { 0 < keeps_at held.slot (view steps.old).read }
     ensures table { IsOf chains.now steps.new }
-    ensures put { Becomes steps.old steps.new (with_kept (letting_go (view steps.old) held.slot) (drop_at (place_of held.slot (view steps.old).read.kept) (view steps.old).read.kept)) }
+    ensures put { Becomes steps.old steps.new
+        (with_kept (letting_go (view steps.old) held.slot)
+        (drop_at (place_of held.slot (view steps.old).read.kept) (view steps.old).read.kept)) }
 {
     let Held { slot } = held;
     chains.step_put(steps, slot);
@@ -60,7 +62,8 @@ pub fn card(chains: &Chains, steps: &mut Steps, held: &Held) -> Card
     requires slot { held.now.slot < (layout_of chains.now).shape.slots }
     requires held { IsTaken held.now.slot (view steps.old) }
     ensures table { IsOf chains.now steps.new }
-    ensures card { (h : Kept) (hs : List Kept) → (view steps.old).read.kept ≡ h ∷ hs → Becomes steps.old steps.new (with_kept (view steps.old) (with_words h (words_of (packed result)) ∷ hs)) }
+    ensures card { (h : Kept) (hs : List Kept) → (view steps.old).read.kept ≡ h ∷ hs
+        → Becomes steps.old steps.new (with_kept (view steps.old) (with_words h (words_of (packed result)) ∷ hs)) }
     ensures words { IsCardWords (words_of (packed result)) }
 {
     let ends = chains.step_read_held(steps, held.slot, 0);

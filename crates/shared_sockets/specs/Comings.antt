@@ -27,7 +27,8 @@ use Rattle.shared_sockets.specs.declared.coming.InsertEnd.TheVariants as ends
 
 -- a pass that has walked the whole of a bucket that it locked, and found this list
 abbrev pub walking : View → ℕ → List Seen → View
-walking v bucket xs = record (locking v bucket) { chain = record { locked = bucket ∷ []; walked = xs; ahead = []; met = 1 } }
+walking v bucket xs =
+    record (locking v bucket) { chain = record { locked = bucket ∷ []; walked = xs; ahead = []; met = 1 } }
 
 -- a chain that a pass saw whole under the lock: each of its slots once; where the pass is alone, it is what the
 -- pass's own changes make
@@ -86,7 +87,8 @@ abbrev pub name_of : Hashed → ℕ
 name_of x = x.card.name
 
 -- the newcomer is there, and then who gives way is gone
-pub record Admits (layout : Layout) (from bucket : ℕ) (new : Newcomer) (xs : List Seen) (i : Inserted) (v w : View) : Type 0 where
+pub record Admits (layout : Layout) (from bucket : ℕ) (new : Newcomer) (xs : List Seen) (i : Inserted)
+    (v w : View) : Type 0 where
   pub bucket_is : i.place.bucket ≡ bucket
   pub card_is : i.place.card ≡ new.card
   pub unkept : keeper_in new (row_of xs) ≡ None
@@ -106,13 +108,15 @@ pub record FindsNoSlot (layout : Layout) (new : Newcomer) (xs : List Seen) (f : 
   pub unkept : keeper_in new (row_of xs) ≡ None
   pub none : FindsNone layout v w f
 
-abbrev pub ComesTo : Layout → (from bucket : ℕ) → Newcomer → List Seen → Result Inserted InsertEnd → View → View → Type 0
+abbrev pub ComesTo :
+    Layout → (from bucket : ℕ) → Newcomer → List Seen → Result Inserted InsertEnd → View → View → Type 0
 ComesTo layout from bucket new xs (Ok i) v w = Admits layout from bucket new xs i v w
 ComesTo layout from bucket new xs (Err (ends.Taken name)) v w = Refuses new xs name v w
 ComesTo layout from bucket new xs (Err (ends.Full full)) v w = FindsNoSlot layout new xs full v w
 
 -- under one lock
-pub record Inserts (layout : Layout) (from bucket : ℕ) (new : Newcomer) (result : Result Inserted InsertEnd) (v w : View) : Type 0 where
+pub record Inserts (layout : Layout) (from bucket : ℕ) (new : Newcomer) (result : Result Inserted InsertEnd)
+    (v w : View) : Type 0 where
   pub chain : List Seen
   pub seen : IsChain v bucket chain
   pub cards : Each HasCard chain
@@ -121,7 +125,8 @@ pub record Inserts (layout : Layout) (from bucket : ℕ) (new : Newcomer) (resul
   pub unlocked : w ≡ unlocking left
 
 -- a card comes that no four-tuple keeps out, or no slot is free
-pub record IsHashed (layout : Layout) (from bucket : ℕ) (card : Card) (xs : List Seen) (place : Place) (v w : View) : Type 0 where
+pub record IsHashed (layout : Layout) (from bucket : ℕ) (card : Card) (xs : List Seen) (place : Place)
+    (v w : View) : Type 0 where
   pub bucket_is : place.bucket ≡ bucket
   pub card_is : place.card ≡ card
   pub slot : IsFree layout v xs from place.slot
@@ -132,7 +137,8 @@ HashesTo layout from bucket card xs (Ok place) v w = IsHashed layout from bucket
 HashesTo layout from bucket card xs (Err full) v w = FindsNone layout v w full
 
 -- under one lock
-pub record Adds (layout : Layout) (from bucket : ℕ) (card : Card) (result : Result Place Full) (v w : View) : Type 0 where
+pub record Adds (layout : Layout) (from bucket : ℕ) (card : Card) (result : Result Place Full)
+    (v w : View) : Type 0 where
   pub chain : List Seen
   pub seen : IsChain v bucket chain
   pub left : View

@@ -31,13 +31,15 @@ Yields request (Ok place) v w = Departs v w request.bucket request.slot request.
 Yields request (Err e) v w = (e.0 ≡ request) × (w ≡ v)
 
 -- the socket comes, if a slot is free, and then the request is gone
-pub record HandsTo (layout : Layout) (from : ℕ) (request : Place) (card : Card) (xs : List Seen) (result : Result Place (Place × Full)) (v w : View) : Type 0 where
+pub record HandsTo (layout : Layout) (from : ℕ) (request : Place) (card : Card) (xs : List Seen)
+    (result : Result Place (Place × Full)) (v w : View) : Type 0 where
   pub between : View
   pub comes : HashesTo layout from request.bucket card xs (came result) v between
   pub yields : Yields request result between w
 
 -- under one lock
-pub record HandsOver (layout : Layout) (from : ℕ) (request : Place) (card : Card) (result : Result Place (Place × Full)) (v w : View) : Type 0 where
+pub record HandsOver (layout : Layout) (from : ℕ) (request : Place) (card : Card)
+    (result : Result Place (Place × Full)) (v w : View) : Type 0 where
   pub chain : List Seen
   pub seen : IsChain v request.bucket chain
   pub left : View

@@ -35,7 +35,8 @@ pub record Leaves (place : Place) (v w : View) : Type 0 where
   pub quiet : Quiet v w
 
 -- under one lock a TIME_WAIT comes, if a slot is free, and then who stood at the place is gone
-pub record Waits (layout : Layout) (from : ℕ) (place : Place) (card : Card) (result : Result Place Full) (v w : View) : Type 0 where
+pub record Waits (layout : Layout) (from : ℕ) (place : Place) (card : Card) (result : Result Place Full)
+    (v w : View) : Type 0 where
   pub chain : List Seen
   pub seen : IsChain v place.bucket chain
   pub between : View

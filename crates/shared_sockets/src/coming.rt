@@ -110,7 +110,8 @@ fn admit(
     ensures idle { IsIdle (known pass.new).slot × ((known pass.new).book.opened ≡ []) }
     ensures at { IsAt (layout_of chains.now) locked.now (known pass.new) }
     ensures twice { (known pass.new).twice ≡ (known pass.old).twice }
-    ensures comes { ComesTo (layout_of chains.now) from locked.now.bucket new.now (known pass.old).chain.walked result (known pass.old) (known pass.new) }
+    ensures comes { ComesTo (layout_of chains.now) from locked.now.bucket new.now (known pass.old).chain.walked result
+        (known pass.old) (known pass.new) }
     ensures place { IfOk result (λ i. IsPlaced i.place (known pass.new).book) }
     ensures stay { PlacesStay (known pass.old) (known pass.new) }
     ensures share { FourDrawn (known pass.old) (known pass.new) }
@@ -162,8 +163,10 @@ pub fn insert<P: Patience>(
     ensures table { IsPassOf chains.now pass.new }
     ensures idle { IsIdle (known pass.new).slot × ((known pass.new).book.opened ≡ []) }
     ensures free { (known pass.new).chain.locked ≡ [] }
-    ensures answer { IfSome result (λ answer. Inserts (layout_of chains.now) from bucket new.now answer (known pass.old) (known pass.new)) }
-    ensures alone { IfSome result (λ answer. InsertsAlone (layout_of chains.now) from bucket new.now answer (known pass.old) (known pass.new)) }
+    ensures answer { IfSome result
+        (λ answer. Inserts (layout_of chains.now) from bucket new.now answer (known pass.old) (known pass.new)) }
+    ensures alone { IfSome result
+        (λ answer. InsertsAlone (layout_of chains.now) from bucket new.now answer (known pass.old) (known pass.new)) }
     ensures place { IfSome result (λ answer. IfOk answer (λ i. IsPlaced i.place (known pass.new).book)) }
     ensures none { IfNone result (known pass.new ≡ known pass.old) }
     ensures kept { IfNone result (pass.new.changes ≡ pass.old.changes) }
@@ -206,8 +209,10 @@ pub fn add<P: Patience>(
     ensures table { IsPassOf chains.now pass.new }
     ensures idle { IsIdle (known pass.new).slot × ((known pass.new).book.opened ≡ []) }
     ensures free { (known pass.new).chain.locked ≡ [] }
-    ensures answer { IfSome result (λ answer. Adds (layout_of chains.now) from bucket card.now answer (known pass.old) (known pass.new)) }
-    ensures alone { IfSome result (λ answer. AddsAlone (layout_of chains.now) from bucket card.now answer (known pass.old) (known pass.new)) }
+    ensures answer { IfSome result
+        (λ answer. Adds (layout_of chains.now) from bucket card.now answer (known pass.old) (known pass.new)) }
+    ensures alone { IfSome result
+        (λ answer. AddsAlone (layout_of chains.now) from bucket card.now answer (known pass.old) (known pass.new)) }
     ensures place { IfSome result (λ answer. IfOk answer (λ place. IsPlaced place (known pass.new).book)) }
     ensures none { IfNone result (known pass.new ≡ known pass.old) }
     ensures kept { IfNone result (pass.new.changes ≡ pass.old.changes) }

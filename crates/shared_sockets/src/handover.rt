@@ -51,9 +51,11 @@ fn replace_request(
     ensures idle { IsIdle (known pass.new).slot × ((known pass.new).book.opened ≡ []) }
     ensures at { IsAt (layout_of chains.now) locked.new (known pass.new) × (locked.new.bucket ≡ locked.old.bucket) }
     ensures alone { MayUnlock (known pass.new) }
-    ensures hands { HandsTo (layout_of chains.now) from request card.now (known pass.old).chain.walked result (known pass.old) (known pass.new) }
+    ensures hands { HandsTo (layout_of chains.now) from request card.now (known pass.old).chain.walked result
+        (known pass.old) (known pass.new) }
     ensures place { IfOk result (λ place. IsPlaced place (known pass.new).book) }
-    ensures newest { IfOk result (λ place. IsPlacedBy (length (known pass.old).book.closed) place (known pass.new).book) }
+    ensures newest { IfOk result (λ place. IsPlacedBy (length (known pass.old).book.closed) place
+        (known pass.new).book) }
     ensures stay { OthersStay request.slot (known pass.old) (known pass.new) }
     ensures others { OtherPlacesStay request (known pass.old) (known pass.new) }
     ensures back { IfErr result (λ e. (e.0 ≡ request) × IsPlaced request (known pass.new).book) }
@@ -78,8 +80,8 @@ fn replace_request(
 ///
 /// So at each moment one of the two stands in the chain, as [`laws`](super::laws) says. The socket needs a slot beside
 /// the request's, which is sought from the slot `from` on and round to it. Where none is free the request stands as it
-/// did, and its place is handed back with how full the slots are. None: another pass had the bucket's lock for as long as
-/// the caller's patience lasts, nothing has changed, and the request stands at its place.
+/// did, and its place is handed back with how full the slots are. None: another pass had the bucket's lock for as
+/// long as the caller's patience lasts, nothing has changed, and the request stands at its place.
 ///
 /// As `inet_ehash_insert` of net/ipv4/inet_hashtables.c with a request as `osk`, by which
 /// `inet_csk_complete_hashdance` of net/ipv4/inet_connection_sock.c ends a handshake.
@@ -106,10 +108,14 @@ pub fn hand_over<P: Patience>(
     ensures table { IsPassOf chains.now pass.new }
     ensures idle { IsIdle (known pass.new).slot × ((known pass.new).book.opened ≡ []) }
     ensures free { (known pass.new).chain.locked ≡ [] }
-    ensures answer { IfSome result (λ answer. HandsOver (layout_of chains.now) from place card.now answer (known pass.old) (known pass.new)) }
-    ensures alone { IfSome result (λ answer. HandsAlone (layout_of chains.now) from place card.now answer (known pass.old) (known pass.new)) }
+    ensures answer { IfSome result
+        (λ answer. HandsOver (layout_of chains.now) from place card.now answer (known pass.old) (known pass.new)) }
+    ensures alone { IfSome result
+        (λ answer. HandsAlone (layout_of chains.now) from place card.now answer (known pass.old) (known pass.new)) }
     ensures place { IfSome result (λ answer. IfOk answer (λ child. IsPlaced child (known pass.new).book)) }
-    ensures newest { IfSome result (λ answer. IfOk answer (λ child. IsPlacedBy (length (known pass.old).book.closed) child (known pass.new).book)) }
+    ensures newest { IfSome result
+        (λ answer. IfOk answer (λ child. IsPlacedBy (length (known pass.old).book.closed) child
+        (known pass.new).book)) }
     ensures stay { OthersStay place.slot (known pass.old) (known pass.new) }
     ensures others { OtherPlacesStay place (known pass.old) (known pass.new) }
     ensures back { IfSome result (λ answer. IfErr answer (λ e. (e.0 ≡ place) × IsPlaced place (known pass.new).book)) }

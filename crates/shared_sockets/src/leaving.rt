@@ -82,8 +82,10 @@ pub fn time_wait<P: Patience>(
     ensures table { IsPassOf chains.now pass.new }
     ensures idle { IsIdle (known pass.new).slot × ((known pass.new).book.opened ≡ []) }
     ensures free { (known pass.new).chain.locked ≡ [] }
-    ensures answer { IfSome result (λ answer. Waits (layout_of chains.now) from place card.now answer (known pass.old) (known pass.new)) }
-    ensures alone { IfSome result (λ answer. WaitsAlone (layout_of chains.now) from place card.now answer (known pass.old) (known pass.new)) }
+    ensures answer { IfSome result
+        (λ answer. Waits (layout_of chains.now) from place card.now answer (known pass.old) (known pass.new)) }
+    ensures alone { IfSome result
+        (λ answer. WaitsAlone (layout_of chains.now) from place card.now answer (known pass.old) (known pass.new)) }
     ensures none { IfNone result (known pass.new ≡ known pass.old) }
     ensures kept { IfNone result (pass.new.changes ≡ pass.old.changes) }
     ensures had { P.endless ≡ true → IfNone result ⊥ }
@@ -128,7 +130,8 @@ pub fn remove_tw<P: Patience>(
     ensures idle { IsIdle (known pass.new).slot × ((known pass.new).book.opened ≡ []) }
     ensures free { (known pass.new).chain.locked ≡ [] }
     ensures answer { IfSome result (λ slot. Reaps bucket name slot (known pass.old) (known pass.new)) }
-    ensures alone { IfSome result (λ slot. ReapsAlone (layout_of chains.now) bucket name slot (known pass.old) (known pass.new)) }
+    ensures alone { IfSome result
+        (λ slot. ReapsAlone (layout_of chains.now) bucket name slot (known pass.old) (known pass.new)) }
     ensures none { IfNone result (known pass.new ≡ known pass.old) }
     ensures kept { IfNone result (pass.new.changes ≡ pass.old.changes) }
     ensures had { P.endless ≡ true → IfNone result ⊥ }

@@ -154,7 +154,8 @@ pub fn survey_chain(
     requires known { WalkKnown (layout_of chains.now) (view steps.old) }
     requires idle { IsIdle (view steps.old).slot }
     ensures table { IsOf chains.now steps.new }
-    ensures at { IsAt (layout_of chains.now) locked.new (view steps.new) × (locked.new.started ≡ true) × (locked.new.bucket ≡ locked.old.bucket) }
+    ensures at { IsAt (layout_of chains.now) locked.new (view steps.new) × (locked.new.started ≡ true)
+        × (locked.new.bucket ≡ locked.old.bucket) }
     ensures kept { Becomes steps.old steps.new (record (view steps.old) { chain = (view steps.new).chain }) }
     ensures whole { ((view steps.new).chain.met ≡ 1) × ((view steps.new).chain.ahead ≡ []) }
     ensures known { WalkKnown (layout_of chains.now) (view steps.new) }

@@ -101,7 +101,8 @@ fn come_after<R: Wait>(
     requires table { IsPassOf chains.now pass.old }
     requires bucket { bucket < bucket_count (layout_of chains.now) }
     requires home { home (layout_of chains.now).shape (layout_of chains.now).seed new.now.card ≡ bucket }
-    requires waits { (home (layout_of chains.now).shape (layout_of chains.now).seed waiting.now ≡ bucket) × (waiting.now.kind ≡ kinds.TimeWait) }
+    requires waits { (home (layout_of chains.now).shape (layout_of chains.now).seed waiting.now ≡ bucket)
+        × (waiting.now.kind ≡ kinds.TimeWait) }
     requires claims { claims_tuple new.now.card.kind ≡ true }
     requires idle { IsIdle (known pass.old).slot × ((known pass.old).book.opened ≡ []) }
     requires free { (known pass.old).chain.locked ≡ [] }
@@ -185,8 +186,10 @@ fn come_late(
     requires bucket { bucket < bucket_count (layout_of chains.now) }
     requires home { home (layout_of chains.now).shape (layout_of chains.now).seed new.now.card ≡ bucket }
     requires claims { claims_tuple new.now.card.kind ≡ true }
-    requires first { IsIdle (known first.old).slot × ((known first.old).book.opened ≡ []) × ((known first.old).chain.locked ≡ []) }
-    requires second { IsIdle (known second.old).slot × ((known second.old).book.opened ≡ []) × ((known second.old).chain.locked ≡ []) }
+    requires first { IsIdle (known first.old).slot × ((known first.old).book.opened ≡ [])
+        × ((known first.old).chain.locked ≡ []) }
+    requires second { IsIdle (known second.old).slot × ((known second.old).book.opened ≡ [])
+        × ((known second.old).chain.locked ≡ []) }
     requires share { HasShares 4 (known second.old) }
     requires room { len_of second.old.changes + 2 ≤ capacity_of second.old.changes }
 {

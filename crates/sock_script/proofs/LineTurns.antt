@@ -118,38 +118,11 @@ module _ (table : List (List (List ℕ))) where
         ≡ before ++ lines_left table (events_from old.items (issue n commands ++ later)) old
     pub room : HasRoom old left
 
-  pub wrote_start : (n : ℕ) (commands : List Command) (old : Unwritten) (out : List ℕ) → WroteSoFar n commands old old out out 0
-  wrote_start n commands old out = record { lines = λ later. refl; room = omega arith }
-
-  pub wrote_more : (n : ℕ) (commands : List Command) (old left new : Unwritten) (before out next : List ℕ) (i : ℕ) (c : Command) → i < length commands → c ≡ get_or commands i c
-      → WroteSoFar n commands old left before out i → Writes table (issue n (c ∷ [])) left out next new → WroteSoFar n commands old new before next (i + 1)
-  wrote_more n commands old left new before out next i c lt here h w = record {
-    lines = λ later.
-        let rest : drop i commands ≡ c ∷ drop (i + 1) commands = next_drop commands i c lt here in
-        w.lines (issue n (drop (i + 1) commands) ++ later)
-        ∙ sym (ap (λ l. out ++ lines_left table (events_from left.items (issue n l ++ later)) left) rest)
-        ∙ h.lines later;
-    room = omega (arith, h.room, w.room);
-  }
-
-  pub wrote_all : (n : ℕ) (commands : List Command) (old left : Unwritten) (before out : List ℕ) (i : ℕ) → length commands ≤ i
-      → WroteSoFar n commands old left before out i → Writes table (issue n commands) old before out left
-  wrote_all n commands old left before out i le h = record {
-    lines = λ later.
-        let none : drop i commands ≡ [] = grind (arith, common_steps) in
-        sym (ap (λ l. out ++ lines_left table (events_from left.items (issue n l ++ later)) left) none)
-        ∙ h.lines later;
-    room = h.room;
-  }
-
   -- the same of whole sections
   pub record WroteSections (all : List (List Command)) (old left : Unwritten) (out : List ℕ) (i : ℕ) : Type 0 where
     pub lines : out ++ lines_left table (events_from left.items (issued_from (i + 1) (drop i all))) left
         ≡ lines_left table (events_from old.items (issued_from 1 all)) old
     pub room : HasRoom old left
-
-  pub sections_unwritten : (all : List (List Command)) (old : Unwritten) → WroteSections all old old [] 0
-  sections_unwritten all old = record { lines = refl; room = omega arith }
 
   pub wrote_section : (all : List (List Command)) (old left new : Unwritten) (out next : List ℕ) (i : ℕ) (commands : List Command)
       → i < length all → commands ≡ get_or all i commands → WroteSections all old left out i

@@ -9,8 +9,8 @@ use Rattle.sock_script.specs.Forms.{HasForm, IsPassedOver}
 use Rattle.sock_script.specs.Pieces.{HasWords}
 use Rattle.sock_script.specs.Seen.{texts}
 use Rattle.std.specs.Borrow.{Bor}
-use Rattle.sock_script.specs.Reading.{Draft, Follows, ReadsLine, past}
-use Rattle.sock_script.specs.Steps.{Adds, IsCommand, LineAnswer}
+use Rattle.sock_script.specs.Reading.{Draft, Follows, past}
+use Rattle.sock_script.specs.Steps.{Adds, IsCommand, LineAnswer, OtherAnswer}
 use Rattle.sock_script.proofs.Determined.{one_form}
 use Rattle.sock_script.proofs.LineCases.{reads, is_read}
 
@@ -34,10 +34,19 @@ formless : (words : List (List ℕ)) → ((command : Command) → HasForm words 
 formless words no_command no_other (lines.Command command) form = no_command command form
 formless words no_command no_other line form = no_other line form
 
--- and such a line is in no grammar
-pub no_line : (mode : Mode) (old : Draft) (text : List ℕ) → old.capture ≡ None → ((command : Command) → HasForm (words_of text) (lines.Command command) → ⊥) → ((line : Line) → HasForm (words_of text) line → IsCommand line) → (next : Draft) → ReadsLine mode old text next → ⊥
-no_line mode old text none no_command no_other next k =
-    let r = is_read mode old text next none k in formless (words_of text) no_command no_other r.0 r.1
+-- where no line follows, none is read
+unread : (mode : Mode) (old new : Draft) (text : List ℕ) → old.capture ≡ None → ((line : Line) → HasForm (words_of text) line → ⊥) → (b : Bool) → b ≡ false → LineAnswer mode old text new b
+unread mode old new text none no_form true is = absurd (cc)
+unread mode old new text none no_form false is = λ next k. let r = is_read mode old text next none k in no_form r.0 r.1
+
+-- what reading the words of a line that is no command answers is what reading the line does
+pub others : {E : Type 0} (mode : Mode) (old mid new : Draft) (text : List ℕ) (words : List (List ℕ)) → old.capture ≡ None → mid ≡ past old text → words ≡ words_of text
+    → ((command : Command) → HasForm words (lines.Command command) → ⊥) → (r : Result Bool E) → IfOk r (OtherAnswer mode mid words new) → IfOk r (LineAnswer mode old text new)
+others {E = E} mode old mid new text words none passed is no_command (Ok b) (inl h) =
+    let read : Result Bool E = Ok b in answers mode old mid new text words h.0 none passed is h.1 read h.2
+others mode old mid new text words none passed is no_command (Ok b) (inr h) =
+    unread mode old new text none (subst (λ w. (line : Line) → HasForm w line → ⊥) is (formless words no_command h.1)) b h.0
+others mode old mid new text words none passed is no_command (Err e) h = tt
 
 -- a line whose words are none is passed over
 pub none_seen : (line : List ℕ) (words : List (List ℕ)) → HasWords line words → words ≡ [] → IsPassedOver (words_of line)

@@ -113,10 +113,6 @@ pub record PortsRead (words : List (List ℕ)) (array : List ℕ) (least n : ℕ
   pub next : next_port 1 (take n array) ≡ least
   pub rest : drop n array ≡ replicate (64 - n) 0
 
--- before the first word
-pub none_read : (words : List (List ℕ)) → PortsRead words (replicate 64 0) 1 0
-none_read words = record { room = refl; spelled = refl; ascends = tt; next = refl; rest = refl }
-
 module _ (words : List (List ℕ)) (array : List ℕ) (least n : ℕ) (here : n < length words) (word : List ℕ)
     (is : get_or words n [] ≡ word) (read : PortsRead words array least n) where
   -- one word more

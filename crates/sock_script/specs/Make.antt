@@ -78,7 +78,8 @@ lines_from i (w ∷ ws) = step_lines i w ++ lines_from (i + 1) ws
 -- the lines before the steps
 abbrev pub first_lines : ℕ → List (List (List ℕ))
 first_lines seed =
-    (codes "table" ∷ codes "slots" ∷ codes "4096" ∷ codes "bind" ∷ codes "16" ∷ codes "hash" ∷ codes "1024" ∷ codes "listen" ∷ codes "16" ∷ [])
+    (codes "table" ∷ codes "slots" ∷ codes "4096" ∷ codes "bind" ∷ codes "16" ∷ codes "hash" ∷ codes "1024"
+    ∷ codes "listen" ∷ codes "16" ∷ [])
     ∷ (codes "seed" ∷ decimal seed ∷ [])
     ∷ (codes "twreuse" ∷ codes "1" ∷ [])
     ∷ (codes "script" ∷ codes "1" ∷ []) ∷ []
@@ -94,4 +95,5 @@ made_text seed count = flat_map line_bytes (first_lines seed ++ lines_from 1 (st
 -- each text of a seed of 32 bits and at most 100000 steps is a script
 abbrev pub TextsAreScripts : Type 0
 TextsAreScripts =
-    (seed count : ℕ) → seed < 2 ^ 32 → count ≤ 100000 → (script : Script) × IsScript modes.Run (made_text seed count) script
+    (seed count : ℕ) → seed < 2 ^ 32 → count ≤ 100000 → (script : Script)
+    × IsScript modes.Run (made_text seed count) script

@@ -104,7 +104,8 @@ dev_text dev net = codes " dev " ++ decimal dev ++ net_text net
 -- a card with its ends, its device and its namespace, where its name has that label
 abbrev pub whole_card_with : List ℕ → Card → List ℕ
 whole_card_with label card =
-    answer_with label (Some card) ++ codes " " ++ end_text card.local card.lport ++ codes " " ++ end_text card.remote card.rport
+    answer_with label (Some card) ++ codes " " ++ end_text card.local card.lport ++ codes " "
+    ++ end_text card.remote card.rport
     ++ dev_text card.dev card.net
 
 -- the loads of the clock between which sockets were listed, where others might be at the tables
@@ -252,7 +253,9 @@ lists_of script = new_flat script.header ∷ lists_from (new_flat script.header)
 -- the text is a script with that capture
 pub record HasCapture (input : List ℕ) (script : Script) (capture : Capture) : Type 0 where
   pub script_is : IsScript modes.Run input script
-  pub capture_is : IsCapture (capture_device script.capture) (capture_namespace script.capture) (capture_bytes script.capture input) capture
+  pub capture_is :
+      IsCapture (capture_device script.capture) (capture_namespace script.capture)
+      (capture_bytes script.capture input) capture
 
 -- what is written for a text that is a script with a capture: the lines of the flat list's replies and listings
 abbrev pub FlatOut : List ℕ → List ℕ → Type 0

@@ -15,4 +15,5 @@ TextsAlike =
     → script_text script capture (map shown replies) listings ≡ script_text script capture replies listings
 
 abbrev pub CountsAlike : Type 0
-CountsAlike = (script : Script) (replies : List Reply) → script_counts script (map shown replies) ≡ script_counts script replies
+CountsAlike =
+    (script : Script) (replies : List Reply) → script_counts script (map shown replies) ≡ script_counts script replies

@@ -1,6 +1,6 @@
 -- What the steps of reading, of running and of writing a script answer: our own. Of public contracts, that of
 -- `other_of` cites `IsCommand`, those of `Labels` cite `label_table` and `label_at`, and no other cites this file.
-use Rattle.std.specs.Prelude.{◌≡◌, ℕ, ◌+◌, ◌/◌, ◌%◌, ◌^◌, Bool, true, false, not, bytes_eq, Option, Some, None, if◌then◌else◌, unwrap_or, slice_get, List, [], ◌∷◌, ◌++◌, ◌≤◌, map, take, drop, min, length}
+use Rattle.std.specs.Prelude.{◌≡◌, ◌⊎◌, ℕ, ◌+◌, ◌/◌, ◌%◌, ◌^◌, Bool, true, false, not, bytes_eq, Option, Some, None, if◌then◌else◌, unwrap_or, slice_get, List, [], ◌∷◌, ◌++◌, ◌≤◌, map, take, drop, min, length}
 use Rattle.std.specs.List.{flat_map, list_any, slice_index_or}
 use Rattle.capture_reader.specs.declared.packet.Item.{Item}
 use Rattle.flat_list.specs.declared.command.Command.{Command}
@@ -17,6 +17,7 @@ use Rattle.sock_script.specs.declared.parse.ScriptEnd.{ScriptEnd}
 use Rattle.sock_script.specs.declared.parse.ScriptEnd.TheVariants as ends
 use Rattle.sock_script.specs.declared.line.Line.{Line}
 use Rattle.sock_script.specs.declared.line.Line.TheVariants as lines
+use Rattle.sock_script.specs.Forms.{HasForm}
 use Rattle.sock_script.specs.Grammar.{IsFirstOutside, given_labels}
 use Rattle.sock_script.specs.Reading.{Draft, Follows, ReadsLine}
 use Rattle.sock_script.specs.Shown.{shown}
@@ -41,6 +42,13 @@ is_new_among (Some label) labels = not (list_any (bytes_eq label) labels)
 abbrev pub LineAnswer : Mode → Draft → List ℕ → Draft → Bool → Type 0
 LineAnswer mode old text new true = ReadsLine mode old text new
 LineAnswer mode old text new false = (next : Draft) → ReadsLine mode old text next → ⊥
+
+-- what reading the words of a line that is no command answers: they have a form, whose line may follow or not, or
+-- they have none, unless they are a command
+abbrev pub OtherAnswer : Mode → Draft → List (List ℕ) → Draft → Bool → Type 0
+OtherAnswer mode old words new follows =
+    ((line : Line) × HasForm words line × Adds mode old line new follows)
+    ⊎ ((follows ≡ false) × ((line : Line) → HasForm words line → IsCommand line))
 
 -- a bad line is the first outside; want of memory says nothing
 abbrev pub EndAnswer : Mode → List (List ℕ) → ScriptEnd → Type 0
@@ -76,16 +84,19 @@ RepliesSo old new commands items left before out =
 abbrev pub ListsSo : Flat → Flat → List Issued → List Item → List Item → List Listing → List Listing → Type 0
 ListsSo old new commands items left before out =
     (later : List Issued)
-    → out ++ listings_from new (events_from left later) ≡ before ++ listings_from old (events_from items (commands ++ later))
+    → out ++ listings_from new (events_from left later) ≡ before
+    ++ listings_from old (events_from items (commands ++ later))
 
 -- one command more was run, and the list is as the step leaves it
-pub record RunsCommand (old new : Flat) (n : ℕ) (command : Command) (items left : List Item) (before out : Replies) : Type 0 where
+pub record RunsCommand (old new : Flat) (n : ℕ) (command : Command) (items left : List Item)
+    (before out : Replies) : Type 0 where
   pub replied : RepliesSo old new (issue n (command ∷ [])) items left before.each out.each
   pub listed : ListsSo old new (issue n (command ∷ [])) items left before.listings out.listings
   pub flat : new ≡ (step old n command).flat
 
 -- a section was run, which gave no labels in others
-pub record RunsSection (old new : Flat) (n : ℕ) (commands : List Command) (items left : List Item) (before out : Replies) : Type 0 where
+pub record RunsSection (old new : Flat) (n : ℕ) (commands : List Command) (items left : List Item)
+    (before out : Replies) : Type 0 where
   pub replied : RepliesSo old new (issue n commands) items left before.each out.each
   pub listed : ListsSo old new (issue n commands) items left before.listings out.listings
   pub flat : new ≡ after old (issue n commands)
@@ -163,14 +174,17 @@ abbrev pub lines_left : List (List (List ℕ)) → List Event → Unwritten → 
 lines_left table events left = lines_at table left.number events left.replies left.listings
 
 -- the lines of what the next `dump` of section n lists were written, if a listing is left
-pub record WritesDump (table : List (List (List ℕ))) (n : ℕ) (old : Unwritten) (before out : List ℕ) (new : Unwritten) : Type 0 where
+pub record WritesDump (table : List (List (List ℕ))) (n : ℕ) (old : Unwritten) (before out : List ℕ)
+    (new : Unwritten) : Type 0 where
   pub lines : out ≡ before ++ flat_map (listing_text (label_at table) n) (take 1 old.listings)
   pub left : new ≡ record old { listings = drop 1 old.listings }
 
 -- the lines of the next items were written, as many as that or as were left
-pub record WritesItems (table : List (List (List ℕ))) (count : ℕ) (old : Unwritten) (before out : List ℕ) (new : Unwritten) : Type 0 where
+pub record WritesItems (table : List (List (List ℕ))) (count : ℕ) (old : Unwritten) (before out : List ℕ)
+    (new : Unwritten) : Type 0 where
   pub lines : (events : List Event)
-      → out ++ lines_left table events new ≡ before ++ lines_left table (map stored (take count old.items) ++ events) old
+      → out ++ lines_left table events new ≡ before
+      ++ lines_left table (map stored (take count old.items) ++ events) old
   pub items : new.items ≡ drop count old.items
   pub room : HasRoom old new
 
@@ -182,6 +196,7 @@ WritesSo table commands old new before out =
     ≡ before ++ lines_left table (events_from old.items (commands ++ later)) old
 
 -- and the items keep room for their numbers
-pub record Writes (table : List (List (List ℕ))) (commands : List Issued) (old : Unwritten) (before out : List ℕ) (new : Unwritten) : Type 0 where
+pub record Writes (table : List (List (List ℕ))) (commands : List Issued) (old : Unwritten) (before out : List ℕ)
+    (new : Unwritten) : Type 0 where
   pub lines : WritesSo table commands old new before out
   pub room : HasRoom old new

@@ -8,31 +8,30 @@ ghost use Rattle.sock_script.specs.Steps.{Adds, is_new_among};
 use crate::label::given_label;
 use crate::line::Line;
 use crate::parse::Mode;
-use flat_list::{
-    CapturePlace, Command, Header, KeptCommand, NONE_RESERVED, Range, Reserved, Script, Shape,
-};
+use flat_list::kept::Form;
+use flat_list::{CapturePlace, Header, KeptCommand, NONE_RESERVED, Range, Reserved, Script, Shape};
 use label_index::{LabelIndex, LabelSeed};
 use std::alloc::{AllocError, Global};
 use std::marker::Model;
 use std::mem;
 
 /// Whether a script of that mode may ask for it.
-fn is_allowed(mode: Mode, command: &Command) -> bool
+fn is_allowed(mode: Mode, command: &KeptCommand) -> bool
     ensures { result ≡ law.is_allowed mode command.now }
 {
     !(matches!(mode, Mode::Race)
-        && matches!(command, Command::Look { .. } | Command::Packets { .. }))
+        && matches!(command.form(), Form::Look { .. } | Form::Packets { .. }))
 }
 
 /// Puts the label that a command gives behind the others, and tells whether it is new. So is none.
-fn note_label(labels: &mut LabelIndex, command: &Command) -> Result<bool, AllocError>
+fn note_label(labels: &mut LabelIndex, command: &KeptCommand) -> Result<bool, AllocError>
     ensures noted { OnOk result (labels.new ≡ labels.old ++ option_to_list (law.given_label command.now)) }
     ensures told { IfOk result (λ new. new ≡ is_new_among (law.given_label command.now) labels.old) }
     ensures err { OnErr result (labels.new ≡ labels.old) }
 {
     match given_label(command) {
         None => Ok(true),
-        Some(label) => labels.give_and_tell(label),
+        Some(label) => labels.give_and_tell(&label),
     }
 }
 
@@ -58,27 +57,27 @@ impl Model for OpenSection {
 }
 
 impl OpenSection {
-    fn new(alloc: Global, seed: LabelSeed) -> Self
-        ensures { result ≡ [] }
+    /// No command yet, with room for so many.
+    fn new(alloc: Global, seed: LabelSeed, room: usize) -> Result<Self, AllocError>
+        ensures { IfOk result (λ section. section ≡ []) }
     {
-        OpenSection {
-            commands: Vec::new(alloc),
+        Ok(OpenSection {
+            commands: Vec::with_capacity(alloc, room)?,
             labels: LabelIndex::new(alloc, seed),
-        }
+        })
     }
 
     /// Adds a command, and says whether it may stand at the section's end; a section with one that may not is none of
     /// a script's. An `Err` changes nothing.
-    fn add(&mut self, mode: Mode, command: Command) -> Result<bool, AllocError>
+    fn add(&mut self, mode: Mode, command: KeptCommand) -> Result<bool, AllocError>
         ensures added { OnOk result (self.new ≡ self.old ++ command ∷ []) }
         ensures told { IfOk result (λ stands. stands ≡ spec.may_stand mode self.old command) }
         ensures err { OnErr result (self.new ≡ self.old) }
     {
         self.commands.reserve(1)?;
-        let kept = KeptCommand::of(*self.commands.allocator(), &command)?;
         let new = note_label(&mut self.labels, &command)?;
         let stands = is_allowed(mode, &command) && new;
-        self.commands.push(kept)?;
+        self.commands.push(command)?;
         Ok(stands)
     }
 
@@ -94,7 +93,8 @@ fn sections_of(
     finished: Vec<Vec<KeptCommand>>,
     last: Option<OpenSection>,
 ) -> Result<Vec<Vec<KeptCommand>>, AllocError>
-    ensures { IfOk result (λ sections. map (λ v. v.items) sections.items ≡ map (λ v. v.items) finished.items ++ option_to_list last) }
+    ensures { IfOk result (λ sections. map (λ v. v.items) sections.items ≡ map (λ v. v.items) finished.items
+        ++ option_to_list last) }
 {
     let mut sections = finished;
     if let Some(section) = last {
@@ -135,6 +135,8 @@ pub struct Draft {
     /// How many bytes the lines had, each with its line feed.
     bytes: usize,
     alloc: Global,
+    /// For how many commands the first section has room from the start.
+    room: usize,
     /// What the hashes of labels begin with.
     label_seed: LabelSeed,
 }
@@ -146,14 +148,24 @@ impl Model for Draft {
 
     ghost Value = { Made };
 
-    ghost view = { λ d. record { table = d.table; range = d.range; reserved = d.reserved; seed = d.seed; offset = d.offset; twreuse = d.twreuse; sections = map (λ v. v.items) d.finished.items ++ option_to_list d.last; capture = d.capture; bytes = d.bytes } };
+    ghost view = { λ d. record {
+      table = d.table;
+      range = d.range;
+      reserved = d.reserved;
+      seed = d.seed;
+      offset = d.offset;
+      twreuse = d.twreuse;
+      sections = map (λ v. v.items) d.finished.items ++ option_to_list d.last;
+      capture = d.capture;
+      bytes = d.bytes;
+    } };
 
     ghost invariant = { λ d. IfNone d.last (d.finished.items ≡ []) };
 }
 
 impl Draft {
-    /// Before the first line. Takes no memory.
-    pub fn new(alloc: Global, label_seed: LabelSeed) -> Self
+    /// Before the first line. Takes no memory; the first section takes room for so many commands as it begins.
+    pub fn new(alloc: Global, label_seed: LabelSeed, room: usize) -> Self
         ensures { result ≡ spec.nothing_yet }
     {
         Draft {
@@ -168,6 +180,7 @@ impl Draft {
             capture: None,
             bytes: 0,
             alloc,
+            room,
             label_seed,
         }
     }
@@ -271,12 +284,14 @@ impl Draft {
 
     /// Begins a section, where its number is the next.
     fn begin_section(&mut self, number: u32) -> Result<bool, AllocError>
-        ensures { IfOk result (λ follows. (mode : AnyMode) → Adds mode self.old (Line.Section number) self.new follows) }
+        ensures { IfOk result (λ follows. (mode : AnyMode)
+            → Adds mode self.old (Line.Section number) self.new follows) }
     {
         if number as usize != self.section_count() + 1 {
             return Ok(false);
         }
-        let next = OpenSection::new(self.alloc, self.label_seed);
+        let room = mem::replace(&mut self.room, 0);
+        let next = OpenSection::new(self.alloc, self.label_seed, room)?;
         if let Some(section) = mem::replace(&mut self.last, Some(next)) {
             self.finished.push(section.into_commands())?;
         }
@@ -296,7 +311,7 @@ impl Draft {
 
     /// Adds a command to the last section, and says whether it may stand there. Where it may not, the lines are no
     /// script's, and the draft is of no more use.
-    pub fn add_command(&mut self, mode: Mode, command: Command) -> Result<bool, AllocError>
+    pub fn add_command(&mut self, mode: Mode, command: KeptCommand) -> Result<bool, AllocError>
         ensures { IfOk result (λ follows. Adds mode self.old (Line.Command command) self.new follows) }
     {
         let Some(section) = &mut self.last else {

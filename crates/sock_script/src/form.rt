@@ -1,8 +1,8 @@
 //! The line that some words are: one function for each form, over readers of one word.
 //!
 //! A reader takes a word off the front and gives its value and the words after it. Each form is
-//! read by one pass over its words, and takes no memory.
-ghost use Rattle.std.specs.Prelude.{◌≡◌, ◌≢◌, ◌<◌, ◌≤◌, ◌+◌, ◌-◌, ◌%◌, ◌^◌, ◌∷◌, ◌++◌, ◌↔◌, [], Bool, ℕ, List, length, IfSome, IfNone, IsTrue, Option, slice_get, codes, decimal};
+//! read by one pass over its words. A command is made as a script keeps it, so it is never moved into another form.
+ghost use Rattle.std.specs.Prelude.{◌≡◌, ◌≢◌, ◌<◌, ◌≤◌, ◌+◌, ◌-◌, ◌%◌, ◌^◌, ◌∷◌, ◌++◌, ◌↔◌, [], Bool, ℕ, List, length, IfSome, IfNone, IsTrue, Option, slice_get, codes, decimal, IfOk};
 ghost use Rattle.inet_io.specs.Labels.{is_label};
 ghost use Rattle.inet_io.specs.Texts.{addr_text, end_text};
 ghost use Rattle.sock_script.specs.Seen.{texts};
@@ -19,14 +19,16 @@ ghost use Rattle.flat_list.specs.declared.header.Reserved.{Reserved};
 
 use crate::line::Line;
 use flat_list::{
-    Command, End, Label, NONE_RESERVED, Options, Query, RESERVED_ROOM, Range, Reserved, Shape,
+    End, KeptCommand, Label, NONE_RESERVED, Options, Query, RESERVED_ROOM, Range, Reserved, Shape,
 };
 use inet_io::{get_addr, get_end, get_num, is_label};
+use std::alloc::{AllocError, Global};
 
+/// Whether they are the same word. Lengths come first, so that a constant word is compared by a move or two.
 fn is_word(word: &[u8], other: &[u8]) -> bool
     ensures { IsTrue result ↔ (word.now ≡ other.now) }
 {
-    word == other
+    word.len() == other.len() && word.starts_with(other)
 }
 
 /// The words after a first word that is that one.
@@ -49,7 +51,8 @@ fn label_of(word: &[u8]) -> Label
 /// A label as the first word, and the words after it.
 fn label_first<'a>(words: &'a [&'a [u8]]) -> Option<(&'a [u8], &'a [&'a [u8]])>
     ensures some { IfSome result (λ r. (texts words.now ≡ r.0.now ∷ texts r.1.now) × IsTrue (is_label r.0.now)) }
-    ensures none { IfNone result ((label : List ℕ) (rest : List (List ℕ)) → texts words.now ≡ label ∷ rest → IsTrue (is_label label) → ⊥) }
+    ensures none { IfNone result ((label : List ℕ) (rest : List (List ℕ)) → texts words.now ≡ label ∷ rest
+        → IsTrue (is_label label) → ⊥) }
 {
     let (label, rest) = words.split_first()?;
     is_label(label).then_some((label, rest))
@@ -67,7 +70,8 @@ fn label_alone<'a>(words: &'a [&'a [u8]]) -> Option<&'a [u8]>
 /// A number from `least` to `most` as the first word, and the words after it.
 fn number_first<'a>(least: u32, most: u32, words: &'a [&'a [u8]]) -> Option<(u32, &'a [&'a [u8]])>
     ensures some { IfSome result (λ r. (texts words.now ≡ decimal r.0 ∷ texts r.1.now) × (least ≤ r.0) × (r.0 ≤ most)) }
-    ensures none { IfNone result ((n : ℕ) (rest : List (List ℕ)) → texts words.now ≡ decimal n ∷ rest → least ≤ n → n ≤ most → ⊥) }
+    ensures none { IfNone result ((n : ℕ) (rest : List (List ℕ)) → texts words.now ≡ decimal n ∷ rest → least ≤ n
+        → n ≤ most → ⊥) }
 {
     let (word, rest) = words.split_first()?;
     let n = get_num(word, u64::from(least), u64::from(most))?;
@@ -81,16 +85,20 @@ fn number_after<'a>(
     most: u32,
     words: &'a [&'a [u8]],
 ) -> Option<(u32, &'a [&'a [u8]])>
-    ensures some { IfSome result (λ r. (texts words.now ≡ first.now ∷ decimal r.0 ∷ texts r.1.now) × (least ≤ r.0) × (r.0 ≤ most)) }
-    ensures none { IfNone result ((n : ℕ) (rest : List (List ℕ)) → texts words.now ≡ first.now ∷ decimal n ∷ rest → least ≤ n → n ≤ most → ⊥) }
+    ensures some { IfSome result (λ r. (texts words.now ≡ first.now ∷ decimal r.0 ∷ texts r.1.now) × (least ≤ r.0)
+        × (r.0 ≤ most)) }
+    ensures none { IfNone result ((n : ℕ) (rest : List (List ℕ)) → texts words.now ≡ first.now ∷ decimal n ∷ rest
+        → least ≤ n → n ≤ most → ⊥) }
 {
     number_first(least, most, after(first, words)?)
 }
 
 /// That word and a power of two to `most` as the first words, and the words after them.
 fn power_after<'a>(first: &[u8], most: u32, words: &'a [&'a [u8]]) -> Option<(u32, &'a [&'a [u8]])>
-    ensures some { IfSome result (λ r. (texts words.now ≡ first.now ∷ decimal r.0 ∷ texts r.1.now) × IsPowerTo most r.0) }
-    ensures none { IfNone result ((n : ℕ) (rest : List (List ℕ)) → texts words.now ≡ first.now ∷ decimal n ∷ rest → IsPowerTo most n → ⊥) }
+    ensures some { IfSome result (λ r. (texts words.now ≡ first.now ∷ decimal r.0 ∷ texts r.1.now)
+        × IsPowerTo most r.0) }
+    ensures none { IfNone result ((n : ℕ) (rest : List (List ℕ)) → texts words.now ≡ first.now ∷ decimal n ∷ rest
+        → IsPowerTo most n → ⊥) }
 {
     let (n, rest) = number_after(first, 1, most, words)?;
     if !n.is_power_of_two() {
@@ -102,7 +110,8 @@ fn power_after<'a>(first: &[u8], most: u32, words: &'a [&'a [u8]]) -> Option<(u3
 /// An end as the first word, and the words after it.
 fn end_first<'a>(words: &'a [&'a [u8]]) -> Option<(End, &'a [&'a [u8]])>
     ensures some { IfSome result (λ r. (texts words.now ≡ end_text r.0.addr r.0.port ∷ texts r.1.now) × EndFits r.0) }
-    ensures none { IfNone result ((end : End) (rest : List (List ℕ)) → texts words.now ≡ end_text end.addr end.port ∷ rest → EndFits end → ⊥) }
+    ensures none { IfNone result ((end : End) (rest : List (List ℕ))
+        → texts words.now ≡ end_text end.addr end.port ∷ rest → EndFits end → ⊥) }
 {
     let (word, rest) = words.split_first()?;
     let (addr, port) = get_end(word, 0)?;
@@ -111,8 +120,10 @@ fn end_first<'a>(words: &'a [&'a [u8]]) -> Option<(End, &'a [&'a [u8]])>
 
 /// That word and an end as the first words, and the words after them.
 fn end_after<'a>(first: &[u8], words: &'a [&'a [u8]]) -> Option<(End, &'a [&'a [u8]])>
-    ensures some { IfSome result (λ r. (texts words.now ≡ first.now ∷ end_text r.0.addr r.0.port ∷ texts r.1.now) × EndFits r.0) }
-    ensures none { IfNone result ((end : End) (rest : List (List ℕ)) → texts words.now ≡ first.now ∷ end_text end.addr end.port ∷ rest → EndFits end → ⊥) }
+    ensures some { IfSome result (λ r. (texts words.now ≡ first.now ∷ end_text r.0.addr r.0.port ∷ texts r.1.now)
+        × EndFits r.0) }
+    ensures none { IfNone result ((end : End) (rest : List (List ℕ))
+        → texts words.now ≡ first.now ∷ end_text end.addr end.port ∷ rest → EndFits end → ⊥) }
 {
     end_first(after(first, words)?)
 }
@@ -120,7 +131,8 @@ fn end_after<'a>(first: &[u8], words: &'a [&'a [u8]]) -> Option<(End, &'a [&'a [
 /// That word and an address as the first words, and the words after them.
 fn address_after<'a>(first: &[u8], words: &'a [&'a [u8]]) -> Option<(u32, &'a [&'a [u8]])>
     ensures some { IfSome result (λ r. texts words.now ≡ first.now ∷ addr_text r.0 ∷ texts r.1.now) }
-    ensures none { IfNone result ((addr : ℕ) (rest : List (List ℕ)) → texts words.now ≡ first.now ∷ addr_text addr ∷ rest → addr < 2 ^ 32 → ⊥) }
+    ensures none { IfNone result ((addr : ℕ) (rest : List (List ℕ))
+        → texts words.now ≡ first.now ∷ addr_text addr ∷ rest → addr < 2 ^ 32 → ⊥) }
 {
     let (word, rest) = after(first, words)?.split_first()?;
     let addr = get_addr(word)?;
@@ -133,7 +145,8 @@ fn namespace_first<'a>(words: &'a [&'a [u8]]) -> (Option<u8>, &'a [&'a [u8]])
     ensures fits { NamespaceFits result.0 }
 
     // However they are read, the same words are left, if no `net` comes next.
-    ensures only { (net : Option ℕ) (rest : List (List ℕ)) → texts words.now ≡ namespace_words net ++ rest → NamespaceFits net → slice_get rest 0 ≢ Some (codes "net") → rest ≡ texts result.1.now }
+    ensures only { (net : Option ℕ) (rest : List (List ℕ)) → texts words.now ≡ namespace_words net ++ rest
+        → NamespaceFits net → slice_get rest 0 ≢ Some (codes "net") → rest ≡ texts result.1.now }
 {
     match number_after(b"net", 0, 15, words) {
         Some((net, rest)) => (Some(net as u8), rest),
@@ -147,7 +160,8 @@ fn user_first<'a>(words: &'a [&'a [u8]]) -> (Option<u32>, &'a [&'a [u8]])
     ensures fits { UserFits result.0 }
 
     // However they are read, the same words are left, if no `uid` comes next.
-    ensures only { (uid : Option ℕ) (rest : List (List ℕ)) → texts words.now ≡ user_words uid ++ rest → UserFits uid → slice_get rest 0 ≢ Some (codes "uid") → rest ≡ texts result.1.now }
+    ensures only { (uid : Option ℕ) (rest : List (List ℕ)) → texts words.now ≡ user_words uid ++ rest → UserFits uid
+        → slice_get rest 0 ≢ Some (codes "uid") → rest ≡ texts result.1.now }
 {
     match number_after(b"uid", 0, u32::MAX, words) {
         Some((uid, rest)) => (Some(uid), rest),
@@ -161,7 +175,8 @@ fn device_first<'a>(words: &'a [&'a [u8]]) -> (Option<u16>, &'a [&'a [u8]])
     ensures fits { DeviceFits result.0 }
 
     // However they are read, the same words are left, if no `dev` comes next.
-    ensures only { (dev : Option ℕ) (rest : List (List ℕ)) → texts words.now ≡ device_words dev ++ rest → DeviceFits dev → slice_get rest 0 ≢ Some (codes "dev") → rest ≡ texts result.1.now }
+    ensures only { (dev : Option ℕ) (rest : List (List ℕ)) → texts words.now ≡ device_words dev ++ rest
+        → DeviceFits dev → slice_get rest 0 ≢ Some (codes "dev") → rest ≡ texts result.1.now }
 {
     match number_after(b"dev", 1, 65535, words) {
         Some((dev, rest)) => (Some(dev as u16), rest),
@@ -175,7 +190,8 @@ fn source_first<'a>(words: &'a [&'a [u8]]) -> (Option<u32>, &'a [&'a [u8]])
     ensures fits { SourceFits result.0 }
 
     // However they are read, the same words are left, if no `from` comes next.
-    ensures only { (from : Option ℕ) (rest : List (List ℕ)) → texts words.now ≡ source_words from ++ rest → SourceFits from → slice_get rest 0 ≢ Some (codes "from") → rest ≡ texts result.1.now }
+    ensures only { (from : Option ℕ) (rest : List (List ℕ)) → texts words.now ≡ source_words from ++ rest
+        → SourceFits from → slice_get rest 0 ≢ Some (codes "from") → rest ≡ texts result.1.now }
 {
     match address_after(b"from", words) {
         Some((addr, rest)) => (Some(addr), rest),
@@ -188,7 +204,8 @@ fn flag_first<'a>(flag: &[u8], words: &'a [&'a [u8]]) -> (bool, &'a [&'a [u8]])
     ensures spelled { texts words.now ≡ flag_words flag.now result.0 ++ texts result.1.now }
 
     // However they are read, the same words are left, if the flag doesn't come next.
-    ensures only { (set : Bool) (rest : List (List ℕ)) → texts words.now ≡ flag_words flag.now set ++ rest → slice_get rest 0 ≢ Some flag.now → rest ≡ texts result.1.now }
+    ensures only { (set : Bool) (rest : List (List ℕ)) → texts words.now ≡ flag_words flag.now set ++ rest
+        → slice_get rest 0 ≢ Some flag.now → rest ≡ texts result.1.now }
 {
     match after(flag, words) {
         Some(rest) => (true, rest),
@@ -197,7 +214,7 @@ fn flag_first<'a>(flag: &[u8], words: &'a [&'a [u8]]) -> (bool, &'a [&'a [u8]])
 }
 
 /// The command of the words after `socket`.
-fn socket_of(words: &[&[u8]]) -> Option<Command>
+fn socket_of(words: &[&[u8]]) -> Option<KeptCommand>
     ensures some { IfSome result (λ c. HasForm (codes "socket" ∷ texts words.now) (lines.Command c)) }
     ensures none { IfNone result ((c : Command) → HasForm (codes "socket" ∷ texts words.now) (lines.Command c) → ⊥) }
 {
@@ -220,11 +237,11 @@ fn socket_of(words: &[&[u8]]) -> Option<Command>
         reuseport,
         noport,
     };
-    Some(Command::Socket { label, options })
+    Some(KeptCommand::socket(label, options))
 }
 
 /// The command of the words after `bind`.
-fn bind_of(words: &[&[u8]]) -> Option<Command>
+fn bind_of(words: &[&[u8]]) -> Option<KeptCommand>
     ensures some { IfSome result (λ c. HasForm (codes "bind" ∷ texts words.now) (lines.Command c)) }
     ensures none { IfNone result ((c : Command) → HasForm (codes "bind" ∷ texts words.now) (lines.Command c) → ⊥) }
 {
@@ -234,20 +251,20 @@ fn bind_of(words: &[&[u8]]) -> Option<Command>
         return None;
     }
     let label = label_of(label);
-    Some(Command::Bind { label, end })
+    Some(KeptCommand::bind(label, end))
 }
 
 /// The command of the words after `listen`.
-fn listen_of(words: &[&[u8]]) -> Option<Command>
+fn listen_of(words: &[&[u8]]) -> Option<KeptCommand>
     ensures some { IfSome result (λ c. HasForm (codes "listen" ∷ texts words.now) (lines.Command c)) }
     ensures none { IfNone result ((c : Command) → HasForm (codes "listen" ∷ texts words.now) (lines.Command c) → ⊥) }
 {
     let label = label_of(label_alone(words)?);
-    Some(Command::Listen { label })
+    Some(KeptCommand::listen(label))
 }
 
 /// The command of the words after `connect`.
-fn connect_of(words: &[&[u8]]) -> Option<Command>
+fn connect_of(words: &[&[u8]]) -> Option<KeptCommand>
     ensures some { IfSome result (λ c. HasForm (codes "connect" ∷ texts words.now) (lines.Command c)) }
     ensures none { IfNone result ((c : Command) → HasForm (codes "connect" ∷ texts words.now) (lines.Command c) → ⊥) }
 {
@@ -258,13 +275,14 @@ fn connect_of(words: &[&[u8]]) -> Option<Command>
         return None;
     }
     let label = label_of(label);
-    Some(Command::Connect { label, from, to })
+    Some(KeptCommand::connect(label, from, to))
 }
 
 /// The far end of a newcomer and its own, as the only words.
 fn ends_of(words: &[&[u8]]) -> Option<(End, End)>
     ensures some { IfSome result (λ r. (texts words.now ≡ ends_words r.0 r.1) × EndFits r.0 × EndFits r.1) }
-    ensures none { IfNone result ((from at : End) → texts words.now ≡ ends_words from at → EndFits from → EndFits at → ⊥) }
+    ensures none { IfNone result ((from at : End) → texts words.now ≡ ends_words from at → EndFits from → EndFits at
+        → ⊥) }
 {
     let (from, words) = end_after(b"from", words)?;
     let (at, words) = end_after(b"at", words)?;
@@ -274,73 +292,92 @@ fn ends_of(words: &[&[u8]]) -> Option<(End, End)>
     Some((from, at))
 }
 
-/// The command of the words after `accept`.
-fn accept_of(words: &[&[u8]]) -> Option<Command>
-    ensures some { IfSome result (λ c. HasForm (codes "accept" ∷ texts words.now) (lines.Command c)) }
-    ensures none { IfNone result ((c : Command) → HasForm (codes "accept" ∷ texts words.now) (lines.Command c) → ⊥) }
+/// A listener, the label of a newcomer to it, and the newcomer's two ends, as the only words.
+fn newcomer_of(words: &[&[u8]]) -> Option<(Label, Label, End, End)>
+    ensures some { IfSome result (λ r. (texts words.now ≡ r.0 ∷ r.1 ∷ ends_words r.2 r.3)
+        × IsTrue (is_label r.0) × IsTrue (is_label r.1) × EndFits r.2 × EndFits r.3) }
+    ensures none { IfNone result ((listener label : List ℕ) (from at : End)
+        → texts words.now ≡ listener ∷ label ∷ ends_words from at
+        → IsTrue (is_label listener) → IsTrue (is_label label) → EndFits from → EndFits at → ⊥) }
 {
     let (listener, words) = label_first(words)?;
     let (label, words) = label_first(words)?;
     let (from, at) = ends_of(words)?;
-    let listener = label_of(listener);
-    let label = label_of(label);
-    Some(Command::Accept {
-        listener,
-        label,
-        from,
-        at,
-    })
+    Some((label_of(listener), label_of(label), from, at))
+}
+
+/// The command of the words after `accept`.
+fn accept_of(alloc: Global, words: &[&[u8]]) -> Result<Option<KeptCommand>, AllocError>
+    ensures some { IfOk result (λ read. IfSome read
+        (λ c. HasForm (codes "accept" ∷ texts words.now) (lines.Command c))) }
+    ensures none { IfOk result (λ read. IfNone read
+        ((c : Command) → HasForm (codes "accept" ∷ texts words.now) (lines.Command c) → ⊥)) }
+{
+    let Some((listener, label, from, at)) = newcomer_of(words) else {
+        return Ok(None);
+    };
+    let command = KeptCommand::accept(alloc, &listener, &label, from, at)?;
+    Ok(Some(command))
 }
 
 /// The command of the words after `syn`.
-fn syn_of(words: &[&[u8]]) -> Option<Command>
-    ensures some { IfSome result (λ c. HasForm (codes "syn" ∷ texts words.now) (lines.Command c)) }
-    ensures none { IfNone result ((c : Command) → HasForm (codes "syn" ∷ texts words.now) (lines.Command c) → ⊥) }
+fn syn_of(alloc: Global, words: &[&[u8]]) -> Result<Option<KeptCommand>, AllocError>
+    ensures some { IfOk result (λ read. IfSome read (λ c. HasForm (codes "syn" ∷ texts words.now) (lines.Command c))) }
+    ensures none { IfOk result (λ read. IfNone read
+        ((c : Command) → HasForm (codes "syn" ∷ texts words.now) (lines.Command c) → ⊥)) }
 {
-    let (listener, words) = label_first(words)?;
-    let (label, words) = label_first(words)?;
-    let (from, at) = ends_of(words)?;
-    let listener = label_of(listener);
-    let label = label_of(label);
-    Some(Command::Syn {
-        listener,
-        label,
-        from,
-        at,
-    })
+    let Some((listener, label, from, at)) = newcomer_of(words) else {
+        return Ok(None);
+    };
+    let command = KeptCommand::syn(alloc, &listener, &label, from, at)?;
+    Ok(Some(command))
+}
+
+/// Two labels, as the only words.
+fn two_labels_of(words: &[&[u8]]) -> Option<(Label, Label)>
+    ensures some { IfSome result (λ r. (texts words.now ≡ r.0 ∷ r.1 ∷ []) × IsTrue (is_label r.0)
+        × IsTrue (is_label r.1)) }
+    ensures none { IfNone result ((first second : List ℕ) → texts words.now ≡ first ∷ second ∷ []
+        → IsTrue (is_label first) → IsTrue (is_label second) → ⊥) }
+{
+    let (first, words) = label_first(words)?;
+    let second = label_alone(words)?;
+    Some((label_of(first), label_of(second)))
 }
 
 /// The command of the words after `ack`.
-fn ack_of(words: &[&[u8]]) -> Option<Command>
-    ensures some { IfSome result (λ c. HasForm (codes "ack" ∷ texts words.now) (lines.Command c)) }
-    ensures none { IfNone result ((c : Command) → HasForm (codes "ack" ∷ texts words.now) (lines.Command c) → ⊥) }
+fn ack_of(alloc: Global, words: &[&[u8]]) -> Result<Option<KeptCommand>, AllocError>
+    ensures some { IfOk result (λ read. IfSome read (λ c. HasForm (codes "ack" ∷ texts words.now) (lines.Command c))) }
+    ensures none { IfOk result (λ read. IfNone read
+        ((c : Command) → HasForm (codes "ack" ∷ texts words.now) (lines.Command c) → ⊥)) }
 {
-    let (request, words) = label_first(words)?;
-    let label = label_of(label_alone(words)?);
-    let request = label_of(request);
-    Some(Command::Ack { request, label })
+    let Some((request, label)) = two_labels_of(words) else {
+        return Ok(None);
+    };
+    let command = KeptCommand::ack(alloc, &request, &label)?;
+    Ok(Some(command))
 }
 
 /// The command of the words after `close`.
-fn close_of(words: &[&[u8]]) -> Option<Command>
+fn close_of(words: &[&[u8]]) -> Option<KeptCommand>
     ensures some { IfSome result (λ c. HasForm (codes "close" ∷ texts words.now) (lines.Command c)) }
     ensures none { IfNone result ((c : Command) → HasForm (codes "close" ∷ texts words.now) (lines.Command c) → ⊥) }
 {
     let label = label_of(label_alone(words)?);
-    Some(Command::Close { label })
+    Some(KeptCommand::close(label))
 }
 
 /// The command of the words after `drop`.
-fn drop_of(words: &[&[u8]]) -> Option<Command>
+fn drop_of(words: &[&[u8]]) -> Option<KeptCommand>
     ensures some { IfSome result (λ c. HasForm (codes "drop" ∷ texts words.now) (lines.Command c)) }
     ensures none { IfNone result ((c : Command) → HasForm (codes "drop" ∷ texts words.now) (lines.Command c) → ⊥) }
 {
     let label = label_of(label_alone(words)?);
-    Some(Command::Drop { label })
+    Some(KeptCommand::drop(label))
 }
 
 /// The command of the words after `at`.
-fn at_of(words: &[&[u8]]) -> Option<Command>
+fn at_of(words: &[&[u8]]) -> Option<KeptCommand>
     ensures some { IfSome result (λ c. HasForm (codes "at" ∷ texts words.now) (lines.Command c)) }
     ensures none { IfNone result ((c : Command) → HasForm (codes "at" ∷ texts words.now) (lines.Command c) → ⊥) }
 {
@@ -348,22 +385,22 @@ fn at_of(words: &[&[u8]]) -> Option<Command>
     if !words.is_empty() {
         return None;
     }
-    Some(Command::At { moment })
+    Some(KeptCommand::at(moment))
 }
 
 /// The command of the words after `reap`.
-fn reap_of(words: &[&[u8]]) -> Option<Command>
+fn reap_of(words: &[&[u8]]) -> Option<KeptCommand>
     ensures some { IfSome result (λ c. HasForm (codes "reap" ∷ texts words.now) (lines.Command c)) }
     ensures none { IfNone result ((c : Command) → HasForm (codes "reap" ∷ texts words.now) (lines.Command c) → ⊥) }
 {
     if !words.is_empty() {
         return None;
     }
-    Some(Command::Reap)
+    Some(KeptCommand::reap())
 }
 
 /// The command of the words after `look`.
-fn look_of(words: &[&[u8]]) -> Option<Command>
+fn look_of(words: &[&[u8]]) -> Option<KeptCommand>
     ensures some { IfSome result (λ c. HasForm (codes "look" ∷ texts words.now) (lines.Command c)) }
     ensures none { IfNone result ((c : Command) → HasForm (codes "look" ∷ texts words.now) (lines.Command c) → ⊥) }
 {
@@ -375,11 +412,11 @@ fn look_of(words: &[&[u8]]) -> Option<Command>
         return None;
     }
     let query = Query { from, to, dev, net };
-    Some(Command::Look { query })
+    Some(KeptCommand::look(query))
 }
 
 /// The command of the words after `packets`.
-fn packets_of(words: &[&[u8]]) -> Option<Command>
+fn packets_of(words: &[&[u8]]) -> Option<KeptCommand>
     ensures some { IfSome result (λ c. HasForm (codes "packets" ∷ texts words.now) (lines.Command c)) }
     ensures none { IfNone result ((c : Command) → HasForm (codes "packets" ∷ texts words.now) (lines.Command c) → ⊥) }
 {
@@ -387,70 +424,71 @@ fn packets_of(words: &[&[u8]]) -> Option<Command>
     if !words.is_empty() {
         return None;
     }
-    Some(Command::Packets { count })
+    Some(KeptCommand::packets(count))
 }
 
 /// The command of the words after `dump`.
-fn dump_of(words: &[&[u8]]) -> Option<Command>
+fn dump_of(words: &[&[u8]]) -> Option<KeptCommand>
     ensures some { IfSome result (λ c. HasForm (codes "dump" ∷ texts words.now) (lines.Command c)) }
     ensures none { IfNone result ((c : Command) → HasForm (codes "dump" ∷ texts words.now) (lines.Command c) → ⊥) }
 {
     if !words.is_empty() {
         return None;
     }
-    Some(Command::Dump)
+    Some(KeptCommand::dump())
 }
 
-/// The command that the words are.
+/// The command that the words are, as a script keeps it.
 ///
-/// Takes no memory, and time for the bytes of the words.
-pub fn command_of(words: &[&[u8]]) -> Option<Command>
-    ensures some { IfSome result (λ c. HasForm (texts words.now) (lines.Command c)) }
-    ensures none { IfNone result ((c : Command) → HasForm (texts words.now) (lines.Command c) → ⊥) }
+/// Takes memory only for an `accept`, a `syn` or an `ack` with a label of more than seven bytes, and time for the bytes
+/// of the words.
+pub fn command_of(alloc: Global, words: &[&[u8]]) -> Result<Option<KeptCommand>, AllocError>
+    ensures some { IfOk result (λ read. IfSome read (λ c. HasForm (texts words.now) (lines.Command c))) }
+    ensures none { IfOk result (λ read. IfNone read ((c : Command) → HasForm (texts words.now) (lines.Command c) → ⊥)) }
 {
     if let Some(words) = after(b"socket", words) {
-        return socket_of(words);
+        return Ok(socket_of(words));
     }
     if let Some(words) = after(b"look", words) {
-        return look_of(words);
+        return Ok(look_of(words));
     }
     if let Some(words) = after(b"bind", words) {
-        return bind_of(words);
+        return Ok(bind_of(words));
     }
     if let Some(words) = after(b"listen", words) {
-        return listen_of(words);
+        return Ok(listen_of(words));
     }
     if let Some(words) = after(b"connect", words) {
-        return connect_of(words);
+        return Ok(connect_of(words));
     }
     if let Some(words) = after(b"accept", words) {
-        return accept_of(words);
+        return accept_of(alloc, words);
     }
     if let Some(words) = after(b"syn", words) {
-        return syn_of(words);
+        return syn_of(alloc, words);
     }
     if let Some(words) = after(b"ack", words) {
-        return ack_of(words);
+        return ack_of(alloc, words);
     }
     if let Some(words) = after(b"close", words) {
-        return close_of(words);
+        return Ok(close_of(words));
     }
     if let Some(words) = after(b"drop", words) {
-        return drop_of(words);
+        return Ok(drop_of(words));
     }
     if let Some(words) = after(b"at", words) {
-        return at_of(words);
+        return Ok(at_of(words));
     }
     if let Some(words) = after(b"reap", words) {
-        return reap_of(words);
+        return Ok(reap_of(words));
     }
     if let Some(words) = after(b"packets", words) {
-        return packets_of(words);
+        return Ok(packets_of(words));
     }
     if let Some(words) = after(b"dump", words) {
-        return dump_of(words);
+        return Ok(dump_of(words));
     }
-    None
+    Ok(None)
 }
 
 /// The shape of the tables that the words tell.
@@ -506,7 +544,8 @@ fn ports_of(words: &[&[u8]]) -> Option<Reserved>
     requires some { 1 ≤ length words.now }
     requires few { length words.now ≤ 64 }
     ensures some { IfSome result (λ r. HasForm (codes "reserved" ∷ texts words.now) (lines.Reserved r)) }
-    ensures none { IfNone result ((r : Reserved) → HasForm (codes "reserved" ∷ texts words.now) (lines.Reserved r) → ⊥) }
+    ensures none { IfNone result ((r : Reserved) → HasForm (codes "reserved" ∷ texts words.now) (lines.Reserved r)
+        → ⊥) }
 {
     let mut ports = [0; RESERVED_ROOM];
     // One more than the port before, so that the ports ascend.
@@ -717,7 +756,7 @@ mod tests {
             &[b"capture", b"dev", b"65535", b"net", b"0"],
         ];
         for words in lines {
-            assert!(rt; command_of(words).is_some() || other_of(words).is_some());
+            assert!(rt; command_of(rt.alloc(), words)?.is_some() || other_of(words).is_some());
         }
         Ok(())
     }
@@ -730,7 +769,7 @@ mod tests {
         for _ in 0..1_000_000 {
             words.push(b"reuseaddr")?;
         }
-        assert!(rt; command_of(&words).is_none());
+        assert!(rt; command_of(rt.alloc(), &words)?.is_none());
         assert!(rt; other_of(&words).is_none());
         Ok(())
     }

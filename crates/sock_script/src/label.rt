@@ -1,22 +1,24 @@
-ghost use Rattle.std.specs.Prelude.{◌≡◌, ◌∷◌, [], IfOk, unwrap_or, slice_get};
+ghost use Rattle.std.specs.Prelude.{◌≡◌, ◌∷◌, [], IfOk, is_some, unwrap_or, slice_get};
 ghost use Rattle.std.specs.Option.{option_copied};
 ghost use Rattle.sock_script.specs.Grammar as spec;
 ghost use Rattle.sock_script.specs.Seen.{texts, tables};
 ghost use Rattle.sock_script.specs.Steps.{label_table, label_at};
 
 use flat_list::kept::Form;
-use flat_list::{Command, KeptCommand, Label, Script};
+use flat_list::{KeptCommand, Label, Script};
 use std::alloc::{AllocError, Global};
 
 /// The label that a command gives to a new socket.
-pub fn given_label(command: &Command) -> Option<&Label>
-    ensures { option_copied result ≡ spec.given_label command.now }
+pub fn given_label(command: &KeptCommand) -> Option<Label>
+    ensures { result ≡ spec.given_label command.now }
 {
-    match command {
-        Command::Socket { label, .. }
-        | Command::Accept { label, .. }
-        | Command::Syn { label, .. }
-        | Command::Ack { label, .. } => Some(label),
+    match command.form() {
+        Form::Socket { label, .. } | Form::UserSocket { label, .. } => Some(*label),
+        Form::Accept { label, .. } | Form::Syn { label, .. } | Form::Ack { label, .. } => {
+            Some(label.label())
+        }
+        Form::LongAccept { labels, .. } | Form::LongSyn { labels, .. } | Form::LongAck { labels } =>
+            Some(labels.given),
         _ => None,
     }
 }
@@ -34,6 +36,13 @@ fn given_bytes(command: &KeptCommand) -> Option<&[u8]>
             Some(labels.given.as_bytes()),
         _ => None,
     }
+}
+
+/// Whether a command gives a label to a new socket.
+pub fn gives_label(command: &KeptCommand) -> bool
+    ensures { result ≡ is_some (spec.given_label command.now) }
+{
+    given_bytes(command).is_some()
 }
 
 /// The labels that a section's commands give, each at its number in the section, which is 1 or more.

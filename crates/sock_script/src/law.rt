@@ -25,8 +25,8 @@ pub fn headers_fit()
 {}
 
 /// Each list between a script's commands is sound: no two bound sockets of different origin conflict,
-/// but for those whose ports `connect` chose, no two sockets that are full or in TIME_WAIT have one four-tuple, and
-/// no two sockets have one name.
+/// but for those whose ports `connect` chose, no two of one namespace that are full, in TIME_WAIT or requests have one
+/// four-tuple, and no two sockets have one name.
 pub fn sound_lists()
     ensures scripts { ListsSound }
     ensures texts { TextsSound }

@@ -1,4 +1,4 @@
-use flat_list::{Command, Range, Reserved, Shape};
+use flat_list::{KeptCommand, Range, Reserved, Shape};
 
 /// A line of a script.
 #[derive(Debug, Drop)]
@@ -21,5 +21,5 @@ pub enum Line {
     Section(u32),
     /// The bytes after this line are a capture, of packets from that device and that network namespace.
     Capture { dev: Option<u16>, net: Option<u8> },
-    Command(Command),
+    Command(KeptCommand),
 }

@@ -145,7 +145,8 @@ impl Step {
 
     fn connect(self) -> Command
         ensures { result ≡ Command.Connect (spec.step_label self.number)
-            (Some (steps.local_addr (spec.last_number self.word))) (steps.end_at (steps.local_addr 257) (spec.step_port self.word)) }
+            (Some (steps.local_addr (spec.last_number self.word)))
+            (steps.end_at (steps.local_addr 257) (spec.step_port self.word)) }
     {
         let to = End {
             addr: SERVER,

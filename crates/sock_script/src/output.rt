@@ -355,7 +355,8 @@ fn put_items(
     replies: &[Shown],
 ) -> Result<(), AllocError>
     requires { number + length replies.now < 2 ^ 64 }
-    ensures { OnOk result (out.new.items ≡ out.old.items ++ item_lines (tables labels.now.by_section.items) number replies.now) }
+    ensures { OnOk result (out.new.items ≡ out.old.items
+        ++ item_lines (tables labels.now.by_section.items) number replies.now) }
 {
     for (i, reply) in replies.iter().enumerate() {
         put_item(out, labels, number + i as u64, reply)?;
@@ -371,7 +372,8 @@ fn put_packets<'a>(
     unwritten: Unwritten<'a>,
 ) -> Result<Unwritten<'a>, AllocError>
     requires { unwritten.number + length unwritten.items < 2 ^ 63 }
-    ensures { IfOk result (WritesItems (tables labels.now.by_section.items) count unwritten.entry out.old.items out.new.items) }
+    ensures { IfOk result (WritesItems
+        (tables labels.now.by_section.items) count unwritten.entry out.old.items out.new.items) }
 {
     let (replies, left) = unwritten.take(count);
     put_items(out, labels, unwritten.number(), replies)?;
@@ -385,7 +387,8 @@ fn put_dump<'a>(
     n: u64,
     unwritten: Unwritten<'a>,
 ) -> Result<Unwritten<'a>, AllocError>
-    ensures { IfOk result (WritesDump (tables labels.now.by_section.items) n unwritten.entry out.old.items out.new.items) }
+    ensures { IfOk result (WritesDump
+        (tables labels.now.by_section.items) n unwritten.entry out.old.items out.new.items) }
 {
     let Some((listing, left)) = unwritten.next_listing() else {
         return Ok(unwritten);
@@ -403,7 +406,8 @@ fn put_command<'a>(
     unwritten: Unwritten<'a>,
 ) -> Result<Unwritten<'a>, AllocError>
     requires { unwritten.number + length unwritten.items < 2 ^ 63 }
-    ensures { IfOk result (Writes (tables labels.now.by_section.items) (issue n (command.now ∷ [])) unwritten.entry out.old.items out.new.items) }
+    ensures { IfOk result (Writes (tables labels.now.by_section.items)
+        (issue n (command.now ∷ [])) unwritten.entry out.old.items out.new.items) }
 {
     if let Form::Packets { count } = command.form() {
         return put_packets(out, labels, *count as usize, unwritten);
@@ -427,7 +431,8 @@ fn put_section<'a>(
     unwritten: Unwritten<'a>,
 ) -> Result<Unwritten<'a>, AllocError>
     requires { unwritten.number + length unwritten.items < 2 ^ 63 }
-    ensures { IfOk result (Writes (tables labels.now.by_section.items) (issue n commands.now) unwritten.entry out.old.items out.new.items) }
+    ensures { IfOk result (Writes (tables labels.now.by_section.items)
+        (issue n commands.now) unwritten.entry out.old.items out.new.items) }
 {
     let mut left = unwritten;
     for command in commands {
@@ -446,10 +451,21 @@ fn put_cut(out: &mut Vec<u8>, is_cut: bool) -> Result<(), AllocError>
     Ok(())
 }
 
-/// How many bytes the lines are likely to take: as many as most lines have at most, for each reply and each socket that
-/// is listed.
+/// How many bytes the line of a reply is likely to take: a little more than it has with a short label.
+fn typical_line(reply: &Shown) -> usize {
+    match reply.brief() {
+        Brief::None => 12,
+        Brief::Ok => 20,
+        _ => 32,
+    }
+}
+
+/// How many bytes the lines are likely to take, with those of each socket that is listed.
 fn typical_room(replies: &[Shown], listings: &[Listing]) -> usize {
-    let mut room = replies.len().saturating_mul(32);
+    let mut room: usize = 0;
+    for reply in replies {
+        room = room.saturating_add(typical_line(reply));
+    }
     for listing in listings {
         room = room.saturating_add(listing.cards.len().saturating_mul(64));
     }
@@ -472,8 +488,8 @@ pub fn text(
 ) -> Result<Vec<u8>, AllocError>
     ensures { IfOk result (λ text. text.items ≡ script_text script.now capture.now replies.now listings.now) }
 {
-    let labels = Labels::of_script(alloc, script)?;
     let mut out = Vec::with_capacity(alloc, typical_room(replies, listings))?;
+    let labels = Labels::of_script(alloc, script)?;
     let mut left = Unwritten::new(capture.items(), replies, listings);
     for (i, commands) in script.sections().iter().enumerate() {
         left = put_section(&mut out, &labels, i as u64 + 1, commands, left)?;

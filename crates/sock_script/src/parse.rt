@@ -5,7 +5,7 @@ ghost use Rattle.sock_script.specs.Pieces.{HasWords};
 ghost use Rattle.sock_script.specs.Seen.{texts};
 ghost use Rattle.sock_script.specs.Grammar.{IsScript, IsFirstOutside};
 ghost use Rattle.sock_script.specs.Reading.{Reads, nothing_yet};
-ghost use Rattle.sock_script.specs.Steps.{LineAnswer, EndAnswer};
+ghost use Rattle.sock_script.specs.Steps.{LineAnswer, OtherAnswer, EndAnswer};
 
 use crate::draft::Draft;
 use crate::{form, word};
@@ -42,8 +42,22 @@ impl From<AllocError> for ScriptEnd {
     }
 }
 
+/// Reads one line that is no command, of which these are the words, where it may follow, and says whether.
+///
+/// It isn't inlined: what it has on its stack would be made for each command too.
+#[inline(never)]
+fn read_other(mode: Mode, draft: &mut Draft, words: &[&[u8]]) -> Result<bool, AllocError>
+    ensures { IfOk result (OtherAnswer mode draft.old (texts words.now) draft.new) }
+{
+    match form::other_of(words) {
+        Some(line) => draft.add(mode, line),
+        None => Ok(false),
+    }
+}
+
 /// Reads one line, of which these are the words, where it may follow, and says whether.
 fn read_line(
+    alloc: Global,
     mode: Mode,
     draft: &mut Draft,
     words: &[&[u8]],
@@ -59,21 +73,22 @@ fn read_line(
         return Ok(true);
     }
     // Most lines are commands, so no line of another kind is tried before them.
-    if let Some(command) = form::command_of(words) {
+    if let Some(command) = form::command_of(alloc, words)? {
         return draft.add_command(mode, command);
     }
-    match form::other_of(words) {
-        Some(line) => draft.add(mode, line),
-        None => Ok(false),
-    }
+    read_other(mode, draft, words)
 }
+
+/// Few lines of a command are shorter than that, so there is room for the commands of a script of one section from the
+/// start: what grows by doubling leaves its former blocks behind.
+const SHORT_LINE: usize = 16;
 
 /// Reads the lines of a text, to its end or to where its capture begins.
 fn read_lines(alloc: Global, seed: LabelSeed, text: &[u8], mode: Mode) -> Result<Draft, ScriptEnd>
     ensures read { IfOk result (λ draft. Reads mode nothing_yet (lines_of text.now) draft) }
     ensures bad { IfErr result (EndAnswer mode (lines_of text.now)) }
 {
-    let mut draft = Draft::new(alloc, seed);
+    let mut draft = Draft::new(alloc, seed, text.len() / SHORT_LINE);
     let mut words = Vec::new(alloc);
     let mut number = 0;
     let mut left = Some(text);
@@ -83,7 +98,7 @@ fn read_lines(alloc: Global, seed: LabelSeed, text: &[u8], mode: Mode) -> Result
         }
         number += 1;
         let (line, rest) = word::take_line(text, &mut words)?;
-        if !read_line(mode, &mut draft, &words, line)? {
+        if !read_line(alloc, mode, &mut draft, &words, line)? {
             return Err(ScriptEnd::BadLine(number));
         }
         left = rest;
@@ -96,7 +111,8 @@ fn read_lines(alloc: Global, seed: LabelSeed, text: &[u8], mode: Mode) -> Result
 /// Lines end in a line feed, before which one carriage return is dropped; words are parted by
 /// spaces and tabs. A line with no word, or whose first word begins with `#`, is passed over, and
 /// counts as a line. A line `capture` ends the script: the bytes after it are a capture, which isn't
-/// read here. Takes memory for the commands, and none for lines that are passed over; the
+/// read here. Takes memory for the commands, and none for lines that are passed over, though the first section asks at
+/// once for twice as much as the text has, of which what no command fills is never touched; the
 /// time is about that of one look at each byte, and that of finding each label among those that its
 /// section has given, whose hashes begin with the seed.
 pub fn parse(alloc: Global, seed: LabelSeed, text: &[u8], mode: Mode) -> Result<Script, ScriptEnd>

@@ -22,7 +22,12 @@ impl<'a> Model for Unwritten<'a> {
 
     ghost Value = { Left };
 
-    ghost view = { λ u. record { number = u.number; items = u.items.now; replies = u.replies.now; listings = u.listings.now } };
+    ghost view = { λ u. record {
+      number = u.number;
+      items = u.items.now;
+      replies = u.replies.now;
+      listings = u.listings.now;
+    } };
 }
 
 impl<'a> Unwritten<'a> {

@@ -110,7 +110,8 @@ fn first_byte(text: &[u8]) -> Option<u8>
 /// Whether a look at the first bytes tells that the first line is passed over. Where it doesn't, the line may have no
 /// word still, but it is no comment.
 fn shows_passed_over(text: &[u8]) -> bool
-    ensures { IsTrue result → (line : List ℕ) (later : List (List ℕ)) → lines_of text.now ≡ line ∷ later → IsPassedOver (words_of line) }
+    ensures { IsTrue result → (line : List ℕ) (later : List (List ℕ)) → lines_of text.now ≡ line ∷ later
+        → IsPassedOver (words_of line) }
 {
     match first_byte(text) {
         None => true,

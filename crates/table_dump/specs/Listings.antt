@@ -37,6 +37,7 @@ pub record IsListing (t : Tables) (listing : Listing) (w u : Worker) : Type 0 wh
   pub sorted : listing.cards ≡ ascending listing.cards
   pub rows : List (List Seen)
   pub sights :
-      (chained t u).view.sights ≡ settled (settled (chained t w).view.sights span.t0) span.t1 ++ sightings span.t0 span.t1 0 rows
+      (chained t u).view.sights ≡ settled (settled (chained t w).view.sights span.t0) span.t1
+      ++ sightings span.t0 span.t1 0 rows
   pub told : (views : List Part) → Each (SightTrue views) (sightings span.t0 span.t1 0 rows)
       → AreTold views (bucket_count t.chains.layout) span.t0 span.t1 listing.cards

@@ -37,7 +37,8 @@ pub fn dump<R: Wait>(
     ensures draws { Draws 0 worker.old worker.new }
     ensures lists { IfOk result (λ listing. IsListing tables.now listing worker.old worker.new) }
     ensures alone { IfOk result (λ listing. IsSole (chained tables.now worker.old).view
-        → listing.cards ≡ ascending (cards_from tables.now.chains.layout (chained tables.now worker.old).view.book.closed)) }
+        → listing.cards ≡ ascending (cards_from tables.now.chains.layout
+        (chained tables.now worker.old).view.book.closed)) }
 {
     let table = &tables.chains;
     let dump = dump_sockets(

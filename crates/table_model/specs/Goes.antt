@@ -72,7 +72,8 @@ tables_by count given chains = record { buckets = hash_of count given; chains = 
 -- entries have to be lawful beside those that the pass gave before
 abbrev pub GoesAlone : Type 0 → Type 0
 GoesAlone R =
-    (count : ℕ) (given : List (Placed Entry)) (chains new : Chains) (plan : Asking R) (told : List Told) (rest : Asking R)
+    (count : ℕ) (given : List (Placed Entry)) (chains new : Chains) (plan : Asking R) (told : List Told)
+    (rest : Asking R)
     → 1 ≤ count → AreLawful count (given ++ entries_in told) → AreChains chains told new → Leads count plan told rest
     → run (tables_by count given chains) plan ≡ run (tables_by count (given ++ entries_in told) new) rest
 

@@ -43,7 +43,8 @@ weigh_owners f buckets = total (λ (s : Standing). total f s.held.owners) bucket
 pub record OwnersMean (buckets : List Standing) (flat : Flat) : Type 0 where
   pub count : length buckets ≡ flat.header.shape.bind
   pub owners : (f : Owner → ℕ) → weigh_owners f buckets ≡ total (owns f) flat.sockets
-  pub keys : (key : ℕ) → Each (λ (a : Owner). owner_key a % length buckets ≡ key % length buckets) (standing_at buckets key).held.owners
+  pub keys : (key : ℕ) → Each (λ (a : Owner). owner_key a % length buckets ≡ key % length buckets)
+      (standing_at buckets key).held.owners
 
 -- the weight of all cards of the chains
 abbrev pub weigh_cards : (Card → ℕ) → List (List Hashed) → ℕ
@@ -87,9 +88,11 @@ stands_in_some m rows = list_any (λ row. list_any (stands_as m) row) rows
 -- at each place of each bucket are the members of the list's group of that number, in one order
 pub record GroupsMean (t : Tables) (flat : Flat) : Type 0 where
   pub members : (number place : ℕ) → number < length t.buckets → place < 8
-      → names_in (members_at (slice_index_or t.buckets number untouched).held place) ≡ members_of (8 * number + place) flat.groups
+      → names_in (members_at (slice_index_or t.buckets number untouched).held place)
+      ≡ members_of (8 * number + place) flat.groups
   pub places : Each (λ (s : Standing). length s.held.groups ≡ 8) t.buckets
-  pub stand : Each (λ (s : Standing). Each (λ members. Each (λ m. stands_in_some m t.chains.rows ≡ true) members) s.held.groups) t.buckets
+  pub stand : Each (λ (s : Standing). Each
+      (λ members. Each (λ m. stands_in_some m t.chains.rows ≡ true) members) s.held.groups) t.buckets
 
 -- tables that mean the list
 pub record TablesMean (t : Tables) (flat : Flat) : Type 0 where
@@ -113,7 +116,8 @@ name_in m = m.owner.name
 -- a socket of one's own that is hashed as that kind stands in its place
 abbrev pub StandsAs : Chains → Mine → Option Kind → Type 0
 StandsAs chains m (Some kind) =
-    list_any (λ (x : Hashed). has_slot m.place.slot x && (x.card.name == m.owner.name)) (row_at chains m.place.bucket) ≡ true
+    list_any (λ (x : Hashed). has_slot m.place.slot x && (x.card.name == m.owner.name)) (row_at chains m.place.bucket)
+    ≡ true
     × (m.place.bucket ≡ home_in chains (card_of kind m))
 StandsAs chains m None = Unit {0}
 
@@ -144,7 +148,8 @@ pub record OwnMeans (n : ℕ) (own : Own) (t : Tables) (flat : Flat) : Type 0 wh
   pub offset : own.offsets.offset ≡ flat.header.offset
   pub sockets : map owner_in own.sockets ≡ map owner_of (filter (is_open_in n) flat.sockets)
   pub stand : Each (λ (m : Mine). StandsAs t.chains m (kind_of m.owner.state)) own.sockets
-  pub waits : (f : Owner → ℕ → ℕ) → total (weighs_if_there f flat.sockets) own.waits ≡ total (weighs_as_wait f n) flat.sockets
+  pub waits : (f : Owner → ℕ → ℕ)
+      → total (weighs_if_there f flat.sockets) own.waits ≡ total (weighs_as_wait f n) flat.sockets
   pub names : Pairs (λ (a b : ℕ). a ≢ b) (map name_in own.sockets ++ map name_in own.waits)
   pub given : Each (λ (w : Mine). IsNameOf n (length own.labels) w.owner.name) own.waits
 

@@ -30,7 +30,8 @@ replies_by_plans header own t (command ∷ rest) =
 -- flat list
 abbrev pub BothAnswer : Header → List Line → Type 0
 BothAnswer header lines =
-    (replies_by_plans header (new_own header 1) (new_tables header.shape header.seed) (map command_of lines) ≡ map reply_of lines)
+    (replies_by_plans header (new_own header 1) (new_tables header.shape header.seed) (map command_of lines)
+    ≡ map reply_of lines)
     × Answer header lines
 
 -- the lines but those that only look, of which there is no plan

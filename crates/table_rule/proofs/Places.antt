@@ -1,21 +1,21 @@
 -- What a pass knows of its places, and of what it hashed before a lookup.
-use Rattle.std.proofs.Common.{◌≡◌, ◌≢◌, ℕ, ◌<◌, ◌≤◌, inl, List, [], ◌∷◌, ◌++◌, inr, ⊎_elim, map, length, cond, Bool, eq-eqb, ne_eqb, refl, sym, ap, ◌∙◌, subst, arith}
+use Rattle.std.proofs.Common.{◌≡◌, ℕ, ◌<◌, ◌≤◌, inl, List, [], ◌∷◌, ◌++◌, ⊎_elim, map, length, cond, Bool, eq-eqb, ne_eqb, refl, sym, ap, ◌∙◌, subst, arith}
 use mathlib.Core.Logic.{dite}
 use native.Mathlib.Decide.{ℕ_discrete}
 use mathlib.Core.Option.{some, some-injective, some-ne-none}
 use lib.ListN.{get_elem?}
-use Rattle.atomic_table.proofs.Lists.{at_map, at_last, at_longer}
+use Rattle.atomic_table.proofs.Lists.{at_map, at_last}
 use Rattle.table_rule.specs.Lists.{total, times, stands, slots_of, Each}
 use Rattle.table_rule.specs.ChainsOk.{list_of}
 use Rattle.table_rule.specs.CardsOk.{SeenOk, claims, shows, may_claim, all_claims}
 use Rattle.table_rule.specs.Book.{open-end, Part, Life, unhash_of}
 use Rattle.table_rule.specs.LinkedOk.{words_at, Whole}
-use Rattle.table_rule.specs.Owners.{time_waits, IsPlace}
+use Rattle.table_rule.specs.Owners.{time_waits}
 use Rattle.table_rule.specs.ReadersOk.{rank_of, NoneBetter, Readers}
 use Rattle.table_rule.specs.Rule.{chain_part, known_part, book_part, card_of, dark_of, twice_in, twice_of, Parts, More}
 use Rattle.table_rule.specs.Sole.{IsRead}
 use Rattle.table_rule.specs.Alone.{NoneKnown}
-use Rattle.table_rule.specs.Plays.{card_in, PlacesListed, PlacesApart, TuplesListed, PlaceMade, ending, closing, beginning, dropping_beginning, leaving}
+use Rattle.table_rule.specs.Plays.{card_in, PlacesListed, PlacesApart, TuplesListed, PlaceMade, ending, closing, leaving}
 use Rattle.table_rule.specs.Words.{bucket_count}
 use Rattle.table_rule.specs.declared.view.View.{View}
 use Rattle.table_rule.specs.declared.view.Layout.{Layout}
@@ -26,7 +26,6 @@ use Rattle.table_rule.proofs.Lists.{times-here, times-else, times-append, linked
 use Rattle.table_rule.proofs.ChainSteps.{sole}
 use Rattle.table_rule.proofs.Keeps.{whole_list, walk_in, all_lit, held_near, zero_total, twice_zero, twice_unlocked}
 use Rattle.table_rule.proofs.CardSteps.{at_end, shows_lit}
-use Rattle.table_rule.proofs.BookSteps.{one_of}
 use Rattle.table_rule.proofs.Owners.{place_life}
 use Rattle.table_rule.proofs.Serial.{hash_life}
 use Rattle.table_rule.proofs.Soles.{four}
@@ -131,51 +130,3 @@ module _ (layout : Layout) (word : ℕ → ℕ) (chain : ℕ → List ℕ) (live
       }
 
 -- A place stays one, whatever else its pass does
-
--- a hash's beginning is drawn
-pub place_beginning : (v : View) (h : Change) (r : ℕ) → IsPlace v.book h → IsPlace (beginning v r).book h
-place_beginning v h r p = record {
-  nth = p.nth;
-  there = p.there;
-  is-hash = p.is-hash;
-  stays = p.stays;
-  last = λ u has unhash slot after. ⊎_elim (λ z. p.last u record { nth = has.nth; is = inl z } unhash slot after) (λ z. omega (arith, unhash, ap (λ (c : Change). c.kind) (one_of _ u has.nth z))) has.is;
-}
-
--- such a beginning is dropped
-pub place_forgetting : (v : View) (h : Change) → IsPlace v.book h → IsPlace (dropping_beginning v).book h
-place_forgetting v h p = record {
-  nth = p.nth;
-  there = p.there;
-  is-hash = p.is-hash;
-  stays = p.stays;
-  last = λ u has unhash slot after. ⊎_elim (λ z. p.last u record { nth = has.nth; is = inl z } unhash slot after) (λ z. some-ne-none u (sym z)) has.is;
-}
-
--- an unhash of another slot begins
-pub place_leaving : (v : View) (h : Change) (i r : ℕ) → i ≢ h.slot → IsPlace v.book h → IsPlace (leaving v i r).book h
-place_leaving v h i r ne p = record {
-  nth = p.nth;
-  there = p.there;
-  is-hash = p.is-hash;
-  stays = p.stays;
-  last = λ u has unhash slot after. ⊎_elim (λ z. p.last u record { nth = has.nth; is = inl z } unhash slot after) (λ z. ne (ap (λ (c : Change). c.slot) (one_of _ u has.nth z) ∙ slot)) has.is;
-}
-
--- a change ends
-pub place_closing : (v : View) (h c : Change) (r : ℕ) → v.book.opened ≡ c ∷ [] → IsPlace v.book h → IsPlace (closing v r).book h
-place_closing v h c r one p =
-    let end : Change = record c { ends = r } in
-    let closed : (closing v r).book.closed ≡ v.book.closed ++ end ∷ [] = ap (λ (l : List Change). v.book.closed ++ ending l r) one in
-    record {
-      nth = p.nth;
-      there = ap (λ (l : List Change). get_elem? l p.nth) closed ∙ at_longer v.book.closed (end ∷ []) p.nth h p.there;
-      is-hash = p.is-hash;
-      stays = p.stays;
-      last = λ u has unhash slot after. ⊎_elim
-          (λ z. ⊎_elim
-          (λ y. p.last u record { nth = has.nth; is = inl y.0 } unhash slot after)
-          (λ y. p.last c record { nth = 0; is = inr (ap (λ (l : List Change). get_elem? l 0) one) } (ap (λ (d : Change). d.kind) y.0 ∙ unhash) (ap (λ (d : Change). d.slot) y.0 ∙ slot) (omega (arith, after, ap (λ (d : Change). d.begins) y.0)))
-          (at_end v.book.closed end u has.nth (ap (λ (l : List Change). get_elem? l has.nth) (sym closed) ∙ z)))
-          (λ z. some-ne-none u (sym z)) has.is;
-    }

@@ -32,8 +32,10 @@ abbrev pub IsNew : Life → Type 0
 IsNew y = (y.card ≡ []) × (y.linked ≡ open-end) × (y.leaving ≡ open-end) × (y.left ≡ open-end)
 
 pub record Goes (clock : ℕ) (lives lives' : ℕ → List Life) : Type 0 where
-  pub on : (i n : ℕ) (x : Life) → get_elem? (lives i) n ≡ some x → (y : Life) × (get_elem? (lives' i) n ≡ some y) × Grows clock x y
-  pub back : (i n : ℕ) (y : Life) → get_elem? (lives' i) n ≡ some y → ((x : Life) × (get_elem? (lives i) n ≡ some x) × Grows clock x y) ⊎ IsNew y
+  pub on : (i n : ℕ) (x : Life) → get_elem? (lives i) n ≡ some x → (y : Life) × (get_elem? (lives' i) n ≡ some y)
+      × Grows clock x y
+  pub back : (i n : ℕ) (y : Life) → get_elem? (lives' i) n ≡ some y
+      → ((x : Life) × (get_elem? (lives i) n ≡ some x) × Grows clock x y) ⊎ IsNew y
 
 -- one life grows
 pub record OneGrows (clock : ℕ) (lives lives' : ℕ → List Life) : Type 0 where
@@ -61,7 +63,9 @@ abbrev pub Twin : ℕ → ℕ → Life → ℕ → ℕ → Life → Type 0
 Twin i m x j n z = ((i ≡ j) × (m ≡ n)) ⊎ (x.left < z.begun) ⊎ (z.left < x.begun)
 
 abbrev pub TwinsOk : (ℕ → List Life) → Type 0
-TwinsOk lives = (i j m n t : ℕ) (x z : Life) → get_elem? (lives i) m ≡ some x → get_elem? (lives j) n ≡ some z → x.bucket ≡ z.bucket → Shows t x.card → Shows t z.card → Twin i m x j n z
+TwinsOk lives =
+    (i j m n t : ℕ) (x z : Life) → get_elem? (lives i) m ≡ some x → get_elem? (lives j) n ≡ some z
+    → x.bucket ≡ z.bucket → Shows t x.card → Shows t z.card → Twin i m x j n z
 
 -- Cards
 
@@ -73,7 +77,9 @@ pub record IsCardWords (ws : List ℕ) : Type 0 where
 
 -- a life that was lit has the words of a card that belongs in its bucket
 abbrev pub CardsAre : Layout → (ℕ → List Life) → Type 0
-CardsAre layout lives = (i n : ℕ) (x : Life) → get_elem? (lives i) n ≡ some x → (x.card ≡ []) ⊎ (IsCardWords x.card × (home_of layout x.card ≡ x.bucket))
+CardsAre layout lives =
+    (i n : ℕ) (x : Life) → get_elem? (lives i) n ≡ some x → (x.card ≡ [])
+    ⊎ (IsCardWords x.card × (home_of layout x.card ≡ x.bucket))
 
 -- Newest first
 
@@ -120,7 +126,8 @@ pub record SightOk (clock : ℕ) (lives : ℕ → List Life) (s : Sight) : Type 
   pub listed : (n : ℕ) (e : Seen) → get_elem? s.listed n ≡ some e → StoodAs lives s e
   -- each life of the bucket that was hashed before the sighting began, and that nobody began to unhash before its
   -- second number
-  pub whole : s.whole ≡ 1 → (b : ℕ) → s.bucket ≡ b ∷ [] → (i n : ℕ) (x : Life) → get_elem? (lives i) n ≡ some x → x.bucket ≡ b → x.linked < s.since → s.until ≤ x.leaving → Listed s i x
+  pub whole : s.whole ≡ 1 → (b : ℕ) → s.bucket ≡ b ∷ [] → (i n : ℕ) (x : Life) → get_elem? (lives i) n ≡ some x
+      → x.bucket ≡ b → x.linked < s.since → s.until ≤ x.leaving → Listed s i x
 
 pub record SightsOk (clock : ℕ) (lives : ℕ → List Life) (v : View) : Type 0 where
   pub since : v.since ≤ clock
@@ -134,9 +141,11 @@ has_it i v = owns i v + times i v.hung
 
 -- such a slot is the open change's, and an open hash has no card yet
 abbrev pub OwnedOk : View → Type 0
-OwnedOk v = (i : ℕ) → 0 < has_it i v.slot → (c : Change) × (v.book.opened ≡ c ∷ []) × (c.slot ≡ i) × (c.kind < 2) × (c.kind ≡ 1 → c.card ≡ [])
+OwnedOk v = (i : ℕ) → 0 < has_it i v.slot → (c : Change) × (v.book.opened ≡ c ∷ []) × (c.slot ≡ i) × (c.kind < 2)
+    × (c.kind ≡ 1 → c.card ≡ [])
 
-pub record Beyond (layout : Layout) (clock : ℕ) (chain : ℕ → List ℕ) (lives : ℕ → List Life) (views : List View) : Type 0 where
+pub record Beyond (layout : Layout) (clock : ℕ) (chain : ℕ → List ℕ) (lives : ℕ → List Life)
+    (views : List View) : Type 0 where
   pub twins : TwinsOk lives
   pub cards : CardsAre layout lives
   pub newest : (b : ℕ) → b < bucket_count layout → Falls (λ i. born (lives i)) (chain b)
@@ -159,7 +168,8 @@ pub record Present (views : List Part) (u h : Change) : Type 0 where
 
 -- replaying a bucket's changes, no two full cards have one four-tuple after any of them
 abbrev pub Unlike : List Part → Type 0
-Unlike views = (u g h : Change) (t : ℕ) → Present views u g → Present views u h → Shows t g.card → Shows t h.card → g ≡ h
+Unlike views =
+    (u g h : Change) (t : ℕ) → Present views u g → Present views u h → Shows t g.card → Shows t h.card → g ≡ h
 
 -- a life with e's words stood in that slot between the sighting's numbers, by the book alone
 pub record StoodOf (views : List Part) (s : Sight) (e : Seen) : Type 0 where
@@ -182,4 +192,5 @@ pub record ListedOf (s : Sight) (h : Change) : Type 0 where
 pub record SightTrue (views : List Part) (s : Sight) : Type 0 where
   pub listed : (n : ℕ) (e : Seen) → get_elem? s.listed n ≡ some e → StoodOf views s e
   -- each hash of the bucket that was throughout is listed
-  pub whole : s.whole ≡ 1 → (b : ℕ) → s.bucket ≡ b ∷ [] → (h : Change) → InBook views h → h.kind ≡ 1 → h.bucket ≡ b → h.ends < s.since → ((u : Change) → Ends views u h → s.until ≤ u.begins) → ListedOf s h
+  pub whole : s.whole ≡ 1 → (b : ℕ) → s.bucket ≡ b ∷ [] → (h : Change) → InBook views h → h.kind ≡ 1 → h.bucket ≡ b
+      → h.ends < s.since → ((u : Change) → Ends views u h → s.until ≤ u.begins) → ListedOf s h

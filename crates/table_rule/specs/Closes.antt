@@ -14,4 +14,11 @@ number_of acts.Unhash = 0
 -- the change that lies there, as the pass knows it
 abbrev pub change_of : Kept → Change
 change_of c =
-    record { kind = number_of c.act; bucket = c.bucket; slot = c.slot; card = words_of (packed c.card); begins = c.begin; ends = c.end }
+    record {
+      kind = number_of c.act;
+      bucket = c.bucket;
+      slot = c.slot;
+      card = words_of (packed c.card);
+      begins = c.begin;
+      ends = c.end;
+    }

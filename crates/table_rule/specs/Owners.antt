@@ -18,7 +18,9 @@ pub record HasChange (b : BookView) (c : Change) : Type 0 where
 -- each own closed hash of a card that is no TIME_WAIT's is of a life that nobody began to unhash, or whose unhash is
 -- the pass's own
 abbrev pub OwnUnhash : (ℕ → List Life) → BookView → Type 0
-OwnUnhash lives b = (m i n : ℕ) (x : Life) → get_elem? (lives i) n ≡ some x → get_elem? b.closed m ≡ some (hash_of i x) → time_waits x.card ≡ 0 → (x.leaving ≡ open-end) ⊎ HasChange b (unhash_of i x)
+OwnUnhash lives b =
+    (m i n : ℕ) (x : Life) → get_elem? (lives i) n ≡ some x → get_elem? b.closed m ≡ some (hash_of i x)
+    → time_waits x.card ≡ 0 → (x.leaving ≡ open-end) ⊎ HasChange b (unhash_of i x)
 
 abbrev pub OwnersOk : (ℕ → List Life) → List Part → Type 0
 OwnersOk lives views = (k : ℕ) (v : Part) → get_elem? views k ≡ some v → OwnUnhash lives v.book

@@ -28,14 +28,20 @@ StandsBy layout s hash = StandsIn layout (λ q. slice_index s.words q) hash.buck
 
 -- between any two steps each place of each pass stands
 abbrev pub PlacesStand : Type 0
-PlacesStand = (layout : Layout) (s : State (Unit {0}) View) (k : ℕ) (v : View) (hash : Change) → Holds layout s → get_elem? s.views k ≡ some v → IsPlace v.book hash → StandsBy layout s hash
+PlacesStand =
+    (layout : Layout) (s : State (Unit {0}) View) (k : ℕ) (v : View) (hash : Change) → Holds layout s
+    → get_elem? s.views k ≡ some v → IsPlace v.book hash → StandsBy layout s hash
 
 -- and so does what an open hash brings, from the step on that sets LIVE
 abbrev pub LitStands : Type 0
-LitStands = (layout : Layout) (s : State (Unit {0}) View) (k : ℕ) (v : View) (hash : Change) → Holds layout s → get_elem? s.views k ≡ some v → v.book.opened ≡ hash ∷ [] → hash.kind ≡ 1 → v.done ≡ 1 → StandsBy layout s hash
+LitStands = (layout : Layout) (s : State (Unit {0}) View) (k : ℕ) (v : View) (hash : Change) → Holds layout s
+    → get_elem? s.views k ≡ some v → v.book.opened ≡ hash ∷ [] → hash.kind ≡ 1 → v.done ≡ 1 → StandsBy layout s hash
 
 -- a pass's book when the clock was at that number, by what the book was later: of the later one's changes those are
 -- closed that ended below the number, and each unhash that it has, the later one has too
 pub record AsOf (number : ℕ) (b later : BookView) : Type 0 where
-  pub closed : (n : ℕ) (c : Change) → get_elem? later.closed n ≡ some c → c.ends < number → (m : ℕ) × (get_elem? b.closed m ≡ some c)
-  pub begun : (u : Change) → HasChange b u → u.kind ≡ 0 → (d : Change) × HasChange later d × (d.kind ≡ 0) × (d.slot ≡ u.slot) × (d.begins ≡ u.begins)
+  pub closed :
+      (n : ℕ) (c : Change) → get_elem? later.closed n ≡ some c → c.ends < number → (m : ℕ)
+      × (get_elem? b.closed m ≡ some c)
+  pub begun : (u : Change) → HasChange b u → u.kind ≡ 0 → (d : Change) × HasChange later d × (d.kind ≡ 0)
+      × (d.slot ≡ u.slot) × (d.begins ≡ u.begins)

@@ -69,7 +69,8 @@ pub record StoppedIn (v : ReadView) (from bucket : ℕ) (last : List Stop) : Typ
 pub record Follows (v : View) (c : Whole) : Type 0 where
   pub low : c.from ≤ v.seen
   pub none : c.kind ≡ 0 → IsClear v.read (with_seed v.layout c.seed) c.key c.from 0
-  pub found : c.kind ≡ 1 → (FoundIn v.read c.from c.card ⊎ SeenIn v.read c.from c.card) × (1 ≤ rank_of c.key c.card) × IsClear v.read (with_seed v.layout c.seed) c.key c.from (rank_of c.key c.card)
+  pub found : c.kind ≡ 1 → (FoundIn v.read c.from c.card ⊎ SeenIn v.read c.from c.card) × (1 ≤ rank_of c.key c.card)
+      × IsClear v.read (with_seed v.layout c.seed) c.key c.from (rank_of c.key c.card)
   pub again : c.kind ≡ 2 → (0 < length c.stops) × StoppedIn v.read c.from c.bucket c.stops
 
 -- how a pass ended, as a stop
@@ -81,6 +82,27 @@ stop_of (ends.Long links) = record { kind = 3; at = links }
 
 -- the receipt of an answer, but for its end
 abbrev pub whole_of : Packet → (seed from : ℕ) → PacketAnswer → Whole
-whole_of key seed from (answers.Found card) = record { key = key; seed = seed; from = from; to = 0; kind = 1; card = words_of (packed card); bucket = 0; stops = [] }
-whole_of key seed from answers.None = record { key = key; seed = seed; from = from; to = 0; kind = 0; card = []; bucket = 0; stops = [] }
-whole_of key seed from (answers.Again bucket end) = record { key = key; seed = seed; from = from; to = 0; kind = 2; card = []; bucket = bucket; stops = stop_of end ∷ [] }
+whole_of key seed from (answers.Found card) =
+    record {
+      key = key;
+      seed = seed;
+      from = from;
+      to = 0;
+      kind = 1;
+      card = words_of (packed card);
+      bucket = 0;
+      stops = [];
+    }
+whole_of key seed from answers.None =
+    record { key = key; seed = seed; from = from; to = 0; kind = 0; card = []; bucket = 0; stops = [] }
+whole_of key seed from (answers.Again bucket end) =
+    record {
+      key = key;
+      seed = seed;
+      from = from;
+      to = 0;
+      kind = 2;
+      card = [];
+      bucket = bucket;
+      stops = stop_of end ∷ [];
+    }

@@ -1,6 +1,6 @@
 //! The changes that a pass closed: each of them, or how many they are.
 
-ghost use Rattle.std.specs.Prelude.{◌≡◌, ◌+◌, ◌-◌, ◌≤◌, ◌<◌, List, [], ◌∷◌, ◌++◌, length, true, false, OnOk, vec_len, vec_capacity};
+ghost use Rattle.std.specs.Prelude.{◌≡◌, ◌+◌, ◌-◌, ◌≤◌, ◌<◌, List, [], ◌∷◌, ◌++◌, length, true, false, OnOk, OnErr, vec_len, vec_capacity};
 ghost use Rattle.table_rule.specs.Closes.{change_of};
 ghost use Rattle.table_rule.specs.Changes.{are_kept, len_of, capacity_of, list_of, Tells};
 ghost use Rattle.table_rule.specs.declared.view.Change.{Change as Closed};
@@ -87,13 +87,15 @@ impl Changes {
         }
     }
 
-    /// Makes room for so many more. Where memory is wanting nothing has changed.
+    /// Makes room for so many more. Where memory is wanting that room was not there, and nothing has changed.
     pub fn reserve(&mut self, count: usize) -> Result<(), AllocError>
         ensures same { (closed : List Closed) → Tells self.old closed → Tells self.new closed }
         ensures kept { are_kept self.new ≡ are_kept self.old }
         ensures list { list_of self.new ≡ list_of self.old }
         ensures len { len_of self.new ≡ len_of self.old }
         ensures room { OnOk result (len_of self.old + count ≤ capacity_of self.new) }
+        ensures more { capacity_of self.old ≤ capacity_of self.new }
+        ensures full { OnErr result (capacity_of self.old < len_of self.old + count) }
     {
         match self {
             Changes::Kept(list) => list.reserve(count),
@@ -107,7 +109,8 @@ impl Changes {
     /// One change more, into room that there is.
     pub fn push_reserved(&mut self, change: Change)
         requires room { len_of self.old < capacity_of self.old }
-        ensures more { (closed : List Closed) → Tells self.old closed → Tells self.new (closed ++ change_of change ∷ []) }
+        ensures more { (closed : List Closed) → Tells self.old closed
+            → Tells self.new (closed ++ change_of change ∷ []) }
         ensures kept { are_kept self.new ≡ are_kept self.old }
         ensures len { len_of self.new ≡ len_of self.old + 1 }
         ensures room { capacity_of self.new ≡ capacity_of self.old }
@@ -122,7 +125,8 @@ impl Changes {
     pub fn append(&mut self, others: Changes)
         requires alike { are_kept others ≡ are_kept self.old }
         requires room { len_of self.old + len_of others ≤ capacity_of self.old }
-        ensures both { (closed more : List Closed) → Tells self.old closed → Tells others more → Tells self.new (closed ++ more) }
+        ensures both { (closed more : List Closed) → Tells self.old closed → Tells others more
+            → Tells self.new (closed ++ more) }
         ensures kept { are_kept self.new ≡ are_kept self.old }
         ensures len { len_of self.new ≡ len_of self.old + len_of others }
         ensures room { capacity_of self.new ≡ capacity_of self.old }

@@ -1,4 +1,4 @@
-ghost use Rattle.std.specs.Prelude.{◌≡◌, ◌+◌, ◌≤◌, ◌<◌, ◌^◌, [], map, true, false, OnOk, IfOk};
+ghost use Rattle.std.specs.Prelude.{◌≡◌, ◌+◌, ◌≤◌, ◌<◌, ◌^◌, [], map, true, false, OnOk, OnErr, IfOk};
 ghost use Rattle.table_rule.specs.Changes.{are_kept, list_of, len_of, capacity_of};
 ghost use Rattle.table_rule.specs.Closes.{change_of};
 ghost use Rattle.table_rule.specs.Calls.{view};
@@ -21,7 +21,7 @@ impl Pass {
         self.changes.as_slice()
     }
 
-    /// Makes room for so many changes more, which takes memory where they are kept.
+    /// Makes room for so many changes more, which takes memory where they are kept and that room is not there yet.
     ///
     /// Where memory is wanting nothing has changed.
     pub fn reserve(&mut self, count: usize) -> Result<(), AllocError>
@@ -30,6 +30,8 @@ impl Pass {
         ensures list { list_of self.new.changes ≡ list_of self.old.changes }
         ensures len { len_of self.new.changes ≡ len_of self.old.changes }
         ensures room { OnOk result (len_of self.old.changes + count ≤ capacity_of self.new.changes) }
+        ensures more { capacity_of self.old.changes ≤ capacity_of self.new.changes }
+        ensures full { OnErr result (capacity_of self.old.changes < len_of self.old.changes + count) }
     {
         self.changes.reserve(count)
     }

@@ -360,7 +360,16 @@ pub trait Summed {
 impl Summed for Brand {
     ghost use Rattle.std.specs.Prelude.{[]};
 
-    ghost whole = { record { key = record { src = 0; sport = 0; dst = 0; dport = 0; dev = 0; net = 0 }; seed = 0; from = 0; to = 0; kind = 0; card = []; bucket = 0; stops = [] } };
+    ghost whole = { record {
+      key = record { src = 0; sport = 0; dst = 0; dport = 0; dev = 0; net = 0 };
+      seed = 0;
+      from = 0;
+      to = 0;
+      kind = 0;
+      card = [];
+      bucket = 0;
+      stops = [];
+    } };
 }
 
 pub struct Sum<T> {

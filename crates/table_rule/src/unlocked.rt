@@ -62,7 +62,8 @@ impl Chains {
         requires bucket { bucket < bucket_count self.now.layout }
         requires looks { (q : Reader) × Looks (view steps.old) q × (q.bucket ≡ bucket) }
         ensures table { IsOf self.now steps.new }
-        ensures met { (q : Reader) → Looks (view steps.old) q → Arrives steps.old.seat.me (entering q) q.bucket result steps.new.seat.me }
+        ensures met { (q : Reader) → Looks (view steps.old) q
+            → Arrives steps.old.seat.me (entering q) q.bucket result steps.new.seat.me }
     {
         let word = self.head_word(bucket);
         self.table.shared.load::<PeekHead>(&mut steps.seat, word)
@@ -74,7 +75,8 @@ impl Chains {
         requires slot { slot < self.now.layout.shape.slots }
         requires passed { IsPassed self.now.layout slot (view steps.old) }
         ensures table { IsOf self.now steps.new }
-        ensures met { (q : Reader) → Looks (view steps.old) q → Arrives steps.old.seat.me (following q) q.bucket result steps.new.seat.me }
+        ensures met { (q : Reader) → Looks (view steps.old) q
+            → Arrives steps.old.seat.me (following q) q.bucket result steps.new.seat.me }
     {
         let word = self.word_at(slot, 1);
         self.table.shared.load::<PeekLink>(&mut steps.seat, word)
@@ -87,7 +89,8 @@ impl Chains {
         requires word { word < 4 }
         requires at { IsAtSlot slot word (view steps.old) }
         ensures table { IsOf self.now steps.new }
-        ensures view { (q : Reader) → Looks (view steps.old) q → Becomes steps.old steps.new (with_reader (view steps.old) (glancing q result ∷ [])) }
+        ensures view { (q : Reader) → Looks (view steps.old) q
+            → Becomes steps.old steps.new (with_reader (view steps.old) (glancing q result ∷ [])) }
     {
         let place = self.word_at(slot, 2 + word);
         self.table.shared.load::<Glance>(&mut steps.seat, place)
@@ -118,7 +121,8 @@ impl Chains {
         requires at { IsAtSlot slot 2 (view steps.old) }
         ensures table { IsOf self.now steps.new }
         ensures live { IsLive result → Becomes steps.old steps.new (taking (view steps.old) slot) }
-        ensures dead { (IsLive result → ⊥) → (q : Reader) → Looks (view steps.old) q → Becomes steps.old steps.new (with_reader (counting (view steps.old) slot) (stopping q 1 slot ∷ [])) }
+        ensures dead { (IsLive result → ⊥) → (q : Reader) → Looks (view steps.old) q
+            → Becomes steps.old steps.new (with_reader (counting (view steps.old) slot) (stopping q 1 slot ∷ [])) }
         ensures counted { (j : ℕ) → keeps_at j (view steps.old).read ≤ times j (view steps.old).slot.holds }
     {
         let word = self.word_at(slot, 0);
@@ -133,7 +137,8 @@ impl Chains {
         requires slot { slot < self.now.layout.shape.slots }
         requires nth { IsNth T.slot slot (view steps.old) }
         ensures table { IsOf self.now steps.new }
-        ensures view { Becomes steps.old steps.new (with_kept (letting_go (view steps.old) slot) (drop_at T.slot (view steps.old).read.kept)) }
+        ensures view { Becomes steps.old steps.new
+            (with_kept (letting_go (view steps.old) slot) (drop_at T.slot (view steps.old).read.kept)) }
     {
         let word = self.word_at(slot, 0);
         self.table
@@ -147,7 +152,9 @@ impl Chains {
         requires slot { slot < self.now.layout.shape.slots }
         requires held { 0 < keeps_at slot (view steps.old).read }
         ensures table { IsOf self.now steps.new }
-        ensures put { Becomes steps.old steps.new (with_kept (letting_go (view steps.old) slot) (drop_at (place_of slot (view steps.old).read.kept) (view steps.old).read.kept)) }
+        ensures put { Becomes steps.old steps.new
+            (with_kept (letting_go (view steps.old) slot)
+            (drop_at (place_of slot (view steps.old).read.kept) (view steps.old).read.kept)) }
     {
         self.step_put_nth::<std::marker::Brand>(steps, slot);
     }
@@ -173,7 +180,8 @@ impl Chains {
         requires word { word < 4 }
         requires kept { IsKept slot word (view steps.old) }
         ensures table { IsOf self.now steps.new }
-        ensures view { Becomes steps.old steps.new (with_kept (view steps.old) (learning (view steps.old).read.kept result)) }
+        ensures view { Becomes steps.old steps.new
+            (with_kept (view steps.old) (learning (view steps.old).read.kept result)) }
         ensures card { CardLearnt (view steps.old) result }
     {
         let place = self.word_at(slot, 2 + word);
@@ -186,7 +194,9 @@ impl Chains {
         requires slot { slot < self.now.layout.shape.slots }
         requires kept { IsJudged slot (view steps.old) }
         ensures table { IsOf self.now steps.new }
-        ensures judged { (q : Reader) (s : Seen) (h : Kept) (hs : List Kept) → Looks (view steps.old) q → q.peeked ≡ s ∷ [] → (view steps.old).read.kept ≡ h ∷ hs → Judges steps.old.seat.me q s h result steps.new.seat.me }
+        ensures judged { (q : Reader) (s : Seen) (h : Kept) (hs : List Kept) → Looks (view steps.old) q
+            → q.peeked ≡ s ∷ [] → (view steps.old).read.kept ≡ h ∷ hs
+            → Judges steps.old.seat.me q s h result steps.new.seat.me }
     {
         let place = self.word_at(slot, 5);
         self.table.shared.load::<Judge>(&mut steps.seat, place)
@@ -198,10 +208,14 @@ impl Chains {
         requires none { IsNone (view steps.old) }
         ensures table { IsOf self.now steps.new }
         ensures seen { (view steps.old).seen ≤ result }
-        ensures view { (q : Reader) → Looks (view steps.old) q → Becomes steps.old steps.new (concluding (view steps.old) (receipt q 0 [] result)) }
-        ensures sole { (q : Reader) → Looks (view steps.old) q → IsAlone (view steps.old) q.since → NoneStands (view steps.old) q.bucket q.key q.least 0 }
-        ensures known { (q : Reader) → Looks (view steps.old) q → NoneKnown (view steps.old) q.bucket q.key q.least 0 q.since }
-        ensures own { (q : Reader) → Looks (view steps.old) q → OwnExplains (view steps.old) result (receipt q 0 [] result) }
+        ensures view { (q : Reader) → Looks (view steps.old) q
+            → Becomes steps.old steps.new (concluding (view steps.old) (receipt q 0 [] result)) }
+        ensures sole { (q : Reader) → Looks (view steps.old) q → IsAlone (view steps.old) q.since
+            → NoneStands (view steps.old) q.bucket q.key q.least 0 }
+        ensures known { (q : Reader) → Looks (view steps.old) q
+            → NoneKnown (view steps.old) q.bucket q.key q.least 0 q.since }
+        ensures own { (q : Reader) → Looks (view steps.old) q
+            → OwnExplains (view steps.old) result (receipt q 0 [] result) }
     {
         let now = self.table.shared.load::<EndNone>(&mut steps.seat, 0);
         steps.seen = now;
@@ -214,11 +228,20 @@ impl Chains {
         requires found { IsFound (view steps.old) }
         ensures table { IsOf self.now steps.new }
         ensures seen { (view steps.old).seen ≤ result }
-        ensures view { (q : Reader) (h : Kept) (hs : List Kept) → Looks (view steps.old) q → (view steps.old).read.kept ≡ h ∷ hs → Becomes steps.old steps.new (concluding (view steps.old) (receipt q 1 h.words result)) }
-        ensures sole { (q : Reader) (h : Kept) (hs : List Kept) → Looks (view steps.old) q → (view steps.old).read.kept ≡ h ∷ hs → IsAlone (view steps.old) q.since → CardStands (view steps.old) h.words × NoneStands (view steps.old) q.bucket q.key q.least (rank_of q.key h.words) }
-        ensures card { (q : Reader) (h : Kept) (hs : List Kept) → Looks (view steps.old) q → (view steps.old).read.kept ≡ h ∷ hs → IsCardWords h.words }
-        ensures known { (q : Reader) (h : Kept) (hs : List Kept) → Looks (view steps.old) q → (view steps.old).read.kept ≡ h ∷ hs → NoneKnown (view steps.old) q.bucket q.key q.least (rank_of q.key h.words) q.since }
-        ensures own { (q : Reader) (h : Kept) (hs : List Kept) → Looks (view steps.old) q → (view steps.old).read.kept ≡ h ∷ hs → OwnExplains (view steps.old) result (receipt q 1 h.words result) }
+        ensures view { (q : Reader) (h : Kept) (hs : List Kept) → Looks (view steps.old) q
+            → (view steps.old).read.kept ≡ h ∷ hs
+            → Becomes steps.old steps.new (concluding (view steps.old) (receipt q 1 h.words result)) }
+        ensures sole { (q : Reader) (h : Kept) (hs : List Kept) → Looks (view steps.old) q
+            → (view steps.old).read.kept ≡ h ∷ hs → IsAlone (view steps.old) q.since
+            → CardStands (view steps.old) h.words
+            × NoneStands (view steps.old) q.bucket q.key q.least (rank_of q.key h.words) }
+        ensures card { (q : Reader) (h : Kept) (hs : List Kept) → Looks (view steps.old) q
+            → (view steps.old).read.kept ≡ h ∷ hs → IsCardWords h.words }
+        ensures known { (q : Reader) (h : Kept) (hs : List Kept) → Looks (view steps.old) q
+            → (view steps.old).read.kept ≡ h ∷ hs
+            → NoneKnown (view steps.old) q.bucket q.key q.least (rank_of q.key h.words) q.since }
+        ensures own { (q : Reader) (h : Kept) (hs : List Kept) → Looks (view steps.old) q
+            → (view steps.old).read.kept ≡ h ∷ hs → OwnExplains (view steps.old) result (receipt q 1 h.words result) }
     {
         let now = self.table.shared.load::<EndFound>(&mut steps.seat, 0);
         steps.seen = now;
@@ -231,9 +254,11 @@ impl Chains {
         requires stopped { IsStopped (view steps.old) }
         ensures table { IsOf self.now steps.new }
         ensures seen { (view steps.old).seen ≤ result }
-        ensures view { (q : Reader) → Looks (view steps.old) q → Becomes steps.old steps.new (concluding (view steps.old) (receipt q 2 [] result)) }
+        ensures view { (q : Reader) → Looks (view steps.old) q
+            → Becomes steps.old steps.new (concluding (view steps.old) (receipt q 2 [] result)) }
         ensures sole { (q : Reader) → Looks (view steps.old) q → IsAlone (view steps.old) q.since → ⊥ }
-        ensures own { (q : Reader) → Looks (view steps.old) q → OwnExplains (view steps.old) result (receipt q 2 [] result) }
+        ensures own { (q : Reader) → Looks (view steps.old) q
+            → OwnExplains (view steps.old) result (receipt q 2 [] result) }
     {
         let now = self.table.shared.load::<EndAgain>(&mut steps.seat, 0);
         steps.seen = now;

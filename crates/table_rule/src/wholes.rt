@@ -25,7 +25,9 @@ impl Chains {
         requires learnt { IsLearnt T.slot slot (view steps.old) }
         ensures table { IsOf self.now steps.new }
         ensures view { Becomes steps.old steps.new (sighting T.slot (view steps.old) slot) }
-        ensures stands { (from : ℕ) (h : Kept) → IsAlone (view steps.old) from → get_elem? (view steps.old).read.kept T.slot ≡ some h → from ≤ h.since → SlotStands (view steps.old) slot h.words }
+        ensures stands { (from : ℕ) (h : Kept) → IsAlone (view steps.old) from
+            → get_elem? (view steps.old).read.kept T.slot ≡ some h → from ≤ h.since
+            → SlotStands (view steps.old) slot h.words }
     {
         let word = self.word_at(slot, 0);
         self.table
@@ -40,8 +42,11 @@ impl Chains {
         requires slot { slot < self.now.layout.shape.slots }
         requires learnt { IsLearnt (place_of slot (view steps.old).read.kept) slot (view steps.old) }
         ensures table { IsOf self.now steps.new }
-        ensures put { Becomes steps.old steps.new (sighting (place_of slot (view steps.old).read.kept) (view steps.old) slot) }
-        ensures stands { (from : ℕ) (h : Kept) → IsAlone (view steps.old) from → get_elem? (view steps.old).read.kept (place_of slot (view steps.old).read.kept) ≡ some h → from ≤ h.since → SlotStands (view steps.old) slot h.words }
+        ensures put { Becomes steps.old steps.new
+            (sighting (place_of slot (view steps.old).read.kept) (view steps.old) slot) }
+        ensures stands { (from : ℕ) (h : Kept) → IsAlone (view steps.old) from
+            → get_elem? (view steps.old).read.kept (place_of slot (view steps.old).read.kept) ≡ some h → from ≤ h.since
+            → SlotStands (view steps.old) slot h.words }
     {
         self.put_seen_as::<Brand>(steps, slot);
     }
@@ -61,8 +66,10 @@ impl Chains {
         ensures table { IsOf self.now steps.new }
         ensures seen { (view steps.old).seen ≤ result }
         ensures view { Becomes steps.old steps.new (summing (view steps.old) (record T.whole { to = result })) }
-        ensures sole { IsAlone (view steps.old) T.whole.from → IsSoleWhole (view steps.old) (record T.whole { to = result }) }
-        ensures own { drawn (view steps.old) ≡ result → IsWholeExplained (mine (view steps.old)) (view steps.old).layout (record T.whole { to = result }) }
+        ensures sole { IsAlone (view steps.old) T.whole.from
+            → IsSoleWhole (view steps.old) (record T.whole { to = result }) }
+        ensures own { drawn (view steps.old) ≡ result
+            → IsWholeExplained (mine (view steps.old)) (view steps.old).layout (record T.whole { to = result }) }
         ensures known { IsKnownWhole (view steps.old) (record T.whole { to = result }) }
     {
         let now = self.table.shared.load::<Sum<T>>(&mut steps.seat, 0);
@@ -84,9 +91,13 @@ impl Chains {
         requires follows { Follows (view steps.old) (whole_of packet seed from answer) }
         ensures table { IsOf self.now steps.new }
         ensures seen { (view steps.old).seen ≤ result }
-        ensures view { Becomes steps.old steps.new (summing (view steps.old) (record (whole_of packet seed from answer) { to = result })) }
-        ensures sole { IsAlone (view steps.old) from → IsSoleWhole (view steps.old) (record (whole_of packet seed from answer) { to = result }) }
-        ensures own { drawn (view steps.old) ≡ result → IsWholeExplained (mine (view steps.old)) (view steps.old).layout (record (whole_of packet seed from answer) { to = result }) }
+        ensures view { Becomes steps.old steps.new
+            (summing (view steps.old) (record (whole_of packet seed from answer) { to = result })) }
+        ensures sole { IsAlone (view steps.old) from
+            → IsSoleWhole (view steps.old) (record (whole_of packet seed from answer) { to = result }) }
+        ensures own { drawn (view steps.old) ≡ result
+            → IsWholeExplained (mine (view steps.old)) (view steps.old).layout
+            (record (whole_of packet seed from answer) { to = result }) }
         ensures known { IsKnownWhole (view steps.old) (record (whole_of packet seed from answer) { to = result }) }
     {
         self.clock_whole_as::<Brand>(steps, packet, seed, from, answer)

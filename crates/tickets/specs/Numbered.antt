@@ -23,7 +23,8 @@ misses n v = length v.vain + (if nat_le v.seen n then v.parts else 0)
 pub record AllDrawn (n count : ℕ) (views : List TicketView) : Type 0 where
   pub parts : total (λ (v : TicketView). v.parts) views ≡ all_parts
   -- each number below the count was drawn by one pass, once
-  pub all : (f : ℕ → ℕ) → total (λ (v : TicketView). total f v.drawn + total f v.vain) views ≡ total f (numbers_below count)
+  pub all : (f : ℕ → ℕ) → total (λ (v : TicketView). total f v.drawn + total f v.vain) views
+      ≡ total f (numbers_below count)
   -- in vain exactly where it isn't below n
   pub drawn : (f : ℕ → ℕ) → total (λ (v : TicketView). total f v.drawn) views ≡ total f (numbers_below (min count n))
   -- so few in vain that the word never comes to its end

@@ -24,7 +24,13 @@ cut v = record v { parts = v.parts - 1 }
 
 -- after another was joined
 abbrev pub joined : TicketView → TicketView → TicketView
-joined v w = record v { parts = v.parts + w.parts; seen = max v.seen w.seen; drawn = v.drawn ++ w.drawn; vain = v.vain ++ w.vain }
+joined v w =
+    record v {
+      parts = v.parts + w.parts;
+      seen = max v.seen w.seen;
+      drawn = v.drawn ++ w.drawn;
+      vain = v.vain ++ w.vain;
+    }
 
 -- after it drew the number x
 abbrev pub drawing : TicketView → ℕ → TicketView

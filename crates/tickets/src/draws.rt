@@ -44,13 +44,16 @@ impl Tickets {
         requires still { IsOpen pass.old }
         ensures table { IsPassOf self.now pass.new }
         ensures below { IfSome result (λ x. x < words.tickets self.now) }
-        ensures draw { MatchOption result (Missed (known pass.old) (known pass.new)) (λ x. Drew (known pass.old) (known pass.new) x) }
+        ensures draw { MatchOption result (Missed (known pass.old) (known pass.new))
+            (λ x. Drew (known pass.old) (known pass.new) x) }
 
         // It may draw again as long as it doesn't meet None.
         ensures still { IfSome result (λ x. IsOpen pass.new) }
 
         // To a pass with all parts they come one after the other.
-        ensures alone { words.parts pass.old ≡ all_parts → MatchOption result (length (words.drawn pass.old) ≡ words.limit pass.old) (λ x. x ≡ length (words.drawn pass.old)) }
+        ensures alone { words.parts pass.old ≡ all_parts
+            → MatchOption result (length (words.drawn pass.old) ≡ words.limit pass.old)
+            (λ x. x ≡ length (words.drawn pass.old)) }
     {
         let number = self.table.shared.fetch_add::<Draw>(&mut pass.seat, 0, 1);
         if number < u64::from(self.limit) {
@@ -70,10 +73,12 @@ impl Tickets {
         ensures past { HasMissed pass.old → words.tickets self.now ≤ result }
 
         // A pass with all parts has, with those that it joined, drawn each number below the count, once.
-        ensures all { words.parts pass.old ≡ all_parts → SameItems (words.drawn pass.old ++ words.vain pass.old) (numbers_below result) }
+        ensures all { words.parts pass.old ≡ all_parts
+            → SameItems (words.drawn pass.old ++ words.vain pass.old) (numbers_below result) }
 
         // So once one of them met None, each number below the limit was drawn, once, and no other is a ticket.
-        ensures once { words.parts pass.old ≡ all_parts → HasMissed pass.old → SameItems (words.drawn pass.old) (numbers_below (words.tickets self.now)) }
+        ensures once { words.parts pass.old ≡ all_parts → HasMissed pass.old
+            → SameItems (words.drawn pass.old) (numbers_below (words.tickets self.now)) }
     {
         self.table.shared.load::<See>(&mut pass.seat, 0)
     }

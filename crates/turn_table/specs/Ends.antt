@@ -16,12 +16,16 @@ module _ {V E : Type 0} (notes : V → List (Note E)) where
 
   -- of each caller a journal has what it gave there, in its order
   abbrev pub IsInTheOrderOfEach : {H : Type 0} → TurnView E H → List V → Type 0
-  IsInTheOrderOfEach v values = (i : ℕ) (x : V) → get_elem? values i ≡ some x → (caller : ℕ) → by_caller caller (notes x) ≡ by_caller caller (notes_at i v.mine)
+  IsInTheOrderOfEach v values =
+      (i : ℕ) (x : V) → get_elem? values i ≡ some x → (caller : ℕ)
+      → by_caller caller (notes x) ≡ by_caller caller (notes_at i v.mine)
 
   -- each journal that some pass found, at its place, is how that place's journal begins, and what came later has
   -- later numbers
   abbrev pub BeginsAsFound : {H : Type 0} → TurnView E H → List V → Type 0
-  BeginsAsFound v values = (k : ℕ) (x : Find E) → get_elem? v.finds k ≡ some x → (value : V) × (get_elem? values x.place ≡ some value) × Begins x (notes value)
+  BeginsAsFound v values =
+      (k : ℕ) (x : Find E) → get_elem? v.finds k ≡ some x → (value : V) × (get_elem? values x.place ≡ some value)
+      × Begins x (notes value)
 
   -- in each journal the numbers ascend
   abbrev pub AllAscend : ℕ → List V → Type 0

@@ -26,7 +26,8 @@ module _ {V E H : Type 0} where
 
   -- a pass of this table. One with a part knows what the table's values have in common
   abbrev pub IsPassOf : Turns V E H → TurnPass V E H → Type 0
-  IsPassOf t p = (p.seat.table_id ≡ t.table.shared.table_id) × (0 < (known p).parts → (known p).home ≡ home t ∷ []) × IsTold p
+  IsPassOf t p =
+      (p.seat.table_id ≡ t.table.shared.table_id) × (0 < (known p).parts → (known p).home ≡ home t ∷ []) × IsTold p
 
   -- what it holds of the table's slots: nothing, or that of the turn that it has
   abbrev pub hand : TurnPass V E H → List (ℕ × Option V)

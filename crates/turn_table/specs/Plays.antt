@@ -40,4 +40,5 @@ module _ {V E : Type 0} (notes : V → List (Note E)) where
 
     -- a pass with all parts is told how many entries there are
     abbrev pub saw : Step (Option V) → Sat H → ℕ → Sat H → Type 0
-    saw st m r n = (m.0.seen ≤ r) × (n ≡ (looked m.0 r, m.1)) × (m.0.parts ≡ 16384 → r ≡ length m.0.mine + length m.0.drawn)
+    saw st m r n = (m.0.seen ≤ r) × (n ≡ (looked m.0 r, m.1))
+        × (m.0.parts ≡ 16384 → r ≡ length m.0.mine + length m.0.drawn)

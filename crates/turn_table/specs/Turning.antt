@@ -37,7 +37,8 @@ module _ {E H : Type 0} where
   pub record SharesOk (count : ℕ) (views : List (TurnView E H)) : Type 0 where
     pub parts : total (λ (v : TurnView E H). v.parts) views ≡ 16384
     pub tickets : total (λ (v : TurnView E H). v.tickets) views ≡ count
-    pub each : (k : ℕ) (v : TurnView E H) → get_elem? views k ≡ some v → HasShare v.caller v.parts v.splits v.draws v.tickets
+    pub each : (k : ℕ) (v : TurnView E H) → get_elem? views k ≡ some v
+        → HasShare v.caller v.parts v.splits v.draws v.tickets
 
   abbrev pub has_turn : ℕ → TurnView E H → ℕ
   has_turn i v = cond (v.at == i + 1) 1 0
@@ -58,7 +59,8 @@ module _ {V E : Type 0} (notes : V → List (Note E)) where
       pub is : notes value ≡ journal
 
     -- Second part: a turn is out with one pass, or its value is at home
-    pub record TurnsOk {H : Type 0} (homes : List (Maybe (Option V))) (journals : ℕ → List (Note E)) (turn : ℕ → ℕ) (views : List (TurnView E H)) : Type 0 where
+    pub record TurnsOk {H : Type 0} (homes : List (Maybe (Option V))) (journals : ℕ → List (Note E)) (turn : ℕ → ℕ)
+        (views : List (TurnView E H)) : Type 0 where
       pub locks : (i : ℕ) → i < length homes → (total (has_turn i) views ≡ turn i) × (turn i ≤ 1)
       pub home : (i : ℕ) → i < length homes → turn i ≡ 0 → Home homes (journals i) i
 
@@ -69,7 +71,8 @@ module _ {E H : Type 0} where
     -- each entry that a pass gave stands in the journals, once, and no others do
     pub balance : (f : Placed E → ℕ) → entries f journals places ≡ total (λ (v : TurnView E H). total f v.mine) views
     -- each number below the count is one entry's, or was drawn for one that is still to come
-    pub numbers : (f : ℕ → ℕ) → entries (λ (p : Placed E). f (number_of p)) journals places + total (λ (v : TurnView E H). total f v.drawn) views ≡ below f count
+    pub numbers : (f : ℕ → ℕ) → entries (λ (p : Placed E). f (number_of p)) journals places
+        + total (λ (v : TurnView E H). total f v.drawn) views ≡ below f count
 
   -- what one pass knows is so
   pub record Knows (key : H) (journals : ℕ → List (Note E)) (count places : ℕ) (v : TurnView E H) : Type 0 where
@@ -79,7 +82,8 @@ module _ {E H : Type 0} where
     pub rising : Ascends v.seen (map number v.found ++ v.drawn)
     pub loose : v.at ≡ 0 → (v.found ≡ []) × (v.drawn ≡ [])
     pub idle : v.parts ≡ 0 → (v.mine ≡ []) × (v.at ≡ 0)
-    pub finds : (k : ℕ) (x : Find E) → get_elem? v.finds k ≡ some x → (x.place < places) × (x.since ≤ v.seen) × Begins x (journals x.place)
+    pub finds : (k : ℕ) (x : Find E) → get_elem? v.finds k ≡ some x → (x.place < places) × (x.since ≤ v.seen)
+        × Begins x (journals x.place)
     pub mine : Each (λ (p : Placed E). number_of p < v.seen) v.mine
     pub loads : Each (λ x. x ≤ v.seen) v.loads
 
@@ -93,22 +97,28 @@ module _ {E H : Type 0} where
 
   -- Fourth part: what each pass knows is so, and what is drawn at a place after some pass's find there is not below
   -- that find's count
-  pub record KnowledgeOk (key : H) (count places : ℕ) (journals : ℕ → List (Note E)) (views : List (TurnView E H)) : Type 0 where
+  pub record KnowledgeOk (key : H) (count places : ℕ) (journals : ℕ → List (Note E))
+      (views : List (TurnView E H)) : Type 0 where
     pub knows : (k : ℕ) (v : TurnView E H) → get_elem? views k ≡ some v → Knows key journals count places v
-    pub ahead : (x : Find E) → Found views x → (l : ℕ) (u : TurnView E H) → get_elem? views l ≡ some u → u.at ≡ x.place + 1 → Each (λ (y : ℕ). x.since ≤ y) u.drawn
+    pub ahead : (x : Find E) → Found views x → (l : ℕ) (u : TurnView E H) → get_elem? views l ≡ some u
+        → u.at ≡ x.place + 1 → Each (λ (y : ℕ). x.since ≤ y) u.drawn
 
   -- Fifth part: one seat keeps the entries of a caller, whole and in order. A pass with a part keeps those of its own
   -- number, and the first pass those of the callers to come, who have none
   pub record CallersOk (places : ℕ) (journals : ℕ → List (Note E)) (views : List (TurnView E H)) : Type 0 where
     pub keeper : ℕ → ℕ
     pub inside : (c : ℕ) → keeper c < length views
-    pub keeps : (k : ℕ) (v : TurnView E H) → get_elem? views k ≡ some v → (c : ℕ) → keeper c ≡ k → (i : ℕ) → i < places → by_caller c (journals i) ≡ by_caller c (notes_at i v.mine)
-    pub strange : (k : ℕ) (v : TurnView E H) → get_elem? views k ≡ some v → (c : ℕ) → keeper c ≢ k → Each (λ (p : Placed E). p.note.caller ≢ c) v.mine
+    pub keeps : (k : ℕ) (v : TurnView E H) → get_elem? views k ≡ some v → (c : ℕ) → keeper c ≡ k → (i : ℕ) → i < places
+        → by_caller c (journals i) ≡ by_caller c (notes_at i v.mine)
+    pub strange : (k : ℕ) (v : TurnView E H) → get_elem? views k ≡ some v → (c : ℕ) → keeper c ≢ k
+        → Each (λ (p : Placed E). p.note.caller ≢ c) v.mine
     pub live : (k : ℕ) (v : TurnView E H) → get_elem? views k ≡ some v → 0 < v.parts → keeper v.caller ≡ k
-    pub unborn : (k : ℕ) (v : TurnView E H) → get_elem? views k ≡ some v → 0 < v.parts → v.caller ≡ 0 → (c : ℕ) → v.splits < c → (keeper c ≡ k) × Each (λ (p : Placed E). p.note.caller ≢ c) v.mine
+    pub unborn : (k : ℕ) (v : TurnView E H) → get_elem? views k ≡ some v → 0 < v.parts → v.caller ≡ 0 → (c : ℕ)
+        → v.splits < c → (keeper c ≡ k) × Each (λ (p : Placed E). p.note.caller ≢ c) v.mine
 
 module _ {V E : Type 0} (notes : V → List (Note E)) where
-  pub record Orderly {H : Type 0} (fits : ℕ → ℕ → V → Type 0) (key : H) (s : State (Option V) (TurnView E H)) : Type 0 where
+  pub record Orderly {H : Type 0} (fits : ℕ → ℕ → V → Type 0) (key : H)
+      (s : State (Option V) (TurnView E H)) : Type 0 where
     pub journals : ℕ → List (Note E)
     pub wide : length s.words ≡ 1 + length s.homes
     pub shares : SharesOk (slice_index s.words 0) s.views
@@ -119,4 +129,7 @@ module _ {V E : Type 0} (notes : V → List (Note E)) where
 
   -- so a pass with a turn has found each entry that any pass gave at its place
   abbrev pub FindsAll : {H : Type 0} → (ℕ → ℕ → V → Type 0) → H → Type 0
-  FindsAll {H} fits key = (s : State (Option V) (TurnView E H)) → Orderly fits key s → (k l i : ℕ) (v u : TurnView E H) → get_elem? s.views k ≡ some v → get_elem? s.views l ≡ some u → v.at ≡ i + 1 → i < length s.homes → HasAllAt i u.mine v.found
+  FindsAll {H} fits key =
+      (s : State (Option V) (TurnView E H)) → Orderly fits key s → (k l i : ℕ) (v u : TurnView E H)
+      → get_elem? s.views k ≡ some v → get_elem? s.views l ≡ some u → v.at ≡ i + 1 → i < length s.homes
+      → HasAllAt i u.mine v.found

@@ -8,7 +8,8 @@ use Rattle.turn_table.specs.declared.note.Placed.{Placed}
 module _ {V E : Type 0} (notes : V → List (Note E)) where
   -- the value is made for its place among so many, is the replay of its journal, and each of its entries is one that
   -- its caller may make
-  pub record Fits {H : Type 0} (is_replay : V → Type 0) (made_for : H → ℕ → ℕ → V → Type 0) (may_make : ℕ → E → Type 0) (home : H) (i n : ℕ) (x : V) : Type 0 where
+  pub record Fits {H : Type 0} (is_replay : V → Type 0) (made_for : H → ℕ → ℕ → V → Type 0) (may_make : ℕ → E → Type 0)
+      (home : H) (i n : ℕ) (x : V) : Type 0 where
     pub made : made_for home i n x
     pub replay : is_replay x
     pub may : Each (λ (y : Note E). may_make y.caller y.entry) (notes x)

@@ -8,19 +8,78 @@ use Rattle.turn_table.specs.declared.view.TurnView.{TurnView}
 module _ {E H : Type 0} where
   -- the first pass of a table, with all 16,384 parts
   abbrev pub first : H → TurnView E H
-  first home = record { home = home ∷ []; parts = 16384; caller = 0; splits = 0; draws = 0; tickets = 0; seen = 0; loads = []; mine = []; finds = []; at = 0; found = []; drawn = [] }
+  first home =
+      record {
+        home = home ∷ [];
+        parts = 16384;
+        caller = 0;
+        splits = 0;
+        draws = 0;
+        tickets = 0;
+        seen = 0;
+        loads = [];
+        mine = [];
+        finds = [];
+        at = 0;
+        found = [];
+        drawn = [];
+      }
 
   -- the one that is split off as the caller of that number
   abbrev pub newcomer : List H → ℕ → ℕ → TurnView E H
-  newcomer home caller seen = record { home = home; parts = 1; caller = caller; splits = 0; draws = 0; tickets = 0; seen = seen; loads = []; mine = []; finds = []; at = 0; found = []; drawn = [] }
+  newcomer home caller seen =
+      record {
+        home = home;
+        parts = 1;
+        caller = caller;
+        splits = 0;
+        draws = 0;
+        tickets = 0;
+        seen = seen;
+        loads = [];
+        mine = [];
+        finds = [];
+        at = 0;
+        found = [];
+        drawn = [];
+      }
 
   -- what a pass has seen, for another: it has no part
   abbrev pub heard : List H → ℕ → TurnView E H
-  heard home seen = record { home = home; parts = 0; caller = 0; splits = 0; draws = 0; tickets = 0; seen = seen; loads = []; mine = []; finds = []; at = 0; found = []; drawn = [] }
+  heard home seen =
+      record {
+        home = home;
+        parts = 0;
+        caller = 0;
+        splits = 0;
+        draws = 0;
+        tickets = 0;
+        seen = seen;
+        loads = [];
+        mine = [];
+        finds = [];
+        at = 0;
+        found = [];
+        drawn = [];
+      }
 
   -- a pass that was joined
   abbrev pub nobody : TurnView E H
-  nobody = record { home = []; parts = 0; caller = 0; splits = 0; draws = 0; tickets = 0; seen = 0; loads = []; mine = []; finds = []; at = 0; found = []; drawn = [] }
+  nobody = record {
+    home = [];
+    parts = 0;
+    caller = 0;
+    splits = 0;
+    draws = 0;
+    tickets = 0;
+    seen = 0;
+    loads = [];
+    mine = [];
+    finds = [];
+    at = 0;
+    found = [];
+    drawn = [];
+  }
 
   -- after one more was split off
   abbrev pub cut : TurnView E H → TurnView E H
@@ -28,7 +87,15 @@ module _ {E H : Type 0} where
 
   -- after another was joined
   abbrev pub joined : TurnView E H → TurnView E H → TurnView E H
-  joined v w = record v { parts = v.parts + w.parts; tickets = v.tickets + w.tickets; seen = max v.seen w.seen; loads = v.loads ++ w.loads; mine = v.mine ++ w.mine; finds = v.finds ++ w.finds }
+  joined v w =
+      record v {
+        parts = v.parts + w.parts;
+        tickets = v.tickets + w.tickets;
+        seen = max v.seen w.seen;
+        loads = v.loads ++ w.loads;
+        mine = v.mine ++ w.mine;
+        finds = v.finds ++ w.finds;
+      }
 
   -- after the count was seen
   abbrev pub looked : TurnView E H → ℕ → TurnView E H
@@ -36,7 +103,14 @@ module _ {E H : Type 0} where
 
   -- after the turn of the place i was taken, when the count was n, and this journal found
   abbrev pub taking : TurnView E H → ℕ → ℕ → List (Note E) → TurnView E H
-  taking v i n notes = record v { seen = n; finds = v.finds ++ record { place = i; since = n; notes = notes } ∷ []; at = i + 1; found = notes; drawn = [] }
+  taking v i n notes =
+      record v {
+        seen = n;
+        finds = v.finds ++ record { place = i; since = n; notes = notes } ∷ [];
+        at = i + 1;
+        found = notes;
+        drawn = [];
+      }
 
   -- after the number n was drawn
   abbrev pub drawing : TurnView E H → ℕ → TurnView E H

@@ -26,12 +26,17 @@ impl<V: Journaled> Turns<V> {
         requires part { 0 < words.parts pass.old }
         ensures table { IsPassOf self.now pass.new }
         ensures turn { IfSome result (λ turn. HasTurn pass.new place × (turn.place ≡ place)) }
-        ensures value { IfSome result (λ turn. Fits V.notes V.is_replay V.made_for V.may_make (words.home self.now) place (words.places self.now) turn.value) }
-        ensures view { IfSome result (λ turn. known pass.new ≡ taking (known pass.old) place (words.seen pass.new) (V.notes turn.value)) }
+        ensures value { IfSome result
+            (λ turn. Fits V.notes V.is_replay V.made_for V.may_make (words.home self.now) place
+            (words.places self.now) turn.value) }
+        ensures view { IfSome result (λ turn. known pass.new
+            ≡ taking (known pass.old) place (words.seen pass.new) (V.notes turn.value)) }
         ensures later { IfSome result (λ turn. words.seen pass.old ≤ words.seen pass.new) }
         ensures rising { IfSome result (λ turn. Ascends (words.seen pass.new) (map number (V.notes turn.value))) }
-        ensures own { IfSome result (λ turn. by_caller (words.caller pass.old) (V.notes turn.value) ≡ by_caller (words.caller pass.old) (notes_at place (words.given pass.old))) }
-        ensures sole { IfSome result (λ turn. words.caller pass.old ≡ 0 → words.splits pass.old ≡ 0 → V.notes turn.value ≡ notes_at place (words.given pass.old)) }
+        ensures own { IfSome result (λ turn. by_caller (words.caller pass.old) (V.notes turn.value)
+            ≡ by_caller (words.caller pass.old) (notes_at place (words.given pass.old))) }
+        ensures sole { IfSome result (λ turn. words.caller pass.old ≡ 0 → words.splits pass.old ≡ 0
+            → V.notes turn.value ≡ notes_at place (words.given pass.old)) }
         ensures before { IfSome result (λ turn. AsFound (words.finds pass.old) place (V.notes turn.value)) }
         ensures all { IfSome result (λ turn. HasAllAt place (words.given pass.old) (V.notes turn.value)) }
         ensures none { IfNone result (IsFree pass.new × (known pass.new ≡ known pass.old)) }
@@ -63,12 +68,17 @@ impl<V: Journaled> Turns<V> {
         requires part { 0 < words.parts pass.old }
         ensures table { IsPassOf self.now pass.new }
         ensures turn { IfSome result (λ turn. HasTurn pass.new place × (turn.place ≡ place)) }
-        ensures value { IfSome result (λ turn. Fits V.notes V.is_replay V.made_for V.may_make (words.home self.now) place (words.places self.now) turn.value) }
-        ensures view { IfSome result (λ turn. known pass.new ≡ taking (known pass.old) place (words.seen pass.new) (V.notes turn.value)) }
+        ensures value { IfSome result
+            (λ turn. Fits V.notes V.is_replay V.made_for V.may_make (words.home self.now) place
+            (words.places self.now) turn.value) }
+        ensures view { IfSome result (λ turn. known pass.new
+            ≡ taking (known pass.old) place (words.seen pass.new) (V.notes turn.value)) }
         ensures later { IfSome result (λ turn. words.seen pass.old ≤ words.seen pass.new) }
         ensures rising { IfSome result (λ turn. Ascends (words.seen pass.new) (map number (V.notes turn.value))) }
-        ensures own { IfSome result (λ turn. by_caller (words.caller pass.old) (V.notes turn.value) ≡ by_caller (words.caller pass.old) (notes_at place (words.given pass.old))) }
-        ensures sole { IfSome result (λ turn. words.caller pass.old ≡ 0 → words.splits pass.old ≡ 0 → V.notes turn.value ≡ notes_at place (words.given pass.old)) }
+        ensures own { IfSome result (λ turn. by_caller (words.caller pass.old) (V.notes turn.value)
+            ≡ by_caller (words.caller pass.old) (notes_at place (words.given pass.old))) }
+        ensures sole { IfSome result (λ turn. words.caller pass.old ≡ 0 → words.splits pass.old ≡ 0
+            → V.notes turn.value ≡ notes_at place (words.given pass.old)) }
         ensures before { IfSome result (λ turn. AsFound (words.finds pass.old) place (V.notes turn.value)) }
         ensures all { IfSome result (λ turn. HasAllAt place (words.given pass.old) (V.notes turn.value)) }
         ensures none { IfNone result (IsFree pass.new × (known pass.new ≡ known pass.old)) }
@@ -105,13 +115,16 @@ impl<V: Journaled> Turns<V> {
         requires table { IsPassOf self.now pass.old }
         requires place { turn.place < words.places self.now }
         requires turn { HasTurn pass.old turn.place }
-        requires value { Fits V.notes V.is_replay V.made_for V.may_make (words.home self.now) turn.place (words.places self.now) turn.value }
+        requires value { Fits V.notes V.is_replay V.made_for V.may_make (words.home self.now) turn.place
+            (words.places self.now) turn.value }
         requires grown { V.notes turn.value ≡ words.found pass.old ++ added (known pass.old) (V.notes turn.value) }
         requires numbered { map number (added (known pass.old) (V.notes turn.value)) ≡ words.drawn pass.old }
-        requires caller { Each (λ (x : Note V.Entry). x.caller ≡ words.caller pass.old) (added (known pass.old) (V.notes turn.value)) }
+        requires caller { Each (λ (x : Note V.Entry). x.caller ≡ words.caller pass.old)
+            (added (known pass.old) (V.notes turn.value)) }
         ensures table { IsPassOf self.now pass.new }
         ensures free { IsFree pass.new }
-        ensures view { known pass.new ≡ giving (known pass.old) turn.place (added (known pass.old) (V.notes turn.value)) }
+        ensures view { known pass.new
+            ≡ giving (known pass.old) turn.place (added (known pass.old) (V.notes turn.value)) }
     {
         let Turn { value, place } = turn;
         let shared = &self.table.shared;
@@ -137,7 +150,8 @@ impl<V: Journaled> TurnPass<V> {
         ensures hand { words.hand self.new ≡ words.hand self.old }
         ensures later { words.seen self.old ≤ result }
         ensures view { known self.new ≡ looked (known self.old) result }
-        ensures whole { words.parts self.old ≡ 16384 → result ≡ length (words.given self.old) + length (words.drawn self.old) }
+        ensures whole { words.parts self.old ≡ 16384
+            → result ≡ length (words.given self.old) + length (words.drawn self.old) }
     {
         turns.table.shared.load::<See<V>>(&mut self.seat, 0)
     }

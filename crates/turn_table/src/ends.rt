@@ -32,11 +32,13 @@ fn zeros(alloc: Global, count: usize) -> Result<Vec<u64>, AllocError>
 /// Each slot's value, in order.
 fn take_all<V>(closed: &mut Closed<Option<V>, Global>, values: &mut Vec<V>)
     requires full { IsFull closed.old.slots }
-    requires there { (k : ℕ) → k < slots_len closed.old.slots → (x : V) × (get_elem? (slots_items closed.old.slots) k ≡ some (Some x)) }
+    requires there { (k : ℕ) → k < slots_len closed.old.slots → (x : V)
+        × (get_elem? (slots_items closed.old.slots) k ≡ some (Some x)) }
     requires room { vec_len values.old + slots_len closed.old.slots ≤ vec_capacity values.old }
     requires none { values.old.items ≡ [] }
     ensures values { map Some values.new.items ≡ slots_items closed.old.slots }
-    ensures taken { (k : ℕ) → k < slots_len closed.new.slots → slice_index_or (slots_filled closed.new.slots) k false ≡ false }
+    ensures taken { (k : ℕ) → k < slots_len closed.new.slots
+        → slice_index_or (slots_filled closed.new.slots) k false ≡ false }
 {
     for i in 0..closed.slot_count() {
         let Some(x) = closed.take(i) else {
@@ -54,7 +56,8 @@ impl<V: Journaled<Home = ()>> Turns<V> {
     ///
     /// Memory ran out.
     pub fn new(alloc: Global, values: Vec<V>) -> Result<(Turns<V>, TurnPass<V>), AllocError>
-        requires new { AllNew V.notes (Fits V.notes V.is_replay V.made_for V.may_make tt) 0 (length values.items) values.items }
+        requires new { AllNew V.notes (Fits V.notes V.is_replay V.made_for V.may_make tt) 0
+            (length values.items) values.items }
         requires few { length values.items < 2 ^ 32 }
         ensures places { IfOk result (λ t. words.places t.0 ≡ length values.items) }
         ensures pass { IfOk result (λ t. IsPassOf t.0 t.1 × IsFree t.1 × (known t.1 ≡ first tt)) }
@@ -75,7 +78,8 @@ impl<V: Journaled> Turns<V> {
         values: Vec<V>,
         home: &V::Home,
     ) -> Result<(Turns<V>, TurnPass<V>), AllocError>
-        requires new { AllNew V.notes (Fits V.notes V.is_replay V.made_for V.may_make home.now) 0 (length values.items) values.items }
+        requires new { AllNew V.notes (Fits V.notes V.is_replay V.made_for V.may_make home.now) 0
+            (length values.items) values.items }
         requires few { length values.items < 2 ^ 32 }
         ensures places { IfOk result (λ t. words.places t.0 ≡ length values.items) }
         ensures home { IfOk result (λ t. words.home t.0 ≡ home.now) }
@@ -113,7 +117,8 @@ impl<V: Journaled> Turns<V> {
         requires table { IsPassOf self pass }
         requires whole { words.parts pass ≡ 16384 }
         requires free { IsFree pass }
-        ensures values { IfOk result (λ v. (length v.items ≡ words.places self) × AllFit (Fits V.notes V.is_replay V.made_for V.may_make (words.home self)) 0 (words.places self) v.items) }
+        ensures values { IfOk result (λ v. (length v.items ≡ words.places self)
+            × AllFit (Fits V.notes V.is_replay V.made_for V.may_make (words.home self)) 0 (words.places self) v.items) }
         ensures given { IfOk result (λ v. HoldsWhatWasGiven V.notes (known pass) v.items) }
         ensures in_order { IfOk result (λ v. IsInTheOrderOfEach V.notes (known pass) v.items) }
         ensures found { IfOk result (λ v. BeginsAsFound V.notes (known pass) v.items) }

@@ -13,7 +13,8 @@ use std::alloc::Global;
 pub struct Turns<V: Journaled> {
     pub(crate) table: Table<Option<V>, TurnView<V::Entry, V::Home>, V::Home, TurnRule<V>, Global>,
     pub(crate) count: usize,
-    ghost sized: { (table.shared.table_id.words ≡ 1 + table.shared.table_id.slots) × (count ≡ table.shared.table_id.slots) },
+    ghost sized: { (table.shared.table_id.words ≡ 1 + table.shared.table_id.slots)
+        × (count ≡ table.shared.table_id.slots) },
 }
 
 /// A thread's part in a table of turns.

@@ -50,7 +50,8 @@ impl Tally {
     }
 
     fn reserve(&mut self) -> Result<(), AllocError>
-        ensures same { (self.new.place ≡ self.old.place) × (self.new.places ≡ self.old.places) × (self.new.calls ≡ self.old.calls) × (self.new.journal.items ≡ self.old.journal.items) }
+        ensures same { (self.new.place ≡ self.old.place) × (self.new.places ≡ self.old.places)
+            × (self.new.calls ≡ self.old.calls) × (self.new.journal.items ≡ self.old.journal.items) }
         ensures room { OnOk result (vec_len self.new.journal < vec_capacity self.new.journal) }
     {
         self.journal.reserve(1)
@@ -60,7 +61,8 @@ impl Tally {
         requires { vec_len self.old.journal < vec_capacity self.old.journal }
         ensures same { (self.new.place ≡ self.old.place) × (self.new.places ≡ self.old.places) }
         ensures calls { self.new.calls ≡ length self.new.journal.items }
-        ensures journal { self.new.journal.items ≡ self.old.journal.items ++ record { number = number; caller = caller; entry = caller } ∷ [] }
+        ensures journal { self.new.journal.items ≡ self.old.journal.items
+            ++ record { number = number; caller = caller; entry = caller } ∷ [] }
     {
         self.journal.push_reserved(Note {
             number,
@@ -85,7 +87,8 @@ fn call_once<R: Wait>(
     requires caller { words.caller pass.old ≡ caller }
     requires few { words.draws pass.old < 2 ^ 48 }
     ensures table { IsPassOf turns.now pass.new × IsFree pass.new }
-    ensures same { (words.parts pass.new ≡ words.parts pass.old) × (words.caller pass.new ≡ words.caller pass.old) × (words.splits pass.new ≡ words.splits pass.old) }
+    ensures same { (words.parts pass.new ≡ words.parts pass.old) × (words.caller pass.new ≡ words.caller pass.old)
+        × (words.splits pass.new ≡ words.splits pass.old) }
     ensures draws { words.draws pass.new ≤ words.draws pass.old + 1 }
 {
     let mut turn = turns.take_turn(&Waits::by(rt), pass, place).unwrap();
@@ -154,9 +157,11 @@ fn work_both<R: Threads + Wait + Sync>(
 
 /// The pass of the next worker.
 fn hire(turns: &Turns<Tally>, first: &mut TurnPass<Tally>, caller: u32) -> Worker
-    requires first { IsPassOf turns.now first.old × IsFree first.old × (words.caller first.old ≡ 0) × (0 < words.parts first.old) }
+    requires first { IsPassOf turns.now first.old × IsFree first.old × (words.caller first.old ≡ 0)
+        × (0 < words.parts first.old) }
     requires next { (words.splits first.old + 1 ≡ caller) × (caller < 2 ^ 14 - 2) }
-    ensures first { IsPassOf turns.now first.new × IsFree first.new × (words.caller first.new ≡ 0) × (words.parts first.new + 1 ≡ words.parts first.old) × (words.splits first.new ≡ caller) }
+    ensures first { IsPassOf turns.now first.new × IsFree first.new × (words.caller first.new ≡ 0)
+        × (words.parts first.new + 1 ≡ words.parts first.old) × (words.splits first.new ≡ caller) }
     ensures worker { IsPassOf turns.now result.pass × (result.caller ≡ caller) }
 {
     Worker {
@@ -185,11 +190,13 @@ fn work_all<R: Threads + Wait + Sync>(
         rt,
         || -> Result<(TurnPass<Tally>, TurnPass<Tally>), AllocError>
             requires { IsPassOf shared.now one.pass × IsPassOf shared.now two.pass × (2 ≤ words.places shared.now) }
-            ensures { IfOk result (λ p. IsPassOf shared.entry.now p.0 × IsFree p.0 × (words.parts p.0 ≡ 1) × IsPassOf shared.entry.now p.1 × IsFree p.1 × (words.parts p.1 ≡ 1)) }
+            ensures { IfOk result (λ p. IsPassOf shared.entry.now p.0 × IsFree p.0 × (words.parts p.0 ≡ 1)
+                × IsPassOf shared.entry.now p.1 × IsFree p.1 × (words.parts p.1 ≡ 1)) }
         { work_both(rt, shared, one, two) },
         || -> Result<(TurnPass<Tally>, TurnPass<Tally>), AllocError>
             requires { IsPassOf shared.now three.pass × IsPassOf shared.now four.pass × (2 ≤ words.places shared.now) }
-            ensures { IfOk result (λ p. IsPassOf shared.entry.now p.0 × IsFree p.0 × (words.parts p.0 ≡ 1) × IsPassOf shared.entry.now p.1 × IsFree p.1 × (words.parts p.1 ≡ 1)) }
+            ensures { IfOk result (λ p. IsPassOf shared.entry.now p.0 × IsFree p.0 × (words.parts p.0 ≡ 1)
+                × IsPassOf shared.entry.now p.1 × IsFree p.1 × (words.parts p.1 ≡ 1)) }
         { work_both(rt, shared, three, four) },
     );
     let (one, two) = low?;

@@ -26,7 +26,7 @@ use Rattle.table_model.proofs.parts.Chains.{Holds, Weighing, alone_in}
 use Rattle.table_model.proofs.parts.GroupPlaces.{count_none, at_number, members_in}
 use Rattle.table_model.proofs.questions.Asked.{groups_in}
 
-weighs_or : (b c : Bool) (n m : ℕ) → Weighs b n → Weighs c m → Weighs (b || c) (n + m)
+pub weighs_or : (b c : Bool) (n m : ℕ) → Weighs b n → Weighs c m → Weighs (b || c) (n + m)
 weighs_or true c n m h k = (λ e. omega (arith, h.0 refl), λ e. absurd (cc))
 weighs_or false c n m h k = (λ e. omega (arith, k.0 e), λ e. omega (arith, h.1 refl, k.1 e))
 

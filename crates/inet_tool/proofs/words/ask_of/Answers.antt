@@ -1,9 +1,10 @@
 use Rattle.std.proofs.Common.{◌≡◌, ◌∙◌, List, Ok, inl, ap, refl, sym, subst, map, option_map, string_bytes, arith}
+use Rattle.std.proofs.lemmas.Bool.{false≢true}
 use Rattle.std.specs.Str.Parse.{ParsesUnsigned, ExplainsUnsignedError, HasUnsignedDigitsIfOk}
 use Rattle.clap.specs.Words.{Text}
 use Rattle.inet_tool.specs.Words.{IsMake, IsRace}
 use Rattle.inet_tool.proofs.Asks.{makes_in_range, races_in_range}
-use Rattle.inet_tool.proofs.Read.{count_given, given_number, lookers_given, make_met, not_true, one_ask, parsed, passes_given, plain_met, race_met, read_given, seed_given}
+use Rattle.inet_tool.proofs.Read.{count_given, given_number, lookers_given, make_met, one_ask, parsed, passes_given, plain_met, race_met, read_given, seed_given}
 use Rattle.inet_tool.proofs.words.ask_of.Goals as goal
 
 pub unwrap-lookers-requires : goal.unwrap-lookers-requires
@@ -58,8 +59,8 @@ returns-in_default-subcommand_matches-2-clause-asks c =
     let words : List Text = map string_bytes c.args.words.now in
     let of_words = parsed _ words c.in-Ok-try_get_matches_from.matches c.in-Ok.ensures c.in-Ok-try_get_matches_from.ensures.kinds c.in-Ok-try_get_matches_from.ensures.matches in
     plain_met words c.in-Ok-try_get_matches_from.matches of_words.0 of_words.1
-    (λ is. not_true (c.in_default-subcommand_matches-2.ensures.found.1 is))
-    (λ is. not_true (c.in_default-subcommand_matches.ensures.found.1 is))
+    (λ is. false≢true (c.in_default-subcommand_matches-2.ensures.found.1 is))
+    (λ is. false≢true (c.in_default-subcommand_matches.ensures.found.1 is))
     c.without_numbers.result c.without_numbers.ensures
 
 pub returns-in_default-subcommand_matches-2-clause-found : goal.returns-in_default-subcommand_matches-2-clause-found

@@ -1,4 +1,5 @@
 use Rattle.race_threads.proofs.Looked.{looks_none, looks_more, looks_past, names_bucket}
+use Rattle.race_threads.proofs.Searching.{went}
 use Rattle.race_threads.proofs.laws.lookers.Goals as goal
 
 pub returns-clause-none : goal.returns-clause-none
@@ -12,3 +13,6 @@ returns-clause-past c = looks_past
 
 pub returns-clause-buckets : goal.returns-clause-buckets
 returns-clause-buckets c = names_bucket
+
+pub returns-clause-passes : goal.returns-clause-passes
+returns-clause-passes c slots groups layout packet passes m p p' end from whole n h = went layout packet passes m slots groups p p' end from whole n h

@@ -1,9 +1,10 @@
 use Rattle.std.proofs.Common.{◌<◌, ◌∙◌, length, ap, arith, length-append, ◌∷◌, []}
+use Rattle.std.proofs.lemmas.List.{get_or_default}
 use Rattle.capture_reader.specs.declared.packet.Item.TheVariants as items
 use Rattle.table_rule.specs.Calls.{me}
 use Rattle.tickets.specs.Passes as draw
 use Rattle.tickets.specs.declared.view.TicketView.{TicketView}
-use Rattle.race_threads.proofs.Items.{all_more, drawn_more, at_any}
+use Rattle.race_threads.proofs.Items.{all_more, drawn_more}
 use Rattle.race_threads.proofs.looker.look_drawn.Goals as goal
 
 pub loop-item-preserved : goal.loop-item-preserved
@@ -22,7 +23,7 @@ loop-item-preserved g c =
       own = ap (λ (v : TicketView). v.parts) x.draw.is ∙ i.own;
       drawn = ap (λ (v : TicketView). v.drawn) x.draw.is ∙ drawn_more told c.push.new.self.items c.in-Some.item c.look_item-looked.result (draw.drawn c.loop-item.draws) i.drawn c.in_ok-push.ensures.items;
       takes = all_more told c.push.new.self.items c.in-Some.item c.look_item-looked.result (draw.drawn c.loop-item.draws) i.drawn c.in_ok-push.ensures.items
-          c.args.table.now c.args.items.now (me c.args.pass.now.pass.steps) (me c.loop-item.pass.pass.steps) (me c.look_item-looked.new.pass.pass.steps) _ i.takes e.takes (at_any c.args.items.now c.in-Some.item items.Skip _ inside) x.draw.above;
+          c.args.table.now c.args.passes c.args.items.now (me c.args.pass.now.pass.steps) (me c.loop-item.pass.pass.steps) (me c.look_item-looked.new.pass.pass.steps) _ i.takes e.takes (get_or_default c.args.items.now c.in-Some.item items.Skip _ inside) x.draw.above;
     }
 
 pub returns : goal.returns

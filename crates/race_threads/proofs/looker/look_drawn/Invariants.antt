@@ -16,7 +16,7 @@ invariant-loop-item g l = record {
   still : draw.IsOpen l.draws;
   own : draw.parts l.draws ≡ 1;
   drawn : draw.drawn l.draws ≡ map item_of l.told.items;
-  takes : TakesAll l.table l.items (me l.initial.pass.pass.steps) (me l.pass.pass.steps) l.told.items;
+  takes : TakesAll l.table l.passes l.items (me l.initial.pass.pass.steps) (me l.pass.pass.steps) l.told.items;
 }
 
 abbrev pub decreases-loop-item : goal.decreases-loop-item

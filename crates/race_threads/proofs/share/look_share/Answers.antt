@@ -19,5 +19,5 @@ returns g c =
       chain_part = e.part ∙ fresh.chain_part;
       draws = e.draws;
       missed = e.missed;
-      looked = λ other tables. looked_of c.requires.tables.0 c.args.tables.now c.requires.tables.2 c.args.worker.now fresh other tables c.args.items.now (me c.look_drawn.new.pass.pass.steps) c.in_ok-told.told.items e.takes;
+      looked = λ other tables. looked_of c.requires.tables.0 c.args.tables.now c.requires.tables.2 c.args.worker.now fresh other tables c.args.passes c.args.items.now (me c.look_drawn.new.pass.pass.steps) c.in_ok-told.told.items e.takes;
     }

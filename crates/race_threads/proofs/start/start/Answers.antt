@@ -34,6 +34,7 @@ returns c =
           lost = ap (λ (y : View). y.book.lost) x;
           sights = ap (λ (y : View). y.sights) x;
           wholes = ap (λ (y : View). y.read.wholes) x;
+          receipts = ap (λ (y : View). y.read.receipts) x;
           taken = ap (λ (y : View). y.slot.taken) x;
         };
       };

@@ -1,14 +1,11 @@
-use Rattle.std.proofs.Common.{◌≡◌, ◌∷◌, [], ◌++◌, List, length, sym, ap, ◌∙◌, append_assoc, append-nil, arith, refl}
+use Rattle.std.proofs.Common.{◌≡◌, ◌∷◌, [], ◌++◌, List, length, sym, ap, ◌∙◌, append_assoc, append-nil, arith}
+use Rattle.std.proofs.lemmas.List.{nil_from_length}
 use Rattle.std.specs.List.{flat_map}
 use Rattle.std.specs.Vec.Iter.{into_iter_items}
 use Rattle.socket_list.specs.Listing.{Listing}
 use Rattle.race_threads.specs.Finished.{listings_in}
 use Rattle.race_threads.proofs.Weights.{flat_push}
 use Rattle.race_threads.proofs.tell.all_listings.Goals as goal
-
-nothing_left : {X : Type 0} (l : List X) → length l ≡ 0 → l ≡ []
-nothing_left [] h = refl
-nothing_left (x ∷ xs) h = absurd (omega arith)
 
 pub loop-outcome-preserved : goal.loop-outcome-preserved
 loop-outcome-preserved c =
@@ -28,6 +25,6 @@ pub returns : goal.returns
 returns c =
     let at = c.loop-outcome in
     let none = c.in-None.ensures.steps in
-    let empty : into_iter_items at.outcome-iterator ≡ [] = nothing_left _ (sym at.invariant.long ∙ none.0) in
+    let empty : into_iter_items at.outcome-iterator ≡ [] = nil_from_length _ (sym at.invariant.long ∙ none.0) in
     let all = sym (append-nil at.yielded) ∙ rw empty at at.invariant.left ∙ c.into_iter-outcome-iterator.ensures.into_iter_gives.0 in
     at.invariant.listed ∙ ap (flat_map listings_in) all

@@ -14,7 +14,7 @@ use Rattle.race_threads.proofs.tell.tell.Goals as goal
 
 pub all_told-requires : goal.all_told-requires
 all_told-requires c =
-    let once : SameItems (flat_map items_in c.args.ended.outcomes.items) (numbers_below (length c.args.capture.now.items)) = items_once c.args.script.now c.args.capture.now c.args.lookers c.args.ended c.requires.ended in
+    let once : SameItems (flat_map items_in c.args.ended.outcomes.items) (numbers_below (length c.args.capture.now.items)) = items_once c.args.script.now c.args.passes c.args.capture.now c.args.lookers c.args.ended c.requires.ended in
     let it : SameItems (flat_map items_in c.deref-2.result.now) (numbers_below (length c.items.result.now)) =
     subst (λ (l : List Outcome). SameItems (flat_map items_in l) (numbers_below (length c.items.result.now))) (sym c.deref-2.ensures.value)
     (subst (λ (l : List Item). SameItems (flat_map items_in c.args.ended.outcomes.items) (numbers_below (length l))) (sym c.items.ensures) once)

@@ -69,8 +69,8 @@ returns g c =
     let e = c.in_ok-told.ensures in
     let count = count_is (λ (v : Vec Command Global). v.items) c.args.script.now c.sections-sections.result.now c.sections-sections.ensures in
     let j : Job = record { worker = c.look_share.new.worker; draws = c.look_share.new.draws; number = c.args.job.number; replies = c.args.job.replies; listings = c.args.job.listings; told = c.in_ok-told.told } in
-    let looked = subst (λ (l : List Item). HasLooked c.args.script.now.header l (part_of j.worker) j.told.items) c.items.ensures (e.looked c.args.script.now.header c.requires.tables) in
-    worked_looker c.args.script.now c.args.capture.now.items c.args.tables.now c.args.tickets.now c.args.job.number j
+    let looked = subst (λ (l : List Item). HasLooked c.args.script.now.header c.args.passes l (part_of j.worker) j.told.items) c.items.ensures (e.looked c.args.script.now.header c.requires.tables) in
+    worked_looker c.args.script.now c.args.passes c.args.capture.now.items c.args.tables.now c.args.tickets.now c.args.job.number j
     (record { rest = e.rest; turn_part = e.turn_part; chain_part = e.chain_part; draws = e.draws })
     (omega (arith, count, c.if-number-sections.false))
     (record { looked = looked; missed = e.missed; replies = c.requires.ready.replies; listings = c.requires.ready.listings })
@@ -82,7 +82,7 @@ returns-then-number-sections g c =
     let is = c.as_slice.ensures.value ∙ commands_at (λ (v : Vec Command Global). v.items) c.args.script.now c.sections-sections.result.now c.args.job.number c.index-sections-number.result c.sections-sections.ensures c.if-number-sections.true c.index-sections-number.is in
     let j : Job = record { worker = c.run_section.new.worker; draws = c.args.job.draws; number = c.args.job.number; replies = c.in_ok-replies.field-0.replies; listings = c.in_ok-replies.field-0.listings; told = c.args.job.told } in
     let drawn = told_none c.args.tickets.now c.args.job.draws c.args.job.told.items c.requires.ready.draws c.requires.ready.told in
-    worked_section c.args.script.now c.args.capture.now.items c.args.tables.now c.args.tickets.now c.args.job.number j
+    worked_section c.args.script.now c.args.passes c.args.capture.now.items c.args.tables.now c.args.tickets.now c.args.job.number j
     (record { rest = e.rest; turn_part = e.turn_part; chain_part = e.chain_part; draws = drawn })
     (omega (arith, count, c.if-number-sections.true))
     (ran c.header.result.now c.args.script.now.header (c.args.job.number + 1) c.as_slice.result.now (get_or c.args.script.now.sections c.args.job.number []) j c.header.ensures is e.done c.requires.ready.told)

@@ -16,22 +16,23 @@ pub loop-command-init : goal.loop-command-init
 loop-command-init g c =
     let t = c.args.tables.now in
     let w = c.args.worker.now in
-    let k = c.new-machine.result in
-    let labels : length k.own.labels ≡ 0 = ap (λ (x : Kept). length x.own.labels) c.new-machine.ensures in
-    let waits : length k.own.waits ≡ 0 = ap (λ (x : Kept). length x.own.waits) c.new-machine.ensures in
+    let k = c.reserve.new.self in
+    let is = c.reserve.ensures ∙ c.new-machine.ensures in
+    let labels : length k.own.labels ≡ 0 = ap (λ (x : Kept). length x.own.labels) is in
+    let waits : length k.own.waits ≡ 0 = ap (λ (x : Kept). length x.own.waits) is in
     let sole = c.requires.sole in
     let all = length c.args.commands.now - 0 + commands_after c.args.n in
     let few : length c.args.commands.now - 0 + commands_after c.args.n ≤ commands_after (c.args.n - 1) = omega (arith, c.requires.room, c.requires.first, c.requires.number) in
     record {
       running = record {
-        section = subst (λ (x : Kept). IsSection t x w) (sym c.new-machine.ensures)
+        section = subst (λ (x : Kept). IsSection t x w) (sym is)
             (c.section_comes_next.ensures t c.args.header.now c.args.n w c.requires.tables sole.ready c.requires.number (λ some. absurd (some sole.turns.0)) c.requires.unspoken);
         sole = sole;
       };
       labels = omega (arith, labels);
-      number = ap (λ (x : Kept). x.own.number) c.new-machine.ensures;
+      number = ap (λ (x : Kept). x.own.number) is;
       may = go_on_first all k w waits (carry_fewer (commands_after (c.args.n - 1)) all w few c.requires.may);
-      turns = turns_start c.args.header.now c.args.n (tables_of t w) c.args.commands.now c.args.items.now c.args.replies.now k c.requires.first c.new-machine.ensures;
+      turns = turns_start c.args.header.now c.args.n (tables_of t w) c.args.commands.now c.args.items.now c.args.replies.now k c.requires.first is;
     }
 
 pub run_command-requires : goal.run_command-requires

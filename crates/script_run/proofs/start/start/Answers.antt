@@ -25,6 +25,7 @@ returns c =
     let mine = ap (λ (y : BindView). y.mine) v in
     let closed = ap (λ (y : View). y.book.closed) x in
     record {
+      counts = t.counts;
       of = record { shape = ap (λ (y : Layout). y.shape) t.layout; seed = ap (λ (y : Layout). y.seed) t.layout; buckets = b.places };
       sole = record {
         ready = record { idle = b.alone refl; rests = t.rests; groups = record { many = omega (arith, l.groups, b.places); passes = l.passes.0 } };

@@ -74,7 +74,7 @@ pub returns-in-Err-clause-carried : goal.returns-in-Err-clause-carried
 returns-in-Err-clause-carried g c = λ s.
     let a = c.args.owner in
     let end = c.args.end in
-    left_at_once (words.places c.args.buckets.now) a.name (asks (bind_key end.port a.net) (requests.Bind (bound_at a end.addr end.port)) (bind_answered a end)) (known c.args.pass.now) (known c.give-in-Err.new.pass) s
+    left_at_once (words.places c.args.buckets.now) a.name (asks (bind_key end.port a.net) (requests.Bind (bound_at a end.addr end.port)) (bind_answered a end)) (known c.args.pass.now) (known c.give-in-Err.new.pass) s tt
     (nothing_made _ _ _ _ (c.reserve.ensures.made ∙ c.in-Some.ensures.none) (c.give-in-Err.ensures.gave (known c.args.pass.now) c.in-Some.ensures.within))
 
 pub returns-in-Err-clause-kept : goal.returns-in-Err-clause-kept
@@ -87,7 +87,7 @@ returns-in_default-clause-carried g c = λ s.
     let a = c.args.owner in
     let end = c.args.end in
     let v = known c.args.pass.now in
-    left_at_once (words.places c.args.buckets.now) a.name (asks (bind_key end.port a.net) (requests.Bind (bound_at a end.addr end.port)) (bind_answered a end)) v (known c.take.new.pass) s
+    left_at_once (words.places c.args.buckets.now) a.name (asks (bind_key end.port a.net) (requests.Bind (bound_at a end.addr end.port)) (bind_answered a end)) v (known c.take.new.pass) s tt
     (subst (λ w. Gave v w []) (sym c.in_default.ensures.same) (gave_none v))
 
 pub returns-in-Ok-clause-spares : goal.returns-in-Ok-clause-spares

@@ -26,7 +26,7 @@ returns-in_err-turn-clause-carried g c =
     let d = side_of t.chains c.begin_with.new.worker.chain in
     let plan = plans.close_full l.shape l.seed m (plans.wait_of m c.args.moment) in
     leaves_err became n m.owner.name plan v w k d c.from_residual.result c.from_residual.ensures.0
-    (left_nowhere n m.owner.name plan v w k d (sym c.begin_with.ensures.side) c.in_err-turn.ensures.nothing)
+    (left_nowhere n m.owner.name plan v w k d (sym c.begin_with.ensures.side) tt c.in_err-turn.ensures.nothing)
 
 pub returns-clause-drawn : goal.returns-clause-drawn
 returns-clause-drawn g c = λ more may.
@@ -42,7 +42,7 @@ returns-clause-carried g c =
     let u = c.wait_in.new.worker in
     let e = c.wait_in.ensures in
     subst (λ (k : Side). Leaves became (buckets_of t) m.owner.name plan (turned c.args.worker.now) (turned u) k (side_of t.chains u.chain) c.wait_in.result) c.begin_with.ensures.side
-    (turn_leaves became (buckets_of t) m.owner.name plan (turned p) (turned c.args.worker.now) (turned u) (side_of t.chains p.chain) (side_of t.chains u.chain) c.wait_in.result c.in_ok-turn.ensures.within e.went e.nothing e.side)
+    (turn_leaves became (buckets_of t) m.owner.name plan (turned p) (turned c.args.worker.now) (turned u) (side_of t.chains p.chain) (side_of t.chains u.chain) c.wait_in.result tt c.in_ok-turn.ensures.within e.went e.nothing e.side)
 
 pub returns-clause-kept : goal.returns-clause-kept
 returns-clause-kept g c =

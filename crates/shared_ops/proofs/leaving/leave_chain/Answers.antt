@@ -31,7 +31,7 @@ returns-in_err-turn-clause-carried g c =
     let d = side_of t.chains new.chain in
     let plan = unhashes (spot_of c.args.place) c.args.place.card (plans.leave a plans.gone) in
     leaves_err is_gone n a.name plan (turned old) (turned new) k d c.from_residual.result c.from_residual.ensures.0
-    (left_nowhere n a.name plan (turned old) (turned new) k d (sym c.begin_with.ensures.side) c.in_err-turn.ensures.nothing)
+    (left_nowhere n a.name plan (turned old) (turned new) k d (sym c.begin_with.ensures.side) tt c.in_err-turn.ensures.nothing)
 
 pub returns-in_default-clause-carried : goal.returns-in_default-clause-carried
 returns-in_default-clause-carried g c =
@@ -42,7 +42,7 @@ returns-in_default-clause-carried g c =
     let turn = c.in_ok-turn.turn in
     let none = none_given turn.place v w (made c.begin_with.new.worker.turns turn) c.in_ok-turn.ensures.none (c.give.ensures.gave v c.in_ok-turn.ensures.within) in
     left_nowhere (buckets_of t) a.name (unhashes (spot_of c.args.place) c.args.place.card (plans.leave a plans.gone)) v w (side_of t.chains c.args.worker.now.chain) (side_of t.chains c.lock_chain_of.new.pass)
-    (sym (c.in_default.ensures.none ∙ c.begin_with.ensures.side)) none
+    (sym (c.in_default.ensures.none ∙ c.begin_with.ensures.side)) tt none
 
 pub returns-in_default-clause-nothing : goal.returns-in_default-clause-nothing
 returns-in_default-clause-nothing g c =

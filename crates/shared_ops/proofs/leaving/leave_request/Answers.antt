@@ -25,7 +25,7 @@ returns-in_err-reserve-clause-carried g c =
     let k = side_of t.chains c.args.worker.now.chain in
     let d = side_of t.chains c.reserve.new.self in
     let plan = unhashes m.place (card_of kinds.Request m) (ends plans.gone) in
-    leaves_err is_gone n m.owner.name plan v v k d c.from_residual.result c.from_residual.ensures.0 (left_nowhere n m.owner.name plan v v k d (sym c.reserve.ensures.same) (gave_none v))
+    leaves_err is_gone n m.owner.name plan v v k d c.from_residual.result c.from_residual.ensures.0 (left_nowhere n m.owner.name plan v v k d (sym c.reserve.ensures.same) tt (gave_none v))
 
 pub returns-in_default-clause-carried : goal.returns-in_default-clause-carried
 returns-in_default-clause-carried g c =
@@ -33,7 +33,7 @@ returns-in_default-clause-carried g c =
     let t = c.args.tables.now in
     let v = turned c.args.worker.now in
     left_nowhere (buckets_of t) m.owner.name (unhashes m.place (card_of kinds.Request m) (ends plans.gone)) v v (side_of t.chains c.args.worker.now.chain) (side_of t.chains c.lock_chain_of.new.pass)
-    (sym (c.in_default.ensures.none ∙ c.reserve.ensures.same)) (gave_none v)
+    (sym (c.in_default.ensures.none ∙ c.reserve.ensures.same)) tt (gave_none v)
 
 pub returns-clause-drawn : goal.returns-clause-drawn
 returns-clause-drawn g c = λ more may.

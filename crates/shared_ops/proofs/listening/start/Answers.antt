@@ -42,7 +42,7 @@ returns-in-Err-clause-carried g c =
     let a = c.args.owner.now in
     let t = c.args.tables.now in
     let l = t.chains.layout in
-    left_nowhere (buckets_of t) a.name (listen_at l.shape l.seed false a) (turned c.args.worker.now) (turned c.begin_with.new.worker) (side_of t.chains c.args.worker.now.chain) (side_of t.chains c.begin_with.new.worker.chain) (sym c.begin_with.ensures.side) c.in-Err.ensures.nothing
+    left_nowhere (buckets_of t) a.name (listen_at l.shape l.seed false a) (turned c.args.worker.now) (turned c.begin_with.new.worker) (side_of t.chains c.args.worker.now.chain) (side_of t.chains c.begin_with.new.worker.chain) (sym c.begin_with.ensures.side) tt c.in-Err.ensures.nothing
 
 pub returns-in-Ok-clause-tells : goal.returns-in-Ok-clause-tells
 returns-in-Ok-clause-tells g c =

@@ -61,7 +61,7 @@ returns-in-Ok-clause-carried g c =
     (c.start_in_turn.ensures.carried b.begun b.taken.within) in
     let f = found_first t.buckets (bound_at a a.addr 0) c.args.ports v q port turn b _ h in
     carried_both {X = Mine} done refused n a.name (search_bind a a.addr found none c.args.ports) (found port) v f.then_ w k k d
-    (search_finds n a v f.then_ a.addr found none c.args.ports port k f.at) r f.holds
+    (search_finds n a v f.then_ a.addr found none c.args.ports port k f.at) refl r f.holds
 
 pub returns-in-Ok-clause-stands : goal.returns-in-Ok-clause-stands
 returns-in-Ok-clause-stands g c =

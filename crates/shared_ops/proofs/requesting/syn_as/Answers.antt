@@ -111,4 +111,4 @@ returns-in_err-turn-clause-carried g c =
     let old = c.args.worker.now in
     let new = c.begin.new.worker in
     begun_not done refused (buckets_of t) r.name (plans.syn_as s.shape s.seed r) (turned old) (turned new) (side_of t.chains old.chain) (side_of t.chains new.chain) _ c.from_residual.result
-    c.from_residual.ensures.1 c.begin.ensures.side c.in_err-turn.ensures.nothing
+    c.from_residual.ensures.1 c.begin.ensures.side tt c.in_err-turn.ensures.nothing

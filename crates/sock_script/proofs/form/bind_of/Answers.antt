@@ -15,4 +15,4 @@ returns-clause-some c =
     let label = c.in_ok-label.ensures.some in
     let end = c.in_ok-end.ensures.some in
     let last = none_left _ c.if-not-is_empty.ensures in
-    rw (c.label_of-label.ensures, label.0, end.0, last) (refl, (label.1, end.1))
+    rw (c.bind.ensures, c.label_of-label.ensures, label.0, end.0, last) (refl, (label.1, end.1))

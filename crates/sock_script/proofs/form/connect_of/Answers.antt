@@ -7,4 +7,4 @@ returns-clause-some c =
     let label = c.in_ok-label.ensures.some in
     let to = c.in_ok-to.ensures.some in
     let last = none_left _ c.if-not-is_empty.ensures in
-    rw (c.label_of-label.ensures, label.0, c.source_first-from.ensures.spelled, to.0, last) (refl, (label.1, c.source_first-from.ensures.fits, to.1))
+    rw (c.connect.ensures, c.label_of-label.ensures, label.0, c.source_first-from.ensures.spelled, to.0, last) (refl, (label.1, c.source_first-from.ensures.fits, to.1))

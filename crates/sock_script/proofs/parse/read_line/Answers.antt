@@ -1,7 +1,7 @@
 use Rattle.std.proofs.Common.{rules}
 use Rattle.sock_script.specs.declared.line.Line.TheVariants as lines
 use Rattle.sock_script.proofs.LineCases.{reads}
-use Rattle.sock_script.proofs.ReadLines.{answers, none_seen, some_seen}
+use Rattle.sock_script.proofs.ReadLines.{answers, none_seen, others, some_seen}
 use Rattle.sock_script.proofs.Words.{none_left}
 use Rattle.sock_script.proofs.parse.read_line.Goals as goal
 
@@ -13,9 +13,9 @@ returns-then-is_empty c =
 pub returns-in-Some : goal.returns-in-Some
 returns-in-Some c =
     answers c.args.mode c.args.draft.now c.pass.new.self _ c.args.line.now _ (lines.Command c.in-Some.command) c.requires.no_capture c.pass.ensures
-    (some_seen c.args.line.now c.args.words.now c.requires.words (search rules)) c.in-Some.ensures.some _ c.add_command.ensures
+    (some_seen c.args.line.now c.args.words.now c.requires.words (search rules)) (rw c.in-Some.is at c.in_ok-command.ensures.some) _ c.add_command.ensures
 
-pub returns-in-Some-other_of : goal.returns-in-Some-other_of
-returns-in-Some-other_of c =
-    answers c.args.mode c.args.draft.now c.pass.new.self _ c.args.line.now _ c.in-Some-other_of.line c.requires.no_capture c.pass.ensures
-    (some_seen c.args.line.now c.args.words.now c.requires.words (search rules)) c.in-Some-other_of.ensures.some _ c.add.ensures
+pub returns : goal.returns
+returns c =
+    others c.args.mode c.args.draft.now c.pass.new.self _ c.args.line.now _ c.requires.no_capture c.pass.ensures
+    (some_seen c.args.line.now c.args.words.now c.requires.words (search rules)) (search rules) _ c.read_other.ensures

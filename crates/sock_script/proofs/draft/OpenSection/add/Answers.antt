@@ -1,4 +1,4 @@
-use Rattle.std.proofs.Common.{◌∙◌, List, [], ◌∷◌, ◌++◌, sym, ap, ap₂}
+use Rattle.std.proofs.Common.{◌∙◌, List, [], ◌∷◌, ◌++◌, sym, ap}
 use Rattle.std.specs.Option.{option_to_list}
 use Rattle.flat_list.specs.declared.command.Command.{Command}
 use Rattle.sock_script.specs.Grammar.{given_label, given_labels}
@@ -10,4 +10,4 @@ invariant_of-self-2 c =
     c.in_ok-new.ensures.noted
     ∙ ap (λ labels. labels ++ option_to_list (given_label c.args.command)) c.self.invariant
     ∙ sym (given_more c.self.inside.commands.items c.args.command)
-    ∙ ap given_labels (sym (c.in_ok-push.ensures.items ∙ ap₂ (λ (commands : List Command) (command : Command). commands ++ command ∷ []) c.reserve.ensures.items c.in_ok-kept.ensures))
+    ∙ ap given_labels (sym (c.in_ok-push.ensures.items ∙ ap (λ (commands : List Command). commands ++ c.args.command ∷ []) c.reserve.ensures.items))
