@@ -1,11 +1,11 @@
-ghost use Rattle.std.specs.Prelude.{◌≡◌, ◌<◌, ◌≤◌, ◌∷◌, [], ℕ, false, IfOk, IfErr, ◌+◌};
+ghost use Rattle.std.specs.Prelude.{◌≡◌, ◌≢◌, ◌<◌, ◌≤◌, ◌∷◌, [], ℕ, true, false, IfOk, IfErr, ◌+◌};
 ghost use Rattle.table_rule.specs.declared.view.View.{View};
 ghost use Rattle.table_rule.specs.declared.view.Change.{Change};
 ghost use Rattle.table_rule.specs.Lists.{stands};
-ghost use Rattle.table_rule.specs.Sole.{IsBare, FirstFree, AllUsed, used_in};
+ghost use Rattle.table_rule.specs.Sole.{IsBare, IsSole, FirstFree, AllUsed, used_in};
 ghost use Rattle.table_rule.specs.Calls.{IsOf, IsHashOf, seen_of, view, me, layout_of, Becomes};
 ghost use Rattle.shared_slots.specs.Claims.{Tried, Between, IsFull};
-ghost use Rattle.table_rule.specs.Plays.{claiming};
+ghost use Rattle.table_rule.specs.Plays.{claiming, glimpsing, seeing_held};
 
 use sock_card::CardWords;
 use table_rule::{Chains, Steps};
@@ -15,6 +15,32 @@ use table_rule::{Chains, Steps};
 pub struct Full {
     pub owned: u32,
     pub held: u32,
+}
+
+// Claims a slot if it is free. The answer is the state that was found. It is loaded first, since an exchange that is
+// refused takes longer.
+fn claim_one(chains: &Chains, steps: &mut Steps, slot: u32) -> u64
+    requires table { IsOf chains.now steps.old }
+    requires begun { (c : Change) × ((view steps.old).book.opened ≡ c ∷ []) × (c.kind ≡ 2) }
+    requires slot { slot < (layout_of chains.now).shape.slots }
+    requires free { (view steps.old).slot.fresh ≡ [] }
+    ensures table { IsOf chains.now steps.new }
+    ensures claimed { result ≡ 0 → Becomes steps.old steps.new (claiming (view steps.old) slot) }
+    ensures held { result ≢ 0 → result < 9223372036854775808
+        → Becomes steps.old steps.new (seeing_held (view steps.old) slot) }
+    ensures owned { 9223372036854775808 ≤ result → Becomes steps.old steps.new (glimpsing (view steps.old) slot) }
+    ensures known { IsSole (view steps.old) → (view steps.old).slot.holds ≡ []
+        → (result ≡ 0 → used_in (view steps.old).book.closed slot ≡ false)
+        × (result ≢ 0 → used_in (view steps.old).book.closed slot ≡ true)
+        × (result ≢ 0 → 9223372036854775808 ≤ result) }
+    ensures far { result ≡ 0 → stands slot (view steps.old).chain.walked ≡ 0 }
+{
+    let state = chains.step_glimpse(steps, slot);
+    if state == 0 {
+        chains.step_claim(steps, slot)
+    } else {
+        state
+    }
 }
 
 // Tries the slots from one on, below another.
@@ -39,7 +65,7 @@ fn claim_within(chains: &Chains, steps: &mut Steps, start: u32, end: u32) -> Res
     let mut owned = 0;
     let mut held = 0;
     for slot in start..end {
-        let state = chains.step_claim(steps, slot);
+        let state = claim_one(chains, steps, slot);
         if state == 0 {
             return Ok(slot);
         }
@@ -52,7 +78,8 @@ fn claim_within(chains: &Chains, steps: &mut Steps, start: u32, end: u32) -> Res
     Err(Full { owned, held })
 }
 
-/// Claims a slot, by one exchange of its state from 0: all are tried, from one on and round to it.
+/// Claims a slot, by one exchange of its state from 0: all are tried, from one on and round to it, each by a load and
+/// by the exchange only where that found 0.
 ///
 /// It comes after the beginning of a hash was drawn, and it is refused only where each slot's state was read as not 0
 /// at a step of this call: the pass has seen each of them so.

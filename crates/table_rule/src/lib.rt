@@ -25,8 +25,6 @@ mod passes;
 mod rule;
 mod steps;
 mod table;
-#[cfg(test)]
-mod tests;
 mod unlocked;
 mod view;
 mod wholes;

@@ -22,6 +22,14 @@ impl Play<(), View> for Claim {
     ghost then = { claimed };
 }
 
+pub struct Glimpse;
+
+impl Play<(), View> for Glimpse {
+    ghost use Rattle.table_rule.specs.Plays.{glimpsed};
+
+    ghost then = { glimpsed };
+}
+
 pub struct Write;
 
 impl Play<(), View> for Write {

@@ -18,16 +18,16 @@ pub returns-clause-claimed : goal.returns-clause-claimed
 returns-clause-claimed c = λ z. c.compare_exchange.ensures.2.0 z c.args.slot (word_is _ _ _ 0 _ c.requires.table.1 c.word_at-word.ensures.is)
 
 pub returns-clause-held : goal.returns-clause-held
-returns-clause-held c = λ ne lt. c.compare_exchange.ensures.2.1 ne lt c.args.slot (word_is _ _ _ 0 _ c.requires.table.1 c.word_at-word.ensures.is)
+returns-clause-held c = λ ne lt. c.compare_exchange.ensures.2.1.0 ne lt c.args.slot (word_is _ _ _ 0 _ c.requires.table.1 c.word_at-word.ensures.is)
 
 pub returns-clause-owned : goal.returns-clause-owned
-returns-clause-owned c = λ z. c.compare_exchange.ensures.2.2 z c.args.slot (word_is _ _ _ 0 _ c.requires.table.1 c.word_at-word.ensures.is)
+returns-clause-owned c = λ z. c.compare_exchange.ensures.2.1.1 z c.args.slot (word_is _ _ _ 0 _ c.requires.table.1 c.word_at-word.ensures.is)
 
 pub returns-clause-known : goal.returns-clause-known
-returns-clause-known c = λ sole none. c.compare_exchange.ensures.2.3 sole none c.args.slot (word_is _ _ _ 0 _ c.requires.table.1 c.word_at-word.ensures.is)
+returns-clause-known c = λ sole none. c.compare_exchange.ensures.2.2 sole none c.args.slot (word_is _ _ _ 0 _ c.requires.table.1 c.word_at-word.ensures.is)
 
 pub returns-clause-far : goal.returns-clause-far
-returns-clause-far c = λ e. c.compare_exchange.ensures.2.4 e c.args.slot (word_is _ _ _ 0 _ c.requires.table.1 c.word_at-word.ensures.is)
+returns-clause-far c = λ e. c.compare_exchange.ensures.2.3 e c.args.slot (word_is _ _ _ 0 _ c.requires.table.1 c.word_at-word.ensures.is)
 
 pub invariant_of-steps : goal.invariant_of-steps
 invariant_of-steps c = record { numbers = numbers_last c.args.steps.now.seat.me.0 c.compare_exchange.new.seat.me.0 c.args.steps.now.seen c.args.steps.now.drawn (claimed_lasts (step c.args.self.now.table.shared.table_id.slots c.word_at-word.result 0 9223372036854775808 none) c.args.steps.now.seat.me _ _ c.args.slot c.requires.begun.0 c.requires.begun.1 (word_is _ _ _ 0 _ c.requires.table.1 c.word_at-word.ensures.is) c.compare_exchange.ensures.2) c.args.steps.now.numbers }
