@@ -20,7 +20,6 @@ pub mod GroupNumber
 mod Counted
 mod Tallied
 mod RuledOut
-pub mod Called
 mod SlotSteps
 mod SlotsKept
 mod Linked

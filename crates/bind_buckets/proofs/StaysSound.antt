@@ -1,16 +1,13 @@
 -- A bucket is sound after each allowed call.
-use Rattle.std.proofs.Common.{◌≡◌, ℕ, Option, None, Some, [], ◌∷◌, ◌++◌, refl, sym, ◌∙◌, ap}
+use Rattle.std.proofs.Common.{◌≡◌, [], ◌∷◌, ◌++◌, refl, sym, ◌∙◌, ap}
 use Rattle.std.proofs.lemmas.List.{map-append}
-use Rattle.std.specs.Option.{IfSome}
-use Rattle.sock_card.specs.declared.owner.Owner.{Owner}
 use Rattle.sock_card.specs.declared.owner.State.TheVariants as states
 use Rattle.bind_buckets.specs.declared.request.Request.{Request}
 use Rattle.bind_buckets.specs.declared.request.Request.TheVariants as requests
 use Rattle.bind_buckets.specs.declared.request.Entry.{Entry}
 use Rattle.bind_buckets.specs.OwnerStep.{owner_step, empty}
 use Rattle.bind_buckets.specs.Journal.{OwnersAgree}
-use Rattle.bind_buckets.specs.HeldBy.{CanBeAt}
-use Rattle.bind_buckets.specs.Bucket.{Bucket, IsAllowed, IsSound, StandsAt, called, step_of, entry_of, entries_of}
+use Rattle.bind_buckets.specs.Bucket.{Bucket, IsAllowed, IsSound, called, step_of, entry_of, entries_of}
 use Rattle.bind_buckets.proofs.Journals.{replayed_push, legal_push}
 use Rattle.bind_buckets.proofs.StaysAgreed.{step_agrees, step_keys}
 use Rattle.bind_buckets.proofs.StaysGrouped.{step_places, step_fits}
@@ -32,8 +29,3 @@ sound_called b request s allowed =
       places = step_places b request s.places;
       members = step_fits b request allowed s.members;
     }
-
--- a bound socket is at any address or at that one
-bound_there : (local : ℕ) (bound : Option Owner) → IfSome bound (StandsAt states.Bound local) → CanBeAt local bound
-bound_there local None at = tt
-bound_there local (Some a) at = at.addr

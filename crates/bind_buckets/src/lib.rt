@@ -45,8 +45,6 @@ pub mod request;
 mod room;
 mod slot;
 mod tally;
-#[cfg(test)]
-mod tests;
 pub mod turning;
 
 pub use bucket::Bucket;

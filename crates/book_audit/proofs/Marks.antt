@@ -186,12 +186,6 @@ module _ (place part t0 t1 : ℕ) where
   pub later_none : (stays : List Stay) (i : ℕ) (d : Stay) → i < length stays → precedes (get_or stays i d) place part t0 ≡ false → AreOrdered stays → NoneStays (drop i stays) place part t0 t1
   later_none stays i d l n r = later_from stays i d l n (pairs_of_drop i stays r)
 
-  pub none_past : (stays : List Stay) (i : ℕ) → i ≡ length stays → NoneStays (drop i stays) place part t0 t1
-  none_past [] zero e s a = absurd a
-  none_past [] (suc i) e s a = absurd a
-  none_past (x ∷ xs) zero e s a = absurd (omega (arith, e))
-  none_past (x ∷ xs) (suc i) e s a = none_past xs i (omega (arith, e)) s a
-
   pub none_both : (stays : List Stay) (i : ℕ) → NoneStays (drop i stays) place part t0 t1 → NoneStays (take i stays) place part t0 t1 → NoneStays stays place part t0 t1
   none_both stays zero f g s a = f s a
   none_both [] (suc i) f g s a = f s a

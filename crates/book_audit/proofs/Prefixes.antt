@@ -25,8 +25,3 @@ module _ {A : Type 0} where
   pub pairs_last : (R : A → A → Type 0) (xs : List A) (i : ℕ) (d : A) → i < length xs → Pairs R (take (i + 1) xs) → Each (λ y. R y (get_or xs i d)) (take i xs)
   pairs_last R xs i d l e = heads R (get_or xs i d) (take i xs)
       (pairs_across R (take i xs) (get_or xs i d ∷ []) (subst (λ ys. Pairs R ys) (take_more xs i d l) e))
-
-  -- one line has no other beside it
-  pub pairs_one : (R : A → A → Type 0) (xs : List A) → Pairs R (take 1 xs)
-  pairs_one R [] = tt
-  pairs_one R (x ∷ xs) = (tt, tt)

@@ -28,8 +28,6 @@ pub mod printed;
 pub mod receipts;
 pub mod stamps;
 pub mod stays;
-#[cfg(test)]
-mod tests;
 
 pub use printed::{
     Finding, Printed, PrintedAnswer, PrintedEnd, PrintedLife, PrintedLook, PrintedPacket, Span, Why,

@@ -11,7 +11,5 @@
 #![tactic(auto)]
 
 mod locks;
-#[cfg(test)]
-mod tests;
 
 pub use locks::{Locked, lock, try_lock, unlock};

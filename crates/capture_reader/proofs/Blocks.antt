@@ -43,13 +43,6 @@ module _ (dev net : ℕ) (section : BlockSection) where
       let stored : h.1 ≡ k.1 = h.2.bytes ∙ sym k.2.bytes in
       h.3 ∙ ap (λ (l : Option Link). item_on l dev net h.1) link ∙ ap (item_on k.0 dev net) stored ∙ sym k.3
 
-  -- a block that begins no section is whole in the section's order
-  whole_in : (block : List ℕ) (b : Block) → ((o : Order) → b ≢ blocks.Section o) → IsBlock dev net section block b → IsWhole section.order block
-  whole_in block (blocks.Section o) other h = absurd (other o refl)
-  whole_in block (blocks.Interface link) other h = h.whole
-  whole_in block (blocks.Packet item) other h = h.2.whole
-  whole_in block blocks.Other other h = h.whole
-
   -- the type of the block that bytes begin with is as what it says
   kind_is : (bytes : List ℕ) (b : Block) (rest : List ℕ) → BeginsWithBlock dev net section bytes b rest → KindIs section.order bytes b
   unfolding KindIs

@@ -28,8 +28,6 @@ mod number;
 mod packet;
 mod record;
 mod section;
-#[cfg(test)]
-mod tests;
 
 pub use capture::{Capture, CaptureEnd, packets};
 pub use packet::Item;

@@ -9,4 +9,3 @@ pub mod Hands
 pub mod Reaps
 pub mod Rooms
 pub mod Homes
-pub mod Holds

@@ -19,8 +19,6 @@ mod coming;
 mod handover;
 mod leaving;
 mod table;
-#[cfg(test)]
-mod tests;
 
 pub use coming::{add, insert};
 pub use handover::hand_over;

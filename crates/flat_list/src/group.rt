@@ -240,22 +240,3 @@ pub fn enter(buckets: u32, socket: &Socket, sockets: &[Socket], groups: &mut Vec
         join(bucket, owner.name, mate_of(owner, sockets), groups);
     }
 }
-
-#[cfg(test)]
-mod tests {
-    use super::*;
-    use std::test::Fail;
-
-    #[test]
-    fn the_last_member_takes_the_leavers_place(rt: HostRuntime) -> Result<(), Fail> {
-        let alloc = rt.alloc();
-        let mut groups = vec![in alloc; Group::new(0, 7)]?;
-        join_mate(7, 8, &mut groups);
-        join_mate(7, 9, &mut groups);
-        leave(7, &mut groups);
-        let group = group_of(8, &groups).ok_or("no group")?;
-        assert_eq!(rt; group.chosen(0), 9);
-        assert_eq!(rt; group.chosen(u32::MAX), 8);
-        Ok(())
-    }
-}

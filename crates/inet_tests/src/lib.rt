@@ -4,6 +4,8 @@
 #![tactic(auto)]
 
 #[cfg(test)]
+mod alone;
+#[cfg(test)]
 mod audits;
 #[cfg(test)]
 mod captures;
@@ -20,6 +22,8 @@ mod handshakes;
 #[cfg(test)]
 mod linux;
 #[cfg(test)]
+mod lookups;
+#[cfg(test)]
 mod meeting;
 #[cfg(test)]
 mod races;
@@ -27,3 +31,5 @@ mod races;
 mod rules;
 #[cfg(test)]
 mod tests;
+#[cfg(test)]
+mod words;

@@ -66,6 +66,8 @@ impl Gate for Meeting {
 struct Held {
     here: AtomicU64,
     late: AtomicU64,
+    // How often the looker was held.
+    held: AtomicU64,
 }
 
 impl Gate for Held {
@@ -74,8 +76,11 @@ impl Gate for Held {
             (Who::Script(1), 3) => {
                 self.here.fetch_add(1, Ordering::SeqCst);
             }
-            (Who::Looker(1), 1) if !came(&self.here, 1) => {
-                self.late.fetch_add(1, Ordering::SeqCst);
+            (Who::Looker(1), 1) => {
+                self.held.fetch_add(1, Ordering::SeqCst);
+                if !came(&self.here, 1) {
+                    self.late.fetch_add(1, Ordering::SeqCst);
+                }
             }
             _ => {}
         }
@@ -117,11 +122,16 @@ fn a_looker_waits_for_a_section(rt: HostRuntime) -> Result<(), Fail> {
     let gate = Held {
         here: AtomicU64::new(0),
         late: AtomicU64::new(0),
+        held: AtomicU64::new(0),
     };
     let script =
         "table slots 2 bind 1 hash 1 listen 1\nscript 1\nsocket a\nbind a 10.0.0.1:80\nlisten a\ncapture\n";
     let (status, written) = race(&rt, "1", script, &gate)?;
-    assert!(rt; status == Status::Done && gate.late.load(Ordering::SeqCst) == 0);
+    let (held, late) = (
+        gate.held.load(Ordering::SeqCst),
+        gate.late.load(Ordering::SeqCst),
+    );
+    assert!(rt; status == Status::Done && held == 1 && late == 0);
     // Whether the packets find the listener hangs on the schedule.
     let begin =
         b"race lookers 1 passes 1\nshape 2 1 1 1 seed 0\n1 socket a ok\n1 bind a ok 80\n1 listen a ok 80\n\

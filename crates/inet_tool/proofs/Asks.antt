@@ -4,10 +4,10 @@ use Rattle.std.specs.Str.Parse.{digits_value}
 use Rattle.clap.specs.Words.{Text, Row, one_of, subcommand_of, without_minus}
 use Rattle.sock_script.specs.declared.parse.Mode.{Mode}
 use Rattle.sock_script.specs.declared.parse.Mode.TheVariants as modes
-use Rattle.inet_tool.specs.Words.{inet_app, name_of, number_of, IsAudit, IsMake, IsRace, IsRefused, IsRun, MakesInRange, RacesInRange, AsksToRead}
+use Rattle.inet_tool.specs.Words.{inet_app, name_of, number_of, IsMake, IsRace, IsRefused, MakesInRange, RacesInRange, AsksToRead}
 use Rattle.inet_tool.proofs.Asked.{Met, audits, makes, met_by, races, runs}
 use Rattle.inet_tool.proofs.MakeWords.{most_seed, most_count}
-use Rattle.inet_tool.proofs.Names.{audit_isnt_make, audit_isnt_race, make_isnt_race, race_isnt_audit, race_isnt_make, run_isnt_audit, run_isnt_make, run_isnt_race}
+use Rattle.inet_tool.proofs.Names.{audit_isnt_make, audit_isnt_race, make_isnt_race, race_isnt_make, run_isnt_make, run_isnt_race}
 use Rattle.inet_tool.proofs.Numbers.{digits, reads}
 
 -- what is the same
@@ -70,28 +70,12 @@ races_in_range words n p h = go (met_by words h.0)
 
 -- words ask for one command at most
 module _ {P : Type 0} (words : List Text) where
-  pub run_or_race : (n p : ℕ) → IsRun words → IsRace words n p → P
-  run_or_race n p h k = absurd (run_isnt_race (one_value h.1 k.1))
-
   pub race_or_make : (n p seed count : ℕ) → IsRace words n p → IsMake words seed count → P
   race_or_make n p seed count h k = absurd (race_isnt_make (one_value h.1 k.1))
 
   pub read_or_made : (mode : Mode) (seed count : ℕ) → AsksToRead mode words → IsMake words seed count → P
   read_or_made modes.Run seed count h k = absurd (run_isnt_make (one_value h.1 k.1))
   read_or_made modes.Race seed count h k = race_or_make h.0 h.1 seed count h.2 k
-
-  pub run_or_audit : IsRun words → IsAudit words → P
-  run_or_audit h k = absurd (run_isnt_audit (one_value h.1 k.1))
-
-  pub race_or_audit : (n p : ℕ) → IsRace words n p → IsAudit words → P
-  race_or_audit n p h k = absurd (race_isnt_audit (one_value h.1 k.1))
-
-  pub audit_or_make : (seed count : ℕ) → IsAudit words → IsMake words seed count → P
-  audit_or_make seed count h k = absurd (audit_isnt_make (one_value h.1 k.1))
-
-  pub read_or_audited : (mode : Mode) → AsksToRead mode words → IsAudit words → P
-  read_or_audited modes.Run h k = run_or_audit h k
-  read_or_audited modes.Race h k = race_or_audit h.0 h.1 h.2 k
 
   -- words that are refused ask for none
   pub refused_read : (mode : Mode) → AsksToRead mode words → IsRefused words → P

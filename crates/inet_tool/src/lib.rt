@@ -49,9 +49,7 @@ mod race;
 mod reply;
 mod serve;
 mod status;
-#[cfg(test)]
-mod tests;
-mod words;
+pub mod words;
 
 use inet_io::{Gate, Sink, Source};
 use label_index::LabelSeed;

@@ -1,5 +1,5 @@
 -- Where a label stands among others, and one more.
-use Rattle.std.proofs.Common.{◌≡◌, ℕ, ◌+◌, ◌≤◌, ◌<◌, List, [], ◌∷◌, ◌++◌, length, length-append, Some, None, Bool, true, false, cond, bytes_eq, refl, sym, ap, ◌∙◌, arith, ltb, eqb}
+use Rattle.std.proofs.Common.{◌≡◌, ℕ, ◌+◌, ◌≤◌, ◌<◌, List, [], ◌∷◌, ◌++◌, length, length-append, Some, None, Bool, true, false, cond, bytes_eq, sym, ap, ◌∙◌, arith, ltb, eqb}
 use Rattle.std.specs.Prelude.{position, IfSome}
 use Rattle.std.specs.List.{position_or_len}
 use Rattle.std.proofs.lemmas.Bool.Decides.{nat_tests}
@@ -51,7 +51,3 @@ given_again labels label text i false e at = pushed_other (λ l. bytes_eq l text
 within_by : (a n : ℕ) (b : Bool) → ltb a n ≡ b → IfSome (cond b (Some a) None) (λ k. k < n)
 within_by a n true e = grind (arith, nat_tests)
 within_by a n false e = tt
-
--- a label's place is one of the list's
-pub placed_within : (labels : List (List ℕ)) (label : List ℕ) → IfSome (place_in labels label) (λ k. k < length labels)
-placed_within labels label = within_by (position_or_len (λ l. bytes_eq l label) labels) (length labels) (ltb (position_or_len (λ l. bytes_eq l label) labels) (length labels)) refl

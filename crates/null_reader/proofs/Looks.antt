@@ -201,11 +201,6 @@ module _ (layout : Layout) (bucket : ℕ) (key : Packet) (least passes t₀ : �
           subst (λ (k : Packet). NoneStands m.0 bucket key least (rank_of k (words_of best.card))) s.key (none-told bucket key least t₀ m whole before n' t.0 ks hs t.7 e s (rank_of t.0.key (words_of best.card)) r.1),
         )
 
-  pub sole_again : (last : PassEnd) (n : Sat) (b : Between m₁ (begun bucket key least t₀) passes last n) → ((q : Reader) → Looks n.0 q → IsAlone n.0 q.since → ⊥) → ⊥
-  sole_again last n b told =
-      let e : n ≡ (looking (setting_out m.0 bucket key least t₀) b.q m.0.read.kept m.0.slot.holds b.taken, m.1) = b.is ∙ ap (λ (s : Sat). (looking s.0 b.q s.0.read.kept s.0.slot.holds b.taken, s.1)) out in
-      told b.q (ap (λ (s : Sat). s.0.read.reader) b.is) (sole-at bucket key least t₀ m whole before n b.q m.0.read.kept m.0.slot.holds b.taken e b.same)
-
 module _ (layout : Layout) (bucket : ℕ) (key : Packet) (least passes t₀ : ℕ) (m m₁ : Sat) (out : m₁ ≡ (setting_out m.0 bucket key least t₀, m.1)) (done : ℕ) (last : PassEnd) (n n' : Sat) (b : Between m₁ (begun bucket key least t₀) done last n) where
   -- what was found is a card
   pub card_found : (best : Best) (t : Passed layout n b.q (Ok (Some best)) n') → ((q : Reader) (h : Kept) (hs : List Kept) → Looks n'.0 q → n'.0.read.kept ≡ h ∷ hs → IsCardWords h.words) → IsCardWords (words_of best.card)

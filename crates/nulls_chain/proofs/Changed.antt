@@ -104,9 +104,6 @@ beside_none slot card xs alone = go (has_tuple card.ports) refl
 pub leads_on : (v : View) (r : ℕ) → r % 2 ≡ 0 → (advancing v r).chain ≡ going v.chain (record { slot = r / 2; words = [] } ∷ []) 0
 leads_on v r e = λ k. going v.chain (ap (λ (b : Bool). cond b (record { slot = r / 2; words = [] } ∷ []) []) (eq-eqb (r % 2) 0 e) k) (e k)
 
-pub leads_end : (v : View) (r : ℕ) → r % 2 ≡ 1 → (advancing v r).chain ≡ going v.chain [] 1
-leads_end v r e = λ k. going v.chain (ap (λ (b : Bool). cond b (record { slot = r / 2; words = [] } ∷ []) []) (ne_eqb (r % 2) 0 (omega (arith, e))) k) (e k)
-
 -- where a walk stands once it has gone on
 pub at_even : (layout : Layout) (bucket r : ℕ) (v w : View) (card : CardWords) → v.chain.locked ≡ bucket ∷ [] → bucket < bucket_count layout → r % 2 ≡ 0 → r / 2 < layout.shape.slots → w.chain ≡ going v.chain (seen_of (r / 2) card ∷ []) 0 → IsAt layout (record { bucket = bucket; started = true; link = r }) w
 at_even layout bucket r v w card had near even inside is = (

@@ -19,8 +19,6 @@ mod finding;
 mod halting;
 mod keeping;
 mod leaving;
-#[cfg(test)]
-mod tests;
 mod walking;
 
 pub use finding::walk_to_end;

@@ -21,13 +21,9 @@
 //! ```
 #![tactic(auto)]
 
-#[cfg(test)]
-mod bucket_tests;
 pub mod ends;
 pub mod laws;
 pub mod ports;
-#[cfg(test)]
-mod turn_tests;
 pub mod turning;
 
 pub use ends::{Attempt, SearchEnd};

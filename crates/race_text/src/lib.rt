@@ -13,8 +13,6 @@
 pub mod record;
 pub mod render;
 pub mod rows;
-#[cfg(test)]
-mod tests;
 mod text;
 
 pub use record::Record;

@@ -27,8 +27,6 @@ pub mod section;
 pub mod share;
 pub mod start;
 pub mod tell;
-#[cfg(test)]
-mod tests;
 pub mod threads;
 pub mod work;
 pub mod worker;

@@ -21,8 +21,6 @@ pub mod name;
 pub mod order;
 pub mod read;
 pub mod tell;
-#[cfg(test)]
-mod tests;
 pub mod word;
 
 pub use audit::{AuditEnd, Verdict};

@@ -15,7 +15,5 @@ mod listing;
 mod look;
 pub mod running;
 mod start;
-#[cfg(test)]
-mod tests;
 
 pub use running::run;

@@ -9,7 +9,7 @@ pub mod Closes
 mod Owns
 mod Settled
 mod Ended
-mod Spent
+pub mod Spent
 mod LeftOff
 mod Gives
 mod Moments

@@ -25,8 +25,6 @@ pub mod machine;
 mod meeting;
 pub mod offsets;
 mod reaping;
-#[cfg(test)]
-mod tests;
 pub mod waits;
 
 pub use labels::Labels;

@@ -19,8 +19,6 @@ pub mod caller;
 pub mod laws;
 pub mod looker;
 pub mod tables;
-#[cfg(test)]
-mod tests;
 
 pub use caller::Caller;
 pub use looker::Looker;

@@ -1,5 +1,5 @@
 -- The receipt of a packet's lookup follows from what its parts gave.
-use Rattle.std.proofs.Common.{◌≡◌, ℕ, suc, ◌+◌, ◌<◌, ◌≤◌, List, [], ◌∷◌, ◌++◌, ◌⊎◌, inl, inr, length, refl, sym, ap, ◌∙◌, subst, arith, cond, Bool, eq-eqb, Option, Some, None}
+use Rattle.std.proofs.Common.{◌≡◌, ℕ, suc, ◌+◌, ◌≤◌, List, [], ◌∷◌, ◌++◌, ◌⊎◌, inl, inr, length, refl, sym, ap, ◌∙◌, subst, arith, cond, Bool, eq-eqb, Option, Some, None}
 use mathlib.Core.Option.{some}
 use lib.ListN.{get_elem?}
 use Rattle.atomic_table.proofs.Lists.{at_longer}
@@ -14,9 +14,9 @@ use Rattle.null_reader.specs.declared.answers.PassEnd.TheVariants.{Foreign, Dead
 use Rattle.reuseport_group.specs.declared.choice.Choice.{Choice}
 use Rattle.reuseport_group.specs.declared.pass.GroupPasses.{GroupPasses}
 use Rattle.shared_demux.specs.Chosen.{sighted_view, Chosen, ChosenBy, ByGroup}
-use Rattle.shared_demux.specs.Concludes.{Concluded, DrewAll, book_end}
+use Rattle.shared_demux.specs.Concludes.{Concluded, book_end}
 use Rattle.shared_finds.proofs.Finds.{at_here}
-use Rattle.shared_finds.proofs.Stays.{more_same, more_more, clears_on, clears_up, found_on, found_up, stopped_up, seen_on, stays_same, stays_on, adds_on, seen_later}
+use Rattle.shared_finds.proofs.Stays.{more_same, more_more, clears_on, clears_up, found_on, found_up, seen_on, stays_same, stays_on, adds_on, seen_later}
 use Rattle.shared_finds.specs.Finds.{card_rank, FindsFull, FindsListener}
 use Rattle.shared_finds.specs.Homes.{IsLaidOut, full_home, exact_home, any_home}
 use Rattle.shared_finds.specs.Stays.{adding, settled_by, More, Adds, Stays, Holds}
@@ -24,20 +24,17 @@ use Rattle.shared_slots.specs.declared.holds.Held.{Held}
 use Rattle.sock_card.specs.Words.{packed}
 use Rattle.sock_card.specs.declared.card.Card.{Card}
 use Rattle.sock_card.specs.declared.card.Packet.{Packet}
-use Rattle.table_rule.specs.Alone.{mine, IsAlone, IsSoleWhole, IsKnownWhole}
+use Rattle.table_rule.specs.Alone.{IsAlone, IsSoleWhole}
 use Rattle.table_rule.specs.Calls.{layout_of}
-use Rattle.table_rule.specs.Explained.{IsWholeExplained}
 use Rattle.table_rule.specs.Lists.{less}
 use Rattle.table_rule.specs.LookCalls.{HasRoom, place_of}
 use Rattle.table_rule.specs.Plays.{Sat, with_kept, letting_go, drop_at, trying}
-use Rattle.table_rule.specs.ReadersOk.{keeps_at}
-use Rattle.table_rule.specs.Wholes.{Clears, IsClear, FoundIn, SeenIn, StoppedIn, Follows, stop_of, whole_of}
+use Rattle.table_rule.specs.Wholes.{Clears, IsClear, FoundIn, SeenIn, Follows, stop_of, whole_of}
 use Rattle.table_rule.specs.Words.{words_of, with_seed}
 use Rattle.table_rule.specs.declared.table.Chains.{Chains}
 use Rattle.table_rule.specs.declared.view.Kept.{Kept}
 use Rattle.table_rule.specs.declared.view.Layout.{Layout}
 use Rattle.table_rule.specs.declared.view.Sighted.{Sighted}
-use Rattle.table_rule.specs.declared.view.Stop.{Stop}
 use Rattle.table_rule.specs.declared.view.Whole.{Whole}
 
 -- the layout by which homes are told is the table's, but for its seed
@@ -146,9 +143,6 @@ module _ (m n : Sat) (slot : ℕ) (best : Card) (h : Holds m slot best n) where
   has_room two = subst (λ (s : Sat). HasRoom s.0) (sym h.1.is) (omega (arith, two))
 
 module _ (m n : Sat) (k : Kept) (ks : List Kept) (hs : List ℕ) (a : Adds m (k ∷ ks) (k.slot ∷ hs) n) where
-  pub best_held : 0 < keeps_at k.slot n.0.read
-  best_held = subst (λ (s : Sat). 0 < keeps_at k.slot s.0.read) (sym a.is) (omega (arith, ap {B = ℕ} (λ (b : Bool). cond b 1 0) (eq-eqb k.slot k.slot refl)))
-
   best_first : place_of k.slot n.0.read.kept ≡ 0
   best_first = ap (λ (s : Sat). place_of k.slot s.0.read.kept) a.is ∙ ap (λ (b : Bool). cond b 0 (suc (place_of k.slot ks))) (eq-eqb k.slot k.slot refl)
 
@@ -180,9 +174,6 @@ module _ (m n : Sat) (k : Kept) (ks : List Kept) (hs : List ℕ) (a : Adds m (k 
 -- The answers of the lookup of a connected socket
 
 module _ (layout : Layout) (packet : Packet) (from : ℕ) (m n : Sat) (low : from ≤ n.0.seen) where
-  pub full_again : (b : ℕ) (stop : PassEnd) → FindsFull layout packet m (looks.Again b stop) from n → Follows n.0 (whole_of packet layout.seed from (answers.Again b (book_end stop)))
-  full_again b stop t = record { low = low; none = λ k. absurd (omega (arith, k)); found = λ k. absurd (omega (arith, k)); again = λ _. (omega arith, subst (λ (s : Stop). StoppedIn n.0.read from b (s ∷ [])) (sym (same_stop stop)) t.1) }
-
   pub full_found : (h : Held) (card : Card) (n' : Sat) → FindsFull layout packet m (looks.Found h card) from n → More n.0.read n'.0.read → n'.0.seen ≡ n.0.seen → Follows n'.0 (whole_of packet layout.seed from (answers.Found card))
   full_found h card n' t more same = record {
     low = omega (arith, low, same);
@@ -210,14 +201,6 @@ module _ (layout : Layout) (packet : Packet) (from f : ℕ) (m n : Sat) (low : f
         found = λ k. absurd (omega (arith, k));
         again = λ k. absurd (omega (arith, k));
       }
-
-  pub then_again : (b : ℕ) (stop : PassEnd) → FindsListener layout packet m (looks.Again b stop) f n → Follows n.0 (whole_of packet layout.seed from (answers.Again b (book_end stop)))
-  then_again b stop t = record {
-    low = let z = seen_later m n m.0.read.kept m.0.slot.holds t.0 in omega (arith, low, z);
-    none = λ k. absurd (omega (arith, k));
-    found = λ k. absurd (omega (arith, k));
-    again = λ _. (omega arith, subst (λ (s : Stop). StoppedIn n.0.read from b (s ∷ [])) (sym (same_stop stop)) (stopped_up n.0.read f from b (looked.stop_of stop ∷ []) late t.1));
-  }
 
   -- the group has answered, and the best was put
   pub then_found : (h : Held) (best card : Card) (n' n'' : Sat) → with_seed n''.0.layout layout.seed ≡ layout → FindsListener layout packet m (looks.Found h best) f n → Stays n n' → IsFit packet n best card n' → More n'.0.read n''.0.read → n''.0.seen ≡ n'.0.seen
@@ -260,12 +243,6 @@ module _ (m k : Sat) (a : Stays m k) where
     again = x.again;
   }
 
-  pub known_before : (c : Whole) → IsKnownWhole k.0 c → IsKnownWhole m.0 c
-  known_before c w = let x = subst (λ (t : Sat). IsKnownWhole t.0 c) a.is w in record { none = x.none; found = x.found }
-
-  pub own_before : (c : Whole) (to : ℕ) → (DrewAll k.0 to → IsWholeExplained (mine k.0) k.0.layout c) → DrewAll m.0 to → IsWholeExplained (mine m.0) m.0.layout c
-  own_before c to told all = subst (λ (t : Sat). IsWholeExplained (mine t.0) t.0.layout c) a.is (told (subst (λ (t : Sat). DrewAll t.0 to) (sym a.is) all))
-
 -- The branch of a listener that was found: its group's choice, and the put of its count
 
 module _ (slots groups : ℕ) (layout : Layout) (packet : Packet) (hash from f : ℕ) (m n n' : Sat) (h : Held) (best card : Card) (p p' : GroupPasses) (t : FindsListener layout packet m (looks.Found h best) f n) (group : ByGroup slots groups packet hash n best p card n' p') where
@@ -274,9 +251,6 @@ module _ (slots groups : ℕ) (layout : Layout) (packet : Packet) (hash from f :
 
   held-on : Adds m (kept-best m n h.slot best t.0 ∷ m.0.read.kept) (h.slot ∷ m.0.slot.holds) n'
   held-on = holds_stays m n h.slot best t.0 n' fits.0
-
-  pub listener_held : 0 < keeps_at h.slot n'.0.read
-  listener_held = best_held m n' (kept-best m n h.slot best t.0) m.0.read.kept m.0.slot.holds held-on
 
   module _ (n'' : Sat) (e : n'' ≡ (with_kept (letting_go n'.0 h.slot) (drop_at (place_of h.slot n'.0.read.kept) n'.0.read.kept), n'.1)) where
     pub listener_stays : Stays m n''
@@ -290,9 +264,6 @@ module _ (slots groups : ℕ) (layout : Layout) (packet : Packet) (hash from f :
 -- That of a connected socket
 
 module _ (layout : Layout) (packet : Packet) (from : ℕ) (m n : Sat) (h : Held) (card : Card) (t : FindsFull layout packet m (looks.Found h card) from n) where
-  pub full_held : 0 < keeps_at h.slot n.0.read
-  full_held = best_held m n (kept-best m n h.slot card t.0) m.0.read.kept m.0.slot.holds t.0.1
-
   module _ (n' : Sat) (e : n' ≡ (with_kept (letting_go n.0 h.slot) (drop_at (place_of h.slot n.0.read.kept) n.0.read.kept), n.1)) where
     pub full_stays : Stays m n'
     full_stays = put_best m n (kept-best m n h.slot card t.0) m.0.read.kept m.0.slot.holds t.0.1 n' e

@@ -17,7 +17,5 @@
 
 mod group;
 mod packet;
-#[cfg(test)]
-mod tests;
 
 pub use packet::{Lookups, look_packet};

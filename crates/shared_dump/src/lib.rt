@@ -20,6 +20,3 @@ mod listing;
 
 pub use dumping::{Dump, dump_sockets};
 pub use listing::list;
-
-#[cfg(test)]
-mod tests;

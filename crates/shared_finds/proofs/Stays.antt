@@ -27,9 +27,6 @@ module _ (v w : ReadView) (m : More v w) where
   pub found_on : (from : ℕ) (card : List ℕ) → FoundIn v from card → FoundIn w from card
   found_on from card c = record { nth = c.nth; receipt = c.receipt; there = m.receipts c.nth c.receipt c.there; found = c.found; later = c.later; card-is = c.card-is }
 
-  pub stopped_on : (from bucket : ℕ) (last : List Stop) → StoppedIn v from bucket last → StoppedIn w from bucket last
-  stopped_on from bucket last c = record { nth = c.nth; receipt = c.receipt; there = m.receipts c.nth c.receipt c.there; stopped = c.stopped; bucket-is = c.bucket-is; later = c.later; front = c.front; stops-are = c.stops-are }
-
   pub seen_on : (from from' : ℕ) (card : List ℕ) → from' ≤ from → SeenIn v from card → SeenIn w from' card
   seen_on from from' card low c = record { nth = c.nth; sighted = c.sighted; there = m.sighted c.nth c.sighted c.there; later = let z = c.later in omega arith; card-is = c.card-is }
 

@@ -252,8 +252,3 @@ pub has_port : (count : ℕ) (m : Mine) (end : End) (ports : List ℕ) (v : View
 has_port count m end ports v c state is plan =
     subst (λ (st : State). Went count (bind_as st m end ports) v v c c (ends (refused errors.Inval))) (sym is)
     (subst (λ p. Went count p v v c c (ends (refused errors.Inval))) (sym plan) (went_nowhere count (ends (refused errors.Inval)) v c))
-
--- and is handed back so
-pub answer_patient : (s : Sock) (owner : Owner) (addr : ℕ) (r : Result ℕ OpEnd) → IfErr r NotBusy → IfErr (bound_answer s owner addr r) (λ refusal. NotBusy refusal.1)
-answer_patient s owner addr (Ok port) h = tt
-answer_patient s owner addr (Err end) h = h

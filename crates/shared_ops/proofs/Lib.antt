@@ -14,7 +14,6 @@ pub mod SockGoes
 pub mod AcceptGoes
 mod SynGoes
 mod AckGoes
-mod Others
 mod ReapGoes
 pub mod Listed
 mod Lists

@@ -134,7 +134,3 @@ module _ (n : ℕ) (a : Owner) (v w : View) (p q : GroupPasses) where
   pub bound_lists : (s : Mine) (r : Result Mine OpEnd) → TellsAs (owner_key a % n) a false v w r → StartsLists false (owner_key a % n) a w p q r → ListsOfListen n (socks.Bound s) w p q (without_socket (listen_answer (socks.Bound s) r))
   bound_lists s (Ok l) tells lists = listens_there false l tells lists
   bound_lists s (Err end) tells lists = inl lists
-
-pub unbound_lists : (n : ℕ) (s : Mine) (w : View) (p q : GroupPasses) (r : Result Mine OpEnd) → StartsUnbound n s.owner.name w p q r → ListsOfListen n (socks.Unbound s) w p q (without_socket (listen_answer (socks.Unbound s) r))
-unbound_lists n s w p q (Ok l) lists = lists
-unbound_lists n s w p q (Err end) lists = lists

@@ -251,9 +251,6 @@ module _ (count : ℕ) (a : Owner) (source : ℕ) (to : End) (moment : ℕ) (rul
     seek_err end t = carried_both {X = Mine} done refused count a.name (search ports) (port_plan k.layout b moment rule (search left)) v u w c k d so_far s.1 (Err end)
         (subst (λ n. CarriedOut {X = Mine} done refused count n (port_plan k.layout b moment rule (search left)) u w k d (Err end)) (ap (λ (o : Owner). o.name) b_is) (tried_err count b moment rule u w k d (search left) end t))
 
-  pub seek_none : (rest : List ℕ) (u : View) (k : Side) → Seeking rest u k → rest ≡ [] → Went count (search ports) v u c k (ends (refused errors.NoPort))
-  seek_none rest u k s none = subst (λ ps. Went count (search ports) v u c k (search ps)) none s.0
-
 -- a port passed over is one port less to try
 pub enough : (most old new more : ℕ) (rest left : List ℕ) (port : ℕ) → rest ≡ port ∷ left → new ≡ old + 1 → old + (length rest + more) ≤ most → new + (length left + more) ≤ most
 enough most old new more rest left port here one le =

@@ -282,6 +282,7 @@ fn leave_port<P: Patience>(
         (known pass.new) passes.old passes.new) }
     ensures listed { KeepsListed (words_of_groups.groups tables.now.groups) (known pass.old)
         (known pass.new) passes.old passes.new }
+    ensures busy { IfErr result (λ cause. cause ≡ causes.Busy) }
     ensures patient { P.endless ≡ true → OnErr result ⊥ }
 {
     let Some(mut turn) = asking::take(patience, &tables.buckets, pass, owner) else {

@@ -31,8 +31,6 @@ mod room;
 mod searching;
 pub mod sock;
 pub mod tables;
-#[cfg(test)]
-mod tests;
 
 pub use accepting::accept;
 pub use binding::bind;

@@ -52,9 +52,6 @@ module _ (sought : Sought) (s : Survey) (v u w : View) (first : Seen) (o : Surve
 pub four_drawn : (v u w : View) → TwoDrawn v u → TwoDrawn u w → FourDrawn v w
 four_drawn v u w one two more share = two more (one (more + 2) (omega (arith, share)))
 
-pub two_of_four : (v w : View) → TwoDrawn v w → FourDrawn v w
-two_of_four v w one more share = one more (omega (arith, share))
-
 -- Where nobody comes first, the same of the list as it was walked
 
 pub out_of : (sought : Sought) (s : Survey) (v : View) → Surveyed sought s v.chain.walked → ((i : ℕ) → stands i v.chain.walked ≤ 1) → IsOut s.waiting v

@@ -20,8 +20,6 @@ mod handover;
 pub mod laws;
 mod leaving;
 mod survey;
-#[cfg(test)]
-mod tests;
 
 pub use coming::{InsertEnd, Inserted, add, insert};
 pub use handover::hand_over;

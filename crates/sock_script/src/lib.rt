@@ -37,8 +37,6 @@ pub mod parse;
 pub mod replies;
 pub mod run;
 pub mod shown;
-#[cfg(test)]
-mod tests;
 mod unwritten;
 mod word;
 

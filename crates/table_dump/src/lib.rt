@@ -12,6 +12,3 @@
 mod dumping;
 
 pub use dumping::dump;
-
-#[cfg(test)]
-mod tests;

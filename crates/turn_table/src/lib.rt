@@ -27,8 +27,6 @@ pub mod laws;
 mod note;
 mod pass;
 mod rule;
-#[cfg(test)]
-mod tests;
 mod view;
 
 pub use journaled::Journaled;

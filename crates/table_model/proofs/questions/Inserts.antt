@@ -15,7 +15,7 @@ use Rattle.chain_book.specs.Slots.{free_slot}
 use Rattle.chain_book.specs.Tuples.{same_cards}
 use Rattle.flat_list.specs.declared.socket.Socket.{Socket}
 use Rattle.flat_list.specs.Flat.{Flat}
-use Rattle.flat_list.specs.Look.{cards_of, extra_as}
+use Rattle.flat_list.specs.Look.{extra_as}
 use Rattle.flat_list.specs.Outcome.{has_slot as has_room}
 use Rattle.flat_list.specs.Sockets.{slots_used, without_waiting}
 use Rattle.flat_list.specs.Sound.{IsSound}
@@ -52,9 +52,6 @@ tried_full t None old owned held h = let parts = slot_full t (free_slot t.slots)
 tried_full t (Some k) old owned held h = absurd (cc)
 
 module _ (c : Chains) (flat : Flat) (m : ChainsMean c flat) where
-  abbrev in_all : ℕ
-  in_all = total (λ (x : Card). 1) (cards_of flat.groups flat.sockets)
-
   -- a slot is found exactly where the list has one
   pub room_found : (slot : ℕ) → free_slot c.slots ≡ Some slot → has_room flat ≡ true
   room_found slot h =

@@ -1,6 +1,0 @@
-use Rattle.race_threads.proofs.ForRace.{scripts_are_for_race}
-use Rattle.race_threads.proofs.tests.raced.Goals as goal
-
-pub race-requires-clause-script : goal.race-requires-clause-script
-race-requires-clause-script g c = λ lives within.
-    scripts_are_for_race c.args.text.now c.in_ok-script.script c.in_ok-script.ensures.script (c.in_ok-script.ensures.small c.requires)

@@ -1,8 +1,0 @@
-use Rattle.std.proofs.Common.{arith}
-use Rattle.shared_sockets.proofs.tests.come_after.Goals as goal
-
-pub time_wait-requires-clause-share : goal.time_wait-requires-clause-share
-time_wait-requires-clause-share g c = let z = c.insert.ensures.share 8 c.requires.share in omega (arith, z)
-
-pub come-requires-clause-share : goal.come-requires-clause-share
-come-requires-clause-share g c = c.time_wait.ensures.share 4 (c.insert.ensures.share 8 c.requires.share)

@@ -1,0 +1,151 @@
+//! Callers and lookers of one set of tables, with what each call tells.
+
+use chain_book::{PacketAnswer, PacketLook};
+use flat_calls::outcome::{count_of, end_of, errno_of, leaves_time_wait};
+use flat_calls::{Outcome, commands};
+use flat_list::header::NONE_RESERVED;
+use flat_list::{Command, End, Header, Options, Range, Shape};
+use patience::Tries;
+use shared_calls::{Caller, Looker, SharedTables};
+use sock_card::{Kind, Packet};
+use std::alloc::{AllocError, Global};
+use std::test::Fail;
+
+const HEADER: Header = Header {
+    shape: Shape {
+        slots: 4,
+        bind: 16,
+        hash: 16,
+        listen: 4,
+    },
+    range: Range {
+        low: 32768,
+        high: 60999,
+        reserved: NONE_RESERVED,
+    },
+    seed: 7,
+    offset: None,
+    twreuse: false,
+};
+
+const PLAIN: Options = Options {
+    net: None,
+    uid: None,
+    dev: None,
+    reuseaddr: false,
+    reuseport: false,
+    noport: false,
+};
+
+const HERE: End = End {
+    addr: 0x0A00_0001,
+    port: 80,
+};
+
+const THERE: End = End {
+    addr: 0x0A00_0002,
+    port: 5,
+};
+
+const PACKET: Packet = Packet {
+    src: THERE.addr,
+    sport: THERE.port,
+    dst: HERE.addr,
+    dport: HERE.port,
+    dev: 0,
+    net: 0,
+};
+
+/// What the names of the first caller's sockets have above their lower 24 bits.
+const FIRST: u32 = 0x100_0000;
+
+/// A caller and a looker of new tables, with the tables.
+fn open(alloc: Global) -> Result<(SharedTables, Caller, Looker), AllocError> {
+    let mut tables = SharedTables::new(alloc, &HEADER)?;
+    let (Ok(caller), Ok(looker)) = (tables.caller(alloc), tables.looker(alloc)) else {
+        return Err(AllocError);
+    };
+    Ok((tables, caller, looker))
+}
+
+/// Two callers of new tables, with the tables.
+fn open_two(alloc: Global) -> Result<(SharedTables, Caller, Caller), AllocError> {
+    let mut tables = SharedTables::new(alloc, &HEADER)?;
+    let (Ok(first), Ok(second)) = (tables.caller(alloc), tables.caller(alloc)) else {
+        return Err(AllocError);
+    };
+    Ok((tables, first, second))
+}
+
+/// A bound socket of the caller's, with its number.
+fn bind_here(caller: &mut Caller) -> (u32, Outcome) {
+    let number = caller.next_number();
+    caller.call(&Tries(0), &commands::socket(number, PLAIN));
+    (
+        number,
+        caller.call(&Tries(0), &commands::bind(number, HERE)),
+    )
+}
+
+/// A listener of the caller's, with its number.
+fn listen_here(caller: &mut Caller) -> (u32, Outcome) {
+    let (number, _) = bind_here(caller);
+    (number, caller.call(&Tries(0), &commands::listen(number)))
+}
+
+/// A connection of that listener, with its number.
+fn accept_there(caller: &mut Caller, listener: u32) -> (u32, Outcome) {
+    let number = caller.next_number();
+    let command = commands::accept(listener, number, THERE, HERE);
+    (number, caller.call(&Tries(0), &command))
+}
+
+/// What a looker finds: the kind of socket and its name.
+fn found(looker: &mut Looker) -> Option<(Kind, u32)> {
+    let PacketLook { end, .. } = looker.look(&PACKET, 1);
+    match end {
+        PacketAnswer::Found(card) => Some((card.kind, card.name)),
+        PacketAnswer::None | PacketAnswer::Again(..) => None,
+    }
+}
+
+#[test]
+fn a_connection_is_found_by_its_callers_number_and_its_own(rt: HostRuntime) -> Result<(), Fail> {
+    let (_tables, mut caller, mut looker) = open(rt.alloc())?;
+    let (listener, listening) = listen_here(&mut caller);
+    assert_eq!(rt; end_of(listening).port, 80);
+    assert_eq!(rt; found(&mut looker), Some((Kind::Listen, FIRST | listener)));
+    let (child, accepted) = accept_there(&mut caller, listener);
+    assert_eq!(rt; errno_of(accepted), 0);
+    assert_eq!(rt; found(&mut looker), Some((Kind::Full, FIRST | child)));
+    let closed = caller.call(&Tries(0), &commands::close(child));
+    assert_eq!(rt; leaves_time_wait(closed), true);
+    assert_eq!(rt; found(&mut looker), Some((Kind::TimeWait, FIRST | child)));
+    caller.call(&Tries(0), &Command::At { moment: 60 });
+    assert_eq!(rt; count_of(caller.call(&Tries(0), &Command::Reap)), 1);
+    assert_eq!(rt; found(&mut looker), Some((Kind::Listen, FIRST | listener)));
+    Ok(())
+}
+
+#[test]
+fn callers_have_numbers_and_sockets_of_their_own(rt: HostRuntime) -> Result<(), Fail> {
+    let (_tables, mut first, mut second) = open_two(rt.alloc())?;
+    assert_eq!(rt; (first.number(), second.number()), (1, 2));
+    let (listener, _) = listen_here(&mut first);
+    let (_, refused) = bind_here(&mut second);
+    assert_eq!(rt; errno_of(refused), 98);
+    let (_, strange) = accept_there(&mut second, listener | 8);
+    assert_eq!(rt; errno_of(strange), 9);
+    Ok(())
+}
+
+#[test]
+fn what_was_handed_out_outlives_the_tables(rt: HostRuntime) -> Result<(), Fail> {
+    let (tables, mut caller, mut looker) = open(rt.alloc())?;
+    drop(tables);
+    let (listener, listening) = listen_here(&mut caller);
+    assert_eq!(rt; errno_of(listening), 0);
+    drop(caller);
+    assert_eq!(rt; found(&mut looker), Some((Kind::Listen, FIRST | listener)));
+    Ok(())
+}
