@@ -27,7 +27,3 @@ pub enough_after : (old new : Kept) (w u : Worker) → MayEnter (2 * 65540 + len
 enough_after old new w u enters draws spends =
     let entered = spends.entered in
     record { enters = omega arith; draws = spends.drawn 6 (omega arith) }
-
--- and what a section may still draw that has no TIME_WAIT
-pub draws_after : (old new : Kept) (w u : Worker) (n many : ℕ) → length old.own.waits ≡ 0 → MayDraw many w → n + 6 ≤ many → Spends old new w u → MayDraw (n + 2 * length new.own.waits) u
-draws_after old new w u n many none draws enough spends = spends.drawn n (omega arith)
