@@ -2,7 +2,7 @@
 
 use crate::tests::{PLAIN, call};
 use inet_tool::Status;
-use std::alloc::{AllocError, Global};
+use std::alloc::Global;
 use std::random::RandomSource;
 use std::sync::Wait;
 use std::test::Fail;
@@ -39,35 +39,20 @@ pub const BLOCKS: &str = "
     06000000 48000000 00000000 00000000 00000000 26000000 26000000
     000000000000 000000000000 0800 45000028 00000000 40060000 0a000002 0a000001 03e80050 0000";
 
-/// The value of a digit of hexadecimal.
-fn digit_of(byte: u8) -> Option<u8> {
-    match byte {
-        b'0'..=b'9' => Some(byte - b'0'),
-        b'a'..=b'f' => Some(byte - b'a' + 10),
-        _ => None,
-    }
-}
-
-/// Adds bytes written in hexadecimal, blanks aside.
-fn add_hex(bytes: &mut Vec<u8>, text: &str) -> Result<(), AllocError> {
-    let mut high = None;
-    for low in text.bytes().filter_map(digit_of) {
-        high = match high {
-            None => Some(low),
-            Some(high) => {
-                bytes.push(u8::wrapping_mul(high, 16).wrapping_add(low))?;
-                None
-            }
-        };
+/// Adds bytes written in hexadecimal, with blanks between some of them.
+fn add_hex(bytes: &mut Vec<u8>, alloc: Global, text: &str) -> Result<(), Fail> {
+    for word in text.split_ascii_whitespace() {
+        let part = hex::decode(alloc, word)?;
+        bytes.extend_from_slice(part.as_slice())?;
     }
     Ok(())
 }
 
 /// A text, and the bytes of some parts in hexadecimal behind it.
-pub fn input_of(alloc: Global, text: &str, parts: &[&str]) -> Result<Vec<u8>, AllocError> {
+pub fn input_of(alloc: Global, text: &str, parts: &[&str]) -> Result<Vec<u8>, Fail> {
     let mut bytes = text.as_bytes().to_vec(alloc)?;
     for part in parts {
-        add_hex(&mut bytes, part)?;
+        add_hex(&mut bytes, alloc, part)?;
     }
     Ok(bytes)
 }
@@ -78,7 +63,7 @@ fn writes(
     text: &str,
     parts: &[&str],
     wanted: [&str; 2],
-) -> Result<bool, AllocError> {
+) -> Result<bool, Fail> {
     let input = input_of(rt.alloc(), text, parts)?;
     let (status, written) = call(rt, &["inet", "run"], input, PLAIN)?;
     let mut out = wanted[0].as_bytes().to_vec(rt.alloc())?;

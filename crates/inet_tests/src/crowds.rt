@@ -50,7 +50,7 @@ const PORT_SECTIONS: [(&str, [&str; 3]); 3] = [
 ];
 
 /// A script of so many sections that are alike, with a capture of four packets.
-fn crowd(alloc: Global, header: &str, section: &str, count: u32) -> Result<Vec<u8>, AllocError> {
+fn crowd(alloc: Global, header: &str, section: &str, count: u32) -> Result<Vec<u8>, Fail> {
     let mut text = String::from_str(alloc, header)?;
     for number in 1..=count {
         write!(text, "script {number}\n{section}")?;

@@ -4,7 +4,6 @@ use crate::captures::{HEADER, RECORDS, input_of};
 use crate::tests::words_of;
 use inet_io::{Gate, MemSink, MemSource, Who};
 use inet_tool::{Status, inet};
-use std::alloc::AllocError;
 use std::hint;
 use std::random::RandomSource;
 use std::sync::Wait;
@@ -93,7 +92,7 @@ fn race<G: Gate>(
     lookers: &str,
     script: &str,
     gate: &G,
-) -> Result<(Status, Vec<u8>), AllocError> {
+) -> Result<(Status, Vec<u8>), Fail> {
     let alloc = rt.alloc();
     let words = ["inet", "race", "--lookers", lookers, "--passes", "1"];
     let words = words_of(alloc, &words)?;

@@ -1,6 +1,6 @@
 use capture_reader::{CaptureEnd, Item, packets};
 use sock_card::Packet;
-use std::alloc::{AllocError, Global};
+use std::alloc::Global;
 use std::test::Fail;
 
 /// A header of an Ethernet capture from a machine with the lowest byte first.
@@ -59,35 +59,20 @@ const LOOPBACK: &str = "
     00000101080a00005c000000060000005c00000000000000446106005e09c3e73a00000042000000000000000000000000000000
     0800450000342c304000400610927f0000017f0000019c411f90e6d6bee8aa79d9d780100040fe2800000101080a00005c000000";
 
-/// The value of a digit of hexadecimal.
-fn digit_of(byte: u8) -> Option<u8> {
-    match byte {
-        b'0'..=b'9' => Some(byte - b'0'),
-        b'a'..=b'f' => Some(byte - b'a' + 10),
-        _ => None,
-    }
-}
-
-/// Adds bytes written in hexadecimal, blanks aside.
-fn add_hex(bytes: &mut Vec<u8>, text: &str) -> Result<(), AllocError> {
-    let mut high = None;
-    for low in text.bytes().filter_map(digit_of) {
-        high = match high {
-            None => Some(low),
-            Some(high) => {
-                bytes.push(u8::wrapping_mul(high, 16).wrapping_add(low))?;
-                None
-            }
-        };
+/// Adds bytes written in hexadecimal, with blanks between some of them.
+fn add_hex(bytes: &mut Vec<u8>, alloc: Global, text: &str) -> Result<(), Fail> {
+    for word in text.split_ascii_whitespace() {
+        let part = hex::decode(alloc, word)?;
+        bytes.extend_from_slice(part.as_slice())?;
     }
     Ok(())
 }
 
 /// A capture of those parts, in hexadecimal.
-fn capture_of(alloc: Global, header: &str, records: &str) -> Result<Vec<u8>, AllocError> {
+fn capture_of(alloc: Global, header: &str, records: &str) -> Result<Vec<u8>, Fail> {
     let mut bytes = Vec::new(alloc);
-    add_hex(&mut bytes, header)?;
-    add_hex(&mut bytes, records)?;
+    add_hex(&mut bytes, alloc, header)?;
+    add_hex(&mut bytes, alloc, records)?;
     Ok(bytes)
 }
 
@@ -98,7 +83,7 @@ fn reads(
     records: &str,
     items: &[Item],
     cut: bool,
-) -> Result<bool, CaptureEnd> {
+) -> Result<bool, Fail> {
     let capture = packets(alloc, &capture_of(alloc, header, records)?, 0, 0)?;
     Ok(capture.items() == items && capture.is_cut() == cut)
 }
@@ -279,7 +264,7 @@ fn each_test_of_a_stored_packet(rt: HostRuntime) -> Result<(), Fail> {
         ),
     ] {
         let mut bytes = capture_of(rt.alloc(), HEADER, "00000000 00000000")?;
-        add_hex(&mut bytes, record)?;
+        add_hex(&mut bytes, rt.alloc(), record)?;
         let capture = packets(rt.alloc(), &bytes, 0, 0)?;
         assert!(rt; capture.items() == [item].as_slice(), "{record}");
         assert!(rt; !capture.is_cut(), "{record}");
