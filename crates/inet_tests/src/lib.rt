@@ -4,8 +4,6 @@
 #![tactic(auto)]
 
 #[cfg(test)]
-mod alone;
-#[cfg(test)]
 mod audits;
 #[cfg(test)]
 mod captures;
@@ -16,13 +14,9 @@ mod cuts;
 #[cfg(test)]
 mod dumps;
 #[cfg(test)]
-mod engines;
-#[cfg(test)]
 mod handshakes;
 #[cfg(test)]
 mod linux;
-#[cfg(test)]
-mod lookups;
 #[cfg(test)]
 mod meeting;
 #[cfg(test)]

@@ -1,5 +1,5 @@
 use Rattle.race_threads.proofs.ForRace.{scripts_are_for_race}
-use Rattle.inet_tests.proofs.alone.raced.Goals as goal
+use Rattle.run_tests.proofs.alone.raced.Goals as goal
 
 pub race-requires-clause-script : goal.race-requires-clause-script
 race-requires-clause-script g c = λ lives within.
