@@ -1,9 +1,9 @@
 -- What a plan asks of chains, and what it comes to, whatever the tables answer that can be written.
 use Rattle.std.proofs.Common.{◌≡◌, ◌<◌, ◌^◌, List, [], ◌∷◌, Option, None, Some, sym, ap, ◌∙◌, subst}
 use Rattle.list_words.specs.Lists.{Each}
+use Rattle.list_words.proofs.EachLemmas.{each_back, each_front}
 use Rattle.sock_card.specs.declared.card.Card.{Card}
 use Rattle.race_book.specs.Lives.{is_hash}
-use Rattle.race_book.proofs.Joined.{each_front, each_back}
 use Rattle.std.proofs.lemmas.Bool.{true≢false}
 use Rattle.chain_book.specs.declared.book.Act.TheVariants as acts
 use Rattle.chain_book.specs.declared.book.Change.{Change}

@@ -1,6 +1,7 @@
 -- The packets of a capture: their numbers are in range, since they stand in bytes.
 use Rattle.std.proofs.Common.{◌≡◌, ℕ, suc, ◌+◌, ◌<◌, ◌≤◌, ◌^◌, ◌==◌, ◌||◌, not, nat_lt, Bool, true, false, List, [], ◌∷◌, ◌++◌, length, length-append, length-drop, drop, Option, None, Some, if◌then◌else◌, sym, ap, subst, arith, inl, inr}
 use Rattle.list_words.specs.Lists.{Each}
+use Rattle.list_words.proofs.EachLemmas.{each_back, each_front}
 use Rattle.capture_reader.specs.declared.header.Link.{Link}
 use Rattle.capture_reader.specs.declared.header.Link.TheVariants as links
 use Rattle.capture_reader.specs.declared.header.Header.{Header}
@@ -15,7 +16,6 @@ use Rattle.capture_reader.specs.Blocks.{AreBlocks, after, item_on, items_of, sto
 use Rattle.capture_reader.specs.Captures.{Capture}
 use Rattle.capture_reader.specs.Grammar.{AreRecords, IsCapture}
 use Rattle.record_reader.specs.Forms.{PacketFits}
-use Rattle.race_book.proofs.Joined.{each_front, each_back}
 use Rattle.audit_laws.proofs.Names.{AreBytes as Bytes, at_below, taken_below, left_below}
 
 each_byte : (bytes : List ℕ) → AreBytes bytes → Bytes bytes

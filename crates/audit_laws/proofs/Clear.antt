@@ -28,7 +28,7 @@ use Rattle.audit_laws.proofs.Ascending.{IsOfBook, life_back, up_lives}
 use Rattle.audit_laws.proofs.Renamed.{IsEndOf, end_of, ending_is}
 use Rattle.audit_laws.proofs.Explained.{home_told}
 
--- the lives of a serial book pass each test of lives, however names are told
+-- the lives of a serial book pass each test of lives, whatever numbers stand for its names
 pub record LivesPass (shape : Shape) (seed clock : ℕ) (number : ℕ → ℕ) (book : List Change) : Type 0 where
   pub stamped : AreStamped clock (told_lives number book)
   pub housed : AreHoused shape seed (told_lives number book)

@@ -1,4 +1,4 @@
--- What is told of a book's lives has as many changes as the book.
+-- The printed lives of a book have as many changes as the book.
 use Rattle.std.proofs.Common.{◌≡◌, ◌≢◌, ℕ, ◌+◌, ◌≤◌, List, [], ◌∷◌, length, map, refl, sym, ap, ◌∙◌, subst, arith, ◌⊎◌, inl, inr}
 use Rattle.std.proofs.lemmas.List.{length-map}
 use Rattle.list_words.specs.Lists.{Pairs}

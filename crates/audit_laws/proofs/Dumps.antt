@@ -1,5 +1,5 @@
 -- What the dumps of a lawful race list can be written: the counts are in range,
--- and so is what is told of each socket.
+-- and so is what is written of each socket.
 use Rattle.std.proofs.Common.{◌≡◌, ◌≢◌, ℕ, ◌<◌, ◌≤◌, ◌^◌, List, [], ◌∷◌, length, map, Some, refl, sym, subst, arith}
 use Rattle.std.proofs.lemmas.List.{length-map}
 use Rattle.list_words.specs.Lists.{Each, Pairs}

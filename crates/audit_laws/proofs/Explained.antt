@@ -1,4 +1,4 @@
--- What changes explain is explained by what is told of their lives.
+-- What changes explain is explained by their lives as they are printed.
 use Rattle.std.proofs.Common.{◌≡◌, ℕ, ◌+◌, ◌≤◌, List, refl, sym, ap, ◌∙◌, subst}
 use Rattle.sock_card.specs.declared.card.Card.{Card}
 use Rattle.sock_card.specs.declared.card.Kind.{Kind}
@@ -29,7 +29,7 @@ module _ (number : ℕ → ℕ) where
   rank_by kinds.Listen c p = refl
   rank_by kinds.Request c p = refl
 
-  -- a card's rank is what its line tells of it
+  -- a card's rank is that of the card that its line gives
   pub rank_told : (c : Card) (p : Packet) → rank (told_card number c) p ≡ rank c p
   unfolding rank
   rank_told c p = rank_by c.kind c p
@@ -45,7 +45,7 @@ module _ (number : ℕ → ℕ) where
   unfolding home
   home_told shape seed c = home_by c.kind shape seed c
 
-  -- an answer as lines tell it
+  -- an answer as lines give it
   abbrev pub renamed_answer : PacketAnswer → PacketAnswer
   renamed_answer (answers.Found card) = answers.Found (told_card number card)
   renamed_answer answers.None = answers.None
@@ -89,7 +89,7 @@ module _ (number : ℕ → ℕ) where
     life_told : (h : Change) → IsLife In h → IsLife There (Ren h)
     life_told h l = record { there = there h l.there; hash = l.hash }
 
-    -- what ends a told life tells of what ends the life
+    -- where lines give a change as the end of a life, it ends that life
     ends_back : (h u : Change) → Ends There (Ren h) (Ren u) → In u → Ends In h u
     ends_back h u e i = record { there = i; after = e.after; first = λ c a t. e.first (Ren c) (there c a) t }
 
@@ -150,7 +150,7 @@ module _ (number : ℕ → ℕ) where
       answer_told slots answers.None n = none_told 1 n
       answer_told slots (answers.Again bucket end) m = end_told slots bucket t0 t1 end m
 
-    -- what is told of a lookup is explained by what is told of the lives
+    -- a printed lookup is explained by the printed lives
     pub look_explained : (shape : Shape) (r : Receipt) → IsExplained In shape r → NamesItsBucket shape r.seed r.packet r.answer → IsLookExplained shape r.seed (told_lives number book) (told_look number r)
     look_explained shape r e n = record {
       answer = renamed_answer r.answer;

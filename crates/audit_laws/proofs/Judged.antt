@@ -37,7 +37,7 @@ use Rattle.audit_laws.proofs.Clear.{LivesPass, lives_pass}
 use Rattle.audit_laws.proofs.Counted.{as_many}
 use Rattle.audit_laws.proofs.Explained.{look_explained}
 
--- a printed race is what is told of that one, where names are told by those numbers
+-- a printed race is that race as its text gives it, with those numbers for names
 pub record Tells (number : ℕ → ℕ) (race : Race) (p : Printed) : Type 0 where
   pub shape : p.shape ≡ race.shape
   pub seed : p.seed ≡ race.seed
@@ -86,7 +86,7 @@ module _ (script : Script) (capture : Capture) (race : Race) (l : Lawful script 
   receipts = all_explained number race.book apart race.shape race.seed race.clock l.serial capture.items race.looked l.items
 
   module _ (p : Printed) (t : Tells number race p) where
-    -- what was told at another clock, as if each further number had been drawn in vain
+    -- the printed race with another clock, as if each further number had been drawn in vain
     later : ℕ → ℕ → Printed
     later clock vain = record p { clock = clock; vain = vain }
 

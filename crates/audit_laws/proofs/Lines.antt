@@ -35,11 +35,11 @@ use Rattle.audit_laws.proofs.Printed.{told_end}
 use Rattle.audit_laws.proofs.Rows.{Row}
 use Rattle.book_audit.proofs.Lives.{span_of}
 
--- the row of a line that tells its words
+-- the row of a line, with its words
 abbrev pub row : Line → Row
 row line = record { words = line_words line; line = line }
 
--- what a line tells of a command
+-- what a line says of a command
 abbrev pub subject_words : Command → List (List ℕ)
 subject_words (commands.Socket label options) = codes "socket" ∷ label ∷ []
 subject_words (commands.Bind label end) = codes "bind" ∷ label ∷ []

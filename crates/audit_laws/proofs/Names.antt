@@ -67,7 +67,7 @@ field_below label e =
     each_append (λ b. b < 256) label (replicate (16 - length label) 0)
     (bytes_below label (and_right (nat_le 1 (length label) && nat_le (length label) 16) (list_all is_label_byte label) e)) (zeros_below (16 - length label))
 
--- a name tells its label
+-- a name gives its label back
 pub label_back : (section : ℕ) (label : List ℕ) → is_label label ≡ true → label_of (name_of section label) ≡ label
 unfolding label_of name_of
 label_back section label e =

@@ -1,4 +1,4 @@
--- What lines tell of a race's lives and lookups, where each name of a socket is told by some number: our own.
+-- What lines say of a race's lives and lookups, where some number stands for each name of a socket: our own.
 use Rattle.std.proofs.Common.{ℕ, List, map}
 use Rattle.std.specs.Option.{option_map}
 use Rattle.sock_card.specs.declared.card.Card.{Card}
@@ -28,9 +28,9 @@ told_end (ends.Dead s) = printed_ends.Dead s
 told_end (ends.Changed s) = printed_ends.Changed s
 told_end (ends.Long n) = printed_ends.Long n
 
--- `number`: the number by which a name is told
+-- `number`: the number that stands for a name
 module _ (number : ℕ → ℕ) where
-  -- a card, but for what no line tells of it
+  -- a card, but for what no line says of it
   abbrev pub told_card : Card → Card
   told_card c = record c { name = number c.name; extra = 0 }
 

@@ -1,4 +1,4 @@
--- The book of what is told of lives is the book itself, but for what no line tells of a card.
+-- The book of the printed lives is the book itself, but for what no line says of a card.
 use Rattle.std.proofs.Common.{◌≡◌, ℕ, ◌<◌, ◌==◌, ◌&&◌, nat_lt, true, List, Option, None, Some, refl, sym, ap, ◌∙◌, subst, arith}
 use Rattle.std.specs.Option.{option_map}
 use Rattle.std.proofs.lemmas.Bool.{ltb-true, eqb-true}
@@ -35,7 +35,7 @@ follows h u t =
       later = ltb-true h.end u.begin (and_right (is_unhash u.act && (u.slot == h.slot)) (nat_lt h.end u.begin) t);
     }
 
--- the change of which a span is told
+-- the change whose span it is
 record SpanOf (o : Option Change) (s : Span) : Type 0 where
   change : Change
   is : o ≡ Some change
@@ -46,7 +46,7 @@ span_back None s e = absurd (cc)
 span_back (Some u) s e = record { change = u; is = refl; span = cc }
 
 module _ (number : ℕ → ℕ) (book : List Change) (apart : BeginApart book) (ends : EachEndsOne (Among book)) where
-  -- a change as lines tell it
+  -- a change as lines give it
   abbrev pub renamed : Change → Change
   renamed c = record c { card = told_card number c.card }
 
@@ -106,11 +106,11 @@ module _ (number : ℕ → ℕ) (book : List Change) (apart : BeginApart book) (
   told_by c i acts.Hash e = hash_told c i e
   told_by c i acts.Unhash e = unhash_told c i e
 
-  -- each change is told
+  -- each change is in the book of the printed lives, as lines give it
   pub is_told : (c : Change) → Among book c → Told (renamed c)
   is_told c a = told_by c a c.act refl
 
-  -- the change that is told
+  -- the change that lines give as this one
   pub record TellsOf (d : Change) : Type 0 where
     pub change : Change
     pub there : Among book change
@@ -148,7 +148,7 @@ module _ (number : ℕ → ℕ) (book : List Change) (apart : BeginApart book) (
   back_of l b d (by_hash p) = back_hash l b d p
   back_of l b d (by_unhash s e p) = back_unhash l b s e d p
 
-  -- each told change tells of one
+  -- each change of the printed lives is one of the book, as lines give it
   pub tells_of : (d : Change) → Told d → TellsOf d
   tells_of d a =
       let w : Whose (told_lives number book) d = whose (told_lives number book) d a in

@@ -245,7 +245,7 @@ end_apart addr port = false_from_ne_true (bytes_eq (end_text addr port) (codes "
     (λ e. is_found 58 (addr_text addr) (decimal port)
     (ap (position (is_byte 58)) (sym (end_text-cut addr port) ∙ (bytes_eq-Decides (end_text addr port) (codes "no-slot")).0 e) ∙ refl))
 
--- a reply's words tell of a slot that was sought in vain where it drew a number for one
+-- a reply's words say that a slot was sought in vain where it drew a number for one
 tells_drew : (reply : Reply) → ReplyFits reply → drew_for reply ≡ tells_vain (reply_words reply)
 tells_drew replies.Ok f = refl
 tells_drew (replies.Port port) f = sym (number_apart port (omega (arith, f)))

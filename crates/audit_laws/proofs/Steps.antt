@@ -68,7 +68,7 @@ got P [] k f l = absurd (omega (arith, l))
 got P (x ∷ xs) zero f l = f.0
 got P (x ∷ xs) (suc k) f l = got P xs k f.1 (omega (arith, l))
 
--- what is told of a card whose numbers are in range, and whose name is a label's
+-- a card whose numbers are in range, and whose name is a label's
 pub record CardTold (sections : List (List Command)) (c : Card) : Type 0 where
   pub local : EndIn c.local c.lport
   pub remote : EndIn c.remote c.rport
@@ -251,7 +251,7 @@ book_told sections book changes same told c a e =
 pub all_told : (sections : List (List Command)) (race : Race) → Each (Each (StepTold sections)) race.sections → Each (HashesGood (CardTold sections)) (changes_in (all_deeds race))
 all_told sections race h = changes_told sections (steps_of race) (each_flat (StepTold sections) (λ steps. steps) race.sections h)
 
--- cards that are others, each as often, are told as these are
+-- cards that are others, each as often, are in range and named as these are
 pub cards_told : (sections : List (List Command)) (cards others : List Card) → SameItems cards others → Each (CardTold sections) others → Each (CardTold sections) cards
 cards_told sections cards others same told = to_each (CardTold sections) cards (λ c a.
     let many : 1 ≤ total (counts (alike c)) others = subst (λ n. 1 ≤ n) (same (counts (alike c))) (counted (alike c) cards c a (alike_itself c)) in

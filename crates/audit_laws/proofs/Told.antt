@@ -1,4 +1,4 @@
--- What the lines of a race tell the judge.
+-- What the judge gets from the lines of a race.
 use Rattle.std.proofs.Common.{◌≡◌, ℕ, ◌+◌, ◌==◌, Bool, true, false, cond, List, [], ◌∷◌, ◌++◌, length, append-nil, map, filter, count_by, Option, None, if◌then◌else◌, refl, sym, ap, ◌∙◌, arith}
 use Rattle.std.specs.List.{filter_map, flat_map}
 use Rattle.std.proofs.lemmas.List.Elements.{filter_map-append}
@@ -66,7 +66,7 @@ cut_are : (cut : Bool) → AreOf 6 (cut_lines cut)
 cut_are true = (refl, tt)
 cut_are false = tt
 
--- lines of which nothing is told so
+-- lines from which nothing is taken
 nothing_told : {X : Type 0} (f : Line → Option X) (k : ℕ) → ((line : Line) → rank line ≡ k → f line ≡ None) → (all : List Line) → AreOf k all → filter_map f all ≡ []
 nothing_told f k none [] h = refl
 nothing_told f k none (line ∷ rest) h = rw (none line h.0) (nothing_told f k none rest h.1)
@@ -97,7 +97,7 @@ module _ (number : Name → ℕ) where
   packet_none k apart (lines.Clock c) e = refl
 
   module _ (sections : List (List Command)) where
-    -- the number by which a name is told
+    -- the number that stands for a name
     abbrev pub numbered : ℕ → ℕ
     numbered name = number (told_name sections name)
 
@@ -127,7 +127,7 @@ module _ (number : Name → ℕ) where
         ∙ filter_map-append (life_in number) (cut_lines race.cut) (lines.Clock race.clock ∷ [])
         ∙ ap (λ ls. ls ++ []) (nothing_told (life_in number) 6 (life_none 6 (λ e. omega (arith, e))) (cut_lines race.cut) (cut_are race.cut))
 
-    -- the lives that the lines tell
+    -- the lives that the lines give
     pub lives_told : (race : Race) → filter_map (life_in number) (race_lines sections race) ≡ told_lives numbered race.book
     lives_told race =
         let lives = life_lines sections (lives_of race.book) in

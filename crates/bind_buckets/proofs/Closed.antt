@@ -3,7 +3,7 @@ use Rattle.std.proofs.Common.{◌≡◌, ℕ, ◌+◌, List, [], ◌∷◌, leng
 use Rattle.std.proofs.lemmas.List.{length-map}
 use Rattle.std.specs.Global.{Box}
 use Rattle.list_words.specs.Lists.{total, SameItems}
-use Rattle.list_words.proofs.TotalLemmas.{total-append}
+use Rattle.list_words.proofs.TotalLemmas.{total-append, total-ones}
 use Rattle.turn_table.specs.Values.{AllFit, all_placed}
 use Rattle.turn_table.specs.Journals.{placed}
 use Rattle.turn_table.specs.declared.note.Placed.{Placed}
@@ -26,21 +26,17 @@ pub all_left : (home : Sharing) (i n : ℕ) (bs : List (Box Bucket)) → AllFit 
 all_left home i n [] fit = tt
 all_left home i n (b ∷ bs) fit = (one_left home i n b fit.0, all_left home (i + 1) n bs fit.1)
 
-ones : {A : Type 0} (xs : List A) → total (λ (x : A). 1) xs ≡ length xs
-ones [] = refl
-ones (x ∷ xs) = omega (arith, ones xs)
-
 counted : (i : ℕ) (bs : List (Box Bucket)) → total (λ (x : Placed Entry). 1) (all_placed notes_in i bs) ≡ total count_in bs
 counted i [] = refl
 counted i (b ∷ bs) =
     total-append (λ (x : Placed Entry). 1) (map (placed i) b.value.journal) (all_placed notes_in (i + 1) bs)
-    ∙ (let front = ones (map (placed i) b.value.journal) in
+    ∙ (let front = total-ones (map (placed i) b.value.journal) in
     let long = length-map b.value.journal (placed i) in
     let rest = counted (i + 1) bs in
     omega (arith, front, long, rest))
 
 pub all_counted : (given : List (Placed Entry)) (bs : List (Box Bucket)) → SameItems (all_placed notes_in 0 bs) given → total count_in bs ≡ length given
-all_counted given bs same = sym (counted 0 bs) ∙ (same (λ x. 1) ∙ ones given)
+all_counted given bs same = sym (counted 0 bs) ∙ (same (λ x. 1) ∙ total-ones given)
 
 module _ {X E : Type 0} (items : X → List (Box Bucket)) where
   pub left_if : (home : Sharing) (n : ℕ) (r : Result X E) → IfOk r (λ v. (length (items v) ≡ n) × AllFit (FitsAt home) 0 n (items v)) → IfOk r (λ v. AreLeft 0 n (items v))

@@ -10,7 +10,7 @@ mod StaysAgreed
 mod Journals
 mod StaysSound
 mod StaysKept
-mod StaysGrouped
+pub mod StaysGrouped
 mod Told
 mod RoomToGo
 mod RoomLeft

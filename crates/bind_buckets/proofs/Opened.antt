@@ -13,10 +13,6 @@ use Rattle.bind_buckets.specs.Callers.{MayMake, MayCall}
 use Rattle.bind_buckets.specs.Closed.{AreNew}
 use Rattle.bind_buckets.specs.Turned.{Hash, Pass, IsIdle, AreLawful}
 
-pub longer : {A : Type 0} (l : List A) (x : A) → length (l ++ x ∷ []) ≡ length l + 1
-longer [] x = refl
-longer (y ∷ ys) x = omega (arith, longer ys x)
-
 sound_new : (number buckets : ℕ) → number < buckets → buckets ≤ 256 → IsSound (new_bucket number buckets)
 sound_new number buckets lt few = record {
   number = lt;

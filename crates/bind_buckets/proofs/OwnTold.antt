@@ -408,7 +408,7 @@ module _ (mine : ℕ → Bool) (name : ℕ) where
       ap (λ b. cond b (x.entry ∷ filter (is_told more) (entries_of xs)) (filter (is_told more) (entries_of xs))) (same_speaks x.entry.request none.0)
       ∙ ap (λ es. cond (is_told mine x.entry) (x.entry ∷ es) es) (same_told_more xs none.1)
 
-  -- none of the entries that are told is about it
+  -- none of the entries that `is_told` keeps is about it
   about_by : (e : Entry) (xs : List Entry) (r s t : Bool) → removes_waiting e.request ≡ r → speaks_of it e.request ≡ s → (not r && s) ≡ false → filter (is_about it) xs ≡ [] → filter (is_about it) (cond (not r && t) (e ∷ xs) xs) ≡ []
   about_by e xs true s t removes speaks none rest = rest
   about_by e xs false true t removes speaks none rest = absurd (false≢true (sym none))

@@ -1,4 +1,4 @@
--- What a call's answer tells of the bucket before it, and after.
+-- What a call's answer says of the bucket before it, and after.
 use Rattle.std.proofs.Common.{◌≡◌, ℕ, ◌≤◌, Bool, true, false, cond, ltb, [], length, find, Some, None, Option, Result, Ok, Err, IfErr, OnOk, OnErr, MatchOption, arith, refl, sym, subst}
 use Rattle.std.specs.Option.{option_map}
 use Rattle.std.proofs.lemmas.Bool.Decides.{nat_tests}

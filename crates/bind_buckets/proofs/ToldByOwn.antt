@@ -63,7 +63,7 @@ reaped_told : (h : Held) (name : ℕ) (o : Option Owner) → let after = spoken 
 reaped_told h name None = refl
 reaped_told h name (Some a) = refl
 
--- a step's owners are told by its answer
+-- a step's owners follow from its answer
 step_told : (n : ℕ) (h : Held) (request : Request) → (owner_step n h request).held.owners ≡ told h.owners request (owner_step n h request).answer
 unfolding owner_step
 step_told n h (requests.Bind a) = bind_told h a (find (refuses a) h.owners)

@@ -76,7 +76,7 @@ IsOfListen answers.Done = ⊥
 IsOfListen (answers.NotFree name) = ⊥
 IsOfListen _ = Unit {0}
 
--- the owner that a refused newcomer is told of
+-- the owner that the answer to a refused newcomer names
 abbrev pub told_of : Result (Unit {0}) InUse → Option ℕ
 told_of (Ok done) = None
 told_of (Err end) = Some end.0

@@ -1,4 +1,4 @@
--- What becomes of an owner in its place, as the code tells it: our own rule.
+-- What becomes of an owner in its place, as the code states it: our own rule.
 use Rattle.std.specs.Prelude.{◌≡◌, true, ◌==◌, ◌||◌, Option, IfSome}
 use Rattle.sock_card.specs.declared.owner.Owner.{Owner}
 use Rattle.sock_card.specs.Became.{as_listener, as_waiting, connected}

@@ -1,4 +1,4 @@
--- What entries tell of the owners that they name, whatever else stands in the bucket: our own law.
+-- What entries say of the owners that they name, whatever else stands in the bucket: our own law.
 use Rattle.std.specs.Prelude.{◌≡◌, ℕ, Bool, true, false, List, [], ◌∷◌, ◌++◌, filter, find}
 use Rattle.std.specs.Option.{option_map, option_to_list}
 use Rattle.list_words.specs.Lists.{Each}
@@ -63,7 +63,7 @@ is_mine mine a = mine a.name
 abbrev pub is_about : (ℕ → Bool) → Entry → Bool
 is_about mine e = speaks_of mine e.request
 
--- the owners of these names after a journal are told by the entries about them alone
+-- the owners of these names after a journal follow from the entries about them alone
 abbrev pub ToldByTheirOwn : Type 0
 ToldByTheirOwn =
     (number : ℕ) (mine : ℕ → Bool) (entries : List Entry) → IsLegal number entries

@@ -1,5 +1,5 @@
--- What a caller's own entries tell of its own sockets, whoever else has entries in the bucket: our own law. Of its open
--- sockets they tell all: only a TIME_WAIT can be removed by others.
+-- What a caller's own entries say of its own sockets, whoever else has entries in the bucket: our own law. Of its open
+-- sockets they say all: only a TIME_WAIT can be removed by others.
 use Rattle.std.specs.Prelude.{◌≡◌, ◌≢◌, ℕ, ◌==◌, Bool, true, false, cond, ◌&&◌, ◌||◌, not, List, [], Some, filter, find}
 use Rattle.list_words.specs.Lists.{Each}
 use Rattle.sock_card.specs.declared.owner.Owner.{Owner}
@@ -41,14 +41,14 @@ KeepsOpen mine _ = Unit {0}
 abbrev pub AllKeepOpen : (ℕ → Bool) → List Note → Type 0
 AllKeepOpen mine notes = Each (λ (x : Note). KeepsOpen mine x.entry.request) notes
 
--- owners of these names, none of which was put into TIME_WAIT, are told without any removal from there
+-- owners of these names, none of which was put into TIME_WAIT, follow from their entries other than removals from there
 abbrev pub OpenAreTold : Type 0
 OpenAreTold =
     (number : ℕ) (mine : ℕ → Bool) (entries : List Entry) → IsLegal number entries
     → Each (λ (e : Entry). KeepsOpen mine e.request) entries
     → filter (is_mine mine) (replayed number entries).owners ≡ told_from [] (filter (is_told mine) entries)
 
--- a caller's own such owners in a bucket that is out are told by what it asked of the bucket itself
+-- a caller's own such owners in a bucket that is out follow from what it asked of the bucket itself
 abbrev pub OwnAreTold : Type 0
 OwnAreTold =
     (t : Hash) (p : Pass) (turn : Out) (mine : ℕ → Bool) → IsOut t p turn → IsSound turn.value.value
@@ -113,7 +113,7 @@ OwnStays =
 abbrev pub told_next : (ℕ → Bool) → List Owner → Entry → List Owner
 told_next mine owners e = cond (is_told mine e) (told owners e.request e.answer) owners
 
--- and what is asked of its bucket changes it as it is told
+-- and what is asked of its bucket changes it as request and answer say
 abbrev pub OwnGoesOn : Type 0
 OwnGoesOn =
     (a b : Owner) (place : ℕ) (request : Request) (answer : Answer) (v w : View) (s : StandsOwn a place v)

@@ -56,7 +56,7 @@ pub record CountAlike (a b : Owner) : Type 0 where
 abbrev pub spot_of : (Owner → ℕ) → (Owner → Bool) → Owner → Spot
 spot_of place_of has_mark a = record { place = place_of a; marked = has_mark a }
 
--- the counts tell that none of the owners refuses this one: there is none, or all share the port with it
+-- the counts show that none of the owners refuses this one: there is none, or all share the port with it
 abbrev pub rules_out : Tally → Owner → Bool
 rules_out t a =
     (t.owners == 0)

@@ -263,10 +263,10 @@ impl Bucket {
     /// Takes in a newcomer, unless an owner keeps it from its port (`inet_csk_get_port`).
     ///
     /// `InUse` names the first owner that does, and the bucket holds what it held. Constant cost where
-    /// counts tell that none does: nobody owns the port, all of its owners, or all at this address and
+    /// counts show that none does: nobody owns the port, all of its owners, or all at this address and
     /// at 0.0.0.0, share it by `reuseaddr` and none of them listens, or share it by `reuseport` as one
     /// user. Else it goes through the port's owners at this address and 0.0.0.0, or for a newcomer at
-    /// 0.0.0.0 through all of the port's, up to the first that refuses. A count tells nothing more once
+    /// 0.0.0.0 through all of the port's, up to the first that refuses. A count shows nothing more once
     /// it was of 255 owners.
     pub fn bind(&mut self, owner: Owner) -> Result<(), InUse>
         requires key { spec.is_key_of self.old (owner_key owner) ≡ true }
@@ -307,7 +307,7 @@ impl Bucket {
     /// (`__inet_hash_connect`): nobody owns it there, or only sockets for which `connect` chose it, too.
     ///
     /// `NotFree` names the first other owner of the port there. The bucket holds what it held. It goes
-    /// through the port's owners, up to that one, unless their counts tell that there is none.
+    /// through the port's owners, up to that one, unless their counts show that there is none.
     pub fn free(&mut self, port: u16, net: u8) -> Result<(), NotFree>
         requires entry { 1 ≤ self.old.entries }
         ensures after { self.new ≡ called self.old (Request.Free port net) }
@@ -325,7 +325,7 @@ impl Bucket {
     /// Takes in a newcomer for which `connect` chose its port, where [`Bucket::free`] answers `Ok` as
     /// the bucket stands (`__inet_hash_connect`).
     ///
-    /// No conflict is looked for: such sockets are told apart by their other ends. Constant cost.
+    /// No conflict is looked for: such sockets are distinguished by their other ends. Constant cost.
     pub fn connect_auto(&mut self, owner: Owner)
         requires key { spec.is_key_of self.old (owner_key owner) ≡ true }
         requires free { CanConnect self.old owner.port owner.net }
@@ -525,7 +525,7 @@ impl Bucket {
         self.journal.count()
     }
 
-    /// Tells a proof what is known of every bucket. It does nothing when it runs.
+    /// Gives a proof what is known of every bucket. It does nothing when it runs.
     pub fn recall(&self)
         ensures { spec.IsSound self.now }
     {

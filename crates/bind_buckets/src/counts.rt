@@ -1,7 +1,7 @@
 //! Counts of a bucket's owners by port, and by port and address.
 //!
 //! Those by port answer most questions. Where many owners share a port at one address, and one at
-//! another address shares it with none, those by address still tell that none refuses a newcomer.
+//! another address shares it with none, those by address still show that none refuses a newcomer.
 
 ghost use Rattle.std.specs.Prelude.{ℕ, ◌≡◌, ◌==◌, ◌&&◌, ◌||◌, ◌<◌, ◌≤◌, Bool, true, List, [], ◌∷◌, ◌++◌, find, None, Some, OnOk, OnErr, IfOk};
 ghost use Rattle.sock_card.specs.Conflict as conflict_spec;
@@ -215,7 +215,7 @@ impl OwnerCounts {
         self.by_end.change(was_end, was, end, owner);
     }
 
-    /// Whether that tally and the one of its port at 0.0.0.0 tell that none of their owners keeps this
+    /// Whether that tally and the one of its port at 0.0.0.0 show that none of their owners keeps this
     /// one from its port, where it has an address.
     fn both_rule_out(&self, there: Tally, owner: &Owner) -> bool
         ensures { result ≡ (spec.has_ends self.now
@@ -229,7 +229,7 @@ impl OwnerCounts {
             && self.at_end(owner.port, 0).none_refuses(owner)
     }
 
-    /// Whether the counts tell that no owner keeps this one from its port. Constant cost.
+    /// Whether the counts show that no owner keeps this one from its port. Constant cost.
     ///
     /// An owner that does has its port, and its address or 0.0.0.0, where it has an address itself.
     pub fn none_refuses(&self, owner: &Owner) -> bool
@@ -243,7 +243,7 @@ impl OwnerCounts {
         self.at_port(owner.port).none_refuses(owner) || self.both_rule_out(there, owner)
     }
 
-    /// Whether the counts tell that no other owner keeps this one from its port, where it is one
+    /// Whether the counts show that no other owner keeps this one from its port, where it is one
     /// itself. Constant cost.
     ///
     /// Where its address and 0.0.0.0 have one place, the tally there still counts it.
@@ -261,7 +261,7 @@ impl OwnerCounts {
         others.none_refuses(owner) || self.both_rule_out(others_there, owner)
     }
 
-    /// Whether the counts tell that no owner wants what this one wants, options or not. Constant cost.
+    /// Whether the counts show that no owner wants what this one wants, options or not. Constant cost.
     pub fn none_overlaps(&self, owner: &Owner) -> bool
         ensures counts { result ≡ (port_tally self.now owner.now.port).owners == 0 }
         ensures none { result ≡ true → (owners : List Owner) → IsCountOf self.now owners
@@ -270,7 +270,7 @@ impl OwnerCounts {
         self.at_port(owner.port).owners == 0
     }
 
-    /// Whether the counts tell that `connect` chose the port of each owner that has that one, in whatever
+    /// Whether the counts show that `connect` chose the port of each owner that has that one, in whatever
     /// namespace. Constant cost.
     pub fn none_holds(&self, port: u16) -> bool
         ensures counts { result ≡ (port_tally self.now port).marked == 0 }
@@ -280,7 +280,7 @@ impl OwnerCounts {
         self.at_port(port).marked == 0
     }
 
-    /// Whether the counts tell that no listener has a group that this owner would join. Constant cost.
+    /// Whether the counts show that no listener has a group that this owner would join. Constant cost.
     pub fn no_mate(&self, owner: &Owner) -> bool
         ensures counts { result ≡ (spec.has_ends self.now
             && ((end_tally self.now owner.now.port owner.now.addr).marked == 0)) }

@@ -12,7 +12,7 @@ pub fn steps()
     ensures sound { StaysSound }
 {}
 
-/// Entries tell the owners that they name, whatever else stands in the bucket: the owners of some names
+/// Entries determine the owners that they name, whatever else stands in the bucket: the owners of some names
 /// after a journal, and the first of each name, follow from the entries about these names alone.
 /// A child's name is taken together with its parent's.
 pub fn own_entries()
@@ -32,13 +32,13 @@ pub fn rows()
     ensures leaver { row.LastTakesPlace }
 {}
 
-/// What a pass that is alone gave tells how all buckets stand, and each entry more is one question to
+/// What a pass that is alone gave determines how all buckets stand, and each entry more is one question to
 /// the bucket of its key.
 pub fn given()
     ensures asked { law_of_turns.AsksOneMore }
 {}
 
-/// What a caller itself asked of a bucket tells its own open sockets there, whatever other callers asked.
+/// What a caller itself asked of a bucket determines its own open sockets there, whatever other callers asked.
 pub fn own_sockets()
     ensures open { OpenAreTold }
     ensures owners { OwnAreTold }

@@ -155,7 +155,7 @@ impl OwnerList {
         self.slots.push_reserved(slot);
     }
 
-    /// Changes the first owner of that name, and tells what it was.
+    /// Changes the first owner of that name, and returns what it was.
     pub fn change(&mut self, name: u32, change: Change) -> Option<Owner>
         requires { CanBecome change (find (spec.has_name name) self.old.owners) }
         ensures was { result ≡ find (spec.has_name name) self.old.owners }

@@ -89,7 +89,7 @@ impl Owners {
         self.list.push(owner);
     }
 
-    /// Changes the first owner of that name, and tells what it was.
+    /// Changes the first owner of that name, and returns what it was.
     #[inline(always)]
     pub fn change(&mut self, name: u32, change: Change) -> Option<Owner>
         requires { CanBecome change (find (spec.has_name name) self.old.owners) }

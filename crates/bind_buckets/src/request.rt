@@ -75,7 +75,7 @@ pub struct Entry {
     pub answer: Answer,
 }
 
-/// What tells a note from all others: its number, and whose call it was.
+/// What distinguishes a note from all others: its number, and whose call it was.
 #[derive(Clone, Copy, Debug, PartialEq, Eq)]
 pub struct Mark {
     pub number: u64,

@@ -136,7 +136,7 @@ impl Tally {
         }
     }
 
-    /// Whether the counts tell that none of its owners keeps this one from its port.
+    /// Whether the counts show that none of its owners keeps this one from its port.
     pub fn none_refuses(self, owner: &Owner) -> bool
         ensures { result ≡ spec.rules_out self owner.now }
     {

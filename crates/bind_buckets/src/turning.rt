@@ -429,7 +429,7 @@ pub fn give(turns: &Turns<Box<Bucket>>, pass: &mut TurnPass<Box<Bucket>>, turn: 
 }
 
 /// The buckets, by the pass to which each other one was joined. For the record of a race: their journals
-/// are lawful and hold what all passes gave, each entry once, and [`Bucket::count`] tells how many there are.
+/// are lawful and hold what all passes gave, each entry once, and [`Bucket::count`] returns how many there are.
 ///
 /// # Errors
 ///

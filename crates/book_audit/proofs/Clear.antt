@@ -5,7 +5,7 @@ use Rattle.std.specs.declared.alloc.AllocError.{AllocError}
 use Rattle.std.specs.List.{flat_map}
 use Rattle.std.proofs.lemmas.Bool.{true≢false, ltb-true, le-ltb, eqb-true, false_from_ne_true, or_cases}
 use Rattle.list_words.specs.Lists.{Each, Pairs}
-use Rattle.list_words.proofs.EachLemmas.{each_both}
+use Rattle.list_words.proofs.EachLemmas.{each_both, each_back, each_front}
 use Rattle.list_words.proofs.PairsLemmas.{pairs_weaken}
 use Rattle.sock_card.specs.declared.card.Card.{Card}
 use Rattle.sock_card.specs.declared.words.CardWords.{CardWords}
@@ -13,7 +13,7 @@ use Rattle.sock_card.specs.Tuples.{tuple_of}
 use Rattle.sock_card.proofs.Tuples.{PartsAgree, parts_agree}
 use Rattle.chain_book.specs.Tuples.{same_cards, is_full_kind}
 use Rattle.race_book.proofs.Checks.{and_left, and_right}
-use Rattle.race_book.proofs.Joined.{each_front, each_back, pairs_across, pairs_back}
+use Rattle.race_book.proofs.Joined.{pairs_across, pairs_back}
 use Rattle.book_audit.specs.declared.printed.Span.{Span}
 use Rattle.book_audit.specs.declared.printed.PrintedLife.{PrintedLife}
 use Rattle.book_audit.specs.declared.stays.Stay.{Stay}

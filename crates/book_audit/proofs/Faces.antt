@@ -1,10 +1,10 @@
--- What marks tell of the lives that match a packet.
+-- What marks show of the lives that match a packet.
 use Rattle.std.proofs.Common.{◌≡◌, ℕ, ◌+◌, ◌<◌, ◌≤◌, ◌==◌, ◌&&◌, ◌||◌, not, nat_lt, nat_le, Bool, true, false, IsTrue, List, [], ◌∷◌, ◌++◌, map, take, length, get_or, if◌then◌else◌, Option, None, Some, refl, sym, ◌∙◌, subst, arith, ◌⊎◌, inl, inr}
 use Rattle.std.specs.List.Sorted.{IsPermutation}
 use Rattle.std.proofs.lemmas.List.{take_more}
 use Rattle.std.proofs.lemmas.Bool.{true≢false, ltb-true, lt-ltb, leb-true, eqb-true, eq-eqb, false_from_ne_true, or_cases, not-true}
 use Rattle.list_words.specs.Lists.{Each}
-use Rattle.list_words.proofs.EachLemmas.{each_weaken, each_push}
+use Rattle.list_words.proofs.EachLemmas.{each_weaken, each_push, each_unmap}
 use Rattle.sock_card.specs.declared.card.Card.{Card}
 use Rattle.sock_card.specs.declared.card.Kind.{Kind}
 use Rattle.sock_card.specs.declared.card.Kind.TheVariants as kinds
@@ -107,7 +107,7 @@ module _ (stays : List Stay) (look : PrintedLook) (least : ℕ) (low : 0 < least
   out_of None n e = absurd (true≢false (sym e))
   out_of (Some s) n e = e
 
-  -- a life that such marks tell of wasn't there throughout
+  -- a life that such marks stand for wasn't there throughout
   not_there : RulesOut stays look least → (l : PrintedLife) → IsMarked stays (mark l) → beats look least l ≡ true → ⊥
   not_there r l m b =
       let a : Bool = nat_le least (rank l.card look.packet) in
@@ -134,10 +134,6 @@ pub one_raised : (xs stays : List Stay) (t s : Stay) → Each (IsMarked xs) stay
 one_raised xs stays t s e f =
     each_push (IsMarked (xs ++ t ∷ [])) stays s (each_weaken (IsMarked xs) (IsMarked (xs ++ t ∷ [])) stays (still_marked xs t) e)
     (record { stay = t; there = among_right t xs (t ∷ []) (inl refl); stands = f })
-
-each_unmap : {A B : Type 0} (P : B → Type 0) (f : A → B) (xs : List A) → Each P (map f xs) → Each (λ x. P (f x)) xs
-each_unmap P f [] e = tt
-each_unmap P f (x ∷ xs) e = (e.0, each_unmap P f xs e.1)
 
 -- in whatever order the marks were raised
 pub marks_of : (lives : List PrintedLife) (ms sorted raised : List Stay) → ms ≡ map mark lives → IsPermutation ms sorted → Each (IsMarked raised) sorted → AreMarked raised lives

@@ -1,18 +1,14 @@
 -- The first line that fails a test, once those before it passed.
-use Rattle.std.proofs.Common.{◌≡◌, ℕ, ◌+◌, ◌<◌, Bool, true, false, List, [], ◌∷◌, take, length, get_or, refl, subst, sym, ◌∙◌}
+use Rattle.std.proofs.Common.{◌≡◌, ℕ, ◌+◌, ◌<◌, Bool, true, false, List, [], ◌∷◌, take, length, get_or, subst, sym, ◌∙◌}
 use Rattle.std.specs.List.{list_any, list_all}
-use Rattle.std.proofs.lemmas.Bool.{true≢false, or_from}
+use Rattle.std.proofs.lemmas.Bool.{true≢false}
 use Rattle.list_words.specs.Lists.{Each}
-use Rattle.list_words.proofs.EachLemmas.{each_unless_any}
+use Rattle.list_words.proofs.EachLemmas.{each_unless_any, none_any}
 use Rattle.race_book.proofs.Checks.{and_left, and_right}
 use Rattle.book_audit.specs.declared.printed.PrintedLife.{PrintedLife}
 use Rattle.book_audit.specs.Lines.{NoTwo, AreStamped, ascends, shares_number}
 use Rattle.book_audit.specs.Findings.{FailsAt}
 use Rattle.book_audit.proofs.Prefixes.{each_line, each_last, pairs_line, pairs_last}
-
-pub none_any : {A : Type 0} (test : A → Bool) (xs : List A) → Each (λ x. test x ≡ false) xs → list_any test xs ≡ false
-none_any test [] e = refl
-none_any test (x ∷ xs) e = or_from (test x) (list_any test xs) e.0 (none_any test xs e.1)
 
 pub each_fails : {A : Type 0} (P : A → Type 0) (xs : List A) (at : ℕ) (d : A) → at < length xs → Each P (take at xs) → (P (get_or xs at d) → ⊥) → FailsAt (Each P) xs at
 each_fails P xs at d l e n = record { within = l; before = e; fails = λ f. n (each_last P xs at d l f) }

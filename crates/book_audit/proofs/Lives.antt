@@ -75,7 +75,7 @@ unhash_there lives l a s e = in_book lives l a (unhash_of l s) (inr (subst (λ o
 pub is_life : (lives : List PrintedLife) (l : PrintedLife) → Among lives l → IsLife (Among (book_of lives)) (hash_of l)
 is_life lives l a = record { there = hash_there lives l a; hash = refl }
 
--- the life that a hash tells
+-- the life whose hash it is
 pub record LifeOf (lives : List PrintedLife) (h : Change) : Type 0 where
   pub life : PrintedLife
   pub there : Among lives life
@@ -138,7 +138,7 @@ slots_clear l m e s = elim (outs (l.slot == m.slot) (is_out l m.hash.end) (is_ou
 slots_turned : (l m : PrintedLife) → SlotsClear l m → SlotsClear m l
 slots_turned l m c s = elim (c (sym s)) as (λ _. OutBy m l.hash.end ⊎ OutBy l m.hash.end) [ inl p ↦ inr p | inr p ↦ inl p ]
 
--- what ends a life, as far as a change tells that comes later in its slot
+-- what ends a life, as far as a later change in its slot shows
 pub record EndedBy (l : PrintedLife) (c : Change) : Type 0 where
   pub unhash : Span
   pub is : l.unhash ≡ Some unhash

@@ -1,4 +1,4 @@
--- What stays in order tell at one place.
+-- What stays in order show at one place.
 use Rattle.std.proofs.Common.{◌≡◌, ℕ, zero, suc, ◌+◌, ◌-◌, ◌<◌, ◌≤◌, ◌==◌, ◌&&◌, ◌||◌, not, nat_lt, nat_le, Bool, true, false, List, [], ◌∷◌, ◌++◌, take, drop, length, get_or, Option, None, Some, refl, sym, ◌∙◌, subst, arith, ◌⊎◌, inl, inr, drop-cons}
 use Rattle.std.proofs.lemmas.Bool.{true≢false, ltb-true, lt-ltb, leb-true, le-leb, eqb-true, eq-eqb, or_left, or_right, or_cases, and_from, not-true}
 use Rattle.std.proofs.lemmas.List.{take_more}

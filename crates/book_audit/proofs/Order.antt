@@ -1,5 +1,5 @@
 -- Stays that come one after the other don't run into each other.
-use Rattle.std.proofs.Common.{◌≡◌, ℕ, ◌+◌, ◌-◌, ◌<◌, ◌≤◌, ◌==◌, ◌&&◌, not, nat_lt, Bool, true, false, List, [], ◌∷◌, take, length, get_or, Option, None, Some, refl, sym, ◌∙◌, subst, arith, inl, inr}
+use Rattle.std.proofs.Common.{◌≡◌, ℕ, ◌+◌, ◌-◌, ◌<◌, ◌≤◌, ◌==◌, ◌&&◌, not, nat_lt, Bool, true, false, List, [], ◌∷◌, take, length, get_or, Option, None, Some, sym, ◌∙◌, subst, arith, inl, inr}
 use Rattle.std.proofs.lemmas.Bool.{true≢false, ltb-true, lt-ltb, eqb-true, eq-eqb, leb-true, or_left, or_right, false_from_ne_true, or_cases, and_from}
 use Rattle.std.proofs.lemmas.List.{take_all}
 use Rattle.std.specs.List.{IsDistinct, AllByRecursion}
@@ -9,6 +9,7 @@ use Rattle.std.proofs.lemmas.List.Sorted.{IsPermutation-sym}
 use Rattle.list_words.specs.Lists.{Each, Pairs}
 use Rattle.list_words.proofs.EachLemmas.{each_weaken}
 use Rattle.list_words.proofs.PairsLemmas.{pairs_weaken}
+use Rattle.list_words.proofs.Truths.{same_truth}
 use Rattle.race_book.proofs.Checks.{and_left, and_right}
 use Rattle.book_audit.specs.declared.stays.Stay.{Stay}
 use Rattle.book_audit.specs.Stays.{is_below, runs_into, comes_first, is_from, lasts, NoneRunsInto}
@@ -96,11 +97,6 @@ into s t r =
 turned : (s t : Stay) → runs_into s t ≡ true → runs_into t s ≡ true
 turned s t e = let r : Runs s t = runs s t e in
     into t s (record { place = sym r.place; part = sym r.part; one = r.other; other = r.one })
-
-same_truth : (a b : Bool) → (a ≡ true → b ≡ true) → (b ≡ true → a ≡ true) → a ≡ b
-same_truth true b f g = sym (f refl)
-same_truth false true f g = g refl
-same_truth false false f g = refl
 
 flips : (s t : Stay) → runs_into s t ≡ runs_into t s
 flips s t = same_truth (runs_into s t) (runs_into t s) (turned s t) (turned t s)

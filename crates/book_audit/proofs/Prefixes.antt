@@ -2,9 +2,9 @@
 use Rattle.std.proofs.Common.{ℕ, ◌+◌, ◌<◌, List, [], ◌∷◌, take, length, get_or, sym, subst}
 use Rattle.std.proofs.lemmas.List.{take_more}
 use Rattle.list_words.specs.Lists.{Each, Pairs}
-use Rattle.list_words.proofs.EachLemmas.{each_push}
+use Rattle.list_words.proofs.EachLemmas.{each_push, each_back}
 use Rattle.list_words.proofs.PairsLemmas.{pairs_push}
-use Rattle.race_book.proofs.Joined.{each_back, pairs_across}
+use Rattle.race_book.proofs.Joined.{pairs_across}
 
 module _ {A : Type 0} where
   heads : (R : A → A → Type 0) (x : A) (xs : List A) → Each (λ y. Each (R y) (x ∷ [])) xs → Each (λ y. R y x) xs

@@ -1,5 +1,5 @@
--- An index of lives by what lookups tell of their cards: whether one was there throughout a call. Our own; what a
--- lookup tells is inet_match's and compute_score's of the kernel's net/ipv4/inet_hashtables.c, by sock_card's words.
+-- An index of lives by what lookups compare of their cards: whether one was there throughout a call. Our own; what a
+-- lookup compares is inet_match's and compute_score's of the kernel's net/ipv4/inet_hashtables.c, by sock_card's words.
 use Rattle.std.specs.Prelude.{◌≡◌, ℕ, ◌<◌, ◌≤◌, ◌==◌, ◌&&◌, ◌||◌, not, nat_lt, nat_le, Bool, true, false, IsTrue, List, Option, None, Some}
 use Rattle.list_words.specs.Lists.{Each, Pairs}
 use Rattle.sock_card.specs.declared.card.Card.{Card}
@@ -15,7 +15,7 @@ use Rattle.book_audit.specs.declared.stays.Stay.{Stay}
 use Rattle.book_audit.specs.declared.index.Index.{Index}
 use Rattle.book_audit.specs.Stays.{is_below, begin_of}
 
--- what lookups tell of a card: of a connected socket or a request its four-tuple and device, of a listener its own
+-- what lookups compare of a card: of a connected socket or a request its four-tuple and device, of a listener its own
 -- end and device
 abbrev pub face_as : Kind → Card → Card
 face_as kinds.Listen c = record c { remote = 0; rport = 0; name = 0; extra = 0 }
@@ -92,7 +92,7 @@ AreOrdered stays = Pairs (λ (s t : Stay). goes_before s t ≡ true) stays
 abbrev pub AreMarked : List Stay → List PrintedLife → Type 0
 AreMarked stays lives = Each (λ (l : PrintedLife). IsMarked stays (mark l)) lives
 
--- each life is marked, and where it is told so, the marks are in order
+-- each life is marked, and where the index says so, the marks are in order
 pub record IsIndex (index : Index) (lives : List PrintedLife) : Type 0 where
   pub marked : AreMarked index.stays.items lives
   pub ordered : IsTrue index.ordered → AreOrdered index.stays.items
@@ -115,6 +115,6 @@ NoneStays stays place part t0 t1 =
 abbrev pub GoneAt : List Stay → PrintedLook → Card → Type 0
 GoneAt stays look c = NoneStays stays (packed c).ends (packed c).ports look.t0 look.t1
 
--- no life whose card matches so well or better was there throughout the call, as far as marks tell
+-- no life whose card matches so well or better was there throughout the call, as far as marks show
 abbrev pub RulesOut : List Stay → PrintedLook → ℕ → Type 0
 RulesOut stays look least = (c : Card) → least ≤ rank c look.packet → GoneAt stays look (face c)

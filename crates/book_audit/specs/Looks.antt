@@ -24,7 +24,7 @@ pass_end (printed_ends.Dead s) = ends.Dead s
 pass_end (printed_ends.Changed s) = ends.Changed s
 pass_end (printed_ends.Long n) = ends.Long n
 
--- the line tells that answer: of a found card its kind and name
+-- the line gives that answer: of a found card its kind and name
 abbrev pub Tells : PrintedAnswer → PacketAnswer → Type 0
 Tells (printed.Found kind name) (answers.Found card) = (card.kind ≡ kind) × (card.name ≡ name)
 Tells printed.None answers.None = Unit {0}
@@ -36,7 +36,7 @@ abbrev pub receipt_of : ℕ → PrintedLook → PacketAnswer → Receipt
 receipt_of seed look answer =
     record { packet = look.packet; seed = seed; answer = answer; t0 = look.t0; t1 = look.t1 }
 
--- an answer that the line tells is explained by the lives, and one that was given up names a bucket of the packet's
+-- an answer that the line gives is explained by the lives, and one that was given up names a bucket of the packet's
 pub record IsLookExplained (shape : Shape) (seed : ℕ) (lives : List PrintedLife) (look : PrintedLook) : Type 0 where
   pub answer : PacketAnswer
   pub told : Tells look.answer answer

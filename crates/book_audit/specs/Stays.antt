@@ -1,4 +1,4 @@
--- How the tests of pairs of lives are told as stays in places, of which no two may run into each other. Our own.
+-- How the tests of pairs of lives are expressed as stays in places, of which no two may run into each other. Our own.
 use Rattle.std.specs.Prelude.{◌≡◌, ℕ, ◌==◌, ◌&&◌, ◌||◌, not, nat_lt, nat_le, Bool, true, false, List, [], ◌∷◌, ◌++◌, Option, None, Some, if◌then◌else◌}
 use Rattle.list_words.specs.Lists.{Pairs}
 use Rattle.sock_card.specs.declared.card.Card.{Card}

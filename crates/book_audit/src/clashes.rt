@@ -155,7 +155,7 @@ fn put_stays(clash: Clash, life: &PrintedLife, stays: &mut Vec<Stay>) -> Result<
     Ok(())
 }
 
-/// Whether it is told by an order that no two lives clash.
+/// Whether an order shows that no two lives clash.
 pub fn is_clear(alloc: Global, clash: Clash, lives: &[PrintedLife]) -> Result<bool, AllocError>
     ensures { IfOk result (λ clear. IsTrue clear → NoTwo (clash_of clash) lives.now) }
 {

@@ -1,4 +1,4 @@
-//! An index of lives by what lookups tell of their cards, and by their names.
+//! An index of lives by what lookups compare of their cards, and by their names.
 
 ghost use Rattle.std.specs.Prelude.{◌≡◌, ◌<◌, ◌≤◌, ◌&&◌, IsTrue, IfOk, List, false, length, take, drop, map};
 ghost use Rattle.book_audit.specs.Tried.{is_beaten};
@@ -128,7 +128,7 @@ fn is_over(stay: &Stay, place: u64, part: u64, t1: u64) -> bool
     stay.place != place || stay.part != part || is_below(stay.until, t1)
 }
 
-/// Whether the stay there, if there is one, tells this of those from it on.
+/// Whether the stay there, if there is one, shows this of those from it on.
 fn none_later(stays: &[Stay], at: usize, place: u64, part: u64, t0: u64, t1: u64) -> bool
     requires { at ≤ length stays.now }
     ensures { IsTrue result → AreOrdered stays.now → NoneStays (drop at stays.now) place part t0 t1 }
@@ -139,7 +139,7 @@ fn none_later(stays: &[Stay], at: usize, place: u64, part: u64, t0: u64, t1: u64
     !precedes(&stays[at], place, part, t0)
 }
 
-/// Whether the stay before that, if there is one, tells this of those up to it.
+/// Whether the stay before that, if there is one, shows this of those up to it.
 fn none_earlier(stays: &[Stay], at: usize, place: u64, part: u64, t0: u64, t1: u64) -> bool
     requires { at ≤ length stays.now }
     ensures { IsTrue result → AreOrdered stays.now → NoneStays (take at stays.now) place part t0 t1 }
@@ -151,7 +151,7 @@ fn none_earlier(stays: &[Stay], at: usize, place: u64, part: u64, t0: u64, t1: u
     precedes(last, place, part, t0) && is_over(last, place, part, t1)
 }
 
-/// Whether it is told there that no stay in a place began before `t0` and isn't over before `t1`.
+/// Whether the stays there show that no stay in a place began before `t0` and isn't over before `t1`.
 fn is_told_at(stays: &[Stay], at: usize, place: u64, part: u64, t0: u64, t1: u64) -> bool
     requires { at ≤ length stays.now }
     ensures { IsTrue result → AreOrdered stays.now → NoneStays stays.now place part t0 t1 }
@@ -159,7 +159,7 @@ fn is_told_at(stays: &[Stay], at: usize, place: u64, part: u64, t0: u64, t1: u64
     none_later(stays, at, place, part, t0, t1) && none_earlier(stays, at, place, part, t0, t1)
 }
 
-/// Whether it is told by a search that no life whose card has that face was there throughout a call.
+/// Whether a search shows that no life whose card has that face was there throughout a call.
 fn is_gone(stays: &[Stay], card: &Card, look: &PrintedLook) -> bool
     ensures { let words = packed card.now in
         IsTrue result → AreOrdered stays.now → NoneStays stays.now words.ends words.ports look.now.t0 look.now.t1 }
@@ -208,7 +208,7 @@ fn is_gone_from(stays: &[Stay], look: &PrintedLook, least: u8, rank: u8, card: &
     rank < least || is_gone(stays, card, look)
 }
 
-/// Whether it is told that no life whose card matches so well, or better, was there throughout the call.
+/// Whether the stays show that no life whose card matches so well, or better, was there throughout the call.
 fn rules_out(stays: &[Stay], look: &PrintedLook, least: u8) -> bool
     requires { 0 < least }
     ensures { IsTrue result → AreOrdered stays.now → RulesOut stays.now look.now least }
@@ -351,7 +351,7 @@ pub fn index_of(alloc: Global, lives: &[PrintedLife]) -> Result<Index, AllocErro
     })
 }
 
-/// Whether it is told by the index that no life whose card matches so well, or better, was there throughout the call.
+/// Whether the index shows that no life whose card matches so well, or better, was there throughout the call.
 pub fn is_unbeaten(index: &Index, look: &PrintedLook, least: u8) -> bool
     requires { 0 < least }
     ensures { IsTrue result → (lives : List PrintedLife) → IsIndex index.now lives

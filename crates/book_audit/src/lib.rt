@@ -1,11 +1,11 @@
-//! The judge of a race as its text tells it.
+//! The judge of a race as its text describes it.
 //!
 //! Our own. A [`Printed`] race is plain data: the lines of its lives and packets, and what the clock came to.
 //! [`judge::judge`] finds the first test that it fails, in the order of [`Why`], and the first line that fails it:
 //! `specs/Lines` has the tests of lives, `specs/Looks` that of packets in the words of `race_book`, `specs/Findings`
 //! the order and the place. [`laws`] says what follows: the changes of a sound race are serial, and there is one
-//! finding. That no two lives clash is told by an order of their stays (`stays`), and what a packet might have met by
-//! an index (`index`); only where these don't tell it, lives are compared one by one.
+//! finding. An order of the lives' stays (`stays`) shows that no two lives clash, and an index (`index`) what a packet
+//! might have met; only where these don't show it, lives are compared one by one.
 //! `record_reader` reads such a race from its text.
 //!
 //! ```text

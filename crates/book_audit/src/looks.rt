@@ -15,7 +15,7 @@ use crate::printed::{
 use chain_book::{Shape, listen_home, packet_home};
 use sock_card::{Kind, Packet, rank};
 
-/// The kind and name by which a found card is told.
+/// The kind and name that are printed for a found card.
 #[derive(Clone, Copy, Debug, PartialEq, Eq)]
 pub struct Told {
     pub kind: Kind,
@@ -275,7 +275,7 @@ fn explains(printed: &Printed, index: &Index, look: &PrintedLook) -> bool
 /// Whether the lives explain the line of a packet.
 ///
 /// Takes time in proportion to the logarithm of their number, and to how many of them have the name that was found,
-/// where the index tells the answer; else it goes over all lives.
+/// where the index gives the answer; else it goes over all lives.
 pub fn is_explained(printed: &Printed, index: &Index, packet: &PrintedPacket) -> bool
     requires hash { 0 < printed.now.shape.hash }
     requires listen { 0 < printed.now.shape.listen }

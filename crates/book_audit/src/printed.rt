@@ -1,4 +1,4 @@
-//! A race as its text tells it.
+//! A race as its text describes it.
 
 use chain_book::Shape;
 use sock_card::{Card, Kind, Packet};
@@ -13,7 +13,7 @@ pub struct Span {
 /// The line of a life: where which card was hashed, from when until when that was done,
 /// and the same of its unhash, if it has one.
 ///
-/// The text of a card doesn't tell what it says besides its ends, device, namespace, kind and name: its `extra` is 0.
+/// The text of a card gives only its ends, device, namespace, kind and name: its `extra` is 0.
 #[derive(Clone, Copy, Debug, PartialEq, Eq)]
 pub struct PrintedLife {
     pub bucket: u64,
@@ -32,7 +32,7 @@ pub enum PrintedEnd {
     Long(u64),
 }
 
-/// What a lookup answered: a found card is told by its kind and name.
+/// What a lookup answered: a found card is given by its kind and name.
 #[derive(Clone, Copy, Debug, PartialEq, Eq)]
 pub enum PrintedAnswer {
     Found(Kind, u32),
@@ -57,8 +57,8 @@ pub enum PrintedPacket {
     Looked(PrintedLook),
 }
 
-/// What the text of a race tells: the shape of its tables and the seed of their hashes, its lives and packets line by
-/// line, how many of the replies drew a number of the clock in vain, and the clock after all.
+/// What the text of a race contains: the shape of its tables and the seed of their hashes, its lives and packets line
+/// by line, how many of the replies drew a number of the clock in vain, and the clock after all.
 #[derive(Drop)]
 pub struct Printed {
     pub shape: Shape,

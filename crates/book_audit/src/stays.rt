@@ -6,7 +6,7 @@ ghost use Rattle.book_audit.specs.Stays.{NoneRunsInto};
 
 use std::alloc::AllocError;
 
-/// A stay in a place, which two numbers tell, from one number of the clock until another, or for good.
+/// A stay in a place, which two numbers identify, from one number of the clock until another, or for good.
 #[derive(Clone, Copy, Debug, PartialEq, Eq)]
 pub struct Stay {
     pub place: u64,
@@ -54,7 +54,7 @@ fn follow(stays: &[Stay]) -> bool
     true
 }
 
-/// Whether the stays of each place can be told to follow one another, put into an order: if so, no two run into each
+/// Whether the stays of each place, put into an order, are seen to follow one another: if so, no two run into each
 /// other.
 pub fn in_turn(mut stays: Vec<Stay>) -> Result<bool, AllocError>
     ensures { IfOk result (λ told. IsTrue told → NoneRunsInto stays.items) }

@@ -1,11 +1,12 @@
 -- Where the walk of a locked bucket stands, and what is known by it: our own.
 use Rattle.std.specs.Prelude.{ℕ, ◌≡◌, ◌<◌, ◌≤◌, ◌/◌, ◌%◌, ◌⊎◌, [], ◌∷◌, true, false}
+use Rattle.list_words.specs.Lists.{Each}
 use Rattle.bucket_locks.specs.declared.locks.Locked.{Locked}
 use Rattle.table_rule.specs.declared.view.View.{View}
 use Rattle.table_rule.specs.declared.view.Layout.{Layout}
 use Rattle.table_rule.specs.Calls.{IsSlot}
 use Rattle.table_rule.specs.Words.{bucket_count}
-use Rattle.table_rule.specs.Lists.{Each, stands}
+use Rattle.table_rule.specs.Lists.{stands}
 use Rattle.table_rule.specs.Sole.{IsRead}
 use Rattle.table_rule.specs.Plays.{PlacesListed}
 use Rattle.table_rule.specs.declared.view.Seen.{Seen}

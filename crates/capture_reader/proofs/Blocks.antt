@@ -164,7 +164,7 @@ there_or_not None = inr refl
 there_or_not (Some x) = inl (x, refl)
 
 module _ (section : BlockSection) (block : List ℕ) (whole : IsWhole section.order block) where
-  -- whether a whole block tells of an interface
+  -- whether a whole block describes an interface
   is_interface : ((b : Option Link) × IsInterfaceBlock section.order block b) ⊎ ((b : Option Link) → IsInterfaceBlock section.order block b → ⊥)
   is_interface =
       elim (cases_lt (length block) 20) [

@@ -32,7 +32,7 @@ pub no_magic : (bytes : List ℕ) (order : Order) → AreBytes bytes → number 
 no_magic bytes order fits h (inl e) = omega (arith, type_reads bytes order fits h)
 no_magic bytes order fits h (inr e) = omega (arith, type_reads bytes order fits h)
 
--- what the first bytes of a section tell
+-- what the first bytes of a section say
 pub record Front (bytes : List ℕ) (order : Order) : Type 0 where
   pub least : 28 ≤ length bytes
   pub kind : number orders.Big 4 0 bytes ≡ section_type

@@ -46,7 +46,7 @@ fits_rest bytes whole rest e fits = λ i.
 pub number_in : (order : Order) (n place : ℕ) (bytes whole rest : List ℕ) → bytes ≡ whole ++ rest → place + n ≤ length whole → number order n place bytes ≡ number order n place whole
 number_in order n place bytes whole rest e h = ap (number order n place) e ∙ number_front order n place whole rest h
 
--- how many bytes a whole block has, as the bytes tell that begin with it
+-- how many bytes a whole block has, as the bytes say that begin with it
 pub told : (order : Order) (bytes whole rest : List ℕ) → bytes ≡ whole ++ rest → IsWhole order whole → number order 4 4 bytes ≡ length whole
 told order bytes whole rest e w = number_in order 4 4 bytes whole rest e (omega (arith, w.least)) ∙ w.front
 
@@ -57,7 +57,7 @@ is_there order bytes whole rest e w =
     let parts = ap length e ∙ length-append whole rest in
     (omega (arith, count, w.least), omega (arith, count, parts))
 
--- a whole block is as many of the first bytes as these tell
+-- a whole block is as many of the first bytes as these say
 pub whole_is : (order : Order) (bytes whole rest : List ℕ) → bytes ≡ whole ++ rest → IsWhole order whole → take (number order 4 4 bytes) bytes ≡ whole
 whole_is order bytes whole rest e w =
     ap (take (number order 4 4 bytes)) e ∙ take_at whole rest (number order 4 4 bytes) (sym (told order bytes whole rest e w))

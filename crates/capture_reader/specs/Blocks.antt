@@ -14,14 +14,14 @@ use Rattle.capture_reader.specs.Header.{IsLinkNumber, IsWhole, section_type, IsS
 use Rattle.capture_reader.specs.Items.{item_of}
 use Rattle.capture_reader.specs.Sections.{BlockSection, begun}
 
--- the type of a block that tells of an interface, and of one that stores a packet
+-- the type of a block that describes an interface, and of one that stores a packet
 abbrev pub interface_type : ℕ
 interface_type = 1
 
 abbrev pub packet_type : ℕ
 packet_type = 6
 
--- The block tells of an interface, whose link type stands in it in two bytes.
+-- The block describes an interface, whose link type stands in it in two bytes.
 pub record IsInterfaceBlock (order : Order) (block : List ℕ) (link : Option Link) : Type 0 where
   pub whole : IsWhole order block
   pub least : 20 ≤ length block

@@ -33,7 +33,7 @@ pub record BeginsWithHeader (bytes : List ℕ) (header : Header) : Type 0 where
   pub minor : number header.order 2 6 bytes ≡ 4
   pub link : number header.order 4 20 bytes ≡ link_number header.link
 
--- A block of pcapng is whole: after its type it tells how many bytes it has, a multiple of four,
+-- A block of pcapng is whole: after its type it states how many bytes it has, a multiple of four,
 -- and again at its end.
 pub record IsWhole (order : Order) (block : List ℕ) : Type 0 where
   pub least : 12 ≤ length block
@@ -45,7 +45,7 @@ pub record IsWhole (order : Order) (block : List ℕ) : Type 0 where
 abbrev pub section_type : ℕ
 section_type = 0x0a0d0d0a
 
--- The block begins a section: its mark tells in which order the section's numbers stand, and its major version is 1.
+-- The block begins a section: its mark shows in which order the section's numbers stand, and its major version is 1.
 pub record IsSectionBlock (order : Order) (block : List ℕ) : Type 0 where
   pub whole : IsWhole order block
   pub least : 28 ≤ length block

@@ -1,5 +1,5 @@
 -- What a stored packet is for the socket tables: the packet whose socket is looked up, or one that is passed over, or
--- too few bytes to tell. IEEE 802.3 and 802.1Q for frames and tags; RFC 791, section 3.1, for the IP header; RFC
+-- too few bytes to decide. IEEE 802.3 and 802.1Q for frames and tags; RFC 791, section 3.1, for the IP header; RFC
 -- 9293, section 3.1, for the ports.
 use Rattle.std.specs.Prelude.{ℕ, ◌+◌, ◌-◌, ◌*◌, ◌/◌, ◌%◌, ◌==◌, ◌||◌, not, nat_lt, Bool, if◌then◌else◌, List, length, drop, slice_index}
 use Rattle.sock_card.specs.declared.card.Packet.{Packet}
@@ -18,7 +18,7 @@ network_number n place bytes = number orders.Big n place bytes
 abbrev pub version : List ℕ → ℕ
 version ip = slice_index ip 0 / 16
 
--- how many bytes the IP header has, options included: it tells it in words of four
+-- how many bytes the IP header has, options included: it states the count in words of four
 abbrev pub header_length : List ℕ → ℕ
 header_length ip = 4 * (slice_index ip 0 % 16)
 

@@ -75,7 +75,7 @@ section_block =
 abbrev pub interface_block : ℕ → List ℕ
 interface_block link = word 1 ++ (word 20 ++ (word link ++ (word 0 ++ word 20)))
 
--- that of a packet of 38 bytes which tells another count, and its own length at its end as it is told
+-- that of a packet of 38 bytes which states the given count, and at its end the given length
 abbrev pub packet_block : ℕ → ℕ → ℕ → List ℕ
 packet_block interface count again =
     word 6 ++ (word 72 ++ (word interface ++ (replicate 8 0 ++ (word count ++ (word 38
@@ -131,7 +131,7 @@ pub record RowsHold : Type 0 where
       (cut_after (found ∷ []))
   -- a packet of an interface that the section doesn't have
   pub no_interface : IsCapture 3 2 (with_interface (packet_block 1 38 72)) (cut_after [])
-  -- a packet whose block tells two lengths
+  -- a packet whose block states two lengths
   pub lengths : IsCapture 3 2 (with_interface (packet_block 0 38 76)) (cut_after [])
   -- a packet that has room with its padding, and one that hasn't
   pub room : IsCapture 3 2 (with_interface (packet_block 0 40 72)) (whole (found ∷ []))

@@ -25,7 +25,7 @@ pub enum Block {
 const BLOCK: usize = 12;
 /// The fewest bytes of a block that begins a section.
 const SECTION: usize = 28;
-/// The fewest bytes of a block that tells of an interface.
+/// The fewest bytes of a block that describes an interface.
 const INTERFACE: usize = 20;
 /// The fewest bytes of a block that stores a packet.
 const PACKET: usize = 32;
@@ -84,7 +84,7 @@ pub fn next_section(bytes: &[u8]) -> Option<(Order, &[u8])>
     Some((order, rest))
 }
 
-/// The link type of the interface that a whole block of that type tells of. None where it isn't valid.
+/// The link type of the interface that a whole block of that type describes. None where it isn't valid.
 fn interface_of(order: Order, block: &[u8]) -> Option<Option<Link>>
     requires whole { IsWhole order block.now }
     requires kind { number order 4 0 block.now ≡ 1 }

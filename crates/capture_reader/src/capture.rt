@@ -128,8 +128,8 @@ fn read_blocks(
     Ok(Capture { items, cut })
 }
 
-/// Reads a capture in either format: what it says of each packet, all of which came in by that device, 0 where that
-/// isn't told, and in that network namespace.
+/// Reads a capture in either format: what it says of each packet, all of which came in by that device, 0 where none
+/// is given, and in that network namespace.
 ///
 /// No bytes are a capture without items. Times, how long a packet was on the wire, and options aren't read; a packet
 /// of an interface whose link type isn't read is passed over. Takes memory for the items, at once for one in each 40

@@ -57,7 +57,7 @@ pub fn link_of(number: u32) -> Option<Link>
 /// The header of libpcap's format that the bytes begin with.
 ///
 /// The largest stored length, which stands there too, isn't read. The link type is the whole number
-/// of four bytes: where its upper bits tell of something else besides, the header is refused.
+/// of four bytes: where its upper bits state something else besides, the header is refused.
 pub fn header_of(bytes: &[u8]) -> Option<Header>
     ensures some { IfSome result (BeginsWithHeader bytes.now) }
     ensures none { IfNone result ((header : Header) → ¬ (BeginsWithHeader bytes.now header)) }

@@ -2,7 +2,7 @@
 //! in the format of libpcap or in pcapng.
 //!
 //! A capture of libpcap's format is a header and records; each record stores the first bytes of a packet. One of
-//! pcapng is sections of blocks: a section's first block tells the order of its bytes, others tell of its interfaces
+//! pcapng is sections of blocks: a section's first block gives the order of its bytes, others describe its interfaces
 //! or store packets of these, and all others are passed over.
 //! [`packets`] reads a whole capture of either format, in either order of bytes and with times of any resolution, and
 //! judges each stored packet: a TCP packet over IPv4 gives the ends by which its socket is looked up, every other is

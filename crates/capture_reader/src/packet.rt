@@ -12,7 +12,7 @@ pub enum Item {
     Packet(Packet),
     /// Another kind of packet, or a fragment that has no TCP header.
     Skip,
-    /// Too few bytes are stored to tell.
+    /// Too few bytes are stored to decide.
     Short,
 }
 

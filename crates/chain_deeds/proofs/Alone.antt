@@ -1,4 +1,4 @@
--- What a call comes to on a pass that was never split, as deeds tell it.
+-- What a call comes to on a pass that was never split, as deeds describe it.
 use Rattle.std.proofs.Common.{◌≡◌, ℕ, ◌<◌, List, [], ◌∷◌, Option, None, Some, find, Result, Ok, Err, sym, ap, ◌∙◌, subst}
 use Rattle.sock_card.specs.declared.card.Card.{Card}
 use Rattle.chain_book.specs.Homes.{chain_count}
@@ -26,7 +26,7 @@ use Rattle.chain_book.specs.declared.book.Change.{Change}
 use Rattle.chain_deeds.specs.Made.{AnswersAlone}
 use Rattle.chain_deeds.proofs.Left.{side}
 
--- Which outcome an answer tells
+-- Which outcome an answer reports
 
 slot_told : (bucket : ℕ) (card : Card) (t : Chains) (o : Option ℕ) (old : Option Hashed) (i : Inserted) → IsTold bucket card (slot_outcome t o old) (Ok i) → slot_outcome t o old ≡ put i.place.slot old
 slot_told bucket card t (Some slot) old i h = ap (λ (p : Place). put p.slot old) (sym h.0)

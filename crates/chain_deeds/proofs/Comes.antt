@@ -1,6 +1,7 @@
 -- Cards that come, as deeds.
 use Rattle.std.proofs.Common.{arith, ◌≡◌, ℕ, ◌+◌, ◌<◌, List, [], ◌∷◌, Option, None, Some, Result, Ok, Err, refl, sym, ap, ◌∙◌, subst, append-nil}
 use Rattle.std.specs.Option.{option_map}
+use Rattle.list_words.specs.Lists.{Each}
 use Rattle.sock_card.specs.declared.card.Card.{Card}
 use Rattle.chain_book.specs.Homes.{chain_count, home}
 use Rattle.chain_book.specs.declared.book.Act.{Act}
@@ -9,7 +10,6 @@ use Rattle.chain_book.specs.declared.book.Change.{Change}
 use Rattle.chain_book.specs.declared.outcome.Hashed.{Hashed}
 use Rattle.chain_book.specs.Chains.{Outcome, put, insert_outcome, waits}
 use Rattle.chain_book.specs.Tuples.{waits_at, may_replace}
-use Rattle.table_rule.specs.Lists.{Each}
 use Rattle.table_rule.specs.Plays.{sight_of, unlocking}
 use Rattle.table_rule.specs.Sole.{IsNow}
 use Rattle.table_rule.specs.declared.view.View.{View}

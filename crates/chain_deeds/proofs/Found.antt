@@ -1,5 +1,6 @@
--- Who is found in a chain that was walked has a card that its words tell, and gives way where nobody keeps the tuple.
+-- Who is found in a chain that was walked has a card that its words give, and gives way where nobody keeps the tuple.
 use Rattle.std.proofs.Common.{◌≡◌, ℕ, ◌&&◌, ◌||◌, not, Bool, true, false, cond, List, [], ◌∷◌, Option, None, Some, find, refl, sym, ap, ◌∙◌, subst}
+use Rattle.list_words.specs.Lists.{Each}
 use Rattle.list_words.proofs.EachLemmas.{some_same}
 use Rattle.sock_card.specs.Words.{packed, unpacked}
 use Rattle.sock_card.specs.TimeWait.{is_time_wait_kind}
@@ -9,7 +10,6 @@ use Rattle.chain_book.specs.declared.outcome.Replace.{Replace}
 use Rattle.chain_book.specs.Tuples.{same_cards, claims_tuple, may_replace, waits_at}
 use Rattle.chain_book.specs.Chains.{keeps, waits}
 use Rattle.table_rule.specs.Beyond.{IsCardWords}
-use Rattle.table_rule.specs.Lists.{Each}
 use Rattle.table_rule.specs.Words.{card_from}
 use Rattle.table_rule.specs.declared.view.Seen.{Seen}
 use Rattle.shared_sockets.specs.Rows.{hashed_in, row_of, HasCard}
@@ -24,7 +24,7 @@ card_told ws h =
     let is : card_from ws ≡ unpacked h.words = ap card_from h.is in
     ap (λ (c : Card). unpacked (packed c)) is ∙ (ap unpacked h.packs ∙ sym is)
 
--- who is found has a told card
+-- who is found has a card that its words give
 pub found_told : (test : Hashed → Bool) (xs : List Seen) (x : Hashed) → Each HasCard xs → find test (row_of xs) ≡ Some x → IsTold x.card
 found_told test [] x cards e = absurd (cc)
 found_told test (s ∷ ss) x cards e = go (test (hashed_in s)) refl (λ e'. found_told test ss x cards.1 e')

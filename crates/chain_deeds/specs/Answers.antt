@@ -24,7 +24,7 @@ place_by card hash = record { bucket = hash.bucket; slot = hash.slot; card = car
 abbrev pub name_in : Change → ℕ
 name_in unhash = unhash.card.name
 
--- the answer tells what was tried
+-- the answer reports what was tried
 abbrev pub IsInserted : Card → Tried → Result Inserted InsertEnd → Type 0
 IsInserted card (hashed hash old) (Ok i) = (i.place ≡ place_by card hash) × (i.replaced ≡ option_map name_in old)
 IsInserted card (kept_out keeper) (Err (ends.Taken name)) = name ≡ keeper

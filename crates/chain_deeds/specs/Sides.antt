@@ -32,7 +32,7 @@ side_of t p = record { layout = t.layout; view = known p.pass; next = p.next }
 abbrev pub act_of : ℕ → Act
 act_of kind = cond (kind == 1) acts.Hash acts.Unhash
 
--- a change that a pass closed, as a record tells it
+-- a change that a pass closed, as a record gives it
 abbrev pub change_of : Closed → Change
 change_of c =
     record {

@@ -18,7 +18,7 @@ use patience::Patience;
 use shared_slots::Full;
 use sock_card::{Card, pack};
 
-// A card is what its words tell.
+// A card is what its words give.
 pub(crate) fn is_told(card: &Card)
     ensures { unpacked (packed card.now) ≡ card.now }
 {
@@ -78,7 +78,7 @@ pub fn remove(table: &ChainTable, pass: &mut ChainPass, locked: Locked, place: P
 
 /// Hashes the TIME_WAIT of a connected socket into its chain, and then takes that socket out.
 ///
-/// Where no slot is free the socket goes without one, and the answer tells how full the slots are. It tries for one
+/// Where no slot is free the socket goes without one, and the answer says how full the slots are. It tries for one
 /// bucket's lock as long as the caller's patience lasts, and takes no memory. None: another pass had the lock for so
 /// long, nothing has changed, and the socket stands at its place.
 pub fn time_wait<P: Patience>(

@@ -35,8 +35,8 @@ pub fn meet(gate: &AtomicU64) {
     }
 }
 
-/// Sleeps for a moment before each step of a change, and for longer before some of a lookup, where it is told to: so
-/// that whole changes come between two steps of a lookup.
+/// Sleeps for a moment before each step of a change, and for longer before some of a lookup, where `sleeps` is set:
+/// so that whole changes come between two steps of a lookup.
 #[derive(Drop)]
 pub struct Pause<'a, R: Clock> {
     pub rt: &'a R,

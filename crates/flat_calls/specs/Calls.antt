@@ -30,7 +30,7 @@ pub record Steps (old new : Numbered) (worker : ℕ) (command : Command) (reply 
   pub counted : new.calls ≡ old.calls + 1
 
 -- What came of the call of a worker: a reply, or nothing was asked, for a cause, and all is as it was. The causes
--- exclude each other, so it is told which of them comes; want of memory alone may come or not where a reply would.
+-- exclude each other, so it is fixed which of them comes; want of memory alone may come or not where a reply would.
 abbrev pub Called : Numbered → Numbered → ℕ → Command → Outcome → Type 0
 Called old new worker command (outcomes.Replied reply) = Steps old new worker command reply
 Called old new worker command outcomes.NoTables = ⊥

@@ -34,7 +34,7 @@ errno_of outcomes.NoMemory = 12
 errno_of outcomes.NoWorker = 22
 errno_of outcomes.NoNumber = 75
 
--- the end that the socket has from then on, as far as the reply tells it
+-- the end that the socket has from then on, as far as the reply gives it
 abbrev pub end_of : Outcome → End
 end_of (outcomes.Replied (replies.End end)) = end
 end_of (outcomes.Replied (replies.Port port)) = record { addr = 0; port = port }

@@ -1,4 +1,4 @@
--- What a list tells: the sockets of the flat list's own list, by their numbers. Our own.
+-- What a list contains: the sockets of the flat list's own list, by their numbers. Our own.
 use Rattle.std.specs.Prelude.{◌/◌, ◌^◌, List, map}
 use Rattle.sock_card.specs.declared.card.Card.{Card}
 use Rattle.flat_list.specs.Listed.{listed}
@@ -8,7 +8,7 @@ use Rattle.flat_calls.specs.Calls.{Numbered}
 use Rattle.flat_calls.specs.Numbers.{number_of}
 use Rattle.flat_calls.specs.Sights.{kind_of}
 
--- what is told of the socket with that card
+-- what is listed of the socket with that card
 abbrev pub item_of : Numbered → Card → Item
 item_of t card =
     record {
@@ -23,6 +23,6 @@ item_of t card =
       net = card.net;
     }
 
--- what is told of all hashed sockets, in the order of a dump
+-- what is listed of all hashed sockets, in the order of a dump
 abbrev pub items_of : Numbered → List Item
 items_of t = map (item_of t) (listed t.flat)

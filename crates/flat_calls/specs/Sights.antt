@@ -1,4 +1,4 @@
--- What a lookup tells: the socket of the flat list's own lookup, by its numbers. Our own.
+-- What a lookup reports: the socket of the flat list's own lookup, by its numbers. Our own.
 use Rattle.std.specs.Prelude.{◌≡◌, ℕ, ◌/◌, ◌^◌, Option, None, Some, length}
 use Rattle.sock_card.specs.declared.card.Card.{Card}
 use Rattle.sock_card.specs.declared.card.Kind.{Kind}

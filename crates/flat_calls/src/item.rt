@@ -1,4 +1,4 @@
-//! What a list tells of a socket.
+//! What a list says of a socket.
 
 /// A socket that lookups find: what it is (1 connected, 2 in TIME_WAIT, 3 a listener, 4 a request), by which numbers it
 /// goes, its own end and the other's (0.0.0.0:0 for a listener), its device (0 for none) and its network namespace.

@@ -45,7 +45,7 @@ fn errno_of_reply(reply: Reply) -> i32
     }
 }
 
-/// The number of errno(3) by which Linux tells it; 0 where the command was carried out.
+/// The number of errno(3) by which Linux reports it; 0 where the command was carried out.
 pub fn errno_of(outcome: Outcome) -> i32
     ensures { result ≡ pos (spec.errno_of outcome) }
 {
@@ -59,7 +59,7 @@ pub fn errno_of(outcome: Outcome) -> i32
     }
 }
 
-/// The end that the socket has from then on, as far as the reply tells it, and else 0.
+/// The end that the socket has from then on, as far as the reply gives it, and else 0.
 pub fn end_of(outcome: Outcome) -> End
     ensures { result ≡ spec.end_of outcome }
 {

@@ -1,4 +1,4 @@
-//! What a lookup tells of the socket that it finds.
+//! What a lookup reports about the socket that it finds.
 
 ghost use Rattle.std.specs.Prelude.{◌≡◌, length};
 ghost use Rattle.flat_calls.specs.Numbers as numbers;

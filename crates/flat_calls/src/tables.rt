@@ -66,7 +66,7 @@ impl Tables {
         }
     }
 
-    /// Carries out a command of the worker of that number, and tells what comes of it.
+    /// Carries out a command of the worker of that number, and returns what comes of it.
     ///
     /// It goes through the whole list, and a search for a port does so for each port that it tries.
     pub fn call(&mut self, worker: u32, command: &Command) -> Outcome

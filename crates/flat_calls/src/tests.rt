@@ -1,4 +1,4 @@
-//! One connection, from the listener to its TIME_WAIT, with what each call tells.
+//! One connection, from the listener to its TIME_WAIT, with what each call reports.
 
 use crate::commands;
 use crate::outcome::{Outcome, count_of, end_of, errno_of, leaves_time_wait};

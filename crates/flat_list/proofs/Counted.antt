@@ -5,11 +5,7 @@ use Rattle.std.proofs.lemmas.Bool.{cases_Bool, both_ways}
 use Rattle.std.proofs.lemmas.List.Sums.{sum_by-cons}
 use Rattle.list_words.specs.Lists.{Each}
 use Rattle.list_words.proofs.EachLemmas.{each_of_all, each_unless_any}
-
--- who passes one test passes the other, which this doesn't
-pub out_if : (a b : Bool) → (a ≡ true → b ≡ true) → b ≡ false → a ≡ false
-out_if true b h e = absurd (both_ways b e (h refl))
-out_if false b h e = refl
+use Rattle.list_words.proofs.Truths.{false_if}
 
 pub count_cons : {A : Type 0} (p : A → Bool) (x : A) (xs : List A) → count_by p (x ∷ xs) ≡ cond {A = ℕ} (p x) 1 0 + count_by p xs
 count_cons p x xs = sum_by-cons (λ y. cond {A = ℕ} (p y) 1 0) x xs
@@ -57,7 +53,7 @@ count_push p (x ∷ xs) y =
 
 count_kept : {A : Type 0} (p keep : A → Bool) (x : A) (xs : List A) → ((y : A) → p y ≡ true → keep y ≡ true) → (b : Bool) → keep x ≡ b → count_by p (filter keep xs) ≡ count_by p xs → count_by p (cond b (x ∷ filter keep xs) (filter keep xs)) ≡ count_by p (x ∷ xs)
 count_kept p keep x xs h true e rest = count_cons p x (filter keep xs) ∙ ap (λ n. cond {A = ℕ} (p x) 1 0 + n) rest ∙ sym (count_cons p x xs)
-count_kept p keep x xs h false e rest = rest ∙ sym (count_no p x xs (out_if (p x) (keep x) (h x) e))
+count_kept p keep x xs h false e rest = rest ∙ sym (count_no p x xs (false_if (p x) (keep x) (h x) e))
 
 pub count_filter : {A : Type 0} (p keep : A → Bool) (xs : List A) → ((x : A) → p x ≡ true → keep x ≡ true) → count_by p (filter keep xs) ≡ count_by p xs
 count_filter p keep [] h = refl
@@ -85,7 +81,7 @@ any_push p (x ∷ xs) y = ap (λ b. p x || b) (any_push p xs y) ∙ or_regroup (
 
 any_kept : {A : Type 0} (p keep : A → Bool) (x : A) (xs : List A) → (p x ≡ true → keep x ≡ true) → (b : Bool) → keep x ≡ b → list_any p (filter keep xs) ≡ list_any p xs → list_any p (cond b (x ∷ filter keep xs) (filter keep xs)) ≡ (p x || list_any p xs)
 any_kept p keep x xs h true e rest = ap (λ b. p x || b) rest
-any_kept p keep x xs h false e rest = rest ∙ ap (λ b. b || list_any p xs) (sym (out_if (p x) (keep x) h e))
+any_kept p keep x xs h false e rest = rest ∙ ap (λ b. b || list_any p xs) (sym (false_if (p x) (keep x) h e))
 
 pub any_filter : {A : Type 0} (p keep : A → Bool) (xs : List A) → Each (λ x. p x ≡ true → keep x ≡ true) xs → list_any p (filter keep xs) ≡ list_any p xs
 any_filter p keep [] h = refl
@@ -99,10 +95,6 @@ any_if Q p x xs (inr fails) h rest e = rest (rw fails at e)
 pub any_gives : {A : Type 0} (Q : Type 0) (p : A → Bool) (xs : List A) → Each (λ x. p x ≡ true → Q) xs → list_any p xs ≡ true → Q
 any_gives Q p [] h e = absurd (both_ways false refl e)
 any_gives Q p (x ∷ xs) h e = any_if Q p x xs (cases_Bool (p x)) h.0 (any_gives Q p xs h.1) e
-
-pub none_any : {A : Type 0} (p : A → Bool) (xs : List A) → Each (λ x. p x ≡ false) xs → list_any p xs ≡ false
-none_any p [] h = refl
-none_any p (x ∷ xs) h = rw (h.0, none_any p xs h.1) refl
 
 -- a fact of each that is kept
 each_if_kept : {A : Type 0} (P : A → Type 0) (b : Bool) (x : A) (ys : List A) → (b ≡ true → P x) → Each P ys → Each P (cond b (x ∷ ys) ys)

@@ -4,8 +4,9 @@ use Rattle.std.specs.List.{list_any}
 use Rattle.std.proofs.lemmas.Bool.{cases_Bool, both_ways, cond_both, and_parts, eqb-true, eqb-false, eq-eqb, ne_eqb, ltb-true, lt-ltb}
 use Rattle.std.proofs.lemmas.Bool.Decides.{nat_tests}
 use Rattle.list_words.specs.Lists.{Each, Pairs}
-use Rattle.list_words.proofs.EachLemmas.{each_weaken, each_both, each_map, each_push, each_filter, each_of_all, each_unless_any, each_found, found_passes}
+use Rattle.list_words.proofs.EachLemmas.{each_weaken, each_both, each_map, each_push, each_filter, each_of_all, each_unless_any, each_found, found_passes, none_any}
 use Rattle.list_words.proofs.PairsLemmas.{pairs_map, pairs_weaken, pairs_both, pairs_of_each, pairs_push, pairs_filter, pairs_found}
+use Rattle.list_words.proofs.Truths.{both_true}
 use Rattle.sock_card.specs.declared.owner.Owner.{Owner}
 use Rattle.sock_card.specs.Limits.{group_room}
 use Rattle.sock_card.specs.Conflict.{is_listening, owner_key, same_port}
@@ -14,7 +15,7 @@ use Rattle.flat_list.specs.declared.socket.Socket.{Socket}
 use Rattle.flat_list.specs.Groups.{Group, has_member, has_members, bucket_of, is_used, is_full_group, join_group, leave_group, left_by, leave, with_group}
 use Rattle.flat_list.specs.Sockets.{has_name, put, replaced, without, is_mate}
 use Rattle.flat_list.specs.Sound.{NamesDiffer, is_sharing, IsInOneGroup, are_together, GroupsAreOfMates, IsGroupOf, NumbersDiffer, AreGroupsOf}
-use Rattle.flat_list.proofs.Counted.{none_counted, none_passing, one_counted, count_map, count_push, count_filter, any_map, any_same, any_push, any_filter, any_gives, none_any, each_filter_kept, each_swap}
+use Rattle.flat_list.proofs.Counted.{none_counted, none_passing, one_counted, count_map, count_push, count_filter, any_map, any_same, any_push, any_filter, any_gives, each_filter_kept, each_swap}
 use Rattle.flat_list.proofs.Memberships.{each_among, joined_other, joined_itself, left_others, left_itself, left_differ, each_left, left_length}
 use Rattle.flat_list.proofs.Puts.{each_put, pairs_put}
 
@@ -437,9 +438,6 @@ mate_bools true true true p d u a h = (refl, refl, refl, h)
 mate_bools true true false p d u a h = absurd (both_ways false refl h)
 mate_bools true false s p d u a h = absurd (both_ways false refl h)
 mate_bools false r s p d u a h = absurd (both_ways false refl h)
-
-both_true : (a b : Bool) → a ≡ true → b ≡ true → (a && b) ≡ true
-both_true a b e f = rw (e, f) refl
 
 mate_parts : (new mate : Socket) → is_mate new.owner mate ≡ true → IsMate new mate
 mate_parts new mate h =

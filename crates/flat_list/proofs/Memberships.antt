@@ -5,10 +5,10 @@ use Rattle.std.proofs.lemmas.Bool.{both_ways, cond_both, eqb-true, eq-eqb, ne_eq
 use Rattle.std.proofs.lemmas.List.{length-map, take-map, take_more}
 use Rattle.std.proofs.Math.Seq.{take-length}
 use Rattle.list_words.specs.Lists.{Each, Pairs}
-use Rattle.list_words.proofs.EachLemmas.{each_weaken, each_map}
+use Rattle.list_words.proofs.EachLemmas.{each_weaken, each_map, none_any}
 use Rattle.list_words.proofs.PairsLemmas.{pairs_map, pairs_weaken, pairs_both, pairs_of_each}
 use Rattle.flat_list.specs.Groups.{Group, has_member, last_of, renamed, left_by, join_group}
-use Rattle.flat_list.proofs.Counted.{any_push, none_any}
+use Rattle.flat_list.proofs.Counted.{any_push}
 
 abbrev pub Differ : List ℕ → Type 0
 Differ xs = Pairs (λ a b. a ≢ b) xs

@@ -17,6 +17,6 @@ key_of text =
 unfoldable pub text_of : LabelKey → List ℕ
 text_of key = take key.length (to_be_bytes w64 key.high ++ to_be_bytes w64 key.low)
 
--- the text's numbers tell the text: so of each label
+-- the text's numbers give the text back: so of each label
 abbrev pub IsLabel : List ℕ → Type 0
 IsLabel text = text_of (key_of text) ≡ text

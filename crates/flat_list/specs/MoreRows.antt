@@ -90,7 +90,7 @@ refusals =
     ∷ says (commands.Connect (codes "any") (Some 0x0A000001) (two 80)) (replies.Enfile 3 0)
     ∷ []
 
--- EMFILE is told before ENFILE, EADDRINUSE before both, and EADDRNOTAVAIL of a bound `connect` before ENFILE
+-- EMFILE is reported before ENFILE, EADDRINUSE before both, and EADDRNOTAVAIL of a bound `connect` before ENFILE
 abbrev pub full_and_grouped : List Line
 full_and_grouped =
     grouped (codes "a") 80

@@ -108,7 +108,7 @@ card_as kind a extra =
       extra = extra;
     }
 
--- the packet that the words of `look` tell of
+-- the packet that the words of `look` describe
 abbrev pub packet_asked : Query → Packet
 packet_asked q =
     record {

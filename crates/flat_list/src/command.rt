@@ -227,7 +227,7 @@ pub enum Reply {
     Found(Option<Card>),
     /// A stored packet that isn't looked up, since it is of another kind.
     Skip,
-    /// A stored packet of which too few bytes are there to tell.
+    /// A stored packet of which too few bytes are there to decide.
     Short,
     /// The label names no open socket of the section.
     Ebadf,

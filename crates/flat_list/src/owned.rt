@@ -183,7 +183,7 @@ pub fn card_as(kind: Kind, owner: &Owner, extra: u32) -> Card
     }
 }
 
-/// The packet that a `look` asks for; a device or a namespace that isn't told is 0.
+/// The packet that a `look` asks for; a device or a namespace that isn't given is 0.
 pub fn packet_of(query: Query) -> Packet
     ensures { result ≡ spec.packet_asked query }
 {

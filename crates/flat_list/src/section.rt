@@ -152,7 +152,7 @@ pub fn name_in(number: u32, sections: &[Section], label: &Label) -> Option<u32>
     }
 }
 
-/// Gives a label in the section of that number, and tells its socket's name. An `Err` changes nothing.
+/// Gives a label in the section of that number, and returns its socket's name. An `Err` changes nothing.
 pub fn give_label(
     alloc: Global,
     header: &Header,

@@ -58,7 +58,7 @@ Hands Is All from to old new makings.NoMemory =
     (old ≡ None) × HoldsShared (λ t. All t → ⊥) from × (new ≡ old) × KeepsTables from to
 Hands Is All from to old new makings.Unfit = ⊥
 
--- no number is told of a worker that wasn't handed out
+-- no number is given for a worker that wasn't handed out
 abbrev pub NumberedIf : Making → ℕ → Type 0
 NumberedIf makings.Made number = Unit {0}
 NumberedIf _ number = number ≡ 0

@@ -1,4 +1,4 @@
--- What a list through a handle tells. Our own.
+-- What a list through a handle reports. Our own.
 use Rattle.std.specs.Prelude.{◌≡◌, ℕ, List, ◌++◌, length, take, drop, Option, None, Some}
 use Rattle.flat_calls.specs.Calls.{Numbered}
 use Rattle.flat_calls.specs.Items.{items_of}
@@ -20,7 +20,7 @@ TellsOf tables old new count tellings.Told =
 TellsOf tables old new count tellings.NoMemory = (new ≡ old) × (count ≡ 0)
 TellsOf tables old new count tellings.NoTables = ⊥
 
--- a list is told so; what else a handle holds is no list, and says so
+-- a list is given so; what else a handle holds is no list, and says so
 abbrev pub ListsIn : Held → List Item → List Item → ℕ → Telling → Type 0
 ListsIn (helds.List tables) old new count telling = TellsOf tables old new count telling
 ListsIn _ old new count telling = (telling ≡ tellings.NoTables) × (new ≡ old) × (count ≡ 0)

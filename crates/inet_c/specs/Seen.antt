@@ -1,4 +1,4 @@
--- What a lookup through a handle tells. Our own.
+-- What a lookup through a handle reports. Our own.
 use Rattle.std.specs.Prelude.{◌≡◌, ℕ, ◌/◌, ◌%◌, ◌^◌, Option, None, Some}
 use Rattle.sock_card.specs.declared.card.Packet.{Packet}
 use Rattle.chain_book.specs.declared.book.PacketAnswer.{PacketAnswer}
@@ -51,7 +51,7 @@ pub record FindsNone (sight : InetSight) (errno : ℕ) : Type 0 where
   pub sight_is : sight ≡ nobody
   pub errno_is : errno ≡ 9
 
--- A list or a looker tells so. What else a handle holds finds nothing, and says so.
+-- A list or a looker answers so. What else a handle holds finds nothing, and says so.
 abbrev pub LooksIn : Held → Held → Packet → InetSight → ℕ → Type 0
 LooksIn (helds.Looker old) (helds.Looker new) packet sight errno = LooksAs old new packet sight errno
 LooksIn (helds.Looker old) _ packet sight errno = ⊥

@@ -12,7 +12,7 @@ use std::alloc::Global;
 /// What came of a list.
 #[derive(Clone, Copy, Debug, PartialEq, Eq)]
 pub enum Telling {
-    /// It is told.
+    /// It is written.
     Told,
     /// The handle has no list.
     NoTables,
@@ -20,7 +20,7 @@ pub enum Telling {
     NoMemory,
 }
 
-/// The number of errno(3) by which Linux tells it.
+/// The number of errno(3) by which Linux reports it.
 pub fn errno_of(telling: Telling) -> i32
     ensures { result ≡ pos (spec.errno_of telling) }
 {

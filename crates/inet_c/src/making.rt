@@ -30,7 +30,7 @@ pub enum Making {
     AllOut,
 }
 
-/// The number of errno(3) by which Linux tells it.
+/// The number of errno(3) by which Linux reports it.
 pub fn errno_of(making: Making) -> i32
     ensures { result ≡ pos (spec.errno_of making) }
 {

@@ -16,8 +16,8 @@ use std::alloc::Global;
 /// How many passes a looker makes through a chain at most, before it gives up.
 const PASSES: u32 = 16;
 
-/// What a lookup tells: the kind of socket (1 connected, 2 in TIME_WAIT, 3 a listener, 4 a request), its worker and its
-/// number; all 0 where no socket takes the packet.
+/// What a lookup reports: the kind of socket (1 connected, 2 in TIME_WAIT, 3 a listener, 4 a request), its worker and
+/// its number; all 0 where no socket takes the packet.
 #[repr(C)]
 #[derive(Clone, Copy, Debug, PartialEq, Eq)]
 pub struct InetSight {
@@ -51,7 +51,7 @@ fn told(found: Option<Sight>) -> InetSight
     }
 }
 
-/// What a looker's answer tells, and its number of errno(3).
+/// What a looker's answer says, and its number of errno(3).
 fn told_by(answer: &PacketAnswer) -> (InetSight, i32)
     ensures sight { result.0 ≡ spec.told_by answer.now }
     ensures errno { result.1 ≡ pos (spec.errno_by answer.now) }

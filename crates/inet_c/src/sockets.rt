@@ -1,7 +1,7 @@
 //! The calls on sockets, as C makes them.
 //!
-//! Each answers 0 or a number of errno(3), and writes what else it tells through its last references. `alloc` takes no
-//! place among the arguments in C.
+//! Each answers 0 or a number of errno(3), and writes what else it reports through its last references. `alloc` takes
+//! no place among the arguments in C.
 
 ghost use Rattle.std.specs.Prelude.{◌≡◌, pos};
 ghost use Rattle.flat_calls.specs.Commands as commands;
@@ -195,7 +195,7 @@ pub extern "C" fn inet_tables_ack(
     errno_of(calls::call(tables, alloc, worker, &command))
 }
 
-/// Closes a socket. `waits` tells whether a TIME_WAIT stays: a connected socket leaves one, where a slot is free for
+/// Closes a socket. `waits` says whether a TIME_WAIT stays: a connected socket leaves one, where a slot is free for
 /// it.
 #[unsafe(no_mangle)]
 pub extern "C" fn inet_tables_close(

@@ -1,4 +1,4 @@
--- An end's text is cut at its colon in one way, an address's at its dots; so the texts tell them apart.
+-- An end's text is cut at its colon in one way, an address's at its dots; so the texts distinguish them.
 use Rattle.std.proofs.Common.{◌≡◌, ℕ, ◌<◌, ◌^◌, List, ◌∷◌, ◌++◌, length, take, drop, decimal, codes, arith, sym, ◌∙◌, lit≤, append_assoc, ◌-◌, ◌/◌, ◌%◌, length-drop}
 use Rattle.std.proofs.lemmas.Fmt.{decimal_injective}
 use Rattle.std.proofs.lemmas.List.{take_all}
@@ -35,7 +35,7 @@ addr_text-nested : (n : ℕ) → addr_text n ≡ nested (n / 2 ^ 24) (n / 2 ^ 16
 unfolding nested
 addr_text-nested n = simp append_assoc
 
--- four numbers with dots tell their numbers
+-- the text of four numbers with dots determines the numbers
 nested-same : (a b c d u v w x : ℕ) → a < 2 ^ 64 → b < 2 ^ 64 → c < 2 ^ 64 → d < 2 ^ 64 → u < 2 ^ 64 → v < 2 ^ 64 → w < 2 ^ 64 → x < 2 ^ 64 → nested a b c d ≡ nested u v w x → (a ≡ u) × (b ≡ v) × (c ≡ w) × (d ≡ x)
 unfolding nested
 nested-same a b c d u v w x fa fb fc fd fu fv fw fx same =

@@ -11,7 +11,7 @@ pub struct Failed;
 
 /// What can be read.
 pub trait Source {
-    /// What is left to be read, where the source tells that.
+    /// What is left to be read, where the source states that.
     ghost left: { Self → Option (List ℕ) };
 
     /// How often a read failed, up to the last value of a `u64`.
@@ -33,7 +33,7 @@ pub trait Source {
 
 /// What can be written.
 pub trait Sink {
-    /// What was written, where the sink tells that.
+    /// What was written, where the sink states that.
     ghost written: { Self → Option (List ℕ) };
 
     /// How often a write failed, up to the last value of a `u64`.

@@ -1,10 +1,10 @@
 //! The outside of the program: a source that is read, a sink that is written, a gate that workers
 //! pass, and the texts of numbers, addresses, ends and labels.
 //!
-//! A `Source` and a `Sink` count their faults and, where they tell their bytes, have them in their
+//! A `Source` and a `Sink` count their faults and, where they state their bytes, have them in their
 //! contracts. So a caller proves what was read and written, and that a failure was a fault of the
-//! end that it was handed. `MemSource` and `MemSink` tell all, for tests; `StdSource` and `StdSink`
-//! go over std's readers and writers, and tell what those tell: of standard input and output,
+//! end that it was handed. `MemSource` and `MemSink` state all, for tests; `StdSource` and `StdSink`
+//! go over std's readers and writers, and state what those state: of standard input and output,
 //! nothing.
 //!
 //! It stands on std, and on `itoa` for decimal text. The contract that callers rest on: `read_all` gives all the

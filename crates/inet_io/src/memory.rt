@@ -1,4 +1,4 @@
-//! Ends in memory, for tests. They tell all their bytes, and fail at the calls that a test names.
+//! Ends in memory, for tests. They state all their bytes, and fail at the calls that a test names.
 ghost use Rattle.std.specs.Prelude.{◌≡◌, ◌≤◌, ◌<◌, [], drop, vec_len};
 ghost use Rattle.std.specs.declared.option.Option.TheVariants.{Some};
 

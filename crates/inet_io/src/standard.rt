@@ -1,6 +1,6 @@
 //! Ends over std's readers and writers: standard input and output, in the program.
 //!
-//! They tell what std tells of the reader or writer, so nothing of the bytes of standard input and
+//! They state what std states of the reader or writer, so nothing of the bytes of standard input and
 //! output; they count each failure. What those two really hold is trusted, not proved.
 ghost use Rattle.std.specs.Prelude.{◌≡◌};
 

@@ -37,8 +37,8 @@ fn digit(n: u32) -> u8
     b'0' + n as u8
 }
 
-/// Puts a number to 255 in decimal digits, and answers the place after it. It has three at most, so that they are told
-/// apart by two tests.
+/// Puts a number to 255 in decimal digits, and answers the place after it. It has three at most, so that two tests
+/// distinguish the cases.
 fn put_octet(out: &mut [u8], at: usize, n: u32) -> usize
     requires small { n < 256 }
     requires room { at + length (decimal n) ≤ length out.old }
@@ -237,7 +237,7 @@ pub fn is_label(word: &[u8]) -> bool
     (1..=16).contains(&word.len()) && all_label_bytes(word)
 }
 
-/// What the texts tell apart: two addresses that differ have different texts, and so have two ends
+/// What the texts distinguish: two addresses that differ have different texts, and so have two ends
 /// that differ in their address or their port.
 pub fn texts_differ()
     ensures addrs { AddrTextsDiffer }

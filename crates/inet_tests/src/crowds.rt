@@ -70,7 +70,7 @@ fn drawn(line: &str) -> u64 {
     }
 }
 
-/// Whether the clock that the race tells last counts what its lines tell.
+/// Whether the clock in the last line counts what the lines of the race report.
 fn is_counted(alloc: Global, text: &str) -> Result<bool, AllocError> {
     let mut clock = 0u64;
     for line in text.lines() {

@@ -64,7 +64,7 @@ const REFUSALS: (&str, &str) = (
      1 connect any ENFILE 3 0\n",
 );
 
-/// EMFILE is told before ENFILE, EADDRINUSE before both, and EADDRNOTAVAIL of a bound connect before ENFILE.
+/// EMFILE is reported before ENFILE, EADDRINUSE before both, and EADDRNOTAVAIL of a bound connect before ENFILE.
 const FULL_AND_GROUPED: (&str, &str) = (
     "\
      table slots 8 bind 1 hash 1 listen 1\n\

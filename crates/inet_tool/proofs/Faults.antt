@@ -44,20 +44,20 @@ module _ (mode : Mode) (bytes : List ℕ) where
   no_fault faults.Capture good h = not_both good h
 
 module _ (mode : Mode) (Out : Output) where
-  -- a reply that tells what is wrong
+  -- a reply that says what is wrong
   pub bad_reply : {E : Type 0} (bytes : List ℕ) (fault : Fault) (result : Result Reply E) → HasFault mode bytes fault
       → IfOk result (λ reply. reply.text.items ≡ fault_text fault) → IfOk result (λ reply. reply.fault ≡ Some fault)
       → IfOk result (λ reply. IsReply mode Out bytes reply.fault reply.text.items)
   bad_reply bytes fault (Ok reply) bad text is = subst (λ (o : Option Fault). IsReply mode Out bytes o reply.text.items) (sym is) (bad, text)
   bad_reply bytes fault (Err end) bad text is = tt
 
-  -- what a reply tells that says what is wrong: the input has that fault, and the text tells it
+  -- what holds where a reply says what is wrong: the input has that fault, and the text states it
   pub told_by : (bytes held : List ℕ) (told : Option Fault) (text : List ℕ) (fault : Fault) → held ≡ bytes → told ≡ Some fault
       → IsReply mode Out held told text → HasFault mode bytes fault × (text ≡ fault_text fault)
   told_by bytes held told text fault same is reply =
       subst (λ (b : List ℕ). HasFault mode b fault × (text ≡ fault_text fault)) same (subst (λ (o : Option Fault). IsReply mode Out held o text) is reply)
 
-  -- what a reply tells that says nothing is wrong: what is written for a script
+  -- what holds where a reply says nothing is wrong: its text is what is written for a script
   pub good_by : (bytes held : List ℕ) (told : Option Fault) (text : List ℕ) → held ≡ bytes → told ≡ None → IsReply mode Out held told text → Out bytes text
   good_by bytes held told text same is reply =
       subst (λ (b : List ℕ). Out b text) same (subst (λ (o : Option Fault). IsReply mode Out held o text) is reply)

@@ -1,4 +1,4 @@
--- What is told of a race can be written, and its text is one of a lawful record, which passes an audit.
+-- What a race returns can be written, and its text is one of a lawful record, which passes an audit.
 use Rattle.std.proofs.Common.{◌≡◌, ◌∙◌, ◌<◌, ◌≤◌, ◌^◌, ℕ, List, ap, length, refl, subst, sym}
 use Rattle.std.specs.Prelude.{Result, Ok, Err}
 use Rattle.audit_laws.specs.Laws.{IsAnswer, SaysYes}

@@ -24,14 +24,14 @@ why_word whys.Twin = codes "twin"
 why_word whys.Receipt = codes "receipt"
 why_word whys.Count = codes "count"
 
--- the line that tells a verdict
+-- the line that states a verdict
 abbrev pub verdict_text : Verdict → List ℕ
 verdict_text (verdicts.Yes lives packets clock) =
     codes "yes lives " ++ decimal lives ++ codes " packets " ++ decimal packets ++ codes " clock " ++ decimal clock
     ++ codes "\n"
 verdict_text (verdicts.No line why) = codes "no line " ++ decimal line ++ codes " " ++ why_word why ++ codes "\n"
 
--- the line that tells an outcome: a verdict, or the first line that keeps a text from being a record
+-- the line that states an outcome: a verdict, or the first line that keeps a text from being a record
 abbrev pub outcome_text : Outcome → List ℕ
 outcome_text (outcomes.Judged verdict) = verdict_text verdict
 outcome_text (outcomes.BadLine n) = codes "bad record line " ++ decimal n ++ codes "\n"
@@ -61,14 +61,14 @@ IsEnd (Refuted n) = Unit {0}
 IsEnd (BadRecord n) = Unit {0}
 IsEnd _ = ⊥
 
--- The input was read to its end, and written grew by the line that tells its outcome, which has that status.
+-- The input was read to its end, and written grew by the line that states its outcome, which has that status.
 abbrev pub WritesOutcome
     : Option (List ℕ) → Option (List ℕ) → Option (List ℕ) → Option (List ℕ) → Status → Type 0
 WritesOutcome left left' written written' status =
     (bytes : List ℕ) × (outcome : Outcome) × ReadsInput left left' bytes × IsOutcome bytes outcome
     × (outcome_status outcome ≡ status) × Appends written written' (outcome_text outcome)
 
--- The input was read to its end, and written grew by a front of the line that was to tell its outcome,
+-- The input was read to its end, and written grew by a front of the line that was to state its outcome,
 -- without the last byte.
 abbrev pub WritesFrontOfOutcome : Option (List ℕ) → Option (List ℕ) → Option (List ℕ) → Option (List ℕ) → Type 0
 WritesFrontOfOutcome left left' written written' =

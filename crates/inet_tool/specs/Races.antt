@@ -34,7 +34,7 @@ RacesSay bytes =
     (script : Script) (capture : Capture) (race : Race) → HasRace bytes script capture → Lawful script capture race
     → Says race
 
--- whatever `audit` is to tell of the text, it is yes
+-- whatever `audit` is to say of the text, it is yes
 abbrev pub Passes : List ℕ → Type 0
 Passes text = (outcome : Outcome) → IsOutcome text outcome → outcome_status outcome ≡ Done
 

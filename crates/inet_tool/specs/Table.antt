@@ -38,7 +38,7 @@ abbrev pub HasFault : Mode → List ℕ → Fault → Type 0
 HasFault mode bytes (faults.Line n) = IsFirstOutside mode (lines_of bytes) n
 HasFault mode bytes faults.Capture = HasBadCapture mode bytes
 
--- the line that tells a fault
+-- the line that states a fault
 abbrev pub fault_text : Fault → List ℕ
 fault_text (faults.Line n) = codes "bad script line " ++ decimal n ++ codes "\n"
 fault_text faults.Capture = codes "bad capture\n"
@@ -65,7 +65,7 @@ IsRunOf bytes out = FlatOut bytes out × InputRunsSound bytes
 abbrev pub Output : Type 1
 Output = List ℕ → List ℕ → Type 0
 
--- The text is what is to be written for an input, where `Out` is written for a script: that, or the line that tells
+-- The text is what is to be written for an input, where `Out` is written for a script: that, or the line that states
 -- the input's fault, where it has one.
 abbrev pub IsReply : Mode → Output → List ℕ → Option Fault → List ℕ → Type 0
 IsReply mode Out bytes None text = Out bytes text
@@ -80,7 +80,7 @@ WritesOut Out left left' written written' =
 abbrev pub WritesFlatOut : Option (List ℕ) → Option (List ℕ) → Option (List ℕ) → Option (List ℕ) → Type 0
 WritesFlatOut = WritesOut IsRunOf
 
--- The input was read to its end and has that fault, and written grew by the line that tells it.
+-- The input was read to its end and has that fault, and written grew by the line that states it.
 abbrev pub WritesFault : Mode → Option (List ℕ) → Option (List ℕ) → Option (List ℕ) → Option (List ℕ) → Fault → Type 0
 WritesFault mode left left' written written' fault =
     (bytes : List ℕ) × ReadsInput left left' bytes × HasFault mode bytes fault

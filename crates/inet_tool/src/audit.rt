@@ -100,7 +100,7 @@ fn why_word(why: Why) -> &'static str
     }
 }
 
-/// The line that tells an outcome.
+/// The line that states an outcome.
 fn text_of(alloc: Global, outcome: Outcome) -> Result<Vec<u8>, AllocError>
     ensures { IfOk result (λ text. text.items ≡ spec.outcome_text outcome) }
 {

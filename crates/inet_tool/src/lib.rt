@@ -122,7 +122,7 @@ pub fn inet<R: Threads + Wait + Sync + RandomSource, S: Source, K: Sink, G: Gate
     // The input is read by so many reads at most.
     ensures reads { S.calls source.new ≤ S.calls source.old + limit + 1 }
 
-    // Which status the input of `run` or `race` gets, where the source tells it.
+    // Which status the input of `run` or `race` gets, where the source states it.
     ensures verdict { (mode : Mode) → AsksToRead mode (map string_bytes words.now)
         → IfSome (S.left source.old) (λ bytes. Answers mode bytes result) }
     ensures over_limit { (mode : Mode) → AsksToRead mode (map string_bytes words.now)
@@ -150,7 +150,7 @@ pub fn inet<R: Threads + Wait + Sync + RandomSource, S: Source, K: Sink, G: Gate
     ensures make_ends { (seed count : ℕ) → IsMake (map string_bytes words.now) seed count
         → (result ≡ Status.Done) ⊎ ((result ≡ Status.WriteFault) ⊎ (result ≡ Status.Memory)) }
 
-    // `audit` writes the line that tells what came of it: a verdict on the record, or the line that keeps it from
+    // `audit` writes the line that says what came of it: a verdict on the record, or the line that keeps it from
     // being one. Which that is the bytes determine, and they get it, where neither end failed and memory was there.
     ensures audited { IsAudit (map string_bytes words.now) → IsEnd result → WritesOutcome
         (S.left source.old) (S.left source.new) (K.written sink.old) (K.written sink.new) result }
@@ -167,7 +167,7 @@ pub fn inet<R: Threads + Wait + Sync + RandomSource, S: Source, K: Sink, G: Gate
         → ¬ (Rose (K.faults sink.old) (K.faults sink.new))
         → (result ≡ outcome_status outcome) ⊎ (result ≡ Status.Memory)) }
 
-    // A script isn't told to be no record, nor a record to be no script.
+    // A script isn't reported to be no record, nor a record to be no script.
     ensures no_record { (mode : Mode) → AsksToRead mode (map string_bytes words.now)
         → (n : ℕ) → (result ≡ Status.BadRecord n → ⊥) × (result ≡ Status.Refuted n → ⊥) }
     ensures no_script { IsAudit (map string_bytes words.now)

@@ -46,7 +46,7 @@ pub fn reply_to<R: Wait>(
     Ok(Reply { text, fault: None })
 }
 
-/// The reply that tells what is wrong.
+/// The reply that says what is wrong.
 pub fn refusal(alloc: Global, fault: Fault) -> Result<Reply, AllocError>
     ensures text { IfOk result (λ reply. reply.text.items ≡ fault_text fault) }
     ensures fault { IfOk result (λ reply. reply.fault ≡ Some fault) }
@@ -58,7 +58,7 @@ pub fn refusal(alloc: Global, fault: Fault) -> Result<Reply, AllocError>
     })
 }
 
-/// The line that tells what is wrong.
+/// The line that says what is wrong.
 fn text_of(alloc: Global, fault: Fault) -> Result<Vec<u8>, AllocError>
     ensures { IfOk result (λ text. text.items ≡ fault_text fault) }
 {

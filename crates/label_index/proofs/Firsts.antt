@@ -75,13 +75,13 @@ noted_again old between new label place i v is l at puts back labels count tells
     ∙ ap (λ (o : Option ℕ). cond (bytes_eq label text) (Some i) o) (tells text m)
     ∙ sym (given_again labels label text i (bytes_eq label text) refl there)
 
--- what the map has at a label's key tells whether the label is new
+-- what the map has at a label's key shows whether the label is new
 pub told_new : (firsts : Firsts) (label : List ℕ) (v : LabelKey) (o : Option ℕ) → v ≡ key_of label → IsLabel label → o ≡ get key_eq firsts v
     → TellsNew firsts label (not (is_some o))
 told_new firsts label v o is l at labels tells =
     ap (λ (p : Option ℕ). not (is_some p)) (at ∙ ap (get key_eq firsts) is ∙ tells label l)
 
--- a map in another order tells the same places
+-- a map in another order gives the same places
 pub reordered : (old new : Firsts) (count : ℕ) (labels : List (List ℕ)) → ((key : LabelKey) → get key_eq new key ≡ get key_eq old key)
     → AreFirsts old count labels → AreFirsts new count labels
 reordered old new count labels same are =

@@ -16,7 +16,7 @@ labels_in (After' label shape before) = labels_in before ++ label ∷ []
 abbrev pub key_eq : LabelKey → LabelKey → Bool
 key_eq a b = nat_eq a.high b.high && (nat_eq a.low b.low && nat_eq a.length b.length)
 
--- the map tells of each label, by its key, where it was given first
+-- the map gives for each label, by its key, the place where it was given first
 abbrev pub TellsPlaces : HashMap LabelKey ℕ LabelSeed → List (List ℕ) → Type 0
 TellsPlaces firsts labels =
     (label : List ℕ) → IsLabel label → get key_eq firsts (key_of label) ≡ place_in labels label
@@ -26,7 +26,7 @@ abbrev pub NotesPlace : HashMap LabelKey ℕ LabelSeed → List ℕ → ℕ → 
 NotesPlace old label place new =
     (labels : List (List ℕ)) → length labels ≡ place → TellsPlaces old labels → TellsPlaces new (labels ++ label ∷ [])
 
--- whether a label is new is what the map tells
+-- whether a label is new is what the map says
 abbrev pub TellsNew : HashMap LabelKey ℕ LabelSeed → List ℕ → Bool → Type 0
 TellsNew firsts label new =
     (labels : List (List ℕ)) → TellsPlaces firsts labels → new ≡ not (is_some (place_in labels label))

@@ -38,7 +38,7 @@ impl Model for LabelIndex {
     ghost invariant = { λ l. AreFirsts l.firsts l.count (labels_in l.log.value) };
 }
 
-/// Notes the place of a label, unless it was given before, and tells whether it is new.
+/// Notes the place of a label, unless it was given before, and returns whether it is new.
 fn note_place(
     firsts: &mut HashMap<LabelKey, usize, LabelSeed>,
     label: &Label,
@@ -100,7 +100,7 @@ impl LabelIndex {
         Ok(())
     }
 
-    /// Gives a label as `give` does, and tells whether it is new, at the same cost.
+    /// Gives a label as `give` does, and returns whether it is new, at the same cost.
     pub fn give_and_tell(&mut self, label: &Label) -> Result<bool, AllocError>
         ensures given { OnOk result (self.new ≡ self.old ++ label.now ∷ []) }
         ensures told { IfOk result (λ new. new ≡ not (is_some (place_in self.old label.now))) }

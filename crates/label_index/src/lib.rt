@@ -2,7 +2,7 @@
 //!
 //! A [`LabelIndex`] is seen as the list of the labels given, in order. It keeps none of them but by its key, and finds
 //! one by its hash, whatever their count. Strangers choose the labels, so each hash begins with a [`LabelSeed`],
-//! which a program draws anew and tells nobody: labels that were chosen before aren't likely to share their hashes.
+//! which a program draws anew and keeps secret: labels that were chosen before aren't likely to share their hashes.
 //!
 //! ```text
 //! let seed = LabelSeed::random(&rt);

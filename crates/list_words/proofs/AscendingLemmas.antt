@@ -35,7 +35,7 @@ tie_apart a b d = elim (cases_lt a b) as (λ _. tie a b ≡ false) [
   | inr m ↦ tie_more a b (omega (arith, m, d))
 ]
 
--- whether they tie tells whether they are one
+-- two that tie are one
 pub tie_true : (a b : ℕ) → tie a b ≡ true → a ≡ b
 tie_true a b t = elim (cases_lt a b) as (λ _. a ≡ b) [
   | inl l ↦ absurd (true≢false (sym t ∙ tie_less a b l))

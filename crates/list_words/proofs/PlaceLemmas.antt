@@ -1,5 +1,5 @@
 -- Lists that change at one place or at their end: facts of each item, and what all weigh.
-use Rattle.std.proofs.Common.{◌≡◌, ◌≢◌, ℕ, zero, suc, ◌+◌, ◌<◌, ◌≤◌, List, [], ◌∷◌, ◌++◌, set, length, sym, refl, ap, subst, arith}
+use Rattle.std.proofs.Common.{◌≡◌, ◌≢◌, ℕ, zero, suc, ◌+◌, ◌*◌, ◌<◌, ◌≤◌, List, [], ◌∷◌, ◌++◌, set, length, sym, refl, ap, subst, arith}
 use mathlib.Core.Option.{some, some-injective, some-ne-none}
 use lib.ListN.{get_elem?}
 use Rattle.list_words.specs.Lists.{total}
@@ -38,6 +38,15 @@ module _ {A : Type 0} where
   pub each_set_two : (l : List A) (i j : ℕ) (w n : A) (P : A → Type 0) → P w → P n → ((k : ℕ) (u : A) → get_elem? l k ≡ some u → P u) → (k : ℕ) (u : A) → get_elem? (set (set l i w) j n) k ≡ some u → P u
   each_set_two l i j w n P here too there = each_set (set l i w) j n P too (λ k u _ e. each_set l i w P here (λ q y _ d. there q y d) k u e)
 
+  pub length_push : (l : List A) (n : A) → length (l ++ n ∷ []) ≡ length l + 1
+  length_push [] n = refl
+  length_push (x ∷ xs) n = omega (arith, length_push xs n)
+
+  -- where each item weighs within c times another weight, so do all
+  pub total-within : (c : ℕ) (g h : A → ℕ) (l : List A) → ((k : ℕ) (v : A) → get_elem? l k ≡ some v → g v ≤ h v * c) → total g l ≤ total h l * c
+  total-within c g h [] p = omega arith
+  total-within c g h (x ∷ xs) p = let a = p 0 x refl in let b = total-within c g h xs (λ k v e. p (suc k) v e) in grind arith
+
   module _ (g : A → ℕ) where
     -- what all weigh, after one changed
     pub total-set : (l : List A) (j : ℕ) (v w : A) → get_elem? l j ≡ some v → total g (set l j w) + g v ≡ total g l + g w
@@ -51,7 +60,11 @@ module _ {A : Type 0} where
     term_le (x ∷ xs) zero v e = omega (arith, ap g (some-injective x v e))
     term_le (x ∷ xs) (suc j) v e = omega (arith, term_le xs j v e)
 
-    -- nor do two
+    -- where all weigh nothing, no item weighs anything
+    pub no_terms : (l : List A) (k : ℕ) (a : A) → 0 < g a → get_elem? l k ≡ some a → total g l ≡ 0 → ⊥
+    no_terms l k a weighs e none = omega (arith, none, weighs, term_le l k a e)
+
+    -- two items weigh no more than all
     pub terms_le : (l : List A) (j k : ℕ) (v u : A) → k ≢ j → get_elem? l j ≡ some v → get_elem? l k ≡ some u → g v + g u ≤ total g l
     terms_le [] j k v u n e d = absurd (some-ne-none v (sym e))
     terms_le (x ∷ xs) zero zero v u n e d = absurd (n refl)

@@ -1,4 +1,4 @@
-//! What a lookup tells as it goes, and what it answers.
+//! What a lookup reports as it goes, and what it answers.
 
 use shared_slots::Held;
 use sock_card::{Card, CardWords};
@@ -10,7 +10,7 @@ pub enum Point {
     Start,
     /// The load of the bucket's head, as a pass begins.
     Head,
-    /// A load of one of the two card words that tell a rank.
+    /// A load of one of the two card words that determine a rank.
     Key(u32),
     /// The taking of a count.
     Take(u32),

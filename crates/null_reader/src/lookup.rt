@@ -11,9 +11,7 @@ ghost use Rattle.table_rule.specs.Words.{bucket_count};
 use super::answers::{Best, Pace, PassEnd, Point, Turn, WordsEnd, WordsLook};
 use shared_slots::Held;
 use sock_card::{CardWords, Packet, word_rank};
-use table_rule::{Chains, First, Second, Steps};
-
-const LIVE: u64 = 3 << 62;
+use table_rule::{Chains, First, LEAST_LIVE, Second, Steps};
 
 // How well the card that begins with these words fits a packet.
 #[inline(always)]
@@ -113,7 +111,7 @@ fn visit<P: Pace>(
         return Ok(None);
     }
     pace.step(Point::Take(slot));
-    if chains.step_take_best(steps, slot) < LIVE {
+    if chains.step_take_best(steps, slot) < LEAST_LIVE {
         pace.step(Point::Put(slot));
         chains.step_put_dead(steps, slot);
         return Err(PassEnd::Dead(slot));

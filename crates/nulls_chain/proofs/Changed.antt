@@ -2,7 +2,10 @@
 use Rattle.std.proofs.Common.{map, ◌≡◌, ◌≢◌, ℕ, ◌%◌, ◌<◌, List, [], ◌∷◌, ◌++◌, ◌⊎◌, inl, inr, ⊎_elim, Option, None, Some, true, false, cond, Bool, eqb, eq-eqb, ne_eqb, ◌/◌, sym, refl, ap, ◌∙◌, arith, subst}
 use mathlib.Core.Logic.{dite}
 use native.Mathlib.Decide.{ℕ_discrete}
-use Rattle.table_rule.specs.Lists.{Each, times, total, stands, slots_of}
+use Rattle.list_words.proofs.EachLemmas.{each_weaken}
+use Rattle.list_words.proofs.TotalLemmas.{total-append}
+use Rattle.list_words.specs.Lists.{Each, total}
+use Rattle.table_rule.specs.Lists.{times, stands, slots_of}
 use Rattle.table_rule.specs.CardsOk.{tuple, bears, claims, has_tuple, may_claim, all_claims, beside, Differs, MayLight}
 use Rattle.table_rule.specs.Plays.{advancing, beginning, dropping_beginning}
 use Rattle.nulls_chain.specs.Changes.{going, Apart, IsAlone, HasNoTwin, Stands, Adds, Rest, TwoDrawn}
@@ -19,7 +22,7 @@ use Rattle.table_rule.specs.Owners.{IsPlace}
 use Rattle.atomic_table.proofs.Lists.{at_longer}
 use Rattle.table_rule.proofs.CardSteps.{at_end, bears_few, full_has}
 use Rattle.sock_card.specs.declared.words.CardWords.{CardWords}
-use Rattle.table_rule.proofs.Lists.{total-append, times-here, times-append, slots-append, each-map}
+use Rattle.table_rule.proofs.Lists.{times-here, times-append, slots-append}
 use mathlib.Core.Option.{some, some-injective, some-ne-none}
 use lib.ListN.{get_elem?}
 use Rattle.table_rule.specs.Words.{bucket_count, home_of}
@@ -34,7 +37,7 @@ stands_in layout (Some before) slot v h = let t = h.1 in subst (λ (l : List See
 -- a card that is alone has no twin
 pub no_twin : (card : CardWords) (xs : List Seen) → IsAlone card xs → HasNoTwin card xs
 no_twin card xs alone full =
-    each-map (Apart claims card.ends card.ports) (Apart bears card.ends card.ports) xs
+    each_weaken (Apart claims card.ends card.ports) (Apart bears card.ends card.ports) xs
     (λ s d. record { ends = d.ends; ports = d.ports; has-ends = d.has-ends; has-ports = d.has-ports; apart = omega (arith, bears_few (tuple card.ends card.ports) d.ends d.ports, d.apart) })
     (alone (full_has card.ports full))
 
@@ -50,7 +53,7 @@ may_light slot card xs twin = record {
   has-b = refl;
   alone = λ full. (
     record { ends = card.ends; ports = card.ports; has-ends = refl; has-ports = refl; apart = λ ne. absurd (ne refl) },
-    each-map (Apart bears card.ends card.ports) (Differs slot card.ends card.ports) xs (λ s d. record { ends = d.ends; ports = d.ports; has-ends = d.has-ends; has-ports = d.has-ports; apart = λ ne. d.apart }) (twin full),
+    each_weaken (Apart bears card.ends card.ports) (Differs slot card.ends card.ports) xs (λ s d. record { ends = d.ends; ports = d.ports; has-ends = d.has-ends; has-ports = d.has-ports; apart = λ ne. d.apart }) (twin full),
   );
 }
 

@@ -2,7 +2,8 @@
 use Rattle.std.proofs.Common.{◌≡◌, ◌≢◌, ◌==◌, ◌%◌, ℕ, ◌+◌, ◌*◌, ◌<◌, ◌≤◌, List, [], ◌∷◌, ◌++◌, inl, ⊎_elim, Option, None, Some, true, false, cond, Bool, ne_eqb, eq-eqb, sym, refl, ap, ◌∙◌, arith, subst, length, append_assoc, find, eqb, slice_index}
 use mathlib.Core.Logic.{dite}
 use native.Mathlib.Decide.{ℕ_discrete}
-use Rattle.table_rule.specs.Lists.{times, stands, slots_of, Each}
+use Rattle.list_words.specs.Lists.{Each}
+use Rattle.table_rule.specs.Lists.{times, stands, slots_of}
 use Rattle.table_rule.specs.ChainsOk.{first_link}
 use Rattle.table_rule.specs.Owners.{time_waits, IsPlace}
 use Rattle.table_rule.specs.Plays.{card_in, PlacesListed, PlacesApart}

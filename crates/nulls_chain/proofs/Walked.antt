@@ -4,7 +4,8 @@ use mathlib.Core.Logic.{dite}
 use native.Mathlib.Decide.{ℕ_discrete, dec_le}
 use mathlib.Core.Option.{some, some-ne-none}
 use lib.ListN.{get_elem?}
-use Rattle.table_rule.specs.Lists.{times, stands, slots_of, Each}
+use Rattle.list_words.specs.Lists.{Each}
+use Rattle.table_rule.specs.Lists.{times, stands, slots_of}
 use Rattle.table_rule.specs.Sole.{IsRead}
 use Rattle.table_rule.specs.Plays.{PlacesListed, card_in}
 use Rattle.table_rule.specs.Owners.{IsPlace}

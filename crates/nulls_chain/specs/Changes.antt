@@ -3,10 +3,10 @@
 use Rattle.std.specs.Prelude.{true, ◌+◌, ◌≡◌, ◌≢◌, ◌==◌, ℕ, ◌<◌, ◌≤◌, ◌%◌, List, [], ◌∷◌, ◌++◌, Option, None, Some, Bool, cond, false, find, slice_index, ◌⊎◌}
 use mathlib.Core.Option.{some}
 use lib.ListN.{get_elem?}
+use Rattle.list_words.specs.Lists.{Each}
 use Rattle.table_rule.specs.CardsOk.{bears, claims, has_tuple, tuple}
 use Rattle.table_rule.specs.declared.view.ChainView.{ChainView}
 use Rattle.sock_card.specs.declared.words.CardWords.{CardWords}
-use Rattle.table_rule.specs.Lists.{Each}
 use Rattle.table_rule.specs.declared.view.View.{View}
 use Rattle.table_rule.specs.declared.view.Layout.{Layout}
 use Rattle.table_rule.specs.declared.view.Seen.{Seen}
@@ -41,7 +41,7 @@ HasNoTwin card xs = card.ports % 16 ≡ 1 → Each (Apart bears card.ends card.p
 abbrev pub hashed : ChainView → ℕ → CardWords → ChainView
 hashed v slot card = record v { walked = seen_of slot card ∷ v.walked }
 
--- the slot stands in the list behind another, or first, and the walk tells its link
+-- the slot stands in the list behind another, or first, and the walk shows its link
 abbrev pub StandsAfter : Layout → ℕ → ℕ → View → Type 0
 StandsAfter layout before slot v =
     (before < layout.shape.slots)

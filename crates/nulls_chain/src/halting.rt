@@ -1,4 +1,4 @@
-//! What a change tells as it goes.
+//! What a change reports as it goes.
 
 /// A step of a change that is to come.
 #[derive(Clone, Copy, Debug, PartialEq, Eq)]

@@ -3,7 +3,7 @@
 //! [`walk`] goes on to the next socket of a locked bucket's chain. [`hash`] puts a card first into it, and answers
 //! its [`Place`]; [`unhash`] takes a place out, [`unhash_tw`] a TIME_WAIT by its name, [`unhash_slot`] a slot that a
 //! walk found: one change each, with two numbers of the clock, which lookups that lock nothing may meet at any step.
-//! [`hash_with`] and [`unhash_with`] tell a [`Halt`] of each step before it comes.
+//! [`hash_with`] and [`unhash_with`] report each step to a [`Halt`] before it comes.
 //!
 //! ```text
 //! let mut locked = lock(&chains, &Waits::by(&rt), &mut pass.steps, bucket).unwrap();

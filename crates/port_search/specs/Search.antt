@@ -112,7 +112,7 @@ pub record ConnectsNowhere {F T : Type 0} (step : F → ℕ → Attempt T → F 
   pub refused : AllRefused step (helds old) net ports first last
   pub left : new ≡ freed old net ports
 
--- whoever waits for good is never told that another had a turn for too long
+-- whoever waits for good never gets the answer that another had a turn for too long
 abbrev pub IsNotBusy : SearchEnd → Type 0
 IsNotBusy ends.Busy = ⊥
 IsNotBusy _ = Unit {0}

@@ -9,7 +9,7 @@ pub enum SearchEnd {
     Full { owned: u32, held: u32 },
     /// For want of memory.
     Memory,
-    /// Another had a bucket's turn for longer than the caller tries. The ports that were refused before stay told.
+    /// Another had a bucket's turn for longer than the caller tries. The entries of the ports refused before stay.
     Busy,
 }
 

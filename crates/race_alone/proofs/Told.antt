@@ -1,4 +1,4 @@
--- What plain tables make of a plan, told by deeds.
+-- What plain tables make of a plan, described by deeds.
 use Rattle.std.proofs.Common.{◌≡◌, ℕ, Bool, true, false, ◌&&◌, ◌||◌, not, List, [], ◌∷◌, Option, Some, None, find, cond, unwrap_or, length, inl, inr, refl, sym, ap, ◌∙◌, subst}
 use Rattle.std.proofs.lemmas.Bool.{true≢false}
 use Rattle.sock_card.specs.declared.card.Card.{Card}

@@ -2,17 +2,9 @@
 use Rattle.std.proofs.Common.{List, [], ◌∷◌, ◌++◌}
 use Rattle.std.specs.List.{flat_map}
 use Rattle.list_words.specs.Lists.{Each, Pairs}
-use Rattle.list_words.proofs.EachLemmas.{each_append}
+use Rattle.list_words.proofs.EachLemmas.{each_append, each_back, each_front}
 
 module _ {A : Type 0} where
-  pub each_front : (P : A → Type 0) (xs ys : List A) → Each P (xs ++ ys) → Each P xs
-  each_front P [] ys e = tt
-  each_front P (x ∷ xs) ys e = (e.0, each_front P xs ys e.1)
-
-  pub each_back : (P : A → Type 0) (xs ys : List A) → Each P (xs ++ ys) → Each P ys
-  each_back P [] ys e = e
-  each_back P (x ∷ xs) ys e = each_back P xs ys e.1
-
   pub pairs_front : (R : A → A → Type 0) (xs ys : List A) → Pairs R (xs ++ ys) → Pairs R xs
   pairs_front R [] ys e = tt
   pairs_front R (x ∷ xs) ys e = (each_front (R x) xs ys e.0, pairs_front R xs ys e.1)

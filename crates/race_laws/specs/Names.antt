@@ -1,5 +1,5 @@
--- What names tell in a lawful race: our own. A name is a section's number and that of a label there. A section with
--- fewer than 2 ^ 24 labels gives none of another's names: so the script has to be small, as each is that is read.
+-- What names identify in a lawful race: our own. A name is a section's number and that of a label there. A section
+-- with fewer than 2 ^ 24 labels gives none of another's names: so the script has to be small, as each is that is read.
 use Rattle.std.specs.Prelude.{◌≡◌, ◌≢◌, ℕ, ◌<◌, Some}
 use Rattle.list_words.specs.Lists.{Each, Pairs}
 use Rattle.sock_card.specs.declared.card.Card.{Card}
@@ -14,7 +14,7 @@ use Rattle.race_book.specs.Lives.{IsLife, Stood, Throughout}
 use Rattle.race_record.specs.Record.{Race, listings_of}
 use Rattle.race_record.specs.Lawful.{Lawful}
 
--- two hashes of one name as one kind are one change: its name and kind tell a life
+-- two hashes of one name as one kind are one change: name and kind identify a life
 abbrev pub HashesOnce : (Change → Type 0) → Type 0
 HashesOnce In =
     (g h : Change) → IsLife In g → IsLife In h → g.card.name ≡ h.card.name → g.card.kind ≡ h.card.kind → g ≡ h

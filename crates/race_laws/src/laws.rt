@@ -1,4 +1,4 @@
-//! What names tell in a lawful race, and in which order a request hands over to its connection.
+//! What names identify in a lawful race, and in which order a request hands over to its connection.
 
 ghost use Rattle.race_laws.specs.Handovers.{AcksHandOver};
 ghost use Rattle.race_laws.specs.Names.{HashedOnce, ListsNamesOnce};

@@ -1,4 +1,4 @@
--- What deeds tell leads a plan where the deeds do.
+-- What deeds report leads a plan where the deeds do.
 use Rattle.std.proofs.Common.{◌≡◌, ℕ, ◌%◌, List, [], ◌∷◌, map, refl, sym, ap}
 use Rattle.turn_table.specs.Journals.{placed}
 use Rattle.table_model.specs.Asking.{Asking, ends, asks, inserts, adds, unhashes, reaps}

@@ -48,7 +48,7 @@ counting = record {
   weaken = λ P Q f h o. f o (h o);
 }
 
--- with so many before, the plan seeks in vain as often as its result tells
+-- with so many before, the plan seeks in vain as often as its result says
 abbrev IsTold : {R : Type 0} → (R → ℕ) → ℕ → R → Type 0
 IsTold told k r = k ≡ told r
 
@@ -230,7 +230,7 @@ reap_each : (ws : List Mine) (count : ℕ) → Vains 0 told_count (op.reap_each 
 reap_each [] count = refl
 reap_each (w ∷ rest) count = reaped_next w count (op.reap_each rest) (reap_each rest)
 
--- what a command's reply tells
+-- what a command's reply says
 abbrev told_reply : Replied → ℕ
 told_reply r = cond (drew_for r.reply) 1 0
 
@@ -238,7 +238,7 @@ told_reply r = cond (drew_for r.reply) 1 0
 replied : {R : Type 0} (told : R → ℕ) (p : Asking R) (reply : R → Replied) → Vains 0 told p → ((x : R) → told x ≡ told_reply (reply x)) → Vains 0 told_reply (and_then p (λ x. ends (reply x)))
 replied told p reply h same = tries_then counting (IsTold told) (IsTold told_reply) p (λ x. ends (reply x)) 0 h (λ k x e. e ∙ same x)
 
--- how each operation's result is told
+-- each operation's result says the same as the reply that is made of it
 same_bind : (own : Own) (d : Did) → told_did d ≡ told_reply (command.bind_reply own d)
 same_bind own (refused (errors.Full o h)) = refl
 same_bind own d = refl

@@ -103,7 +103,7 @@ module _ (w : Walk) where
     replaced_then None next h = h
     replaced_then (Some old) next h = λ answer. h
 
-  -- `Fits` tells which outcomes come, and `Makes` what deeds make of a state
+  -- `Fits` says which outcomes come, and `Makes` what deeds make of a state
   module _ (Fits : Tried → Type 0) (at : (P : Outcome → Type 0) (tried : Tried) → Fits tried → w.Every P → P (outcome_of tried)) (Makes : w.Known → List Deed → w.Known → Type 0) where
     abbrev pub DeedFits : Deed → Type 0
     DeedFits (inserted wish tried) = Fits tried

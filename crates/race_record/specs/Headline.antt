@@ -64,7 +64,7 @@ pub record Headline (race : Race) : Type 0 where
   -- each dump lists what stood hashed throughout, nothing that stood at no time meanwhile, and nothing twice
   pub dumps : Each (ListsWhatStood (Among race.book)) (listings_of race)
 
--- what the numbers of the clock tell: none stands twice in the book, all are below the clock, each change begins
+-- what the numbers of the clock show: none stands twice in the book, all are below the clock, each change begins
 -- before it ends; and there are two for each change and one for each command that sought a slot in vain
 pub record NumbersTell (race : Race) : Type 0 where
   pub distinct : StampsDiffer race.book

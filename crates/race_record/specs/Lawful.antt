@@ -153,7 +153,7 @@ module _ (In : Change → Type 0) (from to : ℕ) where
     pub since : from ≤ sighting.since
     pub until : sighting.until ≤ to
 
-  -- no slot was free: each was owned, as lives tell, or else only held, which needs somebody who took counts
+  -- no slot was free: each was owned, as lives show, or else only held, which needs somebody who took counts
   pub record NoneWasFree (slots counts : ℕ) (sightings : List Sighting) (v : Vain) : Type 0 where
     pub owned : List ℕ
     pub held : List ℕ
@@ -261,9 +261,9 @@ pub record Lawful (script : Script) (capture : Capture) (race : Race) : Type 0 w
   -- the book holds what the steps changed, and no number of the clock is without its use
   pub book : IsBookOf race
   pub serial : IsSerial (Among race.book) race.shape race.seed
-  -- whoever was told to keep a four-tuple stood meanwhile
+  -- whoever is reported to have kept a four-tuple stood meanwhile
   pub taken : Each (TakenWereKept race) (steps_of race)
-  -- no slot was free where none was told to be
+  -- no slot was free where none was reported to be
   pub slots : Each (SlotsWereUsed race) (steps_of race)
   -- each dump lists what was there throughout, and nothing that wasn't there
   pub dumps : Each (Lists race) (steps_of race)

@@ -33,7 +33,7 @@ drew_for _ = false
 abbrev pub drew_in_vain : Step → Bool
 drew_in_vain s = drew_for s.reply
 
--- a command sought a slot in vain once where its reply says so, and else never: so replies tell how many numbers of
+-- a command sought a slot in vain once where its reply says so, and else never: so replies show how many numbers of
 -- the clock belong to no change
 abbrev pub RepliesTellVain : Type 0
 RepliesTellVain =
@@ -55,7 +55,7 @@ GoesApart =
     (p : Asking Did) (next : Did → Asking Replied) (deeds : List Deed) (result : Replied)
     → Goes (and_then p next) deeds result → GoesInTwo p next deeds result
 
--- what a deed tells a plan, apart from the numbers of the clock: as the plans of table_model go on
+-- what a deed reports to a plan, apart from the numbers of the clock: as the plans of table_model go on
 abbrev pub told_of : ℕ → Deed → goes.Told
 told_of buckets (entered key note) = goes.entered (placed (key % buckets) note)
 told_of buckets (inserted wish tried) = goes.inserted wish.card wish.moment wish.rule (outcome_of tried)
@@ -63,13 +63,13 @@ told_of buckets (added card tried) = goes.added card (outcome_of tried)
 told_of buckets (left u) = goes.left (record { bucket = u.bucket; slot = u.slot }) u.card
 told_of buckets (reaped card unhash) = goes.reaps_found card (was_there unhash)
 
--- a plan that comes to a result by deeds is led there by what they tell
+-- a plan that comes to a result by deeds is led there by what they report
 abbrev pub GoesLeads : Type 0
 GoesLeads =
     (buckets : ℕ) (p : Asking Replied) (deeds : List Deed) (result : Replied) → Goes p deeds result
     → goes.Leads buckets p (map (told_of buckets) deeds) (ends result)
 
--- and the entries of the deeds are those that are told
+-- and the entries of the deeds are those that they report
 abbrev pub TellsEntries : Type 0
 TellsEntries =
     (buckets : ℕ) (deeds : List Deed) → entries_in buckets deeds ≡ goes.entries_in (map (told_of buckets) deeds)

@@ -235,13 +235,13 @@ abbrev pub early_race : List Deed → Race
 early_race deeds =
     record handshake_race { sections = acknowledged_by deeds; book = hash_a ∷ hash_r ∷ unhash_early ∷ hash_late ∷ [] }
 
--- one that is told in the order of the numbers
+-- one that is recorded in the order of the numbers
 abbrev pub UnhashedFirst : Type 0
 UnhashedFirst =
     ¬ (Lawful handshake_script handshake_capture
     (early_race (left unhash_early ∷ added card_d (hashed hash_late None) ∷ entered 80 inherit_child ∷ [])))
 
--- one that is told as if the child had been hashed first
+-- one that is recorded as if the child had been hashed first
 abbrev pub NumberedFirst : Type 0
 NumberedFirst =
     ¬ (Lawful handshake_script handshake_capture

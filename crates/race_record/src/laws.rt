@@ -11,12 +11,12 @@ pub fn deeds_lead()
     ensures once { law.GoesOnce }
 {}
 
-/// Replies tell how often a slot was sought in vain.
+/// Replies show how often a slot was sought in vain.
 pub fn vain()
     ensures { law.RepliesTellVain }
 {}
 
-/// Deeds lead a plan as the answers lead it that they tell of, and have the same entries.
+/// Deeds lead a plan as the answers that they report lead it, and have the same entries.
 pub fn deeds_tell()
     ensures leads { law.GoesLeads }
     ensures entries { law.TellsEntries }

@@ -36,7 +36,7 @@ pub fn refusals()
 /// Records that aren't lawful: in which a number of the clock belongs to nothing, or to two changes; a change is left
 /// out of the book; a `bind` enters its owner twice, and so is refused; two full sockets have one four-tuple; a card
 /// is taken out that is another's; a step begins with less than its worker has seen; a request is unhashed before its
-/// child is hashed, whether it is told so or as if it hadn't been.
+/// child is hashed, whether it is recorded so or as if it hadn't been.
 pub fn wrong_races()
     ensures number { wrong.NumberTooMany }
     ensures stamp { wrong.StampTwice }

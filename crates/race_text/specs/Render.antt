@@ -127,7 +127,7 @@ abbrev pub command_lines : List (List Command) → List Reply → List Listing �
 command_lines sections replies listings =
     lines_text sections 1 (events_from [] (issued_from 1 sections)) replies listings
 
--- the whole text of what is told of a race of these sections
+-- the whole text of what is reported of a race of these sections
 abbrev pub told_text : List (List Command) → Told → List ℕ
 told_text sections t =
     race_line t.lookers t.passes ++ shape_line t.shape t.seed ++ command_lines sections t.replies t.listings
@@ -135,7 +135,7 @@ told_text sections t =
     ++ flat_map (life_line (label_in sections)) (lives_of t.book) ++ looked_lines (label_in sections) 1 t.looked
     ++ cut_text t.cut ++ clock_line t.clock
 
--- what is told of a race
+-- what is reported of a race
 abbrev pub told : Race → Told
 told race =
     record {
@@ -170,7 +170,7 @@ RaceOut lookers passes input out =
     (script : Script) × (capture : Capture) × (race : Race) × HasRace input script capture × Lawful script capture race
     × (race.lookers ≡ lookers) × (race.passes ≡ passes) × (out ≡ render race)
 
--- the text that is written of the script's commands and of what is told of a lawful race is the race's
+-- the text that is written of the script's commands and of what is reported of a lawful race is the race's
 abbrev pub LawfulText : Type 0
 LawfulText =
     (script : Script) (capture : Capture) (race : Race) → Lawful script capture race

@@ -1,12 +1,12 @@
 -- What a worker saw as it listed all chains, and as it goes on.
 use Rattle.std.proofs.Common.{◌≡◌, ℕ, ◌+◌, ◌≤◌, List, [], ◌∷◌, ◌++◌, inl, inr, refl, sym, ◌∙◌, subst, arith}
 use Rattle.std.proofs.lemmas.List.{append-nil}
+use Rattle.list_words.specs.Lists.{Each}
 use Rattle.flat_list.specs.declared.command.Command.{Command}
 use Rattle.flat_list.specs.declared.command.Command.TheVariants as commands
 use Rattle.socket_list.specs.Listing.{Listing}
 use Rattle.socket_list.specs.declared.listing.Span.{Span}
 use Rattle.sock_card.specs.declared.card.Card.{Card}
-use Rattle.table_rule.specs.Lists.{Each}
 use Rattle.table_rule.specs.Plays.{seeing, settled}
 use Rattle.table_rule.specs.declared.view.Layout.{Layout}
 use Rattle.table_rule.specs.declared.view.Seen.{Seen}

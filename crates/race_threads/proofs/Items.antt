@@ -2,6 +2,7 @@
 use Rattle.std.proofs.Common.{◌≡◌, ℕ, ◌<◌, List, [], ◌∷◌, ◌++◌, map, sym, ap, ◌∙◌, subst}
 use Rattle.std.proofs.lemmas.List.{map-append}
 use Rattle.list_words.specs.Lists.{Each}
+use Rattle.list_words.proofs.EachLemmas.{each_unmap}
 use Rattle.capture_reader.specs.declared.packet.Item.{Item}
 use Rattle.capture_reader.specs.declared.packet.Item.TheVariants as items
 use Rattle.chain_book.specs.declared.book.Receipt.{Receipt}
@@ -14,7 +15,6 @@ use Rattle.race_threads.specs.declared.looker.Look.{Look}
 use Rattle.race_threads.specs.Lookers.{item_at, item_of, AllBefore, HasLooked, looking}
 use Rattle.race_threads.specs.Looking.{LooksUp, TakesAll, TakesItem}
 use Rattle.race_threads.proofs.Looked.{looks_none, looks_more, looks_past}
-use Rattle.table_model.proofs.parts.Standing.{each_unmap}
 
 -- An item
 

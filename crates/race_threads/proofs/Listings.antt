@@ -1,4 +1,4 @@
--- What a dump listed is told by the book of all changes.
+-- The book of all changes shows what a dump listed.
 use Rattle.std.proofs.Common.{◌≡◌, ℕ, ◌<◌, List, [], ◌∷◌, map, inl, inr, ⊎_elim, refl, sym, ap, ◌∙◌, subst, arith}
 use Rattle.list_words.specs.Lists.{Each, Pairs, total}
 use Rattle.sock_card.specs.declared.card.Card.{Card}

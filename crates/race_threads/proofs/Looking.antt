@@ -1,4 +1,4 @@
--- What lookers told of a capture, with what the sections did, is a whole record.
+-- What lookers reported of a capture, with what the sections did, is a whole record.
 use Rattle.std.proofs.Common.{◌≡◌, ℕ, zero, suc, ◌+◌, ◌<◌, ◌≤◌, List, [], ◌∷◌, ◌++◌, length, map, false, refl, sym, ap, ◌∙◌, subst, arith, inl}
 use Rattle.std.specs.List.{flat_map, range_with_len}
 use Rattle.std.specs.Global.{Box}

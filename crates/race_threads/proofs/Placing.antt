@@ -4,6 +4,7 @@ use Rattle.std.specs.List.{flat_map}
 use Rattle.std.proofs.lemmas.List.{length-set, get_or-set_same, get_or-set_other, take_all}
 use Rattle.std.proofs.Math.Seq.{take-suc, take-append_seam}
 use Rattle.list_words.specs.Lists.{Each, Pairs, SameItems, total}
+use Rattle.list_words.proofs.EachLemmas.{each_unmap}
 use Rattle.turn_table.specs.Journals.{numbers_below}
 use Rattle.race_record.specs.Lawful.{looked_at}
 use Rattle.race_record.specs.declared.record.Looked.{Looked}
@@ -15,7 +16,6 @@ use Rattle.race_threads.specs.Lookers.{item_of}
 use Rattle.race_threads.specs.Shares.{items_in, put_all}
 use Rattle.race_threads.proofs.Running.{each_get}
 use Rattle.race_threads.proofs.Weights.{below_apart, below_inside, flat_push, map_flat}
-use Rattle.table_model.proofs.parts.Standing.{each_unmap}
 use Rattle.race_book.proofs.Joined.{each_unflat}
 
 pub put_len : (told : List Look) (l : List Looked) → length (put_all told l) ≡ length l
@@ -68,7 +68,7 @@ module _ (outs : List Outcome) (n : ℕ) (once : SameItems (flat_map items_in ou
       (put_there (flat_map told_in outs) l (apart_unmap (flat_map told_in outs) (below_apart (map item_of (flat_map told_in outs)) n items_are))
       (subst (λ m. Each (λ (k : Look). k.item < m) (flat_map told_in outs)) (sym len) inside))
 
-  -- what one outcome more tells, put into a vector
+  -- what one more outcome reports, put into a vector
   module _ (i : ℕ) (o : Outcome) (told : List Look) (blank before place new : List Looked) (size : ℕ) (len : length blank ≡ n) (inside-outs : i < length outs) (at : o ≡ get_or outs i o) (told-is : told ≡ o.told.items) (value : place ≡ before)
       (is : before ≡ put_all (flat_map told_in (take i outs)) blank) where
     len_before : length before ≡ n

@@ -16,6 +16,6 @@ module _ (header : Header) (t : Tables) (m : ℕ) (w : Worker) (fresh : IsFresh 
   pub may_look : MayLook t.chains w.chain
   may_look = record { rests = fresh.rest.rests; nothing = fresh.rest.nothing; part = let one = fresh.chain_part in omega (arith, one) }
 
-  -- what the share tells
+  -- what the share reports
   pub looked_of : (other : Header) → AreTables other t → (passes : ℕ) (all : List Item) (n : Sat) (told : List Look) → TakesAll t.chains passes all (me w.chain.pass.steps) n told → HasLooked other passes all (looking (turned w) n.0) told
   looked_of other are passes all n told takes = takes other (turned w) are.layout (record { only = record { mine = fresh.nothing.mine; closed = fresh.nothing.closed; lost = fresh.nothing.lost }; receipts = fresh.nothing.receipts })

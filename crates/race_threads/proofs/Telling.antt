@@ -1,4 +1,4 @@
--- What is told of a race that has ended is what a lawful record tells.
+-- What is reported of a race that has ended is what a lawful record reports.
 use Rattle.std.proofs.Common.{◌≡◌, ℕ, Bool, List, [], ◌∷◌, ◌++◌, length, map, refl, sym, ap, ◌∙◌, subst}
 use Rattle.std.specs.List.{flat_map}
 use Rattle.std.specs.Global.{Box}
@@ -45,7 +45,7 @@ flat_of_all : (says : List Said) → flat_map (λ (x : List Reply). x) (map repl
 flat_of_all [] = refl
 flat_of_all (s ∷ says) = ap (λ l. s.replies ++ l) (flat_of_all says)
 
--- the items of which the outcomes tell are those of the capture, each once
+-- the items on which the outcomes report are those of the capture, each once
 pub items_once : (script : Script) (passes : ℕ) (capture : Capture) (lookers : ℕ) (e : Ended) → HasFinished script passes capture.items lookers e → SameItems (flat_map items_in e.outcomes.items) (numbers_below (length capture.items))
 items_once script passes capture lookers e h f =
     ap (total f) (sym (map_flat item_of told_in e.outcomes.items) ∙ ap (map item_of) h.tells ∙ map_flat item_of (λ (took : List Look). took) h.tooks) ∙ h.once f

@@ -44,7 +44,7 @@ module _ (script : Script) (passes : ℕ) (all : List Item) (t : Tables) (q : Ti
   pub worked_looker : length script.sections ≤ n → HasShared script.header passes all j → IsWorked script passes all t q n j
   worked_looker le share = record { over = over; section = λ l. absurd (omega (arith, l, le)); looker = λ le. share }
 
--- who drew nothing has told of nothing
+-- who drew nothing has reported nothing
 pub told_none : (q : Tickets) (p : TicketPass) (told : List Look) → HasDrawnNothing q p → told ≡ [] → HasTold q p told
 told_none q p told h e = record { table = h.table; part = h.part; drawn = h.drawn ∙ ap (map item_of) (sym e) }
 

@@ -1,6 +1,6 @@
 -- What a dump listed of chains that others change meanwhile, by what its worker saw: our own.
 use Rattle.std.specs.Prelude.{◌≡◌, ℕ, ◌≤◌, List, [], ◌∷◌, ◌++◌, Some}
-use Rattle.table_rule.specs.Lists.{Each}
+use Rattle.list_words.specs.Lists.{Each}
 use Rattle.sock_card.specs.declared.card.Card.{Card}
 use Rattle.socket_list.specs.Listing.{Listing}
 use Rattle.socket_list.specs.Order.{ascending}
@@ -21,7 +21,7 @@ use Rattle.shared_dump.specs.Books.{AreTold}
 use Rattle.shared_dump.specs.Dumps.{Keeps}
 use Rattle.shared_dump.specs.Sightings.{sightings}
 
--- Between these two numbers all chains were listed, each seen whole, as sightings tell; and in each book of changes
+-- Between these two numbers all chains were listed, each seen whole, as sightings show; and in each book of changes
 -- in which these are true, so are the cards.
 pub record SawAll (layout : Layout) (sights : List Sight) (from to : ℕ) (cards : List Card) (span : Span) : Type 0 where
   pub begins : from ≤ span.t0

@@ -1,4 +1,4 @@
--- What lookers told of the items of a capture, by the receipts of their passes: our own.
+-- What lookers reported of the items of a capture, by the receipts of their passes: our own.
 use Rattle.std.specs.Prelude.{◌≡◌, ℕ, ◌+◌, ◌<◌, ◌≤◌, List, [], ◌∷◌, ◌++◌, length, map}
 use Rattle.std.specs.List.{flat_map, slice_index_or}
 use Rattle.list_words.specs.Lists.{Each, Pairs, SameItems}
@@ -83,7 +83,7 @@ AllLooked header passes all part n [] = Unit {0}
 AllLooked header passes all part n (took ∷ rest) =
     HasLooked header passes all (part n) took × AllLooked header passes all part (n + 1) rest
 
--- each item was taken once, and what is told of it is what came of it
+-- each item was taken once, and what is reported of it is what came of it
 pub record AreTold (all : List Item) (tooks : List (List Look)) (looked : List Looked) : Type 0 where
   pub count : length looked ≡ length all
   pub once : SameItems (flat_map (λ took. map item_of took) tooks) (numbers_below (length all))

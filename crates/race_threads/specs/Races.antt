@@ -97,7 +97,7 @@ AllReaped header In n _ _ = Unit {0}
 abbrev pub AreFew : List Command → Type 0
 AreFew commands = length commands < 2 ^ 24
 
--- what the lookers have to tell
+-- what the lookers have to report
 pub record Looks : Type 0 where
   pub lookers : ℕ
   pub passes : ℕ

@@ -27,13 +27,13 @@ pub record IsFirstPass (q : Tickets) (before : ℕ) (p : TicketPass) : Type 0 wh
   pub parts : parts p + before ≡ all_parts
   pub drawn : drawn p ≡ []
 
--- the pass of a job that has ended: what it drew is what the job tells of, in that order
+-- the pass of a job that has ended: what it drew is what the job reports on, in that order
 pub record HasTold (q : Tickets) (p : TicketPass) (told : List Look) : Type 0 where
   pub table : IsPassOf q p
   pub part : parts p ≡ 1
   pub drawn : drawn p ≡ map item_of told
 
--- the numbers of the items of which a job tells
+-- the numbers of the items on which a job reports
 abbrev pub items_in : Outcome → List ℕ
 items_in o = map item_of o.told.items
 
@@ -42,7 +42,7 @@ abbrev pub HasMissedAsThey : List (Result Job AllocError) → ℕ → TicketPass
 HasMissedAsThey done n p =
     (i : ℕ) (j : Job) → n ≤ i → slice_index_or done i (Err alloc_error) ≡ Ok j → HasMissed j.draws → HasMissed p
 
--- all were joined to it: what it drew is what these outcomes tell of
+-- all were joined to it: what it drew is what these outcomes report on
 pub record HasDrawnAll (q : Tickets) (done : List (Result Job AllocError)) (given : List Outcome) (p : TicketPass)
     : Type 0 where
   pub table : IsPassOf q p

@@ -1,4 +1,4 @@
--- What is told of a race that was run: our own.
+-- What is reported of a race that was run: our own.
 use Rattle.std.specs.Prelude.{◌≡◌, ℕ, map}
 use Rattle.std.specs.List.{flat_map}
 use Rattle.bind_buckets.specs.Closed.{count_in}
@@ -13,7 +13,7 @@ use Rattle.race_threads.specs.declared.finish.Ended.{Ended}
 use Rattle.race_threads.specs.declared.looker.Look.{Look}
 use Rattle.race_threads.specs.Finished.{HasFinished, listings_in, replies_in, told_in}
 
--- it is what some lawful record tells, of so many lookers with so many passes
+-- it is what some lawful record reports, of so many lookers with so many passes
 pub record IsToldOf (script : Script) (capture : Capture) (lookers passes : ℕ) (t : Told) : Type 0 where
   pub race : Race
   pub lawful : Lawful script capture race

@@ -14,7 +14,7 @@ use Rattle.race_threads.specs.Lookers.{HasLooked}
 use Rattle.race_threads.specs.Races.{SectionDone}
 use Rattle.race_threads.specs.Workers.{part_of}
 
--- the section was done, and told of no item
+-- the section was done, and reported on no item
 pub record HasRun (header : Header) (n : ℕ) (commands : List Command) (j : Job) : Type 0 where
   pub done : SectionDone header n commands (part_of j.worker) (said_by j)
   pub told : j.told.items ≡ []

@@ -64,7 +64,7 @@ pub fn deal(
     Ok(jobs)
 }
 
-/// What came of a job: of a section its replies and what it listed, and of a looker what it tells.
+/// What came of a job: of a section its replies and what it listed, and of a looker what it reports.
 #[derive(Drop)]
 pub struct Outcome {
     pub replies: Vec<Reply>,

@@ -27,7 +27,7 @@ pub fn closes()
     ensures { law.Closes }
 {}
 
-/// With what the lookers told of a capture it is lawful.
+/// With what the lookers reported of a capture, the record is lawful.
 pub fn looks()
     ensures { law.LooksToo }
 {}

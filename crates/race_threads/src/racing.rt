@@ -20,8 +20,8 @@ use std::sync::Wait;
 use std::thread::Threads;
 
 /// Runs each section of the script on a thread of its own, and looks the capture's packets up on so many more, with
-/// so many passes a lookup at most: one race, told whole. Each looker takes the next packet that none has taken yet.
-/// The hashes of labels begin with the seed.
+/// so many passes a lookup at most: one race, recorded whole. Each looker takes the next packet that none has taken
+/// yet. The hashes of labels begin with the seed.
 ///
 /// # Errors
 ///

@@ -1,4 +1,4 @@
-//! What is told of a race that has ended.
+//! What is reported of a race that has ended.
 
 ghost use Rattle.std.specs.Prelude.{◌≡◌, ◌<◌, ◌++◌, length, map, IfOk, OnOk};
 ghost use Rattle.std.specs.List.{flat_map};
@@ -107,7 +107,7 @@ fn know_changes(changes: &[Change])
     }
 }
 
-/// What is told of a race of that script that has ended.
+/// What is reported of a race of that script that has ended.
 ///
 /// # Errors
 ///

@@ -87,7 +87,7 @@ noted_at names v name true e none =
     sym (pushed_new (same_name name) names v (ap (place_in names) same ∙ none) e)
 noted_at names v name false e none = sym (pushed_other (same_name name) names v e)
 
--- the index tells of one name more
+-- the index has one name more
 pub noted : (old new : BTreeMap Name ℕ) (v : Name) (place : ℕ) → get_by (name_cmp v) old ≡ None
     → new.entries ≡ insert_entry name_cmp old.entries v place → NotesPlace old v place new
 noted old new v place absent more names count h name =

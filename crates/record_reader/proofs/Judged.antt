@@ -1,4 +1,4 @@
--- Of which lines the judge tells its finding.
+-- On which lines the judge reports its finding.
 use Rattle.std.proofs.Common.{◌≡◌, ℕ, zero, suc, ◌+◌, ◌-◌, ◌<◌, List, [], ◌∷◌, length, take, Option, Some, None, slice_get, Bool, true, cond, IsTrue, count_by, refl, sym, ap, subst, ◌∙◌, arith}
 use Rattle.std.specs.Prelude.{IsSomeAnd, is_some}
 use Rattle.std.specs.List.{cons_option, filter_map}
@@ -23,7 +23,7 @@ module _ {A : Type 0} (p : A → Bool) where
   counted f x xs None e = omega arith
   counted f x xs (Some y) e = omega arith
 
-  -- what tells something of an item is counted where the items that pass are those
+  -- where a function gives something for the items that pass, and for no other, it gives as many as pass
   pub all_counted : {B : Type 0} (f : A → Option B) → ((x : A) → is_some (f x) ≡ p x) → (xs : List A) → length (filter_map f xs) ≡ count_by p xs
   all_counted f same [] = refl
   all_counted f same (x ∷ xs) =
@@ -63,7 +63,7 @@ lives_counted all p t = ap length t.lives ∙ all_counted (is_tried whys.Stamp) 
 packets_counted : (all : List Line) (p : Printed) → Tells all p → length p.packets.items ≡ count_by (is_tried whys.Receipt) all
 packets_counted all p t = ap length t.packets ∙ all_counted (is_tried whys.Receipt) (packet_in (number_in (names_of all))) (packet_tried _) all
 
--- the place that the judge tells is that of one of the lines
+-- the place that the judge names is that of one of the lines
 pub told_within : (all : List Line) (p : Printed) (why : Why) (at : ℕ) → Tells all p → Fails p why at → at < count_by (is_tried why) all
 told_within all p whys.Stamp at t f = omega (arith, lives_counted all p t, f.within)
 told_within all p whys.Home at t f = omega (arith, lives_counted all p t, f.within)

@@ -47,7 +47,7 @@ parts_told s t h i l m n o e = (grind (arith, nat_tests), grind (arith, nat_test
 parts_itself : (s h l n : ℕ) → ((s == s) && (h == h) && (l == l) && (n == n)) ≡ true
 parts_itself s h l n = grind (arith, nat_tests)
 
--- the test tells whether two names are one
+-- the test says whether two names are one
 pub same_told : (a b : Name) → same_name a b ≡ true → a ≡ b
 same_told a b e =
     let parts = parts_told a.section b.section a.high b.high a.low b.low a.length b.length e in

@@ -1,13 +1,8 @@
--- A label is what its field tells of it.
-use Rattle.std.proofs.Common.{◌≡◌, ℕ, ◌+◌, ◌-◌, ◌≤◌, List, ◌++◌, length, length-append, take, drop, replicate, ap, ap₂, ◌∙◌, arith, length-drop, take_all}
-use Rattle.std.proofs.lemmas.List.{take-append-drop, take-append-le, length-replicate}
+-- A label is what its field says of it.
+use Rattle.std.proofs.Common.{◌≡◌, ℕ, ◌+◌, ◌-◌, ◌≤◌, List, ◌++◌, length, length-append, take, drop, replicate, ap, ap₂, ◌∙◌, arith, take_all}
+use Rattle.std.proofs.lemmas.List.{take-append-le, length-replicate}
+use Rattle.list_words.proofs.MapLemmas.{halves}
 use Rattle.record_reader.specs.Names.{padded}
-
--- eight bytes of sixteen, and the other eight
-halves : (bytes : List ℕ) → length bytes ≡ 16 → take 8 (drop 0 bytes) ++ take 8 (drop 8 bytes) ≡ bytes
-halves bytes sixteen =
-    let whole : take 8 (drop 8 bytes) ≡ drop 8 bytes = take_all 8 (drop 8 bytes) (omega (arith, length-drop 8 bytes)) in
-    ap (λ t. take 8 bytes ++ t) whole ∙ take-append-drop 8 bytes
 
 pub sixteen : (label : List ℕ) → length label ≤ 16 → length (padded label) ≡ 16
 sixteen label few =

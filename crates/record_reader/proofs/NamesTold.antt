@@ -1,4 +1,4 @@
--- A name's number tells the name.
+-- A name's number determines the name.
 use Rattle.std.proofs.Common.{◌≡◌, ℕ, ◌+◌, ◌<◌, List, [], ◌∷◌, length, get_or, Some, None, Bool, true, false, not, cond, sym, ap, ◌∙◌, arith, inl, inr, suc}
 use Rattle.std.specs.Prelude.{unwrap_or}
 use Rattle.std.specs.List.{position_or_len}

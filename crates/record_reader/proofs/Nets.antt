@@ -32,6 +32,6 @@ net_cases a b xs ys fa fb la lb e (inr s) (inr t) =
     let same = next_two a b xs ys (sym (ap (λ ws. ws ++ xs) (one_named a s)) ∙ e ∙ ap (λ ws. ws ++ ys) (one_named b t)) in
     (decimal_injective a b (omega arith) (omega arith) same.0, same.1)
 
--- words tell whether a namespace is named, and which
+-- words show whether a namespace is named, and which
 pub net_told : (a b : ℕ) (xs ys : List (List ℕ)) → a < 16 → b < 16 → LacksNet xs → LacksNet ys → net_words a ++ xs ≡ net_words b ++ ys → (a ≡ b) × (xs ≡ ys)
 net_told a b xs ys fa fb la lb e = net_cases a b xs ys fa fb la lb e (cases_Bool (a == 0)) (cases_Bool (b == 0))

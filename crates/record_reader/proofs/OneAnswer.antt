@@ -41,7 +41,7 @@ earlier text m n a b h =
 pub one_first : HasOneFirst
 one_first text m n a b = omega (arith, earlier text m n a b, earlier text n m b a)
 
--- two races that tell the judge the same
+-- two races that say the same to the judge
 record Same (p q : Printed) : Type 0 where
   shape : p.shape ≡ q.shape
   seed : p.seed ≡ q.seed
@@ -56,7 +56,7 @@ same_head s t m n e = (cc, cc)
 same_clock : (m n : ℕ) → Some (lines.Clock m) ≡ Some (lines.Clock n) → m ≡ n
 same_clock m n e = cc
 
--- the lines of a record tell one race
+-- the lines of a record describe one race
 told_once : (all : List Line) (p q : Printed) → Tells all p → Tells all q → Same p q
 told_once all p q a b =
     let head = same_head p.shape q.shape p.seed q.seed (sym a.shape ∙ b.shape) in

@@ -1,4 +1,4 @@
--- The second line of a record tells the shape.
+-- The second line of a record gives the shape.
 use Rattle.std.proofs.Common.{◌≡◌, ℕ, zero, suc, List, [], ◌∷◌, Some, None, slice_get, true, false, ◌&&◌, ◌==◌, Bool, refl, subst}
 use Rattle.record_reader.specs.declared.line.Line.{Line}
 use Rattle.record_reader.specs.declared.line.Line.TheVariants as lines
@@ -33,6 +33,6 @@ form_at i (t ∷ ts) [] line f e = absurd f
 form_at zero (t ∷ ts) (l ∷ ls) line f e = let same : l ≡ line = cc in (t, subst (HasForm (words_of t)) same f.0)
 form_at (suc i) (t ∷ ts) (l ∷ ls) line f e = form_at i ts ls line f.1 e
 
--- so the shape that a record tells is in range
+-- so the shape that a record gives is in range
 pub shape_fits : (text : List ℕ) (all : List Line) (p : Printed) → IsRecord text all → Tells all p → ShapeFits p.shape
 shape_fits text all p is t = (form_at 1 _ all (lines.Shape p.shape p.seed) is.begins.forms t.shape).1.1.0

@@ -1,4 +1,4 @@
--- A line's kind is told by its first word.
+-- A line's first word determines its kind.
 use Rattle.std.proofs.Common.{◌≡◌, ℕ, List, ◌∷◌, Option, Some, None, codes, refl, sym, subst, ap, arith, IfNone}
 use Rattle.chain_book.specs.declared.shape.Shape.{Shape}
 use Rattle.record_reader.specs.declared.line.ItemLine.{ItemLine}

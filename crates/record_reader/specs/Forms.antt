@@ -47,7 +47,7 @@ verbs =
 abbrev pub is_plain : List ℕ → Bool
 is_plain word = nat_lt 0 (length word) && list_all (nat_lt 32) word
 
--- such words tell of a slot that was sought in vain: they begin with `ENFILE`, or with `ok no-slot`
+-- such words say that a slot was sought in vain: they begin with `ENFILE`, or with `ok no-slot`
 abbrev pub tells_vain : List (List ℕ) → Bool
 tells_vain [] = false
 tells_vain (word ∷ []) = bytes_eq word (codes "ENFILE")
@@ -80,7 +80,7 @@ net_words net = if net == 0 then [] else codes "net" ∷ decimal net ∷ []
 abbrev pub dev_words : ℕ → ℕ → List (List ℕ)
 dev_words dev net = codes "dev" ∷ decimal dev ∷ net_words net
 
--- what a line tells of a card
+-- what a line says of a card
 abbrev pub card_words : Name → Card → List (List ℕ)
 card_words name c =
     kind_word c.kind ∷ name_text name ∷ end_text c.local c.lport ∷ end_text c.remote c.rport ∷ dev_words c.dev c.net
@@ -97,7 +97,7 @@ abbrev pub life_words : LifeLine → List (List ℕ)
 life_words l =
     codes "life" ∷ decimal l.bucket ∷ decimal l.slot ∷ (card_words l.name l.card ++ span_words l.hash l.unhash)
 
--- addresses, ports, device and namespace are in range, and what the line doesn't tell is 0
+-- addresses, ports, device and namespace are in range, and what the line doesn't give is 0
 pub record CardFits (card : Card) : Type 0 where
   pub local : card.local < 2 ^ 32
   pub lport : card.lport < 2 ^ 16

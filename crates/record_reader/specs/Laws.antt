@@ -40,7 +40,7 @@ pub record IsSoundRace (p : Printed) : Type 0 where
   pub explained : Each (IsLineExplained p.shape p.seed p.lives.items) p.packets.items
   pub counted : CountsAll p
 
--- a yes says so of the race that the text tells
+-- a yes says so of the race that the text describes
 abbrev pub YesIsSound : Type 0
 YesIsSound =
     (text : List ℕ) (lives packets clock : ℕ) → IsVerdict text (verdicts.Yes lives packets clock)

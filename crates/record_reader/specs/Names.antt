@@ -1,5 +1,5 @@
 -- How a socket is named in a record: by its section and its label, a format of our own; and by which number names are
--- told apart.
+-- distinguished.
 use Rattle.std.specs.Prelude.{◌≡◌, ℕ, ◌-◌, ◌≤◌, Bool, ◌==◌, ◌&&◌, IsTrue, List, ◌++◌, length, take, drop, codes, decimal, replicate, position, Option, unwrap_or}
 use Rattle.std.specs.Int.{w64, to_be_bytes, from_be_bytes}
 use Rattle.inet_io.specs.Labels.{is_label}

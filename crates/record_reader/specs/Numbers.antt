@@ -15,11 +15,11 @@ name_cmp a b =
     ordering_then (nat_cmp a.section b.section)
     (ordering_then (nat_cmp a.high b.high) (ordering_then (nat_cmp a.low b.low) (nat_cmp a.length b.length)))
 
--- the index tells where each name stands first
+-- the index says where each name stands first
 abbrev pub IsIndexOf : BTreeMap Name ℕ → List Name → Type 0
 IsIndexOf index names = (name : Name) → get_by (name_cmp name) index ≡ place_in names name
 
--- the number that the index tells
+-- the number that the index gives
 abbrev pub number_by : BTreeMap Name ℕ → Name → ℕ
 number_by index name = unwrap_or (get_by (name_cmp name) index) 0
 
@@ -28,7 +28,7 @@ abbrev pub NotesPlace : BTreeMap Name ℕ → Name → ℕ → BTreeMap Name ℕ
 NotesPlace old name place new =
     (names : List Name) → length names ≡ place → IsIndexOf old names → IsIndexOf new (names ++ name ∷ [])
 
--- and the index with the name of a line, if it tells one, where the next name has that place
+-- and the index with the name of a line, if it contains one, where the next name has that place
 abbrev pub NotesLine : BTreeMap Name ℕ → Line → ℕ → BTreeMap Name ℕ → ℕ → Type 0
 NotesLine old line place new next =
     (names : List Name) → length names ≡ place → IsIndexOf old names

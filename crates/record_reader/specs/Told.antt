@@ -1,4 +1,4 @@
--- What a record's lines tell the judge: our own.
+-- What a record's lines say to the judge: our own.
 use Rattle.std.specs.Prelude.{◌≡◌, ℕ, ◌-◌, Bool, false, List, count_by, Option, Some, None, slice_get, length}
 use Rattle.std.specs.List.{filter_map}
 use Rattle.book_audit.specs.declared.printed.PrintedLife.{PrintedLife}
@@ -19,7 +19,7 @@ use Rattle.record_reader.specs.declared.line.Line.{Line}
 use Rattle.record_reader.specs.declared.line.Line.TheVariants as lines
 use Rattle.record_reader.specs.Names.{number_in}
 
--- the name that an answer tells
+-- the name that an answer contains
 abbrev pub answer_name : Answer → Option Name
 answer_name (answers.Found kind name) = Some name
 answer_name _ = None
@@ -28,7 +28,7 @@ abbrev pub item_name : ItemLine → Option Name
 item_name (items.Looked l) = answer_name l.answer
 item_name _ = None
 
--- the name that a line tells
+-- the name that a line contains
 abbrev pub name_in : Line → Option Name
 name_in (lines.Life l) = Some l.name
 name_in (lines.Packet number item) = item_name item
@@ -38,7 +38,7 @@ name_in _ = None
 abbrev pub names_of : List Line → List Name
 names_of lines = filter_map name_in lines
 
--- `number`: the number by which a name is told
+-- `number`: the number that stands for a name
 module _ (number : Name → ℕ) where
   abbrev pub life_told : LifeLine → PrintedLife
   life_told l =
@@ -62,7 +62,7 @@ module _ (number : Name → ℕ) where
   item_told (items.Looked l) = packets.Looked (look_told l)
   item_told _ = packets.Passed
 
-  -- the life that a line tells, if it is one
+  -- the life that a line describes, if it describes one
   abbrev pub life_in : Line → Option PrintedLife
   life_in (lines.Life l) = Some (life_told l)
   life_in _ = None
@@ -72,12 +72,12 @@ module _ (number : Name → ℕ) where
   packet_in (lines.Packet place item) = Some (item_told item)
   packet_in _ = None
 
--- a command's line that tells of a slot sought in vain
+-- a command's line that says that a slot was sought in vain
 abbrev pub is_vain : Line → Bool
 is_vain (lines.Reply vain) = vain
 is_vain _ = false
 
--- the race that the lines of a record tell: the shape and the seed by the second line, the clock by the last
+-- the race that the lines of a record describe: the shape and the seed by the second line, the clock by the last
 pub record Tells (record_lines : List Line) (p : Printed) : Type 0 where
   pub shape : slice_get record_lines 1 ≡ Some (lines.Shape p.shape p.seed)
   pub lives : p.lives.items ≡ filter_map (life_in (number_in (names_of record_lines))) record_lines

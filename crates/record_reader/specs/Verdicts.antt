@@ -12,7 +12,7 @@ use Rattle.record_reader.specs.declared.audit.Verdict.TheVariants as verdicts
 use Rattle.record_reader.specs.Record.{IsRecord}
 use Rattle.record_reader.specs.Told.{Tells}
 
--- the text is a record of these lines, and they tell this race
+-- the text is a record of these lines, and they describe this race
 pub record Reads (text : List ℕ) (record_lines : List Line) (p : Printed) : Type 0 where
   pub is : IsRecord text record_lines
   pub told : Tells record_lines p
@@ -40,7 +40,7 @@ Answers record_lines p (verdicts.Yes lives packets clock) =
 Answers record_lines p (verdicts.No line why) =
     (at : ℕ) × IsFinding p (findings.Wrong why at) × IsLineOf why record_lines at line
 
--- the verdict on a text: it is a record, and the judge finds that of the race that it tells
+-- the verdict on a text: it is a record, and the judge finds that of the race that it describes
 pub record IsVerdict (text : List ℕ) (verdict : Verdict) : Type 0 where
   pub record_lines : List Line
   pub printed : Printed

@@ -225,7 +225,7 @@ fn net_first<'a>(words: &'a [&'a [u8]]) -> (u8, &'a [&'a [u8]])
     }
 }
 
-/// The name and the card that a life's line tells as the first words, and the words after them.
+/// The name and the card that a life's line gives as the first words, and the words after them.
 fn card_first<'a>(words: &'a [&'a [u8]]) -> Option<(Name, Card, &'a [&'a [u8]])>
     ensures spelled { IfSome result (λ r. texts words.now ≡ card_words r.0 r.1 ++ texts r.2.now) }
     ensures fits { IfSome result (λ r. NameFits r.0 × CardFits r.1) }
@@ -257,7 +257,7 @@ fn card_first<'a>(words: &'a [&'a [u8]]) -> Option<(Name, Card, &'a [&'a [u8]])>
     Some((name, card, words))
 }
 
-/// The span that two numbers as the only words tell.
+/// The span that two numbers as the only words give.
 fn span_alone(words: &[&[u8]]) -> Option<Span>
     ensures some { IfSome result (λ s. (texts words.now ≡ decimal s.begin ∷ decimal s.end ∷ []) × SpanFits s) }
     ensures none { IfNone result ((s : Span) → texts words.now ≡ decimal s.begin ∷ decimal s.end ∷ [] → SpanFits s
@@ -267,7 +267,7 @@ fn span_alone(words: &[&[u8]]) -> Option<Span>
     Some(Span { begin, end })
 }
 
-/// The span that two numbers as the first words tell, and the words after them.
+/// The span that two numbers as the first words give, and the words after them.
 fn span_first<'a>(words: &'a [&'a [u8]]) -> Option<(Span, &'a [&'a [u8]])>
     ensures some { IfSome result (λ r. (texts words.now ≡ decimal r.0.begin ∷ decimal r.0.end ∷ texts r.1.now)
         × SpanFits r.0) }
@@ -279,7 +279,7 @@ fn span_first<'a>(words: &'a [&'a [u8]]) -> Option<(Span, &'a [&'a [u8]])>
     Some((Span { begin, end }, words))
 }
 
-/// The unhash that the words after `unhash` tell: a dash stands for none.
+/// The unhash that the words after `unhash` give: a dash stands for none.
 fn unhash_of(words: &[&[u8]]) -> Option<Option<Span>>
     ensures some { IfSome result (λ u. (codes "unhash" ∷ texts words.now ≡ spec.unhash_words u) × UnhashFits u) }
     ensures none { IfNone result ((u : Option Span) → codes "unhash" ∷ texts words.now ≡ spec.unhash_words u
@@ -303,7 +303,7 @@ fn spans_of(words: &[&[u8]]) -> Option<(Span, Option<Span>)>
     Some((hash, unhash))
 }
 
-/// The life that the words after `life` tell.
+/// The life that the words after `life` describe.
 fn life_of(words: &[&[u8]]) -> Option<LifeLine>
     ensures some { IfSome result (λ l. HasForm (codes "life" ∷ texts words.now) (lines.Life l)) }
     ensures none { IfNone result ((l : LifeLine) → HasForm (codes "life" ∷ texts words.now) (lines.Life l) → ⊥) }
@@ -346,7 +346,7 @@ fn end_of_pass_first<'a>(words: &'a [&'a [u8]]) -> Option<(PrintedEnd, &'a [&'a 
     Some((end, rest))
 }
 
-/// What the words after `again` tell of a lookup that was given up, and the words after them.
+/// What the words after `again` say of a lookup that was given up, and the words after them.
 fn again_first<'a>(words: &'a [&'a [u8]]) -> Option<(Answer, &'a [&'a [u8]])>
     ensures some { IfSome result (λ r. (codes "again" ∷ texts words.now ≡ answer_words r.0 (texts r.1.now))
         × AnswerFits r.0) }
@@ -390,7 +390,7 @@ fn answer_first<'a>(words: &'a [&'a [u8]]) -> Option<(Answer, &'a [&'a [u8]])>
     found_first(words)
 }
 
-/// The packet that the words tell.
+/// The packet that the words describe.
 fn packet_of(words: &[&[u8]]) -> Option<Packet>
     ensures some { IfSome result (λ p. (texts words.now ≡ spec.packet_words p) × PacketFits p) }
     ensures none { IfNone result ((p : Packet) → texts words.now ≡ spec.packet_words p → PacketFits p → ⊥) }
@@ -412,7 +412,7 @@ fn packet_of(words: &[&[u8]]) -> Option<Packet>
     })
 }
 
-/// The lookup that the words tell.
+/// The lookup that the words describe.
 fn look_of(words: &[&[u8]]) -> Option<LookLine>
     ensures some { IfSome result (λ l. (texts words.now ≡ spec.look_words l) × LookFits l) }
     ensures none { IfNone result ((l : LookLine) → texts words.now ≡ spec.look_words l → LookFits l → ⊥) }
@@ -429,7 +429,7 @@ fn look_of(words: &[&[u8]]) -> Option<LookLine>
     })
 }
 
-/// What the words tell of a packet.
+/// What the words say of a packet.
 fn item_of(words: &[&[u8]]) -> Option<ItemLine>
     ensures some { IfSome result (λ i. (texts words.now ≡ spec.item_words i) × spec.ItemFits i) }
     ensures none { IfNone result ((i : ItemLine) → texts words.now ≡ spec.item_words i → spec.ItemFits i → ⊥) }
@@ -553,7 +553,7 @@ fn is_plain(word: &[u8]) -> bool
     !word.is_empty() && all_above_space(word)
 }
 
-/// Whether what came of a command tells of a slot that was sought in vain.
+/// Whether what came of a command says that a slot was sought in vain.
 fn tells_vain(words: &[&[u8]]) -> bool
     ensures { result ≡ spec.tells_vain (texts words.now) }
 {

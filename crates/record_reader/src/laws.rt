@@ -10,12 +10,12 @@ pub fn one_answer()
     ensures verdict { law.HasOneVerdict }
 {}
 
-/// The numbers of names tell which names are printed alike.
+/// The numbers of names show which names are printed alike.
 pub fn numbers_tell_names()
     ensures { law.NumbersTellNames }
 {}
 
-/// What a yes says of the race that a text tells.
+/// What a yes says of the race that a text describes.
 pub fn yes_is_sound()
     ensures { law.YesIsSound }
 {}

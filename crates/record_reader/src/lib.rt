@@ -1,8 +1,8 @@
 //! The text of a race's record, read back and judged.
 //!
 //! Our own. `specs/Record` says which texts are records, line by line as `race_text` writes them, and `specs/Told`
-//! which race the lines tell. [`read::read`] reads a text so, or names the first line that is outside;
-//! [`audit::audit`] hands the race to the judge of `book_audit`, and tells which line fails which test. It stands on
+//! which race the lines describe. [`read::read`] reads a text so, or names the first line that is outside;
+//! [`audit::audit`] hands the race to the judge of `book_audit`, and says which line fails which test. It stands on
 //! that judge and on the texts of `inet_io`.
 //!
 //! ```text

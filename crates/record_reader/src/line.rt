@@ -17,7 +17,7 @@ pub struct Name {
     pub length: usize,
 }
 
-/// What a lookup answered: a found card is told by its kind and name.
+/// What a lookup answered: a found card is given by its kind and name.
 #[derive(Clone, Copy, Debug, PartialEq, Eq)]
 pub enum Answer {
     Found(Kind, Name),
@@ -63,7 +63,7 @@ pub enum Line {
     Race { lookers: u64, passes: u64 },
     /// How large the tables were, and the seed of their hashes.
     Shape { shape: Shape, seed: u32 },
-    /// What came of a command: whether it drew a number of the clock for a slot in vain. No more of it is told.
+    /// What came of a command: whether it drew a number of the clock for a slot in vain. No more of it is kept.
     Reply { vain: bool },
     /// How many entries the journal of that bind bucket has.
     Journal { bucket: u64, count: u64 },

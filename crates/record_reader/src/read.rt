@@ -35,7 +35,7 @@ impl From<AllocError> for ReadEnd {
     }
 }
 
-/// The lines of a record, and the race that they tell.
+/// The lines of a record, and the race that they describe.
 #[derive(Drop)]
 pub struct Record {
     pub lines: Vec<Line>,
@@ -101,7 +101,7 @@ fn read_lines(alloc: Global, text: &[u8]) -> Result<Vec<Line>, ReadEnd>
 /// Reads a text as the record of a race: a grammar of our own, which `specs/` spells out.
 ///
 /// Each byte is looked at a few times. Names are found among the others by an ordered index, so that takes time for
-/// each in proportion to the logarithm of their number. Takes memory for the lines and for what they tell. A record
+/// each in proportion to the logarithm of their number. Takes memory for the lines and for what they say. A record
 /// may have `u32::MAX` lines with names; for more there is no memory.
 pub fn read(alloc: Global, text: &[u8]) -> Result<Record, ReadEnd>
     ensures record { IfOk result (λ r. Reads text.now r.lines.items r.printed) }

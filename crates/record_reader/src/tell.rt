@@ -1,4 +1,4 @@
-//! The race that the lines of a record tell.
+//! The race that the lines of a record describe.
 
 ghost use Rattle.std.specs.Prelude.{◌≡◌, ◌-◌, IfOk, OnOk, slice_get, length, count_by, None, Some};
 ghost use Rattle.std.specs.List.{filter_map};
@@ -24,7 +24,7 @@ fn answer_name(answer: &Answer) -> Option<Name>
     }
 }
 
-/// The name that a line tells.
+/// The name that a line contains.
 fn name_in(line: &Line) -> Option<Name>
     ensures { result ≡ spec.name_in line.now }
 {
@@ -48,7 +48,7 @@ fn note_place(index: &mut BTreeMap<Name, u32>, name: Name, place: u32) -> Result
     Ok(())
 }
 
-/// Notes where the name of a line stands, if it tells one, and gives the place of the next name.
+/// Notes where the name of a line stands, if it contains one, and gives the place of the next name.
 fn note_line(index: &mut BTreeMap<Name, u32>, line: &Line, place: u32) -> Result<u32, AllocError>
     ensures { IfOk result (NotesLine index.old line.now place index.new) }
 {
@@ -113,7 +113,7 @@ fn look_told(index: &BTreeMap<Name, u32>, look: &LookLine) -> PrintedLook
     }
 }
 
-/// The life that a line tells, if it is one.
+/// The life that a line describes, if it describes one.
 fn life_in(index: &BTreeMap<Name, u32>, line: &Line) -> Option<PrintedLife>
     ensures { result ≡ spec.life_in (number_by index.now) line.now }
 {
@@ -123,7 +123,7 @@ fn life_in(index: &BTreeMap<Name, u32>, line: &Line) -> Option<PrintedLife>
     }
 }
 
-/// The packet that a line tells, if it is one.
+/// The packet that a line describes, if it describes one.
 fn packet_in(index: &BTreeMap<Name, u32>, line: &Line) -> Option<PrintedPacket>
     ensures { result ≡ spec.packet_in (number_by index.now) line.now }
 {
@@ -169,14 +169,14 @@ fn is_vain(line: &Line) -> bool
     matches!(line, Line::Reply { vain: true })
 }
 
-/// How many replies tell of a slot that was sought in vain.
+/// How many replies say that a slot was sought in vain.
 fn vain_in(lines: &[Line]) -> u64
     ensures { result ≡ count_by spec.is_vain lines.now }
 {
     lines.iter().filter(|line| is_vain(line)).count() as u64
 }
 
-/// The shape of the tables and the seed of their hashes, which the second line tells.
+/// The shape of the tables and the seed of their hashes, which the second line gives.
 fn shape_in(lines: &[Line]) -> (Shape, u32)
     requires { TellsShape lines.now }
     ensures { slice_get lines.now 1 ≡ Some (Line.Shape result.0 result.1) }
@@ -187,7 +187,7 @@ fn shape_in(lines: &[Line]) -> (Shape, u32)
     }
 }
 
-/// What the clock came to, which the last line tells.
+/// What the clock came to, which the last line gives.
 fn clock_in(lines: &[Line]) -> u64
     requires { EndsWell lines.now }
     ensures { slice_get lines.now (length lines.now - 1) ≡ Some (Line.Clock result) }
@@ -198,7 +198,7 @@ fn clock_in(lines: &[Line]) -> u64
     }
 }
 
-/// The race that the lines of a record tell.
+/// The race that the lines of a record describe.
 pub fn tell(alloc: Global, lines: &[Line]) -> Result<Printed, AllocError>
     requires order { AreInOrder None lines.now }
     requires ends { EndsWell lines.now }

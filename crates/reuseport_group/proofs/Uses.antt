@@ -25,7 +25,7 @@ stores_word key n slots id m g g' j l l' word value keyed same_g same_l is_word 
     let P : ℕ → ℕ → List ℕ → ℕ → ℕ → Type 0 = λ k h q w v. Allows (Grouped k) slots id m w (λ _. v) (λ _. wrote h q (step slots w v 0 none) m v) in
     subst (λ (k : ℕ). P k g' l' word value) (sym keyed) (subst (λ (h : ℕ). P n h l' word value) same_g (subst (λ (q : List ℕ). P n g q word value) same_l (subst (λ (w : ℕ). P n g l w value) (sym is_word) (subst (λ (v : ℕ). P n g l (at g j) v) (sym is_value) (writes n slots id m g j l near le few part last)))))
 
--- and what it tells
+-- and what it shows
 pub did : (slots : ℕ) (m m' : Sat) (g g' j : ℕ) (l l' : List ℕ) (word value : ℕ) → g ≡ g' → l ≡ l' → word ≡ at g j → j ≤ most → wrote g' l' (step slots word value 0 none) m value m' → Wrote g l j m m'
 did slots m m' g g' j l l' word value same_g same_l is_word le told =
     subst (λ (h : ℕ). Wrote h l j m m') (sym same_g) (subst (λ (q : List ℕ). Wrote g' q j m m') (sym same_l) (told j le (is_word ∙ ap (λ (h : ℕ). at h j) same_g)))

@@ -80,7 +80,7 @@ impl Groups {
         self.table.shared.load::<Load>(&mut passes.seat, word)
     }
 
-    // A store is told of which list it is by its type, `Store<T>`. The two halves of `publish` make that type
+    // The type of a store, `Store<T>`, says of which list the store is. The two halves of `publish` make that type
     // from their arguments, by a `Brand`.
 
     fn store_members_as<T: Told>(&self, passes: &mut GroupPasses, group: u32, members: &[u64])

@@ -10,7 +10,7 @@
 //! lists, as Linux reads `struct sock_reuseport` without a lock: [`Groups::publish`] stores a list,
 //! [`Groups::choose`] loads a count and one member. A thread does either by [`GroupPasses`] of its own.
 //!
-//! It stands on `jhash_words`, whose `scale` tells the place, on `list_words`, and on the kit's
+//! It stands on `jhash_words`, whose `scale` gives the place, on `list_words`, and on the kit's
 //! `atomic_table`: between any two steps of any passes the rule of `specs/Grouped` holds, which ties
 //! the words to all that was stored. So a choice is of members that some list had there, and with one
 //! thread it is `pick` of the list that was published last.

@@ -1,4 +1,4 @@
-//! The rule of the table's words and passes, and what each step tells. All of it exists in proofs alone.
+//! The rule of the table's words and passes, and what each step shows. All of it exists in proofs alone.
 
 use crate::view::GroupView;
 use atomic_table::{Join, Play, Split, TableRule};
@@ -15,7 +15,7 @@ impl TableRule<(), GroupView, u32> for GroupRule {
     ghost first = { λ key. first };
 }
 
-/// The group and the list that a store is of, since the stored number doesn't tell them.
+/// The group and the list that a store is of, since the stored number doesn't determine them.
 pub trait Told {
     ghost use Rattle.std.specs.Prelude.{ℕ, List};
 

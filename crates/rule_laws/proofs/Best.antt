@@ -14,13 +14,9 @@ use Rattle.flat_list.specs.Look.{best_rank, is_best, member_of, chosen, group_of
 use Rattle.flat_list.specs.Sound.{IsSound}
 use Rattle.rule_laws.specs.Finds.{IsBestOf, NoneMatches, FindsTheBest}
 use Rattle.list_words.proofs.Items.{In, in_each, found_in, contains_in, fold_least, fold_one}
+use Rattle.list_words.proofs.MapLemmas.{in_map}
 use Rattle.chain_book.proofs.HashFits.{hash_fits}
 use Rattle.rule_laws.proofs.Cards.{chosen_card}
-
-in_map : {A B : Type 0} (f : A → B) (x : A) (xs : List A) → In x xs → In (f x) (map f xs)
-in_map f x [] i = absurd i
-in_map f x (y ∷ ys) (inl e) = inl (ap f e)
-in_map f x (y ∷ ys) (inr i) = inr (in_map f x ys i)
 
 from_later : {A B : Type 0} (f : A → B) (y : B) (z : A) (xs : List A) → ((x : A) × In x xs × (f x ≡ y)) → (x : A) × In x (z ∷ xs) × (f x ≡ y)
 from_later f y z xs (x, i, e) = (x, inr i, e)

@@ -155,7 +155,7 @@ fn all_have(listings: &[Listing], card: &Card) -> bool {
     true
 }
 
-/// The reply that tells an end of 10.0.0.1.
+/// The reply that names an end of 10.0.0.1.
 const fn from_port(port: u16) -> Reply {
     Reply::End(End {
         addr: 0x0A00_0001,

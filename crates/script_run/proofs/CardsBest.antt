@@ -1,5 +1,5 @@
 -- Which card of a sound list is best, and what the list's lookup makes of it.
-use Rattle.std.proofs.Common.{◌≡◌, ℕ, zero, suc, ◌≤◌, Bool, true, false, ◌&&◌, ◌==◌, List, [], ◌∷◌, map, find, Option, Some, None, refl, sym, ap, ◌∙◌, inl, inr, arith, nat_lt}
+use Rattle.std.proofs.Common.{◌≡◌, ℕ, zero, suc, ◌≤◌, Bool, true, false, ◌&&◌, ◌==◌, List, [], map, find, Option, Some, None, refl, sym, ap, ◌∙◌, inl, inr, arith, nat_lt}
 use Rattle.std.specs.Prelude.{option_and_then}
 use Rattle.std.specs.Option.{option_map_or}
 use Rattle.std.proofs.lemmas.Bool.{and_parts, and_from, lt-ltb, eq-eqb}
@@ -14,13 +14,9 @@ use Rattle.flat_list.specs.Look.{look, best_rank, is_best, member_of, chosen, gr
 use Rattle.flat_list.specs.Sound.{IsSound, are_together}
 use Rattle.flat_list.proofs.OneBest.{one_or_one_group}
 use Rattle.list_words.proofs.Items.{In, in_each, pairs_in, finds, finds_none, any_item, fold_least, fold_most}
+use Rattle.list_words.proofs.MapLemmas.{in_map}
 use Rattle.flat_list.proofs.CardsOf.{of_socket}
 use Rattle.script_run.proofs.CardsOf.{cards, only_group}
-
-in_map : {A B : Type 0} (f : A → B) (x : A) (xs : List A) → In x xs → In (f x) (map f xs)
-in_map f x [] i = absurd i
-in_map f x (y ∷ ys) (inl e) = inl (ap f e)
-in_map f x (y ∷ ys) (inr i) = inr (in_map f x ys i)
 
 same_number : (a b : ℕ) → a ≤ b → b ≤ a → a ≡ b
 same_number a b h g = omega arith

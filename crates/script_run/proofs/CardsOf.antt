@@ -66,7 +66,7 @@ or_first : (b c : Bool) → c ≡ false → (b || c) ≡ b
 or_first true c h = refl
 or_first false c h = h
 
--- what a listener's card tells, if its group is one of so many
+-- the group that a listener's card names, if it is one of so many
 abbrev told : ℕ → Bool → Option ℕ
 told extra none = cond {A = Option ℕ} none None (Some (extra - 1))
 
@@ -129,7 +129,7 @@ module _ (flat : Flat) (sound : IsSound flat) where
       finds_none (has_member s.owner.name) flat.groups
       (count_none (has_member s.owner.name) flat.groups (one_group s i ∙ ap (λ (b : Bool). cond {A = ℕ} b 1 0) no))
 
-  -- a listener's card tells its group's number and 1
+  -- a listener's card has its group's number plus 1
   tells : (c : Card) (o : OfSocket flat.groups flat.sockets c) → c.kind ≡ kinds.Listen → option_map_or (λ (g : Group). g.number + 1) (group_of c.name flat.groups) 0 ≡ c.extra
   tells c o listens =
       ap (λ (n : ℕ). option_map_or (λ (g : Group). g.number + 1) (group_of n flat.groups) 0) (sym o.says.name)
@@ -161,7 +161,7 @@ module _ (flat : Flat) (sound : IsSound flat) where
         ap (λ (n : ℕ). group_of n flat.groups) (sym o.says.name)
         ∙ no_share o.socket o.within (not_listening o.socket.owner.state c.kind o.says.kind (λ q. let no : kinds.Request ≡ kinds.Listen = sym e ∙ q in absurd (cc)))
 
-    -- a card that tells no group is in none
+    -- a card that names no group is in none
     pub no_group : (c : Card) → In c cards → group_in c count ≡ None → NoGroup flat.groups c.name
     no_group c i h = none_by c (of_socket flat.groups flat.sockets c i) c.kind refl h
 
@@ -173,6 +173,6 @@ module _ (flat : Flat) (sound : IsSound flat) where
     some_by c n o kinds.TimeWait e h = absurd (cc)
     some_by c n o kinds.Request e h = absurd (cc)
 
-    -- a card that tells a group is in that of this number
+    -- a card that names a group is in that of this number
     pub some_group : (c : Card) (n : ℕ) → In c cards → group_in c count ≡ Some n → HasNumber (group_of c.name flat.groups) n
     some_group c n i h = some_by c n (of_socket flat.groups flat.sockets c i) c.kind refl h

@@ -36,7 +36,7 @@ use Rattle.table_model.proofs.parts.Chains.{home_below}
 use Rattle.list_words.proofs.Items.{In}
 use Rattle.script_run.proofs.CardsStand.{stands_of, of_stands}
 
--- a card's first two words tell its rank
+-- a card's first two words determine its rank
 pub words_rank : (packet : Packet) (words : List ℕ) → rank_of packet words ≡ rank (card_from words) packet
 words_rank packet words =
     let w : CardWords = record {

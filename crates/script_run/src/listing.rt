@@ -13,7 +13,7 @@ use std::alloc::{AllocError, Global};
 use std::sync::Wait;
 use table_dump::dump;
 
-/// Appends what a command lists: a `dump` all hashed sockets, any other command nothing. No span is told, since
+/// Appends what a command lists: a `dump` all hashed sockets, any other command nothing. No span is given, since
 /// nobody else is at the tables.
 pub(crate) fn list<R: Wait>(
     rt: &R,

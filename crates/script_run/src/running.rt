@@ -88,7 +88,7 @@ fn step<R: Wait>(
     }
 }
 
-/// Runs one command of a machine's section, appends what is replied and listed, and tells the items that are left
+/// Runs one command of a machine's section, appends what is replied and listed, and returns the items that are left
 /// then.
 fn run_command<'a, R: Wait>(
     rt: &R,
@@ -132,7 +132,7 @@ fn label_count(commands: &[KeptCommand]) -> usize {
     count
 }
 
-/// Runs the commands of section `n` on a machine of its own, appends what is replied and listed, and tells the
+/// Runs the commands of section `n` on a machine of its own, appends what is replied and listed, and returns the
 /// items that are left then.
 fn run_section<'a, R: Wait>(
     rt: &R,

@@ -1,10 +1,11 @@
--- What a caller's own entries tell of a name, whatever set of names is looked at.
+-- What a caller's own entries say of a name, whatever set of names is looked at.
 use Rattle.std.proofs.Common.{◌≡◌, ℕ, ◌==◌, ◌&&◌, not, Bool, true, false, cond, List, [], ◌∷◌, ◌++◌, filter, find, Option, refl, sym, ap, subst, ◌∙◌, eq-eqb, append-nil, append_assoc}
 use Rattle.std.proofs.lemmas.Bool.{false≢true, and_parts}
 use Rattle.std.proofs.lemmas.List.{map-append}
 use Rattle.std.proofs.lemmas.List.Elements.{filter-append}
 use Rattle.list_words.specs.Lists.{Each}
 use Rattle.list_words.proofs.EachLemmas.{each_weaken, each_filter, each_map, each_both}
+use Rattle.list_words.proofs.Truths.{both_true}
 use Rattle.sock_card.specs.declared.owner.Owner.{Owner}
 use Rattle.turn_table.specs.declared.note.Placed.{Placed}
 use Rattle.turn_table.specs.Journals.{by_caller, notes_at}
@@ -23,7 +24,7 @@ use Rattle.shared_ops.specs.Stands.{Knows}
 use Rattle.bind_buckets.proofs.Filtered.{find_filtered}
 use Rattle.bind_buckets.proofs.ToldByOwn.{named_mine, told_seen}
 
--- the owners of some names, as notes tell them
+-- the owners of some names, as notes give them
 abbrev pub told_by : (ℕ → Bool) → List Note → List Owner
 told_by mine notes = told_from [] (filter (is_told mine) (entries_of notes))
 
@@ -46,10 +47,6 @@ speaks_both set mine ours (requests.ToTimeWait name) meet = meet name
 speaks_both set mine ours (requests.Remove name) meet = meet name
 speaks_both set mine ours (requests.RemoveWaiting name) meet = meet name
 
-both_true : (p q : Bool) → p ≡ true → q ≡ true → (p && q) ≡ true
-both_true true q hp hq = hq
-both_true false q hp hq = absurd (false≢true hp)
-
 turned : (p q : Bool) → (p && q) ≡ (q && p)
 turned true true = refl
 turned true false = refl
@@ -67,7 +64,7 @@ seen_by true p q b e xs is f fe = refl
 seen_by false true q b e xs is f fe = ap (λ c. cond c (e ∷ filter f xs) (filter f xs)) fe
 seen_by false false q b e xs is f fe = ap (λ c. cond c (e ∷ filter f xs) (filter f xs)) (sym is)
 
--- of what is told of the one set, what is about both
+-- of what is said of the one set, what is about both
 told_both : (set mine ours : ℕ → Bool) (es : List Entry) → IsMeet set mine ours → filter (is_about set) (filter (is_told mine) es) ≡ filter (is_told set) es
 told_both set mine ours [] meet = refl
 told_both set mine ours (e ∷ es) meet =

@@ -326,7 +326,7 @@ impl Machine {
     /// the next command. Its offsets are past one, where a search began; of a `reap` the first TIME_WAITs that are
     /// over are gone, and the others left; and the label of an accepted child or of a request is given, unless nothing
     /// was done at all: a command that gives one would give it twice, if it were made again. The worker is ready. How
-    /// far the plan went is not told.
+    /// far the plan went is not reported.
     pub fn try_step<P: Patience>(
         &mut self,
         patience: &P,
@@ -387,7 +387,7 @@ impl Machine {
         match self.try_step(&patience::Waits::by(rt), tables, worker, command) {
             Ok(reply) => Ok(reply),
             Err(Cause::Memory) => Err(AllocError),
-            // Who waits for good is never told that another was in the way.
+            // Who waits for good never gets the answer that another was in the way.
             Err(Cause::Busy) => unreachable!(),
         }
     }

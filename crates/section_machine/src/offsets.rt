@@ -67,7 +67,7 @@ impl Offsets {
         }
     }
 
-    /// The ports of the range in the order of a search, which begins now if one does; only that one's order is told.
+    /// The ports of the range in the order of a search, which begins now if one does; only then is the order stated.
     pub fn ports(&mut self, begins: bool, first: First) -> Ports
         ensures ports { begins ≡ true → result ≡ spec.ports_of self.old first }
         ensures few { length result ≤ 65536 }

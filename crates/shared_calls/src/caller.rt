@@ -65,7 +65,7 @@ impl Caller {
         self.machine.given() as u32 + 1
     }
 
-    /// Carries a command out, any but a lookup, whoever else is at the tables, and tells what comes of it. A command
+    /// Carries a command out, any but a lookup, whoever else is at the tables, and returns what comes of it. A command
     /// that makes a socket has the next number's label for it.
     ///
     /// It takes the turn of one bucket and the lock of one chain at a time, and tries for each as long as the patience

@@ -5,7 +5,7 @@
 //! goes to the thread that uses it; the tables go when the last of them does.
 //!
 //! A socket's label is its number's four bytes, and its name has that number in its lower 24 bits, and its caller's in
-//! those above. So a lookup, which sees names, tells both numbers.
+//! those above. So a lookup, which sees names, gives both numbers.
 //!
 //! ```text
 //! let mut tables = SharedTables::new(alloc, &header)?;

@@ -37,7 +37,7 @@ use Rattle.table_rule.specs.declared.view.Layout.{Layout}
 use Rattle.table_rule.specs.declared.view.Sighted.{Sighted}
 use Rattle.table_rule.specs.declared.view.Whole.{Whole}
 
--- the layout by which homes are told is the table's, but for its seed
+-- the layout by which homes are determined is the table's, but for its seed
 pub laid_as : (layout table : Layout) (t : Chains) → IsLaidOut layout t → table ≡ layout_of t → with_seed table layout.seed ≡ layout
 laid_as layout table t laid is = ap (λ (s : Shape). record { shape = s; seed = layout.seed }) (ap (λ (l : Layout). l.shape) is ∙ sym laid.shape)
 

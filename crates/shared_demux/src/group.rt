@@ -18,10 +18,7 @@ use chain_book::packet_hash;
 use null_reader::{Pace, Point};
 use reuseport_group::{GroupPasses, Groups, name_of, slot_of};
 use sock_card::{Card, CardWords, Kind, Packet, pack, word_rank};
-use table_rule::{Chains, Steps, known_card};
-
-/// The least state word with both flags: the slot is linked, and may be found.
-const LIVE: u64 = 3 << 62;
+use table_rule::{Chains, LEAST_LIVE, Steps, known_card};
 
 /// The group that a listener's card names, if it is one of so many.
 fn group_of(card: &Card, count: u32) -> Option<u32>
@@ -86,7 +83,7 @@ fn sight<P: Pace>(chains: &Chains, steps: &mut Steps, slot: u32, pace: &mut P) -
     ensures named { IfSome result (λ card. card.name < 2 ^ 32) }
 {
     pace.step(Point::Take(slot));
-    if chains.step_take(steps, slot) < LIVE {
+    if chains.step_take(steps, slot) < LEAST_LIVE {
         pace.step(Point::Put(slot));
         chains.step_put_dead(steps, slot);
         return None;

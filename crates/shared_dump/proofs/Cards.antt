@@ -1,5 +1,6 @@
 -- Cards by their words, and lists of them.
-use Rattle.std.proofs.Common.{◌≡◌, ℕ, zero, suc, ◌<◌, List, [], ◌∷◌, ◌++◌, map, refl, sym, ap, ◌∙◌, arith, length, slice_index, append_assoc}
+use Rattle.std.proofs.Common.{◌≡◌, ℕ, zero, suc, ◌<◌, List, [], ◌∷◌, ◌++◌, refl, sym, ap, ◌∙◌, arith, length, slice_index, append_assoc}
+use Rattle.std.proofs.lemmas.List.{map-append}
 use mathlib.Core.Option.{some, some-injective, some-ne-none}
 use lib.ListN.{get_elem?}
 use Rattle.sock_card.specs.declared.card.Card.{Card}
@@ -27,12 +28,8 @@ card_told (a ∷ b ∷ c ∷ d ∷ []) l e h = λ i. unpacked (record {
 })
 card_told (a ∷ b ∷ c ∷ d ∷ x ∷ xs) l e h = absurd (omega (arith, e))
 
-pub map-both : {A B : Type 0} (f : A → B) (xs ys : List A) → map f (xs ++ ys) ≡ map f xs ++ map f ys
-map-both f [] ys = refl
-map-both f (x ∷ xs) ys = ap (λ (l : List _). f x ∷ l) (map-both f xs ys)
-
 pub cards-more : (xs : List Seen) (s : Seen) → cards_of (xs ++ s ∷ []) ≡ cards_of xs ++ card_of s ∷ []
-cards-more xs s = map-both card_of xs (s ∷ [])
+cards-more xs s = map-append card_of xs (s ∷ [])
 
 pub all-more : (rows : List (List Seen)) (xs : List Seen) → all_cards (rows ++ xs ∷ []) ≡ all_cards rows ++ cards_of xs
 all-more [] xs = append-none (cards_of xs)

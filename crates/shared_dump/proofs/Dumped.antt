@@ -2,11 +2,11 @@
 use Rattle.std.proofs.Common.{◌≡◌, ℕ, suc, List, [], ◌∷◌, ◌++◌, refl, sym, ap, ◌∙◌}
 use mathlib.Core.Option.{some}
 use lib.ListN.{get_elem?}
+use Rattle.list_words.specs.Lists.{Each}
 use Rattle.sock_card.specs.declared.card.Card.{Card}
 use Rattle.table_rule.specs.Alone.{mine}
 use Rattle.table_rule.specs.Beyond.{SightTrue}
 use Rattle.table_rule.specs.Book.{open-end}
-use Rattle.table_rule.specs.Lists.{Each}
 use Rattle.table_rule.specs.Plays.{settled, seeing}
 use Rattle.table_rule.specs.Sole.{WholeBook}
 use Rattle.table_rule.specs.Words.{bucket_count}

@@ -1,23 +1,26 @@
 -- By a book in which the sightings of a dump are true, its items are lives of that book.
 use Rattle.std.proofs.Common.{◌≡◌, ℕ, zero, suc, ◌+◌, ◌<◌, ◌≤◌, inl, inr, ⊎_elim, List, [], ◌∷◌, ◌++◌, map, refl, sym, ap, ◌∙◌, arith, length, subst}
+use Rattle.std.proofs.lemmas.List.{map-append}
 use mathlib.Core.Logic.{dite}
 use mathlib.Core.Option.{some, some-injective, some-ne-none}
 use native.Mathlib.Decide.{ℕ_discrete}
 use lib.ListN.{get_elem?}
+use Rattle.list_words.proofs.EachLemmas.{each_append}
+use Rattle.list_words.specs.Lists.{Each}
 use Rattle.sock_card.specs.declared.card.Card.{Card}
 use Rattle.table_rule.specs.Beyond.{StoodOf, SightTrue}
 use Rattle.table_rule.specs.Book.{Part, InBook}
 use Rattle.table_rule.specs.Explained.{Throughout}
-use Rattle.table_rule.specs.Lists.{Each, stands, slots_of}
+use Rattle.table_rule.specs.Lists.{stands, slots_of}
 use Rattle.table_rule.specs.Sole.{IsRead}
 use Rattle.table_rule.specs.declared.view.Change.{Change}
 use Rattle.table_rule.specs.declared.view.Seen.{Seen}
 use Rattle.table_rule.specs.declared.view.Sight.{Sight}
-use Rattle.table_rule.proofs.Lists.{each-append, times-here, times-else}
+use Rattle.table_rule.proofs.Lists.{times-here, times-else}
 use Rattle.shared_dump.specs.Rows.{cards_of, all_cards, IsChain}
 use Rattle.shared_dump.specs.Sightings.{sighting, sightings}
 use Rattle.shared_dump.specs.Books.{life_card, HaveOnePlace, AreApart, IsAmong, IsLife, AreTold}
-use Rattle.shared_dump.proofs.Cards.{card_told, map-both}
+use Rattle.shared_dump.proofs.Cards.{card_told}
 
 abbrev AllStood : List Part → Sight → List Seen → Type 0
 AllStood views s xs = (n : ℕ) (e : Seen) → get_elem? xs n ≡ some e → StoodOf views s e
@@ -93,7 +96,7 @@ else_all P h (x ∷ xs) f k = (f x k.0, else_all P h xs f k.1)
 apart_both : (b : ℕ) (xs ys : List Change) → Each (λ (h : Change). h.bucket ≡ b) xs → Each (λ (h : Change). b < h.bucket) ys → AreApart xs → AreApart ys → AreApart (xs ++ ys)
 apart_both b [] ys here above p q = q
 apart_both b (x ∷ xs) ys here above p q = (
-  each-append (IsElse x) xs ys p.0 (else_all (λ (h : Change). b < h.bucket) x ys (λ g k t. omega (arith, k, here.0, t.0)) above),
+  each_append (IsElse x) xs ys p.0 (else_all (λ (h : Change). b < h.bucket) x ys (λ g k t. omega (arith, k, here.0, t.0)) above),
   apart_both b xs ys here.1 above p.1 q,
 )
 
@@ -125,16 +128,16 @@ module _ (views : List Part) (t0 t1 : ℕ) where
   all_told b (xs ∷ rows) k chains =
       ap (λ (l : List Card). l ++ all_cards rows) (cards_told views t0 t1 b xs xs k.0.listed chains.0.0)
       ∙ (ap (λ (l : List Card). map life_card (lives_of views t0 t1 b xs xs k.0.listed) ++ l) (all_told (b + 1) rows k.1 chains.1)
-      ∙ sym (map-both life_card (lives_of views t0 t1 b xs xs k.0.listed) (all_lives (b + 1) rows k.1)))
+      ∙ sym (map-append life_card (lives_of views t0 t1 b xs xs k.0.listed) (all_lives (b + 1) rows k.1)))
 
   all_stood : (b : ℕ) (rows : List (List Seen)) (k : Each (SightTrue views) (sightings t0 t1 b rows)) → Each (IsLife views t0 t1) (all_lives b rows k)
   all_stood b [] k = tt
-  all_stood b (xs ∷ rows) k = each-append (IsLife views t0 t1) (lives_of views t0 t1 b xs xs k.0.listed) (all_lives (b + 1) rows k.1) (lives_stood views t0 t1 b xs xs k.0.listed) (all_stood (b + 1) rows k.1)
+  all_stood b (xs ∷ rows) k = each_append (IsLife views t0 t1) (lives_of views t0 t1 b xs xs k.0.listed) (all_lives (b + 1) rows k.1) (lives_stood views t0 t1 b xs xs k.0.listed) (all_stood (b + 1) rows k.1)
 
   all_above : (b : ℕ) (rows : List (List Seen)) (k : Each (SightTrue views) (sightings t0 t1 b rows)) → Each (λ (h : Change). b ≤ h.bucket) (all_lives b rows k)
   all_above b [] k = tt
   all_above b (xs ∷ rows) k =
-      each-append (λ (h : Change). b ≤ h.bucket) (lives_of views t0 t1 b xs xs k.0.listed) (all_lives (b + 1) rows k.1)
+      each_append (λ (h : Change). b ≤ h.bucket) (lives_of views t0 t1 b xs xs k.0.listed) (all_lives (b + 1) rows k.1)
       (higher_of b (lives_of views t0 t1 b xs xs k.0.listed) (lives_here views t0 t1 b xs xs k.0.listed))
       (higher b (b + 1) (all_lives (b + 1) rows k.1) (omega arith) (all_above (b + 1) rows k.1))
 

@@ -1,8 +1,11 @@
 -- What is known as one bucket more is listed.
 use Rattle.std.proofs.Common.{◌≡◌, ℕ, ◌+◌, List, [], ◌∷◌, ◌++◌, refl, sym, ap, ◌∙◌, arith, length, subst, append_assoc}
 use Rattle.std.proofs.lemmas.List.FromFn.{map-range_with_len_more}
+use Rattle.std.proofs.lemmas.List.{map-append}
 use mathlib.Core.Option.{some}
 use lib.ListN.{get_elem?}
+use Rattle.list_words.proofs.EachLemmas.{each_append}
+use Rattle.list_words.proofs.PlaceLemmas.{length_push}
 use Rattle.nulls_chain.specs.Changes.{WasChain}
 use Rattle.sock_card.specs.declared.card.Card.{Card}
 use Rattle.table_rule.specs.Book.{open-end}
@@ -12,11 +15,10 @@ use Rattle.table_rule.specs.declared.view.Change.{Change}
 use Rattle.table_rule.specs.declared.view.Seen.{Seen}
 use Rattle.table_rule.specs.declared.view.Sight.{Sight}
 use Rattle.table_rule.specs.declared.view.View.{View}
-use Rattle.table_rule.proofs.Lists.{each-append}
 use Rattle.shared_dump.specs.Rows.{cards_of, all_cards, IsChain}
 use Rattle.shared_dump.specs.Sightings.{sighting, sightings, having_seen, Lists}
 use Rattle.shared_dump.specs.Dumps.{Keeps, ListsAll, chains_from}
-use Rattle.shared_dump.proofs.Cards.{all-more, map-both}
+use Rattle.shared_dump.proofs.Cards.{all-more}
 
 -- a pass that has one bucket locked is alone where it was
 pub sole_locking : (v : View) (bucket : ℕ) (xs : List Seen) → WasChain xs bucket (locking v bucket) → WasChain xs bucket v
@@ -32,10 +34,6 @@ saw_one v w x bucket walked locked met is =
       sights = v.sights ++ record { bucket = locked i; listed = w.chain.walked; held = []; whole = met i; since = v.seen; until = open-end } ∷ [];
     })
 
-length-more : {A : Type 0} (xs : List A) (x : A) → length (xs ++ x ∷ []) ≡ length xs + 1
-length-more [] x = refl
-length-more (y ∷ xs) x = omega (arith, length-more xs x)
-
 sights-more : (from to b c : ℕ) (rows : List (List Seen)) (xs : List Seen) → c ≡ b + length rows → sightings from to b (rows ++ xs ∷ []) ≡ sightings from to b rows ++ sighting from to c xs ∷ []
 sights-more from to b c [] xs e = let h : b ≡ c = omega (arith, e) in ap (λ (n : ℕ). sighting from to n xs ∷ []) h
 sights-more from to b c (row ∷ rows) xs e = ap (λ (l : List Sight). sighting from to b row ∷ l) (sights-more from to (b + 1) c rows xs (omega (arith, e)))
@@ -45,7 +43,7 @@ settled_sights from to b [] = refl
 settled_sights from to b (row ∷ rows) = ap (λ (l : List Sight). sighting from to b row ∷ l) (settled_sights from to (b + 1) rows)
 
 pub settled_both : (xs ys : List Sight) (r : ℕ) → settled (xs ++ ys) r ≡ settled xs r ++ settled ys r
-settled_both xs ys r = map-both _ xs ys
+settled_both xs ys r = map-append _ xs ys
 
 pub keeps_same : (v : View) → Keeps v v
 keeps_same v = record { layout = refl; slot = refl; book = refl; read = refl; done = refl }
@@ -84,9 +82,9 @@ lists_none items v = record {
 pub lists_more : (count : ℕ) (old mid new : List Card) (v u w : View) → Keeps v u → u.seen ≡ v.seen → ListsAll count old mid v u → Lists count mid new u w → ListsAll (count + 1) old new v w
 lists_more count old mid new v u w k seen all one = record {
   rows = all.rows ++ one.chain ∷ [];
-  each = length-more all.rows one.chain ∙ ap (λ (n : ℕ). n + 1) all.each;
+  each = length_push all.rows one.chain ∙ ap (λ (n : ℕ). n + 1) all.each;
   listed = one.listed ∙ (ap (λ (l : List Card). l ++ cards_of one.chain) all.listed ∙ (append_assoc old (all_cards all.rows) (cards_of one.chain) ∙ ap (λ (l : List Card). old ++ l) (sym (all-more all.rows one.chain))));
-  chains = each-append IsChain all.rows (one.chain ∷ []) all.chains (one.is-chain, tt);
+  chains = each_append IsChain all.rows (one.chain ∷ []) all.chains (one.is-chain, tt);
   sole = λ s.
       let last : one.chain ≡ chain_from v.book.closed count = one.sole (sole_kept v u k s) ∙ ap (λ x. chain_from x.closed count) k.book in
       ap (λ (l : List (List Seen)). l ++ one.chain ∷ []) (all.sole s)

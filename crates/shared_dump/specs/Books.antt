@@ -1,9 +1,9 @@
 -- What a dump comes to by a book of changes: which lives its items are. Our own.
 use Rattle.std.specs.Prelude.{◌≡◌, ℕ, ◌<◌, ◌⊎◌, List, [], ◌∷◌, map}
+use Rattle.list_words.specs.Lists.{Each}
 use Rattle.sock_card.specs.declared.card.Card.{Card}
 use Rattle.table_rule.specs.Book.{Part, InBook}
 use Rattle.table_rule.specs.Explained.{Throughout, Stood}
-use Rattle.table_rule.specs.Lists.{Each}
 use Rattle.table_rule.specs.Words.{card_from}
 use Rattle.table_rule.specs.declared.view.Change.{Change}
 

@@ -1,7 +1,8 @@
 -- What a pass knows once it has listed all chains, one after the other: inet_diag_dump_icsk of net/ipv4/inet_diag.c
--- lists so. That it tells each life that was there throughout is our own.
+-- lists so. That it lists each life that was there throughout is our own.
 use Rattle.std.specs.Prelude.{◌≡◌, ℕ, List, ◌++◌, map, length}
 use Rattle.std.specs.List.{range_with_len}
+use Rattle.list_words.specs.Lists.{Each}
 use Rattle.sock_card.specs.declared.card.Card.{Card}
 use Rattle.shared_dump.specs.Books.{AreTold}
 use Rattle.shared_dump.specs.Rows.{all_cards, IsChain}
@@ -9,7 +10,6 @@ use Rattle.shared_dump.specs.Sightings.{sightings}
 use Rattle.shared_dump.specs.declared.dumping.Dump.{Dump}
 use Rattle.table_rule.specs.Beyond.{SightTrue}
 use Rattle.table_rule.specs.Book.{open-end, Part}
-use Rattle.table_rule.specs.Lists.{Each}
 use Rattle.table_rule.specs.Plays.{settled}
 use Rattle.table_rule.specs.Sole.{IsSole, chain_from}
 use Rattle.table_rule.specs.Words.{bucket_count}

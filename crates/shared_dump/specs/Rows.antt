@@ -1,7 +1,8 @@
 -- Chains as they were walked, each under its bucket's lock, as cards: our own.
 use Rattle.std.specs.Prelude.{ℕ, ◌≤◌, List, [], ◌∷◌, ◌++◌, map}
+use Rattle.list_words.specs.Lists.{Each}
 use Rattle.sock_card.specs.declared.card.Card.{Card}
-use Rattle.table_rule.specs.Lists.{Each, stands}
+use Rattle.table_rule.specs.Lists.{stands}
 use Rattle.table_rule.specs.Sole.{IsRead}
 use Rattle.table_rule.specs.Words.{card_from}
 use Rattle.table_rule.specs.declared.view.Seen.{Seen}

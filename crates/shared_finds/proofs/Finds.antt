@@ -90,7 +90,7 @@ finds_full layout key passes from to m n idle later (answers.Again b stop) l = l
 
 -- The listener
 
--- the first look, of which the bucket and the answer are told otherwise
+-- the first look, with its bucket and its answer written otherwise
 pub at_exact : (layout : Layout) (key : Packet) (passes from to : ℕ) (m n : Sat) (bucket : ℕ) (end end' : LookEnd) → bucket ≡ exact_home layout key → end ≡ end' → LookedAs bucket key 3 passes m (words_end end) from to n → LookedAs (exact_home layout key) key 3 passes m (words_end end') from to n
 at_exact layout key passes from to m n bucket end end' home is l =
     subst (λ (e : LookEnd). LookedAs (exact_home layout key) key 3 passes m (words_end e) from to n) is (subst (λ (b : ℕ). LookedAs b key 3 passes m (words_end end) from to n) home l)

@@ -191,7 +191,7 @@ module _ (count : ℕ) (a : Owner) (v w : View) where
   searched_kept addr ports (Err searches.Busy) none yet busy end away = stop_away count (bound_at a addr 0) v w ports refl away (busy refl)
   searched_kept addr ports (Err (searches.Full owned held)) none yet busy end away = absurd end
 
--- whoever waits for good isn't told that it was busy
+-- whoever waits for good doesn't get the answer that it was busy
 pub search_patient : (r : Result ℕ SearchEnd) → IfErr r IsNotBusy → IfErr (end_of_search r) NotBusy
 search_patient (Ok port) h = tt
 search_patient (Err searches.NoPort) h = tt

@@ -129,7 +129,7 @@ module _ {R : Type 0} where
   leads_both p q r [] ys a b = subst (λ (k : Asking R). Leads k ys r) (sym a) b
   leads_both p q r (x ∷ xs) ys a b = (a.0, a.1, leads_both a.0 q r xs ys a.2 b)
 
-  -- to its end: so a record tells it
+  -- to its end: so a record states it
   pub goes_by : (p : Asking R) (ds : List Deed) (r : R) → Leads p ds (ends r) → Goes p ds r
   goes_by p [] r a = subst (λ (k : Asking R). Goes k [] r) (sym a) refl
   goes_by (asks port request then_) (entered p note ∷ ds) r a = (a.1.0, a.1.1, goes_by (then_ note.entry.answer) ds r (subst (λ (k : Asking R). Leads k ds (ends r)) a.1.2 a.2))
@@ -139,7 +139,7 @@ module _ {R : Type 0} where
   goes_by (reaps card then_) (deeds.reaped c unhash ∷ ds) r a = (a.1.0, a.1.1, goes_by (then_ (was_there unhash)) ds r (subst (λ (k : Asking R). Leads k ds (ends r)) a.1.2 a.2))
   goes_by p (d ∷ ds) r a = absurd a.1
 
-  -- and so it goes on by what the deeds tell
+  -- and so it goes on by what the deeds report
   leads_told : (count : ℕ) (p rest : Asking R) (ds : List Deed) → Leads p ds rest → told.Leads count p (map (told_of count) ds) rest
   leads_told count p rest [] a = a
   leads_told count (asks port request then_) rest (entered p note ∷ ds) a = (a.0, (ap (λ (k : ℕ). k % count) a.1.0, a.1.1, a.1.2), leads_told count a.0 rest ds a.2)

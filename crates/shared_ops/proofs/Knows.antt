@@ -1,4 +1,4 @@
--- What a caller's own entries tell of a name, as they grow.
+-- What a caller's own entries say of a name, as they grow.
 use Rattle.std.proofs.Common.{◌≡◌, ◌≢◌, ◌⊎◌, inl, inr, ℕ, ◌+◌, ◌==◌, ◌&&◌, not, Bool, true, false, cond, List, [], ◌∷◌, ◌++◌, map, filter, find, Some, None, Option, refl, sym, ap, subst, ◌∙◌, eq-eqb, ne_eqb, append_assoc, append-nil, arith}
 use Rattle.std.proofs.lemmas.Bool.{eqb-true, false≢true}
 use Rattle.std.specs.Option.{option_map, option_to_list}
@@ -97,7 +97,7 @@ module _ (place : ℕ) (v w : View) (x : Placed Entry) (g : Grows v w (x ∷ [])
       given_more ∙ ap (λ ns. own_given place v ++ by_caller v.caller ns) (at_other place x other)
       ∙ append-nil (own_given place v)
 
--- the owners of some names, as notes tell them
+-- the owners of some names, as notes give them
 abbrev pub told_by : (ℕ → Bool) → List Note → List Owner
 told_by mine notes = told_from [] (filter (is_told mine) (entries_of notes))
 

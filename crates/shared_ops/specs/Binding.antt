@@ -1,4 +1,4 @@
--- What `bind` hands back, by what it was told: our own.
+-- What `bind` hands back, by the answers that it got: our own.
 use Rattle.std.specs.Prelude.{ℕ, Result, Ok, Err}
 use Rattle.sock_card.specs.declared.owner.Owner.{Owner}
 use Rattle.bind_buckets.specs.declared.request.InUse.{InUse}

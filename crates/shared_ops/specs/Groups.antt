@@ -85,7 +85,7 @@ pub record ListsIn (place : ℕ) (es : List Entry) (group : Option ℕ) (v : Vie
 
 -- What an operation did
 
--- the owner listens, in the group that its card tells, if in any, whose list was published
+-- the owner listens, in the group that its card names, if in any, whose list was published
 pub record ListensAs (place : ℕ) (l : Mine) (v : View) (p q : GroupPasses) : Type 0 where
   pub group : Option ℕ
   pub extra : l.extra ≡ option_map_or (λ (number : ℕ). number + 1) group 0

@@ -69,7 +69,7 @@ said_listen a slot = record { request = requests.Listen a.name slot; answer = an
 abbrev pub IsAskedListen : Owner → Entry → Type 0
 IsAskedListen a e = e.request ≡ requests.MayListen a.name
 
--- the owner's bucket was asked, and told that it listens
+-- the owner's bucket was asked, and informed that it listens
 pub record Tells (place : ℕ) (a : Owner) (v w : View) (m : Mine) : Type 0 where
   pub group : Option ℕ
   pub slot : ℕ

@@ -242,7 +242,7 @@ fn bind_shared<P: Patience>(
 ///
 /// `Inval`: it has a port already. `InUse`: the owner of that name keeps it from its port. `NoPort`: each of the ports
 /// was refused, at its own turn. `LeftOff`: a bucket wanted memory, or another had its turn for longer than the caller
-/// tries; the ports that were refused before stay told. A refused socket comes back as it was.
+/// tries; the entries of the ports refused before stay. A refused socket comes back as it was.
 pub fn bind<P: Patience>(
     patience: &P,
     tables: &Tables,

@@ -216,7 +216,7 @@ fn connect_shared<P: Patience>(
 /// `Inval`: there is no such end or no such source, or it is a request. `IsConn`: it listens or is connected. `Taken`:
 /// the socket of that name keeps its four-tuple from it. `Full`: no slot was free. `NoPort`: each of the ports, at its
 /// own turn, was held or had its four-tuple taken. `LeftOff`: memory was wanting, or another had a bucket or a chain
-/// for longer than the caller tries; what a search was told before stays told. A refused socket comes back as it was.
+/// for longer than the caller tries; the entries that a search gave before stay. A refused socket comes back as it was.
 pub fn connect<P: Patience>(
     patience: &P,
     tables: &Tables,

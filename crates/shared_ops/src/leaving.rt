@@ -137,7 +137,7 @@ fn replace<P: Patience>(
     }
 }
 
-/// Leaves a TIME_WAIT in the place of a connected socket, and then tells the bucket that is out.
+/// Leaves a TIME_WAIT in the place of a connected socket, and then reports that to the bucket that is out.
 fn wait_in<P: Patience>(
     patience: &P,
     tables: &Tables,
@@ -493,7 +493,7 @@ fn close_as<P: Patience>(
 
 /// Closes a socket at that moment, in seconds: a connected one leaves a TIME_WAIT, any other is gone.
 ///
-/// Where no slot is free for the TIME_WAIT the socket goes without one, and the answer tells how full the slots are.
+/// Where no slot is free for the TIME_WAIT the socket goes without one, and the answer says how full the slots are.
 /// Its plan goes on so by the answers of the entries that this call gave and by the changes that it made, whoever
 /// else was at the tables. On a worker that was never split, the plan comes to that on the tables that its own
 /// entries and changes make.

@@ -131,8 +131,8 @@ fn give_back(
     }
 }
 
-/// Hashes the owner, which may listen as the bucket stands that is out, and tells the bucket. Where it can't be hashed,
-/// the bucket is given back, by an owner whose port this call took as one that leaves it.
+/// Hashes the owner, which may listen as the bucket stands that is out, and reports that to the bucket. Where it can't
+/// be hashed, the bucket is given back, by an owner whose port this call took as one that leaves it.
 fn start_in<P: Patience>(
     patience: &P,
     tables: &Tables,
@@ -435,8 +435,8 @@ fn listen_shared<P: Patience>(
 /// `Inval`: it is connected, or a request. `InUse`: the owner of that name keeps it from listening. `NoPort`: each of
 /// the ports was refused, at its own turn. `GroupFull` and `GroupsFull`: no place in a group of listeners. `Full`: no
 /// slot was free. `LeftOff`: a bucket, or the worker's changes where they are kept, wanted memory, or another had a
-/// bucket's turn or the lock of its chain for longer than the caller tries; the ports that were refused before stay
-/// told. A refused socket comes back as it was; a port that this call took for it is given up.
+/// bucket's turn or the lock of its chain for longer than the caller tries; the entries of the ports refused before
+/// stay. A refused socket comes back as it was; a port that this call took for it is given up.
 pub fn listen<P: Patience>(
     patience: &P,
     tables: &Tables,

@@ -32,7 +32,7 @@ impl Waiting {
     }
 }
 
-/// Takes a TIME_WAIT out of its chain, and then tells the bucket that is out, if it was there.
+/// Takes a TIME_WAIT out of its chain, and then, if it was there, reports that to the bucket that is out.
 fn reap_in<P: Patience>(
     patience: &P,
     tables: &Tables,

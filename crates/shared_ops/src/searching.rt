@@ -41,7 +41,8 @@ fn next_or(end: OpEnd) -> Result<Option<Connected>, OpEnd>
     }
 }
 
-/// Hashes the owner, for which `connect` may choose its port as the bucket stands that is out, and tells the bucket.
+/// Hashes the owner, for which `connect` may choose its port as the bucket stands that is out, and reports that to the
+/// bucket.
 fn connect_in<P: Patience>(
     patience: &P,
     tables: &Tables,

@@ -1,34 +1,26 @@
 -- Slots that aren't free, read one after the other.
-use Rattle.std.proofs.Common.{◌≡◌, ℕ, zero, suc, ◌+◌, ◌<◌, ◌≤◌, List, [], ◌∷◌, ◌++◌, map, sym, refl, ap, ◌∙◌, arith, subst, append_assoc, cond, Bool, true, false}
+use Rattle.std.proofs.Common.{◌≡◌, ℕ, zero, suc, ◌+◌, ◌≤◌, List, [], ◌∷◌, ◌++◌, map, sym, refl, ap, ◌∙◌, arith, subst, append_assoc, cond, Bool, true, false}
+use Rattle.std.proofs.lemmas.List.{map-append}
 use mathlib.Core.Logic.{dite}
 use native.Mathlib.Decide.{ℕ_discrete}
 use mathlib.Core.Option.{some, some-injective, some-ne-none}
 use lib.ListN.{get_elem?}
-use Rattle.table_rule.specs.Lists.{times, Each, total}
+use Rattle.list_words.proofs.EachLemmas.{each_append, each_weaken}
+use Rattle.list_words.specs.Lists.{Each}
+use Rattle.list_words.proofs.TotalLemmas.{total-append}
+use Rattle.table_rule.specs.Lists.{times}
 use Rattle.table_rule.specs.Book.{open-end}
 use Rattle.table_rule.specs.Sole.{IsBare, AllUsed, used_in}
 use Rattle.table_rule.specs.Plays.{beginning, first_of}
 use Rattle.table_rule.specs.declared.view.Change.{Change}
 use Rattle.table_rule.specs.declared.view.View.{View}
 use Rattle.table_rule.specs.declared.view.Sight.{Sight}
-use Rattle.table_rule.proofs.Lists.{times-append, times-here, times-else, each-append, each-map}
+use Rattle.table_rule.proofs.Lists.{times-append, times-here, times-else, each-in}
 use Rattle.shared_slots.specs.Claims.{Tried, Read, slot_in, sight_by}
-
-map-append : {A C : Type 0} (f : A → C) (l m : List A) → map f (l ++ m) ≡ map f l ++ map f m
-map-append f [] m = refl
-map-append f (x ∷ xs) m = ap (λ (l : List _). f x ∷ l) (map-append f xs m)
-
-total-both : {A : Type 0} (f : A → ℕ) (l m : List A) → total f (l ++ m) ≡ total f l + total f m
-total-both f [] m = omega arith
-total-both f (x ∷ xs) m = omega (arith, total-both f xs m)
 
 none-in : (P : ℕ → Type 0) (n : ℕ) (l : List ℕ) → (P n → ⊥) → Each P l → times n l ≡ 0
 none-in P n [] out h = refl
 none-in P n (x ∷ xs) out h = omega (arith, none-in P n xs out h.1, times-else x n xs (λ e. out (subst P e h.0)))
-
-each-in : (P : ℕ → Type 0) (i : ℕ) (xs : List ℕ) → Each P xs → 0 < times i xs → P i
-each-in P i [] a h = absurd (omega arith)
-each-in P i (x ∷ xs) a h = dite (ℕ_discrete x i) (λ e. subst P e a.0) (λ ne. each-in P i xs a.1 (omega (arith, h, times-else x i xs ne)))
 
 apart-once : (P Q : ℕ → Type 0) (l m : List ℕ) → ((i : ℕ) → P i → Q i → ⊥) → Each P l → Each Q m → ((i : ℕ) → times i l ≤ 1) → ((i : ℕ) → times i m ≤ 1) → (i : ℕ) → times i (l ++ m) ≤ 1
 apart-once P Q l m out a b once once' i = dite (ℕ_discrete (times i l) 0)
@@ -43,9 +35,9 @@ tried_both v w u owned held owned' held' P Q R out left right g h =
     record {
       reads = g.reads ++ h.reads;
       is = step ∙ ap (λ (l : List Sight). record v { sights = l }) (append_assoc v.sights (map (sight_by v) g.reads) (map (sight_by v) h.reads) ∙ ap (λ (l : List Sight). v.sights ++ l) (sym (map-append (sight_by v) g.reads h.reads)));
-      owned-is = omega (arith, total-both (λ (r : Read). cond r.owned 1 0) g.reads h.reads, g.owned-is, h.owned-is);
-      held-is = omega (arith, total-both (λ (r : Read). cond r.owned 0 1) g.reads h.reads, g.held-is, h.held-is);
-      in-them = subst (Each R) (sym slots) (each-append R (map slot_in g.reads) (map slot_in h.reads) (each-map P R (map slot_in g.reads) left g.in-them) (each-map Q R (map slot_in h.reads) right h.in-them));
+      owned-is = omega (arith, total-append (λ (r : Read). cond r.owned 1 0) g.reads h.reads, g.owned-is, h.owned-is);
+      held-is = omega (arith, total-append (λ (r : Read). cond r.owned 0 1) g.reads h.reads, g.held-is, h.held-is);
+      in-them = subst (Each R) (sym slots) (each_append R (map slot_in g.reads) (map slot_in h.reads) (each_weaken P R (map slot_in g.reads) left g.in-them) (each_weaken Q R (map slot_in h.reads) right h.in-them));
       once = λ i. subst (λ (l : List ℕ). times i l ≤ 1) (sym slots) (apart-once P Q (map slot_in g.reads) (map slot_in h.reads) out g.in-them h.in-them g.once h.once i);
     }
 
@@ -86,4 +78,4 @@ pub tried_as : (v w : View) (owned held owned' held' : ℕ) (P : ℕ → Type 0)
 tried_as v w owned held owned' held' P e f g = record { reads = g.reads; is = g.is; owned-is = g.owned-is ∙ sym e; held-is = g.held-is ∙ sym f; in-them = g.in-them; once = g.once }
 
 pub tried_wide : (v w : View) (owned held : ℕ) (P Q : ℕ → Type 0) → ((i : ℕ) → P i → Q i) → Tried v w owned held P → Tried v w owned held Q
-tried_wide v w owned held P Q wide g = record { reads = g.reads; is = g.is; owned-is = g.owned-is; held-is = g.held-is; in-them = each-map P Q (map slot_in g.reads) wide g.in-them; once = g.once }
+tried_wide v w owned held P Q wide g = record { reads = g.reads; is = g.is; owned-is = g.owned-is; held-is = g.held-is; in-them = each_weaken P Q (map slot_in g.reads) wide g.in-them; once = g.once }

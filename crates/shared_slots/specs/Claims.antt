@@ -1,6 +1,7 @@
 -- What a pass sees that tries slots one after the other: our own.
 use Rattle.std.specs.Prelude.{◌≡◌, ℕ, ◌<◌, ◌≤◌, ◌+◌, Bool, cond, List, ◌++◌, map}
-use Rattle.table_rule.specs.Lists.{Each, times, total}
+use Rattle.list_words.specs.Lists.{Each, total}
+use Rattle.table_rule.specs.Lists.{times}
 use Rattle.table_rule.specs.Plays.{glimpse_of, held_of}
 use Rattle.table_rule.specs.declared.view.View.{View}
 use Rattle.table_rule.specs.declared.view.Layout.{Layout}

@@ -1,8 +1,8 @@
-ghost use Rattle.std.specs.Prelude.{◌≡◌, ◌≢◌, ◌<◌, ◌≤◌, ◌∷◌, [], ℕ, true, false, IfOk, IfErr, ◌+◌};
+ghost use Rattle.std.specs.Prelude.{◌≡◌, ◌≢◌, ◌<◌, ◌≤◌, ◌∷◌, [], ℕ, false, IfOk, IfErr, ◌+◌};
 ghost use Rattle.table_rule.specs.declared.view.View.{View};
 ghost use Rattle.table_rule.specs.declared.view.Change.{Change};
 ghost use Rattle.table_rule.specs.Lists.{stands};
-ghost use Rattle.table_rule.specs.Sole.{IsBare, IsSole, FirstFree, AllUsed, used_in};
+ghost use Rattle.table_rule.specs.Sole.{IsBare, FirstFree, AllUsed, KnowsUse, used_in};
 ghost use Rattle.table_rule.specs.Calls.{IsOf, IsHashOf, seen_of, view, me, layout_of, Becomes};
 ghost use Rattle.shared_slots.specs.Claims.{Tried, Between, IsFull};
 ghost use Rattle.table_rule.specs.Plays.{claiming, glimpsing, seeing_held};
@@ -29,10 +29,7 @@ fn claim_one(chains: &Chains, steps: &mut Steps, slot: u32) -> u64
     ensures held { result ≢ 0 → result < 9223372036854775808
         → Becomes steps.old steps.new (seeing_held (view steps.old) slot) }
     ensures owned { 9223372036854775808 ≤ result → Becomes steps.old steps.new (glimpsing (view steps.old) slot) }
-    ensures known { IsSole (view steps.old) → (view steps.old).slot.holds ≡ []
-        → (result ≡ 0 → used_in (view steps.old).book.closed slot ≡ false)
-        × (result ≢ 0 → used_in (view steps.old).book.closed slot ≡ true)
-        × (result ≢ 0 → 9223372036854775808 ≤ result) }
+    ensures known { KnowsUse (view steps.old) slot result }
     ensures far { result ≡ 0 → stands slot (view steps.old).chain.walked ≡ 0 }
 {
     let state = chains.step_glimpse(steps, slot);

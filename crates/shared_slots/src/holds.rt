@@ -10,10 +10,7 @@ ghost use Rattle.table_rule.specs.Words.{words_of};
 ghost use Rattle.sock_card.specs.Words.{packed};
 
 use sock_card::{Card, CardWords};
-use table_rule::{Chains, Steps, known_card};
-
-/// The least state word with both flags: the slot is linked, and may be found.
-const LIVE: u64 = 3 << 62;
+use table_rule::{Chains, LEAST_LIVE, Steps, known_card};
 
 /// A count on a slot: while it stands nobody claims the slot. It must be put.
 pub struct Held {
@@ -35,7 +32,7 @@ pub fn take(chains: &Chains, steps: &mut Steps, slot: u32) -> Result<Held, Dead>
     ensures ok { IfOk result (λ h. (h.slot ≡ slot) × (Becomes steps.old steps.new (taking (view steps.old) slot))) }
     ensures dead { OnErr result (Becomes steps.old steps.new (trying (view steps.old))) }
 {
-    if chains.step_take(steps, slot) < LIVE {
+    if chains.step_take(steps, slot) < LEAST_LIVE {
         chains.step_put_dead(steps, slot);
         return Err(Dead);
     }

@@ -1,7 +1,8 @@
 -- A newcomer is hashed into a chain that was walked, and then the TIME_WAIT that gives way is unhashed.
 use Rattle.std.proofs.Common.{◌≡◌, ℕ, ◌+◌, ◌≤◌, [], ◌∷◌, inl, Option, None, Some, sym, refl, ap, ◌∙◌, arith, subst}
+use Rattle.list_words.specs.Lists.{Each}
 use Rattle.chain_book.specs.declared.outcome.Hashed.{Hashed}
-use Rattle.table_rule.specs.Lists.{stands, Each}
+use Rattle.table_rule.specs.Lists.{stands}
 use Rattle.table_rule.specs.Plays.{PlacesListed, PlacesApart}
 use Rattle.table_rule.specs.Sole.{IsRead}
 use Rattle.table_rule.specs.Owners.{time_waits, IsPlace}

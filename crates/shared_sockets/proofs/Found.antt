@@ -1,8 +1,9 @@
--- What a survey tells the changes that follow it.
+-- What a survey shows for the changes that follow it.
 use Rattle.std.proofs.Common.{◌==◌, ◌≡◌, ◌≢◌, ℕ, ◌+◌, ◌/◌, ◌%◌, ◌<◌, ◌≤◌, ◌^◌, List, [], ◌∷◌, Option, None, Some, cond, Bool, true, false, eq-eqb, ne_eqb, sym, refl, ap, ◌∙◌, arith, subst, find, ◌&&◌, ◌||◌, ⊎_elim, not, slice_index}
 use mathlib.Core.Logic.{dite}
 use native.Mathlib.Decide.{ℕ_discrete}
 use lib.ListN.{get_elem?}
+use Rattle.list_words.specs.Lists.{Each}
 use Rattle.sock_card.specs.Words.{packed, unpacked, kind_at, number_of}
 use Rattle.sock_card.specs.TimeWait.{is_time_wait_kind}
 use Rattle.sock_card.specs.declared.card.Card.{Card}
@@ -13,7 +14,7 @@ use Rattle.chain_book.specs.Tuples.{same_cards, claims_tuple, may_replace, keeps
 use Rattle.chain_book.specs.Chains.{keeps, waits}
 use Rattle.chain_book.specs.declared.outcome.Hashed.{Hashed}
 use Rattle.chain_book.specs.declared.outcome.Replace.{Replace}
-use Rattle.table_rule.specs.Lists.{stands, slots_of, Each}
+use Rattle.table_rule.specs.Lists.{stands, slots_of}
 use Rattle.table_rule.specs.CardsOk.{tuple, claims}
 use Rattle.table_rule.specs.Plays.{card_in, PlacesListed, PlacesApart}
 use Rattle.table_rule.specs.Words.{words_of}
@@ -59,7 +60,7 @@ words-are s x h e = h.0.is
     ∙ (ap words_of (sym h.0.packs)
     ∙ ap card_words (ap (λ (l : List ℕ). (hashed_in (record { slot = s.slot; words = l })).card) (sym h.0.is) ∙ ap (λ (y : Hashed). y.card) e))
 
--- who was found stands in the list, and the list tells its card
+-- who was found stands in the list, and the list contains its card
 pub found_in : (test : Hashed → Bool) (xs : List Seen) (x : Hashed) → find test (row_of xs) ≡ Some x → ((i : ℕ) → stands i xs ≤ 1) → Each HasCard xs
     → IsIn x xs × (test x ≡ true)
 found_in test [] x e once cards = absurd (none-some x e)

@@ -3,6 +3,7 @@ use Rattle.std.proofs.Common.{◌≡◌, ◌≢◌, ℕ, ◌+◌, ◌*◌, ◌/�
 use mathlib.Core.Logic.{dite}
 use native.Mathlib.Decide.{ℕ_discrete}
 use lib.ListN.{get_elem?}
+use Rattle.list_words.specs.Lists.{Each}
 use Rattle.sock_card.specs.Words.{packed, unpacked, number_of}
 use Rattle.sock_card.specs.Tuples.{tuple_of}
 use Rattle.sock_card.specs.declared.card.Card.{Card}
@@ -10,7 +11,7 @@ use Rattle.sock_card.specs.declared.card.Kind.TheVariants as kinds
 use Rattle.sock_card.specs.declared.words.CardWords.{CardWords}
 use Rattle.sock_card.proofs.Tuples.{PartsAgree, parts_agree}
 use Rattle.chain_book.specs.Tuples.{same_cards}
-use Rattle.table_rule.specs.Lists.{stands, slots_of, Each}
+use Rattle.table_rule.specs.Lists.{stands, slots_of}
 use Rattle.table_rule.specs.CardsOk.{tuple, bears, claims, has_tuple, may_claim, all_claims, NoneTwice}
 use Rattle.table_rule.specs.Plays.{card_in, without, TuplesListed}
 use Rattle.table_rule.specs.Words.{words_of}

@@ -1,9 +1,10 @@
 -- A card that no four-tuple keeps out is hashed into a chain that was walked, or no slot is free.
 use Rattle.std.proofs.Common.{◌≡◌, ℕ, ◌<◌, ◌≤◌, ◌%◌, List, [], inl, inr, ⊎_elim, Result, Ok, Err, IfOk, IfErr, Bool, cond, ne_eqb, sym, ap, ◌∙◌, arith, subst}
+use Rattle.list_words.specs.Lists.{Each}
 use Rattle.sock_card.specs.Words.{packed, unpacked, number_of}
 use Rattle.sock_card.specs.declared.card.Card.{Card}
 use Rattle.sock_card.specs.declared.card.Kind.TheVariants as kinds
-use Rattle.table_rule.specs.Lists.{stands, Each}
+use Rattle.table_rule.specs.Lists.{stands}
 use Rattle.table_rule.specs.Owners.{time_waits}
 use Rattle.table_rule.specs.Plays.{beginning, dropping_beginning, card_in, PlacesListed}
 use Rattle.table_rule.specs.Sole.{IsBare, FirstFree, AllUsed, IsRead}

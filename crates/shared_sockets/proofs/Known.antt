@@ -1,8 +1,9 @@
 -- A pass that has walked the whole of a bucket that it locked.
 use Rattle.std.proofs.Common.{◌≡◌, ℕ, ◌<◌, ◌≤◌, List, [], ◌∷◌, length, refl, inl, ap, ◌∙◌, sym, subst, ◌++◌, append_assoc, lit≤}
+use Rattle.list_words.specs.Lists.{Each}
 use Rattle.bucket_locks.specs.Locks.{IsAt, WalkKnown}
 use Rattle.bucket_locks.specs.declared.locks.Locked.{Locked}
-use Rattle.table_rule.specs.Lists.{Each, stands}
+use Rattle.table_rule.specs.Lists.{stands}
 use Rattle.table_rule.specs.Plays.{locking, unlocking, sight_of}
 use Rattle.table_rule.specs.Sole.{IsRead, IsSole, chain_from}
 use Rattle.table_rule.specs.Words.{bucket_count}

@@ -2,9 +2,9 @@
 use Rattle.std.proofs.Common.{◌≡◌, ◌+◌, List, [], ◌∷◌, ◌++◌, Option, None, Some, Bool, sym, refl, ap, ◌∙◌, arith, find, length}
 use Rattle.std.specs.Option.{option_or}
 use Rattle.std.proofs.lemmas.List.Folds.{find-append}
+use Rattle.list_words.proofs.EachLemmas.{each_append}
 use Rattle.chain_book.specs.declared.outcome.Hashed.{Hashed}
 use Rattle.table_rule.specs.declared.view.Seen.{Seen}
-use Rattle.table_rule.proofs.Lists.{each-append}
 use Rattle.shared_sockets.specs.Rows.{hashed_in, row_of, HasCard}
 use Rattle.shared_sockets.specs.Surveys.{keeps_out, goes_out, Surveyed, first_of, noted}
 use Rattle.shared_sockets.specs.declared.survey.Sought.{Sought}
@@ -23,7 +23,7 @@ pub noted_ok : (sought : Sought) (survey : Survey) (xs : List Seen) (s : Seen) �
 noted_ok sought survey xs s card o = record {
   keeper = first-more (keeps_out sought) survey.keeper (hashed_in s) (row_of xs) o.keeper ∙ ap (find (keeps_out sought)) (sym (row-more xs s));
   waiting = first-more (goes_out sought) survey.waiting (hashed_in s) (row_of xs) o.waiting ∙ ap (find (goes_out sought)) (sym (row-more xs s));
-  cards = each-append HasCard xs (s ∷ []) o.cards (card, tt);
+  cards = each_append HasCard xs (s ∷ []) o.cards (card, tt);
 }
 
 pub length-more : (xs ys : List Seen) (s : Seen) → length (xs ++ ys) + length (s ∷ []) ≡ length xs + length ys + 1

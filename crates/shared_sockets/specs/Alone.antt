@@ -35,7 +35,7 @@ abbrev pub next_after : Outcome → ℕ → ℕ
 next_after (put slot old) from = slot + 1
 next_after _ from = from
 
--- the answer tells that outcome
+-- the answer reports that outcome
 abbrev pub IsTold : (bucket : ℕ) → Card → Outcome → Result Inserted InsertEnd → Type 0
 IsTold bucket card (put slot old) (Ok i) =
     (i.place ≡ record { bucket = bucket; slot = slot; card = card }) × (i.replaced ≡ option_map name_of old)
@@ -61,7 +61,7 @@ LeavesAlone layout place v w =
     ≡ unhashed (chains_of layout next v.book.closed) (record { bucket = place.bucket; slot = place.slot }))
     × IsNow w
 
--- the answer to adding a card tells that outcome
+-- the answer to adding a card reports that outcome
 abbrev pub IsAdded : (bucket : ℕ) → Card → Outcome → Result Place Full → Type 0
 IsAdded bucket card (put slot None) (Ok place) = place ≡ record { bucket = bucket; slot = slot; card = card }
 IsAdded bucket card (full owned held) (Err f) = f ≡ record { owned = owned; held = held }

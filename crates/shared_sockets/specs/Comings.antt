@@ -3,11 +3,12 @@
 -- TIME_WAIT that it replaces is gone is our own rule.
 use Rattle.std.specs.Prelude.{◌≡◌, ℕ, ◌+◌, ◌<◌, ◌≤◌, Option, None, Some, Result, Ok, Err, List, [], ◌∷◌}
 use Rattle.std.specs.Option.{option_map}
+use Rattle.list_words.specs.Lists.{Each}
 use Rattle.sock_card.specs.Words.{packed, unpacked}
 use Rattle.sock_card.specs.declared.card.Card.{Card}
 use Rattle.chain_book.specs.declared.outcome.Hashed.{Hashed}
 use Rattle.table_rule.specs.Calls.{HasShares, MayUnhash}
-use Rattle.table_rule.specs.Lists.{Each, stands}
+use Rattle.table_rule.specs.Lists.{stands}
 use Rattle.table_rule.specs.Sole.{IsSole, IsBare, FirstFree, AllUsed, chain_from}
 use Rattle.table_rule.specs.Plays.{without, beginning, dropping_beginning, locking, unlocking}
 use Rattle.table_rule.specs.declared.view.View.{View}
@@ -36,7 +37,7 @@ pub record IsChain (v : View) (bucket : ℕ) (xs : List Seen) : Type 0 where
   pub once : (i : ℕ) → stands i xs ≤ 1
   pub sole : IsSole v → xs ≡ chain_from v.book.closed bucket
 
--- one change: that card, which its words tell, came into that slot, and is first in the chain that the pass walked
+-- one change: that card, which its words give, came into that slot, and is first in the chain that the pass walked
 pub record Comes (v w : View) (bucket slot : ℕ) (card : Card) : Type 0 where
   pub chain : w.chain ≡ changes.hashed v.chain slot (packed card)
   pub change : changes.Adds v w 1 bucket slot (card_words card)

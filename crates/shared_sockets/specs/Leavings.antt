@@ -3,10 +3,10 @@
 -- inet_twsk_kill of the same file.
 use Rattle.std.specs.Prelude.{◌≡◌, ℕ, List, Option, Result, false, find}
 use Rattle.std.specs.Option.{option_map}
+use Rattle.list_words.specs.Lists.{Each}
 use Rattle.sock_card.specs.declared.card.Card.{Card}
 use Rattle.chain_book.specs.declared.outcome.Hashed.{Hashed}
 use Rattle.chain_book.specs.Chains.{waits_as}
-use Rattle.table_rule.specs.Lists.{Each}
 use Rattle.table_rule.specs.Plays.{locking, unlocking}
 use Rattle.table_rule.specs.declared.view.View.{View}
 use Rattle.table_rule.specs.declared.view.Layout.{Layout}

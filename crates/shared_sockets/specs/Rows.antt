@@ -24,7 +24,7 @@ card_words card = words_of (packed card)
 abbrev pub HasCard : Seen → Type 0
 HasCard s = IsCardWords s.words × (slice_index s.words 1 < 2 ^ 64)
 
--- it stands in the list, and the list tells its card
+-- it stands in the list, and the list contains its card
 pub record IsIn (x : Hashed) (xs : List Seen) : Type 0 where
   pub words : card_in x.slot xs ≡ card_words x.card
   pub listed : 0 < stands x.slot xs

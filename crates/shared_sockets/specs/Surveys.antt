@@ -1,10 +1,10 @@
 -- What one walk over a locked chain finds: our own.
 use Rattle.std.specs.Prelude.{◌≡◌, ◌==◌, ◌&&◌, ◌+◌, ◌*◌, ◌/◌, ◌%◌, ◌^◌, Option, None, Some, List, find, cond, Bool, false}
+use Rattle.list_words.specs.Lists.{Each}
 use Rattle.chain_book.specs.declared.outcome.Hashed.{Hashed}
 use Rattle.chain_book.specs.Chains.{keeps, waits, waits_as}
 use Rattle.sock_card.specs.declared.card.Card.{Card}
 use Rattle.sock_card.specs.declared.words.CardWords.{CardWords}
-use Rattle.table_rule.specs.Lists.{Each}
 use Rattle.table_rule.specs.declared.view.Seen.{Seen}
 use Rattle.shared_sockets.specs.Rows.{row_of, HasCard}
 use Rattle.shared_sockets.specs.declared.survey.Newcomer.{Newcomer}

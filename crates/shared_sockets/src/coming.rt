@@ -77,7 +77,7 @@ fn name_of(found: &Option<Hashed>) -> Option<u32>
     found.map(|found| found.card.name)
 }
 
-// A card is what its words tell, and they fit 64 bits.
+// A card is what its words say, and they fit 64 bits.
 pub fn is_told(card: &Card)
     ensures told { unpacked (packed card.now) ≡ card.now }
     ensures fits { (packed card.now).ports < 2 ^ 64 }

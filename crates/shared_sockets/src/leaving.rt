@@ -56,7 +56,7 @@ pub fn remove(chains: &Chains, pass: &mut Pass, locked: Locked, place: Place)
 
 /// Hashes a TIME_WAIT into the chain of a connected socket, and then takes that socket out, from which it comes.
 ///
-/// Where no slot is free the socket goes without one, and the answer tells how full the slots are. The TIME_WAIT
+/// Where no slot is free the socket goes without one, and the answer says how full the slots are. The TIME_WAIT
 /// belongs into the socket's chain, as one with its four-tuple does. None: another pass had the bucket's lock for as
 /// long as the caller's patience lasts, nothing has changed, and the socket stands at its place.
 ///

@@ -168,7 +168,7 @@ pub fn survey_chain(
         waiting: None,
     };
     let sign = sign_of(sought);
-    // How far the walk has come, in registers, which the caller is told at the end.
+    // How far the walk has come, in registers, which the caller gets at the end.
     let mut here = Locked {
         bucket: locked.bucket,
         started: false,

@@ -1,4 +1,4 @@
--- No rank is above 5, and what two words of a card say is enough to tell its rank.
+-- No rank is above 5, and what two words of a card say is enough to determine its rank.
 use Rattle.std.proofs.Common.{◌≡◌, ℕ, ◌≤◌, Bool, true, false, if◌then◌else◌, not, ◌||◌, ◌&&◌, ◌==◌, arith, refl}
 use Rattle.sock_card.specs.Rank.{has_tuple, takes_device, takes_port, rank, rank_as, tuple_rank, listen_rank}
 use Rattle.sock_card.specs.Words.{word_rank, unpacked}

@@ -1,4 +1,4 @@
--- The four-tuple by which connected sockets are told apart, within one network namespace: inet_match of
+-- The four-tuple by which connected sockets are distinguished, within one network namespace: inet_match of
 -- include/net/inet_hashtables.h, which compares namespace, ports and addresses, and devices apart from them.
 use Rattle.std.specs.Prelude.{Bool, ◌==◌, ◌&&◌}
 use Rattle.sock_card.specs.declared.card.Card.{Card}

@@ -1,4 +1,4 @@
--- A card as four words of a table keep it: our own rule, so that a lookup can tell
+-- A card as four words of a table keep it: our own rule, so that a lookup can see
 -- by the first two words how well the card matches.
 use Rattle.std.specs.Prelude.{ℕ, ◌+◌, ◌*◌, ◌/◌, ◌%◌, ◌^◌, ◌≡◌, ◌==◌, cond}
 use Rattle.sock_card.specs.Rank.{rank}
@@ -46,6 +46,6 @@ unpacked w = record {
 unfoldable pub word_rank : Packet → ℕ → ℕ → ℕ
 word_rank packet ends ports = rank (unpacked (record { ends = ends; ports = ports; name = 0; extra = 0 })) packet
 
--- the first two words of a card tell its rank
+-- the first two words of a card determine its rank
 abbrev pub TwoWordsTell : Type 0
 TwoWordsTell = (w : CardWords) (packet : Packet) → word_rank packet w.ends w.ports ≡ rank (unpacked w) packet

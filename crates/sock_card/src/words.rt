@@ -103,7 +103,7 @@ pub fn word_rank(packet: &Packet, ends: u64, ports: u64) -> u8
     rank(&unpack(&words), packet)
 }
 
-/// Two words are enough to tell a card's rank.
+/// Two words are enough to determine a card's rank.
 pub fn two_words_tell()
     ensures { spec.TwoWordsTell }
 {}

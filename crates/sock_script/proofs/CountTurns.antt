@@ -45,7 +45,7 @@ plus a b =
       none = a.none + b.none;
     }
 
--- one more of the kind that four tests tell, in front of others
+-- one more of the kind that four tests determine, in front of others
 abbrev in_front : Bool → Bool → Bool → Bool → Counts → Counts
 in_front look dump missed done rest =
     record {

@@ -25,7 +25,7 @@ pub lists_none : (command : Command) → (command ≡ commands.Dump → ⊥) →
 lists_none commands.Dump h = absurd (h refl)
 lists_none _ h = refl
 
--- its form tells the same of a command that is kept
+-- its form says the same of a command that is kept
 pub kept_takes_none : (form : Form) → ((count : ℕ) → form ≡ forms.Packets count → ⊥) → takes_items (kept_command form) ≡ false
 kept_takes_none (forms.Packets count) h = absurd (h count refl)
 kept_takes_none _ h = refl

@@ -29,7 +29,7 @@ is_not : (b : Bool) → not b ≡ false → b ≡ true
 is_not true e = refl
 is_not false e = cc
 
--- ---- what the first byte tells of a text's first line
+-- ---- what the first byte says of a text's first line
 
 -- that line is passed over
 abbrev pub IsFirstPassed : List ℕ → Type 0

@@ -1,9 +1,10 @@
 -- The header's lines, weighed: of each kind one or none.
-use Rattle.std.proofs.Common.{◌≡◌, cond, ℕ, ◌+◌, ◌≤◌, ◌∙◌, Bool, true, false, bytes_eq, List, ◌++◌, Option, Some, None, refl, ap, arith}
+use Rattle.std.proofs.Common.{◌≡◌, cond, ℕ, ◌+◌, ◌∙◌, Bool, true, false, bytes_eq, List, ◌++◌, Option, Some, None, refl, ap, arith}
 use Rattle.std.proofs.lemmas.Slice.Eq.{bytes_eq-Decides}
 use Rattle.chain_book.specs.declared.shape.Shape.{Shape}
 use Rattle.list_words.specs.Lists.{total}
 use Rattle.list_words.proofs.TotalLemmas.{total-append}
+use Rattle.list_words.proofs.Truths.{one_is_true}
 use Rattle.flat_list.specs.declared.header.Range.{Range}
 use Rattle.flat_list.specs.declared.header.Reserved.{Reserved}
 use Rattle.sock_script.specs.declared.line.Line.{Line}
@@ -32,16 +33,12 @@ tells_shape x y e = λ i. record {
   listen = e (λ (s : Shape). s.listen) i;
 }
 
-set_bit : (b : Bool) (n : ℕ) → n ≡ cond b 1 0 → 1 ≤ n → b ≡ true
-set_bit true n h some = refl
-set_bit false n h some = absurd (omega (arith, h, some))
-
 tells_numbers : Tells (List ℕ)
 tells_numbers x y e =
     let same : bytes_eq x x ≡ true = (bytes_eq-Decides x x).1 refl in
     let bit : List ℕ → ℕ = λ l. cond (bytes_eq x l) 1 0 in
     let set : bit x ≡ 1 = ap (λ (b : Bool). cond b 1 0) same in
-    (bytes_eq-Decides x y).0 (set_bit (bytes_eq x y) (bit x) (e bit) (omega (arith, set)))
+    (bytes_eq-Decides x y).0 (one_is_true (bytes_eq x y) (bit x) (e bit) (omega (arith, set)))
 
 pub tells_reserved : Tells Reserved
 tells_reserved x y e = λ i. record {

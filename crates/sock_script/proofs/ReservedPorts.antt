@@ -1,4 +1,4 @@
--- Reserved ports as words: they tell one value at most, and are read one after the other.
+-- Reserved ports as words: they give one value at most, and are read one after the other.
 use Rattle.std.proofs.Common.{◌≡◌, ℕ, zero, suc, ◌+◌, ◌-◌, ◌<◌, ◌≤◌, ◌^◌, ◌∙◌, List, [], ◌∷◌, ◌++◌, length, length-set, take, drop, get_or, map, replicate, codes, decimal, arith, refl, sym, ap, ap₂, subst, add-one}
 use Rattle.std.specs.List.Sorted.{IsStrictlyIncreasing}
 use Rattle.std.proofs.Math.ListN.{set}
@@ -88,7 +88,7 @@ module _ (r : Reserved) (fits : ReservedFits r) where
   array_is : r.ports ≡ reserved_ports r ++ replicate (64 - r.count) 0
   array_is = sym (take-append-drop r.count r.ports) ∙ ap (λ l. reserved_ports r ++ l) fits.rest
 
--- a line of reserved ports tells one value
+-- a line of reserved ports gives one value
 pub one_reserved : (a b : Reserved) → ReservedFits a → ReservedFits b → reserved_words a ≡ reserved_words b → a ≡ b
 one_reserved a b x y h =
     let ports : reserved_ports a ≡ reserved_ports b = same_ports _ _ x.ports y.ports (past_one _ _ _ _ h) in

@@ -1,4 +1,4 @@
--- Sixteen bytes looked at together: what a bit for each tells of where pieces end.
+-- Sixteen bytes looked at together: what a bit for each says of where pieces end.
 use Rattle.std.proofs.Common.{◌≡◌, ℕ, ◌+◌, ◌-◌, ◌%◌, ◌<◌, ◌≤◌, ◌^◌, map, ◌∙◌, ◌⊎◌, inl, inr, ⊎_elim, ◌↔◌, List, length, slice_index, replicate, bit_or, Bool, true, false, ◌==◌, ◌||◌, cond, eqb, get_or, refl, sym, ap, subst, arith, w8, w64}
 use Rattle.std.specs.Int.{bit_at, trailing_zeros}
 use Rattle.std.specs.Simd.Lanes.{zip2, mask_l, top}

@@ -1,7 +1,8 @@
 -- A turn of the loop over the lines.
-use Rattle.std.proofs.Common.{◌≡◌, ℕ, zero, suc, ◌+◌, ◌-◌, ◌<◌, ◌≤◌, ◌∙◌, inl, inr, List, [], ◌∷◌, ◌++◌, length, take, drop, get_or, Option, Some, None, is_some, refl, sym, ap, subst, arith, Bool, true, false}
+use Rattle.std.proofs.Common.{◌≡◌, ℕ, zero, suc, ◌+◌, ◌-◌, ◌<◌, ◌≤◌, ◌∙◌, inl, inr, List, [], ◌∷◌, ◌++◌, length, take, drop, get_or, is_some, sym, ap, subst, arith, Bool, true, false}
 use Rattle.std.proofs.lemmas.List.{take_more, take-append-drop, length-drop}
 use Rattle.std.proofs.lemmas.List.Splits.{length-slice_split}
+use Rattle.list_words.proofs.Truths.{some_of}
 use Rattle.sock_script.specs.Words.{is_line_feed, lines_of}
 use Rattle.sock_script.specs.declared.parse.Mode.{Mode}
 use Rattle.sock_script.specs.Grammar.{IsFirstOutside}
@@ -13,11 +14,6 @@ use Rattle.sock_script.proofs.LineCases.{line_cases}
 use Rattle.sock_script.proofs.Small.{weight, weight_append, weight_one}
 use Rattle.sock_script.proofs.Inside.{read_inside, inside_by}
 use Rattle.sock_script.proofs.Scripts.{Reads-push, Reads-append, Reads-kept, no_reading}
-
--- what is there
-some_of : {A : Type 0} (o : Option A) → is_some o ≡ true → (x : A) × (o ≡ Some x)
-some_of None h = absurd (cc)
-some_of (Some x) h = (x, refl)
 
 module _ (mode : Mode) (old new : Draft) (texts : List (List ℕ)) (n : ℕ) (text : List ℕ) (within : n < length texts) (here : text ≡ get_or texts n text)
     (before : Reads mode nothing_yet (take n texts) old) (b : Bool) (answer : LineAnswer mode old text new b) where

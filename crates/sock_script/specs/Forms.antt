@@ -155,7 +155,7 @@ pub record RangeFits (range : Range) : Type 0 where
 abbrev pub IsPort : ℕ → Type 0
 IsPort port = (1 ≤ port) × (port < 2 ^ 16)
 
--- 1 to 64 ports, each above the one before, and zeros behind them in an array of 64, so that one line tells one value
+-- 1 to 64 ports, each above the one before, and zeros behind them in an array of 64, so that one line gives one value
 pub record ReservedFits (reserved : Reserved) : Type 0 where
   pub count : (1 ≤ reserved.count) × (reserved.count ≤ 64)
   pub ports : Each IsPort (reserved_ports reserved)

@@ -23,7 +23,7 @@ fn is_allowed(mode: Mode, command: &KeptCommand) -> bool
         && matches!(command.form(), Form::Look { .. } | Form::Packets { .. }))
 }
 
-/// Puts the label that a command gives behind the others, and tells whether it is new. So is none.
+/// Puts the label that a command gives behind the others, and returns whether it is new: true where there is none.
 fn note_label(labels: &mut LabelIndex, command: &KeptCommand) -> Result<bool, AllocError>
     ensures noted { OnOk result (labels.new ≡ labels.old ++ option_to_list (law.given_label command.now)) }
     ensures told { IfOk result (λ new. new ≡ is_new_among (law.given_label command.now) labels.old) }

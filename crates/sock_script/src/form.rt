@@ -491,7 +491,7 @@ pub fn command_of(alloc: Global, words: &[&[u8]]) -> Result<Option<KeptCommand>,
     Ok(None)
 }
 
-/// The shape of the tables that the words tell.
+/// The shape of the tables that the words give.
 fn table_of(words: &[&[u8]]) -> Option<Shape>
     ensures some { IfSome result (λ shape. HasForm (texts words.now) (lines.Table shape)) }
     ensures none { IfNone result ((shape : Shape) → HasForm (texts words.now) (lines.Table shape) → ⊥) }
@@ -519,7 +519,7 @@ fn is_range(low: u32, high: u32) -> bool
     low < high && (high - low) % 2 == 1
 }
 
-/// The range of ports that the words tell.
+/// The range of ports that the words give.
 fn range_of(words: &[&[u8]]) -> Option<Range>
     ensures some { IfSome result (λ range. HasForm (texts words.now) (lines.Range range)) }
     ensures none { IfNone result ((range : Range) → HasForm (texts words.now) (lines.Range range) → ⊥) }
@@ -580,7 +580,7 @@ fn number_behind(first: &[u8], most: u32, words: &[&[u8]]) -> Option<u32>
     words.is_empty().then_some(number)
 }
 
-/// The seed that the words tell.
+/// The seed that the words give.
 fn seed_of(words: &[&[u8]]) -> Option<u32>
     ensures some { IfSome result (λ seed. HasForm (texts words.now) (lines.Seed seed)) }
     ensures none { IfNone result ((seed : ℕ) → HasForm (texts words.now) (lines.Seed seed) → ⊥) }
@@ -588,7 +588,7 @@ fn seed_of(words: &[&[u8]]) -> Option<u32>
     number_behind(b"seed", u32::MAX, words)
 }
 
-/// The offset that the words tell.
+/// The offset that the words give.
 fn offset_of(words: &[&[u8]]) -> Option<u16>
     ensures some { IfSome result (λ offset. HasForm (texts words.now) (lines.Offset offset)) }
     ensures none { IfNone result ((offset : ℕ) → HasForm (texts words.now) (lines.Offset offset) → ⊥) }

@@ -10,7 +10,7 @@
 //! [`run::replies`] runs a script on `flat_list`, the plain engine, and gives what is [`Shown`] of the reply to each
 //! command and to each item of its capture, and what each `dump` lists; [`output::text`] writes them, a line for each
 //! reply and for each socket listed, as `specs/Output.antt` says. [`make::script`] makes a script from a seed, and
-//! [`Counts`] tells how many of its commands were done. It stands on `flat_list`, `label_index`, `capture_reader`,
+//! [`Counts`] says how many of its commands were done. It stands on `flat_list`, `label_index`, `capture_reader`,
 //! and the texts of `inet_io`.
 //!
 //! ```text

@@ -47,7 +47,7 @@ fn list(flat: &Flat, listings: &mut Vec<Listing>, command: &Command) -> Result<(
     Ok(())
 }
 
-/// Runs one command of section `n`, appends what is replied and listed, and tells the items that are left then.
+/// Runs one command of section `n`, appends what is replied and listed, and returns the items that are left then.
 fn run_command<'a>(
     flat: &mut Flat,
     replies: &mut Replies,
@@ -73,7 +73,7 @@ fn run_command<'a>(
     Ok(items)
 }
 
-/// Runs the commands of section `n`, appends what is replied and listed, and tells the items that are left then.
+/// Runs the commands of section `n`, appends what is replied and listed, and returns the items that are left then.
 fn run_section<'a>(
     flat: &mut Flat,
     replies: &mut Replies,

@@ -107,7 +107,7 @@ fn first_byte(text: &[u8]) -> Option<u8>
     text.iter().copied().find(|b| !is_blank(*b))
 }
 
-/// Whether a look at the first bytes tells that the first line is passed over. Where it doesn't, the line may have no
+/// Whether a look at the first bytes shows that the first line is passed over. Where it doesn't, the line may have no
 /// word still, but it is no comment.
 fn shows_passed_over(text: &[u8]) -> bool
     ensures { IsTrue result → (line : List ℕ) (later : List (List ℕ)) → lines_of text.now ≡ line ∷ later

@@ -1,4 +1,4 @@
--- What a dump tells: our own.
+-- What a dump reports: our own.
 use Rattle.std.specs.Prelude.{List, Option}
 use Rattle.sock_card.specs.declared.card.Card.{Card}
 use Rattle.socket_list.specs.declared.listing.Span.{Span}

@@ -1,6 +1,6 @@
-//! What a dump of all sockets tells, and in which order.
+//! What a dump of all sockets reports, and in which order.
 //!
-//! [`in_order`] sorts cards by name and kind, as `specs/Order` says; a [`Listing`] is what a dump tells. It stands on
+//! [`in_order`] sorts cards by name and kind, as `specs/Order` says; a [`Listing`] is what a dump reports. It stands on
 //! the cards of `sock_card`.
 //!
 //! ```text

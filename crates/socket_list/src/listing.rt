@@ -1,4 +1,4 @@
-//! What a dump tells.
+//! What a dump reports.
 
 use sock_card::Card;
 use std::marker::Model;
@@ -10,7 +10,7 @@ pub struct Span {
     pub t1: u64,
 }
 
-/// What a dump tells: the cards of the sockets that it lists, ascending, and the loads of the clock between which it
+/// What a dump reports: the cards of the sockets that it lists, ascending, and the loads of the clock between which it
 /// did, where other threads might be at the tables meanwhile.
 #[derive(Debug, Drop)]
 pub struct Listing {

@@ -1,12 +1,12 @@
--- What is told of a dump's items is told of them in their order, too.
+-- What is said of a dump's items holds of them in their order, too.
 use Rattle.std.proofs.Common.{◌≡◌, ℕ, List, [], ◌∷◌, inl, inr, sym, ap, ◌∙◌}
+use Rattle.list_words.specs.Lists.{Each}
 use Rattle.list_words.specs.Ascending.{ascending_by}
 use Rattle.list_words.specs.Lists as words
 use Rattle.list_words.proofs.AscendingLemmas.{each_ascending, each_ascending_back, map_ascending, pairs_ascending}
 use Rattle.sock_card.specs.declared.card.Card.{Card}
 use Rattle.socket_list.specs.Order.{order_of, ascending}
 use Rattle.table_rule.specs.Book.{Part}
-use Rattle.table_rule.specs.Lists.{Each}
 use Rattle.table_rule.specs.declared.view.Change.{Change}
 use Rattle.shared_dump.specs.Books.{AreApart, AreTold, HaveOnePlace, IsAmong, IsLife, life_card}
 

@@ -1,5 +1,6 @@
 -- What a worker is, and knows, once it has listed all sockets of the tables: our own.
 use Rattle.std.specs.Prelude.{◌≡◌, ◌≤◌, List, ◌++◌, Some}
+use Rattle.list_words.specs.Lists.{Each}
 use Rattle.shared_dump.specs.Books.{AreTold}
 use Rattle.shared_dump.specs.Dumps.{Keeps}
 use Rattle.shared_dump.specs.Sightings.{sightings}
@@ -11,7 +12,6 @@ use Rattle.socket_list.specs.Order.{ascending}
 use Rattle.socket_list.specs.declared.listing.Span.{Span}
 use Rattle.table_rule.specs.Beyond.{SightTrue}
 use Rattle.table_rule.specs.Book.{Part}
-use Rattle.table_rule.specs.Lists.{Each}
 use Rattle.table_rule.specs.Plays.{settled}
 use Rattle.table_rule.specs.Words.{bucket_count}
 use Rattle.table_rule.specs.declared.view.Seen.{Seen}
@@ -25,7 +25,7 @@ pub record KeepsAll (t : Tables) (w u : Worker) : Type 0 where
   pub next : (chained t u).next ≡ (chained t w).next
   pub view : Keeps (chained t w).view (chained t u).view
 
--- The listing tells sockets in their order, and two loads of the clock: the first is no less than what the worker had
+-- The listing gives sockets in their order, and two loads of the clock: the first is no less than what the worker had
 -- seen, and the second is what it has seen now. Between them it saw these chains whole, one of each bucket; and in
 -- each book of changes in which that is true, so is what is listed.
 pub record IsListing (t : Tables) (listing : Listing) (w u : Worker) : Type 0 where

@@ -16,7 +16,7 @@ use std::sync::Wait;
 
 /// Lists all hashed sockets of the tables, ascending by name and then by kind, between two loads of the clock.
 ///
-/// Each is told once. A socket that was there throughout is told, and none that wasn't there at some time of the
+/// Each is listed once. A socket that was there throughout is listed, and none that wasn't there at some time of the
 /// call. It takes memory for the cards, and for as many more as there are slots, but none under a lock,
 /// of which it holds one at a time.
 ///

@@ -1,6 +1,6 @@
 //! All sockets of the tables, as a worker lists them.
 //!
-//! [`dump`] walks all chains one after the other, as `shared_dump` does, and tells the sockets that stood there,
+//! [`dump`] walks all chains one after the other, as `shared_dump` does, and lists the sockets that stood there,
 //! ascending by name, between two loads of the clock. It changes nothing, takes no turn and draws no number: the
 //! worker may go on behind it as it could before, whoever else is at the tables.
 //!

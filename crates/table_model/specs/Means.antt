@@ -78,7 +78,7 @@ abbrev pub members_of : ℕ → List Group → List ℕ
 members_of number groups =
     unwrap_or (option_map (λ (g : Group). g.members) (find (λ (g : Group). g.number == number) groups)) []
 
--- a member's word tells the slot of a listener and its name, and under that name it stands in that slot
+-- a member's word contains the slot of a listener and its name, and under that name it stands in that slot
 abbrev pub stands_as : ℕ → Hashed → Bool
 stands_as m x = (x.slot == m / 2 ^ 32) && (x.card.name == m % 2 ^ 32)
 

@@ -2,8 +2,9 @@
 use Rattle.std.proofs.Common.{◌≡◌, ℕ, ◌+◌, ◌<◌, List, [], ◌∷◌, ◌++◌, ⊎_elim, length, refl, sym, ap, ◌∙◌, subst, arith}
 use mathlib.Core.Option.{some}
 use lib.ListN.{get_elem?}
+use Rattle.list_words.specs.Lists.{Each}
 use Rattle.atomic_table.proofs.Lists.{at_map}
-use Rattle.table_rule.specs.Lists.{times, slots_of, Each}
+use Rattle.table_rule.specs.Lists.{times, slots_of}
 use Rattle.table_rule.specs.Words.{at}
 use Rattle.table_rule.specs.CardsOk.{SeenOk}
 use Rattle.table_rule.specs.Book.{Life}

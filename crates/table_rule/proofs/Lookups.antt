@@ -4,8 +4,10 @@ use mathlib.Core.Logic.{dite}
 use native.Mathlib.Decide.{ℕ_discrete, dec_le}
 use mathlib.Core.Option.{some, some-injective, some-ne-none}
 use lib.ListN.{get_elem?}
+use Rattle.list_words.proofs.EachLemmas.{each_append}
+use Rattle.list_words.specs.Lists.{total, Each}
 use Rattle.atomic_table.proofs.Lists.{at_map}
-use Rattle.table_rule.specs.Lists.{total, times, Each}
+use Rattle.table_rule.specs.Lists.{times}
 use Rattle.table_rule.specs.Words.{at, head_at, bucket_count}
 use Rattle.table_rule.specs.SlotsOk.{owns}
 use Rattle.table_rule.specs.ChainsOk.{Path, linked_below}
@@ -22,7 +24,7 @@ use Rattle.table_rule.specs.declared.view.Seen.{Seen}
 use Rattle.table_rule.specs.declared.view.Kept.{Kept}
 use Rattle.table_rule.specs.declared.view.Change.{Change}
 use Rattle.table_rule.specs.declared.view.Reader.{Reader}
-use Rattle.table_rule.proofs.Lists.{times-here, linked_le, each-append}
+use Rattle.table_rule.proofs.Lists.{times-here, linked_le}
 use Rattle.table_rule.proofs.CardSteps.{at_end, seen_reads}
 use Rattle.table_rule.proofs.SlotSteps.{counts_small}
 use Rattle.table_rule.proofs.Serial.{three}
@@ -164,7 +166,7 @@ module _ (layout : Layout) (word : ℕ → ℕ) (chain : ℕ → List ℕ) (live
     finds = λ on. absurd (omega (arith, on));
     way = λ on. absurd (omega (arith, on));
     peeked = tt;
-    stops = each-append (StopOk lives q.since (word 0) layout.shape.slots q.bucket) q.stops (record { kind = kind; at = a } ∷ []) stops (cause, tt);
+    stops = each_append (StopOk lives q.since (word 0) layout.shape.slots q.bucket) q.stops (record { kind = kind; at = a } ∷ []) stops (cause, tt);
   }
 
   -- a link to a slot is to one of the table

@@ -4,16 +4,16 @@ use mathlib.Core.Logic.{dite}
 use native.Mathlib.Decide.{ℕ_discrete}
 use mathlib.Core.Option.{some, some-injective, some-ne-none}
 use lib.ListN.{get_elem?}
+use Rattle.list_words.proofs.PlaceLemmas.{term_le, terms_le, at_below, only_one}
+use Rattle.list_words.specs.Lists.{total}
 use Rattle.atomic_table.proofs.Lists.{set_here, set_else, at_longer, at_last}
-use Rattle.table_rule.specs.Lists.{total}
 use Rattle.table_rule.specs.Book.{open-end, Part, BookOk, Life, hash_of, unhash_of, LivesOk, marks, with_lives}
 use Rattle.table_rule.specs.Owners.{time_waits, HasChange, OwnUnhash, OwnersOk, IsPlace, HasPlace}
 use Rattle.table_rule.specs.declared.view.Change.{Change}
 use Rattle.table_rule.specs.declared.view.BookView.{BookView}
-use Rattle.table_rule.proofs.Lists.{term_le, terms}
 use Rattle.table_rule.proofs.CardSteps.{at_end, views_moved}
-use Rattle.table_rule.proofs.LifeSteps.{lives_here, lives_else, in_length}
-use Rattle.table_rule.proofs.BookSteps.{one_of, is-it, is-here, below_one}
+use Rattle.table_rule.proofs.LifeSteps.{lives_here, lives_else}
+use Rattle.table_rule.proofs.BookSteps.{is-it, is-here, below_one}
 use Rattle.table_rule.proofs.Serial.{three}
 
 -- no change is closed in two views
@@ -22,14 +22,14 @@ closed_once clock vs o k j m l u v c ne e f a b =
     let n : ℕ = c.begins in
     let all : total (marks (is-it n)) vs ≤ 1 = omega (arith, o.stamps (is-it n), (below_one n clock).1) in
     let here = is-here n c.begins refl in
-    omega (arith, all, here, terms (marks (is-it n)) vs j k v u ne f e, term_le (λ (d : Change). is-it n d.begins + is-it n d.ends) u.book.closed m c a, term_le (λ (d : Change). is-it n d.begins + is-it n d.ends) v.book.closed l c b)
+    omega (arith, all, here, terms_le (marks (is-it n)) vs j k v u ne f e, term_le (λ (d : Change). is-it n d.begins + is-it n d.ends) u.book.closed m c a, term_le (λ (d : Change). is-it n d.begins + is-it n d.ends) v.book.closed l c b)
 
 -- of the lives after one changed, or one is new: it, or one of before at another place
 from_set : (lives : ℕ → List Life) (i n : ℕ) (x y : Life) → get_elem? (lives i) n ≡ some x → (j m : ℕ) (z : Life) → get_elem? (with_lives lives i (set (lives i) n y) j) m ≡ some z → ((j ≡ i) × (m ≡ n) × (y ≡ z)) ⊎ ((j ≡ i → m ≢ n) × (get_elem? (lives j) m ≡ some z))
 from_set lives i n x y there j m z e =
     let new : ℕ → List Life = with_lives lives i (set (lives i) n y) in
     let here : new i ≡ set (lives i) n y = lives_here lives i (set (lives i) n y) in
-    let now : get_elem? (new i) n ≡ some y = ap (λ (l : List Life). get_elem? l n) here ∙ set_here (lives i) n y (in_length (lives i) n x there) in
+    let now : get_elem? (new i) n ≡ some y = ap (λ (l : List Life). get_elem? l n) here ∙ set_here (lives i) n y (at_below (lives i) n x there) in
     dite (ℕ_discrete j i)
     (λ q. dite (ℕ_discrete m n)
     (λ r. inl (q, r, some-injective y z (sym now ∙ (ap (get_elem? (new i)) (sym r) ∙ (ap (λ (k : ℕ). get_elem? (new k) m) (sym q) ∙ e)))))
@@ -53,7 +53,7 @@ module _ (clock : ℕ) (lives : ℕ → List Life) (vs : List Part) (o : BookOk 
   all_owners lives' w mine other = views_moved (λ (u : Part). OwnUnhash lives u.book) (λ (u : Part). OwnUnhash lives' u.book) vs id w mine other h
 
   kind_is : (c d : Change) (n : ℕ) (xs : List Change) → xs ≡ c ∷ [] → get_elem? xs n ≡ some d → c ≡ d
-  kind_is c d n xs one e = one_of c d n (ap (λ (k : List Change). get_elem? k n) (sym one) ∙ e)
+  kind_is c d n xs one e = only_one c d n (ap (λ (k : List Change). get_elem? k n) (sym one) ∙ e)
 
   -- a place is of a life that is whole
   pub place_life : (hash : Change) → IsPlace v.book hash → (n : ℕ) × (z : Life) × (get_elem? (lives hash.slot) n ≡ some z) × (hash ≡ hash_of hash.slot z) × (z.linked < clock) × (z.leaving ≡ open-end)

@@ -4,8 +4,10 @@ use mathlib.Core.Logic.{dite}
 use native.Mathlib.Decide.{ℕ_discrete}
 use mathlib.Core.Option.{some, some-injective, some-ne-none}
 use lib.ListN.{get_elem?}
+use Rattle.list_words.proofs.PlaceLemmas.{total-none}
+use Rattle.list_words.specs.Lists.{total, Each}
 use Rattle.atomic_table.proofs.Lists.{at_map, at_last}
-use Rattle.table_rule.specs.Lists.{total, times, stands, slots_of, Each}
+use Rattle.table_rule.specs.Lists.{times, stands, slots_of}
 use Rattle.table_rule.specs.ChainsOk.{list_of}
 use Rattle.table_rule.specs.CardsOk.{SeenOk, claims, shows, may_claim, all_claims}
 use Rattle.table_rule.specs.Book.{open-end, Part, Life, unhash_of}
@@ -24,7 +26,7 @@ use Rattle.table_rule.specs.declared.view.Change.{Change}
 use Rattle.sock_card.specs.declared.card.Packet.{Packet}
 use Rattle.table_rule.proofs.Lists.{times-here, times-else, times-append, linked_two}
 use Rattle.table_rule.proofs.ChainSteps.{sole}
-use Rattle.table_rule.proofs.Keeps.{whole_list, walk_in, all_lit, held_near, zero_total, twice_zero, twice_unlocked}
+use Rattle.table_rule.proofs.Keeps.{whole_list, walk_in, all_lit, held_near, twice_zero, twice_unlocked}
 use Rattle.table_rule.proofs.CardSteps.{at_end, shows_lit}
 use Rattle.table_rule.proofs.Owners.{place_life}
 use Rattle.table_rule.proofs.Serial.{hash_life}
@@ -74,7 +76,7 @@ module _ (layout : Layout) (word : ℕ → ℕ) (chain : ℕ → List ℕ) (live
   tuples_listed b had met none no-hung no-dimmed read t =
       let card = card_of layout word in
       let lit : (i : ℕ) → 0 < stands i v.chain.walked → dark_of vs i ≡ 0 = λ i h. all_lit layout word word chain vs id v p me b had i (walk_in layout word word chain vs id v p me b had i h) (omega (arith, ap (times i) no-hung, ap (times i) no-dimmed)) in
-      let free : twice_of vs b ≡ 0 = zero_total (twice_in b) vs (λ k u e. dite (ℕ_discrete k id)
+      let free : twice_of vs b ≡ 0 = total-none (twice_in b) vs (λ k u e. dite (ℕ_discrete k id)
       (λ z. subst (λ (y : View). twice_in b y ≡ 0) (some-injective v u (sym me ∙ (ap (get_elem? vs) (sym z) ∙ e))) (twice_zero v b none))
       (λ ne. twice_unlocked u b (sole (bucket_count layout) layout.shape.slots _ _ _ chain (map chain_part vs) id v.chain p.chains (at_map chain_part vs id v me) b had k u.chain ne (at_map chain_part vs k u e)))) in
       omega (arith, p.tuples.taken b t (held_near layout word word chain vs id v p me b had) free, ap (total (shows claims card (dark_of vs) t)) (whole_list layout word word chain vs id v p me b had met), lit_all card (dark_of vs) t v.chain.walked read (p.cards id (known_part v) (at_map known_part vs id v me)).walked lit)

@@ -4,6 +4,7 @@ use mathlib.Core.Logic.{dite}
 use native.Mathlib.Decide.{ℕ_discrete, dec_le}
 use mathlib.Core.Option.{some, some-injective, some-ne-none}
 use lib.ListN.{get_elem?}
+use Rattle.list_words.proofs.PlaceLemmas.{terms_le}
 use Rattle.atomic_table.proofs.Lists.{at_map}
 use Rattle.table_rule.specs.Lists.{times}
 use Rattle.table_rule.specs.Words.{at, bucket_count}
@@ -16,7 +17,7 @@ use Rattle.table_rule.specs.Standing.{StandsIn, PlacesStand, LitStands}
 use Rattle.table_rule.specs.declared.view.View.{View}
 use Rattle.table_rule.specs.declared.view.Layout.{Layout}
 use Rattle.table_rule.specs.declared.view.Change.{Change}
-use Rattle.table_rule.proofs.Lists.{linked_le, terms}
+use Rattle.table_rule.proofs.Lists.{linked_le}
 use Rattle.table_rule.proofs.Lookups.{whole_card}
 use Rattle.table_rule.proofs.Owners.{place_life}
 use Rattle.table_rule.proofs.Serial.{hash_life}
@@ -75,7 +76,7 @@ module _ (layout : Layout) (word : ℕ → ℕ) (chain : ℕ → List ℕ) (live
             theirs.2,
             ap (λ (b : ℕ). times b u.chain.locked) at,
             o.book.alone c.bucket,
-            terms (λ (x : Part). times c.bucket x.locked) ps id k (book_part v) (book_part u) ne (at_map book_part vs id v me) (at_map book_part vs k u there),
+            terms_le (λ (x : Part). times c.bucket x.locked) ps id k (book_part v) (book_part u) ne (at_map book_part vs id v me) (at_map book_part vs k u there),
           )))
         where
           one_of : (n : ℕ) (e : Change) → get_elem? (c ∷ []) n ≡ some e → e ≡ c

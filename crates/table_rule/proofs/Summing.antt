@@ -1,15 +1,16 @@
 -- The receipt of a whole lookup follows from the pass's own receipts and sightings.
-use Rattle.std.proofs.Common.{◌≡◌, ℕ, ◌<◌, ◌≤◌, List, [], ◌∷◌, ◌++◌, inl, inr, ⊎_elim, length, sym, ap, ◌∙◌, subst, arith, slice_index}
+use Rattle.std.proofs.Common.{◌≡◌, ℕ, ◌<◌, ◌≤◌, List, [], inl, inr, ⊎_elim, length, sym, ap, ◌∙◌, subst, arith, slice_index}
 use mathlib.Core.Logic.{dite}
 use native.Mathlib.Decide.{dec_le}
 use mathlib.Core.Option.{some}
 use lib.ListN.{get_elem?}
+use Rattle.list_words.proofs.EachLemmas.{each_weaken, each_back}
+use Rattle.list_words.specs.Lists.{Each}
 use Rattle.sock_card.specs.Rank.{rank}
 use Rattle.sock_card.specs.declared.card.Packet.{Packet}
 use Rattle.sock_card.proofs.Most.{word_rank_most, two_words}
 use Rattle.chain_book.specs.Homes.{packet_home, listen_home}
 use Rattle.chain_book.proofs.RankHomes.{five_home, high_home, low_home}
-use Rattle.table_rule.specs.Lists.{Each}
 use Rattle.table_rule.specs.Words.{card_from, with_seed}
 use Rattle.table_rule.specs.Book.{Life}
 use Rattle.table_rule.specs.ReadersOk.{rank_of, SlotMet, HashMet, NoneBetter, NoneAbove, CardStood, StopOk, ReceiptOk, SightedOk, WholeOk, ReadOk}
@@ -20,12 +21,7 @@ use Rattle.table_rule.specs.declared.view.Layout.{Layout}
 use Rattle.table_rule.specs.declared.view.Stop.{Stop}
 use Rattle.table_rule.specs.declared.view.Whole.{Whole}
 use Rattle.table_rule.specs.declared.view.Receipt.{Receipt}
-use Rattle.table_rule.proofs.Lists.{each-map}
 use Rattle.table_rule.proofs.CardSteps.{each_at}
-
-each-back : {A : Type 0} (P : A → Type 0) (xs ys : List A) → Each P (xs ++ ys) → Each P ys
-each-back P [] ys a = a
-each-back P (x ∷ xs) ys a = each-back P xs ys a.1
 
 -- what is said of a part of a span holds of the whole
 module _ (lives : ℕ → List Life) (t₀ s₀ s₁ t₁ : ℕ) (later : t₀ ≤ s₀) (sooner : s₁ ≤ t₁) where
@@ -88,7 +84,7 @@ module _ (layout : Layout) (lives : ℕ → List Life) (clock : ℕ) (v : ReadVi
   stopped_ok from bucket last s = let ok = receipt_at s.nth s.receipt s.there in
       let all = subst (Each (StopOk lives s.receipt.from s.receipt.to layout.shape.slots s.receipt.bucket)) s.stops-are (ok.again s.stopped).1 in
       subst (λ (b : ℕ). Each (StopOk lives from clock layout.shape.slots b) last) s.bucket-is
-      (each-map (StopOk lives s.receipt.from s.receipt.to layout.shape.slots s.receipt.bucket) (StopOk lives from clock layout.shape.slots s.receipt.bucket) last (wide_stop lives from s.receipt.from s.receipt.to clock s.later ok.span.1 layout.shape.slots s.receipt.bucket) (each-back (StopOk lives s.receipt.from s.receipt.to layout.shape.slots s.receipt.bucket) s.front last all))
+      (each_weaken (StopOk lives s.receipt.from s.receipt.to layout.shape.slots s.receipt.bucket) (StopOk lives from clock layout.shape.slots s.receipt.bucket) last (wide_stop lives from s.receipt.from s.receipt.to clock s.later ok.span.1 layout.shape.slots s.receipt.bucket) (each_back (StopOk lives s.receipt.from s.receipt.to layout.shape.slots s.receipt.bucket) s.front last all))
 
 -- the receipt of a whole lookup holds
 pub follows_ok : (layout : Layout) (next linked : ℕ → ℕ) (card : ℕ → ℕ → ℕ) (lives : ℕ → List Life) (clock : ℕ) (v : View) (c : Whole) → v.layout ≡ layout → v.seen ≤ clock → ReadOk layout next linked card lives clock v.read → Follows v c → WholeOk layout lives clock (record c { to = clock })

@@ -2,8 +2,10 @@
 use Rattle.std.proofs.Common.{◌≡◌, ◌≢◌, ℕ, zero, suc, ◌+◌, ◌<◌, ◌≤◌, List, [], ◌∷◌, ◌++◌, ⊎_elim, map, length, cond, eqb, Bool, true, false, set, refl, sym, ap, ◌∙◌, subst, arith}
 use mathlib.Core.Option.{some, some-injective, some-ne-none}
 use lib.ListN.{get_elem?}
+use Rattle.list_words.proofs.TotalLemmas.{total-append}
+use Rattle.list_words.proofs.PlaceLemmas.{total-set, terms_le}
+use Rattle.list_words.specs.Lists.{total}
 use Rattle.atomic_table.proofs.Lists.{at_set, at_map}
-use Rattle.table_rule.specs.Lists.{total}
 use Rattle.table_rule.specs.SlotsOk.{SlotsOk, holds}
 use Rattle.table_rule.specs.Book.{open-end}
 use Rattle.table_rule.specs.Rule.{slot_part}
@@ -12,7 +14,7 @@ use Rattle.table_rule.specs.Plays.{settled}
 use Rattle.table_rule.specs.declared.view.View.{View}
 use Rattle.table_rule.specs.declared.view.SlotView.{SlotView}
 use Rattle.table_rule.specs.declared.view.Sight.{Sight}
-use Rattle.table_rule.proofs.Lists.{total-set, total-append, terms, times-le}
+use Rattle.table_rule.proofs.Lists.{times-le}
 
 -- a second number for a sighting changes nothing of what it saw
 pub held_settled : (xs : List Sight) (r : ℕ) → held_alone (settled xs r) ≡ held_alone xs
@@ -50,7 +52,7 @@ module _ (vs : List View) (id : ℕ) (v w : View) (me : get_elem? vs id ≡ some
 
 -- where a pass has all parts, the counts that were taken are its own
 pub own_taken : (vs : List View) (id : ℕ) (v : View) → get_elem? vs id ≡ some v → v.slot.parts ≡ 16384 → total (λ (u : SlotView). u.parts) (map slot_part vs) ≡ 16384 → TakenOk vs → HeldByItself v
-own_taken vs id v me all sum o h = omega (arith, o.alone id v me h, only vs id v me (λ k u ne e. o.gone k u e (omega (arith, all, sum, terms (λ (y : SlotView). y.parts) (map slot_part vs) id k v.slot u.slot ne (at_map slot_part vs id v me) (at_map slot_part vs k u e)))))
+own_taken vs id v me all sum o h = omega (arith, o.alone id v me h, only vs id v me (λ k u ne e. o.gone k u e (omega (arith, all, sum, terms_le (λ (y : SlotView). y.parts) (map slot_part vs) id k v.slot u.slot ne (at_map slot_part vs id v me) (at_map slot_part vs k u e)))))
   where
     none : (l : List View) → ((k : ℕ) (u : View) → get_elem? l k ≡ some u → u.slot.taken ≡ 0) → all_taken l ≡ 0
     none [] f = refl

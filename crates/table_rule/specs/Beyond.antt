@@ -1,11 +1,12 @@
 -- What lives are to each other, in which order chains have them, and that what was seen stays true. Our own.
 use Rattle.std.specs.Prelude.{◌≡◌, ℕ, ◌+◌, ◌<◌, ◌≤◌, List, [], ◌∷◌, ◌++◌, ◌⊎◌, slice_set}
 use mathlib.Core.Option.{some}
+use Rattle.list_words.specs.Lists.{Each}
 use Rattle.sock_card.specs.Words.{packed, unpacked}
 use Rattle.table_rule.specs.Words.{words_of, home_of, bucket_count}
 use Rattle.sock_card.specs.declared.words.CardWords.{CardWords}
 use lib.ListN.{get_elem?}
-use Rattle.table_rule.specs.Lists.{Each, times}
+use Rattle.table_rule.specs.Lists.{times}
 use Rattle.table_rule.specs.SlotsOk.{owns}
 use Rattle.table_rule.specs.CardsOk.{bears}
 use Rattle.table_rule.specs.Book.{open-end, Life, with_lives, Part, InBook, Ends}

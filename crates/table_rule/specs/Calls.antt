@@ -44,7 +44,7 @@ Stays old new = new.seat.me ≡ old.seat.me
 abbrev pub IsSlot : ℕ → ℕ → List Seen → Type 0
 IsSlot slot words xs = (s : Seen) × (s.slot ≡ slot) × (length s.words ≡ words) × (xs ≡ s ∷ [])
 
--- where a walk tells what follows these slots of its list
+-- where a walk shows what follows these slots of its list
 abbrev pub Tells : View → List Seen → Type 0
 Tells v back = (v.chain.met ≡ 1) ⊎ (0 < length back + length v.chain.ahead)
 

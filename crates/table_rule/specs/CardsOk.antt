@@ -2,7 +2,7 @@
 use Rattle.std.specs.Prelude.{◌≡◌, ◌≢◌, ℕ, ◌+◌, ◌*◌, ◌/◌, ◌%◌, ◌<◌, ◌≤◌, List, [], ◌∷◌, Bool, true, cond, ◌==◌}
 use mathlib.Core.Option.{some}
 use lib.ListN.{get_elem?}
-use Rattle.table_rule.specs.Lists.{total, Each}
+use Rattle.list_words.specs.Lists.{total, Each}
 use Rattle.table_rule.specs.declared.view.Seen.{Seen}
 
 -- card i w: word w of the card of slot i

@@ -21,7 +21,7 @@ abbrev pub len_of : Changes → ℕ
 len_of (changes.Kept list) = vec_len list
 len_of (changes.Counted count) = count
 
--- how many they can be without growth: no list has room for 2 ^ 64 - 1, so this tells, too, whether they are kept
+-- how many they can be without growth: no list has room for 2 ^ 64 - 1, so this shows, too, whether they are kept
 abbrev pub capacity_of : Changes → ℕ
 capacity_of (changes.Kept list) = vec_capacity list
 capacity_of (changes.Counted count) = 2 ^ 64 - 1

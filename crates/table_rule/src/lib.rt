@@ -33,6 +33,7 @@ pub use cards::known_card;
 pub use changes::Changes;
 pub use pass::Pass;
 pub use rule::{First, Rule, Second, Told};
+pub use steps::LEAST_LIVE;
 pub use table::{Chains, Steps};
 pub use view::{
     BookView, ChainView, Change, Kept, Layout, ReadView, Reader, Receipt, Seen, Sight, Sighted,

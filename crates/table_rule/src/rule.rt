@@ -1,4 +1,4 @@
-//! The rule of the table, and what each kind of step tells of the view that makes it.
+//! The rule of the table, and what each kind of step shows of the view that makes it.
 
 use super::view::{Layout, View};
 use atomic_table::{Join, Play, Split, TableRule};
@@ -126,7 +126,7 @@ impl Play<(), View> for Past {
     ghost then = { passed };
 }
 
-/// What a step is told besides its operands.
+/// What a step is given besides its operands.
 pub trait Told {
     ghost use Rattle.std.specs.Prelude.{ℕ};
 
@@ -207,7 +207,7 @@ impl Join<View> for Both {
     ghost spent = { spent };
 }
 
-/// What a lookup is told as it begins.
+/// What a lookup is given as it begins.
 pub trait Asked {
     ghost use Rattle.std.specs.Prelude.{ℕ};
     ghost use Rattle.sock_card.specs.declared.card.Packet.{Packet};
@@ -358,7 +358,7 @@ impl<T: Told> Play<(), View> for LetSee<T> {
     ghost then = { let_see T.slot };
 }
 
-/// What the end of a whole lookup is told: its receipt, but for its end.
+/// What the end of a whole lookup is given: its receipt, but for its end.
 pub trait Summed {
     ghost use Rattle.table_rule.specs.declared.view.Whole.{Whole};
 

@@ -51,7 +51,7 @@ impl Chains {
         self.put_seen_as::<Brand>(steps, slot);
     }
 
-    // Its arguments are the receipt that it is told.
+    // Its arguments are the receipt that it is given.
     fn clock_whole_as<T: Summed>(
         &self,
         steps: &mut Steps,

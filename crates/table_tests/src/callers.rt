@@ -1,4 +1,4 @@
-//! Callers and lookers of one set of tables, with what each call tells.
+//! Callers and lookers of one set of tables, with what each call returns.
 
 use chain_book::{PacketAnswer, PacketLook};
 use flat_calls::outcome::{count_of, end_of, errno_of, leaves_time_wait};

@@ -347,7 +347,7 @@ fn bind_soon(
     )
 }
 
-/// What two searches tell while another pass has the turn of that port's bucket, and a third afterwards.
+/// What two searches answer while another pass has the turn of that port's bucket, and a third afterwards.
 fn bind_beside<R: Wait>(
     rt: &R,
     alloc: Global,
@@ -374,7 +374,7 @@ fn a_search_gives_up_where_another_has_the_turn(rt: HostRuntime) -> Result<(), A
     Ok(())
 }
 
-/// What a socket's bucket says to it in the turn in which it was bound, and what another pass's search tells in the
+/// What a socket's bucket says to it in the turn in which it was bound, and what another pass's search answers in the
 /// meantime.
 type InOneTurn = Option<(u16, Result<u16, SearchEnd>, Result<Option<u32>, ListenEnd>)>;
 

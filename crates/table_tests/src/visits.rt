@@ -41,7 +41,7 @@ enum Visit {
     Remove(u32, u32),
 }
 
-/// The group that a visit tells, or its refusal; None where memory ran out.
+/// The group that a visit gives, or its refusal; None where memory ran out.
 type Told = Option<Result<Option<u32>, ListenEnd>>;
 
 /// Lets the socket of that name listen, and gives the bucket back.
@@ -162,7 +162,7 @@ fn pay<R: Wait>(
     }
 }
 
-/// What these visits of one bucket tell, one after the other.
+/// What these visits of one bucket give, one after the other.
 fn visit_all<R: Wait>(rt: &R, alloc: Global, visits: &[Visit]) -> Result<Vec<Told>, AllocError>
     requires { length visits.now ≤ 100 }
 {

@@ -76,7 +76,7 @@ fn capture_of(alloc: Global, header: &str, records: &str) -> Result<Vec<u8>, Fai
     Ok(bytes)
 }
 
-/// Whether a capture of those parts has these items, and whether it is cut as told.
+/// Whether a capture of those parts has these items, and whether it is cut as stated.
 fn reads(
     alloc: Global,
     header: &str,

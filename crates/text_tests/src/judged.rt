@@ -293,7 +293,7 @@ fn a_handshake(rt: HostRuntime) -> Result<(), Fail> {
         // the request was there throughout, or gone before
         (listening, 4, 4, unexplained),
         (requested, 8, 8, unexplained),
-        // and it isn't told as a full socket
+        // and it isn't reported as a full socket
         (PrintedAnswer::Found(Kind::Full, REQUEST), 4, 4, unexplained),
         (connected, 8, 8, Finding::Sound),
     ] {

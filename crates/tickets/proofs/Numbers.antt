@@ -9,11 +9,6 @@ use Rattle.tickets.specs.Views.{newcomer, cut, joined, drawing, missing}
 use Rattle.tickets.specs.Numbered.{misses}
 use Rattle.tickets.specs.declared.view.TicketView.{TicketView}
 
--- a sum of ones is the length
-pub total-one : {A : Type 0} (l : List A) → total (λ (x : A). 1) l ≡ length l
-total-one [] = refl
-total-one (x ∷ xs) = omega (arith, total-one xs)
-
 -- a sum of sums
 pub total-sum : {A : Type 0} (g h : A → ℕ) (l : List A) → total (λ (x : A). g x + h x) l ≡ total g l + total h l
 total-sum g h [] = omega arith

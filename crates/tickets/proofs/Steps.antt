@@ -7,14 +7,14 @@ use Rattle.std.proofs.lemmas.Bool.{cases_lt}
 use Rattle.atomic_table.specs.Table.{State, step, keeps, Allows, Splits, Joins}
 use Rattle.atomic_table.proofs.Lists.{set_else, set_again}
 use Rattle.list_words.specs.Lists.{SameItems, total}
-use Rattle.list_words.proofs.TotalLemmas.{total-append}
+use Rattle.list_words.proofs.TotalLemmas.{total-append, total-ones}
 use Rattle.list_words.proofs.PlaceLemmas.{each_set, each_set_snoc, each_set_two, total-set, term_le, terms_le, total-alone}
 use Rattle.turn_table.specs.Journals.{numbers_below}
 use Rattle.tickets.specs.Views.{all_parts, newcomer, nobody, cut, joined, drawing, missing}
 use Rattle.tickets.specs.Numbered.{Knows, misses, AllDrawn, Numbered}
 use Rattle.tickets.specs.Plays.{Sat, took, saw}
 use Rattle.tickets.specs.declared.view.TicketView.{TicketView}
-use Rattle.tickets.proofs.Numbers.{total-one, total-sum, total-le, below_more, below_ones, misses_more, misses_less, misses_draw, misses_miss, misses_cut, misses_joined}
+use Rattle.tickets.proofs.Numbers.{total-sum, total-le, below_more, below_ones, misses_more, misses_less, misses_draw, misses_miss, misses_cut, misses_joined}
 
 abbrev St : Type 0
 St = State (Unit {0}) TicketView
@@ -38,12 +38,12 @@ module _ (n x : ℕ) (views : List TicketView) (o : AllDrawn n x views) where
 
   -- and these are few
   pub draws_few : x ≤ n + all_parts
-  draws_few = omega (arith, in_vain, total-le (λ (v : TicketView). total one v.vain) (misses n) views (λ (v : TicketView). omega (arith, total-one v.vain, misses_more n v)), o.few)
+  draws_few = omega (arith, in_vain, total-le (λ (v : TicketView). total one v.vain) (misses n) views (λ (v : TicketView). omega (arith, total-ones v.vain, misses_more n v)), o.few)
 
   module _ (id : ℕ) (v : TicketView) (me : get_elem? views id ≡ some v) where
     -- who drew in vain knows that no number is left
     pub missed_past : 0 < length v.vain → n ≤ x
-    missed_past some-vain = omega (arith, in_vain, term_le (λ (u : TicketView). total one u.vain) views id v me, total-one v.vain)
+    missed_past some-vain = omega (arith, in_vain, term_le (λ (u : TicketView). total one u.vain) views id v me, total-ones v.vain)
 
     -- a pass with all parts has drawn what was drawn
     others_idle : v.parts ≡ all_parts → (k : ℕ) (u : TicketView) → k ≢ id → get_elem? views k ≡ some u → (u.drawn ≡ []) × (u.vain ≡ [])
@@ -65,7 +65,7 @@ module _ (n x : ℕ) (views : List TicketView) (o : AllDrawn n x views) where
 
     -- the count of an open pass with all parts
     pub count_mine : v.parts ≡ all_parts → v.seen ≤ n → (min x n ≡ length v.drawn)
-    count_mine whole before = omega (arith, drawn_mine whole one, below_ones (min x n), total-one v.drawn)
+    count_mine whole before = omega (arith, drawn_mine whole one, below_ones (min x n), total-ones v.drawn)
 
     module _ (before : v.seen ≤ n) (some-part : 0 < v.parts) where
       mine : Knows n x v

@@ -1,4 +1,4 @@
--- What a caller is told of a draw.
+-- What a caller learns of a draw.
 use Rattle.std.proofs.Common.{◌≡◌, ℕ, ◌<◌, ◌≤◌, ap, sym, subst, arith}
 use Rattle.list_words.specs.Lists.{Each}
 use Rattle.list_words.proofs.EachLemmas.{each_weaken}

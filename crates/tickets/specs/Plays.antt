@@ -1,4 +1,4 @@
--- What each step tells: of the seat before, the number found and the seat after. Our own.
+-- What each step shows, as a relation of the seat before, the number found and the seat after. Our own.
 use Rattle.std.specs.Prelude.{◌≡◌, ℕ, ◌<◌, ◌≤◌, ◌++◌, length, min}
 use Rattle.atomic_table.specs.Table.{Me, Step}
 use Rattle.list_words.specs.Lists.{SameItems}

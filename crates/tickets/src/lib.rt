@@ -6,7 +6,7 @@
 //!
 //! It stands on the kit's `atomic_table`, on `list_words`, and on `turn_table` for its word
 //! `numbers_below`: between any two steps of any passes the rule of `specs/Numbered` holds, which ties
-//! the count to what all passes drew. So once all passes were joined again the last one is told, by
+//! the count to what all passes drew. So once all passes were joined again the last one learns, by
 //! [`Tickets::count`], that each number below the count was drawn, once.
 //!
 //! ```text

@@ -1,4 +1,4 @@
-//! The rule of the table's word and passes, and what each step tells. All of it exists in proofs alone.
+//! The rule of the table's word and passes, and what each step shows. All of it exists in proofs alone.
 
 use crate::view::TicketView;
 use atomic_table::{Join, Play, Split, TableRule};

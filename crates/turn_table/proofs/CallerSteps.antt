@@ -7,6 +7,7 @@ use mathlib.Core.Option.{some, some-injective, some-ne-none}
 use lib.ListN.{get_elem?}
 use Rattle.list_words.specs.Lists.{Each}
 use Rattle.list_words.proofs.EachLemmas.{each_append, each_weaken, each_map}
+use Rattle.list_words.proofs.PlaceLemmas.{at_below}
 use Rattle.turn_table.specs.Journals.{placed, by_caller, notes_at, HasAllAt}
 use Rattle.turn_table.specs.Views.{nobody}
 use Rattle.turn_table.specs.Turning.{CallersOk}
@@ -16,12 +17,6 @@ use Rattle.turn_table.specs.declared.view.TurnView.{TurnView}
 use Rattle.turn_table.proofs.OfCallers.{by-append, at-append, by_none, by_at_none, at_here, at_else, by_first, has_each}
 use Rattle.turn_table.proofs.Updates.{upd, upd_here, upd_else}
 use Rattle.turn_table.proofs.ViewLists.{at_each}
-
--- there is an item at a place only below the length
-pub there_below : {A : Type 0} (xs : List A) (k : ℕ) (x : A) → get_elem? xs k ≡ some x → k < length xs
-there_below [] k x e = absurd (some-ne-none x (sym e))
-there_below (y ∷ ys) zero x e = omega arith
-there_below (y ∷ ys) (suc k) x e = omega (arith, there_below ys k x e)
 
 -- a place of a list with one more item is an old one, or the last
 at_end : {A : Type 0} (l : List A) (a b : A) (j : ℕ) → get_elem? (l ++ a ∷ []) j ≡ some b → (get_elem? l j ≡ some b) ⊎ ((j ≡ length l) × (a ≡ b))
@@ -110,7 +105,7 @@ module _ {E H : Type 0} where
       let keeper : ℕ → ℕ = λ c. cond (eqb c new) (length vs) (o.keeper c) in
       let its : (c : ℕ) → c ≡ new → keeper c ≡ length vs = λ c e. ap (λ b. cond b (length vs) (o.keeper c)) (eq-eqb c new e) in
       let old : (c : ℕ) → c ≢ new → keeper c ≡ o.keeper c = λ c ne. ap (λ b. cond b (length vs) (o.keeper c)) (ne_eqb c new ne) in
-      let below : id < length vs = there_below vs id v me in
+      let below : id < length vs = at_below vs id v me in
       let mine : (P : List (Placed E) → Type 0) → P v.mine → P w.mine = λ P p. subst P (sym gave) p in
       let later : (c : ℕ) → v.splits < c → (o.keeper c ≡ id) × Apart c v = o.unborn id v me some-part first in
       let kept : o.keeper v.caller ≡ id = o.live id v me some-part in
@@ -122,7 +117,7 @@ module _ {E H : Type 0} where
             (λ c e i h. dite (ℕ_discrete c new) (λ z. absurd (omega (arith, its c z))) (λ ne. mine (λ l. by_caller c (js i) ≡ by_caller c (notes_at i l)) (o.keeps id v me c (sym (old c ne) ∙ e) i h)))
             (λ c e i h. dite (ℕ_discrete c new) (λ z. let t = later c (omega arith) in o.keeps id v me c t.0 i h ∙ (by_at_none c i v.mine t.1 ∙ ap (λ (l : List (Placed E)). by_caller c (notes_at i l)) (sym empty)))
             (λ ne. absurd (omega (arith, old c ne, o.inside c))))
-            (λ k u _ at c e i h. dite (ℕ_discrete c new) (λ z. absurd (omega (arith, its c z, there_below vs k u at))) (λ ne. o.keeps k u at c (sym (old c ne) ∙ e) i h));
+            (λ k u _ at c e i h. dite (ℕ_discrete c new) (λ z. absurd (omega (arith, its c z, at_below vs k u at))) (λ ne. o.keeps k u at c (sym (old c ne) ∙ e) i h));
         strange = at_cut vs id w n (λ k (u : TurnView E H). (c : ℕ) → keeper c ≢ k → Apart c u)
             (λ c away. dite (ℕ_discrete c new) (λ z. mine (Each (λ (p : Placed E). p.note.caller ≢ c)) (later c (omega arith)).1) (λ ne. mine (Each (λ (p : Placed E). p.note.caller ≢ c)) (o.strange id v me c (λ z. away (old c ne ∙ z)))))
             (λ c away. subst (Each (λ (p : Placed E). p.note.caller ≢ c)) (sym empty) tt)
@@ -156,7 +151,7 @@ module _ {E H : Type 0} where
       record {
         keeper = keeper;
         inside = λ c. let l : length (set (set vs id b) other nobody) ≡ length vs = length-set (set vs id b) other nobody ∙ length-set vs id b in
-            dite (ℕ_discrete (o.keeper c) other) (λ z. omega (arith, its c z, there_below vs id v me, l)) (λ ne. omega (arith, old c ne, o.inside c, l));
+            dite (ℕ_discrete (o.keeper c) other) (λ z. omega (arith, its c z, at_below vs id v me, l)) (λ ne. omega (arith, old c ne, o.inside c, l));
         keeps = here (λ k (u : TurnView E H). (c : ℕ) → keeper c ≡ k → (i : ℕ) → i < places → by_caller c (js i) ≡ by_caller c (notes_at i u.mine))
             (λ c e i h. mine (λ l. by_caller c (js i) ≡ by_caller c (notes_at i l)) (dite (ℕ_discrete (o.keeper c) other)
             (λ z. o.keeps other w them c z i h ∙ sym (both c i ∙ ap (λ (l : List (Note E)). l ++ by_caller c (notes_at i w.mine)) (by_at_none c i v.mine (o.strange id v me c (λ y. apart (sym z ∙ y))))))

@@ -6,7 +6,7 @@ use mathlib.Core.Option.{some, some-injective}
 use lib.ListN.{get_elem?}
 use Rattle.atomic_table.specs.Table.{Final, Seen}
 use Rattle.list_words.specs.Lists.{total, Each}
-use Rattle.list_words.proofs.EachLemmas.{each_weaken}
+use Rattle.list_words.proofs.EachLemmas.{each_weaken, some_same}
 use Rattle.list_words.proofs.TotalLemmas.{total-append}
 use Rattle.turn_table.specs.Journals.{Ascends, number, number_of, placed, by_caller, notes_at, Begins}
 use Rattle.turn_table.specs.Ends.{HoldsWhatWasGiven, IsInTheOrderOfEach, BeginsAsFound, AllAscend, NumbersAll}
@@ -15,11 +15,10 @@ use Rattle.turn_table.specs.Turning.{below, entries, has_turn, Orderly}
 use Rattle.turn_table.specs.declared.note.Note.{Note}
 use Rattle.turn_table.specs.declared.note.Placed.{Placed}
 use Rattle.turn_table.specs.declared.view.TurnView.{TurnView}
-use Rattle.list_words.proofs.PlaceLemmas.{total-alone}
+use Rattle.list_words.proofs.PlaceLemmas.{total-alone, at_below}
 use Rattle.turn_table.proofs.Sums.{total-map, below_total}
 use Rattle.turn_table.proofs.ViewLists.{turn_no}
 use Rattle.turn_table.proofs.OfCallers.{by_at_none}
-use Rattle.turn_table.proofs.CallerSteps.{there_below}
 use Rattle.turn_table.proofs.Steps.{some_at, length-map}
 use Rattle.turn_table.proofs.Whole.{others_idle, gave_all, drew_all, count_is}
 
@@ -28,10 +27,6 @@ get_at : {A : Type 0} (xs : List A) (k : ℕ) → k < length xs → (x : A) × (
 get_at [] k h = absurd (omega arith)
 get_at (y ∷ ys) zero h = (y, refl)
 get_at (y ∷ ys) (suc k) h = get_at ys k (omega arith)
-
--- two values in `Some` that are equal
-some_same : {A : Type 0} (x y : A) → Some x ≡ Some y → x ≡ y
-some_same x y e = cc
 
 module _ {V E H : Type 0} (notes : V → List (Note E)) (fits : ℕ → ℕ → V → Type 0) (key : H) where
   -- what the values' entries weigh, place by place
@@ -93,7 +88,7 @@ module _ {V E H : Type 0} (notes : V → List (Note E)) (fits : ℕ → ℕ → 
         let js = o.journals in let n = get_or s.words 0 0 in let places = length s.homes in
         let wide : length ys ≡ length xs = ap length is ∙ length-map Some xs in
         let at : (k : ℕ) (x : V) → get_elem? xs k ≡ some x → fits k (length xs) x × (notes x ≡ js k) = λ k x e.
-        let t = at_home k (omega (arith, there_below xs k x e)) in
+        let t = at_home k (omega (arith, at_below xs k x e)) in
         let same : Some t.0 ≡ Some x = some-injective (Some t.0) (Some x) (sym t.1 ∙ (ap (λ (l : List (Option V)). get_elem? l k) is ∙ some_at Some xs k x e)) in
         let same' : t.0 ≡ x = some_same t.0 x same in
         (subst (λ (n : ℕ). fits k n x) wide (subst (λ (y : V). fits k (length ys) y) same' t.2), ap notes (sym same') ∙ t.3) in
@@ -105,9 +100,9 @@ module _ {V E H : Type 0} (notes : V → List (Note E)) (fits : ℕ → ℕ → 
         record {
           suit = fit_all 0 (length xs) xs (λ k x e. let q : k ≡ 0 + k = omega arith in subst (λ (j : ℕ). fits j (length xs) x) q (at k x e).0);
           gave = λ f. omega (arith, weight f, o.entries_ok.balance f, gave_all key js n places s.views id v all me o.shares o.knowledge f);
-          order = λ i x e c. ap (by_caller c) (at i x e).1 ∙ in_order places i refl (let q = there_below xs i x e in omega arith) c;
+          order = λ i x e c. ap (by_caller c) (at i x e).1 ∙ in_order places i refl (let q = at_below xs i x e in omega arith) c;
           found = λ k f e. let t = (o.knowledge.knows id v me).finds k f e in let x = get_at xs f.place (omega (arith, t.0)) in (x.0, x.1, subst (Begins f) (sym (at f.place x.0 x.1).1) t.2);
-          rising = λ k x e. subst (λ (ns : List (Note E)). Ascends (length v.mine) (map number ns)) (sym (at k x e).1) (subst (λ (n : ℕ). Ascends n (map number (js k))) count (o.entries_ok.rising k (let q = there_below xs k x e in omega arith)));
+          rising = λ k x e. subst (λ (ns : List (Note E)). Ascends (length v.mine) (map number ns)) (sym (at k x e).1) (subst (λ (n : ℕ). Ascends n (map number (js k))) count (o.entries_ok.rising k (let q = at_below xs k x e in omega arith)));
           numbers = λ f. omega (
             arith,
             total-map f (λ (p : Placed E). number_of p) (all_placed notes 0 xs),

@@ -6,7 +6,7 @@ use mathlib.Core.Option.{some, some-ne-none}
 use lib.ListN.{get_elem?}
 use Rattle.atomic_table.proofs.Lists.{at_snoc}
 use Rattle.list_words.specs.Lists.{Each}
-use Rattle.list_words.proofs.EachLemmas.{each_append, each_weaken, each_map}
+use Rattle.list_words.proofs.EachLemmas.{each_append, each_weaken, each_map, each_unmap}
 use Rattle.turn_table.specs.Journals.{Ascends, number, number_of, placed, Begins}
 use Rattle.turn_table.specs.Views.{nobody, cut, joined, looked, taking, drawing, giving}
 use Rattle.turn_table.specs.Turning.{Found, Knows, KnowledgeOk}
@@ -15,7 +15,7 @@ use Rattle.turn_table.specs.declared.note.Placed.{Placed}
 use Rattle.turn_table.specs.declared.note.Find.{Find}
 use Rattle.turn_table.specs.declared.view.TurnView.{TurnView}
 use Rattle.std.proofs.lemmas.List.{map-append, append-nil}
-use Rattle.turn_table.proofs.Sums.{at_append, each_of_map, ascends_more, ascends_push, ascends_last}
+use Rattle.turn_table.proofs.Sums.{at_append, ascends_more, ascends_push, ascends_last}
 use Rattle.turn_table.proofs.Updates.{upd, upd_here, upd_else}
 use Rattle.turn_table.proofs.ViewLists.{zero_not, at_each, at_each_snoc, at_each_two, found_back, found_same, found_snoc, found_two}
 
@@ -144,7 +144,7 @@ module _ {E H : Type 0} (key : H) where
       (λ z. record {
         more = b.more ++ new;
         is = upd_here js i l f.place z ∙ (grew ∙ (ap (λ (ys : List (Note E)). ys ++ new) (ap js (sym z) ∙ b.is) ∙ append_assoc f.notes b.more new));
-        late = each_append (λ (y : Note E). f.since ≤ y.number) b.more new b.late (each_of_map (λ (q : ℕ). f.since ≤ q) number new (subst (Each (λ (q : ℕ). f.since ≤ q)) (sym numbered) (o.ahead f before id v me (at ∙ ap (λ (q : ℕ). q + 1) (sym z)))));
+        late = each_append (λ (y : Note E). f.since ≤ y.number) b.more new b.late (each_unmap (λ (q : ℕ). f.since ≤ q) number new (subst (Each (λ (q : ℕ). f.since ≤ q)) (sym numbered) (o.ahead f before id v me (at ∙ ap (λ (q : ℕ). q + 1) (sym z)))));
       })
       (λ ne. record { more = b.more; is = upd_else js i l f.place ne ∙ b.is; late = b.late }) in
       let drawn_low : Each (λ (y : ℕ). y < v.seen) v.drawn = ascends_last v.seen (map number v.found) v.drawn mine.rising in
@@ -159,7 +159,7 @@ module _ {E H : Type 0} (key : H) where
               idle = λ z. absurd (omega (arith, (mine.idle z).1));
               finds = λ k f e. let t = mine.finds k f e in (t.0, t.1, grows f record { who = id; view = v; has = me; nth = k; is = e });
               mine = each_append (λ (p : Placed E). number_of p < v.seen) v.mine (map (placed i) new) mine.mine
-                  (each_map (λ (p : Placed E). number_of p < v.seen) (placed i) new (each_of_map (λ (y : ℕ). y < v.seen) number new (subst (Each (λ (y : ℕ). y < v.seen)) (sym numbered) drawn_low)));
+                  (each_map (λ (p : Placed E). number_of p < v.seen) (placed i) new (each_unmap (λ (y : ℕ). y < v.seen) number new (subst (Each (λ (y : ℕ). y < v.seen)) (sym numbered) drawn_low)));
               loads = mine.loads;
             }
             (λ k u ne f. let t = o.knows k u f in

@@ -18,7 +18,7 @@ use Rattle.turn_table.specs.Plays.{Sat, in_hand, Took, took, gave, drew, saw}
 use Rattle.turn_table.specs.declared.note.Note.{Note}
 use Rattle.turn_table.specs.declared.note.Placed.{Placed}
 use Rattle.turn_table.specs.declared.view.TurnView.{TurnView}
-use Rattle.list_words.proofs.PlaceLemmas.{total-set, term_le, terms_le}
+use Rattle.list_words.proofs.PlaceLemmas.{total-set, term_le, terms_le, only_one}
 use Rattle.turn_table.proofs.Sums.{ascends_more}
 use Rattle.turn_table.proofs.ViewLists.{zero_not, turn_yes, turn_no}
 use Rattle.turn_table.proofs.Updates.{upd, entries_none}
@@ -28,11 +28,6 @@ use Rattle.turn_table.proofs.EntrySteps.{entries_same, entries_draw, entries_giv
 use Rattle.turn_table.proofs.KnowledgeSteps.{knows_nothing, knows_cut, knowledge_draw, knowledge_look, knowledge_take, give_rises, knowledge_give, knowledge_snoc, knowledge_join}
 use Rattle.turn_table.proofs.CallerSteps.{callers_same, callers_give, callers_tell, callers_split, callers_join, callers_first, callers_sole, callers_all}
 use Rattle.turn_table.proofs.Whole.{count_is}
-
--- the one item of a list
-only_one : {A : Type 0} (v u : A) (k : ℕ) → get_elem? (v ∷ []) k ≡ some u → v ≡ u
-only_one v u zero e = some-injective v u e
-only_one v u (suc k) e = absurd (some-ne-none u (sym e))
 
 -- the item at a place of a mapped list
 pub some_at : {A B : Type 0} (g : A → B) (xs : List A) (k : ℕ) (x : A) → get_elem? xs k ≡ some x → get_elem? (map g xs) k ≡ some (g x)
@@ -148,7 +143,7 @@ module _ {V E H : Type 0} (notes : V → List (Note E)) (fits : ℕ → ℕ → 
   suited : (F : H → ℕ → ℕ → V → Type 0) → F key ≡ fits → (home : H) (i n : ℕ) (x : V) → home ≡ key → fits i n x → F home i n x
   suited F is home i n x e h = subst (λ (k : H). F k i n x) (sym e) (subst (λ (G : ℕ → ℕ → V → Type 0). G i n x) (sym is) h)
 
-  -- what a take tells
+  -- what a take shows
   tells_of_take : (F : H → ℕ → ℕ → V → Type 0) → F key ≡ fits → (s : St) (o : Holds s) (slots i id : ℕ) (m : Sat notes H) → i < length s.homes → length s.homes ≡ slots → 0 < m.0.parts → get_elem? s.views id ≡ some m.0 → (h : Home notes fits s.homes (o.journals i) i)
       → Took notes F i slots m (taking m.0 i (get_or s.words 0 0) (notes h.value), (i, Some h.value) ∷ m.1)
   tells_of_take F is s o slots i id m near len some-part me h =
@@ -249,7 +244,7 @@ module _ {V E H : Type 0} (notes : V → List (Note E)) (fits : ℕ → ℕ → 
         callers = callers_split (length s.homes) o.journals s.views id v w n me some-part zero-th refl refl refl refl refl o.callers;
       }
 
-  -- split off a seat that only tells what was seen
+  -- split off a seat that only reports what was seen
   pub tells : (id : ℕ) (v : TurnView E H) → Splits Holds id v v (heard v.home v.seen)
   tells id v s o me =
       let x : ℕ = get_or s.words 0 0 in

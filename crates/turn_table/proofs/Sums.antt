@@ -1,9 +1,9 @@
 -- Sums over lists, and lists that ascend.
-use Rattle.std.proofs.Common.{◌≡◌, ℕ, zero, suc, ◌+◌, ◌*◌, ◌<◌, ◌≤◌, ◌⊎◌, List, [], ◌∷◌, ◌++◌, map, length, refl, ap, arith, inl, inr}
+use Rattle.std.proofs.Common.{◌≡◌, ℕ, zero, suc, ◌+◌, ◌*◌, ◌<◌, ◌≤◌, ◌⊎◌, List, [], ◌∷◌, ◌++◌, map, refl, ap, arith, inl, inr}
 use mathlib.Core.Option.{some}
 use lib.ListN.{get_elem?}
 use Rattle.list_words.specs.Lists.{total, Each}
-use Rattle.list_words.proofs.EachLemmas.{each_append, each_weaken}
+use Rattle.list_words.proofs.EachLemmas.{each_append, each_weaken, each_back}
 use Rattle.list_words.proofs.PairsLemmas.{pairs_push}
 use Rattle.list_words.proofs.TotalLemmas.{total-append}
 use Rattle.turn_table.specs.Journals.{Ascends, numbers_below}
@@ -26,21 +26,6 @@ module _ {A : Type 0} where
   total-map g h [] = refl
   total-map g h (x ∷ xs) = omega (arith, total-map g h xs)
 
-  -- a sum of ones is the length
-  pub total-one : (l : List A) → total (λ (x : A). 1) l ≡ length l
-  total-one [] = refl
-  total-one (x ∷ xs) = omega (arith, total-one xs)
-
-  -- a fact of each item of a mapped list
-  pub each_of_map : {B : Type 0} (P : B → Type 0) (h : A → B) (l : List A) → Each P (map h l) → Each (λ x. P (h x)) l
-  each_of_map P h [] p = tt
-  each_of_map P h (x ∷ xs) p = (p.0, each_of_map P h xs p.1)
-
-  -- the second part of a list of which each item has the fact
-  pub each_last : (P : A → Type 0) (l m : List A) → Each P (l ++ m) → Each P m
-  each_last P [] m p = p
-  each_last P (x ∷ xs) m p = each_last P xs m p.1
-
 -- a wider bound
 pub ascends_more : (m n : ℕ) (l : List ℕ) → m ≤ n → Ascends m l → Ascends n l
 ascends_more m n l h p = (each_weaken (λ x. x < m) (λ x. x < n) l (λ x q. omega arith) p.0, p.1)
@@ -54,7 +39,7 @@ ascends_push m n l x h k p = (
 
 -- the last ones are below the bound too
 pub ascends_last : (n : ℕ) (l m : List ℕ) → Ascends n (l ++ m) → Each (λ x. x < n) m
-ascends_last n l m p = each_last (λ x. x < n) l m p.0
+ascends_last n l m p = each_back (λ x. x < n) l m p.0
 
 -- one number more
 pub below_more : (f : ℕ → ℕ) (n : ℕ) → below f (n + 1) ≡ below f n + f n

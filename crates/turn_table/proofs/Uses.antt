@@ -7,6 +7,7 @@ use lib.ListN.{get_elem?}
 use Rattle.std.proofs.lemmas.List.{length-replicate}
 use Rattle.atomic_table.specs.Table.{rest, step, Allows, opening, Final, Seen}
 use Rattle.list_words.specs.Lists.{Each}
+use Rattle.list_words.proofs.MapLemmas.{map_push}
 use Rattle.turn_table.proofs.Steps.{returns_turn, starts, length-map}
 use Rattle.turn_table.proofs.Closing.{Closes, closes}
 use Rattle.turn_table.specs.Journals.{Ascends, number, by_caller, notes_at}
@@ -137,11 +138,6 @@ pub one_more_off : (l m : List Bool) (i : ℕ) → m ≡ set l i false → ((k :
 one_more_off l m i e below k h = ap (λ (x : List Bool). get_or x k false) e ∙ dite (ℕ_discrete k i)
     (λ z. ap (λ (n : ℕ). get_or (set l i false) n false) z ∙ set_off l i)
     (λ ne. get_or-set_other l i k false false ne ∙ below k (omega arith))
-
--- one item more of a mapped list
-map_push : {A B : Type 0} (g : A → B) (l : List A) (x : A) → map g (l ++ x ∷ []) ≡ map g l ++ g x ∷ []
-map_push g [] x = refl
-map_push g (y ∷ ys) x = ap (λ (l : List _). g y ∷ l) (map_push g ys x)
 
 -- and their values are one more of the list's
 pub one_more : {A B : Type 0} (g : A → B) (l m : List A) (x : A) (y : B) (ys zs : List B) (i : ℕ) → m ≡ l ++ x ∷ [] → map g l ≡ take i zs → get_elem? ys i ≡ some y → y ≡ g x → ys ≡ zs → map g m ≡ take (i + 1) zs

@@ -8,7 +8,8 @@ use Rattle.turn_table.specs.declared.note.Note.{Note}
 use Rattle.turn_table.specs.declared.note.Placed.{Placed}
 use Rattle.turn_table.specs.declared.view.TurnView.{TurnView}
 use Rattle.list_words.proofs.PlaceLemmas.{terms_le, total-alone}
-use Rattle.turn_table.proofs.Sums.{total-one, below-one}
+use Rattle.list_words.proofs.TotalLemmas.{total-ones}
+use Rattle.turn_table.proofs.Sums.{below-one}
 
 module _ {E H : Type 0} (key : H) (js : ℕ → List (Note E)) (n places : ℕ) (vs : List (TurnView E H)) (id : ℕ) (v : TurnView E H) where
   -- they have no part
@@ -32,6 +33,6 @@ module _ {E H : Type 0} (key : H) (js : ℕ → List (Note E)) (n places : ℕ) 
     gave_all all me o k (λ (p : Placed E). 1),
     drew_all all me o k (λ (x : ℕ). 1),
     below-one n,
-    total-one v.mine,
-    total-one v.drawn,
+    total-ones v.mine,
+    total-ones v.drawn,
   )

@@ -20,7 +20,7 @@ module _ {V E H : Type 0} where
   abbrev pub known : TurnPass V E H → TurnView E H
   known p = p.seat.me.0
 
-  -- what the pass tells of itself when it runs
+  -- what the pass says of itself when it runs
   abbrev pub IsTold : TurnPass V E H → Type 0
   IsTold p = (p.caller ≡ (known p).caller) × (p.splits ≡ (known p).splits)
 

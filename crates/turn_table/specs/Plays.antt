@@ -1,4 +1,4 @@
--- What each step tells: of the step, the seat before, the number found and the seat after. Our own.
+-- What each step shows, as a relation of the step, the seat before, the number found and the seat after. Our own.
 use Rattle.std.specs.Prelude.{◌≡◌, ◌≢◌, ℕ, ◌+◌, ◌-◌, ◌≤◌, List, [], ◌∷◌, map, length, Option, Some, None}
 use Rattle.atomic_table.specs.Table.{Me, Step, rest}
 use Rattle.turn_table.specs.Journals.{Ascends, number, by_caller, notes_at, AsFound, HasAllAt}
@@ -38,7 +38,7 @@ module _ {V E : Type 0} (notes : V → List (Note E)) where
     abbrev pub drew : Step (Option V) → Sat H → ℕ → Sat H → Type 0
     drew st m r n = (m.0.seen ≤ r) × (n ≡ (drawing m.0 r, m.1))
 
-    -- a pass with all parts is told how many entries there are
+    -- a pass with all parts learns how many entries there are
     abbrev pub saw : Step (Option V) → Sat H → ℕ → Sat H → Type 0
     saw st m r n = (m.0.seen ≤ r) × (n ≡ (looked m.0 r, m.1))
         × (m.0.parts ≡ 16384 → r ≡ length m.0.mine + length m.0.drawn)

@@ -1,4 +1,4 @@
-//! The rule of the table's words, values and passes, and what each step tells.
+//! The rule of the table's words, values and passes, and what each step shows.
 
 use crate::journaled::Journaled;
 use crate::view::TurnView;
@@ -76,7 +76,7 @@ impl<E, H> Split<TurnView<E, H>> for Cut {
     ghost right = { λ v. newcomer v.home (v.splits + 1) v.seen };
 }
 
-/// Tells what a pass has seen.
+/// Reports what a pass has seen.
 pub struct Tell;
 
 impl<E, H> Split<TurnView<E, H>> for Tell {

@@ -4,7 +4,7 @@ use Rattle.std.specs.Prelude.{option_and_then}
 use Rattle.std.proofs.Math.ListN.{get_or-map}
 use Rattle.std.proofs.lemmas.List.{length-map}
 use Rattle.list_words.specs.Lists.{Each, total}
-use Rattle.list_words.proofs.EachLemmas.{each_map, some_same}
+use Rattle.list_words.proofs.EachLemmas.{each_map, some_same, each_unmap}
 use Rattle.sock_card.specs.declared.card.Card.{Card}
 use Rattle.bind_buckets.specs.Journal.{Standing}
 use Rattle.chain_book.specs.Chains.{Chains, insert_outcome, add_outcome, hashed, unhashed, waiting}
@@ -22,7 +22,6 @@ use Rattle.table_model.specs.Own.{Own}
 use Rattle.table_model.specs.Commands.{Replied}
 use Rattle.table_model.specs.Means.{ChainsMean, GroupsMean, OwnMeans, Means, Refines, names_in, members_of, stands_in_some}
 use Rattle.table_model.proofs.questions.Asked.{groups_in}
-use Rattle.table_model.proofs.parts.Standing.{each_unmap}
 use Rattle.table_model.proofs.parts.Chains.{cards_count}
 
 module _ {R S : Type 0} (next : R → Asking S) where

@@ -30,7 +30,7 @@ numbered states.Full = refl
 numbered states.TimeWait = refl
 numbered states.Request = refl
 
--- whatever tells owners apart doesn't tell these
+-- owners that nothing distinguishes are the same
 pub same_owner : (a b : Owner) → ((f : Owner → ℕ) → f a ≡ f b) → a ≡ b
 same_owner a b h =
     let name : a.name ≡ b.name = h (λ (o : Owner). o.name) in

@@ -4,7 +4,8 @@ use Rattle.std.specs.Prelude.{unwrap_or}
 use Rattle.std.specs.List.{list_any}
 use Rattle.std.proofs.lemmas.Bool.{eqb-true, and_parts, not-true}
 use Rattle.list_words.specs.Lists.{Each, total}
-use Rattle.list_words.proofs.EachLemmas.{each_weaken, each_both, each_map, each_filter, found_passes}
+use Rattle.list_words.proofs.EachLemmas.{each_weaken, each_both, each_map, each_filter, found_passes, each_unmap}
+use Rattle.list_words.proofs.Truths.{one_is_true}
 use Rattle.sock_card.specs.declared.card.Card.{Card}
 use Rattle.sock_card.specs.declared.card.Kind.{Kind}
 use Rattle.sock_card.specs.declared.owner.Owner.{Owner}
@@ -35,7 +36,7 @@ use Rattle.table_model.proofs.parts.Chains.{holds}
 use Rattle.table_model.proofs.parts.Cards.{weigh_as, only_named}
 use Rattle.table_model.proofs.parts.Places.{stands_test, StandsThere, stands_there, card_is}
 use Rattle.table_model.proofs.lists.Listed.{Listed}
-use Rattle.table_model.proofs.parts.Standing.{all_listed, each_unmap}
+use Rattle.table_model.proofs.parts.Standing.{all_listed}
 use Rattle.table_model.proofs.parts.OpenSocket.{OpenThere, open_there, each_passes}
 use Rattle.table_model.proofs.parts.Sections.{same_labels}
 use Rattle.table_model.proofs.commands.Asks.{MayLeave, OpenMayLeave, AnyReply, plan_asks}
@@ -75,10 +76,6 @@ bit_no false e = refl
 
 bit : (b : Bool) → b ≡ false → cond {A = ℕ} b 1 0 ≡ 0
 bit b e = ap (λ c. cond {A = ℕ} c 1 0) e
-
-used_by : (b : Bool) (count : ℕ) → count ≡ cond b 1 0 → 1 ≤ count → b ≡ true
-used_by true count e l = refl
-used_by false count e l = absurd (omega (arith, e, l))
 
 two_names : (s a b : Bool) → (a ≡ true → b ≡ true → ⊥) → cond {A = ℕ} (s && a) 1 0 + cond {A = ℕ} (s && b) 1 0 ≤ cond {A = ℕ} s 1 0
 two_names true true true h = absurd (h refl refl)
@@ -146,7 +143,7 @@ module _ (t : Tables) (flat : Flat) (chains : ChainsMean t.chains flat) (sound :
       record {
         one = once slot;
         there = counts;
-        used = used_by (get_or c.slots.used slot false) (weigh (ind (has_slot slot)) c.rows) ((holds c flat chains).alone slot)
+        used = one_is_true (get_or c.slots.used slot false) (weigh (ind (has_slot slot)) c.rows) ((holds c flat chains).alone slot)
             (omega (
               arith,
               counts,

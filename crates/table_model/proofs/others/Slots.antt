@@ -5,6 +5,7 @@ use Rattle.std.proofs.lemmas.Bool.{cases_eq, cases_lt, eq-eqb, eqb-true, ne_eqb,
 use Rattle.std.proofs.lemmas.List.{get_or-set_same, get_or-set_other, set_past}
 use Rattle.list_words.specs.Lists.{total}
 use Rattle.list_words.proofs.EachLemmas.{found_passes, some_same}
+use Rattle.list_words.proofs.TotalLemmas.{total-filter}
 use Rattle.sock_card.specs.declared.card.Card.{Card}
 use Rattle.sock_card.specs.TimeWait.{is_time_wait_kind}
 use Rattle.bind_buckets.specs.BindHash.{answer_at, asked_at}
@@ -43,15 +44,6 @@ module _ {A : Type 0} where
   pub weigh_most : (f g : A → ℕ) (rows : List (List A)) → ((x : A) → f x ≤ g x) → weigh f rows ≤ weigh g rows
   weigh_most f g [] h = omega arith
   weigh_most f g (r ∷ rs) h = omega (arith, total_most f g r h, weigh_most f g rs h)
-
-  fewer_at : (g : A → ℕ) (b : Bool) (x : A) (ys xs : List A) → total g ys ≤ total g xs → total g (cond b (x ∷ ys) ys) ≤ g x + total g xs
-  fewer_at g true x ys xs h = omega (arith, h)
-  fewer_at g false x ys xs h = omega (arith, h)
-
-  -- what is left of a list weighs no more
-  pub fewer : (g : A → ℕ) (q : A → Bool) (xs : List A) → total g (filter q xs) ≤ total g xs
-  fewer g q [] = omega arith
-  fewer g q (x ∷ xs) = fewer_at g (q x) x (filter q xs) xs (fewer g q xs)
 
   left_at : (p : A → Bool) (b c : Bool) (x : A) (ys xs : List A) → p x ≡ c → (c ≡ true → b ≡ true) → total (ind p) xs ≤ total (ind p) ys → cond {A = ℕ} c 1 0 + total (ind p) xs ≤ total (ind p) (cond b (x ∷ ys) ys)
   left_at p true c x ys xs e h l = omega (arith, l, ap (λ (b : Bool). cond {A = ℕ} b 1 0) e)
@@ -161,7 +153,7 @@ module _ (w : Mine) (card : Card) where
   unhashed_by c b slot d h (inl l) =
       let left : List Hashed = filter (λ x. not (has_slot slot x)) (row_at c b) in
       record {
-        one = omega (arith, weigh_set (ind (has_slot k)) c.rows b left l, h.one, fewer (ind (has_slot k)) (λ x. not (has_slot slot x)) (row_at c b));
+        one = omega (arith, weigh_set (ind (has_slot k)) c.rows b left l, h.one, total-filter (ind (has_slot k)) (λ x. not (has_slot slot x)) (row_at c b));
         there = omega (arith, h.there, row_left c b slot w.place.bucket d (cases_eq w.place.bucket b) l);
         used = get_or-set_other c.slots.used slot k false false d ∙ h.used;
         home = h.home;

@@ -4,7 +4,7 @@ use Rattle.std.specs.Prelude.{is_some}
 use Rattle.std.specs.List.{list_any}
 use Rattle.std.proofs.lemmas.Bool.{ne_eqb}
 use Rattle.list_words.specs.Lists.{Each, Pairs, total}
-use Rattle.list_words.proofs.EachLemmas.{each_weaken, each_both, each_map, each_filter}
+use Rattle.list_words.proofs.EachLemmas.{each_weaken, each_both, each_map, each_filter, each_unmap}
 use Rattle.sock_card.specs.declared.owner.Owner.{Owner}
 use Rattle.sock_card.specs.declared.owner.State.{State}
 use Rattle.sock_card.specs.declared.owner.State.TheVariants as states
@@ -27,7 +27,7 @@ use Rattle.table_model.proofs.parts.Buckets.{weigh_in}
 use Rattle.table_model.proofs.parts.MemberPlaces.{EachWord, words_differ}
 use Rattle.table_model.proofs.parts.GroupPlaces.{count_none}
 use Rattle.table_model.proofs.parts.FirstOfName.{if_named, not_named}
-use Rattle.table_model.proofs.parts.Standing.{all_listed, each_unmap}
+use Rattle.table_model.proofs.parts.Standing.{all_listed}
 
 none_found : (o : Option Owner) (n : ℕ) → Weighs (is_some o) n → n ≡ 0 → o ≡ None
 none_found None n w h = refl

@@ -5,7 +5,7 @@ use Rattle.std.specs.List.{list_any}
 use Rattle.std.proofs.lemmas.Bool.{eq-eqb, both_ways, true_from_ne_false, cases_eq, or_left, or_right, and_from}
 use Rattle.std.proofs.lemmas.List.{length-map, length-set, get_or-set_same, get_or-set_other}
 use Rattle.list_words.specs.Lists.{Each}
-use Rattle.list_words.proofs.EachLemmas.{each_weaken, each_both, each_map, each_found, each_unless_any}
+use Rattle.list_words.proofs.EachLemmas.{each_weaken, each_both, each_map, each_found, each_unless_any, each_unmap}
 use Rattle.sock_card.specs.declared.card.Card.{Card}
 use Rattle.bind_buckets.specs.Journal.{Standing}
 use Rattle.bind_buckets.specs.Members.{member}
@@ -17,7 +17,6 @@ use Rattle.table_model.specs.Tables.{Tables}
 use Rattle.bind_buckets.specs.BindHash.{untouched}
 use Rattle.table_model.specs.Means.{GroupsMean, names_in, members_of, stands_as, stands_in_some}
 use Rattle.table_model.proofs.questions.Asked.{groups_in}
-use Rattle.table_model.proofs.parts.Standing.{each_unmap}
 use Rattle.table_model.proofs.parts.GroupPlaces.{at_number, is_name, GroupsAt, members_in}
 
 module _ {A : Type 0} where

@@ -139,15 +139,6 @@ module _ {A : Type 0} (p : A → Bool) (f : A → A) (d : A) (past : p d ≡ fal
   change_read [] i once = sym (cond-false (p d) (f d) d past)
   change_read (x ∷ xs) i once = read_at x xs (p x) i refl once (λ j o. change_read xs j o)
 
-length_by : {A : Type 0} (x y : A) (xs rest : List A) (b : Bool) → length rest ≡ length xs → length (cond b (y ∷ xs) (x ∷ rest)) ≡ suc (length xs)
-length_by x y xs rest true e = refl
-length_by x y xs rest false e = ap suc e
-
--- a changed item is one still
-pub length-change_first : {A : Type 0} (is : A → Bool) (f : A → A) (xs : List A) → length (change_first is f xs) ≡ length xs
-length-change_first is f [] = refl
-length-change_first is f (x ∷ xs) = length_by x (f x) xs (change_first is f xs) (is x) (length-change_first is f xs)
-
 -- a name that isn't among them leaves them as they are
 pub names_stay : (name n : ℕ) (groups : List Group) → Pairs NumbersDiffer groups → list_any (is_name name) (members_of n groups) ≡ false → members_of n (leave name groups) ≡ members_of n groups
 names_stay name n groups differ none =

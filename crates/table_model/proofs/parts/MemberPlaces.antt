@@ -103,7 +103,7 @@ from_names : (k : ℕ) (ms : List ℕ) → Each (λ m. k ≢ m) (names_in ms) �
 from_names k [] h = tt
 from_names k (m ∷ ms) h = (h.0, from_names k ms h.1)
 
--- a name that no group has isn't told by any word in the buckets
+-- a name that no group has isn't in any word in the buckets
 pub words_differ : (t : Tables) (flat : Flat) (k : ℕ) → GroupsMean t flat → Each (λ (g : Group). has_member k g ≡ false) flat.groups → EachWord (λ m. k ≢ m % 2 ^ 32) t.buckets
 words_differ t flat k gm none =
     each_at (λ (s : Standing). Each (λ members. Each (λ m. k ≢ m % 2 ^ 32) members) s.held.groups) t.buckets untouched

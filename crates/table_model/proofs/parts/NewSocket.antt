@@ -3,8 +3,9 @@ use Rattle.std.proofs.Common.{◌≡◌, ◌≢◌, ℕ, ◌/◌, ◌^◌, ◌==
 use Rattle.std.specs.List.{list_any}
 use Rattle.std.proofs.lemmas.Bool.{ne_eqb}
 use Rattle.list_words.specs.Lists.{Each, Pairs, total}
-use Rattle.list_words.proofs.EachLemmas.{each_weaken, each_push, each_map, each_filter}
+use Rattle.list_words.proofs.EachLemmas.{each_weaken, each_push, each_map, each_filter, each_unmap}
 use Rattle.list_words.proofs.TotalLemmas.{total-append}
+use Rattle.list_words.proofs.MapLemmas.{map_push}
 use Rattle.sock_card.specs.declared.owner.Owner.{Owner}
 use Rattle.sock_card.specs.Conflict.{is_time_wait}
 use Rattle.flat_list.specs.declared.socket.Socket.{Socket}
@@ -17,7 +18,6 @@ use Rattle.table_model.specs.Own.{Own, Mine, with_new}
 use Rattle.table_model.specs.Means.{OwnMeans, StandsAs, IsNameOf, owner_of, owner_in, name_in, weighs_if_there, weighs_as_wait}
 use Rattle.table_model.proofs.lists.Passing.{total_each}
 use Rattle.table_model.proofs.questions.Asked.{with_sockets}
-use Rattle.table_model.proofs.parts.Standing.{each_unmap}
 
 last_of : {A : Type 0} (P : A → Type 0) (xs : List A) (y : A) → Each P (xs ++ y ∷ []) → P y
 last_of P [] y h = h.0
@@ -37,11 +37,6 @@ module _ (R : ℕ → ℕ → Type 0) (x : ℕ) where
   pub pairs_insert : (xs ys : List ℕ) → Pairs R (xs ++ ys) → Each (λ a. R a x) xs → Each (R x) ys → Pairs R ((xs ++ x ∷ []) ++ ys)
   pairs_insert [] ys h p q = (q, h)
   pairs_insert (y ∷ xs) ys h p q = (each_insert y xs ys p.0 h.0, pairs_insert xs ys h.1 p.1 q)
-
--- what a list with one more item gives
-pub map_push : {A B : Type 0} (f : A → B) (xs : List A) (x : A) → map f (xs ++ x ∷ []) ≡ map f xs ++ f x ∷ []
-map_push f [] x = refl
-map_push f (y ∷ xs) x = ap (λ l. f y ∷ l) (map_push f xs x)
 
 module _ {A : Type 0} (q : A → Bool) (x : A) (is : q x ≡ true) where
   kept_more : (y : A) (zs : List A) (b : Bool) → cond b (y ∷ (zs ++ x ∷ [])) (zs ++ x ∷ []) ≡ cond b (y ∷ zs) zs ++ x ∷ []

@@ -3,8 +3,9 @@ use Rattle.std.proofs.Common.{◌≡◌, ◌≢◌, ℕ, ◌/◌, ◌%◌, ◌^�
 use Rattle.std.specs.List.{list_any}
 use Rattle.std.proofs.lemmas.Bool.{eqb-true, eq-eqb, ne_eqb, both_ways, and_parts, not-true}
 use Rattle.list_words.specs.Lists.{Each, Pairs, total}
-use Rattle.list_words.proofs.EachLemmas.{each_weaken, each_found, found_passes, each_push, each_map, each_of_all}
+use Rattle.list_words.proofs.EachLemmas.{each_weaken, each_found, found_passes, each_push, each_map, each_of_all, each_unmap}
 use Rattle.list_words.proofs.TotalLemmas.{total-append}
+use Rattle.list_words.proofs.MapLemmas.{map_push}
 use Rattle.sock_card.specs.declared.owner.Owner.{Owner}
 use Rattle.sock_card.specs.Conflict.{is_time_wait}
 use Rattle.flat_list.specs.declared.socket.Socket.{Socket}
@@ -23,7 +24,6 @@ use Rattle.table_model.proofs.parts.OwnWaits.{any_without}
 use Rattle.table_model.proofs.lists.Listed.{Listed, put_weighs, without_weighs}
 use Rattle.table_model.proofs.parts.Own.{any_put}
 use Rattle.table_model.proofs.parts.Sections.{same_labels}
-use Rattle.table_model.proofs.parts.Standing.{each_unmap}
 use Rattle.table_model.proofs.parts.Groups.{any_by_found}
 
 module _ {A : Type 0} (P : A → Type 0) (q : A → Bool) where
@@ -116,10 +116,6 @@ hidden_by n new x ys zs false e h = ap (λ (l : List Socket). cond (is_open_in n
 hidden : (n : ℕ) (new : Socket) (xs : List Socket) → new.named ≡ false → filter (is_open_in n) (put new xs) ≡ filter (is_open_in n) (without new.owner.name xs)
 hidden n new [] e = refl
 hidden n new (x ∷ xs) e = hidden_by n new x (put new xs) (without new.owner.name xs) (has_name new.owner.name x) e (hidden n new xs e)
-
-map_more : {A B : Type 0} (f : A → B) (xs : List A) (x : A) → map f (xs ++ x ∷ []) ≡ map f xs ++ f x ∷ []
-map_more f [] x = refl
-map_more f (y ∷ xs) x = ap (λ l. f y ∷ l) (map_more f xs x)
 
 -- a socket that is found has its name in the list
 some_named : (name : ℕ) (xs : List Socket) (s : Socket) → Listed name xs s → list_any (has_name name) xs ≡ true
@@ -226,7 +222,7 @@ module _ (n : ℕ) (own : Own) (t : Tables) (flat : Flat) (h : OwnMeans n own t 
             ∙ (ap (λ (b : Bool). cond {A = ℕ} b (f w.owner w.extra) 0) (is_there moment) ∙ (ap (λ (o : Owner). f o w.extra) same ∙ ap (f (new moment).owner) stamped)) in
             omega (arith, total-append (weighs_if_there f (put (new moment) flat.sockets)) own.waits (w ∷ []), old, one, h.waits f, put_weighs (new moment) (weighs_as_wait f n) s flat.sockets sound.names at, no_wait f, waits_weigh f moment);
         names =
-            subst (λ (l : List ℕ). Pairs (λ (a b : ℕ). a ≢ b) (map name_in (filter kept_test own.sockets) ++ l)) (sym (map_more name_in own.waits w))
+            subst (λ (l : List ℕ). Pairs (λ (a b : ℕ). a ≢ b) (map name_in (filter kept_test own.sockets) ++ l)) (sym (map_push name_in own.waits w))
             (subst (λ (k : ℕ). Pairs (λ (a b : ℕ). a ≢ b) (map name_in (filter kept_test own.sockets) ++ (map name_in own.waits ++ k ∷ []))) (sym w_name)
             (pairs_last (λ a b. a ≢ b) (map name_in (filter kept_test own.sockets)) (map name_in own.waits) name
             (pairs_fewer (λ a b. a ≢ b) kept_test own.sockets (map name_in own.waits) h.names)

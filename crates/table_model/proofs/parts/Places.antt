@@ -4,7 +4,7 @@ use Rattle.std.specs.List.{list_any}
 use Rattle.std.proofs.lemmas.Bool.{cases_eq, eq-eqb, eqb-true, ne_eqb, and_parts, and_from}
 use Rattle.std.proofs.lemmas.List.{get_or-set_same, get_or-set_other}
 use Rattle.list_words.specs.Lists.{Each, total}
-use Rattle.list_words.proofs.EachLemmas.{found_passes}
+use Rattle.list_words.proofs.EachLemmas.{found_passes, each_unmap}
 use Rattle.sock_card.specs.declared.card.Card.{Card}
 use Rattle.sock_card.specs.declared.card.Kind.{Kind}
 use Rattle.sock_card.specs.declared.owner.Owner.{Owner}
@@ -22,7 +22,6 @@ use Rattle.table_model.proofs.lists.Passing.{Weighs, nothing_at, only, ind, Only
 use Rattle.table_model.proofs.lists.Rows.{weigh, weigh_set, row_least, within}
 use Rattle.table_model.proofs.parts.Chains.{Holds, Weighing, holds, means, weighing, unhashed_holds, alone_in}
 use Rattle.table_model.proofs.parts.Cards.{weigh_as, card_weight, cards_weigh}
-use Rattle.table_model.proofs.parts.Standing.{each_unmap}
 use Rattle.table_model.proofs.questions.Replaced.{some_found}
 
 none_in_rows : {A : Type 0} (p : A → Bool) (g : A → ℕ) (rows : List (List A)) → weigh (ind p) rows ≡ 0 → weigh (only p g) rows ≡ 0

@@ -1,9 +1,9 @@
 -- Every owner's socket, and every socket's owner, is known by its name.
-use Rattle.std.proofs.Common.{◌≡◌, ◌≤◌, Bool, true, cond, List, [], ◌∷◌, map, filter, find, Some, refl, ap, sym, ◌∙◌, subst}
+use Rattle.std.proofs.Common.{◌≡◌, ◌≤◌, Bool, true, cond, List, [], ◌∷◌, filter, find, Some, refl, ap, sym, ◌∙◌, subst}
 use Rattle.std.proofs.lemmas.Bool.{ne_eqb, eq-eqb}
 use Rattle.sock_card.specs.Conflict.{owner_key}
 use Rattle.list_words.specs.Lists.{Each, Pairs}
-use Rattle.list_words.proofs.EachLemmas.{each_weaken, each_both, each_map, each_filter}
+use Rattle.list_words.proofs.EachLemmas.{each_weaken, each_both, each_map, each_filter, each_unmap}
 use Rattle.sock_card.specs.declared.owner.Owner.{Owner}
 use Rattle.bind_buckets.specs.Journal.{Standing}
 use Rattle.bind_buckets.specs.OwnerStep.{has_name as is_owner_named}
@@ -30,11 +30,6 @@ all_listed (x ∷ xs) names = (
   each_weaken (λ (s : Socket). NamesDiffer x s × Listed s.owner.name xs s) (λ (s : Socket). Listed s.owner.name (x ∷ xs) s) xs (λ s h. listed_later x s xs h.0 h.1)
       (each_both (NamesDiffer x) (λ (s : Socket). Listed s.owner.name xs s) xs names.0 (all_listed xs names.1)),
 )
-
--- what holds of the items of a list that is made of others
-pub each_unmap : {A B : Type 0} (P : B → Type 0) (f : A → B) (xs : List A) → Each P (map f xs) → Each (λ x. P (f x)) xs
-each_unmap P f [] h = tt
-each_unmap P f (x ∷ xs) h = (h.0, each_unmap P f xs h.1)
 
 -- an owner that has a port is the first of its name there
 abbrev pub StandsFirst : List Standing → Owner → Type 0

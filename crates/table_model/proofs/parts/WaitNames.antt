@@ -3,7 +3,7 @@ use Rattle.std.proofs.Common.{◌≡◌, ◌≢◌, ℕ, ◌==◌, Bool, true, f
 use Rattle.std.proofs.lemmas.Bool.{cases_Bool, eqb-true, or_right}
 use Rattle.std.specs.List.{list_any}
 use Rattle.list_words.specs.Lists.{Each, Pairs}
-use Rattle.list_words.proofs.EachLemmas.{some_same}
+use Rattle.list_words.proofs.EachLemmas.{some_same, each_back}
 use Rattle.bind_buckets.specs.OwnerStep.{has_name as is_owner_named}
 use Rattle.flat_list.specs.declared.socket.Socket.{Socket}
 use Rattle.flat_list.specs.Flat.{Flat}
@@ -12,10 +12,6 @@ use Rattle.table_model.specs.Tables.{Tables}
 use Rattle.table_model.specs.Own.{Own, Mine}
 use Rattle.table_model.specs.Means.{OwnMeans, owner_of, owner_in, name_in}
 use Rattle.table_model.proofs.lists.Listed.{Listed}
-
-each_back : {A : Type 0} (P : A → Type 0) (xs ys : List A) → Each P (xs ++ ys) → Each P ys
-each_back P [] ys h = h
-each_back P (x ∷ xs) ys h = each_back P xs ys h.1
 
 behind_at : (name : ℕ) (x : Mine) (ms : List Mine) (ys : List ℕ) (b : Bool) → (x.owner.name == name) ≡ b → Each (λ k. x.owner.name ≢ k) (map name_in ms ++ ys)
     → (list_any (is_owner_named name) (map owner_in ms) ≡ true → Each (λ k. name ≢ k) ys) → (b || list_any (is_owner_named name) (map owner_in ms)) ≡ true → Each (λ k. name ≢ k) ys

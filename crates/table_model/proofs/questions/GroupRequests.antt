@@ -6,7 +6,7 @@ use Rattle.std.proofs.lemmas.Bool.{both_ways, cond-true, cond-false}
 use Rattle.std.proofs.lemmas.List.{length-set}
 use Rattle.sock_card.specs.Conflict.{owner_key}
 use Rattle.list_words.specs.Lists.{Each, Pairs}
-use Rattle.list_words.proofs.EachLemmas.{each_weaken, each_both, each_found, found_passes, each_push}
+use Rattle.list_words.proofs.EachLemmas.{each_weaken, each_both, each_found, found_passes, each_push, each_unmap}
 use Rattle.bind_buckets.specs.declared.request.Request.{Request}
 use Rattle.bind_buckets.specs.declared.request.Request.TheVariants as requests
 use Rattle.bind_buckets.specs.First.{change_first}
@@ -21,15 +21,15 @@ use Rattle.flat_list.specs.Sockets.{has_name, is_owner, without}
 use Rattle.flat_list.specs.Sound.{IsSound, IsGroupOf, is_sharing}
 use Rattle.table_model.specs.Tables.{Tables}
 use Rattle.bind_buckets.specs.BindHash.{standing_at, asked_at, untouched}
+use Rattle.bind_buckets.proofs.StaysGrouped.{length-change_first}
 use Rattle.table_model.specs.Means.{OwnersMean, GroupsMean, members_of, stands_in_some}
 use Rattle.table_model.proofs.lists.Listed.{Listed, listed_name}
 use Rattle.table_model.proofs.parts.Buckets.{near}
 use Rattle.table_model.proofs.questions.Asked as asking
 use Rattle.table_model.proofs.questions.Requests.{listen_is, remove_is}
-use Rattle.table_model.proofs.parts.Standing.{each_unmap}
 use Rattle.table_model.proofs.parts.GroupPlaces.{at_number, OnlyAt, GroupsAt, members_in, no_member}
 use Rattle.table_model.proofs.parts.Joining.{joined_at_place, joins_at}
-use Rattle.table_model.proofs.parts.Leaving.{leaves_at, names_stay, length-change_first}
+use Rattle.table_model.proofs.parts.Leaving.{leaves_at, names_stay}
 use Rattle.table_model.proofs.parts.Groups.{each_at, each_by_place, places_of, IsGrouped, PlacesStand, stand_there, groups_stay, groups_set, words_grouped}
 use Rattle.table_model.proofs.questions.WhichGroup.{HasRoom, group_of_sharing, in_no_group}
 

@@ -38,7 +38,7 @@ slot_not_taken : (t : Chains) (f : Option ℕ) (old : Option Hashed) (name : ℕ
 slot_not_taken t None old name h = absurd (cc)
 slot_not_taken t (Some s) old name h = absurd (cc)
 
--- what a card that was put tells
+-- what a card that was put shows
 pub tried_put : (t : Chains) (k old o : Option Hashed) (slot : ℕ) → tried t k old ≡ put slot o → (k ≡ None) × (free_slot t.slots ≡ Some slot) × (old ≡ o)
 tried_put t None old o slot h = let parts = slot_put t (free_slot t.slots) old o slot h in (refl, parts.0, parts.1)
 tried_put t (Some k) old o slot h = absurd (cc)

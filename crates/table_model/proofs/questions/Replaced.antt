@@ -1,9 +1,10 @@
 -- The TIME_WAIT that a newcomer replaces: the one that its chain finds is the one that the list drops.
-use Rattle.std.proofs.Common.{◌≡◌, ℕ, ◌≤◌, Bool, true, false, not, cond, List, [], ◌∷◌, filter, find, Option, Some, None, refl, ap, sym, ◌∙◌, arith}
+use Rattle.std.proofs.Common.{◌≡◌, ℕ, ◌≤◌, Bool, true, false, not, cond, List, [], ◌∷◌, filter, find, Some, None, refl, ap, sym, ◌∙◌, arith}
 use Rattle.std.specs.Prelude.{is_some}
 use Rattle.std.proofs.lemmas.Bool.{eq-eqb, and_parts}
 use Rattle.list_words.specs.Lists.{Each, total}
 use Rattle.list_words.proofs.EachLemmas.{found_passes, each_both, each_weaken}
+use Rattle.list_words.proofs.Truths.{same_truth, some_of}
 use Rattle.sock_card.specs.declared.card.Card.{Card}
 use Rattle.sock_card.specs.declared.card.Kind.{Kind}
 use Rattle.sock_card.specs.declared.card.Kind.TheVariants as kinds
@@ -25,35 +26,25 @@ use Rattle.table_model.proofs.lists.Passing.{Weighs, only, ind, Only, found_weig
 use Rattle.table_model.proofs.parts.Cards.{weigh_as, card_weight, only_named, wait_once}
 use Rattle.table_model.proofs.questions.Taken.{waiting_weigh, waiting_count}
 
--- what is found, where something is
-pub the_found : {A : Type 0} (o : Option A) → is_some o ≡ true → (x : A) × (o ≡ Some x)
-the_found None h = absurd (cc)
-the_found (Some x) h = (x, refl)
-
 some_at : (b : Bool) (n : ℕ) → Weighs b n → 1 ≤ n → b ≡ true
 some_at true n h l = refl
 some_at false n h l = absurd (omega (arith, h.1 refl))
 
 -- something is found where some pass
 pub some_found : {A : Type 0} (p : A → Bool) (xs : List A) → 1 ≤ total (ind p) xs → (x : A) × (find p xs ≡ Some x)
-some_found p xs l = the_found (find p xs) (some_at (is_some (find p xs)) (total (ind p) xs) (found_weighs p xs) l)
+some_found p xs l = some_of (find p xs) (some_at (is_some (find p xs)) (total (ind p) xs) (found_weighs p xs) l)
 
 both_no : (p q : Bool) → cond {A = ℕ} p (cond {A = ℕ} q 0 1) 0 ≡ 0 → p ≡ true → q ≡ true
 both_no true true h e = refl
 both_no true false h e = absurd (omega (arith, h))
 both_no false q h e = absurd (cc)
 
-two_ways : (p q : Bool) → (p ≡ true → q ≡ true) → (q ≡ true → p ≡ true) → p ≡ q
-two_ways true q h k = sym (h refl)
-two_ways false true h k = k refl
-two_ways false false h k = refl
-
 -- where one item alone passes each of two tests, the tests agree on all
 pub same_tests : {A : Type 0} (p q : A → Bool) (s : A) (xs : List A) → Only p s xs → Only q s xs → p s ≡ true → q s ≡ true → Each (λ y. p y ≡ q y) xs
 same_tests p q s xs op oq ps qs =
     let pq : Each (λ y. only p (λ z. cond {A = ℕ} (q z) 0 1) y ≡ 0) xs = each_zero (only p (λ z. cond {A = ℕ} (q z) 0 1)) xs (op (λ z. cond {A = ℕ} (q z) 0 1) ∙ ap (λ (b : Bool). cond {A = ℕ} b 0 1) qs) in
     let qp : Each (λ y. only q (λ z. cond {A = ℕ} (p z) 0 1) y ≡ 0) xs = each_zero (only q (λ z. cond {A = ℕ} (p z) 0 1)) xs (oq (λ z. cond {A = ℕ} (p z) 0 1) ∙ ap (λ (b : Bool). cond {A = ℕ} b 0 1) ps) in
-    each_weaken _ (λ y. p y ≡ q y) xs (λ y both. two_ways (p y) (q y) (both_no (p y) (q y) both.0) (both_no (q y) (p y) both.1))
+    each_weaken _ (λ y. p y ≡ q y) xs (λ y both. same_truth (p y) (q y) (both_no (p y) (q y) both.0) (both_no (q y) (p y) both.1))
     (each_both (λ y. only p (λ z. cond {A = ℕ} (q z) 0 1) y ≡ 0) (λ y. only q (λ z. cond {A = ℕ} (p z) 0 1) y ≡ 0) xs pq qp)
 
 dropped_same_at : {A : Type 0} (b c : Bool) (x : A) (ys zs : List A) → b ≡ c → ys ≡ zs → cond (not b) (x ∷ ys) ys ≡ cond (not c) (x ∷ zs) zs

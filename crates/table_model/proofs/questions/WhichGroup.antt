@@ -10,6 +10,7 @@ use Rattle.std.proofs.lemmas.List.{length-map, nil_from_length}
 use Rattle.list_words.specs.Lists.{Each, Pairs, total}
 use Rattle.list_words.proofs.EachLemmas.{each_weaken, each_found, found_passes}
 use Rattle.list_words.proofs.PairsLemmas.{pairs_weaken, pairs_found}
+use Rattle.list_words.proofs.Truths.{some_of}
 use Rattle.sock_card.specs.Limits.{group_room}
 use Rattle.sock_card.specs.declared.owner.Owner.{Owner}
 use Rattle.sock_card.specs.declared.owner.State.{State}
@@ -30,7 +31,7 @@ use Rattle.table_model.specs.Tables.{Tables}
 use Rattle.bind_buckets.specs.BindHash.{standing_at, untouched}
 use Rattle.table_model.specs.Means.{OwnersMean, GroupsMean, owns, names_in, members_of}
 use Rattle.table_model.proofs.lists.Passing.{ind, found_counts, total_same, found_weighs, same_answer}
-use Rattle.table_model.proofs.questions.Replaced.{some_found, the_found}
+use Rattle.table_model.proofs.questions.Replaced.{some_found}
 use Rattle.table_model.proofs.parts.Buckets.{near}
 use Rattle.table_model.proofs.questions.Conflicts.{weighs_there}
 use Rattle.table_model.proofs.parts.GroupPlaces.{at_number, OnlyAt, GroupsAt, members_in, found_number, one_only, count_cons, count_none, none_found, place_of_group}
@@ -174,7 +175,7 @@ module _ (flat : Flat) (sound : IsSound flat) where
   same_by a p s0 s1 g (inr in_one) at0 m0 m1 inside =
       let some : list_any (both s0.owner.name s1.owner.name) flat.groups ≡ true =
       in_one (sharing a s0 m0) (sharing a s1 m1) (record { net = sym m0.net ∙ m1.net; port = sym m0.port ∙ m1.port; dev = sym m0.dev ∙ m1.dev; uid = sym m0.uid ∙ m1.uid; addr = sym m0.addr ∙ m1.addr }) in
-      let h = the_found (find (both s0.owner.name s1.owner.name) flat.groups) (sym (any_found (both s0.owner.name s1.owner.name) flat.groups) ∙ some) in
+      let h = some_of (find (both s0.owner.name s1.owner.name) flat.groups) (sym (any_found (both s0.owner.name s1.owner.name) flat.groups) ∙ some) in
       let passes = and_parts (has_member s0.owner.name h.0) (has_member s1.owner.name h.0) (found_passes (both s0.owner.name s1.owner.name) flat.groups h.0 h.1) in
       let is : h.0 ≡ g = each_found (λ y. has_member s0.owner.name y ≡ true → y ≡ g) (both s0.owner.name s1.owner.name) flat.groups h.0 inside.only h.1 passes.0 in
       ap (has_member s1.owner.name) (sym is) ∙ passes.1
@@ -401,7 +402,7 @@ module _ (t : Tables) (flat : Flat) (om : OwnersMean t.buckets flat) (gm : Group
   by_mate None there =
       by_free (position is_free held.groups) refl (none_is (find (is_mate_of a) held.owners) (mates_alike t.buckets flat om some a ∙ ap is_some there)) there
   by_mate (Some s1) there =
-      let x = the_found (find (is_mate_of a) held.owners) (mates_alike t.buckets flat om some a ∙ ap is_some there) in
+      let x = some_of (find (is_mate_of a) held.owners) (mates_alike t.buckets flat om some a ∙ ap is_some there) in
       let s0 = mate_listed t.buckets flat om some a x.0 x.1 in
       let test : Socket → Bool = λ y. is_mate_of a y.owner && (y.owner.name == x.0.name) in
       let passes = and_parts (is_mate_of a s0.0.owner) (s0.0.owner.name == x.0.name) (found_passes test flat.sockets s0.0 s0.1) in

@@ -1,8 +1,9 @@
 use Rattle.std.proofs.Common.{◌≡◌, ◌+◌, ℕ, List, arith, ap, sym, subst, ◌∙◌, length}
 use Rattle.std.specs.Global.{Box}
+use Rattle.list_words.proofs.PlaceLemmas.{length_push}
 use Rattle.bind_buckets.specs.Bucket.{Bucket, new_bucket}
 use Rattle.bind_buckets.specs.Closed.{AreNew}
-use Rattle.bind_buckets.proofs.Opened.{news_push, longer}
+use Rattle.bind_buckets.proofs.Opened.{news_push}
 use Rattle.bind_buckets.proofs.turning.empty_buckets.Goals as goal
 
 pub loop-number-init : goal.loop-number-init
@@ -14,6 +15,6 @@ loop-number-preserved c =
     let i = c.loop-number.invariant in
     let all = c.in_ok-push.ensures.items in
     let new : b.value ≡ new_bucket c.loop-number.number c.args.count = c.in_ok-new.ensures.ok ∙ c.new.ensures in (
-      ap (λ (l : List (Box Bucket)). length l) all ∙ longer c.loop-number.buckets.items b ∙ ap (λ (k : ℕ). k + 1) i.0,
+      ap (λ (l : List (Box Bucket)). length l) all ∙ length_push c.loop-number.buckets.items b ∙ ap (λ (k : ℕ). k + 1) i.0,
       λ sharing. news_push sharing c.args.count c.loop-number.number c.loop-number.buckets.items c.push.new.self.items b (i.1 sharing) i.0 (omega arith) c.requires new all,
     )

@@ -32,7 +32,7 @@ returns-in-Ok-Some-Line-clause-complete g c =
     told _ _ _ bytes c.in-Ok.ensures.whole
     (λ within good read written. absurd (no_fault modes.Run bytes (faults.Line c.in-Ok-Some-Line.n) good bad))
 
--- the capture is bad, and the reply tells it
+-- the capture is bad, and the reply says so
 bad_capture : (g : Over) (c : goal.After-drop-reply-in-Ok-Some-Capture g) → HasFault modes.Run c.in-Ok.bytes.items faults.Capture × (c.in-Ok-reply_to.reply.text.items ≡ fault_text faults.Capture)
 bad_capture g c =
     let told : c.in-Ok-reply_to.reply.fault ≡ Some faults.Capture = search rules in
