@@ -1,9 +1,12 @@
--- Two kinds are the same where the test says so.
+-- Two kinds are the same where the test says so, and so is a state that listens.
 use Rattle.std.proofs.Common.{◌≡◌, true, refl, sym, subst}
 use Rattle.std.proofs.lemmas.Bool.{true≢false}
 use Rattle.sock_card.specs.declared.card.Kind.{Kind}
 use Rattle.sock_card.specs.declared.card.Kind.TheVariants as kinds
+use Rattle.sock_card.specs.declared.owner.State.{State}
+use Rattle.sock_card.specs.declared.owner.State.TheVariants as states
 use Rattle.sock_card.specs.Kinds.{same_kind}
+use Rattle.sock_card.specs.Conflict.{is_listening}
 
 pub kind_is : (a b : Kind) → same_kind a b ≡ true → a ≡ b
 kind_is kinds.Full kinds.Full e = refl
@@ -31,3 +34,12 @@ kind_itself kinds.Request = refl
 
 pub kinds_same : (a b : Kind) → a ≡ b → same_kind a b ≡ true
 kinds_same a b e = subst (λ k. same_kind a k ≡ true) e (kind_itself a)
+
+-- what listens by the test is in that state
+pub listening_is : (t : State) → is_listening t ≡ true → t ≡ states.Listening
+listening_is states.Listening h = refl
+listening_is states.Unbound h = absurd (true≢false (sym h))
+listening_is states.Bound h = absurd (true≢false (sym h))
+listening_is states.Full h = absurd (true≢false (sym h))
+listening_is states.TimeWait h = absurd (true≢false (sym h))
+listening_is states.Request h = absurd (true≢false (sym h))
