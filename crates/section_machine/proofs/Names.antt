@@ -18,13 +18,10 @@ use Rattle.bind_buckets.specs.OwnerStep.{has_name}
 use Rattle.bind_buckets.specs.OwnTold.{KeepsOpen, removes_waiting, is_told, own_given, told_next}
 use Rattle.bind_buckets.specs.Turned.{View, Gave}
 use Rattle.shared_ops.specs.Stands.{Knows}
+use Rattle.shared_ops.proofs.Knows.{told_by}
 use Rattle.bind_buckets.proofs.Filtered.{find_filtered}
 use Rattle.bind_buckets.proofs.ToldByOwn.{named_mine, told_seen}
 use Rattle.bind_buckets.proofs.OwnTold.{told_push}
-
--- the owners of some names, as notes tell them
-abbrev pub told_by : (ℕ → Bool) → List Note → List Owner
-told_by mine notes = told_from [] (filter (is_told mine) (entries_of notes))
 
 -- Two sets of names
 

@@ -16,7 +16,7 @@ use Rattle.table_rule.proofs.Lists.{each-append}
 use Rattle.shared_dump.specs.Rows.{cards_of, all_cards, IsChain}
 use Rattle.shared_dump.specs.Sightings.{sighting, sightings, having_seen, Lists}
 use Rattle.shared_dump.specs.Dumps.{Keeps, ListsAll, chains_from}
-use Rattle.shared_dump.proofs.Cards.{all-more, map-both}
+use Rattle.shared_dump.proofs.Cards.{all-more}
 
 -- a pass that has one bucket locked is alone where it was
 pub sole_locking : (v : View) (bucket : ℕ) (xs : List Seen) → WasChain xs bucket (locking v bucket) → WasChain xs bucket v
@@ -43,9 +43,6 @@ sights-more from to b c (row ∷ rows) xs e = ap (λ (l : List Sight). sighting 
 pub settled_sights : (from to b : ℕ) (rows : List (List Seen)) → settled (sightings from open-end b rows) to ≡ sightings from to b rows
 settled_sights from to b [] = refl
 settled_sights from to b (row ∷ rows) = ap (λ (l : List Sight). sighting from to b row ∷ l) (settled_sights from to (b + 1) rows)
-
-pub settled_both : (xs ys : List Sight) (r : ℕ) → settled (xs ++ ys) r ≡ settled xs r ++ settled ys r
-settled_both xs ys r = map-both _ xs ys
 
 pub keeps_same : (v : View) → Keeps v v
 keeps_same v = record { layout = refl; slot = refl; book = refl; read = refl; done = refl }

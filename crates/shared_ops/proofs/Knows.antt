@@ -346,7 +346,8 @@ changes a f place request v w x same next keeps s g is =
     (ap (find (has_name a.name)) (ap (told_next s.mine os) is.entry ∙ next s.mine os s.it) ∙ found_changed a.name f os (Some a) same s.told_is) in
     stands_of (f a) place w (subst (λ n. Knows n (Some (f a)) place w) (sym (same a)) k)
 
-changed_next : (owners new : List Owner) (t : Bool) → t ≡ true → cond t new owners ≡ new
+-- where the test is true the owners are the new ones
+pub changed_next : (owners new : List Owner) (t : Bool) → t ≡ true → cond t new owners ≡ new
 changed_next owners new true is = refl
 changed_next owners new false is = absurd (false≢true is)
 
