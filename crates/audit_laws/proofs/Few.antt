@@ -1,8 +1,5 @@
 -- How much a command does: a plan goes on by so many deeds at most.
-use Rattle.std.proofs.Common.{◌≡◌, ℕ, ◌+◌, ◌*◌, ◌/◌, ◌≤◌, ◌==◌, nat_lt, not, Bool, true, false, List, [], ◌∷◌, ◌++◌, length, length-append, append-nil, filter, Option, None, Some, if◌then◌else◌, sym, ap, ◌∙◌, subst, arith}
-use Rattle.std.proofs.lemmas.List.{length-map}
-use Rattle.std.proofs.lemmas.List.FromFn.{length-range_with_len}
-use Rattle.std.specs.List.{range_with_len}
+use Rattle.std.proofs.Common.{◌≡◌, ℕ, ◌+◌, ◌*◌, ◌≤◌, ◌==◌, nat_lt, not, Bool, true, false, List, [], ◌∷◌, ◌++◌, length, length-append, append-nil, filter, Option, None, Some, if◌then◌else◌, sym, ap, ◌∙◌, subst, arith}
 use Rattle.sock_card.specs.Conflict.{bind_key, owner_key}
 use Rattle.sock_card.specs.declared.card.Card.{Card}
 use Rattle.sock_card.specs.declared.owner.Owner.{Owner}
@@ -25,7 +22,8 @@ use Rattle.flat_list.specs.declared.header.First.TheVariants as firsts
 use Rattle.flat_list.specs.declared.header.Header.{Header}
 use Rattle.flat_list.specs.declared.header.Range.{Range}
 use Rattle.flat_list.specs.Owned.{addressed, bound_at, child_owner, connected_at, connected_to, heir_owner, is_no_accept, is_no_ack, request_owner}
-use Rattle.flat_list.specs.Ports.{even, half_from, is_reserved, odd, port_order, size, whole_order}
+use Rattle.flat_list.specs.Ports.{even, half_from, is_reserved, odd, port_order, whole_order}
+use Rattle.flat_list.proofs.PortAt.{half_length}
 use Rattle.table_model.specs.declared.operation.OpEnd.{OpEnd}
 use Rattle.table_model.specs.declared.operation.OpEnd.TheVariants as errors
 use Rattle.table_model.specs.Asking.{Asking, adds, and_then, asks, ends, impossible, inserts, reaps, unhashes}
@@ -280,12 +278,9 @@ f_then k p reply h deeds r g =
     let two : InTwo (λ x. ends (reply x)) p deeds r = goes_apart (λ x. ends (reply x)) p deeds r g in
     f_then_by k p reply h deeds r two.first two.rest two.did two.joined two.goes two.then_
 
-half_count : (r : Range) (distance : ℕ) → length (half_from r distance) ≡ size r / 2
-half_count r distance = length-map (range_with_len 0 (size r / 2)) _ ∙ length-range_with_len 0 (size r / 2)
-
 whole_count : (r : Range) (offset : ℕ) (first : First) → RangeFits r → length (whole_order r offset first) ≤ 65536
-whole_count r offset firsts.Odd f = omega (arith, length-append (half_from r (odd offset)) (half_from r (even offset)), half_count r (odd offset), half_count r (even offset), f.high, f.order)
-whole_count r offset firsts.Even f = omega (arith, length-append (half_from r (even offset)) (half_from r (odd offset)), half_count r (even offset), half_count r (odd offset), f.high, f.order)
+whole_count r offset firsts.Odd f = omega (arith, length-append (half_from r (odd offset)) (half_from r (even offset)), half_length r (odd offset), half_length r (even offset), f.high, f.order)
+whole_count r offset firsts.Even f = omega (arith, length-append (half_from r (even offset)) (half_from r (odd offset)), half_length r (even offset), half_length r (odd offset), f.high, f.order)
 
 ports_count : (r : Range) (offset : ℕ) (first : First) → RangeFits r → length (port_order r offset first) ≤ 65536
 ports_count r offset first f = omega (arith, shorter (λ port. not (is_reserved r port)) (whole_order r offset first), whole_count r offset first f)

@@ -7,6 +7,7 @@ use Rattle.std.proofs.lemmas.List.Splits.{slice_split-cons_yes, slice_split-cons
 use Rattle.std.specs.List.{onto_first}
 use Rattle.list_words.specs.Lists.{Each}
 use Rattle.list_words.proofs.EachLemmas.{each_weaken, each_append}
+use Rattle.sock_script.proofs.SpacedWords.{one_piece}
 use Rattle.race_book.proofs.Checks.{and_left, and_right}
 use Rattle.record_reader.specs.declared.line.Line.{Line}
 use Rattle.record_reader.specs.declared.line.Line.TheVariants as lines
@@ -45,10 +46,6 @@ module _ (test : ℕ → Bool) (y : ℕ) (cut : test y ≡ true) where
   piece_first [] ys h = slice_split-cons_yes test y ys cut
   piece_first (x ∷ xs) ys h =
       slice_split-cons_no test x (xs ++ y ∷ ys) h.0 ∙ ap (onto_first x) (piece_first xs ys h.1)
-
-one_piece : (test : ℕ → Bool) (xs : List ℕ) → Each (λ x. test x ≡ false) xs → slice_split test xs ≡ xs ∷ []
-one_piece test [] h = refl
-one_piece test (x ∷ xs) h = slice_split-cons_no test x xs h.0 ∙ ap (onto_first x) (one_piece test xs h.1)
 
 not_equal : (b c : ℕ) → c < b → (b == c) ≡ false
 not_equal b c lt = false_from_ne_true (b == c) (λ e. let same : b ≡ c = eqb-true b c e in absurd (omega arith))

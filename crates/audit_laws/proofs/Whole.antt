@@ -37,6 +37,7 @@ use Rattle.race_record.specs.Record.{Race, Step, steps_of, commands_of}
 use Rattle.race_record.specs.Laws.{drew_for}
 use Rattle.race_record.specs.Lawful.{AreAnswered, AreSectionsOf, AreStepsOf, Lawful, Lists}
 use Rattle.race_record.proofs.Drawn.{numbers_tell}
+use Rattle.race_record.proofs.Says.{same_count}
 use Rattle.race_text.specs.Render.{clock_line, command_lines, journal_lines, life_line, looked_lines, race_line, render, shape_line, told, told_text}
 use Rattle.race_text.proofs.Commands.{all_commands}
 use Rattle.book_audit.specs.declared.printed.Printed.{Printed}
@@ -78,12 +79,6 @@ use Rattle.audit_laws.proofs.Told.{lives_told, numbered, packets_told, vain_told
 
 -- the commands of steps are the section's
 module _ (header : Header) (In : Change → Type 0) where
-  same_count : (n : ℕ) (scripts : List (List Command)) (sections : List (List Step)) → AreSectionsOf header In n scripts sections → length sections ≡ length scripts
-  same_count n [] [] a = refl
-  same_count n (cs ∷ scripts) (steps ∷ sections) a = omega (arith, same_count (n + 1) scripts sections a.1)
-  same_count n [] (s ∷ sections) a = absurd a
-  same_count n (cs ∷ scripts) [] a = absurd a
-
   steps_count : (own : Own) (cs : List Command) (steps : List Step) → AreStepsOf header In own cs steps → length steps ≡ length cs
   steps_count own [] [] a = refl
   steps_count own (c ∷ cs) (s ∷ steps) a = omega (arith, steps_count a.0 cs steps a.2)

@@ -11,7 +11,7 @@ mod Journals
 mod StaysSound
 mod StaysKept
 pub mod StaysGrouped
-mod Told
+pub mod Told
 mod RoomToGo
 mod RoomLeft
 pub mod Filtered

@@ -272,6 +272,7 @@ module _ (place at : ℕ) (request : Request) (answer : Answer) (v w : View) (o 
       ∙ ap (λ ns. by_caller v.caller (notes_at place v.mine ++ ns)) (at_else at place (x.note ∷ []) other)
       ∙ ap (by_caller v.caller) (append-nil (notes_at place v.mine))
 
+-- the entries of two lists, one after the other
 pub told_both : (owners : List Owner) (xs ys : List Entry) → told_from owners (xs ++ ys) ≡ told_from (told_from owners xs) ys
 told_both owners [] ys = refl
 told_both owners (e ∷ xs) ys = told_both (told owners e.request e.answer) xs ys
@@ -280,6 +281,7 @@ told_last : (owners : List Owner) (e : Entry) (b : Bool) → told_from owners (c
 told_last owners e true = refl
 told_last owners e false = refl
 
+-- what is told with one entry more
 pub told_push : (mine : ℕ → Bool) (notes : List Note) (x : Note) → told_from [] (filter (is_told mine) (entries_of (notes ++ x ∷ []))) ≡ told_next mine (told_from [] (filter (is_told mine) (entries_of notes))) x.entry
 told_push mine notes x =
     ap (λ es. told_from [] (filter (is_told mine) es)) (map-append entry_of notes (x ∷ []))
@@ -314,11 +316,13 @@ own_goes_on a b place request answer v w s o keeps name found =
           ∙ found;
     }
 
-none_told : (mine : ℕ → Bool) (notes : List Note) → Each (λ (x : Note). is_told mine x.entry ≡ false) notes → filter (is_told mine) (entries_of notes) ≡ []
+-- entries of which none is told
+pub none_told : (mine : ℕ → Bool) (notes : List Note) → Each (λ (x : Note). is_told mine x.entry ≡ false) notes → filter (is_told mine) (entries_of notes) ≡ []
 none_told mine [] h = refl
 none_told mine (x ∷ xs) h = rw h.0 (none_told mine xs h.1)
 
-none_kept : (mine : ℕ → Bool) (notes : List Note) → Each (λ (x : Note). is_told mine x.entry ≡ false) notes → AllKeepOpen mine notes
+-- they put none of the names into TIME_WAIT
+pub none_kept : (mine : ℕ → Bool) (notes : List Note) → Each (λ (x : Note). is_told mine x.entry ≡ false) notes → AllKeepOpen mine notes
 none_kept mine notes h =
     each_weaken (λ (x : Note). is_told mine x.entry ≡ false) (λ (x : Note). KeepsOpen mine x.entry.request) notes (λ x none. unspoken mine x.entry.request none) h
 

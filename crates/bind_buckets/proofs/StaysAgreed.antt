@@ -8,7 +8,7 @@ use Rattle.sock_card.specs.declared.owner.State.{State}
 use Rattle.sock_card.specs.declared.owner.State.TheVariants as states
 use Rattle.sock_card.specs.Agreement.{Narrows}
 use Rattle.sock_card.specs.Conflict.{agree, refuses, overlap, is_listening, is_time_wait, both_reuse_addr, both_reuse_port}
-use Rattle.sock_card.proofs.Agreement.{agrees_both_ways, agrees_unless_refused, overlaps_who_refuses, agrees_by_origin, agrees_where_narrowed}
+use Rattle.sock_card.proofs.Agreement.{agrees_both_ways, agrees_unless_refused, overlaps_who_refuses, agrees_by_origin, agrees_where_narrowed, refuses_as_listener}
 use Rattle.bind_buckets.specs.declared.request.Request.{Request}
 use Rattle.bind_buckets.specs.declared.request.Request.TheVariants as requests
 use Rattle.bind_buckets.specs.First.{change_first, drop_first}
@@ -44,10 +44,6 @@ chosen_agrees : (owners : List Owner) (a : Owner) → a.by_connect ≡ true → 
 chosen_agrees owners a chosen none p =
     pairs_push Agree owners a p
     (each_weaken (λ b. holds a.port a.net b ≡ false) (λ b. Agree b a) owners (λ b h. agrees_if_unheld a b chosen h) (each_unless_found (holds a.port a.net) owners none))
-
-refuses_as_listener : (a b : Owner) → refuses (as_listener a) b ≡ refuses a b
-unfolding refuses overlap
-refuses_as_listener a b = refl
 
 narrows_connected : (local remote rport : ℕ) (a : Owner) → StandsAt states.Bound local a → Narrows (connected local remote rport a) a
 narrows_connected local remote rport a s = record {

@@ -100,6 +100,11 @@ pub asked : (n : ℕ) (h : Held) (name : ℕ) (o : Option Owner) → (spoken h n
 asked n h name None = refl
 asked n h name (Some a) = refl
 
+-- to ask whether one may listen changes nothing
+pub listens_held : (n : ℕ) (h : Held) (name : ℕ) → (owner_step n h (requests.MayListen name)).held ≡ h
+unfolding owner_step
+listens_held n h name = asked n h name (find (has_name name) h.owners)
+
 pub asked_step : (b : Bucket) (name : ℕ) → (step_of b (requests.MayListen name)).held ≡ b.held
 unfolding owner_step
 asked_step b name = asked b.number b.held name (find (has_name name) b.held.owners)

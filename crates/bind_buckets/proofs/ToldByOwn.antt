@@ -31,7 +31,8 @@ free_told : (owners : List Owner) (port net : ℕ) (answer : Answer) → owners 
 free_told owners port net answers.Done = refl
 free_told owners port net _ = refl
 
-asked_told : (owners : List Owner) (name : ℕ) (answer : Answer) → told owners (requests.MayListen name) answer ≡ owners
+-- the question whether one may listen changes no owner, whatever the answer
+pub asked_told : (owners : List Owner) (name : ℕ) (answer : Answer) → told owners (requests.MayListen name) answer ≡ owners
 asked_told owners name answers.Done = refl
 asked_told owners name _ = refl
 

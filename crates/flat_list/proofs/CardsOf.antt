@@ -1,9 +1,10 @@
 -- What a card of the list says of its socket, and what listeners of one group have in common.
-use Rattle.std.proofs.Common.{◌≡◌, Bool, true, ◌&&◌, ◌==◌, List, Option, Some, None, refl, ap, ◌∙◌, sym, subst}
+use Rattle.std.proofs.Common.{◌≡◌, ℕ, ◌≤◌, Bool, true, false, cond, ◌&&◌, ◌==◌, List, Option, Some, None, refl, ap, ◌∙◌, sym, subst, arith}
+use Rattle.std.specs.Prelude.{count_by}
 use Rattle.std.specs.Option.{option_map}
 use Rattle.std.proofs.lemmas.Bool.{and_parts, eqb-true}
 use Rattle.list_words.proofs.EachLemmas.{some_same}
-use Rattle.list_words.proofs.Items.{In, made_in}
+use Rattle.list_words.proofs.Items.{In, made_in, each_in, count_in}
 use Rattle.sock_card.specs.declared.card.Card.{Card}
 use Rattle.sock_card.specs.declared.card.Kind.{Kind}
 use Rattle.sock_card.specs.declared.card.Kind.TheVariants as kinds
@@ -12,10 +13,12 @@ use Rattle.sock_card.specs.declared.owner.State.{State}
 use Rattle.sock_card.specs.declared.owner.State.TheVariants as states
 use Rattle.sock_card.specs.Conflict.{same_port, is_listening, both_reuse_port}
 use Rattle.flat_list.specs.declared.socket.Socket.{Socket}
-use Rattle.flat_list.specs.Groups.{Group}
+use Rattle.flat_list.specs.Flat.{Flat}
+use Rattle.flat_list.specs.Groups.{Group, has_member}
 use Rattle.flat_list.specs.Look.{card_of, cards_of, extra_as}
 use Rattle.flat_list.specs.Owned.{card_as}
 use Rattle.flat_list.specs.Sockets.{kind_of, is_mate}
+use Rattle.flat_list.specs.Sound.{IsSound, IsInOneGroup, is_sharing}
 
 -- what a socket's card says of the socket
 pub record Says (groups : List Group) (s : Socket) (c : Card) : Type 0 where
@@ -78,3 +81,13 @@ by_mates a s h =
     let p = mate_parts (is_listening s.owner.state) (both_reuse_port a s.owner) (same_port a s.owner) (a.dev == s.owner.dev) (a.uid == s.owner.uid) (a.addr == s.owner.addr) h in
     let port = and_parts (a.net == s.owner.net) (a.port == s.owner.port) p.0 in
     record { net = eqb-true _ _ port.0; addr = eqb-true _ _ p.2; port = eqb-true _ _ port.1; dev = eqb-true _ _ p.1 }
+
+sharing_at : (b : Bool) (n : ℕ) → n ≡ cond {A = ℕ} b 1 0 → 1 ≤ n → b ≡ true
+sharing_at true n h l = refl
+sharing_at false n h l = absurd (omega (arith, h, l))
+
+-- who is in a group of a sound list is a listener that shares its end
+pub grouped_shares : (flat : Flat) (sound : IsSound flat) (s : Socket) (g : Group) → In s flat.sockets → In g flat.groups → has_member s.owner.name g ≡ true → is_sharing s ≡ true
+grouped_shares flat sound s g i j h =
+    sharing_at (is_sharing s) (count_by (has_member s.owner.name) flat.groups) (each_in (IsInOneGroup flat.groups) s flat.sockets sound.grouped.sharing i)
+    (count_in (has_member s.owner.name) g flat.groups j h)

@@ -10,7 +10,7 @@ use Rattle.flat_list.specs.Sound.{IsGivenName, IsGiven}
 use Rattle.flat_list.proofs.LabelsGrow.{given_at, GivesAt, grows}
 
 -- a name says its section and its number
-section_in_name : (n k : ℕ) → k + 1 < 2 ^ 24 → name_at n k / 2 ^ 24 ≡ n
+pub section_in_name : (n k : ℕ) → k + 1 < 2 ^ 24 → name_at n k / 2 ^ 24 ≡ n
 section_in_name n k h = ap (λ x. x / 2 ^ 24) (let e : n * 2 ^ 24 + k + 1 ≡ n * 2 ^ 24 + (k + 1) = omega arith in e) ∙ div-mul-add n (2 ^ 24) (k + 1) h
 
 number_in_name : (n k : ℕ) → k + 1 < 2 ^ 24 → name_at n k % 2 ^ 24 ≡ k + 1

@@ -234,7 +234,8 @@ leave_other : (buckets name q : ℕ) (sockets : List Socket) (g : Group) → IsG
 unfolding left
 leave_other buckets name q sockets g is other = leave_other_if buckets name q sockets g (has_member name g) refl is other
 
-number_left : (name : ℕ) (g : Group) → (leave_group name g).number ≡ g.number
+-- the group that is left has the number that it had
+pub number_left : (name : ℕ) (g : Group) → (leave_group name g).number ≡ g.number
 unfolding left
 number_left name g = cond_both (has_member name g) (left name g) g (λ h. h.number ≡ g.number) (λ _. refl) (λ _. refl)
 

@@ -22,7 +22,8 @@ use Rattle.flat_list.specs.Connect.{connected_socket, end_of, replacing, is_take
 use Rattle.flat_list.specs.Owned.{source_of, is_no_end, is_no_accept, is_no_ack}
 use Rattle.flat_list.specs.Step.{drop, step, at_end, at_port, at_address, bind, bind_any, bind_given, bind_found, bind_search, bind_socket, search_bind, listen, listens_in, listen_as, groups_with, listen_bound, listen_found, listen_socket, waiting, close, close_full, close_socket, at, reap}
 
-find_put : (m : ℕ) (s : Section) (xs : List Section) → find (has_number m) (put_section s xs) ≡ (if has_number m s then Some s else find (has_number m) xs)
+-- what is found among sections in which one was put
+pub find_put : (m : ℕ) (s : Section) (xs : List Section) → find (has_number m) (put_section s xs) ≡ (if has_number m s then Some s else find (has_number m) xs)
 find_put m s [] = refl
 find_put m s (x ∷ xs) = grind (arith, find_put m s xs)
 

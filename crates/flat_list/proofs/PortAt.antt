@@ -12,7 +12,8 @@ pub half_at : (r : Range) (distance number d : ℕ) → number < size r / 2 → 
 half_at r distance number d within =
     get_or-map-range_with_len (λ k. r.low + (distance + 2 * k) % size r) 0 (size r / 2) number number d within (omega arith)
 
-half_length : (r : Range) (distance : ℕ) → length (half_from r distance) ≡ size r / 2
+-- half as many ports as the range has
+pub half_length : (r : Range) (distance : ℕ) → length (half_from r distance) ≡ size r / 2
 half_length r distance = length-map-range_with_len (λ k. r.low + (distance + 2 * k) % size r) 0 (size r / 2)
 
 -- in the first half, in the second, and beyond

@@ -1,16 +1,16 @@
 -- What a write at a section's place, or a push, makes of the sections.
-use Rattle.std.proofs.Common.{◌≡◌, ℕ, ◌<◌, ◌≤◌, List, [], ◌∷◌, ◌++◌, length, get_or, arith, Bool, refl, Some, None, find, position, ap, slice_get, subst, sym, ◌∙◌, unwrap_or, bytes_eq}
+use Rattle.std.proofs.Common.{◌≡◌, ℕ, ◌<◌, ◌≤◌, List, [], ◌∷◌, ◌++◌, length, get_or, arith, Bool, refl, Some, None, find, position, ap, slice_get, subst, sym, ◌∙◌, unwrap_or, bytes_eq, cond, Option}
 use Rattle.std.specs.Option.{option_map}
 use Rattle.std.proofs.lemmas.Option.{slice_get-get_or, slice_get_past, get_or_from_slice_get}
 use Rattle.std.proofs.lemmas.List.Quantifiers.{position-Some}
-use Rattle.std.proofs.lemmas.Bool.{eqb-true}
+use Rattle.std.proofs.lemmas.Bool.{eqb-true, eq-eqb}
 use Rattle.std.proofs.Math.ListN.{set}
 use Rattle.std.specs.List.{position_or_len}
 use Rattle.std.proofs.lemmas.List.Folds.{find_at}
 use Rattle.flat_list.specs.declared.header.Header.{Header}
 use Rattle.flat_list.specs.Sections.{Section, section_of, labels_of, new_section, put_section, has_number, GivesLabel, with_label, with_drawn, past_word, at_moment, with_moment, name_at, name_in}
 use Rattle.list_words.proofs.EachLemmas.{found_passes}
-use Rattle.flat_list.proofs.LabelsGrow.{labels_are}
+use Rattle.flat_list.proofs.LabelsGrow.{labels_are, find_put}
 
 pub put_section_at : (new : Section) (xs : List Section) → position_or_len (has_number new.number) xs < length xs → put_section new xs ≡ set xs (position_or_len (has_number new.number) xs) new
 put_section_at new [] h = absurd (omega arith)
@@ -19,6 +19,12 @@ put_section_at new (x ∷ xs) h = grind (arith, put_section_at new xs)
 pub put_section_absent : (new : Section) (xs : List Section) → length xs ≤ position_or_len (has_number new.number) xs → put_section new xs ≡ xs ++ new ∷ []
 put_section_absent new [] h = refl
 put_section_absent new (x ∷ xs) h = grind (arith, put_section_absent new xs)
+
+-- the section of that number is the one that was put
+pub section_put : (header : Header) (n : ℕ) (new : Section) (sections : List Section) → new.number ≡ n → section_of header n (put_section new sections) ≡ new
+section_put header n new sections is =
+    ap (λ (o : Option Section). unwrap_or o (new_section header n))
+    (find_put n new sections ∙ ap (λ (b : Bool). cond b (Some new) (find (has_number n) sections)) (eq-eqb new.number n is))
 
 -- what `position` says of the first place
 pub place_is : {X : Type 0} (p : X → Bool) (xs : List X) (i : ℕ) → position p xs ≡ Some i → (i ≡ position_or_len p xs) × (i < length xs)

@@ -1,5 +1,5 @@
 -- A command changes no header, and no section but its own.
-use Rattle.std.proofs.Common.{◌≡◌, ◌≢◌, ℕ, ◌==◌, ◌∙◌, List, [], ◌∷◌, Bool, false, not, nat_lt, cond, if◌then◌else◌, Some, None, Option, find, refl, sym, ap, arith}
+use Rattle.std.proofs.Common.{◌≡◌, ◌≢◌, ℕ, ◌==◌, ◌∙◌, List, Bool, false, not, nat_lt, cond, if◌then◌else◌, Some, None, Option, find, refl, sym, ap}
 use Rattle.std.proofs.lemmas.Bool.{ne_eqb, cond_both}
 use Rattle.sock_card.specs.declared.owner.State.{State}
 use Rattle.sock_card.specs.declared.owner.State.TheVariants as states
@@ -17,11 +17,7 @@ use Rattle.flat_list.specs.Groups.{Group}
 use Rattle.flat_list.specs.Connect.{connected_socket, end_of, replacing, is_taken_in, connect, connect_as, connect_from, connect_found, connect_search, connect_socket, connected_by_search, suits_connect, child_of, accept, accept_as, request_of, syn, heir_of, without_request, hand_over, ack_by, ack_socket, ack}
 use Rattle.flat_list.specs.Owned.{source_of, is_no_end, is_no_accept, is_no_ack}
 use Rattle.flat_list.specs.Step.{drop, step, at_end, at_port, at_address, bind, bind_any, bind_given, bind_found, bind_search, bind_socket, search_bind, listen, listens_in, listen_as, groups_with, listen_bound, listen_found, listen_socket, waiting, close, close_socket, at}
-use Rattle.flat_list.proofs.LabelsGrow.{numbered}
-
-find_put : (m : ℕ) (s : Section) (xs : List Section) → find (has_number m) (put_section s xs) ≡ (if has_number m s then Some s else find (has_number m) xs)
-find_put m s [] = refl
-find_put m s (x ∷ xs) = grind (arith, find_put m s xs)
+use Rattle.flat_list.proofs.LabelsGrow.{numbered, find_put}
 
 -- the header is as it was, and so is each section but that of number n
 abbrev pub Stays : ℕ → Flat → Flat → Type 0

@@ -13,7 +13,7 @@ use Rattle.sock_card.specs.declared.owner.State.{State}
 use Rattle.sock_card.specs.declared.owner.State.TheVariants as states
 use Rattle.sock_card.specs.Agreement.{Narrows}
 use Rattle.sock_card.specs.Conflict.{owner_key, same_port, holds, is_listening, is_time_wait, refuses, overlap}
-use Rattle.sock_card.proofs.Agreement.{same_either_way, overlaps_who_refuses, agrees_both_ways, agrees_unless_refused, agrees_by_origin, agrees_by_choice, agrees_apart, agrees_where_narrowed}
+use Rattle.sock_card.proofs.Agreement.{same_either_way, overlaps_who_refuses, agrees_both_ways, agrees_unless_refused, agrees_by_origin, agrees_by_choice, agrees_apart, agrees_where_narrowed, refuses_as_listener}
 use Rattle.flat_list.specs.declared.header.First.{First}
 use Rattle.flat_list.specs.declared.header.First.TheVariants as firsts
 use Rattle.flat_list.specs.declared.command.Command.TheVariants as commands
@@ -27,11 +27,11 @@ use Rattle.flat_list.specs.Connect.{replacing, is_taken_in, connected_socket, co
 use Rattle.flat_list.specs.Flat.{Flat, new_flat}
 use Rattle.flat_list.specs.Outcome.{Outcome, unchanged, changed, added, removed, with_new_label, open_socket, has_slot, no_slot, Found, search_port}
 use Rattle.flat_list.specs.Owned.{source_of, is_no_end, is_no_accept, own_end, other_end, is_no_ack}
-use Rattle.sock_card.specs.Became.{as_listener}
 use Rattle.sock_card.specs.TimeWait.{expired}
 use Rattle.flat_list.specs.Run.{Issued, is_of, after}
 use Rattle.flat_list.specs.Sections.{Section, labels_of, name_in, next_name, with_given, moment_of, with_moment}
 use Rattle.sock_card.specs.TimeWait.{gives_way}
+use Rattle.sock_card.proofs.SameKinds.{listening_is}
 use Rattle.flat_list.specs.Sockets.{have_one_tuple, waits_at, without_waiting, claims_tuple, has_twin, open_in, is_open_in, without, is_mate, mate_of, is_expired, put, is_owner, is_other_owner, is_refused, is_overlapped, is_claimed, has_name, open_named}
 use Rattle.flat_list.specs.Sound.{NamesDiffer, IsGivenName, IsGiven, CanTake, HasListener, AgreeAsOwners, TuplesDiffer, holds_tuple, IsItsOwn, IsAwakeIfNamed, is_sharing, IsInOneGroup, AreGroupsOf, IsSound, StartsSound, StaysSound, RunsSound}
 use Rattle.flat_list.specs.Step.{step, socket, drop, close, close_socket, at, reap, waiting, groups_with, listens_in, listen_as, new_socket, at_end, at_port, suits_bind, search_bind, at_address, bind, bind_any, bind_given, bind_found, bind_search, bind_socket, listening, listen, listen_bound, listen_found, listen_socket}
@@ -419,10 +419,6 @@ bind_sound flat n (Some s) end sound at = bind_socket_sound flat n s s.owner.sta
 
 -- `listen`
 
-refuses_alike : (a b : Owner) → refuses (as_listener a) b ≡ refuses a b
-unfolding refuses overlap
-refuses_alike a b = refl
-
 -- the open socket, and what it is as it begins to listen: still its own
 record MayListen (was s : Socket) : Type 0 where
   before : holds_tuple was.owner.state ≡ false
@@ -442,7 +438,7 @@ listening_fits flat was s may sound at free = free_fits flat was (listening s) s
   origin = may.origin;
   by_connect = may.by_connect;
   same_name = refl;
-  alike = refuses_alike s.owner;
+  alike = refuses_as_listener s.owner;
   free = free;
 })
 
@@ -763,14 +759,6 @@ record CanAccept (l : Owner) (at : End) : Type 0 where
   listens : l.state ≡ states.Listening
   port : at.port ≡ l.port
   addr : ((l.addr == 0) || (l.addr == at.addr)) ≡ true
-
-listening_is : (t : State) → is_listening t ≡ true → t ≡ states.Listening
-listening_is states.Listening h = refl
-listening_is states.Unbound h = absurd (true≢false (sym h))
-listening_is states.Bound h = absurd (true≢false (sym h))
-listening_is states.Full h = absurd (true≢false (sym h))
-listening_is states.TimeWait h = absurd (true≢false (sym h))
-listening_is states.Request h = absurd (true≢false (sym h))
 
 -- a listens, p has the port, z names no address, m has the address, e no end
 none_refused : (a p z m e : Bool) → (not a || not p || z || not m || e) ≡ false → (a ≡ true) × (p ≡ true) × (m ≡ true)

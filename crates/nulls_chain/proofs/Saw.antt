@@ -42,7 +42,8 @@ then least [] (y ∷ ys) zs a b = absurd a
 then least (x ∷ xs) [] zs a b = absurd a
 then least (x ∷ xs) (y ∷ ys) [] a b = absurd b
 
-settled-append : (xs ys : List Sight) (r : ℕ) → settled (xs ++ ys) r ≡ settled xs r ++ settled ys r
+-- sightings that are settled, one list after the other
+pub settled-append : (xs ys : List Sight) (r : ℕ) → settled (xs ++ ys) r ≡ settled xs r ++ settled ys r
 settled-append [] ys r = refl
 settled-append (x ∷ xs) ys r = ap (λ (l : List Sight). settled_one r x ∷ l) (settled-append xs ys r)
 

@@ -1,5 +1,5 @@
 -- What is known of a walked list once a hash came.
-use Rattle.std.proofs.Common.{◌≡◌, ◌≢◌, ℕ, suc, ◌<◌, ◌≤◌, List, [], ◌∷◌, ◌++◌, ◌⊎◌, inl, inr, ⊎_elim, cond, Bool, eq-eqb, ne_eqb, sym, refl, ap, ◌∙◌, arith, subst, length}
+use Rattle.std.proofs.Common.{◌≡◌, ◌≢◌, ℕ, ◌<◌, ◌≤◌, List, [], ◌∷◌, ◌++◌, ◌⊎◌, inl, inr, ⊎_elim, cond, Bool, eq-eqb, ne_eqb, sym, refl, ap, ◌∙◌, arith, subst, length}
 use mathlib.Core.Logic.{dite}
 use native.Mathlib.Decide.{ℕ_discrete, dec_le}
 use mathlib.Core.Option.{some, some-ne-none}
@@ -17,7 +17,7 @@ use Rattle.table_rule.specs.declared.view.Layout.{Layout}
 use Rattle.table_rule.specs.declared.view.Seen.{Seen}
 use Rattle.table_rule.specs.declared.view.Change.{Change}
 use Rattle.table_rule.proofs.Lists.{times-here, times-else}
-use Rattle.table_rule.proofs.Bounds.{short}
+use Rattle.table_rule.proofs.Bounds.{short, length-slots}
 use Rattle.table_rule.proofs.CardSteps.{at_end}
 use Rattle.atomic_table.proofs.Lists.{at_longer}
 use Rattle.sock_card.specs.declared.words.CardWords.{CardWords}
@@ -88,13 +88,9 @@ outside : (n i : ℕ) (xs : List Seen) → n ≤ i → Each (λ (s : Seen). s.sl
 outside n i [] h k = refl
 outside n i (x ∷ xs) h k = times-else x.slot i (slots_of xs) (λ e. omega (arith, e, h, k.0)) ∙ outside n i xs h k.1
 
-length_slots : (xs : List Seen) → length (slots_of xs) ≡ length xs
-length_slots [] = refl
-length_slots (x ∷ xs) = ap suc (length_slots xs)
-
 -- the list is no longer than the slots
 pub few_walked : (layout : Layout) (v : View) → WalkKnown layout v → length v.chain.walked ≤ layout.shape.slots
-few_walked layout v k = omega (arith, length_slots v.chain.walked, short layout.shape.slots (slots_of v.chain.walked) k.2 (λ i h. outside layout.shape.slots i v.chain.walked h k.1))
+few_walked layout v k = omega (arith, length-slots v.chain.walked, short layout.shape.slots (slots_of v.chain.walked) k.2 (λ i h. outside layout.shape.slots i v.chain.walked h k.1))
 
 -- a slot of the list is one of the table
 pub inside_of : (n i : ℕ) (xs : List Seen) → Each (λ (s : Seen). s.slot < n) xs → 0 < stands i xs → i < n

@@ -20,6 +20,7 @@ use Rattle.table_model.proofs.others.All.{others_stay}
 use Rattle.race_book.specs.Among.{Among}
 use Rattle.race_record.specs.Lawful.{Lawful, IsStepOf, AreStepsOf, AreSectionsOf, EachFrom}
 use Rattle.race_record.specs.Record.{Race, Step, deeds_of}
+use Rattle.race_record.proofs.Says.{same_count}
 use Rattle.race_alone.specs.Plays.{Plays, StepRefines}
 use Rattle.race_alone.specs.Order.{AsksNone, Turn, is_turn_of, step_in, reply_in, issued_in, steps_in, AreTurnsOf, replies_of}
 use Rattle.race_alone.proofs.Played.{played_runs, PlaysTwo, plays_two}
@@ -128,12 +129,6 @@ module _ (In : Change → Type 0) (header : Header) (turns : List Turn) where
   begun_by k [] (steps ∷ sections) a e small none n low high = absurd a
   begun_by k (cs ∷ scripts) [] a e small none n low high = absurd a
 
-  same_count : (k : ℕ) (scripts : List (List Command)) (sections : List (List Step)) → AreSectionsOf header In k scripts sections → length sections ≡ length scripts
-  same_count k [] [] a = refl
-  same_count k (cs ∷ scripts) (steps ∷ sections) a = omega (arith, same_count (k + 1) scripts sections a.1)
-  same_count k [] (steps ∷ sections) a = absurd a
-  same_count k (cs ∷ scripts) [] a = absurd a
-
 pub turns_are_flat : (script : Script) (capture : Capture) (race : Race) (turns : List Turn) (new : Tables) → IsSmall script → IsShape script.header
     → Each AsksNone script.sections → Lawful script capture race → AreTurnsOf race.sections turns
     → Plays (new_tables script.header.shape script.header.seed) (deeds_of (map step_in turns)) new
@@ -151,5 +146,5 @@ turns_are_flat script capture race turns new small shape none lawful are plays =
       means = starts_meant n (new_tables script.header.shape script.header.seed) (new_flat script.header) low shape (starts_sound script.header) (new_mean_empty script.header) refl;
       are = b.are;
     } in
-    all_taken In (length race.sections) (omega (arith, same_count In script.header turns 1 script.sections race.sections lawful.sections, small.sections)) turns
+    all_taken In (length race.sections) (omega (arith, same_count script.header In 1 script.sections race.sections lawful.sections, small.sections)) turns
     (new_tables script.header.shape script.header.seed) new (new_flat script.header) are.there start plays

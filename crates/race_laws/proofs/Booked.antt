@@ -3,12 +3,12 @@ use Rattle.std.proofs.Common.{◌≡◌, ℕ, ◌+◌, ◌≤◌, Bool, true, fa
 use Rattle.std.proofs.lemmas.Slice.Eq.{bytes_eq-Decides}
 use Rattle.list_words.specs.Lists.{SameItems, total}
 use Rattle.sock_card.specs.Words.{number_of}
+use Rattle.sock_card.proofs.SameKinds.{kind_by}
 use Rattle.chain_book.specs.declared.book.Act.{Act}
 use Rattle.chain_book.specs.declared.book.Act.TheVariants as acts
 use Rattle.chain_book.specs.declared.book.Change.{Change}
 use Rattle.race_book.specs.Among.{Among}
 use Rattle.race_book.specs.Lives.{is_hash}
-use Rattle.race_laws.proofs.Counted.{kind_by}
 
 abbrev act_number : Act → ℕ
 act_number a = cond (is_hash a) 1 0

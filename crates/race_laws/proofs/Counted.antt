@@ -1,26 +1,16 @@
 -- How often a card, and changes, hash a name as a kind.
-use Rattle.std.proofs.Common.{◌≡◌, ℕ, ◌+◌, ◌==◌, ◌&&◌, Bool, true, false, cond, List, ◌++◌, Option, None, Some, refl, sym, ap, ◌∙◌}
+use Rattle.std.proofs.Common.{◌≡◌, ℕ, ◌+◌, ◌==◌, ◌&&◌, Bool, true, false, cond, List, ◌++◌, Option, None, Some, refl, ap, ◌∙◌}
 use Rattle.std.proofs.lemmas.Bool.{eqb-true, eq-eqb, and_from}
 use Rattle.list_words.specs.Lists.{total}
 use Rattle.list_words.proofs.TotalLemmas.{total-append}
 use Rattle.sock_card.specs.declared.card.Card.{Card}
 use Rattle.sock_card.specs.declared.card.Kind.{Kind}
-use Rattle.sock_card.specs.declared.card.Kind.TheVariants as kinds
-use Rattle.sock_card.specs.Words.{number_of, kind_at}
+use Rattle.sock_card.specs.Words.{number_of}
+use Rattle.sock_card.proofs.SameKinds.{kind_by}
 use Rattle.chain_book.specs.declared.book.Act.TheVariants as acts
 use Rattle.chain_book.specs.declared.book.Change.{Change}
 use Rattle.race_book.specs.Lives.{is_hash}
 use Rattle.race_book.proofs.Checks.{and_left, and_right}
-
-kind_back : (k : Kind) → kind_at (number_of k) ≡ k
-kind_back kinds.Full = refl
-kind_back kinds.TimeWait = refl
-kind_back kinds.Listen = refl
-kind_back kinds.Request = refl
-
--- kinds with one number are one
-pub kind_by : (k l : Kind) → number_of k ≡ number_of l → k ≡ l
-kind_by k l e = sym (kind_back k) ∙ ap kind_at e ∙ kind_back l
 
 abbrev pub is_as : ℕ → Kind → Card → Bool
 is_as name kind c = (c.name == name) && (number_of c.kind == number_of kind)

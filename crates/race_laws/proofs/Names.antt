@@ -9,6 +9,7 @@ use Rattle.sock_card.specs.declared.card.Card.{Card}
 use Rattle.sock_card.specs.declared.card.Kind.{Kind}
 use Rattle.sock_card.specs.declared.card.Kind.TheVariants as kinds
 use Rattle.sock_card.specs.Words.{number_of}
+use Rattle.sock_card.proofs.SameKinds.{kind_by}
 use Rattle.socket_list.specs.Laws.{HavePlaces}
 use Rattle.socket_list.specs.Listing.{Listing}
 use Rattle.socket_list.specs.Order.{order_of, ascending}
@@ -25,7 +26,7 @@ use Rattle.race_record.specs.Record.{Race, Step, all_deeds, steps_of, listings_o
 use Rattle.race_record.specs.Deeds.{changes_in}
 use Rattle.race_record.specs.Lawful.{Lawful, HaveOnePlace, IsListed, ListsAs, Lists}
 use Rattle.race_laws.specs.Names.{IsOfOneLife, ListsOnce}
-use Rattle.race_laws.proofs.Counted.{kind_by, hash_weight, hashes, weight_hash, one_as}
+use Rattle.race_laws.proofs.Counted.{hash_weight, hashes, weight_hash, one_as}
 use Rattle.race_laws.proofs.Steps.{AllOnce, sections_once}
 
 -- Of items that weigh one together at most, two that weigh one are one.

@@ -1,5 +1,5 @@
 -- What a lawful record says.
-use Rattle.std.proofs.Common.{◌≡◌, ℕ, zero, suc, ◌+◌, List, [], ◌∷◌, map, take, refl, sym, subst}
+use Rattle.std.proofs.Common.{◌≡◌, ℕ, zero, suc, ◌+◌, List, [], ◌∷◌, map, take, refl, sym, subst, length, arith}
 use Rattle.list_words.specs.Lists.{Each}
 use Rattle.turn_table.specs.declared.note.Note.{Note}
 use Rattle.bind_buckets.specs.declared.request.Entry.{Entry}
@@ -11,6 +11,8 @@ use Rattle.capture_reader.specs.Captures.{Capture}
 use Rattle.chain_book.specs.declared.book.Change.{Change}
 use Rattle.chain_book.specs.declared.book.Receipt.{Receipt}
 use Rattle.chain_book.specs.declared.shape.Shape.{Shape}
+use Rattle.flat_list.specs.declared.command.Command.{Command}
+use Rattle.flat_list.specs.declared.header.Header.{Header}
 use Rattle.flat_list.specs.Script.{Script}
 use Rattle.race_book.specs.Among.{Among}
 use Rattle.race_book.specs.Explained.{MayAnswer, anywhere, at_home, IsAtHome}
@@ -21,8 +23,8 @@ use Rattle.race_book.proofs.Twins.{serial_has_none}
 use Rattle.race_record.proofs.Homes.{ports_of}
 use Rattle.race_record.specs.declared.record.Looked.{Looked}
 use Rattle.race_record.specs.declared.record.Looked.TheVariants as looks
-use Rattle.race_record.specs.Record.{Race, steps_of}
-use Rattle.race_record.specs.Lawful.{Lawful, Answers, AreAnswered, EachFrom, IsLegalJournal, entry_in}
+use Rattle.race_record.specs.Record.{Race, steps_of, Step}
+use Rattle.race_record.specs.Lawful.{Lawful, Answers, AreAnswered, EachFrom, IsLegalJournal, entry_in, AreSectionsOf}
 use Rattle.race_record.specs.Headline.{Headline, AlwaysAgree, HasCause, NumbersTell}
 use Rattle.race_record.proofs.Drawn.{numbers_tell}
 use Rattle.race_record.proofs.Dumps.{dumps_say}
@@ -36,6 +38,13 @@ agree_from number h (e ∷ rest) a l (suc k) = agree_from number (owner_step num
 agree_all : (number : ℕ) (journals : List (List (Note Entry))) → EachFrom IsLegalJournal number journals → EachFrom AlwaysAgree number journals
 agree_all number [] l = tt
 agree_all number (j ∷ rest) l = (λ k. agree_from number empty (map entry_in j) tt l.0 k, agree_all (number + 1) rest l.1)
+
+-- there are as many sections of steps as of commands
+pub same_count : (header : Header) (In : Change → Type 0) (n : ℕ) (scripts : List (List Command)) (sections : List (List Step)) → AreSectionsOf header In n scripts sections → length sections ≡ length scripts
+same_count header In n [] [] a = refl
+same_count header In n (cs ∷ scripts) (steps ∷ sections) a = omega (arith, same_count header In (n + 1) scripts sections a.1)
+same_count header In n [] (steps ∷ sections) a = absurd a
+same_count header In n (cs ∷ scripts) [] a = absurd a
 
 module _ (book : List Change) (shape : Shape) (seed clock : ℕ) (serial : IsSerial (Among book) shape seed) where
   cause_of : (r : Receipt) → r.seed ≡ seed → MayAnswer (Among book) (at_home shape r.seed) shape.slots r.packet r.t0 r.t1 r.answer → MayAnswer (Among book) anywhere shape.slots r.packet r.t0 r.t1 r.answer

@@ -1,16 +1,12 @@
 -- The index of names, with one name more.
-use Rattle.std.proofs.Common.{◌≡◌, ℕ, ◌+◌, ◌≤◌, List, [], ◌∷◌, ◌++◌, length, length-append, Option, Some, None, Bool, true, false, cond, refl, sym, ap, ◌∙◌, arith, ltb, eqb}
-use Rattle.std.specs.Prelude.{position}
-use Rattle.std.specs.List.{position_or_len}
+use Rattle.std.proofs.Common.{◌≡◌, ℕ, ◌+◌, List, [], ◌∷◌, ◌++◌, length, Option, Some, None, Bool, true, false, cond, refl, sym, ap, ◌∙◌}
 use Rattle.std.specs.Ordering.{is_eq, match_ordering}
 use Rattle.std.specs.Cmp.{Equal-is}
 use Rattle.std.specs.declared.cmp.Ordering.{Ordering}
 use Rattle.std.specs.declared.cmp.Ordering.TheVariants as orderings
 use Rattle.std.specs.BTreeMap.{BTreeMap, insert_entry, get_by}
 use Rattle.std.specs.Map.{lookup}
-use Rattle.std.proofs.lemmas.Bool.Decides.{nat_tests}
-use Rattle.std.proofs.lemmas.List.Folds.{position_or_len_push}
-use Rattle.std.proofs.lemmas.List.Sums.{prefix_len-le-length}
+use Rattle.list_words.proofs.Positions.{pushed_new, pushed_other, pushed_again}
 use Rattle.record_reader.specs.declared.line.Name.{Name}
 use Rattle.record_reader.specs.Names.{place_in, same_name}
 use Rattle.record_reader.specs.Numbers.{NotesPlace, name_cmp}
@@ -56,29 +52,6 @@ module _ (name : Name) (v : Name) (k : ℕ) where
   one_more : (es : List Entry) → lookup (has_name name) (insert_entry name_cmp es v k) ≡ later_as (lookup (has_name name) es)
   one_more [] = refl
   one_more ((x, i) ∷ es) = placed x i es (insert_entry name_cmp es v k) (name_cmp v x) refl (one_more es)
-
-new_by : (a n c m : ℕ) (b : Bool) → a ≤ n → cond (ltb a n) (Some a) None ≡ None → b ≡ true → c ≡ cond (eqb a n) (n + cond b 0 1) a → m ≡ n + 1 → cond (ltb c m) (Some c) None ≡ Some n
-new_by a n c m b le h e is len = grind (arith, nat_tests)
-
-other_by : (a n c m : ℕ) (b : Bool) → a ≤ n → b ≡ false → c ≡ cond (eqb a n) (n + cond b 0 1) a → m ≡ n + 1 → cond (ltb c m) (Some c) None ≡ cond (ltb a n) (Some a) None
-other_by a n c m b le e is len = grind (arith, nat_tests)
-
-kept_by : (a n c m i : ℕ) (b : Bool) → a ≤ n → cond (ltb a n) (Some a) None ≡ Some i → c ≡ cond (eqb a n) (n + cond b 0 1) a → m ≡ n + 1 → cond (ltb c m) (Some c) None ≡ cond (ltb a n) (Some a) None
-kept_by a n c m i b le h is len = grind (arith, nat_tests)
-
--- the first place in a list with one item more
-module _ {A : Type 0} (p : A → Bool) (xs : List A) (y : A) where
-  in_bounds : position_or_len p xs ≤ length xs
-  in_bounds = prefix_len-le-length _ xs
-
-  pushed_new : position p xs ≡ None → p y ≡ true → position p (xs ++ y ∷ []) ≡ Some (length xs)
-  pushed_new h e = new_by (position_or_len p xs) (length xs) (position_or_len p (xs ++ y ∷ [])) (length (xs ++ y ∷ [])) (p y) in_bounds h e (position_or_len_push p xs y) (length-append xs (y ∷ []))
-
-  pushed_other : p y ≡ false → position p (xs ++ y ∷ []) ≡ position p xs
-  pushed_other e = other_by (position_or_len p xs) (length xs) (position_or_len p (xs ++ y ∷ [])) (length (xs ++ y ∷ [])) (p y) in_bounds e (position_or_len_push p xs y) (length-append xs (y ∷ []))
-
-  pushed_again : (i : ℕ) → position p xs ≡ Some i → position p (xs ++ y ∷ []) ≡ position p xs
-  pushed_again i h = kept_by (position_or_len p xs) (length xs) (position_or_len p (xs ++ y ∷ [])) (length (xs ++ y ∷ [])) i (p y) in_bounds h (position_or_len_push p xs y) (length-append xs (y ∷ []))
 
 noted_at : (names : List Name) (v name : Name) (b : Bool) → same_name name v ≡ b → place_in names v ≡ None
     → cond b (Some (length names)) (place_in names name) ≡ place_in (names ++ v ∷ []) name

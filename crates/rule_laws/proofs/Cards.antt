@@ -1,7 +1,6 @@
 -- Cards of a sound list: the member of a group that a hash chooses has a card,
 -- which matches as each of its mates does.
-use Rattle.std.proofs.Common.{◌≡◌, ℕ, ◌^◌, ◌<◌, ◌≤◌, Bool, true, false, ◌&&◌, ◌==◌, cond, List, [], ◌∷◌, length, find, Option, Some, refl, sym, ap, ◌∙◌, inl, inr, arith}
-use Rattle.std.specs.Prelude.{count_by}
+use Rattle.std.proofs.Common.{◌≡◌, ℕ, ◌^◌, ◌<◌, Bool, true, false, ◌&&◌, ◌==◌, cond, List, [], ◌∷◌, length, find, Option, Some, refl, sym, ap, ◌∙◌, inl, inr}
 use Rattle.std.specs.List.{list_any}
 use Rattle.std.specs.Option.{option_map}
 use Rattle.std.proofs.lemmas.Bool.{and_parts, and_from, eqb-true, eq-eqb}
@@ -22,10 +21,10 @@ use Rattle.flat_list.specs.Groups.{Group, has_member}
 use Rattle.flat_list.specs.Look.{card_of, cards_of, extra_as, chosen}
 use Rattle.flat_list.specs.Owned.{card_as}
 use Rattle.flat_list.specs.Sockets.{kind_of, has_name}
-use Rattle.flat_list.specs.Sound.{IsSound, IsInOneGroup, IsGroupOf, GroupsAreOfMates, is_sharing, are_together}
+use Rattle.flat_list.specs.Sound.{IsSound, IsGroupOf, GroupsAreOfMates, is_sharing, are_together}
 use Rattle.chain_book.proofs.HashFits.{scale_below}
-use Rattle.flat_list.proofs.CardsOf.{Says, of_socket, listening_kind, AtOneEnd, by_mates}
-use Rattle.list_words.proofs.Items.{In, each_in, pairs_in, any_item, any_in, found_in, place_in, count_in, comes_in}
+use Rattle.flat_list.proofs.CardsOf.{Says, of_socket, listening_kind, AtOneEnd, by_mates, grouped_shares}
+use Rattle.list_words.proofs.Items.{In, each_in, pairs_in, any_item, any_in, found_in, place_in, comes_in}
 
 a_kind : (st : State) → is_listening st ≡ true → kind_of st ≡ Some kinds.Listen
 a_kind states.Listening h = refl
@@ -34,10 +33,6 @@ a_kind states.TimeWait h = absurd (cc)
 a_kind states.Request h = absurd (cc)
 a_kind states.Bound h = absurd (cc)
 a_kind states.Unbound h = absurd (cc)
-
-sharing_at : (b : Bool) (n : ℕ) → n ≡ cond {A = ℕ} b 1 0 → 1 ≤ n → b ≡ true
-sharing_at true n h l = refl
-sharing_at false n h l = absurd (omega (arith, h, l))
 
 -- a listener's rank hangs on its end and device alone
 rank_of : (a : Card) (packet : Packet) → a.kind ≡ kinds.Listen → rank a packet ≡ listen_rank a packet
@@ -82,12 +77,6 @@ module _ (flat : Flat) (sound : IsSound flat) where
   abbrev cards : List Card
   cards = cards_of flat.groups flat.sockets
 
-  -- who is in a group shares its end, and listens
-  shares : (s : Socket) (g : Group) → In s flat.sockets → In g flat.groups → has_member s.owner.name g ≡ true → is_sharing s ≡ true
-  shares s g i j h =
-      sharing_at (is_sharing s) (count_by (has_member s.owner.name) flat.groups) (each_in (IsInOneGroup flat.groups) s flat.sockets sound.grouped.sharing i)
-      (count_in (has_member s.owner.name) g flat.groups j h)
-
   listens : (s : Socket) → is_sharing s ≡ true → is_listening s.owner.state ≡ true
   listens s h = (and_parts (is_listening s.owner.state) s.owner.reuseport h).0
 
@@ -98,8 +87,8 @@ module _ (flat : Flat) (sound : IsSound flat) where
       let t = of_socket flat.groups flat.sockets d j in
       let first : has_member s.socket.owner.name g ≡ true = ap (λ (n : ℕ). has_member n g) s.says.name ∙ h in
       let second : has_member t.socket.owner.name g ≡ true = ap (λ (n : ℕ). has_member n g) t.says.name ∙ l in
-      let shared_s : is_sharing s.socket ≡ true = shares s.socket g s.within k first in
-      let shared_t : is_sharing t.socket ≡ true = shares t.socket g t.within k second in
+      let shared_s : is_sharing s.socket ≡ true = grouped_shares flat sound s.socket g s.within k first in
+      let shared_t : is_sharing t.socket ≡ true = grouped_shares flat sound t.socket g t.within k second in
       let both : are_together flat.groups s.socket.owner.name t.socket.owner.name ≡ true =
       any_in (λ g. has_member s.socket.owner.name g && has_member t.socket.owner.name g) g flat.groups k (and_from _ _ first second) in
       let other : are_together flat.groups t.socket.owner.name s.socket.owner.name ≡ true =
@@ -131,7 +120,7 @@ module _ (flat : Flat) (sound : IsSound flat) where
   card_named g name j i =
       let s = named_in g name j i in
       let member : has_member s.socket.owner.name g ≡ true = ap (λ (n : ℕ). has_member n g) s.name_is ∙ member_has g name i in
-      let kind : kind_of s.socket.owner.state ≡ Some kinds.Listen = a_kind s.socket.owner.state (listens s.socket (shares s.socket g s.within j member)) in
+      let kind : kind_of s.socket.owner.state ≡ Some kinds.Listen = a_kind s.socket.owner.state (listens s.socket (grouped_shares flat sound s.socket g s.within j member)) in
       let made : Card = card_as kinds.Listen s.socket.owner (extra_as kinds.Listen flat.groups s.socket) in
       let is : card_of flat.groups s.socket ≡ Some made =
       ap (λ (o : Option Kind). option_map (λ (k : Kind). card_as k s.socket.owner (extra_as k flat.groups s.socket)) o) kind in

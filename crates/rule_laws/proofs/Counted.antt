@@ -12,6 +12,7 @@ use Rattle.flat_list.specs.Run.{Issued}
 use Rattle.flat_list.specs.Step.{step}
 use Rattle.socket_list.specs.Listing.{Listing}
 use Rattle.sock_script.specs.Output.{Event, asked, stored, events_at, events_from, items_after, replies_from, listings_at, listings_from, is_dump, issued}
+use Rattle.sock_script.proofs.Events.{items_listed}
 use Rattle.rule_laws.specs.Events.{asked_in, stored_in, is_packets, is_answered, asks_list, AreAll, EventsAreAll, RepliesAreAll, ListingsAreAll}
 
 as_many : (flat : Flat) (events : List Event) → length (replies_from flat events) ≡ length events
@@ -80,10 +81,6 @@ none_listed : (flat : Flat) (items : List Item) → length (listings_from flat (
 none_listed flat [] = refl
 none_listed flat (x ∷ xs) = none_listed flat xs
 
-listed_behind : (flat : Flat) (items : List Item) (events : List Event) → listings_from flat (map stored items ++ events) ≡ listings_from flat events
-listed_behind flat [] events = refl
-listed_behind flat (x ∷ xs) events = listed_behind flat xs events
-
 -- how many listings a command has
 abbrev lists : Command → ℕ
 lists command = cond (is_dump command) 1 0
@@ -104,7 +101,7 @@ module _ (flat : Flat) (c : Issued) (rest : List Issued) (left : List Item) (nex
 
   lists_first : (command : Command) → c.command ≡ command → Listed command
   lists_first (commands.Packets count) e =
-      ap (λ (xs : List Listing). length xs) (listed_behind flat (take count left) (events_from (drop count left) rest))
+      ap (λ (xs : List Listing). length xs) (items_listed flat (take count left) (events_from (drop count left) rest))
       ∙ next flat (drop count left) ∙ omega arith
   lists_first _ e = asked_lists _ e refl refl
 

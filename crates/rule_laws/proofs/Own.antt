@@ -1,29 +1,20 @@
 -- What each command makes of its own section.
-use Rattle.std.proofs.Common.{◌≡◌, ℕ, ◌∙◌, List, [], ◌∷◌, ◌++◌, Bool, true, false, nat_lt, cond, if◌then◌else◌, Some, None, Option, find, unwrap_or, refl, sym, ap, arith, ◌⊎◌, inl, inr}
-use Rattle.std.proofs.lemmas.Bool.{eq-eqb, cond_both, both_ways}
+use Rattle.std.proofs.Common.{◌≡◌, ℕ, ◌∙◌, List, [], ◌∷◌, ◌++◌, true, false, nat_lt, Some, None, Option, refl, sym, ap, ◌⊎◌, inl, inr}
+use Rattle.std.proofs.lemmas.Bool.{cond_both, both_ways}
 use Rattle.flat_list.specs.declared.header.Header.{Header}
 use Rattle.flat_list.specs.declared.command.Command.{Command}
 use Rattle.flat_list.specs.declared.command.Command.TheVariants as commands
 use Rattle.flat_list.specs.declared.command.Reply.TheVariants as replies
 use Rattle.flat_list.specs.Flat.{Flat}
 use Rattle.flat_list.specs.Outcome.{Outcome, unchanged, with_new_label, open_socket, draw}
-use Rattle.flat_list.specs.Sections.{Section, section_of, new_section, put_section, has_number, with_label, past_word, at_moment, with_moment, moment_of, next_name}
+use Rattle.flat_list.specs.Sections.{Section, section_of, with_label, past_word, at_moment, with_moment, moment_of, next_name}
 use Rattle.flat_list.specs.Sound.{is_refusal}
 use Rattle.flat_list.specs.Step.{step}
 use Rattle.flat_list.proofs.LabelsGrow.{numbered}
 use Rattle.flat_list.proofs.SectionsStay.{step_stays}
+use Rattle.flat_list.proofs.PutSection.{section_put}
 use Rattle.rule_laws.specs.Leaves.{label_by, moment_by, GoesOn, own, CommandsLeave, RefusalsLeave, MomentsAreSet}
 use Rattle.rule_laws.proofs.Walk.{bind_keeps, listen_keeps, connect_keeps, accept_keeps, syn_keeps, ack_keeps, drop_keeps, close_keeps}
-
-found_put : (n : ℕ) (s : Section) (xs : List Section) → find (has_number n) (put_section s xs) ≡ (if has_number n s then Some s else find (has_number n) xs)
-found_put n s [] = refl
-found_put n s (x ∷ xs) = grind (arith, found_put n s xs)
-
--- the section that is put is that of its number
-own_put : (header : Header) (n : ℕ) (s : Section) (xs : List Section) → s.number ≡ n → section_of header n (put_section s xs) ≡ s
-own_put header n s xs e =
-    ap (λ (o : Option Section). unwrap_or o (new_section header n))
-    (found_put n s xs ∙ ap (λ (b : Bool). cond b (Some s) (find (has_number n) xs)) (eq-eqb s.number n e))
 
 none_more : (xs : List (List ℕ)) → xs ≡ xs ++ []
 none_more [] = refl
@@ -43,7 +34,7 @@ module _ (flat : Flat) (n : ℕ) where
 
   draw_went : (offset : Option ℕ) → Went (draw flat n offset).flat.sections
   draw_went (Some offset) = inl refl
-  draw_went None = inr (own_put flat.header n (past_word (own n flat)) flat.sections is_numbered)
+  draw_went None = inr (section_put flat.header n (past_word (own n flat)) flat.sections is_numbered)
 
   searched : Went (draw flat n flat.header.offset).flat.sections
   searched = draw_went flat.header.offset
@@ -57,10 +48,10 @@ module _ (flat : Flat) (n : ℕ) where
   stays sections (inr e) = ap (λ (s : Section). s.moment) e
 
   given : (label : List ℕ) → among (with_new_label flat n label).sections ≡ with_label label (own n flat)
-  given label = own_put flat.header n (with_label label (own n flat)) flat.sections is_numbered
+  given label = section_put flat.header n (with_label label (own n flat)) flat.sections is_numbered
 
   set : (moment : ℕ) → among (with_moment flat.header n moment flat.sections) ≡ at_moment moment (own n flat)
-  set moment = own_put flat.header n (at_moment moment (own n flat)) flat.sections is_numbered
+  set moment = section_put flat.header n (at_moment moment (own n flat)) flat.sections is_numbered
 
   -- the section has given that label
   abbrev Gives : List ℕ → List Section → Type 0

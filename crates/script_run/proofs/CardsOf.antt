@@ -39,10 +39,6 @@ counted_at : (b : Bool) (n : ℕ) → n ≡ cond {A = ℕ} b 1 0 → n ≤ 1
 counted_at true n h = omega (arith, h)
 counted_at false n h = omega (arith, h)
 
-sharing_at : (b : Bool) (n : ℕ) → n ≡ cond {A = ℕ} b 1 0 → 1 ≤ n → b ≡ true
-sharing_at true n h l = refl
-sharing_at false n h l = absurd (omega (arith, h, l))
-
 pub count_in : {A : Type 0} (p : A → Bool) (x : A) (xs : List A) → In x xs → p x ≡ true → 1 ≤ count_by p xs
 count_in p x [] i h = absurd i
 count_in p x (y ∷ ys) (inl e) h = omega (arith, count_cons p y ys, ap (λ (b : Bool). cond {A = ℕ} b 1 0) (ap p e ∙ h))
@@ -117,11 +113,6 @@ module _ (flat : Flat) (sound : IsSound flat) where
       let f = finds (has_member s.owner.name) g flat.groups j h in
       let one = one_only (has_member s.owner.name) flat.groups f.item (counted_at (is_sharing s) (counted s.owner.name) (one_group s i)) f.is in
       f.is ∙ ap Some (sym (each_in (λ (y : Group). has_member s.owner.name y ≡ true → y ≡ f.item) g flat.groups one j h))
-
-  -- who is in a group is a listener that shares its end
-  pub grouped_shares : (s : Socket) (g : Group) → In s flat.sockets → In g flat.groups → has_member s.owner.name g ≡ true → is_sharing s ≡ true
-  grouped_shares s g i j h =
-      sharing_at (is_sharing s) (counted s.owner.name) (one_group s i) (count_in (has_member s.owner.name) g flat.groups j h)
 
   no_share : (s : Socket) → In s flat.sockets → is_listening s.owner.state ≡ false → NoGroup flat.groups s.owner.name
   no_share s i h =

@@ -6,10 +6,8 @@ use Rattle.std.proofs.lemmas.Bool.{cases_lt}
 use Rattle.std.proofs.lemmas.List.FromFn.{length-map-range_with_len}
 use Rattle.sock_card.specs.declared.card.Card.{Card}
 use Rattle.sock_card.specs.declared.card.Packet.{Packet}
-use Rattle.sock_card.specs.declared.words.CardWords.{CardWords}
 use Rattle.sock_card.specs.Rank.{rank}
 use Rattle.sock_card.specs.Words.{packed, unpacked}
-use Rattle.sock_card.proofs.Most.{two_words}
 use Rattle.chain_book.specs.declared.outcome.Hashed.{Hashed}
 use Rattle.chain_book.specs.declared.shape.Shape.{Shape}
 use Rattle.chain_book.specs.Chains.{Chains, row_at, home_in}
@@ -26,6 +24,7 @@ use Rattle.table_rule.specs.declared.view.View.{View}
 use Rattle.table_rule.proofs.Replays.{Stays, standing_from, standing_to}
 use Rattle.table_rule.proofs.Replays.{In as Made}
 use Rattle.table_rule.proofs.Serial.{three}
+use Rattle.table_rule.proofs.Summing.{words_rank}
 use Rattle.shared_sockets.specs.Alone.{chains_of}
 use Rattle.shared_sockets.specs.Rows.{hashed_in, row_of}
 use Rattle.shared_sockets.proofs.Rows.{row_at_is}
@@ -35,17 +34,6 @@ use Rattle.table_model.specs.Means.{ChainsMean, IsShape}
 use Rattle.table_model.proofs.parts.Chains.{home_below}
 use Rattle.list_words.proofs.Items.{In}
 use Rattle.script_run.proofs.CardsStand.{stands_of, of_stands}
-
--- a card's first two words determine its rank
-pub words_rank : (packet : Packet) (words : List ℕ) → rank_of packet words ≡ rank (card_from words) packet
-words_rank packet words =
-    let w : CardWords = record {
-      ends = get_or words 0 0;
-      ports = get_or words 1 0;
-      name = get_or words 2 0;
-      extra = get_or words 3 0;
-    } in
-    two_words w packet
 
 pub told_rank : (packet : Packet) (card : Card) → unpacked (packed card) ≡ card → rank_of packet (words_of (packed card)) ≡ rank card packet
 told_rank packet card told = words_rank packet (words_of (packed card)) ∙ ap (λ (c : Card). rank c packet) told

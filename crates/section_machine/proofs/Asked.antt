@@ -1,8 +1,8 @@
 -- What plans ask, whatever they are answered: about which names, which cards leave their chains, and what is left.
-use Rattle.std.proofs.Common.{◌≡◌, ◌==◌, ◌||◌, ◌∙◌, not, ℕ, Bool, true, false, cond, List, [], ◌∷◌, Option, None, Some, refl, sym, subst}
+use Rattle.std.proofs.Common.{◌≡◌, ◌==◌, ◌||◌, ◌∙◌, ℕ, Bool, true, false, cond, List, [], ◌∷◌, Option, None, Some, refl, sym, subst}
 use Rattle.std.specs.Option.{option_map_or}
 use Rattle.list_words.specs.Lists.{Each}
-use Rattle.sock_card.specs.Conflict.{bind_key, is_time_wait, is_listening}
+use Rattle.sock_card.specs.Conflict.{bind_key, is_time_wait}
 use Rattle.sock_card.specs.declared.card.Card.{Card}
 use Rattle.sock_card.specs.declared.owner.Owner.{Owner}
 use Rattle.sock_card.specs.declared.owner.State.{State}
@@ -31,6 +31,7 @@ use Rattle.bind_buckets.specs.Turned.{View}
 use Rattle.chain_deeds.specs.Sides.{Side}
 use Rattle.shared_ops.specs.Goes.{Went}
 use Rattle.shared_ops.specs.Leads.{Leads}
+use Rattle.shared_ops.proofs.AcceptGoes.{accepts}
 
 -- what a plan may ask of bind buckets, what it may take out of chains, and what it may come to
 abbrev pub AllAsk : {R : Type 0} → (Request → Type 0) → (Card → Type 0) → (R → Type 0) → Asking R → Type 0
@@ -319,20 +320,9 @@ module _ (shape : Shape) (seed : ℕ) where
   of_accept_hashed l a e (taken n) = tt
   of_accept_hashed l a e (full owned held) = tt
 
-  listens : (s : State) → not (is_listening s) ≡ false → s ≡ states.Listening
-  listens states.Listening e = refl
-  listens states.Unbound e = absurd (cc)
-  listens states.Bound e = absurd (cc)
-  listens states.Full e = absurd (cc)
-  listens states.TimeWait e = absurd (cc)
-  listens states.Request e = absurd (cc)
-
   neither : (p q : Bool) → (p || q) ≡ false → p ≡ false
   neither true q e = e
   neither false q e = refl
-
-  listens_at : (l : Owner) (from at : End) → is_no_accept l from at ≡ false → l.state ≡ states.Listening
-  listens_at l from at e = listens l.state (neither _ _ (neither _ _ (neither _ _ (neither _ _ e))))
 
   of_accept_if : (l : Mine) (name : ℕ) (from at : End) (b : Bool) → (b ≡ false → l.owner.state ≡ states.Listening) → IsBirthOf l.owner name (cond b (ends (refused errors.Inval)) (plans.accept_as shape seed l.owner (child_owner l.owner name from at)))
   of_accept_if l name from at true e = tt
@@ -340,7 +330,7 @@ module _ (shape : Shape) (seed : ℕ) where
 
   pub of_accept : (l : Mine) (name : ℕ) (from at : End) → IsBirthOf l.owner name (plans.accept shape seed l name from at)
   of_accept l name from at =
-      of_accept_if l name from at (is_no_accept l.owner from at) (listens_at l.owner from at)
+      of_accept_if l name from at (is_no_accept l.owner from at) (accepts l.owner from at)
 
   of_syn_hashed : (l r : Owner) → l.state ≡ states.Listening → (o : Outcome) → IsBirthOf l r.name (plans.syn_hashed shape seed r o)
   of_syn_hashed l r e (put slot old) =
@@ -353,7 +343,7 @@ module _ (shape : Shape) (seed : ℕ) where
   of_syn_if l name from at false e = of_syn_hashed l.owner (request_owner l.owner name from at) (e refl)
 
   pub of_syn : (l : Mine) (name : ℕ) (from at : End) → IsBirthOf l.owner name (plans.syn shape seed l name from at)
-  of_syn l name from at = of_syn_if l name from at (is_no_accept l.owner from at) (listens_at l.owner from at)
+  of_syn l name from at = of_syn_if l name from at (is_no_accept l.owner from at) (accepts l.owner from at)
 
   -- A request in whose place a child comes
 
@@ -377,7 +367,7 @@ module _ (shape : Shape) (seed : ℕ) where
   of_ack_by : (r : Mine) (l : Option Mine) (name : ℕ) → IsHeirOf r l name (plans.ack_by shape seed r l name)
   of_ack_by r None name = tt
   of_ack_by r (Some l) name =
-      of_ack_if r l name (is_no_ack l.owner r.owner) (λ e. listens_at l.owner (other_end r.owner) (own_end r.owner) (neither _ _ e))
+      of_ack_if r l name (is_no_ack l.owner r.owner) (λ e. accepts l.owner (other_end r.owner) (own_end r.owner) (neither _ _ e))
 
   of_ack_from : (r : Mine) (l : Option Mine) (name : ℕ) (state : State) → IsHeirOf r l name (plans.ack_from shape seed state r l name)
   of_ack_from r l name states.Request = of_ack_by r l name

@@ -9,6 +9,7 @@ use Rattle.bind_buckets.specs.Turned.{Gave}
 use Rattle.flat_list.specs.declared.header.Header.{Header}
 use Rattle.flat_list.specs.declared.command.Reply.{Reply}
 use Rattle.flat_list.specs.declared.command.Reply.TheVariants as replies
+use Rattle.flat_list.proofs.GivenNames.{section_in_name}
 use Rattle.port_search.proofs.TurnSearch.{gave_none}
 use Rattle.table_model.specs.Asking.{Asking, ends}
 use Rattle.table_model.specs.Own.{Own, Mine, Offsets, next_name, open_socket, with_label}
@@ -25,7 +26,7 @@ use Rattle.section_machine.specs.Places.{Labelled, named_by, with_given, own_of}
 use Rattle.section_machine.specs.Sections.{Kept, kept}
 use Rattle.section_machine.specs.Standing.{Roll, roll_of, IsSection, IsApart, IsOpen, IsUngiven, IsUnspoken, Tells}
 use Rattle.section_machine.proofs.Asked.{IsBirth}
-use Rattle.section_machine.proofs.Made.{name_section, next_ungiven, next_rises}
+use Rattle.section_machine.proofs.Made.{next_ungiven, next_rises}
 use Rattle.section_machine.proofs.Newcomers.{new_name, child_family}
 use Rattle.section_machine.proofs.Owns.{label_given}
 use Rattle.section_machine.proofs.Places.{open_named}
@@ -72,7 +73,7 @@ module _ {t : Tables} {k : Kept} {header : Header} {l l1 : Labelled} {moment : â
   ungiven = next_ungiven own
 
   pub its_section : name / 2 ^ 24 â‰¡ l.number
-  its_section = name_section l.number (length l.labels) has_room
+  its_section = section_in_name l.number (length l.labels) has_room
 
   pub later : name < next_name more
   later = next_rises own label

@@ -1,10 +1,11 @@
 -- A section with a new socket.
-use Rattle.std.proofs.Common.{◌≡◌, ◌+◌, ◌/◌, ◌^◌, ◌<◌, ℕ, List, [], ◌∷◌, length, length-append, Some, refl, sym, ap, subst, arith}
+use Rattle.std.proofs.Common.{◌≡◌, ◌+◌, ◌^◌, ◌<◌, ℕ, List, [], ◌∷◌, length, length-append, Some, refl, sym, ap, subst, arith}
 use Rattle.flat_list.specs.declared.header.Header.{Header}
 use Rattle.flat_list.specs.declared.owned.Options.{Options}
 use Rattle.flat_list.specs.declared.command.Reply.TheVariants as replies
 use Rattle.flat_list.specs.Owned.{new_owner}
 use Rattle.flat_list.specs.Sections.{name_at}
+use Rattle.flat_list.proofs.GivenNames.{section_in_name}
 use Rattle.port_search.proofs.TurnSearch.{gave_none}
 use Rattle.table_model.specs.Asking.{ends}
 use Rattle.table_model.specs.Own.{Own, Mine, Offsets, with_label, next_name}
@@ -22,10 +23,6 @@ use Rattle.section_machine.proofs.Newcomers.{newborn}
 use Rattle.section_machine.proofs.Owns.{socket_given}
 use Rattle.section_machine.proofs.Rolls.{socket_more}
 use Rattle.section_machine.proofs.Settled.{ends_at_once}
-
--- the names of a section's labels are its own
-pub name_section : (n i : ℕ) → i + 1 < 2 ^ 24 → name_at n i / 2 ^ 24 ≡ n
-name_section n i few = omega arith
 
 -- the name of the next label was given to none
 pub next_ungiven : (own : Own) → IsUngiven (roll_of own) (next_name own)
@@ -45,7 +42,7 @@ made t k header l l1 l2 moment o waits label options w view count given is few s
     let was : IsSection t (kept header own) w = subst (λ (x : Kept). IsSection t x w) (sym view) section in
     let room : length l.labels + 1 < 2 ^ 24 = subst (λ (x : Kept). length x.own.labels + 1 < 2 ^ 24) (sym view) few in
     let un = next_ungiven own in
-    let its_section = name_section l.number (length l.labels) room in
+    let its_section = section_in_name l.number (length l.labels) room in
     let more = next_rises own label in
     let next = next_name (with_label own label) in
     let new = newborn t (roll_of own) (turned w) (chained t w) next m was.tells its_section more (was.unspoken name un) refl in

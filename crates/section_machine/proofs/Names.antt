@@ -1,8 +1,6 @@
 -- What a caller's own entries say of a name, whatever set of names is looked at.
 use Rattle.std.proofs.Common.{◌≡◌, ℕ, ◌==◌, ◌&&◌, not, Bool, true, false, cond, List, [], ◌∷◌, ◌++◌, filter, find, Option, refl, sym, ap, subst, ◌∙◌, eq-eqb, append-nil, append_assoc}
 use Rattle.std.proofs.lemmas.Bool.{false≢true, and_parts}
-use Rattle.std.proofs.lemmas.List.{map-append}
-use Rattle.std.proofs.lemmas.List.Elements.{filter-append}
 use Rattle.list_words.specs.Lists.{Each}
 use Rattle.list_words.proofs.EachLemmas.{each_weaken, each_filter, each_map, each_both}
 use Rattle.list_words.proofs.Truths.{both_true}
@@ -21,12 +19,10 @@ use Rattle.bind_buckets.specs.OwnerStep.{has_name}
 use Rattle.bind_buckets.specs.OwnTold.{KeepsOpen, removes_waiting, is_told, own_given, told_next}
 use Rattle.bind_buckets.specs.Turned.{View, Gave}
 use Rattle.shared_ops.specs.Stands.{Knows}
+use Rattle.shared_ops.proofs.Knows.{told_by}
 use Rattle.bind_buckets.proofs.Filtered.{find_filtered}
 use Rattle.bind_buckets.proofs.ToldByOwn.{named_mine, told_seen}
-
--- the owners of some names, as notes give them
-abbrev pub told_by : (ℕ → Bool) → List Note → List Owner
-told_by mine notes = told_from [] (filter (is_told mine) (entries_of notes))
+use Rattle.bind_buckets.proofs.OwnTold.{told_push}
 
 -- Two sets of names
 
@@ -123,21 +119,6 @@ missed_by mine name owners e false is none = refl
 
 missed : (mine : ℕ → Bool) (name : ℕ) (owners : List Owner) (e : Entry) → Misses name e → find (has_name name) (told_next mine owners e) ≡ find (has_name name) owners
 missed mine name owners e none = missed_by mine name owners e (is_told mine e) refl none
-
-told_after : (owners : List Owner) (xs ys : List Entry) → told_from owners (xs ++ ys) ≡ told_from (told_from owners xs) ys
-told_after owners [] ys = refl
-told_after owners (e ∷ xs) ys = told_after (told owners e.request e.answer) xs ys
-
-told_last : (owners : List Owner) (e : Entry) (b : Bool) → told_from owners (cond b (e ∷ []) []) ≡ cond b (told owners e.request e.answer) owners
-told_last owners e true = refl
-told_last owners e false = refl
-
-told_push : (mine : ℕ → Bool) (notes : List Note) (x : Note) → told_by mine (notes ++ x ∷ []) ≡ told_next mine (told_by mine notes) x.entry
-told_push mine notes x =
-    ap (λ es. told_from [] (filter (is_told mine) es)) (map-append entry_of notes (x ∷ []))
-    ∙ ap (told_from []) (filter-append (is_told mine) (entries_of notes) (x.entry ∷ []))
-    ∙ told_after [] (filter (is_told mine) (entries_of notes)) (filter (is_told mine) (x.entry ∷ []))
-    ∙ told_last (told_by mine notes) x.entry (is_told mine x.entry)
 
 all_missed : (mine : ℕ → Bool) (name : ℕ) (notes new : List Note) → Each (λ (x : Note). Misses name x.entry) new → find (has_name name) (told_by mine (notes ++ new)) ≡ find (has_name name) (told_by mine notes)
 all_missed mine name notes [] none = ap (λ ns. find (has_name name) (told_by mine ns)) (append-nil notes)

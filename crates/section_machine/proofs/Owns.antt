@@ -4,9 +4,9 @@ use Rattle.std.specs.Prelude.{option_and_then}
 use Rattle.std.proofs.lemmas.List.{set-set, set-get_or}
 use Rattle.list_words.specs.Lists.{Each}
 use Rattle.list_words.proofs.EachLemmas.{some_same}
+use Rattle.list_words.proofs.Positions.{pushed_new, pushed_other, pushed_again}
 use Rattle.flat_list.specs.Sections.{name_at}
 use Rattle.label_index.specs.Places.{place_in}
-use Rattle.label_index.proofs.Places.{pushed_new, pushed_other, pushed_again}
 use Rattle.table_model.specs.Own.{Mine, Offsets, with_socket, with_label, with_new, without}
 use Rattle.section_machine.specs.Places.{Labelled, HaveNames, at_place, those, with_place, with_given, own_of, named_by}
 use Rattle.section_machine.proofs.Places.{put_there, taken_out, labels_differ, put_last, none_last, set_last, none_behind, Differ}

@@ -1,6 +1,5 @@
 -- The ports of a search, and plans in which none begins.
-use Rattle.std.proofs.Common.{◌≡◌, ◌==◌, ◌&&◌, ℕ, ◌+◌, ◌/◌, ◌%◌, ◌≤◌, ◌*◌, Bool, true, false, not, cond, List, [], ◌∷◌, ◌++◌, length, length-append, Option, Some, None, refl, ap, arith}
-use Rattle.std.proofs.lemmas.List.FromFn.{length-map-range_with_len}
+use Rattle.std.proofs.Common.{◌≡◌, ◌==◌, ◌&&◌, ℕ, ◌+◌, ◌≤◌, Bool, true, false, not, cond, List, [], ◌∷◌, ◌++◌, length, length-append, Option, Some, None, refl, ap, arith}
 use Rattle.sock_card.specs.Conflict.{bind_key}
 use Rattle.sock_card.specs.declared.owner.Owner.{Owner}
 use Rattle.sock_card.specs.declared.owner.State.{State}
@@ -14,6 +13,7 @@ use Rattle.flat_list.specs.declared.header.First.TheVariants as firsts
 use Rattle.flat_list.specs.Ports.{size, half_from, even, odd, whole_order, unreserved, port_order}
 use Rattle.bind_buckets.specs.declared.request.Request.TheVariants as requests
 use Rattle.flat_list.specs.Owned.{addressed, bound_at}
+use Rattle.flat_list.proofs.PortAt.{half_length}
 use Rattle.table_model.specs.declared.operation.OpEnd.TheVariants as errors
 use Rattle.table_model.specs.Asking.{Asking, ends, asks}
 use Rattle.table_model.specs.Own.{Mine}
@@ -21,11 +21,8 @@ use Rattle.table_model.specs.Operations as plans
 use Rattle.table_model.specs.Operations.{Did, done, refused, source_to}
 use Rattle.table_model.specs.Commands.{is_unbound, is_some, searches_port}
 
-half_long : (r : Range) (distance : ℕ) → length (half_from r distance) ≡ size r / 2
-half_long r distance = length-map-range_with_len (λ k. r.low + (distance + 2 * k) % size r) 0 (size r / 2)
-
 two_halves : (r : Range) (a b : ℕ) → length (half_from r a ++ half_from r b) ≤ size r
-two_halves r a b = omega (arith, length-append (half_from r a) (half_from r b), half_long r a, half_long r b)
+two_halves r a b = omega (arith, length-append (half_from r a) (half_from r b), half_length r a, half_length r b)
 
 whole_few : (r : Range) (offset : ℕ) (first : First) → length (whole_order r offset first) ≤ size r
 whole_few r offset firsts.Odd = two_halves r (odd offset) (even offset)

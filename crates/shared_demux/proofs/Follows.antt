@@ -50,18 +50,15 @@ same_stop (Long n) = refl
 
 -- What a lookup's part knows of the clock
 
-adds_later : (m n : Sat) (ks : List Kept) (hs : List ℕ) → Adds m ks hs n → m.0.seen ≤ n.0.seen
-adds_later m n ks hs a = omega (arith, a.later, ap (λ (s : Sat). s.0.seen) a.is)
-
 pub full_later : (layout : Layout) (packet : Packet) (m n : Sat) (end : LookEnd) (from : ℕ) → FindsFull layout packet m end from n → m.0.seen ≤ n.0.seen
-full_later layout packet m n (looks.Found held card) from h = adds_later m n _ _ h.0.1
-full_later layout packet m n looks.None from h = adds_later m n _ _ h.0
-full_later layout packet m n (looks.Again bucket stop) from h = adds_later m n _ _ h.0
+full_later layout packet m n (looks.Found held card) from h = seen_later m n _ _ h.0.1
+full_later layout packet m n looks.None from h = seen_later m n _ _ h.0
+full_later layout packet m n (looks.Again bucket stop) from h = seen_later m n _ _ h.0
 
 pub listener_later : (layout : Layout) (packet : Packet) (m n : Sat) (end : LookEnd) (from : ℕ) → FindsListener layout packet m end from n → m.0.seen ≤ n.0.seen
-listener_later layout packet m n (looks.Found held card) from h = adds_later m n _ _ h.0.1
-listener_later layout packet m n looks.None from h = adds_later m n _ _ h.0
-listener_later layout packet m n (looks.Again bucket stop) from h = adds_later m n _ _ h.0
+listener_later layout packet m n (looks.Found held card) from h = seen_later m n _ _ h.0.1
+listener_later layout packet m n looks.None from h = seen_later m n _ _ h.0
+listener_later layout packet m n (looks.Again bucket stop) from h = seen_later m n _ _ h.0
 
 -- What a group's choice leaves
 

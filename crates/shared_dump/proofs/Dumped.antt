@@ -13,13 +13,14 @@ use Rattle.table_rule.specs.Words.{bucket_count}
 use Rattle.table_rule.specs.declared.view.Layout.{Layout}
 use Rattle.table_rule.specs.declared.view.Sight.{Sight}
 use Rattle.table_rule.specs.declared.view.View.{View}
+use Rattle.nulls_chain.proofs.Saw.{settled-append}
 use Rattle.shared_dump.specs.Books.{AreTold}
 use Rattle.shared_dump.specs.Dumps.{Keeps, ListsAll, Saw}
 use Rattle.shared_dump.specs.Rows.{all_cards}
 use Rattle.shared_dump.specs.Sightings.{sightings}
 use Rattle.shared_dump.specs.declared.dumping.Dump.{Dump}
 use Rattle.shared_dump.proofs.Lives.{is_true}
-use Rattle.shared_dump.proofs.Seeings.{settled_both, settled_sights}
+use Rattle.shared_dump.proofs.Seeings.{settled_sights}
 
 -- before and after the loads, and between
 module _ (v u w x : View) (t0 t1 : ℕ) (first : u ≡ seeing v t0) (last : x ≡ seeing w t1) where
@@ -40,7 +41,7 @@ module _ (v u w x : View) (t0 t1 : ℕ) (first : u ≡ seeing v t0) (last : x �
     sights_are =
         ap (λ (y : View). y.sights) last
         ∙ (ap (λ (m : List Sight). settled m t1) (l.sights ∙ ap (λ (y : View). y.sights ++ sightings y.seen open-end 0 l.rows) first)
-        ∙ (settled_both (settled v.sights t0) (sightings t0 open-end 0 l.rows) t1
+        ∙ (settled-append (settled v.sights t0) (sightings t0 open-end 0 l.rows) t1
         ∙ ap (λ (m : List Sight). settled (settled v.sights t0) t1 ++ m) (settled_sights t0 t1 0 l.rows)))
 
     pub saw_all : (dump : Dump) → dump.items.items ≡ items → dump.t0 ≡ t0 → dump.t1 ≡ t1 → Saw layout dump v x

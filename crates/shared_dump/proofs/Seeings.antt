@@ -42,9 +42,6 @@ pub settled_sights : (from to b : ℕ) (rows : List (List Seen)) → settled (si
 settled_sights from to b [] = refl
 settled_sights from to b (row ∷ rows) = ap (λ (l : List Sight). sighting from to b row ∷ l) (settled_sights from to (b + 1) rows)
 
-pub settled_both : (xs ys : List Sight) (r : ℕ) → settled (xs ++ ys) r ≡ settled xs r ++ settled ys r
-settled_both xs ys r = map-append _ xs ys
-
 pub keeps_same : (v : View) → Keeps v v
 keeps_same v = record { layout = refl; slot = refl; book = refl; read = refl; done = refl }
 

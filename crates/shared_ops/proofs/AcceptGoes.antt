@@ -3,7 +3,6 @@ use Rattle.std.proofs.Common.{◌≡◌, ℕ, ◌+◌, ◌%◌, ◌||◌, Bool, 
 use Rattle.std.specs.Option.{option_map}
 use Rattle.sock_card.specs.declared.owner.Owner.{Owner}
 use Rattle.std.proofs.lemmas.Bool.{false≢true, not-false}
-use Rattle.sock_card.specs.declared.owner.State.{State}
 use Rattle.sock_card.specs.declared.owner.State.TheVariants as states
 use Rattle.sock_card.specs.Conflict.{owner_key, is_listening}
 use Rattle.sock_card.specs.declared.card.Kind.TheVariants as kinds
@@ -12,6 +11,7 @@ use Rattle.flat_list.specs.Owned.{is_no_accept, child_owner}
 use Rattle.chain_book.specs.declared.shape.Shape.{Shape}
 use Rattle.nulls_chain.specs.Changes.{PlacesStay}
 use Rattle.sock_card.specs.Became.{child}
+use Rattle.sock_card.proofs.SameKinds.{listening_is}
 use Rattle.bind_buckets.specs.declared.request.Request.TheVariants as requests
 use Rattle.bind_buckets.specs.declared.request.Answer.{Answer}
 use Rattle.bind_buckets.specs.declared.request.Answer.TheVariants as answers
@@ -125,21 +125,13 @@ module _ (l a : Owner) (place : ℕ) (v w : View) (replaced : Option ℕ) (answe
       let first = inherits l place a.name a.addr a.remote a.rport v u f.x stands (grows_first v w (f.x ∷ []) f.zs g) f.is in
       stands_on l place u w f.zs first (grows_rest v w (f.x ∷ []) f.zs g) (all_pass place f.zs (gone_quiet place replaced answer f.zs f.more))
 
-listening_if : (s : State) → is_listening s ≡ true → s ≡ states.Listening
-listening_if states.Unbound e = absurd (false≢true e)
-listening_if states.Bound e = absurd (false≢true e)
-listening_if states.Listening e = refl
-listening_if states.Full e = absurd (false≢true e)
-listening_if states.TimeWait e = absurd (false≢true e)
-listening_if states.Request e = absurd (false≢true e)
-
 first_of_five : (a b c d e : Bool) → (a || b || c || d || e) ≡ false → a ≡ false
 first_of_five true b c d e h = absurd (false≢true (sym h))
 first_of_five false b c d e h = refl
 
 -- what accepts listens
 pub accepts : (l : Owner) (from at : End) → is_no_accept l from at ≡ false → l.state ≡ states.Listening
-accepts l from at isnt = listening_if l.state (not-false (is_listening l.state) (first_of_five _ _ _ _ _ isnt))
+accepts l from at isnt = listening_is l.state (not-false (is_listening l.state) (first_of_five _ _ _ _ _ isnt))
 
 pub accept_plan : (shape : Shape) (seed : ℕ) (m : Mine) (name : ℕ) (from at : End) → is_no_accept m.owner from at ≡ false → accept_as shape seed m.owner (child_owner m.owner name from at) ≡ accept shape seed m name from at
 accept_plan shape seed m name from at isnt =

@@ -1,5 +1,5 @@
 -- How the plans of `close` and `drop` go on.
-use Rattle.std.proofs.Common.{◌≡◌, ℕ, ◌+◌, ◌≤◌, ◌%◌, List, [], ◌∷◌, map, None, Result, Ok, Err, IfErr, IfOk, OnErr, OnOk, refl, sym, ap, subst, ◌∙◌, arith}
+use Rattle.std.proofs.Common.{◌≡◌, ℕ, ◌+◌, ◌≤◌, ◌%◌, List, [], ◌∷◌, None, Result, Ok, Err, IfErr, IfOk, OnErr, OnOk, refl, sym, ap, subst, ◌∙◌, arith}
 use Rattle.std.specs.Result.{IsErr}
 use Rattle.sock_card.specs.Conflict.{owner_key}
 use Rattle.sock_card.specs.declared.owner.Owner.{Owner}
@@ -13,7 +13,6 @@ use Rattle.turn_table.specs.Journals.{placed}
 use Rattle.bind_buckets.specs.declared.request.Request.TheVariants as requests
 use Rattle.bind_buckets.specs.declared.request.Answer.TheVariants as answers
 use Rattle.bind_buckets.specs.declared.request.Entry.{Entry}
-use Rattle.bind_buckets.specs.Notes.{Note}
 use Rattle.bind_buckets.specs.OwnTold.{StandsOwn}
 use Rattle.bind_buckets.specs.Turned.{View, Gave, IsAlone, KnowsAll, Within}
 use Rattle.reuseport_group.specs.declared.pass.GroupPasses.{GroupPasses}
@@ -46,7 +45,7 @@ use Rattle.shared_ops.specs.declared.sock.Sock.TheVariants as socks
 use Rattle.shared_ops.specs.declared.leaving.Closed.{Closed}
 use Rattle.shared_ops.specs.Socks.{mine_of, FitsState, without_socket}
 use Rattle.shared_ops.specs.Closes.{Replaces, GoesAlone, ClosedBy, ClosedByAlone, Leaves, became, close_answer, drop_answer, is_gone, leave_entry, spot_of}
-use Rattle.shared_ops.specs.Goes.{Went, LeftOff, IsUndecided, AskedAll, AreAsked, NotBusy}
+use Rattle.shared_ops.specs.Goes.{Went, LeftOff, IsUndecided, AskedAll, NotBusy}
 use Rattle.shared_ops.specs.Leads.{Leads}
 use Rattle.shared_ops.specs.Stands.{IsHashed, place_in}
 use Rattle.shared_ops.specs.Groups.{KeepsListed, LeavesAs, ListsOfLeave}
@@ -61,14 +60,6 @@ wait_entry a = record { request = requests.ToTimeWait a.name; answer = answers.D
 pub same_home : (shape : Shape) (seed : ℕ) (a : Owner) (stamp extra : ℕ) → home shape seed (card_as kinds.TimeWait (as_waiting a) stamp) ≡ home shape seed (card_as kinds.Full a extra)
 unfolding home
 same_home shape seed a stamp extra = refl
-
-none_of : (place : ℕ) (v w : View) (xs : List (Placed Entry)) → AreAsked place [] xs → Gave v w xs → Gave v w []
-none_of place v w [] are gave = gave
-none_of place v w (x ∷ xs) are gave = absurd are
-
--- nothing was asked in a turn
-pub all_none : (place : ℕ) (v w : View) → AskedAll place [] v w → Gave v w []
-all_none place v w all = none_of place v w all.xs all.asked all.gave
 
 pub gave_one : (count port : ℕ) (e : Entry) (v w : View) (one : One (port % count) e v w) → Gave v w (placed (port % count) one.x.note ∷ [])
 gave_one count port e v w one = subst (λ (p : Placed Entry). Gave v w (p ∷ [])) (sym (entry_is count port e.request e.answer one.x one.is)) one.gave
@@ -202,9 +193,6 @@ turn_leaves did count name p u v w c d (Ok x) undecided within went nothing same
 turn_leaves did count name p u v w c d (Err end) undecided within went nothing same = left_nowhere count name p v w c d (sym same) undecided (nothing v within)
 
 -- Where nothing was given
-
-pub none_given : (place : ℕ) (v w : View) (ms : List Note) → ms ≡ [] → Gave v w (map (placed place) ms) → Gave v w []
-none_given place v w ms none gave = subst (λ (xs : List Note). Gave v w (map (placed place) xs)) none gave
 
 -- no list of groups changed
 pub none_listed : (count : ℕ) (v w : View) (p q : GroupPasses) → q ≡ p → Gave v w [] → KeepsListed count v w p q

@@ -48,6 +48,7 @@ gave_nothing : (place : ℕ) (v w : View) (xs : List (Placed Entry)) → AreAske
 gave_nothing place v w [] are g = g
 gave_nothing place v w (x ∷ xs) are g = absurd are
 
+-- nothing was asked in a turn
 pub all_none : (place : ℕ) (v w : View) → AskedAll place [] v w → Gave v w []
 all_none place v w all = gave_nothing place v w all.xs all.asked all.gave
 

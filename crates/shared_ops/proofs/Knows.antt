@@ -1,5 +1,5 @@
 -- What a caller's own entries say of a name, as they grow.
-use Rattle.std.proofs.Common.{◌≡◌, ◌≢◌, ◌⊎◌, inl, inr, ℕ, ◌+◌, ◌==◌, ◌&&◌, not, Bool, true, false, cond, List, [], ◌∷◌, ◌++◌, map, filter, find, Some, None, Option, refl, sym, ap, subst, ◌∙◌, eq-eqb, ne_eqb, append_assoc, append-nil, arith}
+use Rattle.std.proofs.Common.{◌≡◌, ◌≢◌, ◌⊎◌, inl, inr, ℕ, ◌+◌, ◌==◌, Bool, true, false, cond, List, [], ◌∷◌, ◌++◌, map, filter, find, Some, None, Option, refl, sym, ap, subst, ◌∙◌, eq-eqb, ne_eqb, append_assoc, append-nil, arith}
 use Rattle.std.proofs.lemmas.Bool.{eqb-true, false≢true}
 use Rattle.std.specs.Option.{option_map, option_to_list}
 use mathlib.Core.Logic.{dite}
@@ -21,13 +21,14 @@ use Rattle.bind_buckets.specs.Notes.{Note}
 use Rattle.bind_buckets.specs.Bucket.{entries_of}
 use Rattle.bind_buckets.specs.Callers.{MayName, AreOwn}
 use Rattle.bind_buckets.specs.First.{change_first, drop_first}
-use Rattle.bind_buckets.specs.Followed.{told, told_from, speaks_of}
+use Rattle.bind_buckets.specs.Followed.{told_from}
 use Rattle.bind_buckets.specs.OwnerStep.{has_name}
-use Rattle.bind_buckets.specs.OwnTold.{StandsOwn, KeepsOpen, AllKeepOpen, Brings, is_told, removes_waiting, own_given, told_next}
+use Rattle.bind_buckets.specs.OwnTold.{StandsOwn, KeepsOpen, AllKeepOpen, Brings, is_told, own_given, told_next}
 use Rattle.bind_buckets.specs.Turned.{View, Gave, IsAsked}
 use Rattle.shared_ops.specs.Stands.{Knows, IsAway}
 use Rattle.shared_ops.specs.There.{IsNew}
-use Rattle.bind_buckets.proofs.OwnTold.{told_push, brings_keep}
+use Rattle.bind_buckets.proofs.OwnTold.{told_push, brings_keep, none_told, none_kept}
+use Rattle.bind_buckets.proofs.ToldByOwn.{asked_told}
 use Rattle.shared_ops.proofs.Goes.{each_parts}
 
 -- a caller has these entries more
@@ -182,10 +183,6 @@ same_both : (b : Bool) (owners : List Owner) → cond b owners owners ≡ owners
 same_both true owners = refl
 same_both false owners = refl
 
-asked_told : (owners : List Owner) (name : ℕ) (answer : Answer) → told owners (requests.MayListen name) answer ≡ owners
-asked_told owners name answers.Done = refl
-asked_told owners name _ = refl
-
 quiet_next : (mine : ℕ → Bool) (owners : List Owner) (request : Request) (answer : Answer) → IsQuiet request answer → told_next mine owners (record { request = request; answer = answer }) ≡ owners
 quiet_next mine owners (requests.Bind a) (answers.InUse name) quiet = same_both (mine a.name) owners
 quiet_next mine owners (requests.BindAuto a) (answers.InUse name) quiet = same_both (mine a.name) owners
@@ -245,20 +242,8 @@ stands_on a place v w xs s g pass =
 
 -- A name of which no bucket was asked
 
-unspoken : (it : ℕ → Bool) (request : Request) → not (removes_waiting request) && speaks_of it request ≡ false → KeepsOpen it request
-unspoken it (requests.Bind a) none = λ said. absurd (false≢true (sym none ∙ said))
-unspoken it (requests.BindAuto a) none = λ said. absurd (false≢true (sym none ∙ said))
-unspoken it (requests.ConnectAuto a) none = λ said. absurd (false≢true (sym none ∙ said))
-unspoken it (requests.Inherit parent name local remote rport) none = λ said. absurd (false≢true (sym none ∙ said))
-unspoken it (requests.ToTimeWait name) none = none
-unspoken it _ none = tt
-
-none_left : (it : ℕ → Bool) (notes : List Note) → Each (λ (x : Note). is_told it x.entry ≡ false) notes → filter (is_told it) (entries_of notes) ≡ []
-none_left it [] h = refl
-none_left it (x ∷ xs) h = rw h.0 (none_left it xs h.1)
-
-none_told : (it : ℕ → Bool) (notes : List Note) → Each (λ (x : Note). is_told it x.entry ≡ false) notes → told_by it notes ≡ []
-none_told it notes none = ap (told_from []) (none_left it notes none)
+no_owners : (it : ℕ → Bool) (notes : List Note) → Each (λ (x : Note). is_told it x.entry ≡ false) notes → told_by it notes ≡ []
+no_owners it notes none = ap (told_from []) (none_told it notes none)
 
 pub new_away : (name : ℕ) (v : View) → MayName v.caller name → IsNew name v → IsAway name v
 new_away name v may new = λ place.
@@ -267,8 +252,8 @@ new_away name v may new = λ place.
       mine = it;
       it = eq-eqb name name refl;
       own = λ n said. subst (MayName v.caller) (sym (eqb-true n name said)) may;
-      keeps = each_weaken (λ (x : Note). is_told it x.entry ≡ false) (λ (x : Note). KeepsOpen it x.entry.request) (own_given place v) (λ x none. unspoken it x.entry.request none) (new place);
-      told_is = ap (find (has_name name)) (none_told it (own_given place v) (new place));
+      keeps = none_kept it (own_given place v) (new place);
+      told_is = ap (find (has_name name)) (no_owners it (own_given place v) (new place));
     }
 
 -- Owners that come
@@ -361,7 +346,8 @@ changes a f place request v w x same next keeps s g is =
     (ap (find (has_name a.name)) (ap (told_next s.mine os) is.entry ∙ next s.mine os s.it) ∙ found_changed a.name f os (Some a) same s.told_is) in
     stands_of (f a) place w (subst (λ n. Knows n (Some (f a)) place w) (sym (same a)) k)
 
-changed_next : (owners new : List Owner) (t : Bool) → t ≡ true → cond t new owners ≡ new
+-- where the test is true the owners are the new ones
+pub changed_next : (owners new : List Owner) (t : Bool) → t ≡ true → cond t new owners ≡ new
 changed_next owners new true is = refl
 changed_next owners new false is = absurd (false≢true is)
 

@@ -19,6 +19,7 @@ use Rattle.bind_buckets.specs.Bucket.{IsSound, entries_of, entry_of}
 use Rattle.bind_buckets.specs.Journal.{replayed}
 use Rattle.bind_buckets.specs.OwnerStep.{empty}
 use Rattle.bind_buckets.specs.Turned.{View, Hash, Pass, Out, Gave, IsOut, Within, Asks, made}
+use Rattle.bind_buckets.proofs.Told.{listens_held}
 use Rattle.reuseport_group.specs.declared.pass.GroupPasses.{GroupPasses}
 use Rattle.table_model.specs.declared.operation.OpEnd.{OpEnd}
 use Rattle.table_model.specs.Own.{Mine}
@@ -28,7 +29,7 @@ use Rattle.shared_ops.specs.Goes.{AskedAll}
 use Rattle.shared_ops.specs.Groups.{Follows, ListsIn, ListensAs, LeavesAs, StartsLists, StartsUnbound, ListsOfListen, KeepsListed, SparesLists}
 use Rattle.shared_ops.specs.Listens.{IsAskedListen, TellsAs, asked_listen, said_listen, listen_answer}
 use Rattle.shared_ops.specs.Socks.{listening_at, without_socket}
-use Rattle.shared_ops.proofs.Lists.{Spares, one_more, held_by, lists_in, turn_keeps, all_spares, sparing_same, replayed_both, listens_held}
+use Rattle.shared_ops.proofs.Lists.{Spares, one_more, held_by, lists_in, turn_keeps, all_spares, sparing_same, replayed_both}
 
 -- An owner leaves
 

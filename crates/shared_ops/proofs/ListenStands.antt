@@ -1,6 +1,5 @@
 -- Who stands after `listen`.
-use Rattle.std.proofs.Common.{◌≡◌, ◌≢◌, ℕ, ◌%◌, inl, inr, Bool, true, false, cond, List, [], ◌∷◌, ◌++◌, Option, None, Result, Ok, Err, IfOk, OnErr, refl, sym, ap, subst, ◌∙◌, append-nil}
-use Rattle.std.proofs.lemmas.Bool.{false≢true}
+use Rattle.std.proofs.Common.{◌≡◌, ◌≢◌, ℕ, ◌%◌, inl, inr, Bool, true, false, List, [], ◌∷◌, ◌++◌, Option, None, Result, Ok, Err, IfOk, OnErr, refl, sym, ap, subst, ◌∙◌, append-nil}
 use mathlib.Core.Logic.{dite}
 use native.Mathlib.Decide.{ℕ_discrete}
 use Rattle.sock_card.specs.Conflict.{owner_key, bind_key}
@@ -30,7 +29,7 @@ use Rattle.shared_ops.specs.Listens.{IsAskedListen, Tells, TellsNot, TellsAs, as
 use Rattle.shared_ops.specs.Stands.{IsAway, IsHashed, Knows, StandsAs, buckets_of}
 use Rattle.shared_ops.proofs.Goes.{all_two}
 use Rattle.shared_ops.proofs.BindGoes.{search_came, all_quiet as refused_quiet}
-use Rattle.shared_ops.proofs.Knows.{AllQuiet, Came, IsQuiet, Passes, after, all_pass, asked_quiet, came_on, came_stands, changes, goes, grows, grows_first, grows_rest, knows_on, stands_on}
+use Rattle.shared_ops.proofs.Knows.{AllQuiet, Came, IsQuiet, Passes, after, all_pass, asked_quiet, came_on, came_stands, changes, goes, grows, grows_first, grows_rest, knows_on, stands_on, changed_next}
 
 module _ (place : ℕ) (a : Owner) (v w : View) where
   -- what was asked
@@ -43,10 +42,6 @@ module _ (place : ℕ) (a : Owner) (v w : View) where
   pub none_told : (took : Bool) → AskedAll place (gone_if took a) v w → TellsNot place a took v w
   none_told took all = record { first = []; listens = tt; asked = all }
 
-  listened : (owners new : List Owner) (t : Bool) → t ≡ true → cond t new owners ≡ new
-  listened owners new true is = refl
-  listened owners new false is = absurd (false≢true is)
-
   -- an owner that listens stands
   pub tells_stand : (m : Mine) → StandsOwn a place v → Tells place a v w m → StandsOwn m.owner place w
   tells_stand m s t =
@@ -57,7 +52,7 @@ module _ (place : ℕ) (a : Owner) (v w : View) where
       let mid = after v (two.x ∷ []) in
       let quiet = asked_quiet place e.request e.answer two.x two.is_x tt in
       let first = stands_on a place v mid (two.x ∷ []) s (grows_first v w (two.x ∷ []) (two.y ∷ []) g) (inr quiet, tt) in
-      let last = changes a as_listener place f.request mid w two.y (λ y. refl) (λ mine owners it. listened owners _ (mine a.name) it) (λ mine. tt) first (grows_rest v w (two.x ∷ []) (two.y ∷ []) g) two.is_y in
+      let last = changes a as_listener place f.request mid w two.y (λ y. refl) (λ mine owners it. changed_next owners _ (mine a.name) it) (λ mine. tt) first (grows_rest v w (two.x ∷ []) (two.y ∷ []) g) two.is_y in
       subst (λ (o : Owner). StandsOwn o place w) (sym t.owner) last
 
   quiet_by : (e : Entry) (x : Placed Entry) → IsAsked place e.request e.answer x → IsAskedListen a e → IsQuiet x.note.entry.request x.note.entry.answer

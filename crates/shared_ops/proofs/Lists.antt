@@ -1,5 +1,5 @@
 -- What entries leave of the lists of groups, and what a turn makes of those that are published.
-use Rattle.std.proofs.Common.{◌≡◌, ◌≢◌, ℕ, ◌/◌, ◌%◌, ◌==◌, Bool, cond, List, [], ◌∷◌, ◌++◌, map, filter, find, length, get_or, Option, Some, None, Result, Ok, Err, IfOk, IfErr, refl, sym, ap, subst, ◌∙◌, eq-eqb, ne_eqb, append_assoc, length-append, take, arith}
+use Rattle.std.proofs.Common.{◌≡◌, ◌≢◌, ℕ, ◌/◌, ◌%◌, ◌==◌, Bool, cond, List, [], ◌∷◌, ◌++◌, map, filter, length, get_or, Option, Some, None, Result, Ok, Err, IfOk, IfErr, refl, sym, ap, subst, ◌∙◌, eq-eqb, ne_eqb, append_assoc, length-append, take, arith}
 use Rattle.std.proofs.lemmas.List.{map-append}
 use Rattle.std.proofs.Math.Seq.{take-append_seam}
 use mathlib.Core.Logic.{dite}
@@ -20,7 +20,7 @@ use Rattle.bind_buckets.specs.declared.request.Entry.{Entry}
 use Rattle.bind_buckets.specs.Notes.{Note}
 use Rattle.bind_buckets.specs.Bucket.{Bucket, IsSound, answer_to, entries_of, entry_of, note_of}
 use Rattle.bind_buckets.specs.Journal.{IsLegal, replayed, replayed_from}
-use Rattle.bind_buckets.specs.OwnerStep.{Held, After, owner_step, admitted, spoken, has_name, may_listen, empty}
+use Rattle.bind_buckets.specs.OwnerStep.{Held, After, owner_step, admitted, spoken, empty}
 use Rattle.bind_buckets.specs.Turned.{View, Hash, Pass, Out, Gave, IsAlone, IsOut, Within, Asks, entries_at, made}
 use Rattle.reuseport_group.specs.declared.pass.GroupPasses.{GroupPasses}
 use Rattle.reuseport_group.specs.declared.view.GroupView.{GroupView}
@@ -359,14 +359,6 @@ pub kept_past : (count : ℕ) (u v w : View) (p q : GroupPasses) → GaveSparing
 kept_past count u v w p q g keeps = keeps_both count u v w p p q (sparing_keeps count u v p g) keeps
 
 -- What a bucket is asked that a listener may do
-
-asked_held : (h : Held) (name : ℕ) (o : Option Owner) (n : ℕ) → (spoken h name o (may_listen n h name)).held ≡ h
-asked_held h name None n = refl
-asked_held h name (Some a) n = refl
-
-pub listens_held : (n : ℕ) (h : Held) (name : ℕ) → (owner_step n h (requests.MayListen name)).held ≡ h
-unfolding owner_step
-listens_held n h name = asked_held h name (find (has_name name) h.owners) n
 
 pub says_so : (b k : Bucket) (name : ℕ) (r : Result (Option ℕ) ListenEnd) → k.number ≡ b.number → k.held ≡ b.held → answer_of_listen r ≡ answer_to b (requests.MayListen name)
     → IfOk r (λ group. answer_to k (requests.MayListen name) ≡ answers.Group group)

@@ -21,8 +21,8 @@ use Rattle.race_record.specs.Goes.{IsReapOf, was_there}
 use Rattle.shared_ops.specs.Goes.{Went, AskedAll}
 use Rattle.shared_ops.specs.Leads.{Leads}
 use Rattle.shared_ops.specs.Reaping.{ReapsOne}
-use Rattle.shared_ops.proofs.CloseGoes.{all_none}
 use Rattle.shared_ops.proofs.Goes.{deed_at, entry_is, by_entry, does_both, does_entry, all_one}
+use Rattle.shared_ops.proofs.ConnectGoes.{all_none}
 
 by_reaped : {R : Type 0} (card : Card) (unhash : Option Change) (then_ : _ → Asking R) (ds : List Deed) (rest : Asking R) → IsReapOf card unhash → Leads (then_ (was_there unhash)) ds rest → Leads (reaps card then_) (reaped card unhash ∷ ds) rest
 by_reaped card unhash then_ ds rest a h = (then_ (was_there unhash), (refl, a, refl), h)

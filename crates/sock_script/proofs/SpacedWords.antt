@@ -35,7 +35,7 @@ module _ (p : ℕ → Bool) (y : ℕ) (cut : p y ≡ true) where
       slice_split-cons_no p x (xs ++ y ∷ ys) h.0 ∙ ap (onto_first x) (piece_first xs ys h.1)
 
 -- bytes of which none passes are one piece
-one_piece : (p : ℕ → Bool) (xs : List ℕ) → Each (λ x. p x ≡ false) xs → slice_split p xs ≡ xs ∷ []
+pub one_piece : (p : ℕ → Bool) (xs : List ℕ) → Each (λ x. p x ≡ false) xs → slice_split p xs ≡ xs ∷ []
 one_piece p [] h = refl
 one_piece p (x ∷ xs) h = slice_split-cons_no p x xs h.0 ∙ ap (onto_first x) (one_piece p xs h.1)
 

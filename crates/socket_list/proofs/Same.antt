@@ -2,8 +2,7 @@
 use Rattle.std.proofs.Common.{◌≡◌, ◌≢◌, ℕ, ◌+◌, ◌≤◌, Bool, true, false, cond, List, [], ◌∷◌, length, refl, sym, ap, ◌∙◌, subst, arith}
 use Rattle.sock_card.specs.Words.{number_of}
 use Rattle.sock_card.specs.declared.card.Card.{Card}
-use Rattle.sock_card.specs.declared.card.Kind.{Kind}
-use Rattle.sock_card.specs.declared.card.Kind.TheVariants as kinds
+use Rattle.sock_card.proofs.SameKinds.{kind_by}
 use Rattle.list_words.specs.Lists.{Each, SameItems, total}
 use Rattle.list_words.proofs.AscendingLemmas.{tie_apart, tie_true, alike, those_like, one_order, ascending_keeps, ascending_up, ascending_stays, ascending_strictly, same_ascending}
 use Rattle.socket_list.specs.Laws.{HavePlaces, ListsAsOne, ListsAll, ListsInOrder, StaysListed}
@@ -27,24 +26,6 @@ same_like : (c : Card) (xs ys : List Card) → SameItems xs ys → SameItems (th
 same_like c xs ys h f = weigh f c xs ∙ h (part f c) ∙ sym (weigh f c ys)
 
 -- One card
-
-kind_by : (k l : Kind) → number_of k ≡ number_of l → k ≡ l
-kind_by kinds.Full kinds.Full e = refl
-kind_by kinds.TimeWait kinds.TimeWait e = refl
-kind_by kinds.Listen kinds.Listen e = refl
-kind_by kinds.Request kinds.Request e = refl
-kind_by kinds.Full kinds.TimeWait e = absurd (omega (arith, e))
-kind_by kinds.Full kinds.Listen e = absurd (omega (arith, e))
-kind_by kinds.TimeWait kinds.Full e = absurd (omega (arith, e))
-kind_by kinds.TimeWait kinds.Listen e = absurd (omega (arith, e))
-kind_by kinds.Listen kinds.Full e = absurd (omega (arith, e))
-kind_by kinds.Listen kinds.TimeWait e = absurd (omega (arith, e))
-kind_by kinds.Full kinds.Request e = absurd (omega (arith, e))
-kind_by kinds.Request kinds.Full e = absurd (omega (arith, e))
-kind_by kinds.TimeWait kinds.Request e = absurd (omega (arith, e))
-kind_by kinds.Request kinds.TimeWait e = absurd (omega (arith, e))
-kind_by kinds.Listen kinds.Request e = absurd (omega (arith, e))
-kind_by kinds.Request kinds.Listen e = absurd (omega (arith, e))
 
 alone : (x y : Card) → SameItems (x ∷ []) (y ∷ []) → (f : Card → ℕ) → f x ≡ f y
 alone x y h f = let e : f x + 0 ≡ f y + 0 = h f in omega (arith, e)

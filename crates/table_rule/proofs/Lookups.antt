@@ -29,6 +29,7 @@ use Rattle.table_rule.proofs.CardSteps.{at_end, seen_reads}
 use Rattle.table_rule.proofs.SlotSteps.{counts_small}
 use Rattle.table_rule.proofs.Serial.{three}
 use Rattle.table_rule.proofs.Ways.{meets, even-odd}
+use Rattle.table_rule.proofs.Sightings.{linked_where}
 use Rattle.sock_card.specs.declared.card.Packet.{Packet}
 use Rattle.sock_card.proofs.Most.{word_rank_most}
 
@@ -59,12 +60,6 @@ count (x ∷ xs) n h =
     let one = (count_one x n).1 (h x (omega (arith, times-here x xs))) in
     let more = count xs n (λ i g. h i (let z : times i (x ∷ xs) ≡ cond (eqb x i) 1 0 + times i xs = refl in omega (arith, z, g))) in
     omega (arith, split, one, more)
-
-linked_find : (i : ℕ) (chain : ℕ → List ℕ) (n : ℕ) → 0 < linked_below i chain n → (b : ℕ) × (b < n) × (0 < times i (chain b))
-linked_find i chain zero h = absurd (omega arith)
-linked_find i chain (suc n) h = dite (ℕ_discrete (times i (chain n)) 0)
-    (λ z. let t = linked_find i chain n (omega (arith, h, z)) in (t.0, omega (arith, t.1), t.2))
-    (λ ne. (n, omega arith, omega (arith, ne)))
 
 -- the first two of four words
 pub word_of_card : (card : ℕ → ℕ → ℕ) (i w : ℕ) → w < 4 → slice_index (words_at card i) w ≡ card i w
@@ -307,7 +302,7 @@ module _ (layout : Layout) (word : ℕ → ℕ) (chain : ℕ → List ℕ) (live
   pub dead_met : (i : ℕ) → i < layout.shape.slots → (IsLive (word (at layout i 0)) → ⊥) → 0 < Lk i → (t₀ : ℕ) → t₀ ≤ word 0 → SlotMet lives t₀ (word 0) i
   dead_met i near dead linked t₀ low =
       let d = dead_slot i near dead linked in
-      let f = linked_find i chain B linked in
+      let f = linked_where i chain B linked in
       let t = m.linked.links f.0 i f.1 f.2 in
       ⊎_elim (λ z. let w = m.linked.whole i t.nth t.life t.there z in absurd (omega (arith, d, w.2))) (λ z. busy_met i t.nth t.life t.there z t₀ low) t.state
 
@@ -315,7 +310,7 @@ module _ (layout : Layout) (word : ℕ → ℕ) (chain : ℕ → List ℕ) (live
   pub live_kept : (i since : ℕ) → i < layout.shape.slots → IsLive (word (at layout i 0)) → since ≤ word 0 → Kp (record { slot = i; since = since; words = [] })
   live_kept i since near live low =
       let l = live_slot i near live in
-      let f = linked_find i chain B (omega (arith, l.0)) in
+      let f = linked_where i chain B (omega (arith, l.0)) in
       let t = m.linked.links f.0 i f.1 f.2 in
       let num = m.lived.numbers i t.nth t.life t.there in
       record {

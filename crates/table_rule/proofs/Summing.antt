@@ -43,7 +43,7 @@ module _ (lives : ℕ → List Life) (t₀ s₀ s₁ t₁ : ℕ) (later : t₀ �
   wide_card card o = record { slot = o.slot; nth = o.nth; life = o.life; there = o.there; card-is = o.card-is; begun = let z = o.begun in omega arith; left = let z = o.left in omega arith }
 
 -- a rank of the words is that of the card that they say
-words_rank : (key : Packet) (ws : List ℕ) → rank_of key ws ≡ rank (card_from ws) key
+pub words_rank : (key : Packet) (ws : List ℕ) → rank_of key ws ≡ rank (card_from ws) key
 words_rank key ws = two_words (record { ends = slice_index ws 0; ports = slice_index ws 1; name = slice_index ws 2; extra = slice_index ws 3 }) key
 
 module _ (layout : Layout) (lives : ℕ → List Life) (clock : ℕ) (v : ReadView) (receipts : Each (ReceiptOk layout.shape.slots lives clock) v.receipts) (sighted : Each (SightedOk lives clock) v.sighted) where

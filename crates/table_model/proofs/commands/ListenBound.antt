@@ -17,7 +17,7 @@ use Rattle.bind_buckets.specs.declared.request.Answer.TheVariants as answers
 use Rattle.bind_buckets.specs.declared.request.Request.TheVariants as requests
 use Rattle.bind_buckets.specs.Journal.{Standing, asked}
 use Rattle.bind_buckets.specs.Members.{member}
-use Rattle.bind_buckets.specs.OwnerStep.{Held, owner_step, spoken, may_listen, has_name as is_owner_named, listener_answer, group_answer, group_number, place_for, members_at}
+use Rattle.bind_buckets.specs.OwnerStep.{Held, listener_answer, group_answer, group_number, place_for, members_at}
 use Rattle.chain_book.specs.declared.shape.Shape.{Shape}
 use Rattle.chain_book.specs.Chains.{Chains, placed, slot_outcome, hashed, home_in}
 use Rattle.chain_book.specs.Homes.{home}
@@ -37,6 +37,7 @@ use Rattle.table_model.specs.declared.operation.OpEnd.TheVariants as errors
 use Rattle.table_model.specs.Asking.{Asking, ends}
 use Rattle.table_model.specs.Tables.{Tables, with_chains, with_buckets, run}
 use Rattle.bind_buckets.specs.BindHash.{asked_at, answer_at, standing_at, untouched}
+use Rattle.bind_buckets.proofs.Told.{listens_held}
 use Rattle.table_model.specs.Own.{Own, Mine, card_of, with_socket}
 use Rattle.table_model.specs.Operations.{Did, done, listener, give_up, listen_hashed, listens_in, listen_answered, listen_at, when_done}
 use Rattle.table_model.specs.Commands.{bind_error}
@@ -58,22 +59,13 @@ use Rattle.table_model.proofs.questions.GroupRequests.{listened, listened_alone}
 use Rattle.table_model.proofs.parts.OwnGoes.{section_is}
 use Rattle.table_model.proofs.commands.Gone.{weight_same}
 
-spoken_held : (number : ℕ) (held : Held) (name : ℕ) (o : Option Owner) → (spoken held name o (may_listen number held name)).held ≡ held
-spoken_held number held name None = refl
-spoken_held number held name (Some a) = refl
-
--- to ask whether one may listen changes nothing
-asks_only : (number : ℕ) (held : Held) (name : ℕ) → (owner_step number held (requests.MayListen name)).held ≡ held
-unfolding owner_step
-asks_only number held name = spoken_held number held name (find (is_owner_named name) held.owners)
-
 -- the bucket of a port holds then what it held
 held_same : (buckets : List Standing) (port name : ℕ) → port % length buckets < length buckets → (standing_at (asked_at buckets port (requests.MayListen name)) port).held ≡ (standing_at buckets port).held
 held_same buckets port name inside =
     let number : ℕ = port % length buckets in
     let new : Standing = asked number (standing_at buckets port) (requests.MayListen name) in
     ap (λ (k : ℕ). (get_or (asked_at buckets port (requests.MayListen name)) (port % k) untouched).held) (length-set buckets number new)
-    ∙ (ap (λ (x : Standing). x.held) (get_or-set_same buckets number new untouched inside) ∙ asks_only number (standing_at buckets port).held name)
+    ∙ (ap (λ (x : Standing). x.held) (get_or-set_same buckets number new untouched inside) ∙ listens_held number (standing_at buckets port).held name)
 
 none_extra : (name : ℕ) (groups : List Group) → Each (λ g. has_member name g ≡ false) groups → extra_of name groups ≡ 0
 none_extra name [] h = refl

@@ -17,13 +17,14 @@ use Rattle.flat_list.specs.declared.command.Command.TheVariants as commands
 use Rattle.flat_list.specs.declared.command.Reply.TheVariants as replies
 use Rattle.flat_list.specs.Flat.{Flat}
 use Rattle.flat_list.specs.Groups.{Group}
-use Rattle.flat_list.specs.Outcome.{added, removed, with_new_label, Outcome, unchanged, changed, open_socket, has_slot, no_slot, draw, Found, search_port}
+use Rattle.flat_list.specs.Outcome.{added, removed, with_new_label, Outcome, unchanged, changed, open_socket, has_slot, no_slot, Found, search_port}
 use Rattle.flat_list.specs.Sections.{moment_of, next_name, name_at, labels_of, with_moment}
 use Rattle.flat_list.specs.Sockets.{is_refused, has_twin, has_name, open_named, open_in, without, without_waiting, is_expired}
 use Rattle.flat_list.specs.Sound.{IsSound}
 use Rattle.flat_list.specs.Connect.{connected_socket, end_of, replacing, is_taken_in, connect, connect_as, connect_from, connect_found, connect_search, connect_socket, connected_by_search, suits_connect, child_of, request_of, heir_of, accept, accept_as, syn, without_request, hand_over, ack_by, ack_socket, ack}
 use Rattle.flat_list.specs.Owned.{source_of, is_no_end, is_no_accept, is_no_ack}
 use Rattle.flat_list.specs.Step.{drop, step, new_socket, at_end, at_port, bind, at_address, bind_any, bind_given, bind_found, bind_search, bind_socket, search_bind, listening, listen, listens_in, listen_as, groups_with, listen_bound, listen_found, listen_socket, waiting, close, close_socket, at, reap}
+use Rattle.flat_list.proofs.Searches.{draw_sockets}
 use Rattle.table_model.specs.Tables.{Tables}
 use Rattle.table_model.specs.Own.{Own}
 use Rattle.table_model.specs.Means.{OwnMeans}
@@ -57,11 +58,6 @@ labelled_of n sockets labels label (Some k) e few =
 open_of : (n : ℕ) (flat : Flat) (label : List ℕ) → length (labels_of n flat.sections) + 1 < 2 ^ 24 → AreOf n (open_socket flat n label)
 open_of n flat label few =
     labelled_of n flat.sockets (labels_of n flat.sections) label (position (λ l. bytes_eq l label) (labels_of n flat.sections)) refl few
-
--- a search changes no sockets
-drawn : (flat : Flat) (n : ℕ) (o : Option ℕ) → (draw flat n o).flat.sockets ≡ flat.sockets
-drawn flat n None = refl
-drawn flat n (Some offset) = refl
 
 module _ (n m : ℕ) (apart : m ≢ n) (other : Own) (t : Tables) (flat : Flat) (own_is : OwnMeans m other t flat) (sound : IsSound flat) where
   abbrev R : List Socket → Type 0
@@ -159,7 +155,7 @@ module _ (n m : ℕ) (apart : m ≢ n) (other : Own) (t : Tables) (flat : Flat) 
       cond_both (end.port == 0) (bind_any flat n s end.addr) (bind_given flat s end) Stay
       (λ _. cond_both s.owner.noport (changed flat (at_address s end.addr) (replies.Port 0)) (bind_search flat n s end.addr) Stay
       (λ _. changed_rest flat refl (at_address s end.addr) is)
-      (λ _. bind_found_rest found (drawn flat n flat.header.offset) s end.addr found.port is))
+      (λ _. bind_found_rest found (draw_sockets flat n flat.header.offset) s end.addr found.port is))
       (λ _. cond_both (is_refused (at_end s end).owner flat.sockets) (unchanged flat replies.Eaddrinuse) (changed flat (at_end s end) (replies.Port end.port)) Stay (λ _. here)
       (λ _. changed_rest flat refl (at_end s end) is))
   bind_rest s states.Bound end is = here
@@ -174,7 +170,7 @@ module _ (n m : ℕ) (apart : m ≢ n) (other : Own) (t : Tables) (flat : Flat) 
 
   listen_rest : (s : Socket) (state : State) → IsOf n s.owner.name → Stay (listen_socket flat n s state)
   listen_rest s states.Unbound is =
-      let found : Found = search_bind flat n s s.owner.addr in listen_found_rest found (drawn flat n flat.header.offset) s found.port is
+      let found : Found = search_bind flat n s s.owner.addr in listen_found_rest found (draw_sockets flat n flat.header.offset) s found.port is
   listen_rest s states.Bound is = listen_bound_rest flat refl s is
   listen_rest s states.Listening is = here
   listen_rest s states.Full is = here
@@ -195,7 +191,7 @@ module _ (n m : ℕ) (apart : m ≢ n) (other : Own) (t : Tables) (flat : Flat) 
   connect_search_rest s to None is = here
   connect_search_rest s to (Some source) is =
       let found : Found = search_port flat n firsts.Even (suits_connect flat n s source to) in
-      connect_found_rest found (drawn flat n flat.header.offset) s source to found.port is
+      connect_found_rest found (draw_sockets flat n flat.header.offset) s source to found.port is
 
   connect_rest : (s : Socket) (state : State) (from : Option ℕ) (to : End) → IsOf n s.owner.name → Stay (connect_socket flat n s state from to)
   connect_rest s states.Bound from to is =

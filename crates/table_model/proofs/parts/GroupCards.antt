@@ -7,9 +7,10 @@ use Rattle.std.proofs.lemmas.List.Folds.{list_any-append, find-append}
 use Rattle.list_words.specs.Lists.{Each, Pairs, total}
 use Rattle.list_words.proofs.EachLemmas.{each_found, found_passes}
 use Rattle.flat_list.specs.Groups.{Group, has_member, join_group, with_group, leave_group, leave, has_members, left_by}
+use Rattle.flat_list.proofs.GroupsStay.{number_left}
 use Rattle.table_model.proofs.lists.Passing.{ind, any_weighs, same_answer}
 use Rattle.table_model.proofs.parts.GroupPlaces.{is_name}
-use Rattle.table_model.proofs.parts.Leaving.{left_members, left_number}
+use Rattle.table_model.proofs.parts.Leaving.{left_members}
 
 -- the number of the group of that name and 1, or 0 where it is in none
 abbrev pub extra_of : ℕ → List Group → ℕ
@@ -189,4 +190,4 @@ kept_or_not other g h gs hs false f e n later = not_there other g h gs hs (has_m
 pub extra_left : (name other : ℕ) (groups : List Group) → Each (λ (g : Group). Pairs (λ a b. a ≢ b) g.members) groups → name ≢ other → extra_of other (leave name groups) ≡ extra_of other groups
 extra_left name other [] h d = refl
 extra_left name other (g ∷ groups) h d =
-    kept_or_not other g (leave_group name g) groups (leave name groups) (has_member other g) (member_kept name other g h.0 d) refl (left_number name g) (extra_left name other groups h.1 d)
+    kept_or_not other g (leave_group name g) groups (leave name groups) (has_member other g) (member_kept name other g h.0 d) refl (number_left name g) (extra_left name other groups h.1 d)

@@ -9,6 +9,7 @@ use Rattle.bind_buckets.specs.First.{change_first}
 use Rattle.bind_buckets.specs.Members.{is_named, has_member as is_member, without_member as left_in}
 use Rattle.flat_list.specs.Groups.{Group, has_member, has_members, left_by, leave_group, leave}
 use Rattle.flat_list.specs.Sound.{NumbersDiffer}
+use Rattle.flat_list.proofs.GroupsStay.{number_left}
 use Rattle.table_model.specs.Means.{names_in, members_of}
 use Rattle.table_model.proofs.parts.GroupPlaces.{at_number, is_name, GroupsAt, OnlyAt, members_in, any_names, no_member, member_there}
 
@@ -16,19 +17,11 @@ use Rattle.table_model.proofs.parts.GroupPlaces.{at_number, is_name, GroupsAt, O
 abbrev pub names_left : ℕ → List ℕ → List ℕ
 names_left name xs = cond (list_any (is_name name) xs) (left_by name xs) xs
 
-leave_number : (name : ℕ) (g : Group) (b : Bool) → has_member name g ≡ b → (leave_group name g).number ≡ g.number
-leave_number name g true e = rw e refl
-leave_number name g false e = rw e refl
-
 leave_members : (name : ℕ) (g : Group) (b : Bool) → has_member name g ≡ b → (leave_group name g).members ≡ cond b (left_by name g.members) g.members
 leave_members name g true e = rw e refl
 leave_members name g false e = rw e refl
 
--- the group that is left has the number that it had
-pub left_number : (name : ℕ) (g : Group) → (leave_group name g).number ≡ g.number
-left_number name g = leave_number name g (has_member name g) refl
-
--- and the members that are left
+-- the members that are left
 pub left_members : (name : ℕ) (g : Group) → (leave_group name g).members ≡ names_left name g.members
 left_members name g = leave_members name g (has_member name g) refl
 
@@ -37,7 +30,7 @@ none_kept n x ys true e = cond-false (at_number n x) (Some x) (find (at_number n
 none_kept n x ys false e = refl
 
 other_number : (name n : ℕ) (g : Group) → g.number ≢ n → at_number n (leave_group name g) ≡ false
-other_number name n g d = ne_eqb (leave_group name g).number n (λ e. d (sym (left_number name g) ∙ e))
+other_number name n g d = ne_eqb (leave_group name g).number n (λ e. d (sym (number_left name g) ∙ e))
 
 -- no group of that number comes by it
 none_after : (name n : ℕ) (groups : List Group) → Each (λ (g : Group). g.number ≢ n) groups → find (at_number n) (leave name groups) ≡ None
@@ -49,7 +42,7 @@ none_after name n (g ∷ groups) h =
 gone_by : (name n : ℕ) (g : Group) (rest : List Group) (b : Bool) → has_members (leave_group name g) ≡ b → g.number ≡ n → find (at_number n) rest ≡ None
     → members_in (find (at_number n) (cond b (leave_group name g ∷ rest) rest)) ≡ names_left name g.members
 gone_by name n g rest true e is none =
-    ap members_in (cond-true (at_number n (leave_group name g)) (Some (leave_group name g)) (find (at_number n) rest) (eq-eqb _ _ (left_number name g ∙ is)))
+    ap members_in (cond-true (at_number n (leave_group name g)) (Some (leave_group name g)) (find (at_number n) rest) (eq-eqb _ _ (number_left name g ∙ is)))
     ∙ left_members name g
 gone_by name n g rest false e is none =
     let empty : length (leave_group name g).members ≤ 0 = ltb-false 0 (length (leave_group name g).members) e in

@@ -3,7 +3,7 @@ use Rattle.std.proofs.Common.{◌≡◌, ◌≢◌, ℕ, ◌/◌, ◌%◌, ◌^�
 use Rattle.std.specs.List.{list_any}
 use Rattle.std.proofs.lemmas.Bool.{eqb-true, eq-eqb, ne_eqb, both_ways, and_parts, not-true}
 use Rattle.list_words.specs.Lists.{Each, Pairs, total}
-use Rattle.list_words.proofs.EachLemmas.{each_weaken, each_found, found_passes, each_push, each_map, each_of_all, each_unmap}
+use Rattle.list_words.proofs.EachLemmas.{each_weaken, each_found, each_push, each_map, each_of_all, each_unmap}
 use Rattle.list_words.proofs.TotalLemmas.{total-append}
 use Rattle.list_words.proofs.MapLemmas.{map_push}
 use Rattle.sock_card.specs.declared.owner.Owner.{Owner}
@@ -24,7 +24,7 @@ use Rattle.table_model.proofs.parts.OwnWaits.{any_without}
 use Rattle.table_model.proofs.lists.Listed.{Listed, put_weighs, without_weighs}
 use Rattle.table_model.proofs.parts.Own.{any_put}
 use Rattle.table_model.proofs.parts.Sections.{same_labels}
-use Rattle.table_model.proofs.parts.Groups.{any_by_found}
+use Rattle.table_model.proofs.parts.WaitNames.{listed_there}
 
 module _ {A : Type 0} (P : A → Type 0) (q : A → Bool) where
   kept_if : (x : A) (xs ys : List A) (b : Bool) → q x ≡ b → Each P (cond b (x ∷ ys) ys) → (q x ≡ true → P x) × Each P ys
@@ -117,9 +117,6 @@ hidden : (n : ℕ) (new : Socket) (xs : List Socket) → new.named ≡ false →
 hidden n new [] e = refl
 hidden n new (x ∷ xs) e = hidden_by n new x (put new xs) (without new.owner.name xs) (has_name new.owner.name x) e (hidden n new xs e)
 
--- a socket that is found has its name in the list
-some_named : (name : ℕ) (xs : List Socket) (s : Socket) → Listed name xs s → list_any (has_name name) xs ≡ true
-some_named name xs s at = any_by_found (has_name name) (has_name name) s xs at (found_passes (has_name name) xs s at)
 
 module _ (n : ℕ) (own : Own) (t : Tables) (flat : Flat) (h : OwnMeans n own t flat) (sound : IsSound flat) (s : Socket) (at : Listed s.owner.name flat.sockets s) (mine : is_open_in n s ≡ true) where
   abbrev name : ℕ
@@ -198,7 +195,7 @@ module _ (n : ℕ) (own : Own) (t : Tables) (flat : Flat) (h : OwnMeans n own t 
   waits_weigh f moment = ap (λ (b : Bool). cond {A = ℕ} b (f (new moment).owner moment) 0) (eq-eqb (name / 2 ^ 24) n section_is)
 
   is_there : (moment : ℕ) → list_any (has_name name) (put (new moment) flat.sockets) ≡ true
-  is_there moment = any_put (new moment) name flat.sockets ∙ some_named name flat.sockets s at
+  is_there moment = any_put (new moment) name flat.sockets ∙ listed_there name flat.sockets s at
 
   -- one of its open sockets waits
   pub own_waits : (t' : Tables) (moment : ℕ) (w : Mine) → w.owner ≡ (new moment).owner → w.extra ≡ moment

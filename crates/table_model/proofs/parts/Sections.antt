@@ -1,46 +1,21 @@
 -- What a section knows of itself, as it gives a label, draws an offset or comes to another moment.
-use Rattle.std.proofs.Common.{◌≡◌, ℕ, ◌+◌, ◌%◌, ◌==◌, Bool, true, false, cond, List, [], ◌∷◌, ◌++◌, length, find, Option, None, Some, refl, ap, sym, ◌∙◌, subst, arith}
-use Rattle.std.specs.Prelude.{unwrap_or}
-use Rattle.std.specs.Option.{option_map, option_map_or}
-use Rattle.std.proofs.lemmas.Bool.{eq-eqb}
+use Rattle.std.proofs.Common.{◌≡◌, ℕ, ◌+◌, ◌%◌, true, List, [], ◌∷◌, ◌++◌, length, Option, None, Some, refl, ap, sym, ◌∙◌, subst, arith}
+use Rattle.std.specs.Option.{option_map_or}
 use Rattle.list_words.proofs.EachLemmas.{each_weaken}
 use Rattle.rand_pcg.specs.Pcg.{pcg32}
-use Rattle.flat_list.specs.declared.header.Header.{Header}
 use Rattle.flat_list.specs.declared.header.Range.{Range}
 use Rattle.flat_list.specs.declared.header.First.{First}
 use Rattle.flat_list.specs.Flat.{Flat}
 use Rattle.flat_list.specs.Ports.{size, port_order}
 use Rattle.flat_list.specs.Outcome.{draw}
-use Rattle.flat_list.specs.Sections.{Section, section_of, labels_of, put_section, has_number, new_section, with_label, past_word, at_moment, with_given, with_moment}
+use Rattle.flat_list.specs.Sections.{Section, section_of, labels_of, put_section, with_label, past_word, at_moment, with_given, with_moment}
+use Rattle.flat_list.proofs.PutSection.{section_put}
+use Rattle.flat_list.proofs.LabelsGrow.{labels_are}
 use Rattle.table_model.specs.Tables.{Tables}
 use Rattle.table_model.specs.Own.{Own, Mine, Offsets, ports_of, past_offset, with_offsets}
 use Rattle.table_model.specs.Own as own_words
 use Rattle.table_model.specs.Commands.{after_search}
 use Rattle.table_model.specs.Means.{OwnMeans, section_as, IsNameOf}
-
-found_section : (header : Header) (n : ℕ) (new s : Section) (rest : List Section) (b : Bool) → new.number ≡ n → has_number new.number s ≡ b
-    → find (has_number n) (put_section new rest) ≡ Some new → find (has_number n) (cond b (new ∷ rest) (s ∷ put_section new rest)) ≡ Some new
-found_section header n new s rest true is e h = ap (λ (b : Bool). cond b (Some new) (find (has_number n) rest)) (eq-eqb new.number n is)
-found_section header n new s rest false is e h =
-    let no : has_number n s ≡ false = sym (ap (λ (k : ℕ). s.number == k) is) ∙ e in
-    ap (λ (b : Bool). cond b (Some s) (find (has_number n) (put_section new rest))) no ∙ h
-
--- the section that was put is found
-pub put_found : (header : Header) (n : ℕ) (new : Section) (sections : List Section) → new.number ≡ n → find (has_number n) (put_section new sections) ≡ Some new
-put_found header n new [] is = ap (λ (b : Bool). cond b (Some new) None) (eq-eqb new.number n is)
-put_found header n new (s ∷ rest) is = found_section header n new s rest (has_number new.number s) is refl (put_found header n new rest is)
-
--- the section of that number is the one that was put
-pub section_put : (header : Header) (n : ℕ) (new : Section) (sections : List Section) → new.number ≡ n → section_of header n (put_section new sections) ≡ new
-section_put header n new sections is = ap (λ (o : Option Section). unwrap_or o (new_section header n)) (put_found header n new sections is)
-
-labels_by : (header : Header) (n : ℕ) (o : Option Section) → unwrap_or (option_map (λ (s : Section). s.labels) o) [] ≡ (unwrap_or o (new_section header n)).labels
-labels_by header n None = refl
-labels_by header n (Some s) = refl
-
--- the labels of a section as it stands
-pub labels_are : (header : Header) (n : ℕ) (sections : List Section) → labels_of n sections ≡ (section_of header n sections).labels
-labels_are header n sections = labels_by header n (find (has_number n) sections)
 
 -- the list with these sections
 abbrev pub with_sections : Flat → List Section → Flat
@@ -49,7 +24,7 @@ with_sections flat sections = record flat { sections = sections }
 module _ (n : ℕ) (own : Own) (t : Tables) (flat : Flat) (h : OwnMeans n own t flat) where
   -- the section's labels are those that it has given
   pub same_labels : labels_of n flat.sections ≡ own.labels
-  same_labels = labels_are flat.header n flat.sections ∙ sym (ap (λ (s : Section). s.labels) h.section)
+  same_labels = sym (labels_are flat.header n flat.sections) ∙ sym (ap (λ (s : Section). s.labels) h.section)
 
   -- and its moment is that of the list
   pub same_moment : (section_of flat.header n flat.sections).moment ≡ own.moment

@@ -1,11 +1,10 @@
 -- New tables, and a section that hasn't begun.
-use Rattle.std.proofs.Common.{◌≡◌, ℕ, zero, suc, ◌/◌, ◌%◌, ◌^◌, ◌≤◌, ◌==◌, true, false, cond, List, [], ◌∷◌, length, get_or, map, filter, find, Option, Some, None, unwrap_or, refl, sym, ap, subst, ◌∙◌, arith}
-use Rattle.std.specs.Option.{option_map}
+use Rattle.std.proofs.Common.{◌≡◌, ℕ, zero, suc, ◌/◌, ◌%◌, ◌^◌, ◌≤◌, ◌==◌, true, false, cond, List, [], ◌∷◌, length, get_or, map, filter, refl, sym, ap, subst, ◌∙◌, arith}
 use Rattle.std.proofs.lemmas.Bool.{eqb-true, false_from_ne_true, and_right}
 use Rattle.list_words.proofs.EachLemmas.{each_weaken}
 use Rattle.sock_card.specs.Conflict.{is_time_wait}
 use Rattle.flat_list.specs.declared.socket.Socket.{Socket}
-use Rattle.flat_list.specs.Sections.{Section, new_section, section_of, labels_of, has_number}
+use Rattle.flat_list.specs.Sections.{Section, section_of, labels_of}
 use Rattle.flat_list.specs.Sound.{IsGiven}
 use Rattle.std.proofs.Math.ListN.{replicate}
 use Rattle.std.proofs.lemmas.List.{length-replicate}
@@ -19,6 +18,7 @@ use Rattle.chain_book.specs.Chains.{has_slot}
 use Rattle.flat_list.specs.declared.header.Header.{Header}
 use Rattle.bind_buckets.specs.BindHash.{untouched}
 use Rattle.flat_list.specs.Sockets.{is_open_in}
+use Rattle.flat_list.proofs.LabelsGrow.{labels_are}
 use Rattle.table_model.specs.Means.{is_used, names_in, stands_in_some, owner_of, weighs_as_wait, NewMeanEmpty, StartsMeant}
 
 -- what is read from one item again and again is that item
@@ -74,14 +74,6 @@ new_mean_empty header =
             (each-replicate {A = List ℕ} (λ members. Each (λ m. stands_in_some m (replicate chains []) ≡ true) members) 8 [] tt);
       };
     }
-
-labels_by : (header : Header) (n : ℕ) (o : Option Section) → (unwrap_or o (new_section header n)).labels ≡ unwrap_or (option_map (λ (s : Section). s.labels) o) []
-labels_by header n None = refl
-labels_by header n (Some s) = refl
-
--- a section's labels are those that the list says it has given
-pub labels_are : (header : Header) (n : ℕ) (xs : List Section) → (section_of header n xs).labels ≡ labels_of n xs
-labels_are header n xs = labels_by header n (find (has_number n) xs)
 
 none_of : (header : Header) (n : ℕ) (xs : List Section) (s : Socket) → (section_of header n xs).labels ≡ [] → IsGiven xs s → (s.owner.name / 2 ^ 24 == n) ≡ false
 none_of header n xs s none given =

@@ -2,9 +2,10 @@ use Rattle.std.proofs.Common.{◌∙◌, ap, subst}
 use Rattle.bind_buckets.specs.declared.request.Request.TheVariants as requests
 use Rattle.bind_buckets.specs.Answers.{answer_of_listen}
 use Rattle.bind_buckets.specs.Bucket.{Bucket, IsSound}
+use Rattle.bind_buckets.proofs.Told.{listens_held}
 use Rattle.shared_ops.proofs.Groups.{few_groups}
 use Rattle.shared_ops.proofs.There.{answers_so, listens_as, listen_known, asked_there, few_buckets}
-use Rattle.shared_ops.proofs.Lists.{listens_held, says_so}
+use Rattle.shared_ops.proofs.Lists.{says_so}
 use Rattle.shared_ops.proofs.asking.may_listen.Goals as goal
 
 pub returns-clause-few : goal.returns-clause-few

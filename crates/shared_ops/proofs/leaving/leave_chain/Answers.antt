@@ -14,8 +14,9 @@ use Rattle.table_model.specs.Operations as plans
 use Rattle.shared_ops.specs.Closes.{is_gone, leave_entry, spot_of}
 use Rattle.shared_ops.specs.Stands.{buckets_of, turned}
 use Rattle.shared_ops.proofs.Goes.{asked_all, left_nowhere}
-use Rattle.shared_ops.proofs.CloseGoes.{hashed_leaves, leaves_err, none_given, none_listed, none_stands}
+use Rattle.shared_ops.proofs.CloseGoes.{hashed_leaves, leaves_err, none_listed, none_stands}
 use Rattle.reuseport_group.specs.Passes as lists
+use Rattle.port_search.proofs.TurnSearch.{nothing_made}
 use Rattle.shared_ops.specs.Groups.{LeavesAs}
 use Rattle.shared_ops.proofs.ListTurns.{leaves_as, left_keeps}
 use Rattle.shared_ops.proofs.leaving.leave_chain.Goals as goal
@@ -40,7 +41,7 @@ returns-in_default-clause-carried g c =
     let v = turned c.args.worker.now in
     let w = known c.give.new.pass in
     let turn = c.in_ok-turn.turn in
-    let none = none_given turn.place v w (made c.begin_with.new.worker.turns turn) c.in_ok-turn.ensures.none (c.give.ensures.gave v c.in_ok-turn.ensures.within) in
+    let none = nothing_made turn.place v w (made c.begin_with.new.worker.turns turn) c.in_ok-turn.ensures.none (c.give.ensures.gave v c.in_ok-turn.ensures.within) in
     left_nowhere (buckets_of t) a.name (unhashes (spot_of c.args.place) c.args.place.card (plans.leave a plans.gone)) v w (side_of t.chains c.args.worker.now.chain) (side_of t.chains c.lock_chain_of.new.pass)
     (sym (c.in_default.ensures.none ∙ c.begin_with.ensures.side)) tt none
 
@@ -49,7 +50,7 @@ returns-in_default-clause-nothing g c =
     let v = turned c.args.worker.now in
     let w = known c.give.new.pass in
     let turn = c.in_ok-turn.turn in
-    none_given turn.place v w (made c.begin_with.new.worker.turns turn) c.in_ok-turn.ensures.none (c.give.ensures.gave v c.in_ok-turn.ensures.within)
+    nothing_made turn.place v w (made c.begin_with.new.worker.turns turn) c.in_ok-turn.ensures.none (c.give.ensures.gave v c.in_ok-turn.ensures.within)
 
 pub returns-in_default-clause-kept : goal.returns-in_default-clause-kept
 returns-in_default-clause-kept g c =
@@ -58,7 +59,7 @@ returns-in_default-clause-kept g c =
     let w = known c.give.new.pass in
     let turn = c.in_ok-turn.turn in
     none_stands a (owner_key a % buckets_of c.args.tables.now) v w c.requires.stands
-    (none_given turn.place v w (made c.begin_with.new.worker.turns turn) c.in_ok-turn.ensures.none (c.give.ensures.gave v c.in_ok-turn.ensures.within))
+    (nothing_made turn.place v w (made c.begin_with.new.worker.turns turn) c.in_ok-turn.ensures.none (c.give.ensures.gave v c.in_ok-turn.ensures.within))
 
 pub returns-in_default-clause-listed : goal.returns-in_default-clause-listed
 returns-in_default-clause-listed g c =
@@ -66,7 +67,7 @@ returns-in_default-clause-listed g c =
     let w = known c.give.new.pass in
     let turn = c.in_ok-turn.turn in
     none_listed (lists.groups c.args.tables.now.groups) v w c.args.worker.now.groups c.begin_with.new.worker.groups c.begin_with.ensures.groups
-    (none_given turn.place v w (made c.begin_with.new.worker.turns turn) c.in_ok-turn.ensures.none (c.give.ensures.gave v c.in_ok-turn.ensures.within))
+    (nothing_made turn.place v w (made c.begin_with.new.worker.turns turn) c.in_ok-turn.ensures.none (c.give.ensures.gave v c.in_ok-turn.ensures.within))
 
 pub remove-requires-clause-room : goal.remove-requires-clause-room
 remove-requires-clause-room g c = c.lock_chain_of.ensures.room 1 c.in_ok-turn.ensures.room

@@ -15,8 +15,9 @@ use Rattle.table_model.specs.Own.{Mine}
 use Rattle.shared_ops.specs.Closes.{WaitsAs, leave_entry}
 use Rattle.shared_ops.specs.Stands.{buckets_of}
 use Rattle.shared_ops.proofs.Goes.{asked_all}
-use Rattle.shared_ops.proofs.CloseGoes.{same_home, wait_entry, close_waits, close_goes, none_given, none_listed}
+use Rattle.shared_ops.proofs.CloseGoes.{same_home, wait_entry, close_waits, close_goes, none_listed}
 use Rattle.reuseport_group.specs.Passes as lists
+use Rattle.port_search.proofs.TurnSearch.{nothing_made}
 use Rattle.shared_ops.specs.Groups.{LeavesAs}
 use Rattle.shared_ops.proofs.Lists.{made_none, made_more, given_spares, sparing_keeps}
 use Rattle.shared_ops.proofs.ListTurns.{leaves_as, left_keeps}
@@ -32,7 +33,7 @@ replace-requires-clause-chain g c =
 
 pub returns-in_default-clause-nothing : goal.returns-in_default-clause-nothing
 returns-in_default-clause-nothing g c = λ v within.
-    none_given c.args.turn.place v (known c.give.new.pass) (made c.args.worker.now.turns c.args.turn) c.requires.made (c.give.ensures.gave v within)
+    nothing_made c.args.turn.place v (known c.give.new.pass) (made c.args.worker.now.turns c.args.turn) c.requires.made (c.give.ensures.gave v within)
 
 pub returns-in_default-clause-lists : goal.returns-in_default-clause-lists
 returns-in_default-clause-lists g c = λ v within. inl refl
@@ -41,7 +42,7 @@ pub returns-in_default-clause-listed : goal.returns-in_default-clause-listed
 returns-in_default-clause-listed g c = λ v within.
     let p = c.args.worker.now.groups in
     none_listed (lists.groups c.args.tables.now.groups) v (known c.give.new.pass) p p refl
-    (none_given c.args.turn.place v (known c.give.new.pass) (made c.args.worker.now.turns c.args.turn) c.requires.made (c.give.ensures.gave v within))
+    (nothing_made c.args.turn.place v (known c.give.new.pass) (made c.args.worker.now.turns c.args.turn) c.requires.made (c.give.ensures.gave v within))
 
 pub returns-in-Ok-clause-went : goal.returns-in-Ok-clause-went
 returns-in-Ok-clause-went g c = λ v within.

@@ -6,6 +6,7 @@ use Rattle.bind_buckets.specs.Answers.{answer_of_name}
 use Rattle.bind_buckets.specs.Notes.{Note}
 use Rattle.bind_buckets.specs.Bucket.{entries_of}
 use Rattle.bind_buckets.specs.Turned.{made}
+use Rattle.port_search.proofs.TurnSearch.{nothing_made}
 use Rattle.chain_deeds.specs.Answers.{Reaps}
 use Rattle.chain_deeds.specs.Sides.{side_of}
 use Rattle.table_model.specs.Own.{Mine, card_of}
@@ -13,7 +14,6 @@ use Rattle.shared_ops.specs.Stands.{buckets_of}
 use Rattle.shared_ops.proofs.Goes.{asked_all}
 use Rattle.shared_ops.proofs.ReapGoes.{reap_entry, reap_found, reap_none}
 use Rattle.shared_ops.proofs.Lists.{made_none, made_more, given_spares}
-use Rattle.shared_ops.proofs.CloseGoes.{none_given}
 use Rattle.shared_ops.proofs.reaping.reap_in.Goals as goal
 
 pub returns-in-Some-answer-clause-reaps : goal.returns-in-Some-answer-clause-reaps
@@ -56,7 +56,7 @@ returns-in-None-clause-spares g c = λ v within.
 
 pub returns-in_default-clause-nothing : goal.returns-in_default-clause-nothing
 returns-in_default-clause-nothing g c = λ v within.
-    none_given c.args.turn.place v (known c.give.new.pass) (made c.args.worker.now.turns c.args.turn) c.requires.made (c.give.ensures.gave v within)
+    nothing_made c.args.turn.place v (known c.give.new.pass) (made c.args.worker.now.turns c.args.turn) c.requires.made (c.give.ensures.gave v within)
 
 pub returns-in_default-clause-spares : goal.returns-in_default-clause-spares
 returns-in_default-clause-spares g c = λ v within.
