@@ -1,5 +1,8 @@
 -- A bind bucket as its callers see it, and what each call makes of it: struct inet_bind_bucket of
 -- include/net/inet_hashtables.h. Its journal, and the room that is promised, are our own rule.
+--
+-- To be read from `called`, the bucket after a call, and `answer_to`, its answer. What calls ask is in `IsAllowed` and
+-- `HasRoom`, and what holds of every bucket in `IsSound`; two laws stand at the end.
 use Rattle.std.specs.Prelude.{◌≡◌, ℕ, ◌-◌, ◌/◌, ◌%◌, ◌≤◌, ◌<◌, Bool, true, false, ◌==◌, ◌||◌, nat_lt, List, [], ◌∷◌, ◌++◌, length, map, find, if◌then◌else◌, IfSome}
 use Rattle.list_words.specs.Lists.{Each}
 use Rattle.sock_card.specs.declared.owner.Owner.{Owner}

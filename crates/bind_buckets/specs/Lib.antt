@@ -8,14 +8,6 @@ pub mod Notes
 pub mod Callers
 pub mod Turned
 pub mod Bucket
-pub mod Tally
-pub mod OwnerCounts
-pub mod Owners
-pub mod Change
-pub mod MaybePlace
-pub mod Links
-pub mod Slots
-pub mod Runs
 pub mod HeldBy
 pub mod Kept
 pub mod Fields
@@ -24,4 +16,14 @@ pub mod BindHash
 pub mod Followed
 pub mod OwnTold
 pub mod Closed
+-- Worked rows and laws.
 pub mod Rows
+-- What only private functions cite.
+pub mod Tally
+pub mod OwnerCounts
+pub mod Owners
+pub mod Change
+pub mod MaybePlace
+pub mod Links
+pub mod Slots
+pub mod Runs

@@ -3,6 +3,8 @@
 -- __inet_inherit_port and inet_put_port of net/ipv4/inet_hashtables.c, reuseport_alloc and reuseport_add_sock of
 -- net/core/sock_reuseport.c. Our own rule: so many places for groups in a bucket, and room for so many members in a
 -- group.
+--
+-- To be read from the end: `owner_step` has a line for each request, and what it calls stands above it.
 use Rattle.std.specs.Prelude.{ℕ, ◌+◌, ◌*◌, Bool, ◌==◌, ◌&&◌, nat_lt, List, [], ◌∷◌, ◌++◌, length, Option, None, Some, if◌then◌else◌, find, position, replicate, slice_set}
 use Rattle.std.specs.List.{slice_index_or}
 use Rattle.std.specs.Option.{option_or, option_and_then}

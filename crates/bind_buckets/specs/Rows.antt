@@ -1,4 +1,4 @@
--- Worked examples of a bucket's steps.
+-- Worked examples of a bucket's steps: our own.
 use Rattle.std.specs.Prelude.{◌≡◌, ℕ, Bool, true, false, List, [], ◌∷◌, None}
 use Rattle.sock_card.specs.declared.owner.Owner.{Owner}
 use Rattle.sock_card.specs.declared.owner.State.TheVariants as states

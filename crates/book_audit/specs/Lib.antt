@@ -5,5 +5,6 @@ pub mod Looks
 pub mod Tried
 pub mod Findings
 pub mod Stays
-pub mod Laws
 pub mod Index
+-- Worked rows and laws.
+pub mod Laws

@@ -6,4 +6,5 @@ pub mod Sections
 pub mod Blocks
 pub mod Captures
 pub mod Grammar
+-- Worked rows and laws.
 pub mod Rows

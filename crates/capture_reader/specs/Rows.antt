@@ -1,4 +1,4 @@
--- Worked examples of stored packets and of captures, with their bytes.
+-- Worked examples of stored packets and of captures, with their bytes: our own.
 use Rattle.std.specs.Prelude.{ℕ, List, [], ◌∷◌, ◌++◌, map, take, replicate, true, false}
 use Rattle.capture_reader.specs.declared.header.Link.TheVariants as links
 use Rattle.capture_reader.specs.declared.packet.Item.{Item}

@@ -1,4 +1,6 @@
 -- What a deed leaves at the chains: our own.
+--
+-- To be read from the end: `Does` says that some deeds were done and no others, and `Made` what one of them leaves.
 use Rattle.std.specs.Prelude.{◌≡◌, ◌≢◌, ℕ, ◌+◌, ◌<◌, ◌≤◌, List, [], ◌∷◌, ◌++◌, map, None, Some, find}
 use Rattle.std.specs.Option.{option_map}
 use Rattle.list_words.specs.Lists.{Each, Pairs}

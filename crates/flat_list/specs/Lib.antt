@@ -12,10 +12,11 @@ pub mod Connect
 pub mod Step
 pub mod Run
 pub mod Sound
-pub mod Rows
-pub mod MoreRows
 pub mod Script
 pub mod Padded
 pub mod Kept
 pub mod Labels
 pub mod Fits
+-- Worked rows and laws.
+pub mod Rows
+pub mod MoreRows

@@ -1,4 +1,7 @@
--- Worked examples in which several causes of a refusal stand beside each other, or sections do.
+-- Worked examples in which several causes of a refusal stand beside each other, or sections do. Our own.
+--
+-- To be read from `refusals` on: the law `more_rows` of src/laws.rt states each row with its header by `Answer` of
+-- Rows, those of three sections together by `AllAnswer`, and last `IsApart`.
 use Rattle.std.specs.Prelude.{◌≡◌, ℕ, ◌+◌, List, [], ◌∷◌, ◌++◌, None, Some, map, codes, true}
 use Rattle.sock_card.specs.declared.card.Kind.{Kind}
 use Rattle.sock_card.specs.declared.card.Kind.TheVariants as kinds

@@ -1,4 +1,7 @@
--- Worked examples, computed by the definitions: each line is a command of section 1 with its reply.
+-- Worked examples, computed by the definitions: each line is a command of section 1 with its reply. Our own.
+--
+-- To be read from `Answer`, by which the law `rows` of src/laws.rt states each row with its header. The rows begin at
+-- `until_one_listens`; most of what they are made of stands above it.
 use Rattle.std.specs.Prelude.{◌≡◌, ℕ, ◌+◌, List, [], ◌∷◌, ◌++◌, Option, None, Some, map, codes, Bool, false, true, replicate}
 use Rattle.std.specs.List.{flat_map, range_with_len}
 use Rattle.sock_card.specs.declared.card.Kind.{Kind}

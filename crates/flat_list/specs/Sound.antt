@@ -1,4 +1,6 @@
 -- What holds of every list that commands reach, from the empty one on: our own laws.
+--
+-- To be read from `IsSound`: what its fields cite stands above it, and the laws stand below it.
 use Rattle.std.specs.Prelude.{◌≡◌, ◌≢◌, ℕ, ◌≤◌, ◌<◌, ◌+◌, ◌/◌, ◌%◌, ◌^◌, Bool, true, false, ◌&&◌, not, Some, List, length, count_by, if◌then◌else◌}
 use Rattle.std.specs.List.{list_any}
 use Rattle.list_words.specs.Lists.{Each, Pairs}

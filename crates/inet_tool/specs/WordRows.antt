@@ -1,4 +1,4 @@
--- Words that clap refuses: worked examples, by its own statement of faults.
+-- Words that clap refuses: worked examples of our own, by clap's statement of faults.
 use Rattle.std.specs.Prelude.{List, ◌∷◌, codes}
 use Rattle.clap.specs.Words.{Text, fault_of}
 use Rattle.clap.specs.declared.error.kind.ErrorKind.{ErrorKind}

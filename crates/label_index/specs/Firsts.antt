@@ -1,4 +1,5 @@
--- What an index keeps of its labels. No public contract cites this file.
+-- What an index keeps of its labels: our own. No public contract cites this file; the view and the invariant of
+-- `LabelIndex` do.
 use Rattle.std.specs.Prelude.{◌≡◌, ℕ, Bool, ◌&&◌, nat_eq, List, [], ◌∷◌, ◌++◌, length, not, is_some}
 use Rattle.std.specs.HashMap.{HashMap, get}
 use Rattle.flat_list.specs.declared.command.LabelKey.{LabelKey}

@@ -1,4 +1,5 @@
--- What a seed is. No public contract of another crate cites this file.
+-- What a seed is: our own, over the standard library's `FoldHasher`. No public contract of another crate cites this
+-- file.
 use Rattle.std.specs.Prelude.{ℕ}
 use Rattle.std.specs.List.{fold}
 use Rattle.std.specs.Hash.{u64}

@@ -1,5 +1,8 @@
 -- What hashing and unhashing a card in a locked chain may answer, and what the pass knows then:
 -- __sk_nulls_add_node_rcu and __sk_nulls_del_node_init_rcu of include/net/sock.h, under the chain's lock.
+--
+-- Of a change, contracts cite `Adds`, which is what the pass has more then, and `Rest`, `Sees`, `PlacesStay` and
+-- `OthersStay`, which say what stays. From these it is to be read upwards.
 use Rattle.std.specs.Prelude.{true, ◌+◌, ◌≡◌, ◌≢◌, ◌==◌, ℕ, ◌<◌, ◌≤◌, ◌%◌, List, [], ◌∷◌, ◌++◌, Option, None, Some, Bool, cond, false, find, slice_index, ◌⊎◌}
 use mathlib.Core.Option.{some}
 use lib.ListN.{get_elem?}

@@ -3,4 +3,5 @@ pub mod Ports
 pub mod Search
 pub mod Turned
 pub mod TurnedConnect
+-- Worked rows and laws.
 pub mod Rows

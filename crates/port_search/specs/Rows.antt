@@ -1,4 +1,4 @@
--- Worked examples of searches in one bucket.
+-- Worked examples of searches in one bucket: our own.
 use Rattle.std.specs.Prelude.{◌≡◌, ℕ, true, false, List, [], ◌∷◌, map, Some, None}
 use Rattle.sock_card.specs.declared.owner.Owner.{Owner}
 use Rattle.sock_card.specs.declared.owner.State.TheVariants as states

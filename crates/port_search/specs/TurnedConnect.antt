@@ -1,4 +1,7 @@
 -- A search of `connect` through buckets that are shared, each port asked in its own turn: our own.
+--
+-- The contract of `find_connect` cites `MayTry`, which is what it asks, and for each way in which it ends one of
+-- `MakesAt`, `MakesNone`, `SaysFull`, `MakesNotYet` and `FindsBusy`. What stands below these is of one port's turn.
 use Rattle.std.specs.Prelude.{◌≡◌, ℕ, ◌+◌, ◌%◌, ◌^◌, ◌<◌, ◌≤◌, ◌⊎◌, List, [], ◌∷◌, ◌++◌, Option, None, Some, Result, Ok, Err}
 use Rattle.std.specs.List.{FoldsTo}
 use denote.Ref.{MutBor}

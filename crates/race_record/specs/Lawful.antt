@@ -1,4 +1,6 @@
 -- Which records of a race are lawful: our own. Each field of `Lawful` is one fact of a record.
+--
+-- To be read from `Lawful`, at the end: what its fields cite stands above it, in their order.
 use Rattle.std.specs.Prelude.{◌≡◌, ◌≢◌, ℕ, ◌+◌, ◌/◌, ◌^◌, ◌<◌, ◌≤◌, true, IsTrue, List, [], ◌∷◌, ◌++◌, length, map, Some}
 use Rattle.std.specs.List.{flat_map, slice_index_or}
 use Rattle.list_words.specs.Lists.{Each, Pairs, SameItems}

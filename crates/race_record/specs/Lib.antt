@@ -3,9 +3,10 @@ pub mod Deeds
 pub mod Goes
 pub mod Record
 pub mod Lawful
-pub mod Worked
-pub mod Refused
 pub mod Laws
 pub mod Headline
+-- Worked rows and laws.
+pub mod Worked
+pub mod Refused
 pub mod Gathered
 pub mod Wrong

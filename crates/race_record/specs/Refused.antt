@@ -1,5 +1,5 @@
 -- A worked record of refusals: two sections want one four-tuple; a slot is sought while a lookup holds the last one;
--- and lookups that were never answered.
+-- and lookups that were never answered. Our own.
 use Rattle.std.specs.Prelude.{ℕ, false, true, [], ◌∷◌, None}
 use Rattle.sock_card.specs.declared.owner.Owner.{Owner}
 use Rattle.sock_card.specs.declared.card.Card.{Card}

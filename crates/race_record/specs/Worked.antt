@@ -1,5 +1,8 @@
 -- Worked records: one listener by itself, the same with a dump, two sections beside each other, and a handshake.
 -- Our own.
+--
+-- To be read from the records: `first_race`, `dump_race`, `second_race` and `handshake_race`, each below the parts of
+-- which it is made. The laws of src/rows.rt state that they are lawful.
 use Rattle.std.specs.Prelude.{ℕ, false, true, List, [], ◌∷◌, None, Some}
 use Rattle.sock_card.specs.declared.owner.Owner.{Owner}
 use Rattle.sock_card.specs.declared.card.Card.{Card}

@@ -1,4 +1,7 @@
 -- Records that aren't lawful, each but for one thing like one that is. Our own.
+--
+-- Each definition of type `Type 0`, such as `NumberTooMany`, says of one record that it isn't lawful. What the record
+-- is made of stands above it, and in Worked and Refused.
 use Rattle.std.specs.Prelude.{ℕ, List, [], ◌∷◌, ◌++◌, false, None}
 use Rattle.capture_reader.specs.declared.packet.Item.TheVariants as items
 use Rattle.capture_reader.specs.Captures.{Capture}

@@ -1,4 +1,6 @@
 -- How the record of a race is written: a format of our own.
+--
+-- To be read from `render` upwards: `told` is what is written of a race, and `told_text` has its lines in their order.
 use Rattle.std.specs.Prelude.{◌≡◌, ℕ, ◌+◌, ◌==◌, Bool, List, [], ◌∷◌, ◌++◌, length, map, codes, decimal, Option, None, Some, if◌then◌else◌}
 use Rattle.std.specs.List.{flat_map}
 use Rattle.inet_io.specs.Texts.{end_text}

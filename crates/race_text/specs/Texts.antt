@@ -1,4 +1,4 @@
--- Worked examples: the texts of the worked records of race_record.
+-- Worked examples: the texts of the worked records of race_record. Our own.
 use Rattle.std.specs.Prelude.{ℕ, List, ◌++◌, codes}
 
 -- one listener by itself

@@ -1,4 +1,7 @@
 -- Laws of what workers did: our own.
+--
+-- Each definition is one law, which a function of src/laws.rt states. Of a whole race `Closes` says that its record is
+-- lawful but for what is said of lookups, and `LooksToo` that it is lawful.
 use Rattle.std.specs.Prelude.{◌≡◌, ℕ, ◌+◌, List, [], ◌∷◌, ◌++◌, length}
 use Rattle.std.specs.List.{range_with_len}
 use Rattle.std.specs.Global.{Box}

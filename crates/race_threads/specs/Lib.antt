@@ -11,8 +11,9 @@ pub mod Looking
 pub mod Workers
 pub mod Shares
 pub mod Jobs
-pub mod Laws
 pub mod Scripts
 pub mod Works
 pub mod Finished
 pub mod Told
+-- Worked rows and laws.
+pub mod Laws

@@ -1,4 +1,6 @@
 -- What a race leaves once all workers are joined, and the record that it is: our own.
+--
+-- To be read from `HasEnded`, which says what the workers left, and `race_by`, which is the record.
 use Rattle.std.specs.Prelude.{◌≡◌, ℕ, ◌+◌, ◌<◌, ◌≤◌, Bool, List, [], ◌∷◌, length, map, ◌^◌}
 use Rattle.std.specs.List.{flat_map, range_with_len}
 use Rattle.std.specs.Global.{Box}

@@ -1,5 +1,8 @@
 -- The forms of a record's lines, by their words: a format of our own. Numbers are spelled in decimal digits without a
 -- leading zero, which is `decimal`, and ends as `end_text` says.
+--
+-- To be read from the end: `HasForm` says when words are a line. It asks `IsReply` of a command's line; of any other,
+-- `line_words` says how it is spelled and `LineFits` what is in range.
 use Rattle.std.specs.Prelude.{◌≡◌, ℕ, ◌^◌, ◌<◌, ◌≤◌, ◌==◌, ◌&&◌, ◌||◌, nat_lt, Bool, false, bytes_eq, IsTrue, List, [], ◌∷◌, ◌++◌, length, codes, decimal, Option, Some, None, if◌then◌else◌}
 use Rattle.std.specs.List.{list_all, list_any}
 use Rattle.inet_io.specs.Texts.{end_text}

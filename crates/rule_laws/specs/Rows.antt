@@ -1,5 +1,7 @@
 -- Worked examples, computed by the definitions: each shows a rule that no row of the flat list shows. Each line is a
--- command of section 1 with its reply.
+-- command of section 1 with its reply. Our own.
+--
+-- The law `rows` of src/laws.rt states each row with its header by `Answer` of flat_list's Rows, and last `IsAdded`.
 use Rattle.std.specs.Prelude.{◌≡◌, ℕ, ◌+◌, List, [], ◌∷◌, ◌++◌, None, Some, codes, true}
 use Rattle.sock_card.specs.declared.card.Kind.TheVariants as kinds
 use Rattle.jhash_words.specs.Places.{tuple_hash, listen_hash}

@@ -1,4 +1,8 @@
--- Worked examples: texts whose scripts are computed by the definitions, one of them with what is written for it.
+-- Worked examples, our own: texts whose scripts are computed by the definitions, two of them with what is written for
+-- them.
+--
+-- What is claimed is `IsUnsaid`, `IsWritten`, `IsDumped`, `IsEachForm` and `GoesRound`; the texts and the scripts of
+-- which these speak stand above them.
 use Rattle.std.specs.Prelude.{◌≡◌, ℕ, List, [], ◌∷◌, ◌++◌, Some, None, codes, true, false, replicate}
 use Rattle.chain_book.specs.declared.shape.Shape.{Shape}
 use Rattle.flat_list.specs.declared.header.Reserved.{Reserved}

@@ -1,4 +1,4 @@
--- What the contracts of this crate and of those above it cite.
+-- What only private functions cite.
 pub mod Sole
 pub mod Looks
 pub mod Steps

@@ -1,4 +1,5 @@
--- What a section's parts keep of themselves. Our own; no public contract cites this file.
+-- What a section's parts keep of themselves. Our own; no public contract cites this file, but the invariant of `Labels`
+-- does.
 use Rattle.std.specs.Prelude.{◌≡◌, ℕ, ◌<◌, ◌≤◌, ◌^◌, List, length, Option}
 use Rattle.flat_list.specs.Sections.{name_at}
 use Rattle.shared_ops.specs.declared.sock.Sock.{Sock}

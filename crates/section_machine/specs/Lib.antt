@@ -6,5 +6,6 @@ pub mod Waits
 pub mod Standing
 pub mod Carried
 pub mod Searches
-pub mod Begins
 pub mod LeftOff
+-- Worked rows and laws.
+pub mod Begins

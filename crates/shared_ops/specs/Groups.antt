@@ -1,5 +1,8 @@
 -- Which lists of groups an operation publishes, and when that is all that changed: reuseport_add_sock and
 -- reuseport_detach_sock of net/core/sock_reuseport.c. That a bucket's turn stands for reuseport_lock is our own.
+--
+-- Public contracts cite `ListsOfListen`, `ListsOfLeave` and `KeepsLists`, from each of which it is to be read upwards.
+-- The first two rest on `ListsIn`, which is of one turn.
 use Rattle.std.specs.Prelude.{◌≡◌, ◌≢◌, ◌⊎◌, ℕ, ◌+◌, ◌/◌, ◌%◌, ◌<◌, Bool, true, false, List, [], ◌∷◌, ◌++◌, Option, None, Some, Result, Ok, Err}
 use Rattle.std.specs.Option.{option_map_or}
 use Rattle.sock_card.specs.Conflict.{owner_key}

@@ -1,6 +1,9 @@
 -- The forms of a script's lines: a grammar of our own. A line is passed over, or its words are the spelling of a
 -- value that is in range. Numbers are spelled in decimal digits without a leading zero, which is `decimal`, and
 -- addresses and ends as `addr_text` and `end_text` say.
+--
+-- To be read from the end: `HasForm` says when words are a line. How values are spelled, as by `command_words`, and
+-- which are in range, as by `CommandFits`, stands above it.
 use Rattle.std.specs.Prelude.{◌≡◌, ℕ, ◌-◌, ◌^◌, ◌%◌, ◌<◌, ◌≤◌, Bool, true, false, IsTrue, List, [], ◌∷◌, ◌++◌, length, take, drop, map, replicate, codes, decimal, Option, Some, None}
 use Rattle.std.specs.List.Sorted.{IsStrictlyIncreasing}
 use Rattle.list_words.specs.Lists.{Each}

@@ -1,6 +1,9 @@
 -- Which texts are scripts, and what script a text is: a grammar of our own. No parsing stands here, and no state of
 -- reading: a line has the form of the words that spell it, and the lines of a script are those of its head, then
 -- those of its sections, and last that of its capture, if it has one.
+--
+-- To be read from `IsScript` upwards: `AreLines` has a script's lines in their order. Below it stand which line is the
+-- first outside the grammar, what a text has for its capture, and laws.
 use Rattle.std.specs.Prelude.{◌≡◌, ◌≢◌, ℕ, ◌+◌, ◌-◌, ◌≤◌, List, [], ◌∷◌, ◌++◌, length, map, filter, take, drop, Option, Some, None, Bool, true, false, unwrap_or}
 use Rattle.std.specs.List.{filter_map}
 use Rattle.list_words.specs.Lists.{Each, Pairs, SameItems, total}

@@ -2,16 +2,18 @@
 pub mod Words
 pub mod Forms
 pub mod Seen
-pub mod Pieces
 pub mod Grammar
-pub mod Fits
-pub mod Reading
 pub mod Output
 pub mod Shown
 pub mod Steps
 pub mod Make
-pub mod MadeCommands
-pub mod MadeRows
 pub mod Counts
-pub mod CountSteps
+-- Worked rows and laws.
+pub mod Fits
+pub mod MadeRows
 pub mod ShownAlike
+-- What only private functions cite.
+pub mod Pieces
+pub mod Reading
+pub mod MadeCommands
+pub mod CountSteps

@@ -1,4 +1,7 @@
 -- What `inet run` writes for a script: a format of our own. A refusal is written as the name of its errno.
+--
+-- To be read from `FlatOut`, near the end, upwards: the text is a script with a capture, `script_text` is what is
+-- written for it, and the flat list's replies and listings are `flat_replies` and `flat_listings`.
 use Rattle.std.specs.Prelude.{◌≡◌, ◌≢◌, ℕ, ◌+◌, ◌/◌, ◌%◌, ◌^◌, Bool, true, false, List, [], ◌∷◌, ◌++◌, ◌≤◌, ◌==◌, if◌then◌else◌, length, map, take, drop, codes, decimal, Option, Some, None, unwrap_or, slice_get}
 use Rattle.std.specs.List.{flat_map, slice_index_or}
 use Rattle.capture_reader.specs.declared.packet.Item.{Item}

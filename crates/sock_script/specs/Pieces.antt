@@ -1,4 +1,4 @@
--- Where a text's pieces end, of which its words and lines are made. No public contract cites this file.
+-- Where a text's pieces end, of which its words and lines are made: our own. No public contract cites this file.
 use Rattle.std.specs.Prelude.{◌≡◌, ◌≢◌, ◌⊎◌, ◌↔◌, ℕ, ◌+◌, ◌<◌, ◌≤◌, Bool, true, false, ◌||◌, List, [], ◌∷◌, length, slice_index, filter, Option, None, Some}
 use Rattle.std.specs.Borrow.{Bor}
 use Rattle.std.specs.Int.{bit_at}

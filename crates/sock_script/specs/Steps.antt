@@ -1,5 +1,9 @@
 -- What the steps of reading, of running and of writing a script answer: our own. Of public contracts, that of
--- `other_of` cites `IsCommand`, those of `Labels` cite `label_table` and `label_at`, and no other cites this file.
+-- `other_of` cites `IsCommand`, those of `Labels` cite `label_table` and `label_at`, that of `put_listing` cites
+-- `label_at`, and no other cites this file.
+--
+-- In three parts: of reading, up to `EndAnswer`; of running, from `takes_items` to `RunsSection`; of writing, from
+-- `label_table` on.
 use Rattle.std.specs.Prelude.{◌≡◌, ◌⊎◌, ℕ, ◌+◌, ◌/◌, ◌%◌, ◌^◌, Bool, true, false, not, bytes_eq, Option, Some, None, if◌then◌else◌, unwrap_or, slice_get, List, [], ◌∷◌, ◌++◌, ◌≤◌, map, take, drop, min, length}
 use Rattle.std.specs.List.{flat_map, list_any, slice_index_or}
 use Rattle.capture_reader.specs.declared.packet.Item.{Item}

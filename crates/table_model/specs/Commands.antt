@@ -1,5 +1,9 @@
 -- What each command of a section asks of the tables: an operation's plan, and what its result makes of the section's
 -- own and replies. Sources: errno(3), and those of the operations.
+--
+-- To be read from the end: `plan` has a line for each command, and most call what has the command's name, such as
+-- `bind_command`. What an operation's result makes of the section's own and replies, such as `bind_reply`, stands
+-- above that.
 use Rattle.std.specs.Prelude.{ℕ, Bool, true, false, ◌==◌, ◌&&◌, not, nat_lt, List, Option, None, Some, if◌then◌else◌}
 use Rattle.sock_card.specs.declared.owner.Owner.{Owner}
 use Rattle.sock_card.specs.declared.owner.State.{State}

@@ -5,5 +5,6 @@ pub mod Own
 pub mod Operations
 pub mod Commands
 pub mod Means
-pub mod Rows
 pub mod Goes
+-- Worked rows and laws.
+pub mod Rows

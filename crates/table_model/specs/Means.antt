@@ -1,6 +1,9 @@
 -- What tables mean as a flat list of sockets, and what a section's own means in it: our own. What buckets and chains
 -- hold is compared by weight: whatever number is given to each owner or card, both sides weigh the same. So both hold
 -- the same, each as often, and in no matter which order.
+--
+-- To be read from `Means`: what it says of the tables is `TablesMean`, and of a section's own `OwnMeans`. `Refines`
+-- says it of what a command's plan comes to. The laws stand at the end, from `PlansRefine` on.
 use Rattle.std.specs.Prelude.{◌≡◌, ◌≢◌, ℕ, ◌+◌, ◌*◌, ◌/◌, ◌%◌, ◌^◌, ◌<◌, ◌≤◌, Bool, true, false, ◌==◌, ◌&&◌, cond, List, [], ◌++◌, length, map, filter, count_by, Option, None, Some, unwrap_or, find}
 use Rattle.std.specs.List.{list_any, slice_index_or}
 use Rattle.std.specs.Option.{option_map}

@@ -4,6 +4,10 @@
 -- net/ipv4/inet_hashtables.c; inet_twsk_hashdance_schedule of net/ipv4/inet_timewait_sock.c; tcp_conn_request of
 -- net/ipv4/tcp_input.c and inet_csk_complete_hashdance of net/ipv4/inet_connection_sock.c. Our own: the order of the
 -- questions, and what `drop` and `reap` do.
+--
+-- To be read from an operation's name upwards: `bind`, `listen`, `connect`, `accept`, `syn`, `ack`, `close`, `drop` and
+-- `reap`. What each calls stands above it; the socket's states are parted in `bind_as`, `listen_as`, `connect_from`,
+-- `ack_from`, `close_as` and `drop_as`.
 use Rattle.std.specs.Prelude.{ℕ, ◌+◌, Bool, true, false, ◌==◌, List, [], ◌∷◌, Option, None, Some, if◌then◌else◌, filter, not}
 use Rattle.std.specs.Option.{option_map_or}
 use Rattle.sock_card.specs.Conflict.{owner_key, bind_key}

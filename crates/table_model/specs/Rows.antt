@@ -1,5 +1,5 @@
 -- Worked examples, computed by the plans on new tables: each line is a command of section 1 with its reply, and the
--- flat list has the same reply.
+-- flat list has the same reply. Our own.
 use Rattle.std.specs.Prelude.{◌≡◌, ℕ, List, [], ◌∷◌, ◌++◌, ◌+◌, Option, None, Some, not, map, filter, codes}
 use Rattle.std.specs.List.{range_with_len}
 use Rattle.sock_card.specs.Limits.{group_room}

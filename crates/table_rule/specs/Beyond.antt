@@ -1,4 +1,7 @@
 -- What lives are to each other, in which order chains have them, and that what was seen stays true. Our own.
+--
+-- To be read from `Beyond`, which is a part of the rule, upwards. What stands below it says the like of the changes of
+-- a book alone.
 use Rattle.std.specs.Prelude.{◌≡◌, ℕ, ◌+◌, ◌<◌, ◌≤◌, List, [], ◌∷◌, ◌++◌, ◌⊎◌, slice_set}
 use mathlib.Core.Option.{some}
 use Rattle.list_words.specs.Lists.{Each}
