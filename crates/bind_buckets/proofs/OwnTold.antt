@@ -281,7 +281,7 @@ told_last : (owners : List Owner) (e : Entry) (b : Bool) → told_from owners (c
 told_last owners e true = refl
 told_last owners e false = refl
 
--- what is told with one entry more
+-- what one entry more gives
 pub told_push : (mine : ℕ → Bool) (notes : List Note) (x : Note) → told_from [] (filter (is_told mine) (entries_of (notes ++ x ∷ []))) ≡ told_next mine (told_from [] (filter (is_told mine) (entries_of notes))) x.entry
 told_push mine notes x =
     ap (λ es. told_from [] (filter (is_told mine) es)) (map-append entry_of notes (x ∷ []))
@@ -316,7 +316,7 @@ own_goes_on a b place request answer v w s o keeps name found =
           ∙ found;
     }
 
--- entries of which none is told
+-- entries of which `is_told` keeps none
 pub none_told : (mine : ℕ → Bool) (notes : List Note) → Each (λ (x : Note). is_told mine x.entry ≡ false) notes → filter (is_told mine) (entries_of notes) ≡ []
 none_told mine [] h = refl
 none_told mine (x ∷ xs) h = rw h.0 (none_told mine xs h.1)

@@ -19,7 +19,7 @@ use Rattle.bind_buckets.specs.Limits.{group_places}
 use Rattle.bind_buckets.specs.Notes.{Note}
 use Rattle.bind_buckets.specs.declared.request.Mark.{Mark}
 use Rattle.bind_buckets.specs.OwnerStep.{Held, After, owner_step, empty, has_name, members_at}
-use Rattle.bind_buckets.specs.Journal.{IsLegal, replayed, OwnersAgree, Standing}
+use Rattle.bind_buckets.specs.Journal.{IsLegal, replayed, OwnersAgree}
 
 -- the number of the bucket among so many, what it holds, its journal, the mark of the next note, and the room that is
 -- left, in entries of the journal and in newcomers among the owners
@@ -136,10 +136,6 @@ entry_of note = note.entry
 
 abbrev pub entries_of : List Note → List Entry
 entries_of journal = map entry_of journal
-
--- what the bucket holds, and what it was asked
-abbrev pub standing_of : Bucket → Standing
-standing_of b = record { held = b.held; entries = entries_of b.journal }
 
 -- the members of the group of that number, in this bucket
 abbrev pub members_of : Bucket → ℕ → List ℕ

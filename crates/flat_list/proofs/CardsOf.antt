@@ -1,10 +1,11 @@
 -- What a card of the list says of its socket, and what listeners of one group have in common.
-use Rattle.std.proofs.Common.{◌≡◌, ℕ, ◌≤◌, Bool, true, false, cond, ◌&&◌, ◌==◌, List, Option, Some, None, refl, ap, ◌∙◌, sym, subst, arith}
+use Rattle.std.proofs.Common.{◌≡◌, Bool, true, ◌&&◌, ◌==◌, List, Option, Some, None, refl, ap, ◌∙◌, sym, subst}
 use Rattle.std.specs.Prelude.{count_by}
 use Rattle.std.specs.Option.{option_map}
 use Rattle.std.proofs.lemmas.Bool.{and_parts, eqb-true}
 use Rattle.list_words.proofs.EachLemmas.{some_same}
 use Rattle.list_words.proofs.Items.{In, made_in, each_in, count_in}
+use Rattle.list_words.proofs.Truths.{one_is_true}
 use Rattle.sock_card.specs.declared.card.Card.{Card}
 use Rattle.sock_card.specs.declared.card.Kind.{Kind}
 use Rattle.sock_card.specs.declared.card.Kind.TheVariants as kinds
@@ -82,12 +83,8 @@ by_mates a s h =
     let port = and_parts (a.net == s.owner.net) (a.port == s.owner.port) p.0 in
     record { net = eqb-true _ _ port.0; addr = eqb-true _ _ p.2; port = eqb-true _ _ port.1; dev = eqb-true _ _ p.1 }
 
-sharing_at : (b : Bool) (n : ℕ) → n ≡ cond {A = ℕ} b 1 0 → 1 ≤ n → b ≡ true
-sharing_at true n h l = refl
-sharing_at false n h l = absurd (omega (arith, h, l))
-
 -- who is in a group of a sound list is a listener that shares its end
 pub grouped_shares : (flat : Flat) (sound : IsSound flat) (s : Socket) (g : Group) → In s flat.sockets → In g flat.groups → has_member s.owner.name g ≡ true → is_sharing s ≡ true
 grouped_shares flat sound s g i j h =
-    sharing_at (is_sharing s) (count_by (has_member s.owner.name) flat.groups) (each_in (IsInOneGroup flat.groups) s flat.sockets sound.grouped.sharing i)
+    one_is_true (is_sharing s) (count_by (has_member s.owner.name) flat.groups) (each_in (IsInOneGroup flat.groups) s flat.sockets sound.grouped.sharing i)
     (count_in (has_member s.owner.name) g flat.groups j h)

@@ -1,5 +1,5 @@
 -- What a lookup and its parts ask and say. The lookup is that of __inet_lookup_established and inet_lhash2_lookup of
--- the kernel's net/ipv4/inet_hashtables.c; how it is told is our own.
+-- the kernel's net/ipv4/inet_hashtables.c; how it is stated is our own.
 --
 -- To be read from `LookedAs` on: the contract of `look` cites it and most of what stands below it, and of what stands
 -- above it `HasTwo`. The rest is of a lookup's parts.

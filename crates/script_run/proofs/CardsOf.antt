@@ -1,5 +1,5 @@
 -- The cards of a sound list: each name has one card, and a card says in which group its listener is.
-use Rattle.std.proofs.Common.{◌≡◌, ◌≢◌, ℕ, ◌+◌, ◌-◌, ◌*◌, ◌/◌, ◌%◌, ◌<◌, ◌≤◌, Bool, true, false, ◌&&◌, ◌||◌, ◌==◌, nat_lt, cond, List, [], ◌∷◌, Option, Some, None, refl, sym, ap, ◌∙◌, inl, inr, arith}
+use Rattle.std.proofs.Common.{◌≡◌, ◌≢◌, ℕ, ◌+◌, ◌-◌, ◌*◌, ◌/◌, ◌%◌, ◌<◌, ◌≤◌, Bool, true, false, ◌&&◌, ◌||◌, ◌==◌, nat_lt, cond, List, [], Option, Some, None, refl, sym, ap, ◌∙◌, inl, inr, arith}
 use Rattle.std.specs.Prelude.{count_by}
 use Rattle.std.specs.Option.{option_map_or}
 use Rattle.std.proofs.lemmas.Bool.{both_ways, le-ltb}
@@ -19,7 +19,7 @@ use Rattle.flat_list.specs.Look.{card_of, cards_of, extra_as, group_of}
 use Rattle.flat_list.specs.Sockets.{kind_of}
 use Rattle.flat_list.specs.Sound.{IsSound, NamesDiffer, IsInOneGroup, IsGroupOf, is_sharing}
 use Rattle.shared_demux.specs.Chosen.{group_as, group_in}
-use Rattle.table_model.proofs.parts.GroupPlaces.{count_none, count_cons, one_only}
+use Rattle.table_model.proofs.parts.GroupPlaces.{count_none, one_only}
 use Rattle.flat_list.proofs.CardsOf.{OfSocket, of_socket, says}
 use Rattle.list_words.proofs.Items.{In, each_in, pairs_in, finds, finds_none, found_in}
 
@@ -38,11 +38,6 @@ not_listening states.Unbound k h differs = refl
 counted_at : (b : Bool) (n : ℕ) → n ≡ cond {A = ℕ} b 1 0 → n ≤ 1
 counted_at true n h = omega (arith, h)
 counted_at false n h = omega (arith, h)
-
-pub count_in : {A : Type 0} (p : A → Bool) (x : A) (xs : List A) → In x xs → p x ≡ true → 1 ≤ count_by p xs
-count_in p x [] i h = absurd i
-count_in p x (y ∷ ys) (inl e) h = omega (arith, count_cons p y ys, ap (λ (b : Bool). cond {A = ℕ} b 1 0) (ap p e ∙ h))
-count_in p x (y ∷ ys) (inr i) h = omega (arith, count_cons p y ys, count_in p x ys i h)
 
 no_number : (o : Option Group) → option_map_or (λ (g : Group). g.number + 1) o 0 ≡ 0 → o ≡ None
 no_number None h = refl

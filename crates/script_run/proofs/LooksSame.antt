@@ -62,8 +62,8 @@ use Rattle.table_rule.specs.declared.view.View.{View}
 use Rattle.table_rule.specs.declared.view.Whole.{Whole}
 use Rattle.table_rule.proofs.Summing.{words_rank}
 use Rattle.script_run.specs.Looks.{card_of, IsTold}
-use Rattle.list_words.proofs.Items.{In}
-use Rattle.script_run.proofs.CardsOf.{cards, count_in, no_group, some_group, HasNumber}
+use Rattle.list_words.proofs.Items.{In, count_in}
+use Rattle.script_run.proofs.CardsOf.{cards, no_group, some_group, HasNumber}
 use Rattle.script_run.proofs.CardsBest.{top, look_best, look_alone, look_none}
 use Rattle.script_run.proofs.LooksGroup.{Member, words, are_members, some_words, some_pick, word, member_there, member_is, member_like}
 use Rattle.script_run.proofs.Standing.{WasHashed, was_hashed, stands_in, all_below, one_up, told_rank}

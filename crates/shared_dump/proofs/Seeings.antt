@@ -1,7 +1,6 @@
 -- What is known as one bucket more is listed.
 use Rattle.std.proofs.Common.{◌≡◌, ℕ, ◌+◌, List, [], ◌∷◌, ◌++◌, refl, sym, ap, ◌∙◌, arith, length, subst, append_assoc}
 use Rattle.std.proofs.lemmas.List.FromFn.{map-range_with_len_more}
-use Rattle.std.proofs.lemmas.List.{map-append}
 use mathlib.Core.Option.{some}
 use lib.ListN.{get_elem?}
 use Rattle.list_words.proofs.EachLemmas.{each_append}

@@ -2,13 +2,12 @@
 --
 -- To be read from `FlatOut`, near the end, upwards: the text is a script with a capture, `script_text` is what is
 -- written for it, and the flat list's replies and listings are `flat_replies` and `flat_listings`.
-use Rattle.std.specs.Prelude.{◌≡◌, ◌≢◌, ℕ, ◌+◌, ◌/◌, ◌%◌, ◌^◌, Bool, true, false, List, [], ◌∷◌, ◌++◌, ◌≤◌, ◌==◌, if◌then◌else◌, length, map, take, drop, codes, decimal, Option, Some, None, unwrap_or, slice_get}
+use Rattle.std.specs.Prelude.{◌≡◌, ℕ, ◌+◌, ◌/◌, ◌%◌, ◌^◌, Bool, true, false, List, [], ◌∷◌, ◌++◌, ◌≤◌, ◌==◌, if◌then◌else◌, length, map, take, drop, codes, decimal, Option, Some, None, unwrap_or, slice_get}
 use Rattle.std.specs.List.{flat_map, slice_index_or}
 use Rattle.capture_reader.specs.declared.packet.Item.{Item}
 use Rattle.capture_reader.specs.declared.packet.Item.TheVariants as items
 use Rattle.capture_reader.specs.Captures.{Capture}
 use Rattle.capture_reader.specs.Grammar.{IsCapture}
-use Rattle.capture_reader.specs.Header.{HasHeader}
 use Rattle.sock_card.specs.declared.card.Card.{Card}
 use Rattle.sock_card.specs.declared.card.Kind.{Kind}
 use Rattle.sock_card.specs.declared.card.Kind.TheVariants as kinds
@@ -265,12 +264,6 @@ abbrev pub FlatOut : List ℕ → List ℕ → Type 0
 FlatOut input out =
     (script : Script) × (capture : Capture) × HasCapture input script capture
     × (out ≡ script_text script capture (flat_replies script capture.items) (flat_listings script capture.items))
-
--- the text is a script, but what it has for a capture is none: it isn't empty, and has no header of one
-abbrev pub HasBadCapture : List ℕ → Type 0
-HasBadCapture input =
-    (script : Script) × IsScript modes.Run input script × (capture_bytes script.capture input ≢ [])
-    × ¬ (HasHeader (capture_bytes script.capture input))
 
 -- each list between a script's commands is sound
 abbrev pub ListsSound : Type 0

@@ -6,5 +6,5 @@ pub mod Passes
 pub mod Ends
 -- Worked rows and laws. What stands here before the law `FindsAll` is the rule behind those contracts.
 pub mod Turning
--- What only private functions cite. It is what each step of that rule tells.
+-- What only private functions cite. It is what each step of that rule shows.
 pub mod Plays
