@@ -117,7 +117,6 @@ hidden : (n : ℕ) (new : Socket) (xs : List Socket) → new.named ≡ false →
 hidden n new [] e = refl
 hidden n new (x ∷ xs) e = hidden_by n new x (put new xs) (without new.owner.name xs) (has_name new.owner.name x) e (hidden n new xs e)
 
-
 module _ (n : ℕ) (own : Own) (t : Tables) (flat : Flat) (h : OwnMeans n own t flat) (sound : IsSound flat) (s : Socket) (at : Listed s.owner.name flat.sockets s) (mine : is_open_in n s ≡ true) where
   abbrev name : ℕ
   name = s.owner.name
