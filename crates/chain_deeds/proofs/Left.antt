@@ -2,11 +2,11 @@
 use Rattle.std.proofs.Common.{◌≡◌, ℕ, ◌<◌, ◌≤◌, List, [], ◌∷◌, ◌++◌, map, refl, sym, ap, ◌∙◌, subst, arith, append-nil, append_assoc}
 use Rattle.std.proofs.lemmas.List.{map-append}
 use Rattle.list_words.specs.Lists.{Each, Pairs}
+use Rattle.list_words.proofs.EachLemmas.{each_append}
 use Rattle.sock_card.specs.Words.{packed, unpacked}
 use Rattle.sock_card.specs.declared.card.Card.{Card}
 use Rattle.chain_book.specs.declared.book.Change.{Change}
 use Rattle.table_rule.specs.Beyond.{IsCardWords}
-use Rattle.table_rule.specs.Lists as slots
 use Rattle.table_rule.specs.Plays.{beginning, dropping_beginning, settled, sight_of, unlocking}
 use Rattle.table_rule.specs.declared.view.Change.{Change as Closed}
 use Rattle.table_rule.specs.declared.view.Layout.{Layout}
@@ -91,10 +91,6 @@ left_unlocked changes vain drawn layout from next v u l = record {
 abbrev pub StandsWell : Layout → (kind bucket slot : ℕ) → Card → (b e : ℕ) → Type 0
 StandsWell layout kind bucket slot card b e = IsHomeIfHash layout (change_at kind bucket slot card b e) × (kind ≡ 1 → unpacked (packed card) ≡ card)
 
-words_more : (xs ys : List Closed) → slots.Each HasWords xs → slots.Each HasWords ys → slots.Each HasWords (xs ++ ys)
-words_more [] ys h k = k
-words_more (x ∷ xs) ys h k = (h.0, words_more xs ys h.1 k)
-
 card_has_words : (card : Card) → unpacked (packed card) ≡ card → IsCardWords (card_words card)
 card_has_words card told = record { words = packed card; is = refl; packs = ap packed told }
 
@@ -111,7 +107,7 @@ left_one layout from next v u kind bucket slot card a quiet saw home =
       layout = refl;
       closed = ap (map change_of) a.2.3 ∙ map-append change_of v.book.closed (c ∷ []);
       homes = (home.0, tt);
-      words = λ h. subst (slots.Each HasWords) (sym a.2.3) (words_more v.book.closed (c ∷ []) h ((λ k. card_has_words card (home.1 k)), tt));
+      words = λ h. subst (Each HasWords) (sym a.2.3) (each_append HasWords v.book.closed (c ∷ []) h ((λ k. card_has_words card (home.1 k)), tt));
       lost = quiet.0;
       numbers = ((low, omega arith), ((omega arith, high), tt));
       ascend = ((order, tt), (tt, tt));
@@ -143,7 +139,7 @@ left_two layout from next v u w k l bucket slot old card gone a d q r s t home e
       layout = refl;
       closed = ap (map change_of) grown ∙ map-append change_of v.book.closed (b ∷ c ∷ []);
       homes = (home.0, (else.0, tt));
-      words = λ h. subst (slots.Each HasWords) (sym grown) (words_more v.book.closed (b ∷ c ∷ []) h ((λ z. card_has_words card (home.1 z)), ((λ z. card_has_words gone (else.1 z)), tt)));
+      words = λ h. subst (Each HasWords) (sym grown) (each_append HasWords v.book.closed (b ∷ c ∷ []) h ((λ z. card_has_words card (home.1 z)), ((λ z. card_has_words gone (else.1 z)), tt)));
       lost = r.0 ∙ q.0;
       numbers = ((low, omega arith), ((omega arith, omega arith), ((omega arith, omega arith), ((omega arith, high), tt))));
       ascend = ((one, (omega arith, (omega arith, tt))), ((omega arith, (omega arith, tt)), ((two, tt), (tt, tt))));

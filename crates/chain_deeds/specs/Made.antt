@@ -12,7 +12,6 @@ use Rattle.chain_book.specs.Homes.{home}
 use Rattle.table_rule.specs.Beyond.{IsCardWords}
 use Rattle.table_rule.specs.Book.{open-end}
 use Rattle.table_rule.specs.Lists.{times}
-use Rattle.table_rule.specs.Lists as slots
 use Rattle.table_rule.specs.Sole.{IsNow}
 use Rattle.table_rule.specs.declared.view.Change.{Change as Closed}
 use Rattle.table_rule.specs.declared.view.Layout.{Layout}
@@ -50,7 +49,7 @@ abbrev pub HasWords : Closed → Type 0
 HasWords c = c.kind ≡ 1 → IsCardWords c.card
 
 abbrev pub AllHaveWords : Side → Type 0
-AllHaveWords c = slots.Each HasWords c.view.book.closed
+AllHaveWords c = Each HasWords c.view.book.closed
 
 abbrev pub number_of : Vain → ℕ
 number_of v = v.number
@@ -62,7 +61,7 @@ pub record SawKeeper (wish : Wish) (name : ℕ) (c d : Side) : Type 0 where
   pub bucket : sight.bucket ≡ home c.layout.shape c.layout.seed wish.card ∷ []
   pub since : sight.since ≡ c.view.seen
   pub until : sight.until ≡ open-end
-  pub cards : slots.Each HasCard sight.listed
+  pub cards : Each HasCard sight.listed
   pub first : option_map name_of (find (keeps wish.card wish.moment wish.rule) (row_of sight.listed)) ≡ Some name
 
 -- each slot was read as owned or as held alone, after the number that was drawn in vain
@@ -77,7 +76,7 @@ pub record SawNone (v : Vain) (c d : Side) : Type 0 where
   pub owned : owned_in reads ≡ v.owned
   pub held : held_in reads ≡ v.held
   pub all : v.owned + v.held ≡ c.layout.shape.slots
-  pub below : slots.Each (Between 0 c.layout.shape.slots) (map slot_in reads)
+  pub below : Each (Between 0 c.layout.shape.slots) (map slot_in reads)
   pub once : (i : ℕ) → times i (map slot_in reads) ≤ 1
 
 -- the whole chain of the card was walked under the lock, since that, and had no TIME_WAIT of its name
@@ -88,7 +87,7 @@ pub record SawNoWait (card : Card) (c d : Side) : Type 0 where
   pub since : sight.since ≡ c.view.seen
   pub until : sight.until ≡ open-end
   pub whole : sight.whole ≡ 1
-  pub cards : slots.Each HasCard sight.listed
+  pub cards : Each HasCard sight.listed
   pub none : find (waits_as card.name) (row_of sight.listed) ≡ None
 
 abbrev pub ShowsNone : Tried → Side → Side → Type 0

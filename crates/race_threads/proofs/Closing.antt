@@ -50,7 +50,7 @@ use Rattle.race_threads.proofs.Listings.{lists}
 use Rattle.race_threads.proofs.Refusals.{was_kept, none_was_free}
 use Rattle.race_threads.proofs.Sightings.{keeper_moves, none_moves, no_wait_moves, ended_sees, same_sees, Moves}
 use Rattle.race_threads.proofs.Sums.{sum_sections, each_number, each_section, many_sections, replies_are, listings_are, weigh_all, sum_numbers, weigh_filter, flat_filter, flat_same}
-use Rattle.race_threads.proofs.Weights.{map_flat, among_flat, same_each, same_among, flipped, weigh_map, same_each_of}
+use Rattle.race_threads.proofs.Weights.{map_flat, among_flat, same_each, same_among, flipped, weigh_map}
 
 -- what a number weighs that was drawn in vain
 abbrev in_vain : (ℕ → ℕ) → Vain → ℕ
@@ -189,7 +189,7 @@ module _ (header : Header) (scripts : List (List Command)) (part : ℕ → Part)
   words : Each HasWords y.book.closed
   words = subst (Each HasWords) (sym e.joined.closed)
       (each_flat HasWords (λ m. (part m).chain.book.closed) e.order (each_joined (λ m. Each HasWords (part m).chain.book.closed)
-      (λ m cs said s. same_each_of HasWords (part m).chain.book.closed s.done.words)
+      (λ m cs said s. s.done.words)
       (λ m l. subst (λ (k : List Raw). Each HasWords k) (sym (e.others m l).closed) tt)))
 
   pub good : AreGood header y

@@ -21,7 +21,6 @@ use Rattle.table_rule.specs.Alone.{mine}
 use Rattle.table_rule.specs.Beyond.{Unlike, Present, SightTrue, IsCardWords}
 use Rattle.table_rule.specs.Book.{Part, InBook, Serial, Separate, below}
 use Rattle.table_rule.specs.Book as raw
-use Rattle.table_rule.specs.Lists as slots
 use Rattle.table_rule.specs.Rule.{book_part}
 use Rattle.table_rule.specs.Sole.{IsCounted}
 use Rattle.table_rule.specs.Explained as lookups
@@ -55,7 +54,7 @@ use Rattle.race_threads.specs.Lookers.{IsTold, whole_for}
 use Rattle.race_threads.specs.Races.{IsWhole, book_of}
 use Rattle.race_threads.specs.Sections.{layout_in}
 use Rattle.race_threads.proofs.CardsTold.{show_both}
-use Rattle.race_threads.proofs.Weights.{same_total, weigh_map}
+use Rattle.race_threads.proofs.Weights.{weigh_map}
 use Rattle.race_record.proofs.Drawn.{weigh, stamps_weigh}
 use Rattle.race_record.proofs.Weights.{is, all_differ, once}
 
@@ -219,10 +218,9 @@ module _ (header : Header) (v : View) (clock : ℕ) (w : IsWhole v clock) (good 
   pub stamps : (f : ℕ → ℕ) → total (weigh f) book + total f v.book.lost ≡ total f (numbers_below clock)
   stamps f =
       let s = counted.stamps f in
-      let a = same_total (λ (c : Raw). f c.begins + f c.ends) v.book.closed in
       let b = weigh_map (weigh f) change_of v.book.closed in
-      let o : slots.total (λ (c : Raw). f c.begins) v.book.opened ≡ 0 = ap (slots.total (λ (c : Raw). f c.begins)) w.opened in
-      omega (arith, s, a, b, o, same_total f v.book.lost, below_weighs f clock)
+      let o : total (λ (c : Raw). f c.begins) v.book.opened ≡ 0 = ap (total (λ (c : Raw). f c.begins)) w.opened in
+      omega (arith, s, b, o, below_weighs f clock)
 
   differ : StampsDiffer book
   differ = all_differ (stamps_of book) (λ n. omega (arith, stamps (is n), stamps_weigh (is n) book, below_weighs (is n) clock, once n clock))

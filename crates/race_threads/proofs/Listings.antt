@@ -11,7 +11,6 @@ use Rattle.table_model.proofs.parts.Chains.{home_below}
 use Rattle.table_rule.specs.Alone.{mine}
 use Rattle.table_rule.specs.Beyond.{SightTrue}
 use Rattle.table_rule.specs.Explained as lookups
-use Rattle.table_rule.specs.Lists as slots
 use Rattle.table_rule.specs.Words.{bucket_count}
 use Rattle.table_rule.specs.declared.view.Change.{Change as Raw}
 use Rattle.table_rule.specs.declared.view.Sight.{Sight}
@@ -36,7 +35,7 @@ cards_are : (xs : List Raw) → map life_card xs ≡ map (λ (h : Change). h.car
 cards_are [] = refl
 cards_are (x ∷ xs) = ap (λ (l : List Card). life_card x ∷ l) (cards_are xs)
 
-else_are : (h : Raw) (xs : List Raw) → slots.Each (λ g. books.HaveOnePlace h g → ⊥) xs → Each (λ g. ¬ (HaveOnePlace (change_of h) g)) (map change_of xs)
+else_are : (h : Raw) (xs : List Raw) → Each (λ g. books.HaveOnePlace h g → ⊥) xs → Each (λ g. ¬ (HaveOnePlace (change_of h) g)) (map change_of xs)
 else_are h [] k = tt
 else_are h (x ∷ xs) k = (k.0, else_are h xs k.1)
 
@@ -53,7 +52,7 @@ module _ (header : Header) (v : View) (clock : ℕ) (w : IsWhole v clock) (good 
   In c = Among (book_of v) c
 
   -- what the pass saw is true in its own book
-  all_true : (xs : List Sight) → slots.Each (Among v.sights) xs → slots.Each (SightTrue (mine v)) xs
+  all_true : (xs : List Sight) → Each (Among v.sights) xs → Each (SightTrue (mine v)) xs
   all_true [] h = tt
   all_true (x ∷ xs) h = (let p = place_of v.sights x h.0 in let b = w.book w.parts w.opened in b.2 p.0 x p.1, all_true xs h.1)
 
@@ -76,7 +75,7 @@ module _ (header : Header) (v : View) (clock : ℕ) (w : IsWhole v clock) (good 
           },
         )
 
-    all_stood : (xs : List Raw) → slots.Each (books.IsLife (mine v) t0 t1) xs → Each IsThere (map change_of xs)
+    all_stood : (xs : List Raw) → Each (books.IsLife (mine v) t0 t1) xs → Each IsThere (map change_of xs)
     all_stood [] k = tt
     all_stood (x ∷ xs) k = (one_stood x k.0, all_stood xs k.1)
 

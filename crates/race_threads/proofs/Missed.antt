@@ -28,7 +28,6 @@ use Rattle.race_threads.specs.Races.{IsWhole, book_of}
 use Rattle.race_threads.specs.Sections.{layout_in}
 use Rattle.race_threads.proofs.CardsTold.{same_told}
 use Rattle.race_threads.proofs.FromRaw.{AreGood, each_at, place_of, raw_of, RawOf, raw_hash, ends_book, serial}
-use Rattle.race_threads.proofs.Weights.{same_each_of}
 
 not_by : (test : Hashed → Bool) (s : Seen) (ss : List Seen) (b : Bool) → test (hashed_in s) ≡ b → cond b (Some (hashed_in s)) (find test (row_of ss)) ≡ None → (test (hashed_in s) ≡ false) × (find test (row_of ss) ≡ None)
 not_by test s ss true t e = absurd (cc)
@@ -57,7 +56,7 @@ module _ (header : Header) (v : View) (clock : ℕ) (w : IsWhole v clock) (good 
 
   unlisted : ListedOf saw.sight r.change → ⊥
   unlisted l =
-      let c = each_at HasCard saw.sight.listed l.nth l.seen l.there (same_each_of HasCard saw.sight.listed saw.cards) in
+      let c = each_at HasCard saw.sight.listed l.nth l.seen l.there saw.cards in
       let same : card_from l.seen.words ≡ card = sym (same_told l.seen.words r.change.card c.0 l.words) ∙ ap (λ (x : Change). x.card) (sym r.is) ∙ is in
       let named = eq-eqb (card_from l.seen.words).name card.name (ap (λ (x : Card). x.name) same) in
       let waits : is_time_wait_kind (card_from l.seen.words).kind ≡ true = ap (λ (x : Card). is_time_wait_kind x.kind) same ∙ ap is_time_wait_kind kind in

@@ -10,7 +10,6 @@ use Rattle.chain_book.specs.Chains.{keeps}
 use Rattle.chain_book.specs.Tuples.{keeps_from}
 use Rattle.sock_card.specs.declared.card.Card.{Card}
 use Rattle.flat_list.specs.declared.header.Header.{Header}
-use Rattle.table_rule.specs.Lists as slots
 use Rattle.table_rule.specs.TakenOk.{held_alone}
 use Rattle.table_rule.specs.Words.{card_from}
 use Rattle.table_rule.specs.declared.view.View.{View}
@@ -28,7 +27,7 @@ use Rattle.race_threads.specs.Made.{SawKeeper, SawRead, SawNone, IsBy, held_by}
 use Rattle.race_threads.specs.Races.{IsWhole, book_of, held_in}
 use Rattle.race_threads.proofs.CardsTold.{found_seen, same_told}
 use Rattle.race_threads.proofs.FromRaw.{AreGood, each_at, seen_life}
-use Rattle.race_threads.proofs.Weights.{same_total, same_each_of, weigh_map, among_flat}
+use Rattle.race_threads.proofs.Weights.{weigh_map, among_flat}
 
 -- Slots that were read
 
@@ -76,7 +75,7 @@ each_held : (P : ℕ → Type 0) (i : ℕ) (b : Bool) → (b ≡ false → P i) 
 each_held P i true h = tt
 each_held P i false h = (h refl, tt)
 
-slots_below : (count : ℕ) (reads : List Read) → slots.Each (Between 0 count) (map slot_in reads) → Each (λ (r : Read). r.slot < count) reads
+slots_below : (count : ℕ) (reads : List Read) → Each (Between 0 count) (map slot_in reads) → Each (λ (r : Read). r.slot < count) reads
 slots_below count [] h = tt
 slots_below count (r ∷ rs) h = (h.0.1, slots_below count rs h.1)
 
@@ -97,7 +96,7 @@ module _ (header : Header) (v : View) (clock : ℕ) (w : IsWhole v clock) (good 
   was_kept from to t h =
       let f = found_seen (keeps t.wish.card t.wish.moment t.wish.rule) h.sight.listed t.name h.first in
       let l = seen_life header v clock w good h.sight h.there f.nth f.seen f.there from to h.since h.is in
-      let c = each_at HasCard h.sight.listed f.nth f.seen f.there (same_each_of HasCard h.sight.listed h.cards) in
+      let c = each_at HasCard h.sight.listed f.nth f.seen f.there h.cards in
       let same : l.life.card ≡ card_from f.seen.words = l.card ∙ same_told f.seen.words l.words c.0 l.told in
       record {
         life = l.life;
@@ -150,7 +149,6 @@ module _ (header : Header) (v : View) (clock : ℕ) (w : IsWhole v clock) (good 
             total-append (is n) owned held,
             weigh_slots (is n) h.reads,
             weigh_map (is n) slot_in h.reads,
-            same_total (is n) (map slot_in h.reads),
             h.once n,
           ));
           below = each_append (λ (slot : ℕ). slot < count) owned held

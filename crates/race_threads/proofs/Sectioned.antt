@@ -15,7 +15,6 @@ use Rattle.flat_list.specs.declared.command.Command.{Command}
 use Rattle.flat_list.specs.declared.command.Reply.{Reply}
 use Rattle.socket_list.specs.Listing.{Listing}
 use Rattle.table_rule.specs.Book.{open-end}
-use Rattle.table_rule.specs.Lists as slots
 use Rattle.table_rule.specs.Plays.{settled}
 use Rattle.table_rule.specs.declared.view.Layout.{Layout}
 use Rattle.table_rule.specs.declared.view.BookView.{BookView}
@@ -154,7 +153,7 @@ module _ (header : Header) (n : ℕ) (commands : List Command) (own next : Own) 
     changes = ap (λ (b : BookView). map change_of b.closed) last.keeps.book ∙ made.changes ∙ ap (λ x. x ++ changes_in did.deeds) h.changes ∙ sym (in_more changes_of h.steps step);
     homes = subst (Each (IsHomeIfHash (layout_in header))) (sym (in_more changes_of h.steps step))
         (each_append (IsHomeIfHash (layout_in header)) (changes_in (deeds_of h.steps)) (changes_in did.deeds) h.homes (subst (λ (y : Layout). Each (IsHomeIfHash y) (changes_in did.deeds)) h.layout made.homes));
-    words = subst (λ (b : BookView). slots.Each HasWords b.closed) (sym last.keeps.book) (made.words h.words);
+    words = subst (λ (b : BookView). Each HasWords b.closed) (sym last.keeps.book) (made.words h.words);
     lost = λ f. omega (
       arith,
       ap (λ (b : BookView). total f b.lost) last.keeps.book,
@@ -187,7 +186,7 @@ begins header n v c h = record {
   callers = subst (Each (IsCalledBy n)) (sym h.mine) tt;
   changes = ap (λ (x : List Closed). map change_of x) h.closed;
   homes = tt;
-  words = subst (slots.Each HasWords) (sym h.closed) tt;
+  words = subst (Each HasWords) (sym h.closed) tt;
   lost = λ f. ap (total f) h.lost;
   shown = tt;
   wholes = h.wholes;

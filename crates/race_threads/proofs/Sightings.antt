@@ -5,7 +5,6 @@ use lib.ListN.{get_elem?}
 use Rattle.list_words.specs.Lists.{Each}
 use Rattle.list_words.proofs.EachLemmas.{each_weaken}
 use Rattle.sock_card.specs.declared.card.Card.{Card}
-use Rattle.table_rule.specs.Lists as slots
 use Rattle.table_rule.specs.Book.{open-end}
 use Rattle.table_rule.specs.Plays.{settled, settled_one, glimpse_of, held_of}
 use Rattle.table_rule.specs.declared.view.Layout.{Layout}
@@ -52,7 +51,7 @@ module _ (xs ys : List Sight) (a b : ℕ) (P Q : Sight → Type 0) (le : b ≤ a
         there = m.there;
         since = omega (arith, le, h.since, m.since);
         is = m.is;
-        cards = subst (slots.Each HasCard) (sym m.listed) h.cards;
+        cards = subst (Each HasCard) (sym m.listed) h.cards;
         first = ap (λ l. Rattle.std.specs.Option.option_map name_of (Rattle.std.proofs.Common.find (Rattle.chain_book.specs.Chains.keeps t.wish.card t.wish.moment t.wish.rule) (row_of l))) m.listed ∙ h.first;
       }
 
@@ -78,7 +77,7 @@ module _ (xs ys : List Sight) (a b : ℕ) (P Q : Sight → Type 0) (le : b ≤ a
         is = m.is;
         bucket = m.bucket ∙ h.bucket;
         whole = m.whole ∙ h.whole;
-        cards = subst (slots.Each HasCard) (sym m.listed) h.cards;
+        cards = subst (Each HasCard) (sym m.listed) h.cards;
         none = ap (λ l. Rattle.std.proofs.Common.find (Rattle.chain_book.specs.Chains.waits_as card.name) (row_of l)) m.listed ∙ h.none;
       }
 

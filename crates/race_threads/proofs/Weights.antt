@@ -7,7 +7,6 @@ use Rattle.std.proofs.lemmas.Grind.{flat_map-append}
 use Rattle.list_words.specs.Lists.{Each, Pairs, total, SameItems}
 use Rattle.list_words.proofs.EachLemmas.{each_push, each_weaken}
 use Rattle.list_words.proofs.TotalLemmas.{total-append}
-use Rattle.table_rule.specs.Lists as slots
 use Rattle.turn_table.specs.Journals.{numbers_below}
 use Rattle.race_book.specs.Among.{Among}
 use Rattle.race_book.proofs.AmongLemmas.{among_left, among_right}
@@ -54,15 +53,6 @@ flipped xs ys s f = sym (s f)
 pub in_range : (a n : ℕ) → Each (λ m. (a ≤ m) × (m < a + n)) (range_with_len a n)
 in_range a zero = tt
 in_range a (suc n) = ((omega arith, omega arith), Rattle.list_words.proofs.EachLemmas.each_weaken (λ m. (a + 1 ≤ m) × (m < a + 1 + n)) (λ m. (a ≤ m) × (m < a + suc n)) (range_with_len (a + 1) n) (λ m z. (omega (arith, z.0), omega (arith, z.1))) (in_range (a + 1) n))
-
--- the table's sums are ours
-pub same_total : {A : Type 0} (f : A → ℕ) (xs : List A) → slots.total f xs ≡ total f xs
-same_total f [] = refl
-same_total f (x ∷ xs) = ap (λ n. f x + n) (same_total f xs)
-
-pub same_each_of : {A : Type 0} (P : A → Type 0) (xs : List A) → slots.Each P xs → Each P xs
-same_each_of P [] h = tt
-same_each_of P (x ∷ xs) h = (h.0, same_each_of P xs h.1)
 
 pub weigh_map : {A B : Type 0} (f : B → ℕ) (g : A → B) (xs : List A) → total f (map g xs) ≡ total (λ x. f (g x)) xs
 weigh_map f g [] = refl

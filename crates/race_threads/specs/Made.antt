@@ -6,7 +6,6 @@ use Rattle.list_words.specs.Lists.{Each, Pairs, SameItems}
 use Rattle.sock_card.specs.declared.card.Card.{Card}
 use Rattle.chain_book.specs.Chains.{keeps, waits_as}
 use Rattle.chain_book.specs.Homes.{home}
-use Rattle.table_rule.specs.Lists as slots
 use Rattle.table_rule.specs.Lists.{times}
 use Rattle.table_rule.specs.Plays.{seeing}
 use Rattle.table_rule.specs.Book.{open-end}
@@ -47,7 +46,7 @@ module _ (sights : List Sight) (from : ℕ) (Is : Sight → Type 0) where
     pub there : Among sights sight
     pub since : from ≤ sight.since
     pub is : Is sight
-    pub cards : slots.Each HasCard sight.listed
+    pub cards : Each HasCard sight.listed
     pub first :
         option_map name_of (find (keeps t.wish.card t.wish.moment t.wish.rule) (row_of sight.listed)) ≡ Some t.name
 
@@ -67,7 +66,7 @@ module _ (sights : List Sight) (from : ℕ) (Is : Sight → Type 0) where
     pub owned : owned_in reads ≡ v.owned
     pub held : held_in reads ≡ v.held
     pub all : v.owned + v.held ≡ count
-    pub below : slots.Each (Between 0 count) (map slot_in reads)
+    pub below : Each (Between 0 count) (map slot_in reads)
     pub once : (i : ℕ) → times i (map slot_in reads) ≤ 1
 
   -- the whole chain of the card was walked, and had no TIME_WAIT of its name
@@ -78,7 +77,7 @@ module _ (sights : List Sight) (from : ℕ) (Is : Sight → Type 0) where
     pub is : Is sight
     pub bucket : sight.bucket ≡ home layout.shape layout.seed card ∷ []
     pub whole : sight.whole ≡ 1
-    pub cards : slots.Each HasCard sight.listed
+    pub cards : Each HasCard sight.listed
     pub none : find (waits_as card.name) (row_of sight.listed) ≡ None
 
 abbrev pub IsAny : Sight → Type 0

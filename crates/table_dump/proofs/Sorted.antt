@@ -1,8 +1,7 @@
 -- What is said of a dump's items holds of them in their order, too.
 use Rattle.std.proofs.Common.{◌≡◌, ℕ, List, [], ◌∷◌, inl, inr, sym, ap, ◌∙◌}
-use Rattle.list_words.specs.Lists.{Each}
+use Rattle.list_words.specs.Lists.{Each, Pairs}
 use Rattle.list_words.specs.Ascending.{ascending_by}
-use Rattle.list_words.specs.Lists as words
 use Rattle.list_words.proofs.AscendingLemmas.{each_ascending, each_ascending_back, map_ascending, pairs_ascending}
 use Rattle.sock_card.specs.declared.card.Card.{Card}
 use Rattle.socket_list.specs.Order.{order_of, ascending}
@@ -19,29 +18,21 @@ in_turn xs = ascending_by turn_of xs
 
 -- Each of them
 
-to_words : (P : Change → Type 0) (xs : List Change) → Each P xs → words.Each P xs
-to_words P [] e = tt
-to_words P (h ∷ rest) e = (e.0, to_words P rest e.1)
-
-of_words : (P : Change → Type 0) (xs : List Change) → words.Each P xs → Each P xs
-of_words P [] e = tt
-of_words P (h ∷ rest) e = (e.0, of_words P rest e.1)
-
 each_turn : (P : Change → Type 0) (xs : List Change) → Each P xs → Each P (in_turn xs)
-each_turn P xs e = of_words P (in_turn xs) (each_ascending turn_of P xs (to_words P xs e))
+each_turn P xs e = each_ascending turn_of P xs e
 
 -- Places
 
 abbrev IsElse : Change → Change → Type 0
 IsElse h g = HaveOnePlace h g → ⊥
 
-to_pairs : (xs : List Change) → AreApart xs → words.Pairs IsElse xs
+to_pairs : (xs : List Change) → AreApart xs → Pairs IsElse xs
 to_pairs [] p = tt
-to_pairs (h ∷ rest) p = (to_words (IsElse h) rest p.0, to_pairs rest p.1)
+to_pairs (h ∷ rest) p = (p.0, to_pairs rest p.1)
 
-of_pairs : (xs : List Change) → words.Pairs IsElse xs → AreApart xs
+of_pairs : (xs : List Change) → Pairs IsElse xs → AreApart xs
 of_pairs [] p = tt
-of_pairs (h ∷ rest) p = (of_words (IsElse h) rest p.0, of_pairs rest p.1)
+of_pairs (h ∷ rest) p = (p.0, of_pairs rest p.1)
 
 apart_turn : (xs : List Change) → AreApart xs → AreApart (in_turn xs)
 apart_turn xs p = of_pairs (in_turn xs)
@@ -52,11 +43,11 @@ apart_turn xs p = of_pairs (in_turn xs)
 abbrev IsLike : Change → Change → Type 0
 IsLike x g = HaveOnePlace g x × (life_card g ≡ life_card x)
 
-each_like : (x : Change) (xs : List Change) (R : Type 0) → (IsAmong x xs → R) → words.Each (λ g. IsLike x g → R) xs
+each_like : (x : Change) (xs : List Change) (R : Type 0) → (IsAmong x xs → R) → Each (λ g. IsLike x g → R) xs
 each_like x [] R f = tt
 each_like x (g ∷ rest) R f = (λ here. f (inl here), each_like x rest R (λ later. f (inr later)))
 
-of_like : (x : Change) (xs : List Change) (R : Type 0) → words.Each (λ g. IsLike x g → R) xs → IsAmong x xs → R
+of_like : (x : Change) (xs : List Change) (R : Type 0) → Each (λ g. IsLike x g → R) xs → IsAmong x xs → R
 of_like x [] R e there = absurd there
 of_like x (g ∷ rest) R e (inl here) = e.0 here
 of_like x (g ∷ rest) R e (inr later) = of_like x rest R e.1 later
