@@ -1,5 +1,6 @@
 ghost use Rattle.std.specs.Prelude.{◌≡◌, ◌<◌, List, ◌∷◌, IfOk, OnErr};
 ghost use Rattle.table_rule.specs.declared.view.Kept.{Kept};
+ghost use Rattle.table_rule.specs.Alone.{IsGone};
 ghost use Rattle.table_rule.specs.ReadersOk.{keeps_at};
 ghost use Rattle.table_rule.specs.Beyond.{IsCardWords};
 ghost use Rattle.table_rule.specs.Calls.{IsOf, view, Becomes, layout_of};
@@ -31,6 +32,7 @@ pub fn take(chains: &Chains, steps: &mut Steps, slot: u32) -> Result<Held, Dead>
     ensures table { IsOf chains.now steps.new }
     ensures ok { IfOk result (λ h. (h.slot ≡ slot) × (Becomes steps.old steps.new (taking (view steps.old) slot))) }
     ensures dead { OnErr result (Becomes steps.old steps.new (trying (view steps.old))) }
+    ensures gone { OnErr result (IsGone (view steps.old) slot) }
 {
     if chains.step_take(steps, slot) < LEAST_LIVE {
         chains.step_put_dead(steps, slot);

@@ -19,7 +19,7 @@ loop-slot-preserved c =
       counted = elim c.if-state.branch [ then-state w ↦ omega (arith, i.counted, w.owned-is, w.held-is) | else-state w ↦ omega (arith, i.counted, w.owned-is, w.held-is) ];
       used = λ b.
           let w = bare_tried (view c.args.steps.now) (view c.loop-slot.steps) _ _ _ i.seen b in
-          let k = c.claim_one-state.ensures.known w.0 w.1 in (
+          let k = c.claim_one-state.ensures.known w in (
             used_more_is (view c.args.steps.now).book.closed c.args.start c.loop-slot.slot (i.used b).0 (ap (λ (l : List Change). used_in l c.loop-slot.slot) (sym (closed_tried (view c.args.steps.now) (view c.loop-slot.steps) _ _ _ i.seen)) ∙ k.1 c.if-state-eq0.false),
             elim c.if-state.branch [
               | then-state w ↦ w.held-is ∙ (i.used b).1
@@ -38,4 +38,4 @@ pub returns-then-state-eq0-clause-first : goal.returns-then-state-eq0-clause-fir
 returns-then-state-eq0-clause-first c = λ b.
     let i = c.loop-slot.invariant in
     let w = bare_tried (view c.args.steps.now) (view c.loop-slot.steps) _ _ _ i.seen b in
-    (ap (λ (l : List Change). used_in l c.loop-slot.slot) (sym (closed_tried (view c.args.steps.now) (view c.loop-slot.steps) _ _ _ i.seen)) ∙ (c.claim_one-state.ensures.known w.0 w.1).0 c.if-state-eq0.true, (i.used b).0)
+    (ap (λ (l : List Change). used_in l c.loop-slot.slot) (sym (closed_tried (view c.args.steps.now) (view c.loop-slot.steps) _ _ _ i.seen)) ∙ (c.claim_one-state.ensures.known w).0 c.if-state-eq0.true, (i.used b).0)

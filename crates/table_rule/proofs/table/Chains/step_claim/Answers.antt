@@ -24,7 +24,7 @@ pub returns-clause-owned : goal.returns-clause-owned
 returns-clause-owned c = λ z. c.compare_exchange.ensures.2.1.1 z c.args.slot (word_is _ _ _ 0 _ c.requires.table.1 c.word_at-word.ensures.is)
 
 pub returns-clause-known : goal.returns-clause-known
-returns-clause-known c = λ sole none. c.compare_exchange.ensures.2.2 sole none c.args.slot (word_is _ _ _ 0 _ c.requires.table.1 c.word_at-word.ensures.is)
+returns-clause-known c = c.compare_exchange.ensures.2.2 c.args.slot (word_is _ _ _ 0 _ c.requires.table.1 c.word_at-word.ensures.is)
 
 pub returns-clause-far : goal.returns-clause-far
 returns-clause-far c = λ e. c.compare_exchange.ensures.2.3 e c.args.slot (word_is _ _ _ 0 _ c.requires.table.1 c.word_at-word.ensures.is)

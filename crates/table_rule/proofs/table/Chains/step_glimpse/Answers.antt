@@ -20,7 +20,7 @@ pub returns-clause-owned : goal.returns-clause-owned
 returns-clause-owned c = λ z. c.load.ensures.2.1.1 z c.args.slot (word_is _ _ _ 0 _ c.requires.table.1 c.word_at-word.ensures.is)
 
 pub returns-clause-known : goal.returns-clause-known
-returns-clause-known c = λ sole none. c.load.ensures.2.2 sole none c.args.slot (word_is _ _ _ 0 _ c.requires.table.1 c.word_at-word.ensures.is)
+returns-clause-known c = c.load.ensures.2.2 c.args.slot (word_is _ _ _ 0 _ c.requires.table.1 c.word_at-word.ensures.is)
 
 pub invariant_of-steps : goal.invariant_of-steps
 invariant_of-steps c = record { numbers = numbers_last c.args.steps.now.seat.me.0 c.load.new.seat.me.0 c.args.steps.now.seen c.args.steps.now.drawn (glimpsed_lasts (step c.args.self.now.table.shared.table_id.slots c.word_at-word.result 0 0 none) c.args.steps.now.seat.me _ _ c.args.slot (word_is _ _ _ 0 _ c.requires.table.1 c.word_at-word.ensures.is) c.load.ensures.2) c.args.steps.now.numbers }
