@@ -119,7 +119,7 @@ int inet_tables_reap(struct inet_tables *tables, uint32_t worker, uint64_t *coun
 /* Which socket takes a packet: of a list, or in a looker's tables; on other handles EBADF. Takes no memory, and
  * changes nothing. A looker locks nothing and waits for nobody: what it finds stood hashed at some time between the
  * call's beginning and its end, and nothing that matches better did so all the time. EAGAIN: others changed a chain
- * at each of 16 passes through it, and the call can be made again. A socket of shared tables is told by its worker
+ * at each of 16 passes through it, and the call can be made again. A socket of shared tables is named by its worker
  * and by the number that the worker's call gave. */
 int inet_tables_look(struct inet_tables *tables, uint32_t src, uint16_t sport, uint32_t dst, uint16_t dport,
                      uint16_t dev, uint8_t net, struct inet_sight *sight);

@@ -64,7 +64,8 @@ static void *look_all(void *given) {
     for (uint32_t i = 0; i < CONNECTIONS; i++) {
         struct inet_sight sight;
         pthread_mutex_lock(&turn);
-        must(inet_tables_look(&tables, CLIENTS + me->worker, (uint16_t)(1024 + i), PROXY, port_of(me->worker), 0, 0, &sight),
+        must(inet_tables_look(&tables, CLIENTS + me->worker, (uint16_t)(1024 + i), PROXY, port_of(me->worker), 0, 0,
+                              &sight),
              "look");
         pthread_mutex_unlock(&turn);
         me->found += sight.kind != INET_NONE && sight.worker == me->worker;

@@ -130,7 +130,8 @@ static void misused(struct inet_tables *shared, struct accepter *accepter, struc
     printf("a socket of the shared tables: %s\n", name(inet_tables_socket(shared, 1, 0, 0, 0, 0, &socket)));
     printf("a packet for a worker: %s\n", name(inet_tables_look(&accepter->tables, 1, 1, 1, 1, 0, 0, &sight)));
     printf("a list of shared tables: %s\n", name(inet_tables_list(shared, &item, 1, &count)));
-    printf("a worker into a handle that has one: %s\n", name(inet_tables_worker(shared, TRIES, &accepter->tables, &number)));
+    printf("a worker into a handle that has one: %s\n",
+           name(inet_tables_worker(shared, TRIES, &accepter->tables, &number)));
 }
 
 /* A handshake in two steps: its request takes the packets while it lasts, and then the connection. */

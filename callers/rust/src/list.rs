@@ -18,17 +18,17 @@ impl Tables {
         self.0.socket(worker, options)
     }
 
-    /// Binds a socket, and tells its port.
+    /// Binds a socket, and reports its port.
     pub fn bind(&mut self, s: Socket, end: SocketAddrV4) -> Result<u16, Errno> {
         self.0.bind(s, end)
     }
 
-    /// Lets a socket listen, and tells its port.
+    /// Lets a socket listen, and reports its port.
     pub fn listen(&mut self, s: Socket) -> Result<u16, Errno> {
         self.0.listen(s)
     }
 
-    /// Connects a socket, and tells its own end. `from` is its address, where `bind` hasn't named one.
+    /// Connects a socket, and reports its own end. `from` is its address, where `bind` hasn't named one.
     pub fn connect(&mut self, s: Socket, from: Option<Ipv4Addr>, to: SocketAddrV4) -> Result<SocketAddrV4, Errno> {
         self.0.connect(s, from, to)
     }
@@ -48,7 +48,7 @@ impl Tables {
         self.0.ack(request)
     }
 
-    /// Closes a socket, and tells whether a TIME_WAIT stays.
+    /// Closes a socket, and reports whether a TIME_WAIT stays.
     pub fn close(&mut self, s: Socket) -> Result<bool, Errno> {
         self.0.close(s)
     }
@@ -63,7 +63,7 @@ impl Tables {
         self.0.at(worker, moment)
     }
 
-    /// Ends the worker's TIME_WAITs that have lasted 60 seconds, and tells how many.
+    /// Ends the worker's TIME_WAITs that have lasted 60 seconds, and reports how many.
     pub fn reap(&mut self, worker: u32) -> Result<u64, Errno> {
         self.0.reap(worker)
     }

@@ -37,7 +37,7 @@ pub struct Worker {
 }
 
 impl Worker {
-    /// Its number, from 1 on, by which its sockets are told from those of other workers.
+    /// Its number, from 1 on, by which its sockets are distinguished from those of other workers.
     pub fn number(&self) -> u32 {
         self.number
     }
@@ -47,17 +47,17 @@ impl Worker {
         self.handle.socket(self.number, options)
     }
 
-    /// Binds a socket, and tells its port.
+    /// Binds a socket, and reports its port.
     pub fn bind(&mut self, s: Socket, end: SocketAddrV4) -> Result<u16, Errno> {
         self.handle.bind(s, end)
     }
 
-    /// Lets a socket listen, and tells its port.
+    /// Lets a socket listen, and reports its port.
     pub fn listen(&mut self, s: Socket) -> Result<u16, Errno> {
         self.handle.listen(s)
     }
 
-    /// Connects a socket, and tells its own end. `from` is its address, where `bind` hasn't named one.
+    /// Connects a socket, and reports its own end. `from` is its address, where `bind` hasn't named one.
     pub fn connect(&mut self, s: Socket, from: Option<Ipv4Addr>, to: SocketAddrV4) -> Result<SocketAddrV4, Errno> {
         self.handle.connect(s, from, to)
     }
@@ -77,7 +77,7 @@ impl Worker {
         self.handle.ack(request)
     }
 
-    /// Closes a socket, and tells whether a TIME_WAIT stays.
+    /// Closes a socket, and reports whether a TIME_WAIT stays.
     pub fn close(&mut self, s: Socket) -> Result<bool, Errno> {
         self.handle.close(s)
     }
@@ -92,7 +92,7 @@ impl Worker {
         self.handle.at(self.number, moment)
     }
 
-    /// Ends the TIME_WAITs that have lasted 60 seconds, and tells how many. After EAGAIN some of them are over.
+    /// Ends the TIME_WAITs that have lasted 60 seconds, and reports how many. After EAGAIN some of them are over.
     pub fn reap(&mut self) -> Result<u64, Errno> {
         self.handle.reap(self.number)
     }
