@@ -11,26 +11,34 @@ use sock_card::Owner;
 /// `local` is an address of the socket's own end, `remote` and `rport` are the other's.
 #[derive(Clone, Copy, Debug, PartialEq, Eq)]
 pub enum Request {
+    /// Takes in a newcomer, unless an owner keeps it from its port.
     Bind(Owner),
+    /// Takes in a newcomer whose port is searched for, unless an owner overlaps it.
     BindAuto(Owner),
+    /// Whether the socket may listen, and in which group.
     MayListen {
         name: u32,
     },
+    /// Lets the socket listen; with `reuseport` it joins its group as a member with that slot.
     Listen {
         name: u32,
         slot: u32,
     },
+    /// Whether `connect` may choose the port.
     Free {
         port: u16,
         net: u8,
     },
+    /// Takes in a newcomer for which `connect` chose its port.
     ConnectAuto(Owner),
+    /// Connects a socket that is bound.
     ConnectBound {
         name: u32,
         local: u32,
         remote: u32,
         rport: u16,
     },
+    /// Takes in the socket of that name, which the listener `parent` accepted.
     Inherit {
         parent: u32,
         name: u32,
@@ -38,12 +46,15 @@ pub enum Request {
         remote: u32,
         rport: u16,
     },
+    /// Puts an owner into TIME_WAIT.
     ToTimeWait {
         name: u32,
     },
+    /// Takes an owner out, and the member of its name from its group.
     Remove {
         name: u32,
     },
+    /// Takes out an owner that is in TIME_WAIT.
     RemoveWaiting {
         name: u32,
     },

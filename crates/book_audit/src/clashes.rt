@@ -16,9 +16,13 @@ use std::alloc::{AllocError, Global};
 /// How two lives may clash.
 #[derive(Clone, Copy, Debug, PartialEq, Eq)]
 pub enum Clash {
+    /// They have a number of the clock in common.
     Number,
+    /// Changes of both meet in one bucket.
     Overlap,
+    /// They are in one slot, and neither is on its way out before the other is in.
     Slot,
+    /// They are full cards of one four-tuple, each hashed before the other is on its way out.
     Twin,
 }
 

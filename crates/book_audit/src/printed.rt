@@ -26,9 +26,13 @@ pub struct PrintedLife {
 /// How the last pass of a lookup ended that was given up.
 #[derive(Clone, Copy, Debug, PartialEq, Eq)]
 pub enum PrintedEnd {
+    /// At the end of this bucket's chain, into which the way had led.
     Foreign(u64),
+    /// At a slot that was no longer live when it was taken.
     Dead(u64),
+    /// At a slot whose card was another once it was taken.
     Changed(u64),
+    /// After so many links.
     Long(u64),
 }
 
@@ -36,6 +40,7 @@ pub enum PrintedEnd {
 #[derive(Clone, Copy, Debug, PartialEq, Eq)]
 pub enum PrintedAnswer {
     Found(Kind, u32),
+    /// No socket.
     None,
     /// Given up in that bucket.
     Again(u64, PrintedEnd),
@@ -53,6 +58,7 @@ pub struct PrintedLook {
 /// The line of a packet: it was skipped or too short, or it was looked up.
 #[derive(Clone, Copy, Debug, PartialEq, Eq)]
 pub enum PrintedPacket {
+    /// Skipped, or too short.
     Passed,
     Looked(PrintedLook),
 }

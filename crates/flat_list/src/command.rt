@@ -211,6 +211,7 @@ pub enum Command {
 /// What a command answers. Refusals have the names of errno(3).
 #[derive(Clone, Copy, Debug, PartialEq, Eq)]
 pub enum Reply {
+    /// Done, and there is no more to say.
     Ok,
     /// Done, and the socket has this port; 0 where it takes one later.
     Port(u16),

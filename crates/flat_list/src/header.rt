@@ -28,7 +28,9 @@ pub struct Range {
 /// those at even ones.
 #[derive(Clone, Copy, Debug, PartialEq, Eq)]
 pub enum First {
+    /// At odd distances from the lowest port.
     Odd,
+    /// At even ones.
     Even,
 }
 

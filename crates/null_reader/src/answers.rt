@@ -26,6 +26,7 @@ pub enum Point {
 
 /// Called before each step of a lookup.
 pub trait Pace {
+    /// The step `at` is the next one.
     fn step(&mut self, at: Point);
 }
 
@@ -50,28 +51,36 @@ pub enum PassEnd {
     Long(u64),
 }
 
-// The best slot that a pass of a lookup holds.
+/// The best slot that a pass of a lookup holds.
 #[derive(Clone, Copy)]
 pub struct Best {
     pub slot: u32,
+    /// Its card, as it was loaded under the count.
     pub card: CardWords,
+    /// How well the card matches the packet, from 1 to 5.
     pub rank: u8,
 }
 
-// Where a turn of a pass leads.
+/// Where a turn of a pass leads.
 #[derive(Clone, Copy)]
 pub enum Turn {
+    /// The pass is over: a card has the highest rank, 5.
     Found(Best),
+    /// To this link, with the best slot so far.
     On(Option<Best>, u64),
 }
 
-// What a lookup found, the card by its words.
+/// What a lookup found, the card by its words.
 pub enum WordsEnd {
+    /// The best card, whose slot is held: the count must be put.
     Found(Held, CardWords),
+    /// Nothing in the bucket matches.
     None,
+    /// Each pass through this bucket ended without an answer, the last of them so.
     Again(u32, PassEnd),
 }
 
+/// A lookup's answer, the card by its words, and its first and last load of the clock.
 pub struct WordsLook {
     pub end: WordsEnd,
     pub from: u64,

@@ -27,6 +27,7 @@ pub enum Turning {
 
 /// Called before each step of a change that [`Turning`] names.
 pub trait Halt {
+    /// The step `at` is the next one.
     fn step(&mut self, at: Turning);
 }
 

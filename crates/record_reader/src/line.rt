@@ -21,6 +21,7 @@ pub struct Name {
 #[derive(Clone, Copy, Debug, PartialEq, Eq)]
 pub enum Answer {
     Found(Kind, Name),
+    /// No socket.
     None,
     /// Given up in that bucket.
     Again(u64, PrintedEnd),
@@ -38,7 +39,9 @@ pub struct LookLine {
 /// What came of a packet: it was of another protocol, too short, or looked up.
 #[derive(Clone, Copy, Debug, PartialEq, Eq)]
 pub enum ItemLine {
+    /// Of another protocol.
     Skip,
+    /// Of too few bytes.
     Short,
     Looked(LookLine),
 }
@@ -67,6 +70,7 @@ pub enum Line {
     Reply { vain: bool },
     /// How many entries the journal of that bind bucket has.
     Journal { bucket: u64, count: u64 },
+    /// Where and when a card was hashed, and when it was unhashed.
     Life(LifeLine),
     /// What came of the packet of that number, from 1.
     Packet { number: u64, item: ItemLine },

@@ -12,10 +12,10 @@ pub struct Stored {
 /// What passes know of their table. `specs/Passes` has the words by which contracts read it.
 pub struct GroupView {
     pub parts: u64,
-    // They were never split.
+    /// They were never split.
     pub sole: bool,
-    // All that was stored in the table up to a moment, newest first, for each moment that they know.
+    /// All that was stored in the table up to a moment, newest first, for each moment that they know.
     pub moments: LinkedList<LinkedList<Stored>>,
-    // What they stored, newest first, and behind it what those stored that they joined.
+    /// What they stored, newest first, and behind it what those stored that they joined.
     pub mine: LinkedList<Stored>,
 }

@@ -192,7 +192,9 @@ pub enum Sock {
     Unbound(Unbound),
     Bound(Bound),
     Listening(Listening),
+    /// It is connected.
     Full(Connected),
+    /// It stands for a listener's handshake until that is over.
     Request(Request),
 }
 

@@ -21,5 +21,6 @@ pub enum Line {
     Section(u32),
     /// The bytes after this line are a capture, of packets from that device and that network namespace.
     Capture { dev: Option<u16>, net: Option<u8> },
+    /// A command of the section.
     Command(KeptCommand),
 }

@@ -4,6 +4,8 @@ use super::view::{Layout, View};
 use atomic_table::{Join, Play, Split, TableRule};
 use std::marker::{Brand, PhantomData};
 
+/// The rule of the table: what holds of all words and all passes between any two steps, and what the first pass knows
+/// of a new table.
 pub struct Rule;
 
 impl TableRule<(), View, Layout> for Rule {
@@ -130,6 +132,7 @@ impl Play<(), View> for Past {
 pub trait Told {
     ghost use Rattle.std.specs.Prelude.{ℕ};
 
+    /// A slot; or the place of a count among those that were taken with LIVE, 0 for the last one.
     ghost slot: { ℕ };
 }
 
@@ -335,13 +338,14 @@ impl Play<(), View> for EndAgain {
     ghost then = { ended_again };
 }
 
-/// The nth of the counts that were taken with LIVE.
+/// Of the counts that a pass took with LIVE and has not put, the last one.
 pub struct First;
 
 impl Told for First {
     ghost slot = { 0 };
 }
 
+/// The last but one of these counts.
 pub struct Second;
 
 impl Told for Second {

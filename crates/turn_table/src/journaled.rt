@@ -8,6 +8,7 @@ ghost use Rattle.turn_table.specs.declared.note.Note.{Note as NoteOf};
 /// The table never makes an entry. A value's own calls append them, each with a number that
 /// [`Turns::draw`](crate::Turns::draw) gave and the number of the pass that called.
 pub trait Journaled: Drop {
+    /// What one call on a value is in its journal.
     type Entry;
 
     /// What the values of one table have in common: `()` where that is nothing.
