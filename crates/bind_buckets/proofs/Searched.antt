@@ -104,9 +104,6 @@ module _ (asked : Asked) (but : Option ℕ) (one : ℕ) (other : Option ℕ) (ke
       true≢false (sym passing ∙ ap (has asked) (beside_elsewhere but j slots d named) ∙ failing))
 
   module _ (near far : Option ℕ) (searched : IsSearched asked but one other keys slots near far) where
-    pub near_after : IsAfterOther (Some one) near keys
-    near_after = after_other (Some one) keys searched.from near searched.near_is
-
     pub far_after : IsAfterOther other far keys
     far_after = after_other other keys searched.from far searched.far_is
 

@@ -147,23 +147,6 @@ module _ (slot : ℕ) (key : Packet) (least best before : ℕ) (m n : Sat) (a : 
     taken : (q : Reader) (looks : Looks m.0 q) → n₂ ≡ (looking m.0 (keyed q slot (keyed-is q looks).0 (keyed-is q looks).1) (new ∷ m.0.read.kept) (slot ∷ m.0.slot.holds) (m.0.slot.taken + 1), m.1)
     taken q looks = live ∙ ap (λ (s : Sat). (taking s.0 slot, s.1)) (keyed-is q looks).3
 
-    pub is_checking : a.q.best ≤ before → IsChecking slot key before n₂.0
-    is_checking low = let k = keyed-is a.q a.looks in let t = taken a.q a.looks in record {
-      q = keyed a.q slot k.0 k.1;
-      looks = ap (λ (s : Sat). s.0.read.reader) t;
-      key-is = a.key-is;
-      a = k.0;
-      b = k.1;
-      peek = refl;
-      rank-is = k.2;
-      better = low;
-      kept = new;
-      others = m.0.read.kept;
-      there = ap (λ (s : Sat). s.0.read.kept) t;
-      slot-is = refl;
-      none = refl;
-    }
-
     module _ (n₃ : Sat) where
       pub visited_better : (card : CardWords) → least ≤ before → ((q : Reader) (h : Kept) (hs : List Kept) → Looks n₂.0 q → n₂.0.read.kept ≡ h ∷ hs → Checked slot key before q h hs n₂ (Some card) n₃)
           → (q : Reader) → Looks m.0 q → Visited slot key least best q m (Ok (Some (record { slot = slot; card = card; rank = before }))) n₃

@@ -2,12 +2,12 @@
 use Rattle.std.proofs.Common.{◌≡◌, ℕ, ◌+◌, ◌<◌, ◌≤◌, List, [], ◌∷◌, ◌++◌, length, sym, refl, ap, ◌∙◌, subst, arith, Option, Some, None, Result, Ok, Err}
 use Rattle.table_rule.specs.ReadersOk.{rank_of}
 use Rattle.table_rule.specs.Plays.{Sat, setting_out, concluding, receipt}
-use Rattle.table_rule.specs.LookCalls.{Looks, IsNone, IsFound, IsStopped}
+use Rattle.table_rule.specs.LookCalls.{Looks, IsNone, IsFound}
 use Rattle.table_rule.specs.Alone.{IsAlone, NoneStands, CardStands, NoneKnown}
 use mathlib.Core.Option.{some}
 use lib.ListN.{get_elem?}
 use Rattle.table_rule.specs.declared.view.Change.{Change}
-use Rattle.null_reader.specs.Looked.{IsWhole, looking, held, stop_of, IsLookup, Passed, Between, looked_view, LookedAs, HasTwo}
+use Rattle.null_reader.specs.Looked.{IsWhole, looking, held, stop_of, IsLookup, Passed, Between, looked_view, LookedAs}
 use Rattle.table_rule.specs.declared.view.Layout.{Layout}
 use Rattle.table_rule.specs.declared.view.Kept.{Kept}
 use Rattle.table_rule.specs.declared.view.Stop.{Stop}
@@ -51,29 +51,11 @@ module _ (layout : Layout) (bucket : ℕ) (key : Packet) (least passes t₀ : �
     pub looks_between : Looks n.0 b.q
     looks_between = ap (λ (s : Sat). s.0.read.reader) b.is
 
-    pub early_between : b.q.since ≤ n.0.seen
-    early_between = omega (arith, b.same.since, ap (λ (s : Sat). s.0.seen) b.is, ap (λ (s : Sat). s.0.seen) out)
-
     pub seen_between : n.0.seen ≡ t₀
     seen_between = ap (λ (s : Sat). s.0.seen) b.is ∙ ap (λ (s : Sat). s.0.seen) out
 
-    pub room_between : HasTwo m.0 → HasTwo n.0
-    room_between h = omega (arith, h, ap (λ (s : Sat). length s.0.slot.holds) b.is, ap (λ (s : Sat). s.0.slot.parts) b.is, ap (λ (s : Sat). length s.0.slot.holds) out, ap (λ (s : Sat). s.0.slot.parts) out)
-
     more-between : m.0.slot.taken ≤ n.0.slot.taken
     more-between = omega (arith, b.more, ap (λ (s : Sat). s.0.slot.taken) b.is, ap (λ (s : Sat). s.0.slot.taken) out)
-
-    -- a pass stopped
-    pub between_more : (stop : PassEnd) → Passed layout n b.q (Err stop) n' → Between m₁ q₀ (done + 1) stop n'
-    between_more stop t = record {
-      q = t.0;
-      taken = t.3;
-      more = omega (arith, b.more, ap (λ (s : Sat). s.0.slot.taken) b.is, t.4);
-      is = t.5 ∙ ap (λ (s : Sat). (looking s.0 t.0 s.0.read.kept s.0.slot.holds t.3, s.1)) b.is;
-      same = record { bucket = t.1.bucket ∙ b.same.bucket; key = t.1.key ∙ b.same.key; least = t.1.least ∙ b.same.least; since = t.1.since ∙ b.same.since };
-      count = ap (length {A = Stop}) t.2 ∙ (len-snoc b.q.stops (stop_of stop) ∙ ap (λ (k : ℕ). k + 1) b.count);
-      last-is = λ h. (b.q.stops, t.2);
-    }
 
     -- nothing better than least
     pub is_none : Passed layout n b.q (Ok None) n' → IsNone n'.0
@@ -148,9 +130,6 @@ module _ (layout : Layout) (bucket : ℕ) (key : Packet) (least passes t₀ : �
 
   -- each pass stopped
   module _ (last : PassEnd) (n : Sat) (b : Between m₁ q₀ passes last n) (some-pass : 0 < passes) where
-    pub is_stopped : IsStopped n.0
-    is_stopped = (b.q, ap (λ (s : Sat). s.0.read.reader) b.is, omega (arith, b.count, some-pass))
-
     pub looked_again : (n'' : Sat) (t₁ : ℕ) → ((q : Reader) → Looks n.0 q → n'' ≡ (concluding n.0 (receipt q 2 [] t₁), n.1)) → LookedAs bucket key least passes m (ends.Again bucket last) t₀ t₁ n''
     looked_again n'' t₁ end = let f = b.last-is some-pass in let s = b.same in
         let c : receipt b.q 2 [] t₁ ≡ record { bucket = bucket; key = key; least = least; from = t₀; to = t₁; kind = 2; card = []; stops = f.0 ++ stop_of last ∷ [] } = λ i. record { bucket = s.bucket i; key = s.key i; least = s.least i; from = s.since i; to = t₁; kind = 2; card = []; stops = f.1 i } in (
