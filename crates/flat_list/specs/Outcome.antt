@@ -1,4 +1,4 @@
--- What a command leaves and answers, and the parts that commands are made of: our own form.
+-- What a command leaves and replies, and the parts that commands are made of: our own form.
 --
 -- To be read from the beginning: `Outcome` is what a command leaves, `Drawn` what it drew, and `Found` which port a
 -- search found.

@@ -3,7 +3,7 @@
 -- statistically good algorithms for random number generation").
 --
 -- In four parts: a section, up to `put_section`; names and labels, up to `GivesLabel`; words of the generator, up to
--- `with_drawn`; and moments, up to `with_moment`. What whole commands leave of these stands at the end.
+-- `with_drawn`; and moments, up to `with_moment`. Three that contracts cite stand at the end.
 use Rattle.std.specs.Prelude.{◌≡◌, ◌≢◌, ◌≤◌, slice_get, ◌/◌, ◌%◌, ℕ, ◌+◌, ◌*◌, ◌^◌, Bool, ◌==◌, List, [], ◌∷◌, ◌++◌, Option, if◌then◌else◌, find, unwrap_or, position, bytes_eq, length}
 use Rattle.std.specs.Option.{option_map}
 use Rattle.rand_pcg.specs.Lcg.{Lcg, started, increment_of}

@@ -63,7 +63,7 @@ counts_of answers =
       none = count_by is_missed answers;
     }
 
--- what is counted of a script that is answered so; it has no `packets`, whose items' replies would be taken for
+-- what is counted of a script with those replies; it has no `packets`, whose items' replies would be taken for
 -- commands'
 abbrev pub script_counts : Script → List Reply → Counts
 script_counts script replies = counts_of (answered script.sections (issued script) replies)
