@@ -1,4 +1,4 @@
--- What `audit` answers of the text of a lawful race: our own.
+-- What `audit` says of the text of a lawful race: our own.
 use Rattle.std.specs.Prelude.{◌≡◌, ℕ, ◌<◌, ◌≤◌, ◌^◌, List, length, Result, Ok, Err}
 use Rattle.capture_reader.specs.Captures.{Capture}
 use Rattle.capture_reader.specs.Numbers.{AreBytes}

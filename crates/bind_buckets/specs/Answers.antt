@@ -1,4 +1,7 @@
 -- How the calls on a bucket answer, and why: our own rule.
+--
+-- To be read from the beginning: most stand on no other here. `IsOfBind`, `IsOfFree`, `IsOfName` and `IsOfListen` are
+-- of private functions.
 use Rattle.std.specs.Prelude.{◌≡◌, ℕ, true, List, length, Option, None, Some, Result, Ok, Err, find, IfSome, MatchOption, IsSome, ◌+◌}
 use Rattle.std.specs.Option.{option_map}
 use Rattle.sock_card.specs.declared.owner.Owner.{Owner}

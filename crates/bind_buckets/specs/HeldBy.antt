@@ -1,4 +1,6 @@
 -- What the owners and groups of a bucket mean, as its code keeps them: our own rule.
+--
+-- Public contracts come to `held_by` alone, by the view of a bucket in Fields; the rest is of private functions.
 use Rattle.std.specs.Prelude.{◌≡◌, ℕ, ◌+◌, ◌≤◌, true, ◌==◌, ◌||◌, length, Option, IfSome, find}
 use Rattle.sock_card.specs.declared.owner.Owner.{Owner}
 use Rattle.bind_buckets.specs.declared.held.Held.{Held as Inside}

@@ -1,4 +1,6 @@
 -- Keys of places, and the links between the places of one home: our own rule.
+--
+-- To be read from the beginning. What holds of the links between two calls is `AreInHomes`.
 use Rattle.std.specs.Prelude.{◌≡◌, ℕ, ◌+◌, ◌%◌, ◌≤◌, ◌<◌, Bool, true, false, ◌==◌, List, map, length, Option, None, Some, slice_index, ◌-◌, min}
 use Rattle.std.specs.List.{slice_index_or}
 use Rattle.bind_buckets.specs.declared.links.Place.{Place}

@@ -1,5 +1,8 @@
 -- What a caller's own entries say of its own sockets, whoever else has entries in the bucket: our own law. Of its open
 -- sockets they say all: only a TIME_WAIT can be removed by others.
+--
+-- The laws are `OpenAreTold`, `OwnAreTold`, `FirstOwnIsTold`, `OwnStands`, `OwnComes`, `OwnStays`, `OwnGoesOn` and
+-- `OwnAccepted`: each stands on those above it.
 use Rattle.std.specs.Prelude.{◌≡◌, ◌≢◌, ℕ, ◌==◌, Bool, true, false, cond, ◌&&◌, ◌||◌, not, List, [], Some, filter, find}
 use Rattle.list_words.specs.Lists.{Each}
 use Rattle.sock_card.specs.declared.owner.Owner.{Owner}

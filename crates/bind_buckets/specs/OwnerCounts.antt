@@ -1,5 +1,8 @@
 -- Counts of a bucket's owners by two places: that of the port, and that of the port and the address. Our own rule.
 -- At a port those are marked that `connect` may not share it with, and at an end those that may have mates there.
+--
+-- In three parts: where an owner is counted, up to `end_spot`; the tallies there, up to `both_rule_out`; and what
+-- holds of them all, `IsCountOf` at the end.
 use Rattle.std.specs.Prelude.{ℕ, ◌+◌, ◌/◌, ◌%◌, Bool, ◌==◌, ◌&&◌, not, List, []}
 use Rattle.sock_card.specs.declared.owner.Owner.{Owner}
 use Rattle.bind_buckets.specs.declared.tally.Tally.{Tally}

@@ -1,4 +1,4 @@
--- What a request to a bind bucket leaves and answers: inet_csk_get_port, inet_csk_find_open_port,
+-- What a request to a bind bucket leaves, and how it is answered: inet_csk_get_port, inet_csk_find_open_port,
 -- inet_csk_bind_conflict and inet_csk_listen_start of net/ipv4/inet_connection_sock.c, __inet_hash_connect,
 -- __inet_inherit_port and inet_put_port of net/ipv4/inet_hashtables.c, reuseport_alloc and reuseport_add_sock of
 -- net/core/sock_reuseport.c. Our own rule: so many places for groups in a bucket, and room for so many members in a

@@ -1,4 +1,7 @@
 -- Worked examples of a bucket's steps: our own.
+--
+-- To be read from `KeepsUsersApart` on: it and what stands below it, but for `beside_child`, are rows, which the law
+-- `rows` of src/laws.rt states.
 use Rattle.std.specs.Prelude.{◌≡◌, ℕ, Bool, true, false, List, [], ◌∷◌, None}
 use Rattle.sock_card.specs.declared.owner.Owner.{Owner}
 use Rattle.sock_card.specs.declared.owner.State.TheVariants as states

@@ -1,4 +1,7 @@
 -- The slots in which a list keeps its owners, and how they are filed: our own rule.
+--
+-- In two parts: how owners are kept and filed, up to `AreKept`, which holds between two calls; and what the steps over
+-- them find, from `is_other` on.
 use Rattle.std.specs.Prelude.{◌≡◌, ℕ, ◌+◌, ◌*◌, ◌%◌, ◌<◌, ◌≤◌, Bool, true, false, ◌==◌, ◌&&◌, ◌||◌, List, [], ◌∷◌, map, filter, length, Option, None, Some, zero, suc, min, slice_index, IfSome}
 use Rattle.std.specs.List.{slice_index_or}
 use Rattle.sock_card.specs.declared.owner.Owner.{Owner}

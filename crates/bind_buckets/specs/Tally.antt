@@ -1,6 +1,8 @@
 -- Counts of a bucket's owners, by which most conflicts are ruled out without a scan: fastreuse and fastreuseport of
 -- struct inet_bind_bucket, sk_reuseport_match of net/ipv4/inet_connection_sock.c. That they always hold is our own
 -- rule.
+--
+-- In two parts: the tally of one place, up to `rules_out`; and those of all places, from `tally_at` on.
 use Rattle.std.specs.Prelude.{◌≡◌, ℕ, ◌+◌, ◌-◌, ◌<◌, ◌≤◌, Bool, ◌==◌, ◌&&◌, ◌||◌, not, nat_lt, min, List, length, count_by, if◌then◌else◌}
 use Rattle.std.specs.List.{slice_index_or}
 use Rattle.sock_card.specs.declared.owner.Owner.{Owner}

@@ -1,4 +1,6 @@
 -- Bind buckets under turns: a pass between two turns, a bucket that is out, and what a pass has given. Our own.
+--
+-- To be read from the beginning. The law `AsksOneMore` stands at the end.
 use Rattle.std.specs.Prelude.{◌≡◌, ℕ, ◌+◌, ◌%◌, ◌<◌, ◌≤◌, List, [], ◌∷◌, ◌++◌, length, map, drop}
 use Rattle.std.specs.List.{range_with_len}
 use Rattle.std.specs.Global.{Box}

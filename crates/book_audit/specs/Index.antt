@@ -1,5 +1,8 @@
 -- An index of lives by what lookups compare of their cards: whether one was there throughout a call. Our own; what a
 -- lookup compares is inet_match's and compute_score's of the kernel's net/ipv4/inet_hashtables.c, by sock_card's words.
+--
+-- To be read from `IsIndex` upwards: public contracts cite it alone. `connected_face`, `listening_face` and what
+-- stands below `IsIndex` are of private functions.
 use Rattle.std.specs.Prelude.{◌≡◌, ℕ, ◌<◌, ◌≤◌, ◌==◌, ◌&&◌, ◌||◌, not, nat_lt, nat_le, Bool, true, false, IsTrue, List, Option, None, Some}
 use Rattle.list_words.specs.Lists.{Each, Pairs}
 use Rattle.sock_card.specs.declared.card.Card.{Card}

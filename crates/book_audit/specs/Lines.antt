@@ -1,4 +1,6 @@
 -- The tests of the lines of lives: our own, after the rules by which a book of changes is serial.
+--
+-- To be read from the beginning: one test after the other, each below its parts.
 use Rattle.std.specs.Prelude.{◌≡◌, ℕ, ◌==◌, ◌&&◌, ◌||◌, not, nat_lt, Bool, true, false, List, Option, None, Some}
 use Rattle.list_words.specs.Lists.{Each, Pairs}
 use Rattle.chain_book.specs.declared.shape.Shape.{Shape}

@@ -1,4 +1,7 @@
 -- How the tests of pairs of lives are expressed as stays in places, of which no two may run into each other. Our own.
+--
+-- To be read from the beginning. Public contracts cite `is_below`, `NoneRunsInto`, `clash_of` and `begin_of`, and by
+-- these `runs_into`; the rest is of private functions.
 use Rattle.std.specs.Prelude.{◌≡◌, ℕ, ◌==◌, ◌&&◌, ◌||◌, not, nat_lt, nat_le, Bool, true, false, List, [], ◌∷◌, ◌++◌, Option, None, Some, if◌then◌else◌}
 use Rattle.list_words.specs.Lists.{Pairs}
 use Rattle.sock_card.specs.declared.card.Card.{Card}

@@ -1,4 +1,7 @@
 -- How the judge tries whether lives explain what came of a packet, one life after the other. Our own.
+--
+-- To be read from the end: `line_explained` is what public contracts cite, and `is_beaten`; each stands on those above
+-- it.
 use Rattle.std.specs.Prelude.{ℕ, ◌+◌, ◌==◌, ◌&&◌, ◌||◌, not, nat_lt, nat_le, Bool, true, List}
 use Rattle.std.specs.List.{list_any}
 use Rattle.sock_card.specs.declared.card.Kind.{Kind}

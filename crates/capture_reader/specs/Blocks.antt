@@ -1,6 +1,8 @@
 -- The blocks of pcapng, and what each says of a capture's packets (draft-ietf-opsawg-pcapng, sections 4.2 and 4.3).
 -- Options aren't read, and blocks of all other types are passed over,
 -- those of simple packets among them (section 4.4).
+--
+-- To be read from the end: `AreBlocks` and `items_of` are what Grammar cites, and each stands on those above it.
 use Rattle.std.specs.Prelude.{◌≡◌, ◌≢◌, ℕ, ◌+◌, ◌*◌, ◌/◌, ◌≤◌, Option, Some, None, List, [], ◌∷◌, ◌++◌, length, take, drop, slice_get, Bool, true, false}
 use Rattle.capture_reader.specs.declared.number.Order.{Order}
 use Rattle.capture_reader.specs.declared.number.Order.TheVariants as orders

@@ -1,6 +1,8 @@
 -- Which texts are captures, and of what: the savefile format of libpcap (pcap-savefile(5); draft-ietf-opsawg-pcap,
 -- section 5), and pcapng (draft-ietf-opsawg-pcapng). A capture that ends in the middle of a record is one of the
 -- records before, and one whose blocks are followed by other bytes is one of these blocks.
+--
+-- To be read from `IsCapture` upwards: contracts cite it, and the laws stand below it.
 use Rattle.std.specs.Prelude.{◌≡◌, ◌≢◌, ℕ, ◌+◌, ◌<◌, ◌≤◌, ◌⊎◌, List, [], ◌∷◌, ◌++◌, length, drop, Bool, true, false}
 use Rattle.capture_reader.specs.declared.number.Order.{Order}
 use Rattle.capture_reader.specs.declared.header.Header.{Header}

@@ -1,6 +1,8 @@
 -- What a stored packet is for the socket tables: the packet whose socket is looked up, or one that is passed over, or
 -- too few bytes to decide. IEEE 802.3 and 802.1Q for frames and tags; RFC 791, section 3.1, for the IP header; RFC
 -- 9293, section 3.1, for the ports.
+--
+-- To be read from the end: `item_of` is what Blocks and Grammar cite, and each stands on those above it.
 use Rattle.std.specs.Prelude.{ℕ, ◌+◌, ◌-◌, ◌*◌, ◌/◌, ◌%◌, ◌==◌, ◌||◌, not, nat_lt, Bool, if◌then◌else◌, List, length, drop, slice_index}
 use Rattle.sock_card.specs.declared.card.Packet.{Packet}
 use Rattle.capture_reader.specs.declared.number.Order.TheVariants as orders

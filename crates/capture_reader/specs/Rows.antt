@@ -1,4 +1,7 @@
 -- Worked examples of stored packets and of captures, with their bytes: our own.
+--
+-- In two parts: stored packets, up to `judged`, and captures, up to `RowsHold`. What a part's rows are made of stands
+-- above them.
 use Rattle.std.specs.Prelude.{ℕ, List, [], ◌∷◌, ◌++◌, map, take, replicate, true, false}
 use Rattle.capture_reader.specs.declared.header.Link.TheVariants as links
 use Rattle.capture_reader.specs.declared.packet.Item.{Item}

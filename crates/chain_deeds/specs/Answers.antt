@@ -1,4 +1,7 @@
 -- What a call on shared chains answers by its deeds: our own.
+--
+-- To be read from a call's relation upwards: `Inserts`, `Adds`, `Removes`, `Waits`, `HandsOver` and `Reaps` are what
+-- the contracts of calls cite.
 use Rattle.std.specs.Prelude.{Option, ◌≡◌, ℕ, [], ◌∷◌, Result, Ok, Err}
 use Rattle.std.specs.Option.{option_map}
 use Rattle.sock_card.specs.declared.card.Card.{Card}

@@ -1,4 +1,6 @@
 -- What a pass at shared chains knows, as operations on sockets go by it: our own.
+--
+-- To be read from the beginning: what a side is and made, up to `chains_by`, and then what calls ask and say of a pass.
 use Rattle.std.specs.Prelude.{◌≡◌, ℕ, ◌+◌, ◌≤◌, ◌==◌, cond, List, [], map}
 use Rattle.chain_book.specs.declared.book.Act.{Act}
 use Rattle.chain_book.specs.declared.book.Act.TheVariants as acts

@@ -1,4 +1,6 @@
 -- The commands of calls: those of scripts, on sockets named by numbers. Our own.
+--
+-- To be read by a command's name: each stands by itself.
 use Rattle.std.specs.Prelude.{ℕ, Option}
 use Rattle.flat_list.specs.declared.command.Command.{Command}
 use Rattle.flat_list.specs.declared.command.Command.TheVariants as commands

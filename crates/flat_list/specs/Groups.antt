@@ -1,6 +1,8 @@
 -- Groups of listeners that share an end by SO_REUSEPORT: reuseport_alloc, reuseport_add_sock and
 -- reuseport_detach_sock of net/core/sock_reuseport.c. Our own: a bind bucket has eight places for groups,
 -- and a group room for so many members.
+--
+-- To be read from `leave` and `join` upwards: these are what one that leaves and a newcomer make of the groups.
 use Rattle.std.specs.Prelude.{ℕ, ◌-◌, ◌*◌, ◌%◌, Bool, ◌==◌, ◌&&◌, not, nat_lt, List, [], ◌∷◌, ◌++◌, length, Option, None, Some, if◌then◌else◌, map, filter, find, take, slice_index}
 use Rattle.std.specs.List.{list_any, range_with_len}
 use Rattle.std.specs.Option.{option_map}

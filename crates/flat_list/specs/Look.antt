@@ -2,6 +2,8 @@
 -- member that the hash of the packet's four-tuple chooses (__inet_lookup of include/net/inet_hashtables.h,
 -- inet_lhash2_lookup and inet_lookup_reuseport of net/ipv4/inet_hashtables.c, reuseport_select_sock of
 -- net/core/sock_reuseport.c).
+--
+-- To be read from the end: `look` is what contracts cite, and each stands on those above it.
 use Rattle.std.specs.Prelude.{ℕ, ◌+◌, Bool, ◌==◌, ◌&&◌, nat_lt, List, length, Option, Some, option_and_then, find, fold, map, slice_index}
 use Rattle.std.specs.List.{filter_map}
 use Rattle.std.specs.Option.{option_map, option_map_or}

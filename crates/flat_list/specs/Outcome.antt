@@ -1,4 +1,7 @@
--- What a command leaves and answers, and the parts that commands are made of: our own form.
+-- What a command leaves and replies, and the parts that commands are made of: our own form.
+--
+-- To be read from the beginning: `Outcome` is what a command leaves, `Drawn` what it drew, and `Found` which port a
+-- search found.
 use Rattle.std.specs.Prelude.{ℕ, ◌%◌, Bool, List, [], ◌∷◌, ◌++◌, Option, None, Some, option_and_then, nat_lt, find}
 use Rattle.flat_list.specs.declared.header.First.{First}
 use Rattle.flat_list.specs.declared.command.Reply.{Reply}

@@ -3,6 +3,8 @@
 -- Sources: inet_csk_get_port, inet_csk_listen_start and inet_csk_clone_lock of net/ipv4/inet_connection_sock.c;
 -- tcp_v4_connect of net/ipv4/tcp_ipv4.c; bind(2), listen(2), connect(2), accept(2), ip(7). Which ends `connect` and
 -- `accept` refuse is our own rule.
+--
+-- To be read from the beginning: each is short, and most stand on no other here.
 use Rattle.std.specs.Prelude.{ℕ, Bool, true, false, ◌==◌, ◌||◌, not, Option, None, Some, if◌then◌else◌, unwrap_or}
 use Rattle.sock_card.specs.declared.owner.Owner.{Owner}
 use Rattle.sock_card.specs.declared.owner.State.TheVariants as states

@@ -2,6 +2,9 @@
 -- and that a search goes round from an offset, follows inet_csk_find_open_port of net/ipv4/inet_connection_sock.c and
 -- __inet_hash_connect of net/ipv4/inet_hashtables.c, and that both pass reserved ports by,
 -- inet_is_local_reserved_port; where it begins and which half comes first is our own rule.
+--
+-- To be read from `port_order` and `ports_of` upwards: the order in which a search tries its ports, and which these
+-- are. The law `TriesEachOnce` is of both.
 use Rattle.std.specs.Prelude.{◌≡◌, ℕ, ◌+◌, ◌-◌, ◌*◌, ◌/◌, ◌%◌, ◌==◌, Bool, not, List, ◌++◌, map, filter, take, replicate}
 use Rattle.std.specs.List.{range_with_len, list_any}
 use Rattle.list_words.specs.Lists.{SameItems}

@@ -1,6 +1,9 @@
 -- What each section of a script keeps, and the names that its labels stand for: our own rule. The generator is PCG's
 -- XSH-RR of 64 bits of state, one stream for each section (O'Neill, "PCG: a family of simple fast space-efficient
 -- statistically good algorithms for random number generation").
+--
+-- In four parts: a section, up to `put_section`; names and labels, up to `GivesLabel`; words of the generator, up to
+-- `with_drawn`; and moments, up to `with_moment`. Three that contracts cite stand at the end.
 use Rattle.std.specs.Prelude.{◌≡◌, ◌≢◌, ◌≤◌, slice_get, ◌/◌, ◌%◌, ℕ, ◌+◌, ◌*◌, ◌^◌, Bool, ◌==◌, List, [], ◌∷◌, ◌++◌, Option, if◌then◌else◌, find, unwrap_or, position, bytes_eq, length}
 use Rattle.std.specs.Option.{option_map}
 use Rattle.rand_pcg.specs.Lcg.{Lcg, started, increment_of}

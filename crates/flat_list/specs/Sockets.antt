@@ -5,6 +5,9 @@
 -- inet_reuseport_add_sock of net/ipv4/inet_hashtables.c. That devices don't keep two full sockets of one four-tuple
 -- apart is our own rule, and so are which TIME_WAIT gives way, how long one lasts, and that `connect` shares a port
 -- only with owners for whom it chose that.
+--
+-- To be read from the beginning: states and names, up to `open_in`; ports, up to `is_claimed`; four-tuples, up to
+-- `without_waiting`; and then groups, and what a list keeps.
 use Rattle.std.specs.Prelude.{ℕ, ◌/◌, ◌^◌, Bool, true, false, ◌==◌, ◌&&◌, ◌||◌, not, List, Option, None, Some, if◌then◌else◌, map, filter, find, count_by}
 use Rattle.std.specs.List.{list_any}
 use Rattle.std.specs.Option.{option_map}

@@ -1,4 +1,4 @@
--- What a command of a section leaves and answers; its refusals stand in the order in which they are tested. Sources:
+-- What a command of a section leaves and replies; its refusals stand in the order in which they are tested. Sources:
 -- socket(7), bind(2), listen(2), close(2) and their errors; inet_bind and inet_listen of net/ipv4/af_inet.c;
 -- inet_csk_get_port and inet_csk_listen_start of net/ipv4/inet_connection_sock.c; tcp_time_wait of
 -- net/ipv4/tcp_minisocks.c. Our own: EBADF where a label names no open socket; slots fixed in number, and ENFILE

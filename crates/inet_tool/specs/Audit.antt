@@ -1,4 +1,7 @@
 -- What `audit` writes for a text, and which status it gets. Our own rules.
+--
+-- To be read from the end: `IsEnd`, `WritesOutcome`, `WritesFrontOfOutcome` and `AuditAnswers` are what contracts
+-- cite, and each stands on those above it.
 use Rattle.std.specs.Prelude.{◌≡◌, ◌≤◌, ◌<◌, ℕ, List, ◌++◌, length, codes, decimal, Option}
 use Rattle.std.specs.Io.KnownBytes.{Appends}
 use Rattle.inet_io.specs.Ends.{AppendsFront}

@@ -1,4 +1,7 @@
 -- What the program reads, and what it writes for that. Our own rules.
+--
+-- To be read upwards from what contracts cite: `HasFault` and `IsGood`, of what is read; `WritesFlatOut`,
+-- `WritesFault` and `WritesFront`, of a run; `WritesCounts` and `WritesFrontOfCounts`, of `make`.
 use Rattle.std.specs.Prelude.{◌≡◌, ◌≢◌, ◌≤◌, ℕ, ◌^◌, List, [], ◌++◌, length, codes, decimal, Option, Some, None}
 use Rattle.std.specs.Io.KnownBytes.{Appends}
 use Rattle.inet_io.specs.Ends.{ReadsWhole, AppendsFront}

@@ -1,6 +1,9 @@
 -- The words of a command line, the program's name first. What clap makes of them is its own relation: which words it
 -- refuses is `fault_of`, and the subcommand that it meets, with its values, is `subcommand_of`. The forms are our own
 -- rule.
+--
+-- In three parts: what the program declares, up to `inet_app`; what words ask for, from `IsTaken` to `Asks`; and six
+-- laws, from `RunAsks` on. `NamesPlain` is of a private function.
 use Rattle.std.specs.Prelude.{◌≡◌, ◌<◌, ◌≤◌, ◌^◌, ℕ, List, [], ◌∷◌, Option, Some, true, pos, codes, decimal, option_map, option_and_then}
 use Rattle.std.specs.Str.Parse.{digits_value, without_leading_plus}
 use Rattle.clap.specs.Words.{App, Rule, Text, fault_of, new_app, new_rule, one_of, subcommand_of, with_rule, with_subcommand}

@@ -1,6 +1,9 @@
 -- Which port a search finds, and how it leaves the buckets that it asked: inet_csk_find_open_port of
 -- net/ipv4/inet_connection_sock.c, __inet_hash_connect of net/ipv4/inet_hashtables.c. That `connect` shares a port only
 -- with owners for whom it chose that is our own rule.
+--
+-- To be read upwards from what contracts cite: for `bind` from `searched` and `FindsNone`, for `connect` from
+-- `ConnectsAt` and `ConnectsNowhere`. `IsNotBusy` and `IsNotFull` stand below these.
 use Rattle.std.specs.Prelude.{◌≡◌, ℕ, ◌%◌, Bool, true, false, not, List, [], ◌∷◌, ◌++◌, length, map, filter, Option, None, Some, if◌then◌else◌}
 use Rattle.std.specs.List.{FoldsTo, list_any, slice_index_or}
 use Rattle.sock_card.specs.declared.owner.Owner.{Owner}

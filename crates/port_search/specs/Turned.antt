@@ -1,4 +1,7 @@
 -- A search through buckets that are shared, each port asked in its own turn: our own.
+--
+-- Contracts of public calls cite `BindsAt`, `BindsIn`, `BindsNowhere` and `BindsNotYet`, each of which stands on those
+-- up to `TakenIn`. `RefusedAt`, and what stands from `RefusesAt` to `TriedAt`, is of private functions.
 use Rattle.std.specs.Prelude.{◌≡◌, ℕ, ◌+◌, ◌%◌, ◌≤◌, Bool, true, false, List, [], ◌∷◌, ◌++◌, filter, find, Option, None, Some, Result, Ok, Err}
 use Rattle.sock_card.specs.declared.owner.Owner.{Owner}
 use Rattle.sock_card.specs.Conflict.{bind_key, is_time_wait}

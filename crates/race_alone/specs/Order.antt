@@ -1,4 +1,6 @@
 -- A record whose steps were made at tables where nobody else was, in whatever order of sections: our own.
+--
+-- To be read from the end: `TurnsAreFlat` is the law `any_order` of src/laws.rt, and each stands on those above it.
 use Rattle.std.specs.Prelude.{◌≡◌, ℕ, ◌==◌, ◌≤◌, Bool, false, List, [], ◌∷◌, length, map, filter}
 use Rattle.list_words.specs.Lists.{Each}
 use Rattle.capture_reader.specs.Captures.{Capture}

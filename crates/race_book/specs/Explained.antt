@@ -1,5 +1,8 @@
 -- Which answers of lookups some changes explain: our own, after the rule of Documentation/RCU/rculist_nulls.rst that
 -- a lookup which ends in another chain, or meets what is no longer there, starts again.
+--
+-- To be read from `IsExplained`, at the end, upwards. `NamesItsBucket` is cited beside it, and `anywhere` and
+-- `IsExplainedIn` are what laws cite.
 use Rattle.std.specs.Prelude.{◌≡◌, ◌≢◌, ℕ, ◌+◌, ◌≤◌, List, [], ◌∷◌}
 use Rattle.sock_card.specs.declared.card.Card.{Card}
 use Rattle.sock_card.specs.declared.card.Packet.{Packet}

@@ -1,5 +1,8 @@
 -- What an operation did at the tables, one deed after the other, with what the tables answered: our own. Entries of
 -- journals have their numbers, and changes their stamps, from whatever tables they were made at.
+--
+-- In two parts: what a deed is, up to `Vain`; and what deeds made and drew, of which the last five, from `entries_in`
+-- on, speak of many deeds.
 use Rattle.std.specs.Prelude.{ℕ, ◌%◌, List, [], ◌∷◌, ◌++◌, Option, None, Some}
 use Rattle.std.specs.List.{flat_map}
 use Rattle.sock_card.specs.declared.card.Card.{Card}

@@ -1,4 +1,6 @@
 -- How a plan goes on by some answers of the tables, whoever else is at them: our own.
+--
+-- To be read from the end, `Goes`: each stands on those above it.
 use Rattle.std.specs.Prelude.{◌≡◌, Bool, true, false, List, [], ◌∷◌, Option, None, Some}
 use Rattle.sock_card.specs.declared.card.Card.{Card}
 use Rattle.chain_book.specs.declared.book.Act.TheVariants as acts

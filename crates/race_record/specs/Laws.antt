@@ -1,4 +1,7 @@
 -- Laws of plans that go on by deeds: our own.
+--
+-- To be read by a law's name: each definition is one that src/laws.rt states, but for `drew_for`, `drew_in_vain`,
+-- `GoesInTwo` and `told_of`.
 use Rattle.std.specs.Prelude.{◌≡◌, ℕ, ◌%◌, Bool, true, false, List, ◌++◌, length, map, cond}
 use Rattle.flat_list.specs.declared.header.Header.{Header}
 use Rattle.flat_list.specs.declared.command.Command.{Command}

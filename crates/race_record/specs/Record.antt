@@ -1,4 +1,6 @@
 -- What is recorded of a race: our own.
+--
+-- To be read from the beginning: a step, a sighting and a race, and then what is read off these.
 use Rattle.std.specs.Prelude.{ℕ, Bool, List, map}
 use Rattle.std.specs.List.{flat_map}
 use Rattle.turn_table.specs.declared.note.Note.{Note}

@@ -1,5 +1,8 @@
 -- A worked record of refusals: two sections want one four-tuple; a slot is sought while a lookup holds the last one;
 -- and lookups that were never answered. Our own.
+--
+-- To be read from the end: `refused_race` is the record, by `refused_script` and `refused_capture`; what it is made of
+-- stands above it.
 use Rattle.std.specs.Prelude.{ℕ, false, true, [], ◌∷◌, None}
 use Rattle.sock_card.specs.declared.owner.Owner.{Owner}
 use Rattle.sock_card.specs.declared.card.Card.{Card}

@@ -1,4 +1,6 @@
 -- What the jobs of a race are before they run and after: our own.
+--
+-- In two parts: before, up to `AllReady`, and after, from `IsOver` on.
 use Rattle.std.specs.Prelude.{◌≡◌, ℕ, ◌+◌, ◌-◌, ◌<◌, List, [], ◌∷◌, length, slice_index_or, Result, Ok, Err, IfOk, alloc_error}
 use Rattle.std.specs.List.{flat_map, range_with_len}
 use Rattle.std.specs.declared.alloc.AllocError.{AllocError}

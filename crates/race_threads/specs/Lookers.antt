@@ -1,4 +1,7 @@
 -- What lookers reported of the items of a capture, by the receipts of their passes: our own.
+--
+-- To be read from `HasLooked` upwards: the contract of a looker's share cites it. What stands below it is cited by
+-- Laws, Looking and Finished.
 use Rattle.std.specs.Prelude.{◌≡◌, ℕ, ◌+◌, ◌<◌, ◌≤◌, List, [], ◌∷◌, ◌++◌, length, map}
 use Rattle.std.specs.List.{flat_map, slice_index_or}
 use Rattle.list_words.specs.Lists.{Each, Pairs, SameItems}

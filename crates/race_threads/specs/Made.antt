@@ -1,4 +1,6 @@
 -- What deeds one after the other left at the chains: our own.
+--
+-- To be read from the beginning.
 use Rattle.std.specs.Prelude.{◌≡◌, ℕ, ◌+◌, ◌<◌, ◌≤◌, List, [], ◌∷◌, ◌++◌, map, cond, Some, find, None}
 use Rattle.std.specs.List.{flat_map}
 use Rattle.std.specs.Option.{option_map}

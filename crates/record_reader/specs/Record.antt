@@ -1,5 +1,7 @@
 -- When a text is a race's record: our own. A record is a list of lines, each of which has its form and may follow the
 -- one before it; the first is `race`, and the last is `clock`.
+--
+-- To be read from the end: `IsRecord` and `IsFirstOutside` are what others cite, and each stands on those above it.
 use Rattle.std.specs.Prelude.{◌≡◌, ℕ, ◌+◌, ◌-◌, ◌<◌, ◌≤◌, ◌==◌, ◌&&◌, ◌||◌, nat_lt, nat_le, Bool, true, false, IsTrue, List, [], ◌∷◌, ◌++◌, length, take, slice_get, Option, Some, None}
 use Rattle.record_reader.specs.declared.line.Line.{Line}
 use Rattle.record_reader.specs.declared.line.Line.TheVariants as lines

@@ -1,4 +1,6 @@
 -- What a record's lines say to the judge: our own.
+--
+-- To be read from the end: `Tells` is what contracts cite, and each stands on those above it.
 use Rattle.std.specs.Prelude.{◌≡◌, ℕ, ◌-◌, Bool, false, List, count_by, Option, Some, None, slice_get, length}
 use Rattle.std.specs.List.{filter_map}
 use Rattle.book_audit.specs.declared.printed.PrintedLife.{PrintedLife}

@@ -1,4 +1,4 @@
--- What is answered of a record's text: our own.
+-- What is said of a record's text: our own.
 use Rattle.std.specs.Prelude.{◌≡◌, ℕ, ◌-◌, ◌≤◌, Bool, true, false, IsTrue, List, length, take, count_by, slice_get, IsSomeAnd}
 use Rattle.book_audit.specs.declared.printed.Printed.{Printed}
 use Rattle.book_audit.specs.declared.printed.Why.{Why}

@@ -1,4 +1,6 @@
 -- What passes know, and how each call changes it: our own.
+--
+-- To be read from the beginning.
 use Rattle.std.specs.Prelude.{ℕ, ◌+◌, ◌-◌, true, false, List, [], ◌∷◌, ◌++◌}
 use Rattle.reuseport_group.specs.Words.{stores}
 use Rattle.reuseport_group.specs.declared.view.Stored.{Stored}

@@ -1,6 +1,8 @@
 -- The words of a group and what was stored in them: `num_socks` and `socks[]` of struct sock_reuseport in
 -- include/net/sock_reuseport.h. How words are numbered, and that a moment is known by all that was stored,
 -- is our own.
+--
+-- To be read from the beginning.
 use Rattle.std.specs.Prelude.{◌≡◌, ℕ, zero, suc, ◌+◌, ◌*◌, ◌<◌, ◌≤◌, ◌==◌, ◌&&◌, if◌then◌else◌, List, [], ◌∷◌, ◌++◌, length, slice_get, slice_index, Some}
 use mathlib.Core.Option.{some}
 use lib.ListN.{get_elem?}

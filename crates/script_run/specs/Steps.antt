@@ -1,4 +1,6 @@
 -- What the steps of a run leave: our own. No public contract cites this file.
+--
+-- To be read from the beginning. `RunsAs`, at the end, is of a whole section.
 use Rattle.std.specs.Prelude.{◌≡◌, ℕ, ◌+◌, ◌-◌, ◌*◌, ◌^◌, ◌≤◌, List, ◌++◌, map, None, find}
 use Rattle.capture_reader.specs.declared.packet.Item.{Item}
 use Rattle.flat_list.specs.declared.header.Header.{Header}

@@ -1,4 +1,7 @@
 -- What a command of a section comes to at the tables, with what it takes of the worker's numbers: our own.
+--
+-- To be read from the beginning. Contracts of public calls cite `HasEnough`, `MayGoOn` and `Spends`; the rest is of
+-- private functions.
 use Rattle.std.specs.Prelude.{◌≡◌, ℕ, ◌+◌, ◌*◌, ◌≤◌, Bool, true, false, List, [], ◌∷◌, ◌++◌, length}
 use Rattle.turn_table.specs.Passes as words
 use Rattle.bind_buckets.specs.Turned.{View, Gave}

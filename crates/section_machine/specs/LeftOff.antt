@@ -1,4 +1,7 @@
 -- What a command of a section leaves that is left off, whoever else was at the tables: our own.
+--
+-- To be read from `LeftOff` upwards: contracts cite it, and `IsLeftOff`, below it, says it of tables and a worker.
+-- `StopsReaping` is of private functions.
 use Rattle.std.specs.Prelude.{◌≡◌, ◌≢◌, ◌⊎◌, ℕ, ◌&&◌, Bool, true, false, List, [], ◌++◌, Option, None, Some, filter}
 use Rattle.std.specs.Option.{option_map, option_map_or}
 use Rattle.list_words.specs.Lists.{Each}

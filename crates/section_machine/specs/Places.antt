@@ -1,4 +1,6 @@
 -- The labels of a section, each with the open socket that it names, and how both are found without a search: our own.
+--
+-- To be read from the beginning: from `Labelled` on it is of the labels as calls see them.
 use Rattle.std.specs.Prelude.{◌≡◌, ℕ, ◌<◌, List, [], ◌∷◌, ◌++◌, length, Option, None, Some, option_and_then, slice_set, map, IfSome}
 use Rattle.std.specs.List.{filter_map, slice_index_or}
 use Rattle.std.specs.Option.{option_map}

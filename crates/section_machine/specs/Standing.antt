@@ -1,4 +1,6 @@
 -- What a section has at tables that threads share, by its worker: our own.
+--
+-- To be read from the end: `IsSection` is what contracts cite, and each stands on those above it.
 use Rattle.std.specs.Prelude.{◌≡◌, ◌≢◌, ℕ, ◌/◌, ◌^◌, ◌<◌, ◌≤◌, ◌==◌, Bool, true, false, List}
 use Rattle.list_words.specs.Lists.{Each}
 use Rattle.sock_card.specs.declared.owner.State.{State}

@@ -1,4 +1,7 @@
 -- What a caller of shared tables is between two calls, and what a call does: one command of a section. Our own.
+--
+-- In two parts: what a caller is between two calls, up to `IsCalling`; and what a call does, from `MayCall` to
+-- `Called`, which is to be read from its end.
 use Rattle.std.specs.Prelude.{◌≡◌, ◌⊎◌, ℕ, ◌+◌, ◌-◌, ◌<◌, ◌≤◌, ◌^◌, length}
 use Rattle.flat_list.specs.declared.command.Command.{Command}
 use Rattle.flat_list.specs.declared.command.Reply.{Reply}

@@ -1,5 +1,8 @@
 -- When a group's member is the answer: inet_lookup_reuseport of net/ipv4/inet_hashtables.c. That a listener's card
 -- names its group, and a member's number the slot of its card, is our own rule.
+--
+-- To be read from the end: `ByGroup` is what Concludes cites, and stands on those above it. The contract of
+-- `look_packet` cites `LeavesLists`.
 use Rattle.std.specs.Prelude.{◌≡◌, ℕ, ◌+◌, ◌-◌, ◌^◌, ◌<◌, ◌≤◌, ◌⊎◌, ◌==◌, ◌||◌, nat_lt, [], ◌∷◌, ◌++◌, Option, Some, None, if◌then◌else◌}
 use Rattle.sock_card.specs.Words.{packed}
 use Rattle.sock_card.specs.declared.card.Card.{Card}

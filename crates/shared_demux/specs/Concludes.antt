@@ -1,4 +1,7 @@
 -- What the lookup of a packet answers and leaves: __inet_lookup of include/net/inet_hashtables.h.
+--
+-- The contract of `look_packet` cites `whole_to`, `Concluded` and `DrewAll`, and `ByOrder` at the end, from which the
+-- rest is to be read upwards.
 use Rattle.std.specs.Prelude.{◌≡◌, ℕ, ◌≤◌}
 use Rattle.sock_card.specs.declared.card.Card.{Card}
 use Rattle.sock_card.specs.declared.card.Packet.{Packet}

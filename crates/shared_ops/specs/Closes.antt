@@ -1,4 +1,7 @@
 -- What `close` comes to among others, and alone: our own.
+--
+-- To be read from the beginning. Contracts of public calls cite `became`, `ClosedBy`, `ClosedByAlone`, `leave_entry`,
+-- `is_gone` and `OthersKept`; the rest is of private functions.
 use Rattle.std.specs.Prelude.{◌≡◌, ℕ, List, [], ◌∷◌, None, Result, Ok, Err}
 use Rattle.sock_card.specs.declared.card.Card.{Card}
 use Rattle.sock_card.specs.declared.owner.Owner.{Owner}

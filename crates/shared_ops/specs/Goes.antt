@@ -1,4 +1,7 @@
 -- What an operation did by its plan, among others and alone: our own.
+--
+-- To be read from the beginning. Contracts of public calls cite what stands up to `CarriedOutAlone`; from `AreAsked`
+-- on it is of private functions.
 use Rattle.std.specs.Prelude.{◌≡◌, ℕ, ◌%◌, Bool, true, false, List, [], ◌∷◌, ◌++◌, Option, None, Some, Result, Ok, Err}
 use Rattle.sock_card.specs.declared.owner.Owner.{Owner}
 use Rattle.turn_table.specs.declared.note.Placed.{Placed}

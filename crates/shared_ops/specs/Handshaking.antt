@@ -1,6 +1,8 @@
 -- What `syn` and `ack` come to, and hand back: inet_csk_complete_hashdance of net/ipv4/inet_connection_sock.c and
 -- inet_ehash_insert of net/ipv4/inet_hashtables.c, which puts a child in its request's place. That a plan goes on so is
 -- our own.
+--
+-- Of public contracts that of `ack` cites `mine_found`; the rest is of private functions.
 use Rattle.std.specs.Prelude.{◌≡◌, Option, Result, Ok, Err}
 use Rattle.std.specs.Borrow.{Bor}
 use Rattle.std.specs.Option.{option_map}

@@ -1,4 +1,8 @@
 -- What the parts of `listen` come to: our own.
+--
+-- In three parts: what a bucket's refusal comes to, up to `SaysListen`; what came of the chain, up to `AddsAs`; and
+-- what the bucket was asked, from `asked_listen` on. Public contracts cite `asked_listen` and `said_listen`, by
+-- Groups; the rest is of private functions.
 use Rattle.std.specs.Prelude.{◌≡◌, ℕ, Bool, List, Option, None, Result, Ok, Err, [], ◌∷◌, ◌++◌}
 use Rattle.list_words.specs.Lists.{Each}
 use Rattle.sock_card.specs.declared.owner.Owner.{Owner}

@@ -1,4 +1,7 @@
 -- What a socket's value stands for: our own.
+--
+-- `full_at`, `request_at`, `listening_at` and `source_to` are of private functions; contracts of public calls cite the
+-- rest.
 use Rattle.std.specs.Prelude.{◌≡◌, ℕ, Option, None, if◌then◌else◌, Result, Ok, Err}
 use Rattle.sock_card.specs.declared.owner.Owner.{Owner}
 use Rattle.sock_card.specs.declared.owner.State.TheVariants as states

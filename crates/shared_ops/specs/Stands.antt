@@ -1,4 +1,6 @@
 -- What an operation asks of the socket that it takes: our own.
+--
+-- To be read from the beginning.
 use Rattle.std.specs.Prelude.{◌≡◌, ℕ, ◌+◌, ◌*◌, ◌%◌, ◌≤◌, ◌^◌, Bool, true, filter, find, Option, None, Some, []}
 use Rattle.sock_card.specs.Conflict.{owner_key}
 use Rattle.sock_card.specs.declared.owner.Owner.{Owner}

@@ -1,4 +1,7 @@
 -- The chains of a pass that was never split: what its own changes make, by what chain_book says of chains. Our own.
+--
+-- To be read from a call's relation upwards: `InsertsAlone`, `LeavesAlone`, `AddsAlone`, `WaitsAlone`, `HandsAlone`
+-- and `ReapsAlone` are what contracts cite.
 use Rattle.std.specs.Prelude.{◌≡◌, ℕ, ◌+◌, List, map, None, Result, Ok, Err, Option}
 use Rattle.std.specs.List.{range_with_len}
 use Rattle.std.specs.Option.{option_map}

@@ -1,6 +1,9 @@
 -- What it comes to that a card is to come into a shared chain, by the chain as it was seen under the lock:
 -- __inet_check_established and inet_ehash_insert of net/ipv4/inet_hashtables.c. That the newcomer is there before the
 -- TIME_WAIT that it replaces is gone is our own rule.
+--
+-- To be read from `Inserts` and `Adds` upwards: the contracts of `insert` and `add` cite them. What one change leaves
+-- is in `Comes` and `Departs`.
 use Rattle.std.specs.Prelude.{◌≡◌, ℕ, ◌+◌, ◌<◌, ◌≤◌, Option, None, Some, Result, Ok, Err, List, [], ◌∷◌}
 use Rattle.std.specs.Option.{option_map}
 use Rattle.list_words.specs.Lists.{Each}

@@ -1,4 +1,7 @@
 -- What one walk over a locked chain finds: our own.
+--
+-- To be read from the beginning. Contracts of public calls cite `keeper_in` and `waiting_in`, by Comings; the rest is
+-- of private functions.
 use Rattle.std.specs.Prelude.{◌≡◌, ◌==◌, ◌&&◌, ◌+◌, ◌*◌, ◌/◌, ◌%◌, ◌^◌, Option, None, Some, List, find, cond, Bool, false}
 use Rattle.list_words.specs.Lists.{Each}
 use Rattle.chain_book.specs.declared.outcome.Hashed.{Hashed}

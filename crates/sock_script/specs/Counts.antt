@@ -1,4 +1,7 @@
 -- What is counted of a script and its replies, and how that is written: a rule of our own.
+--
+-- To be read from the end: `script_counts` and `counts_text` are what contracts cite, and each stands on those above
+-- it.
 use Rattle.std.specs.Prelude.{ℕ, Bool, true, false, not, ◌&&◌, nat_eq, bytes_eq, List, [], ◌∷◌, ◌++◌, codes, decimal, count_by}
 use Rattle.std.specs.List.{starts_with}
 use Rattle.flat_list.specs.declared.command.Command.{Command}
@@ -60,7 +63,7 @@ counts_of answers =
       none = count_by is_missed answers;
     }
 
--- what is counted of a script that is answered so; it has no `packets`, whose items' replies would be taken for
+-- what is counted of a script with those replies; it has no `packets`, whose items' replies would be taken for
 -- commands'
 abbrev pub script_counts : Script → List Reply → Counts
 script_counts script replies = counts_of (answered script.sections (issued script) replies)

@@ -1,6 +1,8 @@
 -- Generated scripts: a rule of our own. What each step does, and with which numbers, is chosen by a word of PCG's
 -- XSH-RR generator of 64 bits of state (O'Neill, "PCG: a family of simple fast space-efficient statistically good
 -- algorithms for random number generation").
+--
+-- To be read from `made_text` upwards: the contract of `script` cites it. The law `TextsAreScripts` stands below it.
 use Rattle.std.specs.Prelude.{ℕ, zero, suc, ◌+◌, ◌/◌, ◌%◌, ◌^◌, ◌<◌, ◌≤◌, List, [], ◌∷◌, ◌++◌, codes, decimal, flat_map}
 use Rattle.std.specs.List.{join_with_byte, slice_index_or}
 use Rattle.rand_pcg.specs.Lcg.{Lcg, started, increment_of}

@@ -38,7 +38,7 @@ kind_word kinds.TimeWait = codes "time-wait"
 kind_word kinds.Listen = codes "listen"
 kind_word kinds.Request = codes "request"
 
--- the answer of a lookup, where the socket that was found has that label
+-- the reply of a lookup, where the socket that was found has that label
 abbrev pub answer_with : List ℕ → Option Card → List ℕ
 answer_with label None = codes "none"
 answer_with label (Some card) =
@@ -237,7 +237,7 @@ abbrev pub cut_text : Bool → List ℕ
 cut_text false = []
 cut_text true = codes "cut\n"
 
--- what is written for a script with that capture, which is answered so, and for which that is listed; items have
+-- what is written for a script with that capture and those replies, and for which that is listed; items have
 -- numbers from 1
 abbrev pub script_text : Script → Capture → List Reply → List Listing → List ℕ
 script_text script capture replies listings =

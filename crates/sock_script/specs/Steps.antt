@@ -1,4 +1,4 @@
--- What the steps of reading, of running and of writing a script answer: our own. Of public contracts, that of
+-- What the steps of reading, of running and of writing a script give: our own. Of public contracts, that of
 -- `other_of` cites `IsCommand`, those of `Labels` cite `label_table` and `label_at`, that of `put_listing` cites
 -- `label_at`, and no other cites this file.
 --
@@ -32,7 +32,7 @@ abbrev pub IsCommand : Line → Type 0
 IsCommand (lines.Command command) = Unit {0}
 IsCommand _ = ⊥
 
--- what adding a line answers: whether it may follow, and what the lines have made then
+-- what adding a line gives: whether it may follow, and what the lines have made then
 abbrev pub Adds : Mode → Draft → Line → Draft → Bool → Type 0
 Adds mode old line new true = Follows mode old line new
 Adds mode old line new false = (next : Draft) → Follows mode old line next → ⊥
@@ -42,12 +42,12 @@ abbrev pub is_new_among : Option (List ℕ) → List (List ℕ) → Bool
 is_new_among None labels = true
 is_new_among (Some label) labels = not (list_any (bytes_eq label) labels)
 
--- what reading a line answers: whether it is in the grammar after the others, and what they have made then
+-- what reading a line gives: whether it is in the grammar after the others, and what they have made then
 abbrev pub LineAnswer : Mode → Draft → List ℕ → Draft → Bool → Type 0
 LineAnswer mode old text new true = ReadsLine mode old text new
 LineAnswer mode old text new false = (next : Draft) → ReadsLine mode old text next → ⊥
 
--- what reading the words of a line that is no command answers: they have a form, whose line may follow or not, or
+-- what reading the words of a line that is no command gives: they have a form, whose line may follow or not, or
 -- they have none, unless they are a command
 abbrev pub OtherAnswer : Mode → Draft → List (List ℕ) → Draft → Bool → Type 0
 OtherAnswer mode old words new follows =

@@ -1,4 +1,7 @@
 -- How a plan goes on by the answers that it got, whoever else is at the tables: our own form.
+--
+-- To be read from the end: `GoesAlone` and `WentAlone` are laws, which src/laws.rt states, and each stands on those
+-- above it.
 use Rattle.std.specs.Prelude.{◌≡◌, ℕ, ◌%◌, ◌≤◌, Bool, List, [], ◌∷◌, ◌++◌}
 use Rattle.sock_card.specs.declared.card.Card.{Card}
 use Rattle.turn_table.specs.declared.note.Placed.{Placed}

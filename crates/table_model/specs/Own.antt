@@ -1,4 +1,6 @@
 -- What a section knows of itself: our own. Its own sockets and TIME_WAITs are known with the place where they stand.
+--
+-- To be read from the beginning: `Own` is what a section knows, and what stands below it reads or changes that.
 use Rattle.std.specs.Prelude.{ℕ, ◌%◌, Bool, ◌==◌, not, List, [], ◌∷◌, ◌++◌, length, Option, option_and_then, if◌then◌else◌, find, map, filter, position, bytes_eq}
 use Rattle.std.specs.Option.{option_map, option_map_or}
 use Rattle.rand_pcg.specs.Lcg.{Lcg, started, increment_of}

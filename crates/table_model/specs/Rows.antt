@@ -1,5 +1,7 @@
 -- Worked examples, computed by the plans on new tables: each line is a command of section 1 with its reply, and the
 -- flat list has the same reply. Our own.
+--
+-- To be read from `BothAnswer`, by which `worked_rows` of src/rows.rt states each row.
 use Rattle.std.specs.Prelude.{◌≡◌, ℕ, List, [], ◌∷◌, ◌++◌, ◌+◌, Option, None, Some, not, map, filter, codes}
 use Rattle.std.specs.List.{range_with_len}
 use Rattle.sock_card.specs.Limits.{group_room}

@@ -1,4 +1,6 @@
 -- What the calls ask and say. Our own.
+--
+-- To be read by the names that contracts cite: most stand on no other here. `FirstWord` is of a private function.
 use Rattle.std.specs.Prelude.{◌≡◌, ℕ, ◌<◌, ◌≤◌, ◌+◌, ◌*◌, ◌%◌, ◌⊎◌, List, [], ◌∷◌, ◌++◌, length}
 use Rattle.table_rule.specs.declared.view.SlotView.{SlotView}
 use Rattle.sock_card.specs.declared.words.CardWords.{CardWords}

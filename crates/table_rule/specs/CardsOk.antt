@@ -1,4 +1,7 @@
 -- What views know of card words, and that no chain has two lit cards of one four-tuple. Our own.
+--
+-- In three parts: what views know of card words, up to `CardsOk`; which cards of a chain have one four-tuple, up to
+-- `TuplesOk`; and what steps ask and say of that, from `may_claim` on.
 use Rattle.std.specs.Prelude.{◌≡◌, ◌≢◌, ℕ, ◌+◌, ◌*◌, ◌/◌, ◌%◌, ◌<◌, ◌≤◌, List, [], ◌∷◌, Bool, true, cond, ◌==◌}
 use mathlib.Core.Option.{some}
 use lib.ListN.{get_elem?}

@@ -1,4 +1,6 @@
 -- Words for passes: what they know, and what splitting and joining make of it. Our own.
+--
+-- To be read from the beginning: `known` is what a pass knows.
 use Rattle.std.specs.Prelude.{ℕ, ◌*◌, ◌-◌, ◌≤◌, List, [], length}
 use Rattle.atomic_table.specs.Table.{Me}
 use Rattle.table_rule.specs.declared.view.View.{View}

@@ -1,4 +1,6 @@
 -- Words for journals, the numbers of their notes, and what was found of them: our own.
+--
+-- To be read from the beginning.
 use Rattle.std.specs.Prelude.{◌≡◌, ℕ, zero, suc, ◌<◌, ◌≤◌, ◌==◌, List, [], ◌∷◌, ◌++◌, map, filter}
 use Rattle.std.specs.List.{Contains}
 use mathlib.Core.Option.{some}

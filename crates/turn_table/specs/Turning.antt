@@ -1,6 +1,8 @@
 -- The rule of a table of turns, which holds between any two steps: our own. Word 0 is the count of the numbers that
 -- were drawn, and word 1 + i is 1 while the turn of the place i is out. It has five parts. Each reads the journals
 -- (which exist in the rule alone, also of a value that is out) and, of the table, only what it names.
+--
+-- To be read from `Orderly`, near the end, upwards: it is the rule. The law `FindsAll` stands below it.
 use Rattle.std.specs.Prelude.{◌≡◌, ◌≢◌, ℕ, zero, suc, ◌+◌, ◌*◌, ◌<◌, ◌≤◌, List, [], ◌∷◌, ◌++◌, map, length, slice_index, cond, ◌==◌, Option, Some}
 use mathlib.Core.Option.{Option as Maybe, some}
 use lib.ListN.{get_elem?}

@@ -1,5 +1,7 @@
 -- What a pass knows, and how each call changes it: our own. The first pass of a table is caller 0, and the k-th that
 -- is split off is caller k.
+--
+-- To be read from the beginning.
 use Rattle.std.specs.Prelude.{ℕ, ◌+◌, ◌-◌, List, [], ◌∷◌, ◌++◌, map, length, drop, max}
 use Rattle.turn_table.specs.Journals.{placed}
 use Rattle.turn_table.specs.declared.note.Note.{Note}
