@@ -1,4 +1,6 @@
 -- A place, or none, in one word: our own rule.
+--
+-- With the proof that the model of `MaybePlace` needs: `word_back`.
 use Rattle.std.specs.Prelude.{◌≡◌, ℕ, Option, None, Some, zero, suc, refl}
 
 -- the place that a word says: 0 is none, and each other word is one more than its place

@@ -1,4 +1,6 @@
 -- A label in a field of 16 bytes: a format of our own.
+--
+-- With the proofs that the model of `Label` needs: `bytes_back`, and `length_back` by `by_lengths`.
 use Rattle.std.specs.Prelude.{◌≡◌, ℕ, ◌+◌, ◌-◌, ◌≤◌, List, ◌++◌, length, take, replicate, min}
 use Rattle.std.proofs.Common.{length-append, sym, ap, ◌∙◌, arith}
 use Rattle.std.proofs.lemmas.List.{length-replicate, length-take}

@@ -7,7 +7,7 @@ use Rattle.table_rule.specs.Alone.{IsAlone, NoneStands, CardStands, NoneKnown}
 use mathlib.Core.Option.{some}
 use lib.ListN.{get_elem?}
 use Rattle.table_rule.specs.declared.view.Change.{Change}
-use Rattle.null_reader.specs.Looked.{IsWhole, looking, held, stop_of, IsLookup, Passed, Between, looked_view, LookedAs}
+use Rattle.null_reader.specs.Looked.{IsWhole, looking, held, stop_of, IsLookup, Passed, looked_view, LookedAs}
 use Rattle.table_rule.specs.declared.view.Layout.{Layout}
 use Rattle.table_rule.specs.declared.view.Kept.{Kept}
 use Rattle.table_rule.specs.declared.view.Stop.{Stop}
@@ -22,6 +22,16 @@ use Rattle.table_rule.specs.Words.{words_of}
 
 abbrev pub begun : (bucket : ℕ) (key : Packet) (least since : ℕ) → Reader
 begun bucket key least since = record { bucket = bucket; key = key; least = least; since = since; best = 0; walking = 0; link = 0; followed = 0; peeked = []; stops = [] }
+
+-- between two passes of a lookup that began at m as q₀: so many stopped, the last of them so
+pub record Between (m : Sat) (q₀ : Reader) (passes : ℕ) (last : PassEnd) (n : Sat) : Type 0 where
+  pub q : Reader
+  pub taken : ℕ
+  pub more : m.0.slot.taken ≤ taken
+  pub is : n ≡ (looking m.0 q m.0.read.kept m.0.slot.holds taken, m.1)
+  pub same : IsLookup q₀ q
+  pub count : length q.stops ≡ passes
+  pub last-is : 0 < passes → (front : List Stop) × (q.stops ≡ front ++ stop_of last ∷ [])
 
 len-snoc : (l : List Stop) (e : Stop) → length (l ++ e ∷ []) ≡ length l + 1
 len-snoc [] e = refl

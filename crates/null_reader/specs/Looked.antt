@@ -168,16 +168,6 @@ Turned layout m q₀ followed (Err e) n = Passed layout m q₀ (Err e) n
 abbrev pub HasTwo : View → Type 0
 HasTwo v = length v.slot.holds + 2 ≤ v.slot.parts * 4294967296
 
--- between two passes of a lookup that began at m as q₀: so many stopped, the last of them so
-pub record Between (m : Sat) (q₀ : Reader) (passes : ℕ) (last : PassEnd) (n : Sat) : Type 0 where
-  pub q : Reader
-  pub taken : ℕ
-  pub more : m.0.slot.taken ≤ taken
-  pub is : n ≡ (looking m.0 q m.0.read.kept m.0.slot.holds taken, m.1)
-  pub same : IsLookup q₀ q
-  pub count : length q.stops ≡ passes
-  pub last-is : 0 < passes → (front : List Stop) × (q.stops ≡ front ++ stop_of last ∷ [])
-
 -- a view after a lookup: nothing else changed than what is held, how often a count was taken, the receipts, and what
 -- is seen
 abbrev pub looked_view : View → ℕ → List Kept → List ℕ → (taken : ℕ) → Receipt → View

@@ -7,12 +7,12 @@ use lib.ListN.{get_elem?}
 use Rattle.list_words.proofs.PlaceLemmas.{term_le, terms_le, at_below, only_one}
 use Rattle.list_words.specs.Lists.{total}
 use Rattle.atomic_table.proofs.Lists.{set_here, set_else, at_longer, at_last}
-use Rattle.table_rule.specs.Book.{open-end, Part, BookOk, Life, hash_of, unhash_of, LivesOk, marks, with_lives}
+use Rattle.table_rule.specs.Book.{open-end, Part, BookOk, Life, hash_of, unhash_of, LivesOk, marks}
 use Rattle.table_rule.specs.Owners.{time_waits, HasChange, OwnUnhash, OwnersOk, IsPlace, HasPlace}
 use Rattle.table_rule.specs.declared.view.Change.{Change}
 use Rattle.table_rule.specs.declared.view.BookView.{BookView}
 use Rattle.table_rule.proofs.CardSteps.{at_end, views_moved}
-use Rattle.table_rule.proofs.LifeSteps.{lives_here, lives_else}
+use Rattle.table_rule.proofs.LifeSteps.{lives_here, lives_else, with_lives}
 use Rattle.table_rule.proofs.BookSteps.{is-it, is-here, below_one}
 use Rattle.table_rule.proofs.Serial.{three}
 

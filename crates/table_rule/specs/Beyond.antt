@@ -2,7 +2,7 @@
 --
 -- To be read from `Beyond`, which is a part of the rule, upwards. What stands below it says the like of the changes of
 -- a book alone.
-use Rattle.std.specs.Prelude.{◌≡◌, ℕ, ◌+◌, ◌<◌, ◌≤◌, List, [], ◌∷◌, ◌++◌, ◌⊎◌, slice_set}
+use Rattle.std.specs.Prelude.{◌≡◌, ℕ, ◌+◌, ◌<◌, ◌≤◌, List, [], ◌∷◌, ◌⊎◌}
 use mathlib.Core.Option.{some}
 use Rattle.list_words.specs.Lists.{Each}
 use Rattle.sock_card.specs.Words.{packed, unpacked}
@@ -12,45 +12,13 @@ use lib.ListN.{get_elem?}
 use Rattle.table_rule.specs.Lists.{times}
 use Rattle.table_rule.specs.SlotsOk.{owns}
 use Rattle.table_rule.specs.CardsOk.{bears}
-use Rattle.table_rule.specs.Book.{open-end, Life, with_lives, Part, InBook, Ends}
+use Rattle.table_rule.specs.Book.{open-end, Life, Part, InBook, Ends}
 use Rattle.table_rule.specs.declared.view.View.{View}
 use Rattle.table_rule.specs.declared.view.Layout.{Layout}
 use Rattle.table_rule.specs.declared.view.Change.{Change}
 use Rattle.table_rule.specs.declared.view.SlotView.{SlotView}
 use Rattle.table_rule.specs.declared.view.Seen.{Seen}
 use Rattle.table_rule.specs.declared.view.Sight.{Sight}
-
--- How lives go on
-
--- x becomes y: what was open ends at the clock or later
-pub record Grows (clock : ℕ) (x y : Life) : Type 0 where
-  pub bucket : y.bucket ≡ x.bucket
-  pub begun : y.begun ≡ x.begun
-  pub card : (y.card ≡ x.card) ⊎ (x.card ≡ [])
-  pub linked : (y.linked ≡ x.linked) ⊎ ((x.linked ≡ open-end) × (clock ≤ y.linked))
-  pub leaving : (y.leaving ≡ x.leaving) ⊎ ((x.leaving ≡ open-end) × (clock ≤ y.leaving))
-  pub left : (y.left ≡ x.left) ⊎ ((x.left ≡ open-end) × (clock ≤ y.left))
-
--- it has only begun
-abbrev pub IsNew : Life → Type 0
-IsNew y = (y.card ≡ []) × (y.linked ≡ open-end) × (y.leaving ≡ open-end) × (y.left ≡ open-end)
-
-pub record Goes (clock : ℕ) (lives lives' : ℕ → List Life) : Type 0 where
-  pub on : (i n : ℕ) (x : Life) → get_elem? (lives i) n ≡ some x → (y : Life) × (get_elem? (lives' i) n ≡ some y)
-      × Grows clock x y
-  pub back : (i n : ℕ) (y : Life) → get_elem? (lives' i) n ≡ some y
-      → ((x : Life) × (get_elem? (lives i) n ≡ some x) × Grows clock x y) ⊎ IsNew y
-
--- one life grows
-pub record OneGrows (clock : ℕ) (lives lives' : ℕ → List Life) : Type 0 where
-  pub slot : ℕ
-  pub nth : ℕ
-  pub was : Life
-  pub now : Life
-  pub there : get_elem? (lives slot) nth ≡ some was
-  pub grows : Grows clock was now
-  pub card : now.card ≡ was.card
-  pub is : lives' ≡ with_lives lives slot (slice_set (lives slot) nth now)
 
 -- Twins
 
@@ -96,10 +64,6 @@ born (x ∷ y ∷ l) = born (y ∷ l)
 abbrev pub Falls : (ℕ → ℕ) → List ℕ → Type 0
 Falls f [] = Unit {0}
 Falls f (x ∷ xs) = Each (λ y. f y < f x) xs × Falls f xs
-
--- rest is xs without one i
-abbrev pub Cut : ℕ → List ℕ → List ℕ → Type 0
-Cut i xs rest = (front : List ℕ) × (back : List ℕ) × (xs ≡ front ++ i ∷ back) × (rest ≡ front ++ back)
 
 -- Sightings
 

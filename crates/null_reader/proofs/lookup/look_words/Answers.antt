@@ -1,11 +1,11 @@
 use Rattle.std.proofs.Common.{ℕ, ◌<◌, Ok, Option, Some, None, sym, arith, subst}
-use Rattle.null_reader.specs.Looked.{Between, Passed, LookedAs, SoleAs, KnownAs}
+use Rattle.null_reader.specs.Looked.{Passed, LookedAs, SoleAs, KnownAs}
 use Rattle.table_rule.specs.Beyond.{IsCardWords}
 use Rattle.table_rule.specs.Calls.{view, me, layout_of}
 use Rattle.null_reader.specs.declared.answers.WordsEnd.TheVariants as ends
 use Rattle.null_reader.specs.declared.answers.Best.{Best}
 use Rattle.null_reader.specs.declared.answers.PassEnd.TheVariants.{Dead}
-use Rattle.null_reader.proofs.Looks.{begun, looked_again, between_none, looks_between, seen_between, is_none, looked_none, is_found, looked_found, card_found, passed_seen, sole_none, sole_found, known_none, known_found}
+use Rattle.null_reader.proofs.Looks.{begun, looked_again, between_none, looks_between, seen_between, is_none, looked_none, is_found, looked_found, card_found, passed_seen, sole_none, sole_found, known_none, known_found, Between}
 use Rattle.null_reader.proofs.lookup.look_words.Goals as goal
 use Rattle.table_rule.specs.Words.{words_of}
 

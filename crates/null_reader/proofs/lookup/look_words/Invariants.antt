@@ -1,6 +1,6 @@
 use Rattle.table_rule.specs.Calls.{IsOf, me, layout_of}
-use Rattle.null_reader.specs.Looked.{Between, IsStopInside}
-use Rattle.null_reader.proofs.Looks.{begun}
+use Rattle.null_reader.specs.Looked.{IsStopInside}
+use Rattle.null_reader.proofs.Looks.{begun, Between}
 use Rattle.null_reader.proofs.lookup.look_words.Given as goal
 
 abbrev pub invariant-loop-done : goal.invariant-loop-done
