@@ -28,7 +28,7 @@ use Rattle.bind_buckets.specs.Bucket.{IsSound, entries_of, entry_of}
 use Rattle.bind_buckets.specs.Callers.{MayName, MayAsk, MayMake, MayCall, AreOwn}
 use Rattle.bind_buckets.specs.Followed.{done_by, told, told_from, speaks_of, IsWhole, is_mine, is_about}
 use Rattle.bind_buckets.specs.Turned.{View, Hash, Pass, Out, IsOut, OneAsked, Within, made, own_of}
-use Rattle.bind_buckets.specs.OwnTold.{removes_waiting, is_told, KeepsOpen, AllKeepOpen, OpenAreTold, OwnAreTold, FirstOwnIsTold, OwnStands, StandsOwn, own_given, Brings, is_named_as, told_next, OwnComes, OwnStays, OwnGoesOn, OwnAccepted, with_name}
+use Rattle.bind_buckets.specs.OwnTold.{removes_waiting, is_told, KeepsOpen, AllKeepOpen, OpenAreTold, OwnAreTold, FirstOwnIsTold, OwnStands, StandsOwn, own_given, Brings, is_named_as, told_next, OwnComes, OwnStays, OwnGoesOn, OwnAccepted}
 use Rattle.bind_buckets.proofs.Filtered.{find_filtered}
 use Rattle.bind_buckets.proofs.ToldByOwn.{told_by_their_own, named_mine, told_seen}
 
@@ -371,6 +371,10 @@ or_first false y h = absurd (false≢true h)
 or_second : (x y : Bool) → y ≡ true → (x || y) ≡ true
 or_second true y h = refl
 or_second false y h = h
+
+-- a name of this set, or that one
+abbrev pub with_name : (ℕ → Bool) → ℕ → ℕ → Bool
+with_name mine name n = mine n || (n == name)
 
 -- one name more, which no entry is about
 module _ (mine : ℕ → Bool) (name : ℕ) where

@@ -3,7 +3,7 @@
 --
 -- The laws are `OpenAreTold`, `OwnAreTold`, `FirstOwnIsTold`, `OwnStands`, `OwnComes`, `OwnStays`, `OwnGoesOn` and
 -- `OwnAccepted`: each stands on those above it.
-use Rattle.std.specs.Prelude.{◌≡◌, ◌≢◌, ℕ, ◌==◌, Bool, true, false, cond, ◌&&◌, ◌||◌, not, List, [], Some, filter, find}
+use Rattle.std.specs.Prelude.{◌≡◌, ◌≢◌, ℕ, ◌==◌, Bool, true, false, cond, ◌&&◌, not, List, [], Some, filter, find}
 use Rattle.list_words.specs.Lists.{Each}
 use Rattle.sock_card.specs.declared.owner.Owner.{Owner}
 use Rattle.sock_card.specs.Conflict.{is_time_wait}
@@ -126,10 +126,6 @@ OwnGoesOn =
     (record { request = request; answer = answer }))
     ≡ Some b
     → StandsOwn b place w
-
--- a name of this set, or that one
-abbrev pub with_name : (ℕ → Bool) → ℕ → ℕ → Bool
-with_name mine name n = mine n || (n == name)
 
 -- a socket that a listener of the caller's own accepted stands, too
 abbrev pub OwnAccepted : Type 0

@@ -9,7 +9,8 @@ use Rattle.turn_table.specs.declared.note.Placed.{Placed}
 use Rattle.bind_buckets.specs.declared.request.Request.{Request}
 use Rattle.bind_buckets.specs.declared.request.Request.TheVariants as requests
 use Rattle.bind_buckets.specs.declared.request.Entry.{Entry}
-use Rattle.bind_buckets.specs.OwnTold.{KeepsOpen, with_name}
+use Rattle.bind_buckets.specs.OwnTold.{KeepsOpen}
+use Rattle.bind_buckets.proofs.OwnTold.{with_name}
 use Rattle.bind_buckets.specs.Turned.{View, Gave}
 use Rattle.chain_deeds.specs.Sides.{Side}
 use Rattle.table_model.specs.Own.{Mine}
