@@ -12,9 +12,10 @@
  * keeps these rules:
  *
  * - A handle is all zero before it is made, is changed by these calls alone, and isn't copied.
- * - A handle is at one call at a time; inet_tables_worker and inet_tables_looker are calls on both of theirs. Handles
- *   of the same shared tables may be at calls at the same time. Threads that share one handle put a lock of their own
- *   round each call. (A call writes its handle: those of several threads are best on cache lines of their own.)
+ * - A handle is at one call at a time; inet_tables_worker, inet_tables_looker and inet_tables_give_back are calls on
+ *   both of theirs. Handles of the same shared tables may be at calls at the same time. Threads that share one handle
+ *   put a lock of their own round each call. (A call writes its handle: those of several threads are best on cache
+ *   lines of their own.)
  * - A handle goes from one thread to another by a lock, by a thread's start or join, or by an atomic that is stored
  *   and loaded as memory_order_seq_cst.
  * - No pointer is null, and no two arguments of a call point to the same bytes.
@@ -31,6 +32,12 @@
 #include <stddef.h>
 #include <stdint.h>
 
+/* The version of this header and of the library behind it. */
+#define INET_TABLES_VERSION "0.2.0"
+#define INET_TABLES_VERSION_MAJOR 0
+#define INET_TABLES_VERSION_MINOR 2
+#define INET_TABLES_VERSION_PATCH 0
+
 #ifdef __cplusplus
 extern "C" {
 #endif
@@ -39,10 +46,10 @@ extern "C" {
 struct inet_tables { void *at; };
 
 struct inet_sizes {
-    uint32_t slots;  /* 1 to 65536: hashed sockets at a time */
+    uint32_t slots;  /* 1 to 2^24: hashed sockets at a time, and TIME_WAITs */
     uint32_t bind;   /* bind buckets, a power of two to 256 */
-    uint32_t hash;   /* established buckets, a power of two to 65536 */
-    uint32_t listen; /* listening buckets, a power of two to 4096 */
+    uint32_t hash;   /* established buckets, a power of two to 2^24 */
+    uint32_t listen; /* listening buckets, a power of two to 2^20 */
     uint32_t seed;   /* of searches and hashes */
     uint16_t low;    /* ports of searches: from low, at least 1, */
     uint16_t high;   /* to high, an even number of them */
@@ -56,13 +63,13 @@ enum { INET_NONE = 0, INET_CONNECTED = 1, INET_TIME_WAIT = 2, INET_LISTENER = 3,
 struct inet_sight {
     uint32_t kind;   /* INET_NONE and so on */
     uint32_t worker; /* whose socket it is */
-    uint32_t socket; /* its number, also after it was closed */
+    uint64_t socket; /* its number, also after it was closed */
 };
 
 struct inet_item {
     uint32_t kind;      /* INET_CONNECTED and so on */
     uint32_t worker;    /* whose socket it is */
-    uint32_t socket;    /* its number, also after it was closed */
+    uint64_t socket;    /* its number, also after it was closed */
     uint32_t addr;      /* its own end, with port */
     uint32_t peer_addr; /* the other's, with peer_port: all 0 of a listener */
     uint16_t port;
@@ -72,20 +79,30 @@ struct inet_item {
 };
 
 /* Makes a list, or shared tables, in a handle that holds nothing. EINVAL comes exactly where the sizes are none of
- * those above, and else EBUSY exactly where the handle holds something; and else ENOMEM may. */
+ * those above, and else EBUSY exactly where the handle holds something; and else ENOMEM may. The tag is any number: by
+ * it shared tables know what they handed out, so give tables that stand at one time different ones. */
 int inet_tables_new(struct inet_tables *tables, const struct inet_sizes *sizes);
-int inet_tables_share(struct inet_tables *tables, const struct inet_sizes *sizes);
+int inet_tables_share(struct inet_tables *tables, const struct inet_sizes *sizes, uint64_t tag);
 
-/* Hand out of shared tables, into a handle that holds nothing: a worker, 64 times at most, or a looker, 16000 times.
- * Workers are numbered from 1 on as they are handed out; no number comes twice, and after ENOMEM one may be passed
- * over. Where another worker has what a call needs, the call tries as many times more, and then answers EAGAIN.
- * EBUSY comes exactly where the second handle holds something, else EBADF exactly where the first has no shared
- * tables, and else EUSERS exactly where all were handed out; and else ENOMEM may. */
+/* Hand out of shared tables, into a handle that holds nothing: a worker, 64 at a time at most, or a looker, 16000 at a
+ * time. What was given back goes out again, the last of it first: such a worker has the number, the sockets, the
+ * TIME_WAITs and the moment that it had. Else workers are numbered from 1 on as they are made. Where another worker has
+ * what a call needs, the call tries as many times more, and then answers EAGAIN. EBUSY comes exactly where the second
+ * handle holds something, else EBADF exactly where the first has no shared tables, and else EUSERS exactly where all
+ * are out; and else ENOMEM may. */
 int inet_tables_worker(struct inet_tables *shared, uint64_t tries, struct inet_tables *worker, uint32_t *number);
 int inet_tables_looker(struct inet_tables *shared, struct inet_tables *looker);
 
+/* Gives a worker or a looker back to its shared tables, for the next who asks for one: its handle holds nothing then.
+ * It takes no memory. The sockets of a worker stand meanwhile; no call lists them, so keep their numbers for its next
+ * holder. EBADF comes exactly where the first handle holds no shared tables, or the second neither a worker nor a
+ * looker; and else EINVAL exactly where it isn't theirs: it has another tag than they, or all that they made are
+ * there. */
+int inet_tables_give_back(struct inet_tables *shared, struct inet_tables *back);
+
 /* Gives up what the handle holds: it holds nothing then. Shared tables go with the last handle that has a part in
- * them, in whatever order. Sockets of a worker that is given up stand until then, and nobody can close them. */
+ * them, in whatever order. A worker or a looker that is given up so is lost to its tables, and the sockets of such a
+ * worker stand until these go, and nobody can close them: give it back in its place. */
 void inet_tables_free(struct inet_tables *tables);
 
 /* The calls on sockets are for a list and for a worker; on other handles they are EBADF. On a list, worker is 1 to
@@ -94,23 +111,24 @@ void inet_tables_free(struct inet_tables *tables);
  *
  * EAGAIN and ENOMEM: the worker's sockets stand as they did, and the call can be made again. But a worker's call
  * may have used up the number that it gives, or the place where a search begins; and of a reap a first part is done.
- * EOVERFLOW: a worker tries 2^29 calls and makes 2^24 - 2 sockets; one that has made them can still close them.
- * A list replies to 2^24 - 2 calls. */
+ * EOVERFLOW: a worker makes 2^56 - 2 sockets, and has 2^48 entries for bind buckets and 2^48 numbers of the clock, of
+ * which a connection that is accepted, closed and reaped takes 3 and 8. The last 2^32 of both are kept for close, drop,
+ * at and reap. A list replies to 2^56 - 2 calls. */
 int inet_tables_socket(struct inet_tables *tables, uint32_t worker, uint8_t net, uint32_t uid, uint16_t dev,
-                       uint32_t flags, uint32_t *socket);
-int inet_tables_bind(struct inet_tables *tables, uint32_t worker, uint32_t socket, uint32_t addr, uint16_t port,
+                       uint32_t flags, uint64_t *socket);
+int inet_tables_bind(struct inet_tables *tables, uint32_t worker, uint64_t socket, uint32_t addr, uint16_t port,
                      uint16_t *bound);
-int inet_tables_listen(struct inet_tables *tables, uint32_t worker, uint32_t socket, uint16_t *bound);
-int inet_tables_connect(struct inet_tables *tables, uint32_t worker, uint32_t socket, uint32_t from, uint32_t to_addr,
+int inet_tables_listen(struct inet_tables *tables, uint32_t worker, uint64_t socket, uint16_t *bound);
+int inet_tables_connect(struct inet_tables *tables, uint32_t worker, uint64_t socket, uint32_t from, uint32_t to_addr,
                         uint16_t to_port, uint32_t *addr, uint16_t *port);
-int inet_tables_accept(struct inet_tables *tables, uint32_t worker, uint32_t listener, uint32_t from_addr,
-                       uint16_t from_port, uint32_t at_addr, uint16_t at_port, uint32_t *socket);
+int inet_tables_accept(struct inet_tables *tables, uint32_t worker, uint64_t listener, uint32_t from_addr,
+                       uint16_t from_port, uint32_t at_addr, uint16_t at_port, uint64_t *socket);
 /* A handshake with a listener begins, and ends: a request stands for the connection meanwhile, and then goes. */
-int inet_tables_syn(struct inet_tables *tables, uint32_t worker, uint32_t listener, uint32_t from_addr,
-                    uint16_t from_port, uint32_t at_addr, uint16_t at_port, uint32_t *request);
-int inet_tables_ack(struct inet_tables *tables, uint32_t worker, uint32_t request, uint32_t *socket);
-int inet_tables_close(struct inet_tables *tables, uint32_t worker, uint32_t socket, bool *waits);
-int inet_tables_drop(struct inet_tables *tables, uint32_t worker, uint32_t socket);
+int inet_tables_syn(struct inet_tables *tables, uint32_t worker, uint64_t listener, uint32_t from_addr,
+                    uint16_t from_port, uint32_t at_addr, uint16_t at_port, uint64_t *request);
+int inet_tables_ack(struct inet_tables *tables, uint32_t worker, uint64_t request, uint64_t *socket);
+int inet_tables_close(struct inet_tables *tables, uint32_t worker, uint64_t socket, bool *waits);
+int inet_tables_drop(struct inet_tables *tables, uint32_t worker, uint64_t socket);
 
 /* The worker's moment in seconds, and the end of its TIME_WAITs that have lasted 60. */
 int inet_tables_at(struct inet_tables *tables, uint32_t worker, uint32_t moment);

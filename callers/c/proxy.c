@@ -5,7 +5,7 @@
 #include <stdio.h>
 #include <stdlib.h>
 
-#include "../inet_tables.h"
+#include <inet_tables.h>
 
 enum { CONNECTIONS = 500, PROXY = 0x0A000001 };
 
@@ -26,8 +26,8 @@ static uint16_t port_of(uint32_t worker) {
     return (uint16_t)(8000 + worker);
 }
 
-static uint32_t open_listener(uint32_t worker) {
-    uint32_t socket;
+static uint64_t open_listener(uint32_t worker) {
+    uint64_t socket;
     uint16_t bound;
     must(inet_tables_socket(&tables, worker, 0, 0, 0, INET_REUSEADDR, &socket), "socket");
     must(inet_tables_bind(&tables, worker, socket, PROXY, port_of(worker), &bound), "bind");
@@ -35,12 +35,12 @@ static uint32_t open_listener(uint32_t worker) {
     return socket;
 }
 
-struct accepter { uint32_t worker, listener, closed, waiting; };
+struct accepter { uint64_t listener; uint32_t worker, closed, waiting; };
 
 static void *accept_all(void *given) {
     struct accepter *me = given;
     for (uint32_t i = 0; i < CONNECTIONS; i++) {
-        uint32_t socket;
+        uint64_t socket;
         bool waits;
         pthread_mutex_lock(&turn);
         must(inet_tables_accept(&tables, me->worker, me->listener, CLIENTS + me->worker, (uint16_t)(1024 + i), PROXY,
@@ -74,7 +74,7 @@ static void *look_all(void *given) {
 }
 
 static void refusals(void) {
-    uint32_t socket;
+    uint64_t socket;
     uint16_t bound;
     bool waits;
     must(inet_tables_socket(&tables, 3, 0, 0, 0, 0, &socket), "socket");
@@ -87,7 +87,8 @@ static void refusals(void) {
 }
 
 static void connect_out(void) {
-    uint32_t socket, addr;
+    uint64_t socket;
+    uint32_t addr;
     uint16_t port;
     must(inet_tables_socket(&tables, 3, 0, 0, 0, 0, &socket), "socket");
     must(inet_tables_connect(&tables, 3, socket, PROXY, CLIENTS + 9, 443, &addr, &port), "connect");
@@ -101,7 +102,7 @@ static void connect_out(void) {
 
 /* A handshake in two steps: its request takes the packets while it lasts, and then the connection. */
 static void shake_hands(void) {
-    uint32_t listener = open_listener(3), request, socket, again;
+    uint64_t listener = open_listener(3), request, socket, again;
     struct inet_sight sight;
     must(inet_tables_syn(&tables, 3, listener, CLIENTS + 3, 1024, PROXY, port_of(3), &request), "syn");
     must(inet_tables_look(&tables, CLIENTS + 3, 1024, PROXY, port_of(3), 0, 0, &sight), "look");
@@ -144,7 +145,7 @@ int main(void) {
     struct looker lookers[2];
     pthread_t threads[4];
     for (uint32_t i = 0; i < 2; i++) {
-        accepters[i] = (struct accepter){i + 1, open_listener(i + 1), 0, 0};
+        accepters[i] = (struct accepter){open_listener(i + 1), i + 1, 0, 0};
         lookers[i] = (struct looker){i + 1, 0};
     }
     for (uint32_t i = 0; i < 2; i++) {

@@ -7,7 +7,7 @@
 #include <stdio.h>
 #include <stdlib.h>
 
-#include "../inet_tables.h"
+#include <inet_tables.h>
 
 enum { CONNECTIONS = 500, PROXY = 0x0A000001 };
 
@@ -45,7 +45,7 @@ static uint16_t port_of(uint32_t worker) {
     return (uint16_t)(8000 + worker);
 }
 
-struct accepter { struct inet_tables tables; uint32_t worker, listener, closed, waiting; };
+struct accepter { struct inet_tables tables; uint64_t listener; uint32_t worker, closed, waiting; };
 
 static void open_listener(struct accepter *me) {
     uint16_t bound;
@@ -55,8 +55,8 @@ static void open_listener(struct accepter *me) {
 }
 
 /* The socket's number is that of the call that made it: each call gives another one. */
-static uint32_t accept_from(struct accepter *me, uint16_t from_port) {
-    uint32_t socket;
+static uint64_t accept_from(struct accepter *me, uint16_t from_port) {
+    uint64_t socket;
     int error;
     do
         error = inet_tables_accept(&me->tables, me->worker, me->listener, CLIENTS + me->worker, from_port, PROXY,
@@ -66,7 +66,7 @@ static uint32_t accept_from(struct accepter *me, uint16_t from_port) {
     return socket;
 }
 
-static bool close_socket(struct accepter *me, uint32_t socket) {
+static bool close_socket(struct accepter *me, uint64_t socket) {
     bool waits;
     int error;
     do
@@ -79,7 +79,7 @@ static bool close_socket(struct accepter *me, uint32_t socket) {
 static void *accept_all(void *given) {
     struct accepter *me = given;
     for (uint32_t i = 0; i < CONNECTIONS; i++) {
-        uint32_t socket = accept_from(me, (uint16_t)(1024 + i));
+        uint64_t socket = accept_from(me, (uint16_t)(1024 + i));
         me->waiting += close_socket(me, socket);
         me->closed++;
     }
@@ -110,7 +110,7 @@ static void *look_all(void *given) {
 }
 
 static void refusals(struct accepter *one, struct accepter *two) {
-    uint32_t socket;
+    uint64_t socket;
     uint16_t bound;
     bool waits;
     must(inet_tables_socket(&two->tables, 2, 0, 0, 0, 0, &socket), "socket");
@@ -124,8 +124,8 @@ static void refusals(struct accepter *one, struct accepter *two) {
 static void misused(struct inet_tables *shared, struct accepter *accepter, struct looker *looker) {
     struct inet_sight sight;
     struct inet_item item;
-    uint32_t socket, number;
-    uint64_t count;
+    uint32_t number;
+    uint64_t socket, count;
     printf("a socket of a looker: %s\n", name(inet_tables_socket(&looker->tables, 1, 0, 0, 0, 0, &socket)));
     printf("a socket of the shared tables: %s\n", name(inet_tables_socket(shared, 1, 0, 0, 0, 0, &socket)));
     printf("a packet for a worker: %s\n", name(inet_tables_look(&accepter->tables, 1, 1, 1, 1, 0, 0, &sight)));
@@ -136,7 +136,7 @@ static void misused(struct inet_tables *shared, struct accepter *accepter, struc
 
 /* A handshake in two steps: its request takes the packets while it lasts, and then the connection. */
 static void shake_hands(struct accepter *me, struct looker *looker) {
-    uint32_t request, socket;
+    uint64_t request, socket;
     must(inet_tables_syn(&me->tables, me->worker, me->listener, CLIENTS + me->worker, 1023, PROXY,
                          port_of(me->worker), &request),
          "syn");
@@ -161,8 +161,8 @@ static void finish(struct accepter *me) {
 int main(void) {
     struct inet_sizes sizes = {4096, 16, 256, 32, 7, 32768, 60999, false};
     struct inet_tables shared = {NULL};
-    must(inet_tables_share(&shared, &sizes), "share");
-    printf("tables in the same handle again: %s\n", name(inet_tables_share(&shared, &sizes)));
+    must(inet_tables_share(&shared, &sizes, 1), "share");
+    printf("tables in the same handle again: %s\n", name(inet_tables_share(&shared, &sizes, 2)));
     struct accepter accepters[2] = {{{NULL}, 0, 0, 0, 0}, {{NULL}, 0, 0, 0, 0}};
     struct looker lookers[2] = {{{NULL}, 1, 0}, {{NULL}, 2, 0}};
     pthread_t threads[4];

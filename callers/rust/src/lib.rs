@@ -70,7 +70,7 @@ impl std::error::Error for Errno {}
 #[derive(Clone, Copy, Debug, PartialEq, Eq, Hash)]
 pub struct Socket {
     pub worker: u32,
-    pub number: u32,
+    pub number: u64,
 }
 
 /// What a new socket is: its network namespace, its user, its device (0 for none), and its options.

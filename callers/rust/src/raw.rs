@@ -4,6 +4,7 @@ use crate::{Errno, Item, Options, Sight, Sizes, Socket};
 use std::ffi::c_void;
 use std::net::{Ipv4Addr, SocketAddrV4};
 use std::ptr::null_mut;
+use std::sync::atomic::{AtomicU64, Ordering};
 
 /// A handle of its own: it is made once, lent to one call at a time, and given up once.
 #[repr(C)]
@@ -19,7 +20,7 @@ unsafe impl Send for Handle {}
 struct RawSight {
     kind: u32,
     worker: u32,
-    socket: u32,
+    socket: u64,
 }
 
 #[repr(C)]
@@ -27,7 +28,7 @@ struct RawSight {
 struct RawItem {
     kind: u32,
     worker: u32,
-    socket: u32,
+    socket: u64,
     addr: u32,
     peer_addr: u32,
     port: u16,
@@ -39,10 +40,11 @@ struct RawItem {
 // These fit the exports of crates/inet_c/src; nothing compares them.
 unsafe extern "C" {
     fn inet_tables_new(tables: &mut Handle, sizes: &Sizes) -> i32;
-    fn inet_tables_share(tables: &mut Handle, sizes: &Sizes) -> i32;
+    fn inet_tables_share(tables: &mut Handle, sizes: &Sizes, tag: u64) -> i32;
     fn inet_tables_worker(shared: &mut Handle, tries: u64, worker: &mut Handle, number: &mut u32)
     -> i32;
     fn inet_tables_looker(shared: &mut Handle, looker: &mut Handle) -> i32;
+    fn inet_tables_give_back(shared: &mut Handle, back: &mut Handle) -> i32;
     fn inet_tables_free(tables: &mut Handle);
     fn inet_tables_socket(
         t: &mut Handle,
@@ -51,14 +53,14 @@ unsafe extern "C" {
         uid: u32,
         dev: u16,
         flags: u32,
-        socket: &mut u32,
+        socket: &mut u64,
     ) -> i32;
-    fn inet_tables_bind(t: &mut Handle, worker: u32, socket: u32, addr: u32, port: u16, bound: &mut u16) -> i32;
-    fn inet_tables_listen(t: &mut Handle, worker: u32, socket: u32, bound: &mut u16) -> i32;
+    fn inet_tables_bind(t: &mut Handle, worker: u32, socket: u64, addr: u32, port: u16, bound: &mut u16) -> i32;
+    fn inet_tables_listen(t: &mut Handle, worker: u32, socket: u64, bound: &mut u16) -> i32;
     fn inet_tables_connect(
         t: &mut Handle,
         worker: u32,
-        socket: u32,
+        socket: u64,
         from: u32,
         to_addr: u32,
         to_port: u16,
@@ -68,26 +70,26 @@ unsafe extern "C" {
     fn inet_tables_accept(
         t: &mut Handle,
         worker: u32,
-        listener: u32,
+        listener: u64,
         from_addr: u32,
         from_port: u16,
         at_addr: u32,
         at_port: u16,
-        socket: &mut u32,
+        socket: &mut u64,
     ) -> i32;
     fn inet_tables_syn(
         t: &mut Handle,
         worker: u32,
-        listener: u32,
+        listener: u64,
         from_addr: u32,
         from_port: u16,
         at_addr: u32,
         at_port: u16,
-        request: &mut u32,
+        request: &mut u64,
     ) -> i32;
-    fn inet_tables_ack(t: &mut Handle, worker: u32, request: u32, socket: &mut u32) -> i32;
-    fn inet_tables_close(t: &mut Handle, worker: u32, socket: u32, waits: &mut bool) -> i32;
-    fn inet_tables_drop(t: &mut Handle, worker: u32, socket: u32) -> i32;
+    fn inet_tables_ack(t: &mut Handle, worker: u32, request: u64, socket: &mut u64) -> i32;
+    fn inet_tables_close(t: &mut Handle, worker: u32, socket: u64, waits: &mut bool) -> i32;
+    fn inet_tables_drop(t: &mut Handle, worker: u32, socket: u64) -> i32;
     fn inet_tables_at(t: &mut Handle, worker: u32, moment: u32) -> i32;
     fn inet_tables_reap(t: &mut Handle, worker: u32, count: &mut u64) -> i32;
     fn inet_tables_look(
@@ -120,11 +122,13 @@ impl Handle {
         Ok(list)
     }
 
-    /// One that holds shared tables.
+    /// One that holds shared tables, with a tag of their own.
     pub fn share(sizes: &Sizes) -> Result<Self, Errno> {
+        static TAGS: AtomicU64 = AtomicU64::new(0);
         let mut shared = Handle::empty();
+        let tag = TAGS.fetch_add(1, Ordering::Relaxed);
         // SAFETY: as above.
-        done(unsafe { inet_tables_share(&mut shared, sizes) })?;
+        done(unsafe { inet_tables_share(&mut shared, sizes, tag) })?;
         Ok(shared)
     }
 
@@ -143,6 +147,12 @@ impl Handle {
         // SAFETY: see above.
         done(unsafe { inet_tables_looker(self, &mut looker) })?;
         Ok(looker)
+    }
+
+    /// Gives the worker or the looker of another handle back, which holds nothing then.
+    pub fn give_back(&mut self, back: &mut Handle) -> Result<(), Errno> {
+        // SAFETY: see above; so is the other handle.
+        done(unsafe { inet_tables_give_back(self, back) })
     }
 
     pub fn socket(&mut self, worker: u32, options: Options) -> Result<Socket, Errno> {
@@ -286,7 +296,7 @@ impl Drop for Handle {
     }
 }
 
-fn sight_of(kind: u32, worker: u32, number: u32) -> Option<Sight> {
+fn sight_of(kind: u32, worker: u32, number: u64) -> Option<Sight> {
     let socket = Socket { worker, number };
     match kind {
         1 => Some(Sight::Connected(socket)),

@@ -15,22 +15,35 @@ impl SharedTables {
         Handle::share(sizes).map(|handle| SharedTables { handle })
     }
 
-    /// The next worker, which tries so many times again for what another worker has. EUSERS: there were 64; ENOMEM.
+    /// A worker, which tries so many times again for what another worker has: the one that was given back last, with
+    /// its sockets, or the next. EUSERS: 64 are out; ENOMEM.
     pub fn worker(&mut self, tries: u64) -> Result<Worker, Errno> {
         let (handle, number) = self.handle.worker(tries)?;
         Ok(Worker { handle, number })
     }
 
-    /// A looker. EUSERS: there were 16,000; ENOMEM.
+    /// A looker. EUSERS: 16,000 are out; ENOMEM.
     pub fn looker(&mut self) -> Result<Looker, Errno> {
         self.handle.looker().map(Looker)
+    }
+
+    /// Takes a worker back, with its sockets, for the next who asks for one. EINVAL: it is of other tables, and comes
+    /// back.
+    pub fn take_back(&mut self, mut worker: Worker) -> Result<(), (Errno, Worker)> {
+        self.handle.give_back(&mut worker.handle).map_err(|errno| (errno, worker))
+    }
+
+    /// Takes a looker back. EINVAL: it is of other tables, and comes back.
+    pub fn take_looker_back(&mut self, mut looker: Looker) -> Result<(), (Errno, Looker)> {
+        self.handle.give_back(&mut looker.0).map_err(|errno| (errno, looker))
     }
 }
 
 /// A worker of shared tables, with sockets, a moment and searches of its own. Another worker's [`Socket`] is EINVAL.
 ///
 /// Each call may answer EAGAIN: another worker was in the way. The worker's sockets stand as they did then, and the
-/// call can be made again. The sockets of a worker that is dropped stay until the tables go.
+/// call can be made again. A worker that is dropped is lost to its tables, and its sockets stay until they go: it can
+/// be given back in place of that.
 pub struct Worker {
     handle: Handle,
     number: u32,

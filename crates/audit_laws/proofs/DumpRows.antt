@@ -72,7 +72,7 @@ module _ (sections : List (List Command)) (n : ℕ) where
   module _ (low : 1 ≤ n) (high : n ≤ 64) where
     item_is_row : (c : Card) → CardTold sections c → IsRow (item_row sections n c)
     item_is_row c t =
-        let section = c.name / 2 ^ 24 in
+        let section = c.name / 2 ^ 56 in
         let label = label_in sections c.name in
         let name = told_name sections c.name in
         let behind = end_text c.local c.lport ∷ end_text c.remote c.rport ∷ dev_words c.dev c.net in

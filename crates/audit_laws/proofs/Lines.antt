@@ -114,7 +114,7 @@ cut_lines true = lines.Cut ∷ []
 
 module _ (sections : List (List Command)) where
   abbrev pub told_name : ℕ → Name
-  told_name name = name_of (name / 2 ^ 24) (label_in sections name)
+  told_name name = name_of (name / 2 ^ 56) (label_in sections name)
 
   -- a socket that section n lists
   abbrev pub item_row : ℕ → Card → Row

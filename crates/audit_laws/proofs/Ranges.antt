@@ -105,7 +105,7 @@ module _ (shape : Shape) (f : ShapeFits shape) where
         let c : CardTold sections l.hash.card = cards l.hash b.there b.hash in record {
           bucket = bucket_below l.hash b.there;
           slot = slot_below l.hash b.there;
-          name = name_fits (l.hash.card.name / 2 ^ 24) _ c.least c.most c.label;
+          name = name_fits (l.hash.card.name / 2 ^ 56) _ c.least c.most c.label;
           card = record { local = c.local.addr; lport = c.local.port; remote = c.remote.addr; rport = c.remote.port; dev = c.dev; net = c.net; name = refl; extra = refl };
           hash = (begin_below l.hash b.there, end_below l.hash b.there);
           unhash = unhash_in l b l.unhash refl;
@@ -128,7 +128,7 @@ module _ (shape : Shape) (f : ShapeFits shape) where
     answer_in : (s : ℕ) (p : Packet) (t0 t1 : ℕ) (a : PacketAnswer) → MayAnswer (Among book) (at_home shape s) shape.slots p t0 t1 a → NamesItsBucket shape seed p a → AnswerFits (answer_line sections a) × AnswerLabelled sections a
     answer_in s p t0 t1 (answers.Found card) m n =
         let c : CardTold sections card = subst (CardTold sections) m.same (cards m.life m.is.there m.is.hash) in
-        (name_fits (card.name / 2 ^ 24) _ c.least c.most c.label, c.label)
+        (name_fits (card.name / 2 ^ 56) _ c.least c.most c.label, c.label)
     answer_in s p t0 t1 answers.None m n = (tt, tt)
     answer_in s p t0 t1 (answers.Again bucket end) m n = ((named_below seed p bucket n, end_in bucket t0 t1 end m), tt)
 

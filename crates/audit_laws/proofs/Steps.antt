@@ -74,24 +74,24 @@ pub record CardTold (sections : List (List Command)) (c : Card) : Type 0 where
   pub remote : EndIn c.remote c.rport
   pub dev : c.dev < 2 ^ 16
   pub net : c.net < 16
-  pub least : 1 ≤ c.name / 2 ^ 24
-  pub most : c.name / 2 ^ 24 ≤ 64
+  pub least : 1 ≤ c.name / 2 ^ 56
+  pub most : c.name / 2 ^ 56 ≤ 64
   pub label : is_label (label_in sections c.name) ≡ true
 
-section_is : (number place name : ℕ) → place + 1 < 2 ^ 24 → name ≡ name_at number place → name / 2 ^ 24 ≡ number
+section_is : (number place name : ℕ) → place + 1 < 2 ^ 56 → name ≡ name_at number place → name / 2 ^ 56 ≡ number
 section_is number place name l e = omega arith
 
-place_is : (number place name : ℕ) → place + 1 < 2 ^ 24 → name ≡ name_at number place → name % 2 ^ 24 ≡ suc place
+place_is : (number place name : ℕ) → place + 1 < 2 ^ 56 → name ≡ name_at number place → name % 2 ^ 56 ≡ suc place
 place_is number place name l e = omega arith
 
 card_told : (sections : List (List Command)) (number : ℕ) (cs : List Command) (c : Card) → 1 ≤ number → number ≤ 64 → slice_index_or ([] ∷ sections) number [] ≡ cs → Each CommandFits cs → length cs < 2 ^ 24
     → IsGood number (given_by cs) c → CardTold sections c
 card_told sections number cs c low high at fits few g =
     let n = g.named in
-    let small : n.place + 1 < 2 ^ 24 = omega (arith, n.below, few_given cs, few) in
-    let s : c.name / 2 ^ 24 ≡ number = section_is number n.place c.name small n.is in
-    let p : c.name % 2 ^ 24 ≡ suc n.place = place_is number n.place c.name small n.is in
-    let labels : given_labels (slice_index_or ([] ∷ sections) (c.name / 2 ^ 24) []) ≡ given_labels cs =
+    let small : n.place + 1 < 2 ^ 56 = omega (arith, n.below, few_given cs, few) in
+    let s : c.name / 2 ^ 56 ≡ number = section_is number n.place c.name small n.is in
+    let p : c.name % 2 ^ 56 ≡ suc n.place = place_is number n.place c.name small n.is in
+    let labels : given_labels (slice_index_or ([] ∷ sections) (c.name / 2 ^ 56) []) ≡ given_labels cs =
     ap (λ k. given_labels (slice_index_or ([] ∷ sections) k [])) s ∙ ap given_labels at in
     let told : label_in sections c.name ≡ unwrap_or (slice_get (given_labels cs) n.place) [] = λ i. unwrap_or (slice_get ([] ∷ labels i) (p i)) [] in record {
       local = g.local;
@@ -201,8 +201,8 @@ alike_told sections k c t1 f =
       remote = record { addr = omega (arith, remote, f.remote.addr); port = omega (arith, rport, f.remote.port) };
       dev = omega (arith, dev, f.dev);
       net = omega (arith, net, f.net);
-      least = subst (λ n. 1 ≤ n / 2 ^ 24) name f.least;
-      most = subst (λ n. n / 2 ^ 24 ≤ 64) name f.most;
+      least = subst (λ n. 1 ≤ n / 2 ^ 56) name f.least;
+      most = subst (λ n. n / 2 ^ 56 ≤ 64) name f.most;
       label = subst (λ n. is_label (label_in sections n) ≡ true) name f.label;
     }
 

@@ -220,18 +220,18 @@ module _ (sections : List (List Command)) where
   life_text l h =
       let c = l.hash.card in
       let label = label_in sections c.name in
-      ap (λ k. codes "life " ++ decimal l.hash.bucket ++ codes " " ++ decimal l.hash.slot ++ codes " " ++ ((k ++ codes " " ++ decimal (c.name / 2 ^ 24) ++ codes "." ++ label) ++ codes " " ++ end_text c.local c.lport ++ codes " " ++ end_text c.remote c.rport ++ (codes " dev " ++ decimal c.dev ++ net_text (c.net == 0) (decimal c.net)))
+      ap (λ k. codes "life " ++ decimal l.hash.bucket ++ codes " " ++ decimal l.hash.slot ++ codes " " ++ ((k ++ codes " " ++ decimal (c.name / 2 ^ 56) ++ codes "." ++ label) ++ codes " " ++ end_text c.local c.lport ++ codes " " ++ end_text c.remote c.rport ++ (codes " dev " ++ decimal c.dev ++ net_text (c.net == 0) (decimal c.net)))
       ++ codes " " ++ (codes "hash " ++ decimal l.hash.begin ++ codes " " ++ decimal l.hash.end ++ codes " " ++ unhash_text l.unhash) ++ codes "\n") (kind_is c.kind)
-      ∙ life_by (decimal l.hash.bucket) (decimal l.hash.slot) (kind_word c.kind) (decimal (c.name / 2 ^ 24)) label (end_text c.local c.lport) (end_text c.remote c.rport) (decimal c.dev) (decimal c.net) (decimal l.hash.begin) (decimal l.hash.end) (c.net == 0) l.unhash
+      ∙ life_by (decimal l.hash.bucket) (decimal l.hash.slot) (kind_word c.kind) (decimal (c.name / 2 ^ 56)) label (end_text c.local c.lport) (end_text c.remote c.rport) (decimal c.dev) (decimal c.net) (decimal l.hash.begin) (decimal l.hash.end) (c.net == 0) l.unhash
       ∙ ap (λ name. spaced (codes "life" ∷ decimal l.hash.bucket ∷ decimal l.hash.slot ∷ ((kind_word c.kind ∷ name ∷ end_text c.local c.lport ∷ end_text c.remote c.rport ∷ codes "dev" ∷ decimal c.dev ∷ net_told (c.net == 0) (decimal c.net)) ++ (codes "hash" ∷ decimal l.hash.begin ∷ decimal l.hash.end ∷ unhash_words (option_map span_of l.unhash)))) ++ codes "\n")
-      (sym (name_text_is (c.name / 2 ^ 24) label h))
+      (sym (name_text_is (c.name / 2 ^ 56) label h))
 
   item_text : (n : ℕ) (c : Card) → Labelled c.name → output.socket_line (label_in sections) n c ≡ row_text (item_row sections n c)
   item_text n c h =
       let label = label_in sections c.name in
-      ap (λ k. decimal n ++ codes " item " ++ ((k ++ codes " " ++ decimal (c.name / 2 ^ 24) ++ codes "." ++ label) ++ codes " " ++ end_text c.local c.lport ++ codes " " ++ end_text c.remote c.rport ++ (codes " dev " ++ decimal c.dev ++ net_text (c.net == 0) (decimal c.net))) ++ codes "\n") (kind_is c.kind)
-      ∙ item_by (decimal n) (kind_word c.kind) (decimal (c.name / 2 ^ 24)) label (end_text c.local c.lport) (end_text c.remote c.rport) (decimal c.dev) (decimal c.net) (c.net == 0)
-      ∙ ap (λ name. spaced (decimal n ∷ codes "item" ∷ kind_word c.kind ∷ name ∷ end_text c.local c.lport ∷ end_text c.remote c.rport ∷ codes "dev" ∷ decimal c.dev ∷ net_told (c.net == 0) (decimal c.net)) ++ codes "\n") (sym (name_text_is (c.name / 2 ^ 24) label h))
+      ap (λ k. decimal n ++ codes " item " ++ ((k ++ codes " " ++ decimal (c.name / 2 ^ 56) ++ codes "." ++ label) ++ codes " " ++ end_text c.local c.lport ++ codes " " ++ end_text c.remote c.rport ++ (codes " dev " ++ decimal c.dev ++ net_text (c.net == 0) (decimal c.net))) ++ codes "\n") (kind_is c.kind)
+      ∙ item_by (decimal n) (kind_word c.kind) (decimal (c.name / 2 ^ 56)) label (end_text c.local c.lport) (end_text c.remote c.rport) (decimal c.dev) (decimal c.net) (c.net == 0)
+      ∙ ap (λ name. spaced (decimal n ∷ codes "item" ∷ kind_word c.kind ∷ name ∷ end_text c.local c.lport ∷ end_text c.remote c.rport ∷ codes "dev" ∷ decimal c.dev ∷ net_told (c.net == 0) (decimal c.net)) ++ codes "\n") (sym (name_text_is (c.name / 2 ^ 56) label h))
 
   pub items_text : (n : ℕ) (cards : List Card) → Each (λ (c : Card). Labelled c.name) cards → flat_map (output.socket_line (label_in sections) n) cards ≡ rows_text (map (item_row sections n) cards)
   items_text n [] h = refl
@@ -256,9 +256,9 @@ module _ (sections : List (List Command)) where
       → render.looked_line (label_in sections) number (looks.Answered (record { packet = p; seed = seed; answer = a; t0 = t0; t1 = t1 })) ≡ row_text (row (lines.Packet number (item_line sections (looks.Answered (record { packet = p; seed = seed; answer = a; t0 = t0; t1 = t1 })))))
   answer_row number p t0 t1 seed (answers.Found c) h =
       let label = label_in sections c.name in
-      ap (λ k. codes "packet " ++ decimal number ++ codes " " ++ ((k ++ codes " " ++ decimal (c.name / 2 ^ 24) ++ codes "." ++ label) ++ codes " t0 " ++ decimal t0 ++ codes " t1 " ++ decimal t1 ++ codes " " ++ (codes "from " ++ end_text p.src p.sport ++ codes " to " ++ end_text p.dst p.dport ++ (codes " dev " ++ decimal p.dev ++ net_text (p.net == 0) (decimal p.net)))) ++ codes "\n") (kind_is c.kind)
-      ∙ found_by (decimal number) (kind_word c.kind) (decimal (c.name / 2 ^ 24)) label (decimal t0) (decimal t1) (end_text p.src p.sport) (end_text p.dst p.dport) (decimal p.dev) (decimal p.net) (p.net == 0)
-      ∙ ap (λ name. spaced (codes "packet" ∷ decimal number ∷ kind_word c.kind ∷ name ∷ codes "t0" ∷ decimal t0 ∷ codes "t1" ∷ decimal t1 ∷ codes "from" ∷ end_text p.src p.sport ∷ codes "to" ∷ end_text p.dst p.dport ∷ codes "dev" ∷ decimal p.dev ∷ net_told (p.net == 0) (decimal p.net)) ++ codes "\n") (sym (name_text_is (c.name / 2 ^ 24) label h))
+      ap (λ k. codes "packet " ++ decimal number ++ codes " " ++ ((k ++ codes " " ++ decimal (c.name / 2 ^ 56) ++ codes "." ++ label) ++ codes " t0 " ++ decimal t0 ++ codes " t1 " ++ decimal t1 ++ codes " " ++ (codes "from " ++ end_text p.src p.sport ++ codes " to " ++ end_text p.dst p.dport ++ (codes " dev " ++ decimal p.dev ++ net_text (p.net == 0) (decimal p.net)))) ++ codes "\n") (kind_is c.kind)
+      ∙ found_by (decimal number) (kind_word c.kind) (decimal (c.name / 2 ^ 56)) label (decimal t0) (decimal t1) (end_text p.src p.sport) (end_text p.dst p.dport) (decimal p.dev) (decimal p.net) (p.net == 0)
+      ∙ ap (λ name. spaced (codes "packet" ∷ decimal number ∷ kind_word c.kind ∷ name ∷ codes "t0" ∷ decimal t0 ∷ codes "t1" ∷ decimal t1 ∷ codes "from" ∷ end_text p.src p.sport ∷ codes "to" ∷ end_text p.dst p.dport ∷ codes "dev" ∷ decimal p.dev ∷ net_told (p.net == 0) (decimal p.net)) ++ codes "\n") (sym (name_text_is (c.name / 2 ^ 56) label h))
   answer_row number p t0 t1 seed answers.None h =
       none_by (decimal number) (decimal t0) (decimal t1) (end_text p.src p.sport) (end_text p.dst p.dport) (decimal p.dev) (decimal p.net) (p.net == 0)
   answer_row number p t0 t1 seed (answers.Again bucket e) h =

@@ -26,7 +26,7 @@ names_of (requests.RemoveWaiting name) = []
 
 -- the caller runs the script whose socket has that name
 abbrev pub MayName : ℕ → ℕ → Type 0
-MayName caller name = caller ≢ 0 → name / 2 ^ 24 ≡ caller
+MayName caller name = caller ≢ 0 → name / 2 ^ 56 ≡ caller
 
 -- the caller may ask so
 abbrev pub MayAsk : ℕ → Request → Type 0

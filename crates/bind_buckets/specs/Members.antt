@@ -6,10 +6,10 @@ use Rattle.bind_buckets.specs.First.{change_first}
 
 -- a member: the slot of its card, and its name
 abbrev pub member : ℕ → ℕ → ℕ
-member slot name = slot * 2 ^ 32 + name
+member slot name = slot * 2 ^ 64 + name
 
 abbrev pub is_named : ℕ → ℕ → Bool
-is_named name m = m % 2 ^ 32 == name
+is_named name m = m % 2 ^ 64 == name
 
 -- the group has a member of that name
 abbrev pub has_member : ℕ → List ℕ → Bool

@@ -203,7 +203,7 @@ impl Bucket {
     }
 
     /// The first owner of that name. Constant cost, and no note.
-    pub fn owner(&self, name: u32) -> Option<&Owner>
+    pub fn owner(&self, name: u64) -> Option<&Owner>
         ensures { option_copied result ≡ find (has_name name) self.now.held.owners }
     {
         match &self.held {
@@ -349,7 +349,7 @@ impl Bucket {
     /// it needs, its group has no room for one more. The bucket holds what it held. It goes through the
     /// port's owners as [`Bucket::bind`] does, and once more for its mates, up to the first, where a
     /// listener with `reuseport` may be one; and through at most 512 members.
-    pub fn may_listen(&mut self, name: u32) -> Result<Option<u32>, ListenEnd>
+    pub fn may_listen(&mut self, name: u64) -> Result<Option<u32>, ListenEnd>
         requires entry { 1 ≤ self.old.entries }
         ensures after { self.new ≡ called self.old (Request.MayListen name) }
         ensures answer { answer_of_listen result ≡ answer_to self.old (Request.MayListen name) }
@@ -368,7 +368,7 @@ impl Bucket {
     ///
     /// Constant cost; with `reuseport` it goes through the port's owners at its address and 0.0.0.0 up to
     /// the first mate, where a listener with `reuseport` may be one, and through at most 512 members.
-    pub fn listen(&mut self, name: u32, slot: u32)
+    pub fn listen(&mut self, name: u64, slot: u32)
         requires entry { 1 ≤ self.old.entries }
         requires free { CanListen self.old name }
         ensures after { self.new ≡ called self.old (Request.Listen name slot) }
@@ -386,7 +386,7 @@ impl Bucket {
     /// No conflict is looked for, since it wants no more than it had. Constant cost.
     pub fn connect_bound(
         &mut self,
-        name: u32,
+        name: u64,
         local: u32,
         remote: u32,
         rport: u16,
@@ -418,8 +418,8 @@ impl Bucket {
     /// No conflict is looked for. Constant cost.
     pub fn inherit(
         &mut self,
-        parent: u32,
-        name: u32,
+        parent: u64,
+        name: u64,
         local: u32,
         remote: u32,
         rport: u16,
@@ -450,7 +450,7 @@ impl Bucket {
     /// keeps its port until [`Bucket::remove_waiting`].
     ///
     /// No conflict is looked for, since it wants no more than it had. Constant cost.
-    pub fn to_time_wait(&mut self, name: u32) -> Result<(), Strange>
+    pub fn to_time_wait(&mut self, name: u64) -> Result<(), Strange>
         requires entry { 1 ≤ self.old.entries }
         ensures after { self.new ≡ called self.old (Request.ToTimeWait name) }
         ensures answer { answer_of_name result ≡ answer_to self.old (Request.ToTimeWait name) }
@@ -469,7 +469,7 @@ impl Bucket {
     /// its group, in whose place the last one stands then (`reuseport_detach_sock`).
     ///
     /// It uses the entry that was kept for the owner. It goes through at most 512 members.
-    pub fn remove(&mut self, name: u32) -> Result<(), Strange>
+    pub fn remove(&mut self, name: u64) -> Result<(), Strange>
         requires { find (has_name name) self.old.held.owners ≡ None → 1 ≤ self.old.entries }
         ensures after { self.new ≡ called self.old (Request.Remove name) }
         ensures answer { answer_of_name result ≡ answer_to self.old (Request.Remove name) }
@@ -489,7 +489,7 @@ impl Bucket {
     /// hasn't gone already; an owner of that name in another state stays.
     ///
     /// It uses the entry that was kept for the owner. Constant cost.
-    pub fn remove_waiting(&mut self, name: u32) -> Result<(), Strange>
+    pub fn remove_waiting(&mut self, name: u64) -> Result<(), Strange>
         requires { find (waits_as name) self.old.held.owners ≡ None → 1 ≤ self.old.entries }
         ensures after { self.new ≡ called self.old (Request.RemoveWaiting name) }
         ensures answer { answer_of_name result ≡ answer_to self.old (Request.RemoveWaiting name) }
@@ -507,7 +507,7 @@ impl Bucket {
     /// The members of the group of that number, each the slot of its card times 2^32, and its name.
     ///
     /// Empty where nobody is in it, or it isn't one of this bucket's. Constant cost, no note.
-    pub fn members(&self, group: u32) -> &[u64]
+    pub fn members(&self, group: u32) -> &[u128]
         ensures { result.now ≡ spec.members_of self.now group }
     {
         match &self.held {

@@ -3,7 +3,7 @@
 //! Those by port answer most questions. Where many owners share a port at one address, and one at
 //! another address shares it with none, those by address still show that none refuses a newcomer.
 
-ghost use Rattle.std.specs.Prelude.{ℕ, ◌≡◌, ◌==◌, ◌&&◌, ◌||◌, ◌<◌, ◌≤◌, Bool, true, List, [], ◌∷◌, ◌++◌, find, None, Some, OnOk, OnErr, IfOk};
+ghost use Rattle.std.specs.Prelude.{ℕ, ◌≡◌, ◌/◌, ◌==◌, ◌&&◌, ◌||◌, ◌<◌, ◌≤◌, Bool, true, List, [], ◌∷◌, ◌++◌, find, None, Some, OnOk, OnErr, IfOk};
 ghost use Rattle.sock_card.specs.Conflict as conflict_spec;
 ghost use Rattle.bind_buckets.specs.First.{change_first, drop_first};
 ghost use Rattle.bind_buckets.specs.Slots.{owners_in};
@@ -57,12 +57,24 @@ fn is_grouped(owner: &Owner) -> bool
     matches!(owner.state, State::Listening) && owner.reuseport
 }
 
+/// How many whole strides come before a port. With 256, the most buckets that a table has, it takes no division.
+fn strides_before(port: u16, stride: u32) -> usize
+    requires { 1 ≤ stride }
+    ensures { result ≡ port / stride }
+{
+    if stride == 256 {
+        (port / 256) as usize
+    } else {
+        (u32::from(port) / stride) as usize
+    }
+}
+
 fn end_place(stride: u32, port: u16, addr: u32) -> usize
     requires { 1 ≤ stride }
     ensures place { result ≡ spec.end_place stride port addr }
     ensures within { result < 256 }
 {
-    ((u32::from(port) / stride) as usize + addr as usize) % PLACES
+    (strides_before(port, stride) + addr as usize) % PLACES
 }
 
 fn end_spot(stride: u32, owner: &Owner) -> Spot
@@ -142,7 +154,7 @@ impl OwnerCounts {
         ensures place { result ≡ spec.port_place self.now.stride port }
         ensures within { result < 256 }
     {
-        (u32::from(port) / self.stride) as usize % PLACES
+        strides_before(port, self.stride) % PLACES
     }
 
     fn port_spot(&self, owner: &Owner) -> Spot

@@ -13,7 +13,7 @@ use std::marker::Model;
 /// number, and its name in the lower.
 #[derive(Drop)]
 pub struct Group {
-    members: ArrayVec<u64, GROUP_ROOM>,
+    members: ArrayVec<u128, GROUP_ROOM>,
 }
 
 impl Model for Group {
@@ -27,13 +27,13 @@ impl Model for Group {
     ghost invariant = { λ g. length g.members.items ≤ group_room };
 }
 
-fn is_named(name: u32, member: u64) -> bool
+fn is_named(name: u64, member: u128) -> bool
     ensures { result ≡ spec.is_named name member }
 {
-    member % 0x1_0000_0000 == u64::from(name)
+    member % 0x1_0000_0000_0000_0000 == u128::from(name)
 }
 
-fn place_of(name: u32, members: &[u64]) -> Option<usize>
+fn place_of(name: u64, members: &[u128]) -> Option<usize>
     ensures { result ≡ position (spec.is_named name) members.now }
 {
     members.iter().position(|member| is_named(name, *member))
@@ -48,7 +48,7 @@ impl Group {
         }
     }
 
-    pub fn members(&self) -> &[u64]
+    pub fn members(&self) -> &[u128]
         ensures members { result.now ≡ self.now }
         ensures most { length result.now ≤ group_room }
     {
@@ -67,7 +67,7 @@ impl Group {
         self.members.len() < GROUP_ROOM
     }
 
-    pub fn has_member(&self, name: u32) -> bool
+    pub fn has_member(&self, name: u64) -> bool
         ensures { result ≡ spec.has_member name self.now }
     {
         self.members
@@ -77,16 +77,15 @@ impl Group {
     }
 
     /// Appends a member.
-    pub fn join(&mut self, slot: u32, name: u32)
+    pub fn join(&mut self, slot: u32, name: u64)
         requires { length self.old < group_room }
         ensures { self.new ≡ spec.joined_by (spec.member slot name) self.old }
     {
-        self.members
-            .push(u64::from(slot) * 0x1_0000_0000 + u64::from(name));
+        self.members.push(u128::from(slot) * 0x1_0000_0000_0000_0000 + u128::from(name));
     }
 
     /// Takes out the member of that name, in whose place the last one stands then.
-    pub fn leave(&mut self, name: u32)
+    pub fn leave(&mut self, name: u64)
         requires { spec.has_member name self.old ≡ true }
         ensures { self.new ≡ spec.without_member name self.old }
     {

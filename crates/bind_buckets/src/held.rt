@@ -99,7 +99,7 @@ impl Held {
         }
     }
 
-    fn connect_bound(&mut self, name: u32, local: u32, remote: u32, rport: u16) -> Answer
+    fn connect_bound(&mut self, name: u64, local: u32, remote: u32, rport: u16) -> Answer
         requires { CanBeAt local (find (spec.has_name name) self.old.owners.owners) }
         ensures step { IsStep
             (spec.named (held_by self.old) name
@@ -119,7 +119,7 @@ impl Held {
         }
     }
 
-    fn inherit(&mut self, parent: u32, name: u32, local: u32, remote: u32, rport: u16) -> Answer
+    fn inherit(&mut self, parent: u64, name: u64, local: u32, remote: u32, rport: u16) -> Answer
         requires { 1 ≤ self.old.owners.room }
         ensures step { IsStep
             (spec.named (held_by self.old) parent
@@ -149,7 +149,7 @@ impl Held {
         }
     }
 
-    fn listener_answer(&self, number: u32, owner: &Owner, name: u32) -> Answer
+    fn listener_answer(&self, number: u32, owner: &Owner, name: u64) -> Answer
         requires number { number < 256 }
         requires first { find (spec.has_name name) self.now.owners.owners ≡ Some owner.now }
         ensures { result ≡ spec.listener_answer number (held_by self.now) owner.now
@@ -167,7 +167,7 @@ impl Held {
         }
     }
 
-    fn may_listen(&self, number: u32, name: u32) -> Answer
+    fn may_listen(&self, number: u32, name: u64) -> Answer
         requires { number < 256 }
         ensures { IsStep
             (spec.named (held_by self.now) name (spec.may_listen number (held_by self.now) name))
@@ -180,7 +180,7 @@ impl Held {
     }
 
     /// Puts a listener into its mates' group, or into the first that is free.
-    fn join(&mut self, owner: &Owner, name: u32, slot: u32)
+    fn join(&mut self, owner: &Owner, name: u64, slot: u32)
         requires { IsGroup (spec.group_answer 0 (held_by self.old) (spec.place_for (held_by self.old) owner.now)) }
         ensures groups { self.new.groups
             ≡ spec.with_member (spec.place_for (held_by self.old) owner.now)
@@ -193,7 +193,7 @@ impl Held {
         }
     }
 
-    fn listen(&mut self, number: u32, name: u32, slot: u32) -> Answer
+    fn listen(&mut self, number: u32, name: u64, slot: u32) -> Answer
         requires { IsGroup (spec.named (held_by self.old) name
             (spec.may_listen number (held_by self.old) name)).answer }
         ensures step { IsStep
@@ -215,7 +215,7 @@ impl Held {
     }
 
     /// Takes the member of that name out of its group, if it is in one.
-    fn leave(&mut self, name: u32)
+    fn leave(&mut self, name: u64)
         ensures groups { self.new.groups
             ≡ change_first (members_spec.has_member name) (members_spec.without_member name) self.old.groups }
         ensures owners { self.new.owners ≡ self.old.owners }
@@ -226,7 +226,7 @@ impl Held {
         }
     }
 
-    fn remove(&mut self, name: u32) -> Answer
+    fn remove(&mut self, name: u64) -> Answer
         ensures step { IsStep
             (spec.named (held_by self.old) name (λ _. spec.removed (held_by self.old) name))
             self.new result }
@@ -242,7 +242,7 @@ impl Held {
         }
     }
 
-    fn to_time_wait(&mut self, name: u32) -> Answer
+    fn to_time_wait(&mut self, name: u64) -> Answer
         ensures step { IsStep
             (spec.named (held_by self.old) name
             (λ _. spec.changed (held_by self.old) name became.as_waiting self.old.groups))
@@ -256,7 +256,7 @@ impl Held {
         }
     }
 
-    fn remove_waiting(&mut self, name: u32) -> Answer
+    fn remove_waiting(&mut self, name: u64) -> Answer
         ensures step { IsStep
             (spec.spoken (held_by self.old) name (find (spec.waits_as name) self.old.owners.owners)
             (λ _. spec.without_waiting (held_by self.old) name))

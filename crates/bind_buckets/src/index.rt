@@ -37,14 +37,14 @@ impl Model for Index {
 ///
 /// The keys of one address at any two ports lie 52,777 apart at least, so addresses nearer than that to
 /// one another never share a key. Others may, which costs a look at a slot.
-fn end_key(port: u16, addr: u32) -> u32
+fn end_key(port: u16, addr: u32) -> u64
     ensures { result ≡ end_key port addr }
 {
-    ((addr as usize + port as usize * 0x9e37_79b9) % 0x1_0000_0000) as u32
+    ((addr as usize + port as usize * 0x9e37_79b9) % 0x1_0000_0000) as u64
 }
 
 /// The first place of that key, or the next one after a place of it; none without a key.
-fn next_of(key: Option<u32>, after: Option<usize>, links: &Links) -> Option<usize>
+fn next_of(key: Option<u64>, after: Option<usize>, links: &Links) -> Option<usize>
     requires { spec.IsAfterOther key after links.now.keys }
     ensures { IsFirstIn (is_other key) links.now.keys (place_after after) (length links.now.keys) result }
 {
@@ -66,7 +66,7 @@ fn earlier(a: Option<usize>, b: Option<usize>) -> Option<usize>
 }
 
 /// The place, or the next one of that key where it is the one to be passed over.
-fn step_over(place: usize, key: Option<u32>, at: Option<usize>, links: &Links) -> Option<usize>
+fn step_over(place: usize, key: Option<u64>, at: Option<usize>, links: &Links) -> Option<usize>
     requires { spec.IsAfterOther key at links.now.keys }
     ensures { spec.IsStep place (is_other key) links.now.keys at result }
 {
@@ -90,8 +90,8 @@ fn has_at(asked: &Asked, but: Option<usize>, place: usize, slots: &[Slot]) -> bo
 fn first_at(
     asked: &Asked,
     but: Option<usize>,
-    one: u32,
-    other: Option<u32>,
+    one: u64,
+    other: Option<u64>,
     links: &Links,
     slots: &[Slot],
 ) -> Option<usize>
@@ -124,6 +124,13 @@ impl Index {
             ends: Links::new(alloc),
             room: 0,
         }
+    }
+
+    /// How many more may come without memory.
+    pub fn room(&self) -> usize
+        ensures { result ≡ self.now.room }
+    {
+        self.room
     }
 
     /// Makes room for so many more. An `Err`, for want of memory, changes nothing.
@@ -171,7 +178,7 @@ impl Index {
         } }
     {
         self.names.push(slot.owner.name);
-        self.ports.push(u32::from(slot.owner.port));
+        self.ports.push(u64::from(slot.owner.port));
         self.ends.push(end_key(slot.owner.port, slot.filed));
         self.room -= 1;
     }
@@ -188,7 +195,7 @@ impl Index {
     {
         match asked.under() {
             Under::Name(name) => first_at(asked, but, name, None, &self.names, slots),
-            Under::Port(port) => first_at(asked, but, u32::from(port), None, &self.ports, slots),
+            Under::Port(port) => first_at(asked, but, u64::from(port), None, &self.ports, slots),
             Under::End(port, addr) => {
                 let any = Some(end_key(port, 0));
                 first_at(asked, but, end_key(port, addr), any, &self.ends, slots)

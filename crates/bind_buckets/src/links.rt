@@ -5,14 +5,13 @@ ghost use Rattle.bind_buckets.specs.Links as spec;
 ghost use Rattle.bind_buckets.specs.Links.{keys_in, newers_in, place_after, is_key, is_home, IsFirstIn, AreLinked, IsAfter};
 
 use crate::maybe_place::{MOST_PLACES, MaybePlace};
-use crate::room;
 use std::alloc::{AllocError, Global};
 use std::marker::Model;
 
 /// The key of a place, and the next place whose key has the same home.
 #[derive(Clone, Copy)]
 struct Place {
-    key: u32,
+    key: u64,
     newer: MaybePlace,
 }
 
@@ -113,7 +112,7 @@ fn link_all(places: &mut [Place], homes: &mut [Ends])
 }
 
 /// The first place of that key's home, or the next one after a place of it.
-fn start(key: u32, after: Option<usize>, places: &[Place], homes: &[Ends]) -> Option<usize>
+fn start(key: u64, after: Option<usize>, places: &[Place], homes: &[Ends]) -> Option<usize>
     requires linked { AreLinked places.now homes.now (length places.now) }
     requires homes { 0 < length places.now → 0 < length homes.now }
     requires after { IsAfter key after (keys_in places.now) }
@@ -130,7 +129,7 @@ fn start(key: u32, after: Option<usize>, places: &[Place], homes: &[Ends]) -> Op
 }
 
 /// The first place of that key, or the next one after a place of it.
-fn next_place(key: u32, after: Option<usize>, places: &[Place], homes: &[Ends]) -> Option<usize>
+fn next_place(key: u64, after: Option<usize>, places: &[Place], homes: &[Ends]) -> Option<usize>
     requires linked { AreLinked places.now homes.now (length places.now) }
     requires homes { 0 < length places.now → 0 < length homes.now }
     requires after { IsAfter key after (keys_in places.now) }
@@ -192,7 +191,7 @@ impl Links {
             self.homes.resize(homes, no_ends())?;
             link_all(&mut self.places, &mut self.homes);
         }
-        room::reserve(&mut self.places, more)
+        self.places.reserve_exact(more)
     }
 
     /// Forgets all places, whose room stays.
@@ -204,7 +203,7 @@ impl Links {
     }
 
     /// Appends a place with that key. Constant cost.
-    pub fn push(&mut self, key: u32)
+    pub fn push(&mut self, key: u64)
         requires { 1 ≤ self.old.room }
         ensures keys { self.new.keys ≡ self.old.keys ++ key ∷ [] }
         ensures room { self.new.room + 1 ≡ self.old.room }
@@ -218,7 +217,7 @@ impl Links {
     }
 
     /// The first place of that key, or the next one after a place of it.
-    pub fn next(&self, key: u32, after: Option<usize>) -> Option<usize>
+    pub fn next(&self, key: u64, after: Option<usize>) -> Option<usize>
         requires { IsAfter key after self.now.keys }
         ensures { IsFirstIn (is_key key) self.now.keys (place_after after) (length self.now.keys) result }
     {

@@ -117,7 +117,8 @@ impl OwnerList {
 
     /// Makes room for so many more owners. An `Err`, for want of memory, changes no owner.
     ///
-    /// Mostly it costs nothing. A tidy goes through all slots, and comes after as many removals.
+    /// Mostly it costs nothing: the index takes room for a quarter of the slots more at once. A tidy
+    /// goes through all slots, and comes after as many removals.
     pub fn reserve(&mut self, more: usize) -> Result<(), AllocError>
         ensures owners { self.new.owners ≡ self.old.owners }
         ensures room { OnOk result (more ≤ self.new.room) }
@@ -126,12 +127,17 @@ impl OwnerList {
         if self.is_sparse() {
             self.tidy();
         }
+        if more <= self.index.room() {
+            return Ok(());
+        }
         room::reserve(&mut self.slots, more)?;
-        self.index.reserve(more)
+        let spare = self.slots.capacity() - self.slots.len();
+        self.index
+            .reserve(spare.min(more.max(self.slots.len() / 4 + 4)))
     }
 
     /// The first owner of that name.
-    pub fn named(&self, name: u32) -> Option<&Owner>
+    pub fn named(&self, name: u64) -> Option<&Owner>
         ensures { option_copied result ≡ find (spec.has_name name) self.now.owners }
     {
         match self.index.first(&Asked::Named(name), None, &self.slots) {
@@ -156,7 +162,7 @@ impl OwnerList {
     }
 
     /// Changes the first owner of that name, and returns what it was.
-    pub fn change(&mut self, name: u32, change: Change) -> Option<Owner>
+    pub fn change(&mut self, name: u64, change: Change) -> Option<Owner>
         requires { CanBecome change (find (spec.has_name name) self.old.owners) }
         ensures was { result ≡ find (spec.has_name name) self.old.owners }
         ensures owners { self.new.owners ≡ change_first (spec.has_name name) (becomes change) self.old.owners }
@@ -189,7 +195,7 @@ impl OwnerList {
     }
 
     /// The first of which it holds, but for the first owner of that name.
-    pub fn first_other(&self, asked: Asked, name: u32) -> Option<Owner>
+    pub fn first_other(&self, asked: Asked, name: u64) -> Option<Owner>
         ensures { result ≡ find (answers asked) (drop_first (spec.has_name name) self.now.owners) }
     {
         let but = self.index.first(&Asked::Named(name), None, &self.slots);

@@ -73,7 +73,7 @@ impl Owners {
     }
 
     /// The first owner of that name.
-    pub fn named(&self, name: u32) -> Option<&Owner>
+    pub fn named(&self, name: u64) -> Option<&Owner>
         ensures { option_copied result ≡ find (spec.has_name name) self.now.owners }
     {
         self.list.named(name)
@@ -91,7 +91,7 @@ impl Owners {
 
     /// Changes the first owner of that name, and returns what it was.
     #[inline(always)]
-    pub fn change(&mut self, name: u32, change: Change) -> Option<Owner>
+    pub fn change(&mut self, name: u64, change: Change) -> Option<Owner>
         requires { CanBecome change (find (spec.has_name name) self.old.owners) }
         ensures was { result ≡ find (spec.has_name name) self.old.owners }
         ensures owners { self.new.owners ≡ change_first (spec.has_name name) (becomes change) self.old.owners }
@@ -114,7 +114,7 @@ impl Owners {
     }
 
     /// Takes out the first owner of that name.
-    pub fn remove(&mut self, name: u32) -> Option<Owner>
+    pub fn remove(&mut self, name: u64) -> Option<Owner>
         ensures gone { result ≡ find (spec.has_name name) self.old.owners }
         ensures owners { self.new.owners ≡ drop_first (spec.has_name name) self.old.owners }
         ensures room { self.old.room ≤ self.new.room }
@@ -123,7 +123,7 @@ impl Owners {
     }
 
     /// Takes out the first owner of that name that is in TIME_WAIT.
-    pub fn remove_waiting(&mut self, name: u32) -> Option<Owner>
+    pub fn remove_waiting(&mut self, name: u64) -> Option<Owner>
         ensures gone { result ≡ find (spec.waits_as name) self.old.owners }
         ensures owners { self.new.owners ≡ drop_first (spec.waits_as name) self.old.owners }
         ensures room { self.old.room ≤ self.new.room }
@@ -143,7 +143,7 @@ impl Owners {
     }
 
     /// The first that keeps the first owner of that name from its port, but for itself.
-    pub fn refusing_other(&self, owner: &Owner, name: u32) -> Option<Owner>
+    pub fn refusing_other(&self, owner: &Owner, name: u64) -> Option<Owner>
         requires { find (spec.has_name name) self.now.owners ≡ Some owner.now }
         ensures { result
             ≡ find (conflict_spec.refuses owner.now) (drop_first (spec.has_name name) self.now.owners) }

@@ -9,7 +9,7 @@ use crate::owners::Owners;
 use sock_card::Owner;
 
 /// Where the group stands that has a member of that name.
-pub fn group_place(name: u32, groups: &[Group]) -> Option<usize>
+pub fn group_place(name: u64, groups: &[Group]) -> Option<usize>
     ensures place { result ≡ position (members_spec.has_member name) groups.now }
     ensures bound { IfSome result (λ place. place < length groups.now) }
 {

@@ -17,11 +17,11 @@ pub enum Request {
     BindAuto(Owner),
     /// Whether the socket may listen, and in which group.
     MayListen {
-        name: u32,
+        name: u64,
     },
     /// Lets the socket listen; with `reuseport` it joins its group as a member with that slot.
     Listen {
-        name: u32,
+        name: u64,
         slot: u32,
     },
     /// Whether `connect` may choose the port.
@@ -33,30 +33,30 @@ pub enum Request {
     ConnectAuto(Owner),
     /// Connects a socket that is bound.
     ConnectBound {
-        name: u32,
+        name: u64,
         local: u32,
         remote: u32,
         rport: u16,
     },
     /// Takes in the socket of that name, which the listener `parent` accepted.
     Inherit {
-        parent: u32,
-        name: u32,
+        parent: u64,
+        name: u64,
         local: u32,
         remote: u32,
         rport: u16,
     },
     /// Puts an owner into TIME_WAIT.
     ToTimeWait {
-        name: u32,
+        name: u64,
     },
     /// Takes an owner out, and the member of its name from its group.
     Remove {
-        name: u32,
+        name: u64,
     },
     /// Takes out an owner that is in TIME_WAIT.
     RemoveWaiting {
-        name: u32,
+        name: u64,
     },
 }
 
@@ -68,15 +68,15 @@ pub enum Answer {
     /// The socket may listen, in the group of that number or in none.
     Group(Option<u32>),
     /// The owner of that name refuses it.
-    InUse(u32),
+    InUse(u64),
     /// The group has no room for one more.
     GroupFull,
     /// The bucket has a group at each of its places.
     GroupsFull,
     /// No owner has that name; of `RemoveWaiting`, none in TIME_WAIT.
-    Strange(u32),
+    Strange(u64),
     /// The owner of that name has the port in the namespace, and `connect` didn't choose it.
-    NotFree(u32),
+    NotFree(u64),
 }
 
 /// A request and its answer.
@@ -104,25 +104,25 @@ pub enum Sharing {
 
 /// The owner of that name keeps another from the port.
 #[derive(Clone, Copy, Debug, PartialEq, Eq)]
-pub struct InUse(pub u32);
+pub struct InUse(pub u64);
 
 /// No owner has that name.
 #[derive(Clone, Copy, Debug, PartialEq, Eq)]
-pub struct Strange(pub u32);
+pub struct Strange(pub u64);
 
 /// The owner of that name keeps `connect` from its port.
 #[derive(Clone, Copy, Debug, PartialEq, Eq)]
-pub struct NotFree(pub u32);
+pub struct NotFree(pub u64);
 
 /// Why a socket can't listen.
 #[derive(Clone, Copy, Debug, PartialEq, Eq)]
 pub enum ListenEnd {
     /// The owner of that name keeps it from the port.
-    InUse(u32),
+    InUse(u64),
     /// Its group has no room for one more.
     GroupFull,
     /// It needs a group of its own, and the bucket has one at each of its places.
     GroupsFull,
     /// No owner has that name.
-    Strange(u32),
+    Strange(u64),
 }

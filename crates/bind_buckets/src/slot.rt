@@ -11,9 +11,9 @@ use sock_card::{Owner, State, bind_conflict, holds, is_mate, strict_conflict};
 #[derive(Clone, Copy)]
 pub enum Asked {
     /// Whether it has the name.
-    Named(u32),
+    Named(u64),
     /// Whether it has the name, and is in TIME_WAIT.
-    Waiting(u32),
+    Waiting(u64),
     /// Whether it keeps this one from its port.
     Refuses(Owner),
     /// Whether it wants what this one wants, options or not.
@@ -27,7 +27,7 @@ pub enum Asked {
 /// Where the owners are filed of which something holds.
 #[derive(Clone, Copy)]
 pub enum Under {
-    Name(u32),
+    Name(u64),
     Port(u16),
     /// A port, and this address or 0.0.0.0.
     End(u16, u32),
@@ -43,7 +43,7 @@ pub struct Slot {
     pub filed: u32,
 }
 
-fn waits_as(name: u32, owner: &Owner) -> bool
+fn waits_as(name: u64, owner: &Owner) -> bool
     ensures { result ≡ spec.waits_as name owner.now }
 {
     owner.name == name && matches!(owner.state, State::TimeWait)

@@ -81,6 +81,19 @@ pub fn split(turns: &Turns<Box<Bucket>>, pass: &mut TurnPass<Box<Bucket>>) -> Tu
     pass.split(turns)
 }
 
+/// What a key leaves when divided by so many. By 256, the most buckets that a table has, it takes no division.
+fn place_of(key: u32, places: usize) -> usize
+    requires { 1 ≤ places }
+    ensures place { result ≡ key % places }
+    ensures within { result < places }
+{
+    if places == 256 {
+        (key % 256) as usize
+    } else {
+        key as usize % places
+    }
+}
+
 /// Takes the turn of a key's bucket, and tries until nobody has it, as long as the caller's patience lasts.
 ///
 /// None: another pass had the turn for so long, and this one is as it was; with a [`Patience`] that is endless, this
@@ -102,7 +115,7 @@ pub fn take<P: Patience>(
     ensures same { IfNone result (known pass.new ≡ known pass.old) }
     ensures had { P.endless ≡ true → IfNone result ⊥ }
 {
-    let place = key as usize % turns.places();
+    let place = place_of(key, turns.places());
     turns.take_turn(patience, pass, place)
 }
 
@@ -254,7 +267,7 @@ pub fn remove_waiting(
     turns: &Turns<Box<Bucket>>,
     pass: &mut TurnPass<Box<Bucket>>,
     turn: &mut Turn<Box<Bucket>>,
-    name: u32,
+    name: u64,
 ) -> Result<(), Strange>
     requires out { IsOut turns.now pass.old turn.old }
     requires few { words.draws pass.old < 2 ^ 48 }
@@ -270,7 +283,7 @@ pub fn may_listen(
     turns: &Turns<Box<Bucket>>,
     pass: &mut TurnPass<Box<Bucket>>,
     turn: &mut Turn<Box<Bucket>>,
-    name: u32,
+    name: u64,
 ) -> Result<Option<u32>, ListenEnd>
     requires out { IsOut turns.now pass.old turn.old }
     requires few { words.draws pass.old < 2 ^ 48 }
@@ -290,7 +303,7 @@ pub fn listen(
     turns: &Turns<Box<Bucket>>,
     pass: &mut TurnPass<Box<Bucket>>,
     turn: &mut Turn<Box<Bucket>>,
-    name: u32,
+    name: u64,
     slot: u32,
 )
     requires out { IsOut turns.now pass.old turn.old }
@@ -310,7 +323,7 @@ pub fn connect_bound(
     turns: &Turns<Box<Bucket>>,
     pass: &mut TurnPass<Box<Bucket>>,
     turn: &mut Turn<Box<Bucket>>,
-    name: u32,
+    name: u64,
     local: u32,
     remote: u32,
     rport: u16,
@@ -340,8 +353,8 @@ pub fn inherit(
     turns: &Turns<Box<Bucket>>,
     pass: &mut TurnPass<Box<Bucket>>,
     turn: &mut Turn<Box<Bucket>>,
-    parent: u32,
-    name: u32,
+    parent: u64,
+    name: u64,
     local: u32,
     remote: u32,
     rport: u16,
@@ -374,7 +387,7 @@ pub fn to_time_wait(
     turns: &Turns<Box<Bucket>>,
     pass: &mut TurnPass<Box<Bucket>>,
     turn: &mut Turn<Box<Bucket>>,
-    name: u32,
+    name: u64,
 ) -> Result<(), Strange>
     requires out { IsOut turns.now pass.old turn.old }
     requires few { words.draws pass.old < 2 ^ 48 }
@@ -394,7 +407,7 @@ pub fn remove(
     turns: &Turns<Box<Bucket>>,
     pass: &mut TurnPass<Box<Bucket>>,
     turn: &mut Turn<Box<Bucket>>,
-    name: u32,
+    name: u64,
 ) -> Result<(), Strange>
     requires out { IsOut turns.now pass.old turn.old }
     requires few { words.draws pass.old < 2 ^ 48 }
@@ -409,7 +422,7 @@ pub fn remove(
 }
 
 /// [`Bucket::members`], of a bucket that is out.
-pub fn members(turn: &Turn<Box<Bucket>>, group: u32) -> &[u64]
+pub fn members(turn: &Turn<Box<Bucket>>, group: u32) -> &[u128]
     ensures { result.now ≡ spec.members_of turn.now.value.value group }
 {
     turn.value.members(group)

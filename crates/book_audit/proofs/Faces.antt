@@ -51,7 +51,7 @@ module _ (stays : List Stay) (look : PrintedLook) (least : ℕ) (low : 0 < least
       let t : c.lport ≡ P.dport = eqb-true c.lport P.dport (and_right (c.net == P.net) (c.lport == P.dport) e) in
       λ i. record { local = p i; lport = t i; remote = 0; rport = 0; dev = q i; net = n i; kind = k i; name = 0; extra = 0 }
 
-  module _ (plain : GoneFrom 5 (connected_face P 0)) (here : GoneFrom 5 (connected_face P P.dev)) (exact_here : GoneFrom 4 (listening_face P P.dst P.dev)) (exact : GoneFrom 3 (listening_face P P.dst 0)) (any_here : GoneFrom 2 (listening_face P 0 P.dev)) (any : GoneFrom 1 (listening_face P 0 0)) where
+  module _ (plain : GoneFrom 5 (connected_face P 0)) (here : GoneFrom 5 (connected_face P P.dev)) (exact_here : (P.dev == 0) ≡ false → GoneFrom 4 (listening_face P P.dst P.dev)) (exact : GoneFrom 3 (listening_face P P.dst 0)) (any_here : (P.dev == 0) ≡ false → GoneFrom 2 (listening_face P 0 P.dev)) (any : GoneFrom 1 (listening_face P 0 0)) where
     by_tuple : (c : Card) (b : Bool) → (has_tuple c P && takes_device c P) ≡ b → least ≤ (if b then 5 else 0) → GoneAt stays look (face_as kinds.Full c)
     by_tuple c false e l = absurd (omega (arith, low, l))
     by_tuple c true e l =
@@ -70,6 +70,10 @@ module _ (stays : List Stay) (look : PrintedLook) (least : ℕ) (low : 0 < least
     own_device : (c : Card) → takes_device c P ≡ true → (c.dev == 0) ≡ false → c.dev ≡ P.dev
     own_device c e n = elim (device c e) as (λ _. c.dev ≡ P.dev) [ inl p ↦ absurd (true≢false (sym (eq-eqb c.dev 0 p) ∙ n)) | inr p ↦ p ]
 
+    -- so the packet has come in at one
+    own_named : (c : Card) → takes_device c P ≡ true → (c.dev == 0) ≡ false → (P.dev == 0) ≡ false
+    own_named c e n = subst (λ d. (d == 0) ≡ false) (own_device c e n) n
+
     by_listener : (c : Card) → c.kind ≡ kinds.Listen → (x y z w : Bool) → (not (takes_port c P) || not (takes_device c P)) ≡ x → (c.local == P.dst) ≡ y → (c.local == 0) ≡ z → (c.dev == 0) ≡ w
         → least ≤ (if x then 0 else if y then (if w then 3 else 4) else if z then (if w then 1 else 2) else 0) → GoneAt stays look (face_as kinds.Listen c)
     by_listener c k true y z w ex ey ez ew l = absurd (omega (arith, low, l))
@@ -78,13 +82,13 @@ module _ (stays : List Stay) (look : PrintedLook) (least : ℕ) (low : 0 < least
         subst (λ x. GoneAt stays look x) (sym (listening_is c P.dst 0 k f.0 (eqb-true c.local P.dst ey) (eqb-true c.dev 0 ew))) (exact l)
     by_listener c k false true z false ex ey ez ew l =
         let f = not_either (takes_port c P) (takes_device c P) ex in
-        subst (λ x. GoneAt stays look x) (sym (listening_is c P.dst P.dev k f.0 (eqb-true c.local P.dst ey) (own_device c f.1 ew))) (exact_here l)
+        subst (λ x. GoneAt stays look x) (sym (listening_is c P.dst P.dev k f.0 (eqb-true c.local P.dst ey) (own_device c f.1 ew))) (exact_here (own_named c f.1 ew) l)
     by_listener c k false false true true ex ey ez ew l =
         let f = not_either (takes_port c P) (takes_device c P) ex in
         subst (λ x. GoneAt stays look x) (sym (listening_is c 0 0 k f.0 (eqb-true c.local 0 ez) (eqb-true c.dev 0 ew))) (any l)
     by_listener c k false false true false ex ey ez ew l =
         let f = not_either (takes_port c P) (takes_device c P) ex in
-        subst (λ x. GoneAt stays look x) (sym (listening_is c 0 P.dev k f.0 (eqb-true c.local 0 ez) (own_device c f.1 ew))) (any_here l)
+        subst (λ x. GoneAt stays look x) (sym (listening_is c 0 P.dev k f.0 (eqb-true c.local 0 ez) (own_device c f.1 ew))) (any_here (own_named c f.1 ew) l)
     by_listener c k false false false w ex ey ez ew l = absurd (omega (arith, low, l))
 
     by_kind : (c : Card) (k : Kind) → c.kind ≡ k → least ≤ rank_as k c P → GoneAt stays look (face_as k c)

@@ -1,6 +1,6 @@
 //! An index of lives by what lookups compare of their cards, and by their names.
 
-ghost use Rattle.std.specs.Prelude.{◌≡◌, ◌<◌, ◌≤◌, ◌&&◌, IsTrue, IfOk, List, false, length, take, drop, map};
+ghost use Rattle.std.specs.Prelude.{◌≡◌, ◌<◌, ◌≤◌, ◌==◌, ◌&&◌, IsTrue, IfOk, List, false, length, take, drop, map};
 ghost use Rattle.book_audit.specs.Tried.{is_beaten};
 ghost use Rattle.book_audit.specs.Index as spec;
 ghost use Rattle.sock_card.specs.Words.{packed};
@@ -26,7 +26,7 @@ use std::alloc::{AllocError, Global};
 /// A life's name, and its place among the lives.
 #[derive(Clone, Copy, Debug, PartialEq, Eq)]
 pub struct Named {
-    pub name: u32,
+    pub name: u64,
     pub at: usize,
 }
 
@@ -208,6 +208,20 @@ fn is_gone_from(stays: &[Stay], look: &PrintedLook, least: u8, rank: u8, card: &
     rank < least || is_gone(stays, card, look)
 }
 
+/// The same of a listener that names the packet's device. None does that where the packet came in at none.
+fn is_gone_here(stays: &[Stay], look: &PrintedLook, least: u8, rank: u8, local: u32) -> bool
+    ensures { let packet = look.now.packet in
+        IsTrue result → AreOrdered stays.now → (packet.dev == 0) ≡ false → least ≤ rank
+        → GoneAt stays.now look.now (spec.listening_face packet local packet.dev) }
+{
+    let packet = &look.packet;
+    if packet.dev == 0 {
+        return true;
+    }
+    let card = listening(packet, local, packet.dev);
+    is_gone_from(stays, look, least, rank, &card)
+}
+
 /// Whether the stays show that no life whose card matches so well, or better, was there throughout the call.
 fn rules_out(stays: &[Stay], look: &PrintedLook, least: u8) -> bool
     requires { 0 < least }
@@ -216,15 +230,9 @@ fn rules_out(stays: &[Stay], look: &PrintedLook, least: u8) -> bool
     let packet = &look.packet;
     let plain = is_gone_from(stays, look, least, 5, &connected(packet, 0));
     let here = is_gone_from(stays, look, least, 5, &connected(packet, packet.dev));
-    let exact_here = is_gone_from(
-        stays,
-        look,
-        least,
-        4,
-        &listening(packet, packet.dst, packet.dev),
-    );
+    let exact_here = is_gone_here(stays, look, least, 4, packet.dst);
     let exact = is_gone_from(stays, look, least, 3, &listening(packet, packet.dst, 0));
-    let any_here = is_gone_from(stays, look, least, 2, &listening(packet, 0, packet.dev));
+    let any_here = is_gone_here(stays, look, least, 2, 0);
     let any = is_gone_from(stays, look, least, 1, &listening(packet, 0, 0));
     all_six(plain, here, exact_here, exact, any_here, any)
 }

@@ -19,7 +19,7 @@ use sock_card::{Kind, Packet, rank};
 #[derive(Clone, Copy, Debug, PartialEq, Eq)]
 pub struct Told {
     pub kind: Kind,
-    pub name: u32,
+    pub name: u64,
 }
 
 fn same_kind(one: Kind, other: Kind) -> bool

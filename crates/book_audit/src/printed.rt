@@ -39,7 +39,7 @@ pub enum PrintedEnd {
 /// What a lookup answered: a found card is given by its kind and name.
 #[derive(Clone, Copy, Debug, PartialEq, Eq)]
 pub enum PrintedAnswer {
-    Found(Kind, u32),
+    Found(Kind, u64),
     /// No socket.
     None,
     /// Given up in that bucket.

@@ -1,6 +1,6 @@
 -- A power of two has one bit.
-use Rattle.std.proofs.Common.{◌≡◌, ℕ, zero, suc, ◌+◌, ◌*◌, ◌/◌, ◌%◌, ◌^◌, ◌<◌, ◌≤◌, count_ones, IsTrue, arith, refl, ap, ◌∙◌, ◌⊎◌, inl, inr}
-use Rattle.std.proofs.lemmas.Nat.{ones_cat, ones_le_self, zero_from_ones, pow_pos}
+use Rattle.std.proofs.Common.{◌≡◌, ℕ, zero, suc, ◌+◌, ◌-◌, ◌*◌, ◌/◌, ◌%◌, ◌^◌, ◌<◌, ◌≤◌, count_ones, IsTrue, bit_and, arith, refl, ap, sym, subst, ◌∙◌, ◌⊎◌, inl, inr}
+use Rattle.std.proofs.lemmas.Nat.{and_mask, ones_cat, ones_le_self, zero_from_ones, pow_pos}
 use Rattle.std.proofs.lemmas.Bool.{eqb-true, eq-eqb}
 use Rattle.std.proofs.Math.Nat.{pow-suc}
 use Rattle.std.specs.Int.{IsPowerOfTwo, is_power_of_two}
@@ -59,3 +59,9 @@ test-from_power n h = eq-eqb _ _ (ap count_ones h.1 ∙ ones-power h.0)
 -- it isn't 0
 pub power_positive : (n : ℕ) → IsPowerOfTwo n → 1 ≤ n
 power_positive n h = omega (arith, h.1, pow_pos h.0)
+
+-- the rest of a division by it is the lowest bits
+pub rest-from_test : (h n : ℕ) → IsTrue (is_power_of_two n) → bit_and h (n - 1) ≡ h % n
+rest-from_test h n t =
+    let p = power-from_test n t in
+    subst (λ (m : ℕ). bit_and h (m - 1) ≡ h % m) (sym p.1) (and_mask h p.0)

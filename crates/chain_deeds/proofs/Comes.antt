@@ -1,5 +1,5 @@
 -- Cards that come, as deeds.
-use Rattle.std.proofs.Common.{arith, ◌≡◌, ℕ, ◌+◌, ◌<◌, List, [], ◌∷◌, Option, None, Some, Result, Ok, Err, refl, sym, ap, ◌∙◌, subst, append-nil}
+use Rattle.std.proofs.Common.{arith, ◌≡◌, ◌==◌, ℕ, ◌+◌, ◌<◌, Bool, true, false, cond, ◌⊎◌, inl, inr, List, [], ◌∷◌, Option, None, Some, Result, Ok, Err, refl, sym, ap, ◌∙◌, subst, append-nil}
 use Rattle.std.specs.Option.{option_map}
 use Rattle.list_words.specs.Lists.{Each}
 use Rattle.sock_card.specs.declared.card.Card.{Card}
@@ -10,8 +10,9 @@ use Rattle.chain_book.specs.declared.book.Change.{Change}
 use Rattle.chain_book.specs.declared.outcome.Hashed.{Hashed}
 use Rattle.chain_book.specs.Chains.{Outcome, put, insert_outcome, waits}
 use Rattle.chain_book.specs.Tuples.{waits_at, may_replace}
-use Rattle.table_rule.specs.Plays.{sight_of, unlocking}
+use Rattle.table_rule.specs.Plays.{sight_of, unlocking, without}
 use Rattle.table_rule.specs.Sole.{IsNow}
+use Rattle.table_rule.specs.declared.view.ChainView.{ChainView}
 use Rattle.table_rule.specs.declared.view.View.{View}
 use Rattle.table_rule.specs.declared.view.Layout.{Layout}
 use Rattle.table_rule.specs.declared.view.Seen.{Seen}
@@ -28,10 +29,11 @@ use Rattle.shared_sockets.specs.declared.survey.Newcomer.{Newcomer}
 use Rattle.shared_sockets.specs.declared.coming.Inserted.{Inserted}
 use Rattle.shared_sockets.specs.declared.coming.InsertEnd.{InsertEnd}
 use Rattle.shared_sockets.specs.declared.coming.InsertEnd.TheVariants as ends
+use Rattle.race_book.specs.Among.{Among}
 use Rattle.race_record.specs.Deeds.{Wish, Tried, hashed, kept_out, no_slot, inserted, added, Vain}
 use Rattle.race_record.specs.Goes.{Grants, IsHashOf, outcome_of}
 use Rattle.chain_deeds.specs.Sides.{Side}
-use Rattle.chain_deeds.specs.Made.{Made, AnswersAlone, SawKeeper}
+use Rattle.chain_deeds.specs.Made.{Made, AnswersAlone, SawFree, SawKeeper}
 use Rattle.chain_deeds.specs.Answers.{Inserts, Adds, IsAdded}
 use Rattle.chain_deeds.proofs.Found.{IsTold, found_told, gives_way}
 use Rattle.chain_deeds.proofs.Stays.{all_stay}
@@ -65,6 +67,22 @@ hash_in bucket slot card v u c = change_at 1 bucket slot card c.change.0 c.chang
 abbrev pub gone_in : (bucket slot : ℕ) (card : Card) (v u : View) → Departs v u bucket slot card → Change
 gone_in bucket slot card v u d = change_at 0 bucket slot card d.change.0 d.change.1
 
+-- it is of that slot, or one of those
+abbrev OneOf : ℕ → List Seen → Seen → Type 0
+OneOf slot others s = (s.slot ≡ slot) ⊎ Among others s
+
+each_one_of : (slot : ℕ) (others xs : List Seen) → ((s : Seen) → Among xs s → Among others s) → Each (OneOf slot others) xs
+each_one_of slot others [] f = tt
+each_one_of slot others (s ∷ xs) f = (inr (f s (inl refl)), each_one_of slot others xs (λ t a. f t (inr a)))
+
+each_cond : (P : Seen → Type 0) (b : Bool) (xs ys : List Seen) → Each P xs → Each P ys → Each P (cond b xs ys)
+each_cond P true xs ys h k = h
+each_cond P false xs ys h k = k
+
+each_without : (P : Seen → Type 0) (i : ℕ) (xs : List Seen) → Each P xs → Each P (without i xs)
+each_without P i [] h = tt
+each_without P i (s ∷ xs) h = each_cond P (s.slot == i) xs (s ∷ without i xs) h.1 (h.0, each_without P i xs h.1)
+
 -- Inserts
 
 module _ (layout : Layout) (from bucket : ℕ) (wish : Wish) (v w : View) (near : bucket < chain_count layout.shape) (home_is : home layout.shape layout.seed wish.card ≡ bucket) (stay : PlacesStay v w) where
@@ -79,9 +97,9 @@ module _ (layout : Layout) (from bucket : ℕ) (wish : Wish) (v w : View) (near 
 
   module _ (xs : List Seen) (seen : IsChain v bucket xs) (left : View) (unlocked : w ≡ unlocking left) where
     -- no one gave way
-    came_alone : (i : Inserted) (a : Admits layout from bucket new xs i (walking v bucket xs) left) → InsertsAlone layout from bucket new (Ok i) v w
+    came_alone : (cards : Each HasCard xs) (i : Inserted) (a : Admits layout from bucket new xs i (walking v bucket xs) left) → InsertsAlone layout from bucket new (Ok i) v w
         → left ≡ a.between → waiting_in new (row_of xs) ≡ None → Inserts wish (Ok i) old (side layout w (i.place.slot + 1))
-    came_alone i a alone goes none =
+    came_alone cards i a alone goes none =
         let u : View = a.between in
         let next : ℕ = i.place.slot + 1 in
         let c : Change = hash_in bucket i.place.slot wish.card (walking v bucket xs) u a.comes in
@@ -89,8 +107,22 @@ module _ (layout : Layout) (from bucket : ℕ) (wish : Wish) (v w : View) (near 
         let l = left_unlocked (c ∷ []) [] (c.begin ∷ c.end ∷ []) layout from next v u
         (left_one layout from next v u 1 bucket i.place.slot wish.card a.comes.change (quiet_of (walking v bucket xs) u a.comes.rest) a.comes.saw
         (at_home layout bucket i.place.slot wish.card c.begin c.end a.comes.told home_is a.slot.inside)) in
+        let saw : SawFree wish c None old (side layout (unlocking u) next) = record {
+          act = refl;
+          earlier = u.sights;
+          sight = sight_of u;
+          sights = refl;
+          bucket = ap (λ (x : ChainView). x.locked) a.comes.chain;
+          since = a.comes.rest.5;
+          whole = ap (λ (x : ChainView). x.met) a.comes.chain;
+          others = xs;
+          listed = subst (Each (OneOf i.place.slot xs)) (sym (ap (λ (x : ChainView). x.walked) a.comes.chain)) (inl refl, each_one_of i.place.slot xs xs (λ s b. b));
+          cards = cards;
+          unkept = a.unkept;
+          unwaited = λ e. none;
+        } in
         let m : Made (inserted wish (hashed c None)) old (side layout (unlocking u) next) =
-        made (inserted wish (hashed c None)) old (side layout (unlocking u) next) (record { act = refl; card_is = a.comes.told }) l tt in
+        made (inserted wish (hashed c None)) old (side layout (unlocking u) next) (record { act = refl; card_is = a.comes.told }) l saw in
         let told : IsNow v → outcome ≡ outcome_of (hashed c None) =
         λ now. came_told layout from bucket new i v xs near now seen home_is a.unkept (alone now).0 ∙ ap (put i.place.slot) none in
         record {
@@ -107,9 +139,9 @@ module _ (layout : Layout) (from bucket : ℕ) (wish : Wish) (v w : View) (near 
         }
 
     -- who was found gave way
-    came_for : (i : Inserted) (a : Admits layout from bucket new xs i (walking v bucket xs) left) → InsertsAlone layout from bucket new (Ok i) v w
+    came_for : (cards : Each HasCard xs) (i : Inserted) (a : Admits layout from bucket new xs i (walking v bucket xs) left) → InsertsAlone layout from bucket new (Ok i) v w
         → (x : Hashed) → Departs a.between left bucket x.slot x.card → waiting_in new (row_of xs) ≡ Some x → IsTold x.card → Inserts wish (Ok i) old (side layout w (i.place.slot + 1))
-    came_for i a alone x d some x_told =
+    came_for cards i a alone x d some x_told =
         let u : View = a.between in
         let next : ℕ = i.place.slot + 1 in
         let c : Change = hash_in bucket i.place.slot wish.card (walking v bucket xs) u a.comes in
@@ -127,7 +159,23 @@ module _ (layout : Layout) (from bucket : ℕ) (wish : Wish) (v w : View) (near 
             may = ap (may_replace wish.rule wish.moment) x_told ∙ way.1;
           },
         ) in
-        let m : Made (inserted wish t) old (side layout (unlocking left) next) = made (inserted wish t) old (side layout (unlocking left) next) grants l tt in
+        let grown : Each (OneOf i.place.slot xs) u.chain.walked =
+        subst (Each (OneOf i.place.slot xs)) (sym (ap (λ (y : ChainView). y.walked) a.comes.chain)) (inl refl, each_one_of i.place.slot xs xs (λ s b. b)) in
+        let saw : SawFree wish c (Some g) old (side layout (unlocking left) next) = record {
+          act = refl;
+          earlier = left.sights;
+          sight = sight_of left;
+          sights = refl;
+          bucket = ap (λ (y : ChainView). y.locked) d.chain ∙ ap (λ (y : ChainView). y.locked) a.comes.chain;
+          since = d.rest.5 ∙ a.comes.rest.5;
+          whole = ap (λ (y : ChainView). y.met) d.chain ∙ ap (λ (y : ChainView). y.met) a.comes.chain;
+          others = xs;
+          listed = subst (Each (OneOf i.place.slot xs)) (sym (ap (λ (y : ChainView). y.walked) d.chain)) (each_without (OneOf i.place.slot xs) x.slot u.chain.walked grown);
+          cards = cards;
+          unkept = a.unkept;
+          unwaited = λ e. absurd cc;
+        } in
+        let m : Made (inserted wish t) old (side layout (unlocking left) next) = made (inserted wish t) old (side layout (unlocking left) next) grants l saw in
         let told : IsNow v → outcome ≡ outcome_of t =
         λ now. came_told layout from bucket new i v xs near now seen home_is a.unkept (alone now).0 ∙ (ap (put i.place.slot) some ∙ ap (λ (y : Card). put i.place.slot (Some (record { slot = x.slot; card = y }))) (sym x_told)) in
         record {
@@ -148,8 +196,8 @@ module _ (layout : Layout) (from bucket : ℕ) (wish : Wish) (v w : View) (near 
     came cards i a alone = go (waiting_in new (row_of xs)) refl a.goes_out
       where
         go : (o : Option Hashed) → waiting_in new (row_of xs) ≡ o → Goes a.between left bucket o → Inserts wish (Ok i) old (side layout w (i.place.slot + 1))
-        go None e g = came_alone i a alone g e
-        go (Some x) e g = came_for i a alone x g e (found_told (waits wish.card) xs x cards e)
+        go None e g = came_alone cards i a alone g e
+        go (Some x) e g = came_for cards i a alone x g e (found_told (waits wish.card) xs x cards e)
 
     -- its four-tuple was kept from it
     refused : (cards : Each HasCard xs) (name : ℕ) (r : Refuses new xs name (walking v bucket xs) left) → InsertsAlone layout from bucket new (Err (ends.Taken name)) v w

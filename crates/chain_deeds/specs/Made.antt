@@ -1,13 +1,13 @@
 -- What a deed leaves at the chains: our own.
 --
 -- To be read from the end: `Does` says that some deeds were done and no others, and `Made` what one of them leaves.
-use Rattle.std.specs.Prelude.{◌≡◌, ◌≢◌, ℕ, ◌+◌, ◌<◌, ◌≤◌, List, [], ◌∷◌, ◌++◌, map, None, Some, find}
+use Rattle.std.specs.Prelude.{◌≡◌, ◌≢◌, ℕ, ◌+◌, ◌<◌, ◌≤◌, List, [], ◌∷◌, ◌++◌, map, Option, None, Some, find, ◌⊎◌}
 use Rattle.std.specs.Option.{option_map}
 use Rattle.list_words.specs.Lists.{Each, Pairs}
 use Rattle.sock_card.specs.declared.card.Card.{Card}
 use Rattle.chain_book.specs.declared.book.Act.TheVariants as acts
 use Rattle.chain_book.specs.declared.book.Change.{Change}
-use Rattle.chain_book.specs.Chains.{keeps, waits_as}
+use Rattle.chain_book.specs.Chains.{keeps, waits, waits_as}
 use Rattle.chain_book.specs.Homes.{home}
 use Rattle.table_rule.specs.Beyond.{IsCardWords}
 use Rattle.table_rule.specs.Book.{open-end}
@@ -15,6 +15,7 @@ use Rattle.table_rule.specs.Lists.{times}
 use Rattle.table_rule.specs.Sole.{IsNow}
 use Rattle.table_rule.specs.declared.view.Change.{Change as Closed}
 use Rattle.table_rule.specs.declared.view.Layout.{Layout}
+use Rattle.table_rule.specs.declared.view.Seen.{Seen}
 use Rattle.table_rule.specs.declared.view.Sight.{Sight}
 use Rattle.table_rule.specs.declared.view.View.{View}
 use Rattle.shared_slots.specs.Claims.{Read, slot_in, sight_by, owned_in, held_in, Between}
@@ -23,7 +24,8 @@ use Rattle.nulls_chain.specs.declared.keeping.Place.{Place}
 use Rattle.shared_sockets.specs.Comings.{name_of}
 use Rattle.shared_sockets.specs.Rows.{row_of, HasCard}
 use Rattle.table_model.specs.Goes.{AreChains}
-use Rattle.race_record.specs.Deeds.{Wish, Tried, kept_out, no_slot, Vain, Deed, entered, inserted, added, left, reaped, changes_of, vain_of, drawn_of}
+use Rattle.race_book.specs.Among.{Among}
+use Rattle.race_record.specs.Deeds.{Wish, Tried, hashed, kept_out, no_slot, Vain, Deed, entered, inserted, added, left, reaped, changes_of, vain_of, drawn_of}
 use Rattle.race_record.specs.Goes.{Grants, Admits, IsReapOf}
 use Rattle.race_record.specs.Laws.{told_of}
 use Rattle.chain_deeds.specs.Sides.{Side, changes_by, chains_by}
@@ -90,6 +92,22 @@ pub record SawNoWait (card : Card) (c d : Side) : Type 0 where
   pub cards : Each HasCard sight.listed
   pub none : find (waits_as card.name) (row_of sight.listed) ≡ None
 
+-- As the lock of its chain was given back, the newcomer stood there with some of those that had been there, of whom
+-- none keeps the four-tuple; and where none gave way, none waits at it.
+pub record SawFree (wish : Wish) (hash : Change) (replaced : Option Change) (c d : Side) : Type 0 where
+  pub act : hash.act ≡ acts.Hash
+  pub earlier : List Sight
+  pub sight : Sight
+  pub sights : d.view.sights ≡ earlier ++ sight ∷ []
+  pub bucket : sight.bucket ≡ hash.bucket ∷ []
+  pub since : sight.since ≡ c.view.seen
+  pub whole : sight.whole ≡ 1
+  pub others : List Seen
+  pub listed : Each (λ (s : Seen). (s.slot ≡ hash.slot) ⊎ Among others s) sight.listed
+  pub cards : Each HasCard others
+  pub unkept : find (keeps wish.card wish.moment wish.rule) (row_of others) ≡ None
+  pub unwaited : replaced ≡ None → find (waits wish.card) (row_of others) ≡ None
+
 abbrev pub ShowsNone : Tried → Side → Side → Type 0
 ShowsNone (no_slot number owned held) c d = SawNone (record { number = number; owned = owned; held = held }) c d
 ShowsNone _ c d = Unit {0}
@@ -97,6 +115,7 @@ ShowsNone _ c d = Unit {0}
 -- what a refusal was seen by, or that somebody was before it
 abbrev pub Shows : Deed → Side → Side → Type 0
 Shows (inserted wish (kept_out name)) c d = SawKeeper wish name c d
+Shows (inserted wish (hashed hash replaced)) c d = SawFree wish hash replaced c d
 Shows (inserted wish tried) c d = ShowsNone tried c d
 Shows (added card tried) c d = ShowsNone tried c d
 Shows (reaped card None) c d = SawNoWait card c d

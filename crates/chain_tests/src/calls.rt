@@ -79,7 +79,7 @@ pub fn unhash_wait_in<R: Wait>(
     rt: &R,
     pass: &mut Pass,
     bucket: u32,
-    name: u32,
+    name: u64,
     rest: u32,
 ) -> Option<u32>
     requires bucket { bucket < bucket_count (layout_of chains.now) }
@@ -148,7 +148,7 @@ pub fn names_in<R: Wait>(chains: &Chains, rt: &R, pass: &mut Pass, bucket: u32, 
 /// What a lookup answers, a card by its name.
 #[derive(Clone, Copy, Debug, PartialEq, Eq)]
 pub enum Answer {
-    Found(u32),
+    Found(u64),
     None,
     Foreign(u64),
     Dead(u32),

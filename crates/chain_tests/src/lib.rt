@@ -31,6 +31,8 @@ mod packets;
 #[cfg(test)]
 mod pause;
 #[cfg(test)]
+mod points;
+#[cfg(test)]
 mod readers;
 #[cfg(test)]
 mod rows;

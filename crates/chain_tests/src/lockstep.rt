@@ -72,7 +72,7 @@ impl<'a> Pace for Waiter<'a> {
     }
 }
 
-fn listener(lport: u16, dev: u16, name: u32) -> Card
+fn listener(lport: u16, dev: u16, name: u64) -> Card
     ensures kind { has_tuple (packed result).ports ≡ false }
     ensures place { time_waits (words_of (packed result)) ≡ 0 }
 {

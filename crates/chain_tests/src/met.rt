@@ -51,13 +51,13 @@ enum Socket {
 }
 
 /// A TIME_WAIT's name.
-const SOUGHT: u32 = 1;
+const SOUGHT: u64 = 1;
 
-const OTHER: u32 = 2;
+const OTHER: u64 = 2;
 
-const FURTHER: u32 = 3;
+const FURTHER: u64 = 3;
 
-fn waiting(rport: u16, name: u32) -> Card
+fn waiting(rport: u16, name: u64) -> Card
     ensures { has_tuple (packed result).ports ≡ false }
 {
     Card {
@@ -129,7 +129,7 @@ struct Meddler<'a, R: Wait> {
 }
 
 impl<'a, R: Wait> Meddler<'a, R> {
-    fn drop_wait(&mut self, name: u32) {
+    fn drop_wait(&mut self, name: u64) {
         self.stage = self.stage.saturating_add(1);
         if self.left > 0 {
             let rest = self.left - 1;

@@ -41,7 +41,7 @@ const ELSEWHERE: u32 = 0x0a00_0009;
 const THERE: u32 = 0x0a00_0002;
 
 /// A connection of the client's port to port 80 here.
-fn connected(rport: u16, name: u32) -> Card
+fn connected(rport: u16, name: u64) -> Card
     ensures { result.kind ≡ kinds.Full }
 {
     Card {
@@ -58,7 +58,7 @@ fn connected(rport: u16, name: u32) -> Card
 }
 
 /// Its TIME_WAIT, since that moment.
-fn waiting(rport: u16, name: u32, since: u32) -> Card
+fn waiting(rport: u16, name: u64, since: u32) -> Card
     ensures { result.kind ≡ kinds.TimeWait }
 {
     Card {
@@ -69,7 +69,7 @@ fn waiting(rport: u16, name: u32, since: u32) -> Card
 }
 
 /// A listener at port 80 of an address, on a device or on none, in a group or in none.
-fn listening(local: u32, dev: u16, name: u32, extra: u32) -> Card
+fn listening(local: u32, dev: u16, name: u64, extra: u32) -> Card
     ensures { result.kind ≡ kinds.Listen }
 {
     Card {
@@ -101,9 +101,9 @@ fn packet(sport: u16, dst: u32, dport: u16, dev: u16) -> Packet {
 #[derive(Clone, Copy, Debug, PartialEq, Eq)]
 enum Came {
     /// It came, and the TIME_WAIT of that name gave way, if one did.
-    In(Option<u32>),
+    In(Option<u64>),
     /// The socket of that name has its four-tuple.
-    Taken(u32),
+    Taken(u64),
     /// So many slots are owned, and so many held.
     Full(u32, u32),
 }
@@ -171,7 +171,7 @@ struct Looker<'a> {
 
 impl<'a> Looker<'a> {
     /// The name of the socket that takes the packet.
-    fn look(&mut self, packet: &Packet) -> Option<u32> {
+    fn look(&mut self, packet: &Packet) -> Option<u64> {
         let tables = Lookups {
             chains: self.chains,
             groups: self.groups,
@@ -231,7 +231,7 @@ fn reap<R: Wait>(
     chains: &Chains,
     pass: &mut Pass,
     bucket: u32,
-    name: u32,
+    name: u64,
     rest: u32,
 ) -> bool
     requires bucket { bucket < bucket_count (layout_of chains.now) }
@@ -244,7 +244,7 @@ fn reap<R: Wait>(
 }
 
 /// What came of two newcomers, whom a packet found then, and whether a TIME_WAIT was left.
-type Again = (Came, Came, Option<u32>, bool);
+type Again = (Came, Came, Option<u64>, bool);
 
 /// A socket closes at moment 0, and another one of its four-tuple would come at once, and one second later.
 fn come_again<R: Wait>(
@@ -314,7 +314,7 @@ fn rank_all<R: Wait>(
     chains: &Chains,
     pass: &mut Pass,
     looker: &mut Looker,
-) -> Option<[Option<u32>; 7]>
+) -> Option<[Option<u64>; 7]>
     requires layout { layout_of chains.now
         ≡ record { shape = record { slots = 8; bind = 1; hash = 2; listen = 2 }; seed = 559038725 } }
     requires ready { IsReady chains.now pass.old 6 }
@@ -363,13 +363,22 @@ fn the_better_listener_is_found(rt: HostRuntime) -> Result<(), Fail> {
     Ok(())
 }
 
+/// The member of that name, where the slot is one of the table's.
+fn member_at(slot: u32, name: u32) -> Option<u64> {
+    if slot < SHAPE.slots {
+        Some(member_of(slot, name))
+    } else {
+        None
+    }
+}
+
 /// Three listeners of one group, of which the first goes; and whom packets find before and after.
 fn choose_all<R: Wait>(
     rt: &R,
     chains: &Chains,
     pass: &mut Pass,
     looker: &mut Looker,
-) -> Option<[Option<u32>; 5]>
+) -> Option<[Option<u64>; 5]>
     requires layout { layout_of chains.now
         ≡ record { shape = record { slots = 8; bind = 1; hash = 2; listen = 2 }; seed = 559038725 } }
     requires ready { IsReady chains.now pass.old 4 }
@@ -381,9 +390,9 @@ fn choose_all<R: Wait>(
     let third = listening(HERE, 0, 3, 1);
     let third_place = open(rt, chains, pass, home(&SHAPE, SEED, &third), &third, 1)?;
     let members = [
-        member_of(place.slot, 1),
-        member_of(second_place.slot, 2),
-        member_of(third_place.slot, 3),
+        member_at(place.slot, 1)?,
+        member_at(second_place.slot, 2)?,
+        member_at(third_place.slot, 3)?,
     ];
     looker.publish(&members);
     let by_1002 = looker.look(&packet(1002, HERE, 80, 0));
@@ -422,7 +431,7 @@ fn fill<R: Wait>(
     chains: &Chains,
     pass: &mut Pass,
     looker: &mut Looker,
-) -> Option<(Came, Came, bool, Option<u32>)>
+) -> Option<(Came, Came, bool, Option<u64>)>
     requires layout { layout_of chains.now
         ≡ record { shape = record { slots = 1; bind = 1; hash = 1; listen = 1 }; seed = 559038725 } }
     requires ready { IsReady chains.now pass.old 8 }

@@ -54,7 +54,7 @@ const ROUNDS: u32 = 32;
 const LOOKS: u32 = 128;
 
 /// A socket of the packet's four-tuple.
-fn connected(name: u32) -> Card
+fn connected(name: u64) -> Card
     ensures { result.kind ≡ kinds.Full }
 {
     Card {
@@ -71,7 +71,7 @@ fn connected(name: u32) -> Card
 }
 
 /// Its TIME_WAIT.
-fn waiting(name: u32) -> Card
+fn waiting(name: u64) -> Card
     ensures { result.kind ≡ kinds.TimeWait }
 {
     Card {
@@ -88,7 +88,7 @@ fn waiting(name: u32) -> Card
 }
 
 /// A listener at the packet's end.
-fn listening(name: u32) -> Card
+fn listening(name: u64) -> Card
     ensures { result.kind ≡ kinds.Listen }
 {
     Card {
@@ -157,7 +157,7 @@ fn reap<R: Wait>(
     chains: &Chains,
     pass: &mut Pass,
     bucket: u32,
-    name: u32,
+    name: u64,
     rest: u32,
 ) -> Option<u32>
     requires bucket { bucket < bucket_count (layout_of chains.now) }
@@ -213,7 +213,7 @@ struct Server<'a, R: Wait + Clock> {
 
 impl<'a, R: Wait + Clock> Server<'a, R> {
     /// A socket comes and closes.
-    fn serve(&mut self, name: u32) {
+    fn serve(&mut self, name: u64) {
         if self.left > 3 {
             let rest = self.left - 4;
             let card = connected(name);
@@ -239,7 +239,7 @@ impl<'a, R: Wait + Clock> Server<'a, R> {
     }
 
     /// A TIME_WAIT is over.
-    fn reap(&mut self, name: u32) {
+    fn reap(&mut self, name: u64) {
         if self.left > 0 {
             let rest = self.left - 1;
             let bucket = home(&SHAPE, SEED, &waiting(name));
@@ -249,7 +249,7 @@ impl<'a, R: Wait + Clock> Server<'a, R> {
     }
 
     /// A listener comes and goes.
-    fn listen(&mut self, name: u32) {
+    fn listen(&mut self, name: u64) {
         if self.left > 1 {
             let rest = self.left - 2;
             let card = listening(name);
@@ -282,7 +282,7 @@ impl<'a, R: Wait + Clock> Server<'a, R> {
         }
     }
 
-    fn turn(&mut self, round: u32, name: u32) {
+    fn turn(&mut self, round: u32, name: u64) {
         self.serve(name);
         self.pause.pause();
         match round % 4 {
@@ -379,7 +379,7 @@ impl<'a> Job<'a> {
         server.begin(course.stays && number == 0);
         meet(gate);
         for round in 0..ROUNDS {
-            server.turn(round, 2 * round + number % 2);
+            server.turn(round, u64::from(2 * round + number % 2));
         }
         let Server { pass, .. } = server;
         let Pass { changes, .. } = pass;

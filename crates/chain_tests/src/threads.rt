@@ -52,7 +52,7 @@ const ROUNDS: u32 = 64;
 const LOOKS: u32 = 128;
 
 /// A TIME_WAIT, of the packet's four-tuple or of another.
-fn waiting(rport: u16, name: u32) -> Card
+fn waiting(rport: u16, name: u64) -> Card
     ensures { has_tuple (packed result).ports ≡ false }
 {
     Card {
@@ -69,7 +69,7 @@ fn waiting(rport: u16, name: u32) -> Card
 }
 
 /// A listener at the packet's end, on every device or on one.
-fn listening(dev: u16, name: u32) -> Card
+fn listening(dev: u16, name: u64) -> Card
     ensures kind { has_tuple (packed result).ports ≡ false }
     ensures place { time_waits (words_of (packed result)) ≡ 0 }
 {
@@ -199,7 +199,7 @@ impl<'a, R: Wait + Clock> Changer<'a, R> {
 
     /// A card comes and goes: of the packet's four-tuple, of another, or a listener's, at every device, at the
     /// packet's or at another.
-    fn turn(&mut self, round: u32, name: u32) {
+    fn turn(&mut self, round: u32, name: u64) {
         match round % 8 {
             0 | 4 => self.wait(&waiting(1001, name)),
             1 | 5 => self.listen(&listening(9, name)),
@@ -306,7 +306,7 @@ impl<'a> Job<'a> {
         changer.begin(course.stays && number == 0);
         meet(gate);
         for round in 0..ROUNDS {
-            changer.turn(round, 2 * round + number % 2);
+            changer.turn(round, u64::from(2 * round + number % 2));
         }
         let Changer { pass, .. } = changer;
         let Pass { changes, .. } = pass;

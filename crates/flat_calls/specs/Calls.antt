@@ -21,7 +21,7 @@ AreCounted flat calls = (m : ℕ) → length (labels_of m flat.sections) ≤ cal
 pub record MayCall (t : Numbered) (worker : ℕ) : Type 0 where
   pub least : 1 ≤ worker
   pub most : worker ≤ 64
-  pub left : t.calls < 2 ^ 24 - 2
+  pub left : t.calls < 2 ^ 56 - 2
 
 -- the list was asked, replied so, and is what the command leaves
 pub record Steps (old new : Numbered) (worker : ℕ) (command : Command) (reply : Reply) : Type 0 where
@@ -37,5 +37,5 @@ Called old new worker command outcomes.NoTables = ⊥
 Called old new worker command outcomes.Busy = ⊥
 Called old new worker command outcomes.NoWorker = (new ≡ old) × ((worker ≡ 0) ⊎ (64 < worker))
 Called old new worker command outcomes.NoNumber =
-    (new ≡ old) × (1 ≤ worker) × (worker ≤ 64) × (2 ^ 24 - 2 ≤ old.calls)
+    (new ≡ old) × (1 ≤ worker) × (worker ≤ 64) × (2 ^ 56 - 2 ≤ old.calls)
 Called old new worker command outcomes.NoMemory = (new ≡ old) × MayCall old worker × (may_grow command ≡ true)

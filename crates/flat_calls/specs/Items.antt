@@ -13,7 +13,7 @@ abbrev pub item_of : Numbered → Card → Item
 item_of t card =
     record {
       kind = kind_of card.kind;
-      worker = card.name / 2 ^ 24;
+      worker = card.name / 2 ^ 56;
       socket = number_of (sections.label_of t.flat.sections card.name);
       addr = card.local;
       peer_addr = card.remote;

@@ -20,9 +20,9 @@ kind_of kinds.Request = 4
 -- the sight is of the socket with that card: of its kind, its worker, and the number whose label is the socket's
 pub record Sees (t : Numbered) (card : Card) (sight : Sight) : Type 0 where
   pub kind : sight.kind ≡ kind_of card.kind
-  pub worker : sight.worker ≡ card.name / 2 ^ 24
+  pub worker : sight.worker ≡ card.name / 2 ^ 56
   pub number :
-      length (sections.label_of t.flat.sections card.name) ≡ 4
+      length (sections.label_of t.flat.sections card.name) ≡ 8
       → label_of sight.socket ≡ sections.label_of t.flat.sections card.name
 
 -- the flat list finds a card exactly where there is a sight, and the sight is of that

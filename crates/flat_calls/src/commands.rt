@@ -6,8 +6,8 @@ ghost use Rattle.flat_calls.specs.Numbers as numbers;
 
 use flat_list::{Command, End, Label, Options};
 
-/// The label of a socket's number: its four bytes, the highest first.
-pub fn label_of(number: u32) -> Label
+/// The label of a socket's number: its eight bytes, the highest first.
+pub fn label_of(number: u64) -> Label
     ensures { result ≡ numbers.label_of number }
 {
     match Label::from_bytes(&number.to_be_bytes()) {
@@ -17,7 +17,7 @@ pub fn label_of(number: u32) -> Label
 }
 
 /// Makes a socket, whose number is that.
-pub fn socket(number: u32, options: Options) -> Command
+pub fn socket(number: u64, options: Options) -> Command
     ensures { result ≡ spec.socket number options }
 {
     Command::Socket {
@@ -27,7 +27,7 @@ pub fn socket(number: u32, options: Options) -> Command
 }
 
 /// Binds a socket to an end; at port 0, to a port that is searched for.
-pub fn bind(socket: u32, end: End) -> Command
+pub fn bind(socket: u64, end: End) -> Command
     ensures { result ≡ spec.bind socket end }
 {
     Command::Bind {
@@ -37,7 +37,7 @@ pub fn bind(socket: u32, end: End) -> Command
 }
 
 /// Makes a socket a listener.
-pub fn listen(socket: u32) -> Command
+pub fn listen(socket: u64) -> Command
     ensures { result ≡ spec.listen socket }
 {
     Command::Listen {
@@ -46,7 +46,7 @@ pub fn listen(socket: u32) -> Command
 }
 
 /// Connects a socket to an end, from its own address, or from that one where it has none.
-pub fn connect(socket: u32, from: Option<u32>, to: End) -> Command
+pub fn connect(socket: u64, from: Option<u32>, to: End) -> Command
     ensures { result ≡ spec.connect socket from to }
 {
     Command::Connect {
@@ -57,7 +57,7 @@ pub fn connect(socket: u32, from: Option<u32>, to: End) -> Command
 }
 
 /// Makes a connected socket of a listener's, whose number is that, from one end at another.
-pub fn accept(listener: u32, number: u32, from: End, at: End) -> Command
+pub fn accept(listener: u64, number: u64, from: End, at: End) -> Command
     ensures { result ≡ spec.accept listener number from at }
 {
     Command::Accept {
@@ -69,7 +69,7 @@ pub fn accept(listener: u32, number: u32, from: End, at: End) -> Command
 }
 
 /// Begins a handshake with a listener, from one end at another: makes a request, whose number is that.
-pub fn syn(listener: u32, number: u32, from: End, at: End) -> Command
+pub fn syn(listener: u64, number: u64, from: End, at: End) -> Command
     ensures { result ≡ spec.syn listener number from at }
 {
     Command::Syn {
@@ -81,7 +81,7 @@ pub fn syn(listener: u32, number: u32, from: End, at: End) -> Command
 }
 
 /// Ends a request's handshake: makes a connected socket of its listener's in its place, whose number is that.
-pub fn ack(request: u32, number: u32) -> Command
+pub fn ack(request: u64, number: u64) -> Command
     ensures { result ≡ spec.ack request number }
 {
     Command::Ack {
@@ -91,7 +91,7 @@ pub fn ack(request: u32, number: u32) -> Command
 }
 
 /// Closes a socket.
-pub fn close(socket: u32) -> Command
+pub fn close(socket: u64) -> Command
     ensures { result ≡ spec.close socket }
 {
     Command::Close {
@@ -100,7 +100,7 @@ pub fn close(socket: u32) -> Command
 }
 
 /// Removes a socket without a trace.
-pub fn drop_socket(socket: u32) -> Command
+pub fn drop_socket(socket: u64) -> Command
     ensures { result ≡ spec.drop_socket socket }
 {
     Command::Drop {

@@ -7,7 +7,7 @@
 pub struct Item {
     pub kind: u32,
     pub worker: u32,
-    pub socket: u32,
+    pub socket: u64,
     pub addr: u32,
     pub peer_addr: u32,
     pub port: u16,

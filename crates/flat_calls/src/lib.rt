@@ -1,7 +1,7 @@
 //! The flat list by calls with numbers, for callers that don't write scripts.
 //!
 //! [`Tables`] are a [`flat_list::Flat`] whose sockets have numbers in place of labels: a socket's label is its number's
-//! four bytes. A worker is a section: 1 to 64, each with its sockets, its moment and its searches. A call carries out
+//! eight bytes. A worker is a section: 1 to 64, each with its sockets, its moment and its searches. A call carries out
 //! one command, and what comes of it is an [`Outcome`], with a number of errno(3) for callers in C.
 //!
 //! ```text

@@ -12,7 +12,7 @@ use sock_card::Kind;
 pub struct Sight {
     pub kind: u32,
     pub worker: u32,
-    pub socket: u32,
+    pub socket: u64,
 }
 
 /// What kind of socket it is, as a number.
@@ -28,12 +28,12 @@ pub fn kind_of(kind: Kind) -> u32
 }
 
 /// The number whose label that is; 0 where it is no number's.
-pub fn number_of(label: &[u8]) -> u32
+pub fn number_of(label: &[u8]) -> u64
     ensures number { result ≡ numbers.number_of label.now }
-    ensures label { length label.now ≡ 4 → numbers.label_of result ≡ label.now }
+    ensures label { length label.now ≡ 8 → numbers.label_of result ≡ label.now }
 {
     match label {
-        [a, b, c, d] => u32::from_be_bytes([*a, *b, *c, *d]),
+        [a, b, c, d, e, f, g, h] => { u64::from_be_bytes([*a, *b, *c, *d, *e, *f, *g, *h]) },
         _ => 0,
     }
 }

@@ -15,13 +15,13 @@ use std::alloc::{AllocError, Global};
 use std::marker::Model;
 
 /// How many calls tables reply to.
-pub const LAST_CALL: u32 = 0xFF_FFFE;
+pub const LAST_CALL: u64 = 0xFF_FFFF_FFFF_FFFE;
 
 /// One list of sockets with numbers, and how many calls were replied to.
 #[derive(Drop)]
 pub struct Tables {
     flat: Flat,
-    calls: u32,
+    calls: u64,
 }
 
 impl Model for Tables {
@@ -46,7 +46,7 @@ impl Tables {
     }
 
     /// The number of the next socket: no socket had it before.
-    pub fn next_number(&self) -> u32
+    pub fn next_number(&self) -> u64
         ensures { result ≡ self.now.calls }
     {
         self.calls
@@ -54,7 +54,7 @@ impl Tables {
 
     fn carry_out(&mut self, worker: u32, command: &Command) -> Outcome
         requires worker { (1 ≤ worker) × (worker ≤ 64) }
-        requires left { self.old.calls < 2 ^ 24 - 2 }
+        requires left { self.old.calls < 2 ^ 56 - 2 }
         ensures { Called self.old self.new worker command.now result }
     {
         match self.flat.apply(worker, command) {
@@ -86,7 +86,7 @@ impl Tables {
     {
         Sight {
             kind: kind_of(card.kind),
-            worker: card.name >> 24,
+            worker: (card.name >> 56) as u32,
             socket: number_of(self.flat.label_of(card.name)),
         }
     }
@@ -104,7 +104,7 @@ impl Tables {
     {
         Item {
             kind: kind_of(card.kind),
-            worker: card.name >> 24,
+            worker: (card.name >> 56) as u32,
             socket: number_of(self.flat.label_of(card.name)),
             addr: card.local,
             peer_addr: card.remote,

@@ -55,7 +55,7 @@ const PACKET: Packet = Packet {
 };
 
 /// Worker 2's listener, with its number.
-fn listen_here(tables: &mut Tables) -> (u32, Outcome) {
+fn listen_here(tables: &mut Tables) -> (u64, Outcome) {
     let number = tables.next_number();
     tables.call(2, &commands::socket(number, PLAIN));
     tables.call(2, &commands::bind(number, HERE));
@@ -63,7 +63,7 @@ fn listen_here(tables: &mut Tables) -> (u32, Outcome) {
 }
 
 /// Worker 2's connection of that listener, with its number.
-fn accept_there(tables: &mut Tables, listener: u32) -> (u32, Outcome) {
+fn accept_there(tables: &mut Tables, listener: u64) -> (u64, Outcome) {
     let number = tables.next_number();
     let accepted = tables.call(2, &commands::accept(listener, number, THERE, HERE));
     (number, accepted)
@@ -84,7 +84,7 @@ fn a_connection_is_found_by_its_numbers_closed_and_reaped(rt: HostRuntime) -> Re
     assert_eq!(rt; tables.look(&PACKET), Some(sight));
     let closed = tables.call(2, &commands::close(child));
     assert_eq!(rt; leaves_time_wait(closed), true);
-    let listed: Vec<(u32, u32)> = tables
+    let listed: Vec<(u32, u64)> = tables
         .list(rt.alloc())?
         .iter()
         .map(|i| (i.kind, i.socket))

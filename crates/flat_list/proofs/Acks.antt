@@ -36,7 +36,7 @@ listener_takes flat n r l sound at is found =
     let test : Socket → Bool = λ x. has_name r.owner.origin x && is_open_in n x in
     let listener : HasListener flat.sections flat.sockets r = each_found (HasListener flat.sections flat.sockets) (λ x. has_name at.0 x && x.named) flat.sockets r sound.requests at.1 in
     let passes = and_parts (has_name r.owner.origin l) (is_open_in n l) (found_passes test flat.sockets l found) in
-    let is_its = and_parts l.named (l.owner.name / 2 ^ 24 == n) passes.1 in
+    let is_its = and_parts l.named (l.owner.name / 2 ^ 56 == n) passes.1 in
     each_found (CanTake r) test flat.sockets l (listener is).1 found is_its.0 (eqb-true l.owner.name r.owner.origin passes.0)
 
 pub acks_while_open : AcksWhileOpen

@@ -204,14 +204,14 @@ after_sound flat after n is sound =
     }
 
 -- a name that no label stands for yet is no request's listener's
-fresh_origins : (flat : Flat) (n : ℕ) → length (labels_of n flat.sections) + 1 < 2 ^ 24 → IsSound flat → Each (λ r. r.owner.state ≡ states.Request → next_name n flat.sections ≢ r.owner.origin) flat.sockets
+fresh_origins : (flat : Flat) (n : ℕ) → length (labels_of n flat.sections) + 1 < 2 ^ 56 → IsSound flat → Each (λ r. r.owner.state ≡ states.Request → next_name n flat.sections ≢ r.owner.origin) flat.sockets
 fresh_origins flat n room sound =
     each_weaken (HasListener flat.sections flat.sockets) (λ r. r.owner.state ≡ states.Request → next_name n flat.sections ≢ r.owner.origin) flat.sockets
     (λ r h is same. is_new n flat.sections r.owner.origin room (h is).0 (sym same)) sound.requests
 
 -- `socket`
 
-socket_sound : (flat : Flat) (n : ℕ) (label : List ℕ) (options : Options) → length (labels_of n flat.sections) + 1 < 2 ^ 24 → IsSound flat → IsSound (socket flat n label options).flat
+socket_sound : (flat : Flat) (n : ℕ) (label : List ℕ) (options : Options) → length (labels_of n flat.sections) + 1 < 2 ^ 56 → IsSound flat → IsSound (socket flat n label options).flat
 socket_sound flat n label options room sound =
     let name : ℕ = next_name n flat.sections in
     let new : Socket = new_socket name options in
@@ -815,7 +815,7 @@ tuple_joins : (flat : Flat) (new : Socket) → has_twin new.owner flat.sockets �
 tuple_joins flat new free =
     each_weaken (λ x. TuplesDiffer new x) (λ x. TuplesDiffer x new) (without_waiting new.owner flat.sockets) (λ x. tuples_swap new x) (tuple_is_new new flat free)
 
-child_joins : (flat : Flat) (n : ℕ) (label : List ℕ) (l : Socket) (from at : End) → length (labels_of n flat.sections) + 1 < 2 ^ 24 → CanAccept l.owner at → IsSound flat → IsOpen flat l
+child_joins : (flat : Flat) (n : ℕ) (label : List ℕ) (l : Socket) (from at : End) → length (labels_of n flat.sections) + 1 < 2 ^ 56 → CanAccept l.owner at → IsSound flat → IsOpen flat l
     → has_twin (child_of l (next_name n flat.sections) from at).owner flat.sockets ≡ false → Joins (replacing (with_new_label flat n label) (child_of l (next_name n flat.sections) from at).owner) (child_of l (next_name n flat.sections) from at)
 child_joins flat n label l from at room fit sound is free =
     let child : Socket = child_of l (next_name n flat.sections) from at in
@@ -832,7 +832,7 @@ child_joins flat n label l from at room fit sound is free =
       listener = λ is. absurd (cc);
     }
 
-accept_sound : (flat : Flat) (n : ℕ) (label : List ℕ) (o : Option Socket) (from at : End) → length (labels_of n flat.sections) + 1 < 2 ^ 24 → IsSound flat → ((s : Socket) → o ≡ Some s → IsOpen flat s)
+accept_sound : (flat : Flat) (n : ℕ) (label : List ℕ) (o : Option Socket) (from at : End) → length (labels_of n flat.sections) + 1 < 2 ^ 56 → IsSound flat → ((s : Socket) → o ≡ Some s → IsOpen flat s)
     → Sound (accept (with_new_label flat n label) (next_name n flat.sections) o from at)
 accept_sound flat n label None from at room sound is = labelled_sound flat n label sound
 accept_sound flat n label (Some l) from at room sound is =
@@ -858,7 +858,7 @@ takes_if l r x origin fits (inl e) named same = subst (λ (y : Socket). is_no_ac
 takes_if l r x origin fits (inr differ) named same = absurd (differ (sym (same ∙ origin)))
 
 -- a request is no owner of a port
-request_joins : (flat : Flat) (n : ℕ) (label : List ℕ) (l : Socket) (from at : End) → length (labels_of n flat.sections) + 1 < 2 ^ 24 → is_no_accept l.owner from at ≡ false → IsSound flat → IsOpen flat l
+request_joins : (flat : Flat) (n : ℕ) (label : List ℕ) (l : Socket) (from at : End) → length (labels_of n flat.sections) + 1 < 2 ^ 56 → is_no_accept l.owner from at ≡ false → IsSound flat → IsOpen flat l
     → has_twin (request_of l (next_name n flat.sections) from at).owner flat.sockets ≡ false → Joins (replacing (with_new_label flat n label) (request_of l (next_name n flat.sections) from at).owner) (request_of l (next_name n flat.sections) from at)
 request_joins flat n label l from at room accepts sound is_there free =
     let request : Socket = request_of l (next_name n flat.sections) from at in
@@ -887,7 +887,7 @@ request_joins flat n label l from at room accepts sound is_there free =
       );
     }
 
-syn_sound : (flat : Flat) (n : ℕ) (label : List ℕ) (o : Option Socket) (from at : End) → length (labels_of n flat.sections) + 1 < 2 ^ 24 → IsSound flat → ((s : Socket) → o ≡ Some s → IsOpen flat s)
+syn_sound : (flat : Flat) (n : ℕ) (label : List ℕ) (o : Option Socket) (from at : End) → length (labels_of n flat.sections) + 1 < 2 ^ 56 → IsSound flat → ((s : Socket) → o ≡ Some s → IsOpen flat s)
     → Sound (syn (with_new_label flat n label) (next_name n flat.sections) o from at)
 syn_sound flat n label None from at room sound is = labelled_sound flat n label sound
 syn_sound flat n label (Some l) from at room sound is =
@@ -946,7 +946,7 @@ heir_tuple l r name x is fit (inr h) stays p q =
     tuples_either_way x.owner (heir_of l name r).owner
     ∙ rw (fit.net, sym fit.accepts.port) (h (ap holds_tuple is) p)
 
-heir_joins : (flat : Flat) (n : ℕ) (label : List ℕ) (l r : Socket) → length (labels_of n flat.sections) + 1 < 2 ^ 24 → r.owner.state ≡ states.Request → CanAck l.owner r.owner → IsSound flat → IsOpen flat r → open_in n r.owner.origin flat.sockets ≡ Some l
+heir_joins : (flat : Flat) (n : ℕ) (label : List ℕ) (l r : Socket) → length (labels_of n flat.sections) + 1 < 2 ^ 56 → r.owner.state ≡ states.Request → CanAck l.owner r.owner → IsSound flat → IsOpen flat r → open_in n r.owner.origin flat.sockets ≡ Some l
     → Joins (without_request (with_new_label flat n label) r) (heir_of l (next_name n flat.sections) r)
 heir_joins flat n label l r room is fit sound at found =
     let child : Socket = heir_of l (next_name n flat.sections) r in
@@ -966,7 +966,7 @@ heir_joins flat n label l r room is fit sound at found =
       listener = λ is. absurd (cc);
     }
 
-ack_by_sound : (flat : Flat) (n : ℕ) (label : List ℕ) (r : Socket) (o : Option Socket) → length (labels_of n flat.sections) + 1 < 2 ^ 24 → r.owner.state ≡ states.Request → IsSound flat → IsOpen flat r → open_in n r.owner.origin flat.sockets ≡ o
+ack_by_sound : (flat : Flat) (n : ℕ) (label : List ℕ) (r : Socket) (o : Option Socket) → length (labels_of n flat.sections) + 1 < 2 ^ 56 → r.owner.state ≡ states.Request → IsSound flat → IsOpen flat r → open_in n r.owner.origin flat.sockets ≡ o
     → Sound (ack_by (with_new_label flat n label) (next_name n flat.sections) r o)
 ack_by_sound flat n label r None room is sound at found = labelled_sound flat n label sound
 ack_by_sound flat n label r (Some l) room is sound at found =
@@ -979,13 +979,13 @@ ack_by_sound flat n label r (Some l) room is sound at found =
     (λ _. kept)
     (λ _. added_sound (without_request labelled r) child (request_gone labelled r is kept at) (heir_joins flat n label l r room is (can_ack l.owner r.owner fits) sound at found)))
 
-ack_socket_sound : (flat : Flat) (n : ℕ) (label : List ℕ) (r : Socket) (t : State) → length (labels_of n flat.sections) + 1 < 2 ^ 24 → r.owner.state ≡ t → IsSound flat → IsOpen flat r
+ack_socket_sound : (flat : Flat) (n : ℕ) (label : List ℕ) (r : Socket) (t : State) → length (labels_of n flat.sections) + 1 < 2 ^ 56 → r.owner.state ≡ t → IsSound flat → IsOpen flat r
     → Sound (ack_socket (with_new_label flat n label) n (next_name n flat.sections) r t)
 ack_socket_sound flat n label r states.Request room is sound at =
     ack_by_sound flat n label r (open_in n r.owner.origin flat.sockets) room is sound at refl
 ack_socket_sound flat n label r _ room is sound at = labelled_sound flat n label sound
 
-ack_sound : (flat : Flat) (n : ℕ) (label : List ℕ) (o : Option Socket) → length (labels_of n flat.sections) + 1 < 2 ^ 24 → IsSound flat → ((s : Socket) → o ≡ Some s → IsOpen flat s)
+ack_sound : (flat : Flat) (n : ℕ) (label : List ℕ) (o : Option Socket) → length (labels_of n flat.sections) + 1 < 2 ^ 56 → IsSound flat → ((s : Socket) → o ≡ Some s → IsOpen flat s)
     → Sound (ack (with_new_label flat n label) n (next_name n flat.sections) o)
 ack_sound flat n label None room sound is = labelled_sound flat n label sound
 ack_sound flat n label (Some r) room sound is = ack_socket_sound flat n label r r.owner.state room refl sound (is r refl)
@@ -1063,7 +1063,7 @@ reap_sound : (flat : Flat) (n : ℕ) → IsSound flat → Sound (reap flat n)
 reap_sound flat n sound =
     let moment : ℕ = moment_of flat.header n flat.sections in
     gone_sound flat (λ s. not (is_expired n moment s))
-    (λ x. over_is_quiet x.owner.state (x.owner.name / 2 ^ 24 == n) (expired x.stamp moment) x.owner.reuseport) sound
+    (λ x. over_is_quiet x.owner.state (x.owner.name / 2 ^ 56 == n) (expired x.stamp moment) x.owner.reuseport) sound
 
 pub stays : StaysSound
 unfolding step
@@ -1088,7 +1088,7 @@ stays flat n commands.Dump room sound = sound
 
 -- how many labels each section can still give
 abbrev HasRoom : Flat → List Issued → Type 0
-HasRoom flat commands = (n : ℕ) → length (labels_of n flat.sections) + count_by (is_of n) commands < 2 ^ 24
+HasRoom flat commands = (n : ℕ) → length (labels_of n flat.sections) + count_by (is_of n) commands < 2 ^ 56
 
 itself : (n : ℕ) → (n == n) ≡ true
 itself n = grind (arith, nat_tests)
@@ -1101,7 +1101,7 @@ run_sound flat [] room sound = sound
 run_sound flat (c ∷ rest) room sound =
     let next : Flat = (step flat c.section c.command).flat in
     let counted : cond {A = ℕ} (c.section == c.section) 1 0 ≡ 1 = rw (itself c.section) refl in
-    let room_now : length (labels_of c.section flat.sections) + 1 < 2 ^ 24 = omega (arith, room c.section, one_more c.section c rest, counted) in
+    let room_now : length (labels_of c.section flat.sections) + 1 < 2 ^ 56 = omega (arith, room c.section, one_more c.section c rest, counted) in
     run_sound next rest
     (λ m. let grown = grows c.section m flat.sections next.sections (gives_at_one flat c.section c.command) in omega (arith, grown.most, room m, one_more m c rest))
     (stays flat c.section c.command room_now sound)

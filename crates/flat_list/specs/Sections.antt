@@ -42,7 +42,7 @@ put_section new (s ∷ rest) =
 
 -- a socket's name: its section, and the number of its label, from 1, among those given there
 abbrev pub name_at : ℕ → ℕ → ℕ
-name_at section place = section * 2 ^ 24 + place + 1
+name_at section place = section * 2 ^ 56 + place + 1
 
 -- the name that a label stands for in the section of that number
 abbrev pub name_in : ℕ → List Section → List ℕ → Option ℕ
@@ -91,7 +91,7 @@ with_moment header n moment sections = put_section (at_moment moment (section_of
 
 -- the label of a name, by its number among those that its section gave, from 1; none where there is no such label
 abbrev pub label_of : List Section → ℕ → List ℕ
-label_of sections name = unwrap_or (slice_get ([] ∷ labels_of (name / 2 ^ 24) sections) (name % 2 ^ 24)) []
+label_of sections name = unwrap_or (slice_get ([] ∷ labels_of (name / 2 ^ 56) sections) (name % 2 ^ 56)) []
 
 -- each section has one label more, at most
 abbrev pub GivesOneAtMost : List Section → List Section → Type 0

@@ -54,7 +54,7 @@ open_named name sockets = find (λ s. has_name name s && s.named) sockets
 
 -- an open socket of that section
 abbrev pub is_open_in : ℕ → Socket → Bool
-is_open_in n s = s.named && (s.owner.name / 2 ^ 24 == n)
+is_open_in n s = s.named && (s.owner.name / 2 ^ 56 == n)
 
 -- the open socket of that name in that section
 abbrev pub open_in : ℕ → ℕ → List Socket → Option Socket
@@ -119,7 +119,7 @@ mate_of a sockets = option_map (λ (m : Socket). m.owner.name) (find (is_mate a)
 -- a TIME_WAIT of a section that has lasted its minute at that moment
 abbrev pub is_expired : ℕ → ℕ → Socket → Bool
 is_expired section moment s =
-    is_time_wait s.owner.state && (s.owner.name / 2 ^ 24 == section) && expired s.stamp moment
+    is_time_wait s.owner.state && (s.owner.name / 2 ^ 56 == section) && expired s.stamp moment
 
 -- the new socket where the old one has its name
 abbrev pub replaced : Socket → Socket → Socket

@@ -31,8 +31,8 @@ NamesDiffer a b = a.owner.name ≢ b.owner.name
 
 -- the name was given: the number in it is that of a label which the section in it has given
 pub record IsGivenName (sections : List Section) (name : ℕ) : Type 0 where
-  pub first : 1 ≤ name % 2 ^ 24
-  pub last : name % 2 ^ 24 ≤ length (labels_of (name / 2 ^ 24) sections)
+  pub first : 1 ≤ name % 2 ^ 56
+  pub last : name % 2 ^ 56 ≤ length (labels_of (name / 2 ^ 56) sections)
 
 -- the socket's name was given
 abbrev pub IsGiven : List Section → Socket → Type 0
@@ -129,13 +129,13 @@ StartsSound = (header : Header) → IsSound (new_flat header)
 -- a command of a section that can give one more label
 abbrev pub StaysSound : Type 0
 StaysSound =
-    (flat : Flat) (n : ℕ) (command : Command) → length (labels_of n flat.sections) + 1 < 2 ^ 24
+    (flat : Flat) (n : ℕ) (command : Command) → length (labels_of n flat.sections) + 1 < 2 ^ 56
     → IsSound flat → IsSound (step flat n command).flat
 
 -- a run in which each section has fewer commands than it can give labels
 abbrev pub RunsSound : Type 0
 RunsSound =
-    (header : Header) (commands : List Issued) → ((n : ℕ) → count_by (is_of n) commands < 2 ^ 24)
+    (header : Header) (commands : List Issued) → ((n : ℕ) → count_by (is_of n) commands < 2 ^ 56)
     → IsSound (after (new_flat header) commands)
 
 -- a reply by which a command is refused

@@ -101,7 +101,7 @@ impl Flat {
 
     fn socket(&mut self, section: u32, label: &Label, options: Options) -> Result<Reply, AllocError>
         requires number { section ≤ 64 }
-        requires room { length (sections_spec.labels_of section self.old.sections) + 1 < 2 ^ 24 }
+        requires room { length (sections_spec.labels_of section self.old.sections) + 1 < 2 ^ 56 }
         ensures step { IfOk result (λ reply. spec.socket self.old section label.now options
             ≡ record { flat = self.new; reply = reply }) }
         ensures err { OnErr result (self.new ≡ self.old) }
@@ -465,7 +465,7 @@ impl Flat {
     fn child(
         &self,
         listener: Option<Socket>,
-        name: u32,
+        name: u64,
         from: End,
         at: End,
     ) -> Result<Socket, Reply>
@@ -496,7 +496,7 @@ impl Flat {
         at: End,
     ) -> Result<Reply, AllocError>
         requires number { section ≤ 64 }
-        requires room { length (sections_spec.labels_of section self.old.sections) + 1 < 2 ^ 24 }
+        requires room { length (sections_spec.labels_of section self.old.sections) + 1 < 2 ^ 56 }
         ensures step { IfOk result (λ reply. connect_spec.accept
             (outcome_spec.with_new_label self.old section label.now)
             (sections_spec.next_name section self.old.sections)
@@ -522,7 +522,7 @@ impl Flat {
     fn request(
         &self,
         listener: Option<Socket>,
-        name: u32,
+        name: u64,
         from: End,
         at: End,
     ) -> Result<Socket, Reply>
@@ -553,7 +553,7 @@ impl Flat {
         at: End,
     ) -> Result<Reply, AllocError>
         requires number { section ≤ 64 }
-        requires room { length (sections_spec.labels_of section self.old.sections) + 1 < 2 ^ 24 }
+        requires room { length (sections_spec.labels_of section self.old.sections) + 1 < 2 ^ 56 }
         ensures step { IfOk result (λ reply. connect_spec.syn (outcome_spec.with_new_label self.old section label.now)
             (sections_spec.next_name section self.old.sections)
             (outcome_spec.open_socket self.old section listener.now) from at
@@ -575,7 +575,7 @@ impl Flat {
     }
 
     /// The child that a request's listener accepts when the handshake is over, or the refusal.
-    fn heir(&self, section: u32, request: &Socket, name: u32) -> Result<Socket, Reply>
+    fn heir(&self, section: u32, request: &Socket, name: u64) -> Result<Socket, Reply>
         ensures child { IfOk result (λ child.
             connect_spec.ack_socket self.now section name request.now request.now.owner.state
             ≡ outcome_spec.added (connect_spec.without_request self.now request.now) child Reply.Ok) }
@@ -600,7 +600,7 @@ impl Flat {
 
     fn ack(&mut self, section: u32, request: &Label, label: &Label) -> Result<Reply, AllocError>
         requires number { section ≤ 64 }
-        requires room { length (sections_spec.labels_of section self.old.sections) + 1 < 2 ^ 24 }
+        requires room { length (sections_spec.labels_of section self.old.sections) + 1 < 2 ^ 56 }
         ensures step { IfOk result (λ reply. connect_spec.ack
             (outcome_spec.with_new_label self.old section label.now) section
             (sections_spec.next_name section self.old.sections) (outcome_spec.open_socket self.old section request.now)
@@ -718,7 +718,7 @@ impl Flat {
     #[tactic(auto, unfolding(crate::specs::Step::step))]
     pub fn apply(&mut self, section: u32, command: &Command) -> Result<Reply, AllocError>
         requires number { section ≤ 64 }
-        requires room { length (sections_spec.labels_of section self.old.sections) + 1 < 2 ^ 24 }
+        requires room { length (sections_spec.labels_of section self.old.sections) + 1 < 2 ^ 56 }
         ensures step { IfOk result (λ reply. spec.step self.old section command.now
             ≡ record { flat = self.new; reply = reply }) }
         ensures err { OnErr result (self.new ≡ self.old) }
@@ -754,12 +754,12 @@ impl Flat {
     }
 
     /// The label of a socket, by its name; empty where no section has given such a name.
-    pub fn label_of(&self, name: u32) -> &[u8]
+    pub fn label_of(&self, name: u64) -> &[u8]
         ensures { result.now ≡ sections_spec.label_of self.now.sections name }
     {
-        match section_of(name >> 24, &self.sections) {
+        match section_of((name >> 56) as u32, &self.sections) {
             None => &[],
-            Some(section) => section.label_at(name & 0xFF_FFFF),
+            Some(section) => section.label_at(name & 0xFF_FFFF_FFFF_FFFF),
         }
     }
 

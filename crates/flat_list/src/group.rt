@@ -20,7 +20,7 @@ use std::marker::Model;
 #[derive(Drop)]
 pub struct Group {
     number: u32,
-    members: ArrayVec<u32, GROUP_ROOM>,
+    members: ArrayVec<u64, GROUP_ROOM>,
 }
 
 impl Model for Group {
@@ -35,14 +35,14 @@ impl Model for Group {
     ghost invariant = { λ g. (g.number < 2 ^ 20) × (length g.members.items ≤ group_room) };
 }
 
-fn renamed(old: u32, new: u32, member: u32) -> u32
+fn renamed(old: u64, new: u64, member: u64) -> u64
     ensures { result ≡ spec.renamed old new member }
 {
     if member == old { new } else { member }
 }
 
 /// Writes `new` over each `old`.
-fn replace(old: u32, new: u32, members: &mut [u32])
+fn replace(old: u64, new: u64, members: &mut [u64])
     ensures { members.new ≡ map (spec.renamed old new) members.old }
 {
     for member in members.iter_mut() {
@@ -52,7 +52,7 @@ fn replace(old: u32, new: u32, members: &mut [u32])
 
 impl Group {
     /// The group of that number, with one member.
-    fn new(number: u32, name: u32) -> Self
+    fn new(number: u32, name: u64) -> Self
         requires { number < 2 ^ 20 }
         ensures { result ≡ record { number = number; members = name ∷ [] } }
     {
@@ -70,7 +70,7 @@ impl Group {
     }
 
     /// Whether the socket of that name is in it.
-    pub fn has_member(&self, name: u32) -> bool
+    pub fn has_member(&self, name: u64) -> bool
         ensures { result ≡ spec.has_member name self.now }
     {
         self.members.as_slice().iter().any(|member| *member == name)
@@ -83,14 +83,14 @@ impl Group {
     }
 
     /// Whether it is the group of the socket of that name, and has all its members.
-    fn is_full_group(&self, mate: u32) -> bool
+    fn is_full_group(&self, mate: u64) -> bool
         ensures { result ≡ spec.is_full_group mate self.now }
     {
         self.has_member(mate) && self.members.len() == GROUP_ROOM
     }
 
     /// The socket joins, where its mate is a member.
-    fn join(&mut self, mate: u32, name: u32)
+    fn join(&mut self, mate: u64, name: u64)
         requires { spec.is_full_group mate self.old ≡ false }
         ensures { self.new ≡ spec.join_group mate name self.old }
     {
@@ -100,7 +100,7 @@ impl Group {
     }
 
     /// The socket leaves, where it is a member; the last member takes its place.
-    fn leave(&mut self, name: u32)
+    fn leave(&mut self, name: u64)
         ensures { self.new ≡ spec.leave_group name self.old }
     {
         if self.has_member(name) {
@@ -111,7 +111,7 @@ impl Group {
     }
 
     /// The member that the hash of a packet's four-tuple chooses.
-    pub fn chosen(&self, hash: u32) -> u32
+    pub fn chosen(&self, hash: u32) -> u64
         ensures { result ≡ look_spec.chosen hash self.now }
     {
         let members = self.members.as_slice();
@@ -123,7 +123,7 @@ impl Group {
 }
 
 /// The group of the socket of that name, if it is in one.
-pub fn group_of(name: u32, groups: &[Group]) -> Option<&Group>
+pub fn group_of(name: u64, groups: &[Group]) -> Option<&Group>
     ensures { option_copied result ≡ look_spec.group_of name groups.now }
 {
     groups.iter().find(|group| group.has_member(name))
@@ -153,7 +153,7 @@ fn free_number(bucket: u32, groups: &[Group]) -> Option<u32>
     (8 * bucket..8 * bucket + 8).find(|number| !is_used(*number, groups))
 }
 
-fn has_full(mate: u32, groups: &[Group]) -> bool
+fn has_full(mate: u64, groups: &[Group]) -> bool
     ensures { result ≡ list_any (spec.is_full_group mate) groups.now }
 {
     groups.iter().any(|group| group.is_full_group(mate))
@@ -161,7 +161,7 @@ fn has_full(mate: u32, groups: &[Group]) -> bool
 
 /// Whether a listener finds a place: in its mate's group, or where it has no mate in a new one of that
 /// bind bucket.
-pub fn has_place(bucket: u32, mate: Option<u32>, groups: &[Group]) -> bool
+pub fn has_place(bucket: u32, mate: Option<u64>, groups: &[Group]) -> bool
     requires { bucket < 2 ^ 17 }
     ensures { (name : ℕ) → result ≡ is_some (spec.join bucket name mate groups.now) }
 {
@@ -171,7 +171,7 @@ pub fn has_place(bucket: u32, mate: Option<u32>, groups: &[Group]) -> bool
     }
 }
 
-fn join_mate(mate: u32, name: u32, groups: &mut [Group])
+fn join_mate(mate: u64, name: u64, groups: &mut [Group])
     requires { list_any (spec.is_full_group mate) groups.old ≡ false }
     ensures { groups.new ≡ map (spec.join_group mate name) groups.old }
 {
@@ -181,7 +181,7 @@ fn join_mate(mate: u32, name: u32, groups: &mut [Group])
 }
 
 /// The listener joins its mate's group, or begins one. There is room for one more group.
-pub fn join(bucket: u32, name: u32, mate: Option<u32>, groups: &mut Vec<Group>)
+pub fn join(bucket: u32, name: u64, mate: Option<u64>, groups: &mut Vec<Group>)
     requires bucket { bucket < 2 ^ 17 }
     requires place { is_some (spec.join bucket name mate groups.old.items) ≡ true }
     requires room { vec_len groups.old < vec_capacity groups.old }
@@ -197,7 +197,7 @@ pub fn join(bucket: u32, name: u32, mate: Option<u32>, groups: &mut Vec<Group>)
     }
 }
 
-fn leave_each(name: u32, groups: &mut [Group])
+fn leave_each(name: u64, groups: &mut [Group])
     ensures { groups.new ≡ map (spec.leave_group name) groups.old }
 {
     for group in groups.iter_mut() {
@@ -212,7 +212,7 @@ fn free_empty(groups: &mut Vec<Group>)
 }
 
 /// The socket of that name is gone from its group; a group without members is gone too.
-pub fn leave(name: u32, groups: &mut Vec<Group>)
+pub fn leave(name: u64, groups: &mut Vec<Group>)
     ensures { groups.new.items ≡ spec.leave name groups.old.items }
 {
     leave_each(name, groups);

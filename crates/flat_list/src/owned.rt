@@ -19,7 +19,7 @@ pub struct Options {
 }
 
 /// The owner that `socket` makes: without an end, and its origin its own name.
-pub fn new_owner(name: u32, options: Options) -> Owner
+pub fn new_owner(name: u64, options: Options) -> Owner
     ensures { result ≡ spec.new_owner name options }
 {
     Owner {
@@ -85,7 +85,7 @@ pub fn connected_at(owner: Owner, source: u32, port: u16, to: End) -> Owner
 /// The owner of that name which a listener accepts from one end at another.
 ///
 /// It keeps the listener's port, origin, device, namespace, user and options.
-pub fn child_owner(listener: Owner, name: u32, from: End, at: End) -> Owner
+pub fn child_owner(listener: Owner, name: u64, from: End, at: End) -> Owner
     ensures { result ≡ spec.child_owner listener name from at }
 {
     child(listener, name, at.addr, from.addr, from.port)
@@ -93,7 +93,7 @@ pub fn child_owner(listener: Owner, name: u32, from: End, at: End) -> Owner
 
 /// The request of that name for a handshake with a listener from one end at another: what the child would be,
 /// but that it isn't full.
-pub fn request_owner(listener: Owner, name: u32, from: End, at: End) -> Owner
+pub fn request_owner(listener: Owner, name: u64, from: End, at: End) -> Owner
     ensures { result ≡ spec.request_owner listener name from at }
 {
     as_request(child_owner(listener, name, from, at))
@@ -151,7 +151,7 @@ pub fn other_end(owner: &Owner) -> End
 }
 
 /// The owner of that name which a listener accepts when the handshake of a request is over, at the request's ends.
-pub fn heir_owner(listener: Owner, name: u32, request: &Owner) -> Owner
+pub fn heir_owner(listener: Owner, name: u64, request: &Owner) -> Owner
     ensures { result ≡ spec.heir_owner listener name request.now }
 {
     child_owner(listener, name, other_end(request), own_end(request))

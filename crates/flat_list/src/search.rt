@@ -34,7 +34,7 @@ pub fn is_owner(state: State) -> bool
 }
 
 /// The open socket of that name.
-pub fn open_named(name: u32, sockets: &[Socket]) -> Option<Socket>
+pub fn open_named(name: u64, sockets: &[Socket]) -> Option<Socket>
     ensures { result ≡ spec.open_named name sockets.now }
 {
     sockets
@@ -44,12 +44,12 @@ pub fn open_named(name: u32, sockets: &[Socket]) -> Option<Socket>
 }
 
 /// The open socket of that name in that section.
-pub fn open_in(section: u32, name: u32, sockets: &[Socket]) -> Option<Socket>
+pub fn open_in(section: u32, name: u64, sockets: &[Socket]) -> Option<Socket>
     ensures { result ≡ spec.open_in section name sockets.now }
 {
     sockets.iter().copied().find(|s| s.owner.name == name
         && s.named
-        && s.owner.name >> 24 == section)
+        && s.owner.name >> 56 == u64::from(section))
 }
 
 /// Whether another owner keeps this one from its port.
@@ -153,7 +153,7 @@ pub fn remove_waiting(owner: &Owner, sockets: &mut Vec<Socket>)
 }
 
 /// The name of the first listener in whose group the owner would be.
-pub fn mate_of(owner: &Owner, sockets: &[Socket]) -> Option<u32>
+pub fn mate_of(owner: &Owner, sockets: &[Socket]) -> Option<u64>
     ensures { result ≡ spec.mate_of owner.now sockets.now }
 {
     sockets
@@ -167,7 +167,7 @@ fn is_expired(section: u32, moment: u32, socket: &Socket) -> bool
     ensures { result ≡ spec.is_expired section moment socket.now }
 {
     matches!(socket.owner.state, State::TimeWait)
-        && socket.owner.name >> 24 == section
+        && socket.owner.name >> 56 == u64::from(section)
         && tw_expired(socket.stamp, moment)
 }
 
@@ -221,7 +221,7 @@ pub fn put(new: Socket, sockets: &mut Vec<Socket>)
 }
 
 /// Takes the sockets of that name out.
-pub fn remove(name: u32, sockets: &mut Vec<Socket>)
+pub fn remove(name: u64, sockets: &mut Vec<Socket>)
     ensures items { sockets.new.items ≡ spec.without name sockets.old.items }
     ensures capacity { vec_capacity sockets.new ≡ vec_capacity sockets.old }
     ensures len { vec_len sockets.new ≤ vec_len sockets.old }
@@ -296,7 +296,7 @@ fn best(packet: &Packet, groups: &[Group], sockets: &[Socket]) -> Option<Card>
         && rank(card, packet) == best)
 }
 
-fn card_named(name: u32, groups: &[Group], sockets: &[Socket]) -> Option<Card>
+fn card_named(name: u64, groups: &[Group], sockets: &[Socket]) -> Option<Card>
     ensures { result ≡ find (λ c. c.name == name) (spec_look.cards_of groups.now sockets.now) }
 {
     sockets

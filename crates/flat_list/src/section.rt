@@ -34,7 +34,7 @@ impl Model for Section {
       generator = s.generator;
     } };
 
-    ghost invariant = { λ s. (s.number ≤ 64) × (length s.labels.items < 2 ^ 24) };
+    ghost invariant = { λ s. (s.number ≤ 64) × (length s.labels.items < 2 ^ 56) };
 }
 
 /// Where a label stands among those given.
@@ -67,16 +67,16 @@ impl Section {
     }
 
     /// The name of the socket that a label stands for.
-    pub fn name_of(&self, label: &Label) -> Option<u32>
+    pub fn name_of(&self, label: &Label) -> Option<u64>
         ensures { result ≡ option_map (spec.name_at self.now.number)
             (position (λ l. bytes_eq l label.now) self.now.labels) }
     {
         let place = place_of(label, &self.labels)?;
-        Some(self.number * 0x100_0000 + place as u32 + 1)
+        Some(u64::from(self.number) * 0x100_0000_0000_0000 + place as u64 + 1)
     }
 
     /// The label of that number, from 1, or none.
-    pub fn label_at(&self, number: u32) -> &[u8]
+    pub fn label_at(&self, number: u64) -> &[u8]
         ensures { result.now ≡ unwrap_or (slice_get ([] ∷ self.now.labels) number) [] }
     {
         if number == 0 {
@@ -89,10 +89,10 @@ impl Section {
     }
 
     /// The name that the next label will stand for.
-    pub fn next_name(&self) -> u32
+    pub fn next_name(&self) -> u64
         ensures { result ≡ spec.name_at self.now.number (length self.now.labels) }
     {
-        self.number * 0x100_0000 + self.labels.len() as u32 + 1
+        u64::from(self.number) * 0x100_0000_0000_0000 + self.labels.len() as u64 + 1
     }
 
     /// The section's moment, in seconds.
@@ -119,7 +119,7 @@ impl Section {
 
     /// Gives a label. An `Err` changes nothing.
     pub fn give(&mut self, label: Label) -> Result<(), AllocError>
-        requires { length self.old.labels + 1 < 2 ^ 24 }
+        requires { length self.old.labels + 1 < 2 ^ 56 }
         ensures given { OnOk result (self.new ≡ spec.with_label label self.old) }
         ensures err { OnErr result (self.new ≡ self.old) }
     {
@@ -143,7 +143,7 @@ pub fn section_of(number: u32, sections: &[Section]) -> Option<&Section>
 }
 
 /// The name that a label stands for in the section of that number.
-pub fn name_in(number: u32, sections: &[Section], label: &Label) -> Option<u32>
+pub fn name_in(number: u32, sections: &[Section], label: &Label) -> Option<u64>
     ensures { result ≡ spec.name_in number sections.now label.now }
 {
     match section_of(number, sections) {
@@ -159,9 +159,9 @@ pub fn give_label(
     sections: &mut Vec<Section>,
     number: u32,
     label: Label,
-) -> Result<u32, AllocError>
+) -> Result<u64, AllocError>
     requires number { number ≤ 64 }
-    requires room { length (spec.labels_of number sections.old.items) + 1 < 2 ^ 24 }
+    requires room { length (spec.labels_of number sections.old.items) + 1 < 2 ^ 56 }
     ensures given { IfOk result (λ name.
         spec.GivesLabel header.now number label sections.old.items sections.new.items name) }
     ensures err { OnErr result (sections.new.items ≡ sections.old.items) }

@@ -16,7 +16,7 @@ pub struct Socket {
 }
 
 /// The socket that `socket` makes.
-pub fn new_socket(name: u32, options: Options) -> Socket
+pub fn new_socket(name: u64, options: Options) -> Socket
     ensures { result ≡ spec.new_socket name options }
 {
     Socket {
@@ -84,7 +84,7 @@ pub fn connected_by_search(socket: Socket, source: u32, to: End, port: u16) -> S
 }
 
 /// The socket of that name which a listener accepts from one end at another.
-pub fn child_of(listener: Socket, name: u32, from: End, at: End) -> Socket
+pub fn child_of(listener: Socket, name: u64, from: End, at: End) -> Socket
     ensures { result ≡ connect_spec.child_of listener name from at }
 {
     Socket {
@@ -95,7 +95,7 @@ pub fn child_of(listener: Socket, name: u32, from: End, at: End) -> Socket
 }
 
 /// The request of that name for a handshake with a listener from one end at another.
-pub fn request_of(listener: Socket, name: u32, from: End, at: End) -> Socket
+pub fn request_of(listener: Socket, name: u64, from: End, at: End) -> Socket
     ensures { result ≡ connect_spec.request_of listener name from at }
 {
     Socket {
@@ -106,7 +106,7 @@ pub fn request_of(listener: Socket, name: u32, from: End, at: End) -> Socket
 }
 
 /// The socket of that name which a request's listener accepts when its handshake is over.
-pub fn heir_of(listener: Socket, name: u32, request: &Socket) -> Socket
+pub fn heir_of(listener: Socket, name: u64, request: &Socket) -> Socket
     ensures { result ≡ connect_spec.heir_of listener name request.now }
 {
     Socket {

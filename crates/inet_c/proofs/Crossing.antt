@@ -43,7 +43,7 @@ looker_send : IsSend Looker.the_row
 looker_send = search (tables_send, tables_sync, seat.the_send, crosses, knot.crosses, sendable) depth 60 fits 400000
 
 shared_send : IsSend SharedTables.the_row
-shared_send = search (tables_send, tables_sync, headers.the_send, seat.the_send, bucket_send, crosses, knot.crosses, sendable) depth 60 fits 400000
+shared_send = search (tables_send, tables_sync, caller_send, looker_send, headers.the_send, seat.the_send, bucket_send, crosses, knot.crosses, sendable) depth 60 fits 400000
 
 pub held_send : IsSend Held.the_row
 held_send = search (lists.the_send, shared_send, caller_send, looker_send, crosses, sendable) depth 60 fits 400000

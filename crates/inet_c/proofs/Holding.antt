@@ -1,10 +1,10 @@
 -- What is made in a handle that holds nothing.
-use Rattle.std.proofs.Common.{◌≡◌, ◌↔◌, false, Option, None, Some, Result, Ok, IsErrOf, is_some, refl, sym, ◌∙◌, arith}
+use Rattle.std.proofs.Common.{◌≡◌, ◌↔◌, ◌⊎◌, inl, inr, false, List, [], ◌∷◌, ◌++◌, Option, None, Some, Result, Ok, IsErrOf, is_some, refl, sym, ap, subst, ◌∙◌}
 use Rattle.flat_list.specs.declared.header.Header.{Header}
 use Rattle.shared_calls.specs.Callings.{Calling}
 use Rattle.shared_calls.specs.Lookings.{Looking}
-use Rattle.shared_calls.specs.Sharings.{Sharing, HandsCaller, HandsLooker}
-use Rattle.inet_c.specs.Handed.{Hands, MayCount}
+use Rattle.shared_calls.specs.Sharings.{Sharing, GivesCaller, GivesLooker, TakesBack, TakesLookerBack}
+use Rattle.inet_c.specs.Handed.{Hands, MayMake}
 use Rattle.inet_c.specs.Made.{Holds, Makes, SizesFit}
 use Rattle.inet_c.specs.declared.held.Held.{Held}
 use Rattle.inet_c.specs.declared.held.Held.TheVariants as helds
@@ -24,45 +24,55 @@ made_of Is header old new held makings.NoTables fits none is h = absurd h
 made_of Is header old new held makings.AllOut fits none is h = absurd h
 
 -- what shared tables hand out, into a handle that holds nothing
-pub handed : (Is : Sharing → Sharing → Held → Type 0) (All : Sharing → Type 0) (old new : Sharing) (before after : Option Held) (held : Held) (making : Making) → before ≡ None → (All old → ⊥) → Is old new held → MayCount old new → Holds held after making
-    → Hands Is All (Some (helds.Shared old)) (Some (helds.Shared new)) before after making
-handed Is All old new before after held makings.Made none left is counts h =
-    (none, left, record { old = old; new = new; held = held; from_is = refl; to_is = refl; out_is = h; is = is })
-handed Is All old new before after held makings.NoMemory none left is counts h = (none, left, h ∙ sym none, counts)
-handed Is All old new before after held makings.There none left is counts h = absurd h
-handed Is All old new before after held makings.Unfit none left is counts h = absurd h
-handed Is All old new before after held makings.NoTables none left is counts h = absurd h
-handed Is All old new before after held makings.AllOut none left is counts h = absurd h
+pub handed : (Is : Sharing → Sharing → Held → Type 0) (All : Sharing → Type 0) (old new : Sharing) (before after : Option Held) (held : Held) → before ≡ None → (All old → ⊥) → Is old new held → after ≡ Some held
+    → Hands Is All (Some (helds.Shared old)) (Some (helds.Shared new)) before after makings.Made
+handed Is All old new before after held none left is out =
+    (none, left, record { old = old; new = new; held = held; from_is = refl; to_is = refl; out_is = out; is = is })
 
 -- what was handed out, and isn't held for want of memory
-pub not_held : (Is : Sharing → Sharing → Held → Type 0) (All : Sharing → Type 0) (old new : Sharing) (before after : Option Held) (held : Held) (making : Making) → (making ≡ makings.Made → ⊥) → before ≡ None → (All old → ⊥) → MayCount old new → Holds held after making
-    → Hands Is All (Some (helds.Shared old)) (Some (helds.Shared new)) before after making
-not_held Is All old new before after held makings.Made not none left counts h = absurd (not refl)
-not_held Is All old new before after held makings.NoMemory not none left counts h = (none, left, h ∙ sym none, counts)
-not_held Is All old new before after held makings.There not none left counts h = absurd h
-not_held Is All old new before after held makings.Unfit not none left counts h = absurd h
-not_held Is All old new before after held makings.NoTables not none left counts h = absurd h
-not_held Is All old new before after held makings.AllOut not none left counts h = absurd h
+pub not_held : (Is : Sharing → Sharing → Held → Type 0) (All : Sharing → Type 0) (old new : Sharing) (before after : Option Held) → before ≡ None → (All old → ⊥) → MayMake old new → after ≡ None
+    → Hands Is All (Some (helds.Shared old)) (Some (helds.Shared new)) before after makings.NoMemory
+not_held Is All old new before after none left may out = (none, left, out ∙ sym none, may)
 
 -- something was left to hand out, since it was handed out
 pub some_left : {T E : Type 0} (P : Type 0) (x : T) (e : E) → (let r : Result T E = Ok x in IsErrOf r e ↔ P) → P → ⊥
 some_left P x e all p = let wrong = all.1 p in cc
 
--- one worker more is counted, or one looker
-pub counts_caller : (old new : Sharing) (c : Calling) → HandsCaller old new c → MayCount old new
-counts_caller old new c h =
-    record {
-      tables = h.tables.0;
-      header = h.header;
-      callers = (omega (arith, h.counted), omega (arith, h.counted));
-      lookers = (omega (arith, h.lookers), omega (arith, h.lookers));
-    }
+-- a worker that is handed out and comes back waits, or waits again
+pub worker_waits : (old mid new : Sharing) (c : Calling) → GivesCaller old mid c → TakesBack mid new c → MayMake old new
+worker_waits old mid new c (inl h) takes =
+    subst (MayMake old) (sym takes) (inr (inl (
+      c,
+      record {
+        tables = h.tables;
+        tag = h.tag;
+        header = h.header;
+        counted = h.counted;
+        lookers = h.lookers;
+        idle = (h.idle.0, refl);
+        resting = h.resting;
+        kept_is = h.kept_is;
+        nothing = h.nothing;
+      },
+      ap (λ (l : List Calling). l ++ c ∷ []) h.idle.1,
+    )))
+worker_waits old mid new c (inr again) takes = inl (takes ∙ sym again)
 
-pub counts_looker : (old new : Sharing) (l : Looking) → HandsLooker old new l → MayCount old new
-counts_looker old new l h =
-    record {
-      tables = h.tables.0;
-      header = h.header;
-      callers = (omega (arith, h.callers), omega (arith, h.callers));
-      lookers = (omega (arith, h.counted), omega (arith, h.counted));
-    }
+-- so does a looker
+pub looker_waits : (old mid new : Sharing) (l : Looking) → GivesLooker old mid l → TakesLookerBack mid new l → MayMake old new
+looker_waits old mid new l (inl h) takes =
+    subst (MayMake old) (sym takes) (inr (inr (
+      l,
+      record {
+        tables = h.tables;
+        tag = h.tag;
+        header = h.header;
+        callers = h.callers;
+        counted = h.counted;
+        idle = h.idle;
+        resting = (h.resting.0, refl);
+        nothing = h.nothing;
+      },
+      ap (λ (ls : List Looking). ls ++ l ∷ []) h.resting.1,
+    )))
+looker_waits old mid new l (inr again) takes = inl (takes ∙ sym again)

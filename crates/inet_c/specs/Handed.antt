@@ -1,22 +1,22 @@
 -- How workers and lookers are handed out of shared tables. Our own.
-use Rattle.std.specs.Prelude.{◌≡◌, ◌≢◌, ℕ, ◌+◌, ◌≤◌, Option, None, Some}
+use Rattle.std.specs.Prelude.{◌≡◌, ◌≢◌, ◌⊎◌, ℕ, [], ◌∷◌, Option, None, Some}
 use Rattle.shared_calls.specs.Callings.{Calling}
 use Rattle.shared_calls.specs.Lookings.{Looking}
-use Rattle.shared_calls.specs.Sharings.{Sharing, HandsCaller, HandsLooker}
+use Rattle.shared_calls.specs.Sharings.{Sharing, GivesCaller, GivesLooker, HandsCaller, HandsLooker}
 use Rattle.inet_c.specs.declared.held.Held.{Held}
 use Rattle.inet_c.specs.declared.held.Held.TheVariants as helds
 use Rattle.inet_c.specs.declared.making.Making.{Making}
 use Rattle.inet_c.specs.declared.making.Making.TheVariants as makings
 
--- the next worker, which tries so often, and its number
+-- a worker, which tries so often, and its number: the one that was given back last, or the next
 abbrev pub IsWorker : (tries number : ℕ) → Sharing → Sharing → Held → Type 0
 IsWorker tries number old new held =
     (caller : Calling) × (held ≡ helds.Worker caller tries) × (number ≡ caller.kept.own.number)
-    × HandsCaller old new caller
+    × GivesCaller old new caller
 
--- a looker
+-- a looker: the one that was given back last, or another
 abbrev pub IsLooker : Sharing → Sharing → Held → Type 0
-IsLooker old new held = (looker : Looking) × (held ≡ helds.Looker looker) × HandsLooker old new looker
+IsLooker old new held = (looker : Looking) × (held ≡ helds.Looker looker) × GivesLooker old new looker
 
 -- shared tables hand out what is held then
 pub record Gives (Is : Sharing → Sharing → Held → Type 0) (from to out : Option Held) : Type 0 where
@@ -33,16 +33,21 @@ abbrev pub HoldsShared : (Sharing → Type 0) → Option Held → Type 0
 HoldsShared Is (Some (helds.Shared tables)) = Is tables
 HoldsShared Is _ = ⊥
 
--- the same tables, of which one worker or one looker more may be counted
-pub record MayCount (old new : Sharing) : Type 0 where
-  pub tables : new.tables ≡ old.tables
-  pub header : new.header ≡ old.header
-  pub callers : (old.callers ≤ new.callers) × (new.callers ≤ old.callers + 1)
-  pub lookers : (old.lookers ≤ new.lookers) × (new.lookers ≤ old.lookers + 1)
+-- a worker was made, and waits to be handed out
+abbrev pub MakesWorker : Sharing → Sharing → Type 0
+MakesWorker old new = (c : Calling) × HandsCaller old (record new { idle = [] }) c × (new.idle ≡ c ∷ [])
+
+-- so of a looker
+abbrev pub MakesLooker : Sharing → Sharing → Type 0
+MakesLooker old new = (l : Looking) × HandsLooker old (record new { resting = [] }) l × (new.resting ≡ l ∷ [])
+
+-- the tables are as they were, but for a worker or a looker that was made and waits
+abbrev pub MayMake : Sharing → Sharing → Type 0
+MayMake old new = (new ≡ old) ⊎ MakesWorker old new ⊎ MakesLooker old new
 
 -- so of the tables that a handle held
 abbrev pub KeepsTables : Option Held → Option Held → Type 0
-KeepsTables (Some (helds.Shared old)) to = HoldsShared (MayCount old) to
+KeepsTables (Some (helds.Shared old)) to = HoldsShared (MayMake old) to
 KeepsTables _ to = ⊥
 
 -- What came of it: it went from the tables of one handle into another that held nothing, or that is as it was. The

@@ -3,6 +3,7 @@ pub mod Owned
 pub mod Calls
 pub mod Made
 pub mod Handed
+pub mod Returned
 pub mod Seen
 pub mod Listed
 pub mod Words

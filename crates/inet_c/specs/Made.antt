@@ -1,6 +1,7 @@
 -- What tables are made of, and what comes of it. Our own.
-use Rattle.std.specs.Prelude.{◌≡◌, ◌≢◌, ℕ, ◌%◌, ◌<◌, ◌≤◌, Option, None, Some}
-use Rattle.chain_book.specs.Shapes.{ShapeFits}
+use Rattle.std.specs.Prelude.{◌≡◌, ◌≢◌, ℕ, ◌%◌, ◌^◌, ◌<◌, ◌≤◌, Option, None, Some}
+use Rattle.chain_book.specs.Shapes.{IsPowerTo}
+use Rattle.chain_book.specs.declared.shape.Shape.{Shape}
 use Rattle.flat_list.specs.declared.header.Header.{Header}
 use Rattle.flat_list.specs.declared.header.Range.{Range}
 use Rattle.flat_list.specs.declared.header.TheConstants.{NONE_RESERVED}
@@ -31,9 +32,16 @@ pub record PortsFit (range : Range) : Type 0 where
   pub order : range.low < range.high
   pub even : size range % 2 ≡ 0
 
--- the sizes that tables may have: those that a script may name
+-- how many slots and buckets callers' tables may have: 256 times those of a script's, but for bind buckets
+pub record CallersShape (shape : Shape) : Type 0 where
+  pub slots : (1 ≤ shape.slots) × (shape.slots ≤ 2 ^ 24)
+  pub bind : IsPowerTo 256 shape.bind
+  pub hash : IsPowerTo (2 ^ 24) shape.hash
+  pub listen : IsPowerTo (2 ^ 20) shape.listen
+
+-- the sizes that tables may have
 pub record SizesFit (header : Header) : Type 0 where
-  pub shape : ShapeFits header.shape
+  pub shape : CallersShape header.shape
   pub range : PortsFit header.range
 
 -- tables without sockets
@@ -44,8 +52,8 @@ empty_tables header = record { flat = new_flat header; calls = 0 }
 abbrev pub IsList : Header → Held → Type 0
 IsList header held = held ≡ helds.List (empty_tables header)
 
-abbrev pub IsShared : Header → Held → Type 0
-IsShared header held = (tables : Sharing) × (held ≡ helds.Shared tables) × IsNew header tables
+abbrev pub IsShared : (tag : ℕ) → Header → Held → Type 0
+IsShared tag header held = (tables : Sharing) × (held ≡ helds.Shared tables) × IsNew header tag tables
 
 -- what was made is held, if there was memory for it
 abbrev pub Holds : Held → Option Held → Making → Type 0

@@ -21,10 +21,10 @@ abbrev pub told : Option Sight → InetSight
 told None = nobody
 told (Some s) = record { kind = s.kind; worker = s.worker; socket = s.socket }
 
--- the socket that a looker found, by its name: its worker's number above, and its own in the lower 24 bits
+-- the socket that a looker found, by its name: its worker's number above, and its own in the lower 56 bits
 abbrev pub told_by : PacketAnswer → InetSight
 told_by (answers.Found card) =
-    record { kind = kind_of card.kind; worker = card.name / 2 ^ 24; socket = card.name % 2 ^ 24 }
+    record { kind = kind_of card.kind; worker = card.name / 2 ^ 56; socket = card.name % 2 ^ 56 }
 told_by _ = nobody
 
 -- EAGAIN where others changed the chains at each pass

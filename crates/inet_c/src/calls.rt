@@ -14,7 +14,7 @@ use patience::Tries;
 use shared_calls::Caller;
 use std::alloc::Global;
 
-fn number_in(held: &Held) -> u32
+fn number_in(held: &Held) -> u64
     ensures { result ≡ spec.number_in held.now }
 {
     match held {
@@ -25,7 +25,7 @@ fn number_in(held: &Held) -> u32
 }
 
 /// The number that the handle's next socket gets.
-pub fn next_number(handle: &mut InetTables, alloc: Global) -> u32
+pub fn next_number(handle: &mut InetTables, alloc: Global) -> u64
     ensures number { result ≡ spec.next_number handle.old.held }
     ensures same { handle.new.held ≡ handle.old.held }
 {

@@ -1,15 +1,58 @@
 //! How workers and lookers are handed out of shared tables, each into a handle of its own.
 
-ghost use Rattle.std.specs.Prelude.{◌≡◌, None, Some};
+ghost use Rattle.std.specs.Prelude.{◌≡◌, IfErr, None, OnErr, OnOk, Some};
 ghost use Rattle.inet_c.specs.Handed.{Hands, IsLooker, IsWorker, NumberedIf};
 ghost use Rattle.inet_c.specs.declared.held.Held.TheVariants as helds;
 ghost use Rattle.shared_calls.specs.Sharings.{HasNoCaller, HasNoLooker};
 
 use crate::handle::InetTables;
 use crate::held::Held;
-use crate::making::{Making, hold, is_there};
-use shared_calls::{Refused, SharedTables};
+use crate::making::{Making, is_there};
+use shared_calls::{Caller, Looker, Refused, SharedTables};
 use std::alloc::Global;
+
+/// Puts a worker into a handle that holds nothing; for want of memory it comes back.
+fn hold_worker(
+    worker: &mut InetTables,
+    alloc: Global,
+    caller: Caller,
+    tries: u64,
+) -> Result<(), Caller>
+    requires { worker.old.held ≡ None }
+    ensures held { OnOk result (worker.new.held ≡ Some (helds.Worker caller tries)) }
+    ensures back { IfErr result (λ c. c ≡ caller) }
+    ensures none { OnErr result (worker.new.held ≡ None) }
+{
+    match Box::new(alloc, Held::Worker { caller, tries }) {
+        Ok(held) => {
+            *worker = InetTables::of(held);
+            Ok(())
+        }
+        Err(failed) => match failed.value {
+            Held::Worker { caller, .. } => Err(caller),
+            _ => unreachable!(),
+        },
+    }
+}
+
+/// Puts a looker into a handle that holds nothing; for want of memory it comes back.
+fn hold_looker(handle: &mut InetTables, alloc: Global, looker: Looker) -> Result<(), Looker>
+    requires { handle.old.held ≡ None }
+    ensures held { OnOk result (handle.new.held ≡ Some (helds.Looker looker)) }
+    ensures back { IfErr result (λ l. l ≡ looker) }
+    ensures none { OnErr result (handle.new.held ≡ None) }
+{
+    match Box::new(alloc, Held::Looker(looker)) {
+        Ok(held) => {
+            *handle = InetTables::of(held);
+            Ok(())
+        }
+        Err(failed) => match failed.value {
+            Held::Looker(looker) => Err(looker),
+            _ => unreachable!(),
+        },
+    }
+}
 
 fn give_worker(
     tables: &mut SharedTables,
@@ -27,12 +70,15 @@ fn give_worker(
     match tables.caller(alloc) {
         Ok(caller) => {
             let given = caller.number();
-            match hold(worker, alloc, Held::Worker { caller, tries }) {
-                Making::Made => {
+            match hold_worker(worker, alloc, caller, tries) {
+                Ok(()) => {
                     *number = given;
                     Making::Made
                 }
-                refused => refused,
+                Err(caller) => {
+                    tables.take_back(caller);
+                    Making::NoMemory
+                }
             }
         }
         Err(Refused::AllOut) => Making::AllOut,
@@ -46,14 +92,20 @@ fn give_looker(tables: &mut SharedTables, alloc: Global, looker: &mut InetTables
         looker.old.held looker.new.held result }
 {
     match tables.looker(alloc) {
-        Ok(held) => hold(looker, alloc, Held::Looker(held)),
+        Ok(given) => match hold_looker(looker, alloc, given) {
+            Ok(()) => Making::Made,
+            Err(given) => {
+                tables.take_looker_back(given);
+                Making::NoMemory
+            }
+        },
         Err(Refused::AllOut) => Making::AllOut,
         Err(Refused::Memory) => Making::NoMemory,
     }
 }
 
-/// The next worker of shared tables, into a handle that holds nothing, and its number, or 0. It tries so often again
-/// for what another worker has.
+/// A worker of shared tables, into a handle that holds nothing, and its number, or 0: the one that was given back last,
+/// or the next. It tries so often again for what another worker has.
 pub fn hand_worker(
     handle: &mut InetTables,
     alloc: Global,

@@ -14,6 +14,7 @@ pub mod held;
 pub mod listing;
 pub mod making;
 mod parts;
+pub mod returning;
 pub mod seen;
 pub mod sockets;
 pub mod whole;

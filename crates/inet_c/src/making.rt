@@ -1,10 +1,10 @@
 //! How tables are made.
 
 ghost use Rattle.std.specs.Prelude.{◌≡◌, ◌↔◌, pos, None, IsTrue, is_some};
-ghost use Rattle.chain_book.specs.Shapes.{IsPowerTo, ShapeFits};
+ghost use Rattle.chain_book.specs.Shapes.{IsPowerTo};
 ghost use Rattle.flat_list.specs.Fits.{FitsTables};
 ghost use Rattle.inet_c.specs.Made as spec;
-ghost use Rattle.inet_c.specs.Made.{Holds, IsList, IsShared, Makes, PortsFit, SizesFit};
+ghost use Rattle.inet_c.specs.Made.{CallersShape, Holds, IsList, IsShared, Makes, PortsFit, SizesFit};
 
 use crate::handle::InetTables;
 use crate::held::Held;
@@ -52,13 +52,13 @@ fn is_count(count: u32, most: u32) -> bool
 }
 
 fn is_shape(shape: &Shape) -> bool
-    ensures { IsTrue result ↔ ShapeFits shape.now }
+    ensures { IsTrue result ↔ CallersShape shape.now }
 {
     1 <= shape.slots
-        && shape.slots <= 65_536
+        && shape.slots <= 0x100_0000
         && is_count(shape.bind, 256)
-        && is_count(shape.hash, 65_536)
-        && is_count(shape.listen, 4_096)
+        && is_count(shape.hash, 0x100_0000)
+        && is_count(shape.listen, 0x10_0000)
 }
 
 /// Whether a range has an even number of ports, from 1 on.
@@ -77,7 +77,7 @@ fn is_header(header: &Header) -> bool
 }
 
 /// Puts what was made into a handle that holds nothing.
-pub(crate) fn hold(handle: &mut InetTables, alloc: Global, held: Held) -> Making
+fn hold(handle: &mut InetTables, alloc: Global, held: Held) -> Making
     requires { handle.old.held ≡ None }
     ensures { Holds held handle.new.held result }
 {
@@ -117,9 +117,9 @@ pub fn make(handle: &mut InetTables, alloc: Global, header: &Header) -> Making
     hold(handle, alloc, Held::List(Tables::new(alloc, header)))
 }
 
-/// Makes shared tables in a handle that holds nothing.
-pub fn share(handle: &mut InetTables, alloc: Global, header: &Header) -> Making
-    ensures { Makes IsShared header.now handle.old.held handle.new.held result }
+/// Makes shared tables in a handle that holds nothing. By the tag what they hand out is known as theirs.
+pub fn share(handle: &mut InetTables, alloc: Global, header: &Header, tag: u64) -> Making
+    ensures { Makes (IsShared tag) header.now handle.old.held handle.new.held result }
 {
     if !is_header(header) {
         return Making::Unfit;
@@ -127,7 +127,7 @@ pub fn share(handle: &mut InetTables, alloc: Global, header: &Header) -> Making
     if is_there(handle, alloc) {
         return Making::There;
     }
-    match SharedTables::new(alloc, header) {
+    match SharedTables::new(alloc, header, tag) {
         Ok(tables) => hold(handle, alloc, Held::Shared(tables)),
         Err(_) => Making::NoMemory,
     }

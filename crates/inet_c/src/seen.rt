@@ -23,7 +23,7 @@ const PASSES: u32 = 16;
 pub struct InetSight {
     pub kind: u32,
     pub worker: u32,
-    pub socket: u32,
+    pub socket: u64,
 }
 
 const NOBODY: InetSight = InetSight {
@@ -60,8 +60,8 @@ fn told_by(answer: &PacketAnswer) -> (InetSight, i32)
         PacketAnswer::Found(card) => {
             let sight = InetSight {
                 kind: kind_of(card.kind),
-                worker: card.name >> 24,
-                socket: card.name & 0xFF_FFFF,
+                worker: (card.name >> 56) as u32,
+                socket: card.name & 0xFF_FFFF_FFFF_FFFF,
             };
             (sight, 0)
         }

@@ -28,7 +28,7 @@ pub extern "C" fn inet_tables_socket(
     uid: u32,
     dev: u16,
     flags: u32,
-    socket: &mut u32,
+    socket: &mut u64,
 ) -> i32
     ensures number { socket.new ≡ next_number tables.old.held }
     ensures called { (outcome : Outcome) × CalledOn tables.old.held tables.new.held worker
@@ -47,7 +47,7 @@ pub extern "C" fn inet_tables_bind(
     tables: &mut InetTables,
     alloc: Global,
     worker: u32,
-    socket: u32,
+    socket: u64,
     addr: u32,
     port: u16,
     bound: &mut u16,
@@ -68,7 +68,7 @@ pub extern "C" fn inet_tables_listen(
     tables: &mut InetTables,
     alloc: Global,
     worker: u32,
-    socket: u32,
+    socket: u64,
     bound: &mut u16,
 ) -> i32
     ensures { (outcome : Outcome) × CalledOn tables.old.held tables.new.held worker (commands.listen socket) outcome
@@ -86,7 +86,7 @@ pub extern "C" fn inet_tables_connect(
     tables: &mut InetTables,
     alloc: Global,
     worker: u32,
-    socket: u32,
+    socket: u64,
     from: u32,
     to_addr: u32,
     to_port: u16,
@@ -115,12 +115,12 @@ pub extern "C" fn inet_tables_accept(
     tables: &mut InetTables,
     alloc: Global,
     worker: u32,
-    listener: u32,
+    listener: u64,
     from_addr: u32,
     from_port: u16,
     at_addr: u32,
     at_port: u16,
-    socket: &mut u32,
+    socket: &mut u64,
 ) -> i32
     ensures number { socket.new ≡ next_number tables.old.held }
     ensures called { (outcome : Outcome) × CalledOn tables.old.held tables.new.held worker
@@ -148,12 +148,12 @@ pub extern "C" fn inet_tables_syn(
     tables: &mut InetTables,
     alloc: Global,
     worker: u32,
-    listener: u32,
+    listener: u64,
     from_addr: u32,
     from_port: u16,
     at_addr: u32,
     at_port: u16,
-    request: &mut u32,
+    request: &mut u64,
 ) -> i32
     ensures number { request.new ≡ next_number tables.old.held }
     ensures called { (outcome : Outcome) × CalledOn tables.old.held tables.new.held worker
@@ -182,8 +182,8 @@ pub extern "C" fn inet_tables_ack(
     tables: &mut InetTables,
     alloc: Global,
     worker: u32,
-    request: u32,
-    socket: &mut u32,
+    request: u64,
+    socket: &mut u64,
 ) -> i32
     ensures number { socket.new ≡ next_number tables.old.held }
     ensures called { (outcome : Outcome) × CalledOn tables.old.held tables.new.held worker
@@ -202,7 +202,7 @@ pub extern "C" fn inet_tables_close(
     tables: &mut InetTables,
     alloc: Global,
     worker: u32,
-    socket: u32,
+    socket: u64,
     waits: &mut bool,
 ) -> i32
     ensures { (outcome : Outcome) × CalledOn tables.old.held tables.new.held worker (commands.close socket) outcome
@@ -219,7 +219,7 @@ pub extern "C" fn inet_tables_drop(
     tables: &mut InetTables,
     alloc: Global,
     worker: u32,
-    socket: u32,
+    socket: u64,
 ) -> i32
     ensures { (outcome : Outcome)
         × CalledOn tables.old.held tables.new.held worker (commands.drop_socket socket) outcome

@@ -5,23 +5,27 @@ ghost use Rattle.inet_c.specs.Handed.{Hands, IsLooker, IsWorker, NumberedIf};
 ghost use Rattle.inet_c.specs.Listed as listed;
 ghost use Rattle.inet_c.specs.Made as made;
 ghost use Rattle.inet_c.specs.Made.{IsList, IsShared, Makes};
+ghost use Rattle.inet_c.specs.Returned as returned;
+ghost use Rattle.inet_c.specs.Returned.{Returns};
 ghost use Rattle.inet_c.specs.Seen.{LooksOn};
 ghost use Rattle.inet_c.specs.declared.listing.Telling.{Telling};
 ghost use Rattle.inet_c.specs.declared.making.Making.{Making};
+ghost use Rattle.inet_c.specs.declared.returning.Returning.{Returning};
 ghost use Rattle.shared_calls.specs.Sharings.{HasNoCaller, HasNoLooker};
 
 use crate::handing::{hand_looker, hand_worker};
 use crate::handle::InetTables;
-use crate::listing;
 use crate::making::{errno_of, make, share};
+use crate::returning::give_back;
 use crate::seen::{InetSight, look};
+use crate::{listing, returning};
 use flat_calls::Item;
 use flat_list::header::NONE_RESERVED;
 use flat_list::{Header, Range, Shape};
 use sock_card::Packet;
 use std::alloc::Global;
 
-/// The sizes of tables: `slots` is 1 to 65536; `bind`, `hash` and `listen` are powers of two to 256, 65536 and 4096.
+/// The sizes of tables: `slots` is 1 to 2^24; `bind`, `hash` and `listen` are powers of two to 256, 2^24 and 2^20.
 /// `low` to `high` are the ports of searches, an even number of them, from 1 on. Searches begin at numbers that a
 /// generator draws, started from `seed`. `twreuse` lets `connect` take the place of a TIME_WAIT of its four-tuple,
 /// closed earlier.
@@ -68,21 +72,24 @@ pub extern "C" fn inet_tables_new(tables: &mut InetTables, alloc: Global, sizes:
     errno_of(make(tables, alloc, &header_of(sizes)))
 }
 
-/// Makes tables that threads share in a handle that holds nothing.
+/// Makes tables that threads share in a handle that holds nothing. By the tag it is known of a worker or a looker that
+/// is given back whether these tables handed it out, as far as others have other tags.
 #[unsafe(no_mangle)]
 pub extern "C" fn inet_tables_share(
     tables: &mut InetTables,
     alloc: Global,
     sizes: &InetSizes,
+    tag: u64,
 ) -> i32
-    ensures { (making : Making) × Makes IsShared (made.header_of sizes.now) tables.old.held tables.new.held making
+    ensures { (making : Making) × Makes (IsShared tag) (made.header_of sizes.now) tables.old.held tables.new.held making
         × (result ≡ pos (made.errno_of making)) }
 {
-    errno_of(share(tables, alloc, &header_of(sizes)))
+    errno_of(share(tables, alloc, &header_of(sizes), tag))
 }
 
-/// Hands the next worker of shared tables out, into a handle that holds nothing. It tries `tries` times again for what
-/// another worker has. `number` is the worker's, from 1 on, or 0.
+/// Hands a worker of shared tables out, into a handle that holds nothing: the one that was given back last, with all
+/// that it has, or the next. It tries `tries` times again for what another worker has. `number` is the worker's, from 1
+/// on, or 0.
 #[unsafe(no_mangle)]
 pub extern "C" fn inet_tables_worker(
     tables: &mut InetTables,
@@ -111,6 +118,21 @@ pub extern "C" fn inet_tables_looker(
         × (result ≡ pos (made.errno_of making)) }
 {
     errno_of(hand_looker(tables, alloc, looker))
+}
+
+/// Gives a worker or a looker back to its shared tables, for the next who wants one. Its handle holds nothing then. A
+/// worker keeps its sockets, its TIME_WAITs and its moment.
+#[unsafe(no_mangle)]
+pub extern "C" fn inet_tables_give_back(
+    tables: &mut InetTables,
+    alloc: Global,
+    back: &mut InetTables,
+) -> i32
+    ensures { (returning : Returning)
+        × Returns tables.old.held tables.new.held back.old.held back.new.held returning
+        × (result ≡ pos (returned.errno_of returning)) }
+{
+    returning::errno_of(give_back(tables, alloc, back))
 }
 
 /// Gives up what a handle holds, which holds nothing then. Shared tables go with the last handle that has a part in

@@ -86,6 +86,28 @@ impl Gate for Held {
     }
 }
 
+/// Keeps at which packets each of two lookers came to the gate: bit 1 for the capture's first, and so on.
+#[derive(Drop)]
+struct Counted {
+    first: AtomicU64,
+    second: AtomicU64,
+}
+
+impl Gate for Counted {
+    fn pass(&self, who: Who, at: u64) {
+        let bit = if at < 64 { 1 << at } else { 1 };
+        match who {
+            Who::Looker(1) => {
+                self.first.fetch_or(bit, Ordering::SeqCst);
+            }
+            Who::Looker(_) => {
+                self.second.fetch_or(bit, Ordering::SeqCst);
+            }
+            Who::Script(_) => {}
+        }
+    }
+}
+
 /// The status of a race of the script with a capture of four packets, and what it writes.
 fn race<G: Gate>(
     rt: &(impl Threads + Wait + Sync + RandomSource + AllocGlobal),
@@ -137,5 +159,21 @@ fn a_looker_waits_for_a_section(rt: HostRuntime) -> Result<(), Fail> {
         journal 0 3\nlife 1 0 listen 1.a 10.0.0.1:80 0.0.0.0:0 dev 0 hash 0 1 unhash -\npacket 1 ";
     assert!(rt; written.starts_with(begin));
     assert!(rt; written.ends_with(b"\npacket 4 skip\ncut\nclock 2\n"));
+    Ok(())
+}
+
+// A gate hears of packets by their numbers in the capture, from 1.
+#[test]
+fn packets_are_counted_from_one(rt: HostRuntime) -> Result<(), Fail> {
+    let gate = Counted {
+        first: AtomicU64::new(0),
+        second: AtomicU64::new(0),
+    };
+    let (status, _) = race(&rt, "2", "script 1\nsocket a\ncapture\n", &gate)?;
+    let (first, second) = (
+        gate.first.load(Ordering::SeqCst),
+        gate.second.load(Ordering::SeqCst),
+    );
+    assert!(rt; status == Status::Done && first | second == 0b1_1110 && first & second == 0);
     Ok(())
 }

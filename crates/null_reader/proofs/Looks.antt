@@ -1,13 +1,13 @@
 -- How a lookup ends.
 use Rattle.std.proofs.Common.{◌≡◌, ℕ, ◌+◌, ◌<◌, ◌≤◌, List, [], ◌∷◌, ◌++◌, length, sym, refl, ap, ◌∙◌, subst, arith, Option, Some, None, Result, Ok, Err}
 use Rattle.table_rule.specs.ReadersOk.{rank_of}
-use Rattle.table_rule.specs.Plays.{Sat, setting_out, concluding, receipt}
+use Rattle.table_rule.specs.Plays.{Sat, setting_out, concluding, receipt, OwnExplains}
 use Rattle.table_rule.specs.LookCalls.{Looks, IsNone, IsFound}
 use Rattle.table_rule.specs.Alone.{IsAlone, NoneStands, CardStands, NoneKnown}
 use mathlib.Core.Option.{some}
 use lib.ListN.{get_elem?}
 use Rattle.table_rule.specs.declared.view.Change.{Change}
-use Rattle.null_reader.specs.Looked.{IsWhole, looking, held, stop_of, IsLookup, Passed, looked_view, LookedAs}
+use Rattle.null_reader.specs.Looked.{IsWhole, looking, held, stop_of, IsLookup, Passed, looked_view, LookedAs, MadeFew, OwnAs}
 use Rattle.table_rule.specs.declared.view.Layout.{Layout}
 use Rattle.table_rule.specs.declared.view.Kept.{Kept}
 use Rattle.table_rule.specs.declared.view.Stop.{Stop}
@@ -32,6 +32,8 @@ pub record Between (m : Sat) (q₀ : Reader) (passes : ℕ) (last : PassEnd) (n 
   pub same : IsLookup q₀ q
   pub count : length q.stops ≡ passes
   pub last-is : 0 < passes → (front : List Stop) × (q.stops ≡ front ++ stop_of last ∷ [])
+  -- no pass is under way
+  pub idle : q.walking ≡ 0
 
 len-snoc : (l : List Stop) (e : Stop) → length (l ++ e ∷ []) ≡ length l + 1
 len-snoc [] e = refl
@@ -55,6 +57,7 @@ module _ (layout : Layout) (bucket : ℕ) (key : Packet) (least passes t₀ : �
     same = record { bucket = refl; key = refl; least = refl; since = refl };
     count = refl;
     last-is = λ h. absurd (omega (arith, h));
+    idle = refl;
   }
 
   module _ (done : ℕ) (last : PassEnd) (n n' : Sat) (b : Between m₁ q₀ done last n) where
@@ -99,6 +102,24 @@ module _ (layout : Layout) (bucket : ℕ) (key : Packet) (least passes t₀ : �
             ∙ ap (λ (c : Receipt). (looked_view m.0 t₀ m.0.read.kept m.0.slot.holds t.5 c, m.1)) (told t.0 0 t₁ [] (joined t.0 t.1))))),
       )
 
+      -- each pass before this one stopped
+      pub few_none : Passed layout n b.q (Ok None) n' → ((q : Reader) → Looks n'.0 q → n'' ≡ (concluding n'.0 (receipt q 0 [] t₁), n'.1)) → done < passes → MadeFew passes m ends.None n''
+      unfolding looked_none
+      few_none t end more = let l = looked_none t end in (
+        record { bucket = bucket; key = key; least = least; from = t₀; to = t₁; kind = 0; card = []; stops = t.0.stops },
+        ap (λ (s : Sat). s.0.read.receipts) l.3,
+        omega (arith, more, b.count, ap (length {A = Stop}) t.4),
+      )
+
+      -- and the pass's changes explain the receipt where it drew all numbers
+      own-told : (q : Reader) (ks : List Kept) (hs : List ℕ) (taken : ℕ) (c : Receipt) → n' ≡ (looking n.0 q ks hs taken, n.1) → n'' ≡ (concluding n'.0 c, n'.1) → OwnExplains n'.0 t₁ c → OwnAs m.0 t₁ n''.0
+      own-told q ks hs taken c at end own all = let e = from-start q ks hs taken at in
+          let o : OwnExplains (looking (setting_out m.0 bucket key least t₀) q ks hs taken) t₁ c = subst (λ (s : Sat). OwnExplains s.0 t₁ c) e own in
+          (c, ap (λ (s : Sat). s.0.read.receipts) end ∙ ap (λ (s : Sat). s.0.read.receipts ++ c ∷ []) e, o all)
+
+      pub own_none : Passed layout n b.q (Ok None) n' → ((q : Reader) → Looks n'.0 q → n'' ≡ (concluding n'.0 (receipt q 0 [] t₁), n'.1)) → ((q : Reader) → Looks n'.0 q → OwnExplains n'.0 t₁ (receipt q 0 [] t₁)) → OwnAs m.0 t₁ n''.0
+      own_none t end own = let at = ap (λ (s : Sat). s.0.read.reader) t.7 in own-told t.0 n.0.read.kept n.0.slot.holds t.5 (receipt t.0 0 [] t₁) t.7 (end t.0 at) (own t.0 at)
+
       module _ (best : Best) (t : Passed layout n b.q (Ok (Some best)) n') where
         found-at : n' ≡ (looking n.0 t.0 (held best t.5.0 ∷ n.0.read.kept) (best.slot ∷ n.0.slot.holds) t.7, n.1)
         found-at = t.9 ∙ (ap (λ (l : List Kept). (looking n.0 t.0 l t.2 t.7, n.1)) t.5.5 ∙ ap (λ (l : List ℕ). (looking n.0 t.0 (held best t.5.0 ∷ n.0.read.kept) l t.7, n.1)) t.5.6)
@@ -138,6 +159,21 @@ module _ (layout : Layout) (bucket : ℕ) (key : Packet) (least passes t₀ : �
                   ∙ ap (λ (c : Receipt). (looked_view m.0 t₀ (held best t.5.0 ∷ m.0.read.kept) (best.slot ∷ m.0.slot.holds) t.7 c, m.1)) (told t.0 1 t₁ (words_of best.card) s)))),
             )
 
+        pub few_found : ((q : Reader) (h : Kept) (hs : List Kept) → Looks n'.0 q → n'.0.read.kept ≡ h ∷ hs → n'' ≡ (concluding n'.0 (receipt q 1 h.words t₁), n'.1)) → done < passes → MadeFew passes m (ends.Found (record { slot = best.slot }) best.card) n''
+        unfolding looked_found
+        few_found end more = let l = looked_found end in (
+          record { bucket = bucket; key = key; least = least; from = t₀; to = t₁; kind = 1; card = words_of best.card; stops = t.0.stops },
+          ap (λ (s : Sat). s.0.read.receipts) l.6,
+          omega (arith, more, b.count, ap (length {A = Stop}) t.6),
+        )
+
+        pub own_found : ((q : Reader) (h : Kept) (hs : List Kept) → Looks n'.0 q → n'.0.read.kept ≡ h ∷ hs → n'' ≡ (concluding n'.0 (receipt q 1 h.words t₁), n'.1)) → ((q : Reader) (h : Kept) (hs : List Kept) → Looks n'.0 q → n'.0.read.kept ≡ h ∷ hs → OwnExplains n'.0 t₁ (receipt q 1 h.words t₁)) → OwnAs m.0 t₁ n''.0
+        own_found end own =
+            let reads = ap (λ (s : Sat). s.0.read.reader) found-at in
+            let keeps = ap (λ (s : Sat). s.0.read.kept) found-at in
+            let h : Kept = held best t.5.0 in
+            own-told t.0 (h ∷ n.0.read.kept) (best.slot ∷ n.0.slot.holds) t.7 (receipt t.0 1 h.words t₁) found-at (end t.0 h n.0.read.kept reads keeps) (own t.0 h n.0.read.kept reads keeps)
+
   -- each pass stopped
   module _ (last : PassEnd) (n : Sat) (b : Between m₁ q₀ passes last n) (some-pass : 0 < passes) where
     pub looked_again : (n'' : Sat) (t₁ : ℕ) → ((q : Reader) → Looks n.0 q → n'' ≡ (concluding n.0 (receipt q 2 [] t₁), n.1)) → LookedAs bucket key least passes m (ends.Again bucket last) t₀ t₁ n''
@@ -154,6 +190,21 @@ module _ (layout : Layout) (bucket : ℕ) (key : Packet) (least passes t₀ : �
                 ∙ ap (λ (r : Receipt). (looked_view m.0 t₀ m.0.read.kept m.0.slot.holds b.taken r, m.1)) c)),
           ),
         )
+
+    pub few_again : (n'' : Sat) (t₁ : ℕ) → ((q : Reader) → Looks n.0 q → n'' ≡ (concluding n.0 (receipt q 2 [] t₁), n.1)) → MadeFew passes m (ends.Again bucket last) n''
+    few_again n'' t₁ end = let l = (looked_again n'' t₁ end).1 in (
+      record { bucket = bucket; key = key; least = least; from = t₀; to = t₁; kind = 2; card = []; stops = l.0 ++ stop_of last ∷ [] },
+      ap (λ (s : Sat). s.0.read.receipts) l.4,
+      omega (arith, l.1, len-snoc l.0 (stop_of last)),
+    )
+
+    pub own_again : (n'' : Sat) (t₁ : ℕ) → ((q : Reader) → Looks n.0 q → n'' ≡ (concluding n.0 (receipt q 2 [] t₁), n.1)) → ((q : Reader) → Looks n.0 q → OwnExplains n.0 t₁ (receipt q 2 [] t₁)) → OwnAs m.0 t₁ n''.0
+    own_again n'' t₁ end own all =
+        let at = ap (λ (s : Sat). s.0.read.reader) b.is in
+        let c : Receipt = receipt b.q 2 [] t₁ in
+        let e : n ≡ (looking (setting_out m.0 bucket key least t₀) b.q m₁.0.read.kept m₁.0.slot.holds b.taken, m.1) = b.is ∙ ap (λ (s : Sat). (looking s.0 b.q m₁.0.read.kept m₁.0.slot.holds b.taken, s.1)) out in
+        let o : OwnExplains (looking (setting_out m.0 bucket key least t₀) b.q m₁.0.read.kept m₁.0.slot.holds b.taken) t₁ c = subst (λ (s : Sat). OwnExplains s.0 t₁ c) e (own b.q at) in
+        (c, ap (λ (s : Sat). s.0.read.receipts) (end b.q at) ∙ ap (λ (s : Sat). s.0.read.receipts ++ c ∷ []) e, o all)
 
 -- The answers of a sole pass
 

@@ -61,10 +61,10 @@ walks_on layout m q₀ best r F n n' q p ks hs taken own is more same bests stop
       same = record { bucket = same.bucket; key = same.key; least = same.least; since = same.since };
       best-is = best_same layout m.0 p (stopping p kind a) best ks hs refl refl refl refl bests;
       slot = λ even few. absurd (no-slot even few);
-      long = λ even many. let t = long even in λ k. stops k ++ record { kind = t.0 k; at = t.1 k } ∷ [];
+      long = λ even many. let t = long even in (λ k. stops k ++ record { kind = t.0 k; at = t.1 k } ∷ [], refl);
       own = λ end. absurd (no-own end);
       near = near;
-      foreign = λ odd ne. let t = foreign odd in λ k. stops k ++ record { kind = t.0 k; at = t.1 k } ∷ [];
+      foreign = λ odd ne. let t = foreign odd in (λ k. stops k ++ record { kind = t.0 k; at = t.1 k } ∷ [], refl);
     } in
     dite (ℕ_discrete (r % 2) 0)
     (λ even. dite (dec_le p.followed n.0.layout.shape.slots)
@@ -221,7 +221,7 @@ module _ (layout : Layout) (m : Sat) (q₀ : Reader) (best : Option Best) (link 
     put-at = dropped layout m w.q w.q best w.ks w.hs w.taken n w.best-is w.is n' kept changed
 
     pub passed_foreign : link % 2 ≡ 1 → link ≢ 2 * q₀.bucket + 1 → Passed layout m q₀ (Err (Foreign (link / 2))) n'
-    passed_foreign odd ne = (w.q, w.same, w.foreign odd ne, w.taken, w.more, put-at)
+    passed_foreign odd ne = (w.q, w.same, (w.foreign odd ne).0, w.taken, w.more, put-at, (w.foreign odd ne).1)
 
     pub passed_long : link % 2 ≡ 0 → layout.shape.slots < followed → Passed layout m q₀ (Err (Long followed)) n'
-    passed_long even many = (w.q, w.same, w.long even many, w.taken, w.more, put-at)
+    passed_long even many = (w.q, w.same, (w.long even many).0, w.taken, w.more, put-at, (w.long even many).1)

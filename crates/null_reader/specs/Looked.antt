@@ -7,7 +7,9 @@ use Rattle.std.specs.Prelude.{◌≡◌, ◌≢◌, ℕ, ◌+◌, ◌*◌, ◌/�
 use Rattle.sock_card.specs.Words.{word_rank as rank}
 use Rattle.table_rule.specs.ReadersOk.{rank_of}
 use Rattle.table_rule.specs.Plays.{settled, Sat, with_reader, with_kept, stopping}
-use Rattle.table_rule.specs.Alone.{NoneStands, CardStands, NoneKnown}
+use Rattle.table_rule.specs.Alone.{mine, NoneStands, CardStands, NoneKnown}
+use Rattle.table_rule.specs.Explained.{IsExplained}
+use Rattle.table_rule.specs.Rule.{drawn}
 use Rattle.table_rule.specs.LookCalls.{Looks, IsAtEnd}
 use mathlib.Core.Option.{some}
 use lib.ListN.{get_elem?}
@@ -140,10 +142,12 @@ pub record Walking (layout : Layout) (m₀ : Sat) (q₀ : Reader) (best : Option
   pub slot : link % 2 ≡ 0 → followed ≤ layout.shape.slots → (q.walking ≡ 1) × (q.link ≡ link) × (q.followed ≡ followed)
       × (q.peeked ≡ record { slot = link / 2; words = [] } ∷ []) × (link / 2 < layout.shape.slots)
       × (q.stops ≡ q₀.stops)
-  pub long : link % 2 ≡ 0 → layout.shape.slots < followed → q.stops ≡ q₀.stops ++ stop_of (Long followed) ∷ []
+  pub long : link % 2 ≡ 0 → layout.shape.slots < followed → (q.stops ≡ q₀.stops ++ stop_of (Long followed) ∷ [])
+      × (q.walking ≡ 0)
   pub own : link ≡ 2 * q₀.bucket + 1 → IsAtEnd q × (q.stops ≡ q₀.stops)
   pub near : link % 2 ≡ 1 → link / 2 < bucket_count layout
-  pub foreign : link % 2 ≡ 1 → link ≢ 2 * q₀.bucket + 1 → q.stops ≡ q₀.stops ++ stop_of (Foreign (link / 2)) ∷ []
+  pub foreign : link % 2 ≡ 1 → link ≢ 2 * q₀.bucket + 1 → (q.stops ≡ q₀.stops ++ stop_of (Foreign (link / 2)) ∷ [])
+      × (q.walking ≡ 0)
 
 -- what a pass of the lookup q₀ leaves
 abbrev pub Passed : Layout → Sat → Reader → Result (Option Best) PassEnd → Sat → Type 0
@@ -156,7 +160,7 @@ Passed layout m q₀ (Ok (Some t)) n =
     × (n ≡ (looking m.0 q ks hs taken, m.1))
 Passed layout m q₀ (Err e) n =
     (q : Reader) × IsLookup q₀ q × (q.stops ≡ q₀.stops ++ stop_of e ∷ []) × (taken : ℕ) × (m.0.slot.taken ≤ taken)
-    × (n ≡ (looking m.0 q m.0.read.kept m.0.slot.holds taken, m.1))
+    × (n ≡ (looking m.0 q m.0.read.kept m.0.slot.holds taken, m.1)) × (q.walking ≡ 0)
 
 -- what a turn of a pass leaves: it found the best there is, or goes on
 abbrev pub Turned : Layout → Sat → Reader → ℕ → Result Turn PassEnd → Sat → Type 0
@@ -231,6 +235,25 @@ LookedAs bucket key least passes m (ends.Again b stop) t₀ t₁ n =
           }),
       m.1,
     )))
+
+-- How many passes a lookup made, by its receipt. Each pass begins with a load of the bucket's head, which
+-- `step_peek_head` allows at the lookup's start and after a pass that stopped, and each stop is in the receipt: where
+-- the lookup has an answer it made at most one pass more, and else so many.
+abbrev pub passes_of : WordsEnd → Receipt → ℕ
+passes_of (ends.Found h card) c = length c.stops + 1
+passes_of ends.None c = length c.stops + 1
+passes_of (ends.Again b stop) c = length c.stops
+
+-- by the receipt that it added, it made at most so many
+abbrev pub MadeFew : (passes : ℕ) → Sat → WordsEnd → Sat → Type 0
+MadeFew passes m end n = (c : Receipt) × (n.0.read.receipts ≡ m.0.read.receipts ++ c ∷ []) × (passes_of end c ≤ passes)
+
+-- a pass that drew all numbers of the clock up to the lookup's end has all changes there were, and they explain the
+-- receipt that the lookup added
+abbrev pub OwnAs : View → (t₁ : ℕ) → View → Type 0
+OwnAs v t₁ w =
+    drawn v ≡ t₁ → (c : Receipt) × (w.read.receipts ≡ v.read.receipts ++ c ∷ [])
+    × IsExplained (mine v) v.layout.shape.slots c
 
 -- the pass's changes are all there are, and none is open
 abbrev pub IsWhole : View → Type 0

@@ -4,7 +4,7 @@ ghost use Rattle.table_rule.specs.declared.view.Kept.{Kept};
 ghost use Rattle.sock_card.specs.Words.{word_rank as rank};
 ghost use Rattle.table_rule.specs.Calls.{IsOf, view, me, Becomes, Stays, layout_of};
 ghost use Rattle.table_rule.specs.LookCalls.{Looks, HasRoom, IsNth};
-ghost use Rattle.null_reader.specs.Looked.{so_far, HasTwo, IsVisiting, IsChecking, Keyed, Checked, Visited, Walking, Turned, Passed, LookedAs, IsWhole, SoleAs, KnownAs, HadEnded, IsCardEnd, IsInside, IsStopInside};
+ghost use Rattle.null_reader.specs.Looked.{so_far, HasTwo, IsVisiting, IsChecking, Keyed, Checked, Visited, Walking, Turned, Passed, LookedAs, IsWhole, SoleAs, KnownAs, HadEnded, IsCardEnd, IsInside, IsStopInside, MadeFew, OwnAs};
 ghost use Rattle.table_rule.specs.Plays.{Sat, with_kept, letting_go, drop_at};
 ghost use Rattle.table_rule.specs.Words.{bucket_count};
 
@@ -222,7 +222,7 @@ fn one_pass<P: Pace>(
     requires bucket { bucket < bucket_count (layout_of chains.now) }
     requires room { HasTwo (view steps.old) }
     requires looks { (q : Reader) × Looks (view steps.old) q × (q.bucket ≡ bucket) × (q.key ≡ key) × (q.least ≡ least)
-        × (q.since ≤ (view steps.old).seen) }
+        × (q.since ≤ (view steps.old).seen) × (q.walking ≡ 0) }
     ensures table { IsOf chains.now steps.new }
     ensures inside { IfErr result (IsStopInside (layout_of chains.now)) }
     ensures passed { (q : Reader) → Looks (view steps.old) q
@@ -275,11 +275,13 @@ pub(crate) fn look_words<P: Pace>(
     ensures table { IsOf chains.now steps.new }
     ensures fresh { ((view steps.old).seen ≤ result.from) × (result.from ≤ result.to) }
     ensures looked { LookedAs bucket key least passes (me steps.old) result.end result.from result.to (me steps.new) }
+    ensures few { MadeFew passes (me steps.old) result.end (me steps.new) }
     ensures card { IsCardEnd result.end }
     ensures inside { IsInside (layout_of chains.now) result.end }
     ensures sole { IsWhole (view steps.old) → SoleAs bucket key least (view steps.old) result.end }
     ensures known { KnownAs bucket key least (view steps.old) result.end result.from }
     ensures before { HadEnded (view steps.old) result.from }
+    ensures own { OwnAs (view steps.old) result.to (view steps.new) }
 {
     pace.step(Point::Start);
     let from = chains.step_clock_start(steps, bucket, key, least);

@@ -1,5 +1,5 @@
 ghost use Rattle.std.specs.Prelude.{◌≡◌, ◌<◌, ◌≤◌, []};
-ghost use Rattle.null_reader.specs.Looked.{HasTwo, LookedAs, IsWhole, SoleAs, KnownAs, HadEnded, IsCardEnd, IsInside, words_end};
+ghost use Rattle.null_reader.specs.Looked.{HasTwo, LookedAs, IsWhole, SoleAs, KnownAs, HadEnded, IsCardEnd, IsInside, MadeFew, OwnAs, words_end};
 ghost use Rattle.table_rule.specs.Calls.{IsOf, view, me, layout_of};
 ghost use Rattle.table_rule.specs.Words.{bucket_count};
 
@@ -51,10 +51,12 @@ pub fn look<P: Pace>(
     ensures span { result.t0 ≤ result.t1 }
     ensures looked { LookedAs bucket packet.now least passes (me steps.old) (words_end result.end) result.t0 result.t1
         (me steps.new) }
+    ensures few { MadeFew passes (me steps.old) (words_end result.end) (me steps.new) }
     ensures inside { IsInside (layout_of chains.now) (words_end result.end) }
     ensures sole { IsWhole (view steps.old) → SoleAs bucket packet.now least (view steps.old) (words_end result.end) }
     ensures known { KnownAs bucket packet.now least (view steps.old) (words_end result.end) result.t0 }
     ensures before { HadEnded (view steps.old) result.t0 }
+    ensures own { OwnAs (view steps.old) result.t1 (view steps.new) }
 {
     let WordsLook { end, from, to } = look_words(
         chains, steps, bucket, *packet, least, passes, pace,

@@ -1,4 +1,5 @@
 -- What a change leaves of all that its pass saw before.
+use Rattle.std.proofs.lemmas.List.{append-nil}
 use Rattle.std.proofs.Common.{◌≡◌, ℕ, ◌≤◌, List, [], ◌∷◌, ◌++◌, inl, inr, ⊎_elim, cond, Bool, eq-eqb, ne_eqb, sym, refl, ap, ◌∙◌, arith, map}
 use mathlib.Core.Logic.{dite}
 use native.Mathlib.Decide.{ℕ_discrete}
@@ -64,3 +65,11 @@ saw_none layout v u w b f full low is = (
   are_settled v.seen b v.sights low,
   ap (λ (x : View). x.sights) is ∙ ap (λ (x : View). x.sights) full.1.is,
 )
+
+all_stand : (least : ℕ) (xs : List Sight) → AreSettled least xs xs
+all_stand least [] = tt
+all_stand least (x ∷ xs) = (inl refl, all_stand least xs)
+
+-- where nothing was seen since, all stands as it was
+pub saw_same : (v w : View) → w.sights ≡ v.sights → Sees v w
+saw_same v w is = (v.sights, [], all_stand v.seen v.sights, is ∙ sym (append-nil v.sights))

@@ -72,10 +72,10 @@ pub fn walk_to_end(chains: &Chains, steps: &mut Steps, locked: &mut Locked)
     unreachable!()
 }
 
-fn waits_as(card: &CardWords, name: u32) -> bool
+fn waits_as(card: &CardWords, name: u64) -> bool
     ensures { result ≡ spec.waits_as name (words_of card.now) }
 {
-    card.ports % 16 == TIME_WAIT && card.name == u64::from(name)
+    card.ports % 16 == TIME_WAIT && card.name == name
 }
 
 // Walks a bucket that was just locked to the first TIME_WAIT of this name; None at the chain's end.
@@ -83,7 +83,7 @@ pub(crate) fn find_wait(
     chains: &Chains,
     steps: &mut Steps,
     locked: &mut Locked,
-    name: u32,
+    name: u64,
 ) -> Option<(u32, CardWords)>
     requires table { IsOf chains.now steps.old }
     requires at { IsAt (layout_of chains.now) locked.old (view steps.old) }

@@ -96,7 +96,7 @@ pub fn unhash_with<H: Halt>(
 /// has none, and nothing changed.
 ///
 /// A TIME_WAIT is unhashed by whichever pass has its bucket's lock, so no place stands for it.
-pub fn unhash_tw(chains: &Chains, pass: &mut Pass, locked: &mut Locked, name: u32) -> Option<u32>
+pub fn unhash_tw(chains: &Chains, pass: &mut Pass, locked: &mut Locked, name: u64) -> Option<u32>
     requires table { IsPassOf chains.now pass.old }
     requires at { IsAt (layout_of chains.now) locked.old (known pass.old) }
     requires fresh { locked.old.started ≡ false }
@@ -108,8 +108,10 @@ pub fn unhash_tw(chains: &Chains, pass: &mut Pass, locked: &mut Locked, name: u3
     ensures idle { IsIdle (known pass.new).slot × ((known pass.new).book.opened ≡ []) }
     ensures took { IfSome result (λ slot. TookWait name locked.old.bucket slot (known pass.old) (known pass.new)) }
     ensures none { IfNone result (HasNoWait name locked.old.bucket (known pass.old) (known pass.new)) }
+    ensures stay { IfSome result (λ slot. OthersStay slot (known pass.old) (known pass.new)) }
     ensures share { TwoDrawn (known pass.old) (known pass.new) }
     ensures rest { Rest (known pass.old) (known pass.new) }
+    ensures saw { Sees (known pass.old) (known pass.new) }
     ensures twice { (known pass.new).twice ≡ (known pass.old).twice }
     ensures hand { pass.new.steps.seat.me.1 ≡ pass.old.steps.seat.me.1 }
     ensures at { IsAt (layout_of chains.now) locked.new (known pass.new) × (locked.new.bucket ≡ locked.old.bucket) }

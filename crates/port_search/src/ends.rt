@@ -17,9 +17,9 @@ pub enum SearchEnd {
 #[derive(Clone, Copy, Debug, PartialEq, Eq)]
 pub enum Attempt<T> {
     /// It was made, in place of the socket in TIME_WAIT of that name, if there is one.
-    Done(T, Option<u32>),
+    Done(T, Option<u64>),
     /// The socket of that name has its four-tuple.
-    Taken(u32),
+    Taken(u64),
     /// No slot is free: so many are owned, and so many held by lookups.
     Full { owned: u32, held: u32 },
     /// For want of memory.

@@ -205,7 +205,7 @@ fn connect_at(
     turn: Turn<Box<Bucket>>,
     owner: Owner,
     port: u16,
-    replaced: Option<u32>,
+    replaced: Option<u64>,
 )
     requires out { IsOut turns.now pass.old turn }
     requires place { turn.place ≡ conflict.bind_key port owner.net % words.places turns.now }

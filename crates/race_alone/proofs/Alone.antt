@@ -17,7 +17,7 @@ use Rattle.race_alone.specs.Plays.{Plays, StepRefines}
 use Rattle.race_alone.proofs.Played.{played_runs}
 
 pub step_refines : (n : ℕ) (own next : Own) (t after : Tables) (flat : Flat) (command : Command) (s : Step)
-    → n ≤ 64 → length own.labels + 1 < 2 ^ 24 → is_lookup command ≡ false → Means n own t flat
+    → n ≤ 64 → length own.labels + 1 < 2 ^ 56 → is_lookup command ≡ false → Means n own t flat
     → Goes (plan flat.header own command) s.deeds (answers next s.reply) → Plays t s.deeds after
     → StepRefines n flat command s next after
 step_refines n own next t new flat command s few room not_look means goes plays =

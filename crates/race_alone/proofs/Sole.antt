@@ -42,7 +42,7 @@ record SectionRan (n : ℕ) (flat : Flat) (commands : List Command) (steps : Lis
   others : (m : ℕ) → m ≢ n → find (has_number m) (after flat (issue n commands)).sections ≡ find (has_number m) flat.sections
 
 module _ (In : Change → Type 0) (n : ℕ) (few : n ≤ 64) where
-  section_ran : (own : Own) (t new : Tables) (flat : Flat) (commands : List Command) (steps : List Step) → length own.labels + length commands < 2 ^ 24 → AsksNone commands
+  section_ran : (own : Own) (t new : Tables) (flat : Flat) (commands : List Command) (steps : List Step) → length own.labels + length commands < 2 ^ 56 → AsksNone commands
       → Means n own t flat → AreStepsOf flat.header In own commands steps → Plays t (deeds_of steps) new → SectionRan n flat commands steps new
   section_ran own t new flat [] [] room none means steps plays = record {
     replies = refl;

@@ -42,7 +42,7 @@ module _ (In : Change → Type 0) where
   record Ready (t : Tables) (flat : Flat) (turns : List Turn) (n : ℕ) : Type 0 where
     own : Own
     left : List Command
-    room : length own.labels + length left < 2 ^ 24
+    room : length own.labels + length left < 2 ^ 56
     none : AsksNone left
     means : Means n own t flat
     are : AreStepsOf flat.header In own left (steps_in n turns)
@@ -54,7 +54,7 @@ module _ (In : Change → Type 0) where
     others : (m : ℕ) → m ≢ turn.section → Ready t flat (turn ∷ turns) m → Ready between (step flat turn.section c).flat turns m
 
   take_by : (t between : Tables) (flat : Flat) (turn : Turn) (turns : List Turn) → turn.section ≤ 64 → (own : Own) (left : List Command)
-      → length own.labels + length left < 2 ^ 24 → AsksNone left → Means turn.section own t flat
+      → length own.labels + length left < 2 ^ 56 → AsksNone left → Means turn.section own t flat
       → AreStepsOf flat.header In own left (turn.taken ∷ steps_in turn.section turns) → Plays t turn.taken.deeds between
       → Taken t flat turn turns between turn.taken.command
   take_by t between flat turn turns few own [] room none means are plays = absurd are

@@ -36,8 +36,8 @@ pub record IsAsCard (c : Card) (m : Mine) : Type 0 where
 module _ (number : ℕ) where
   -- a name of that section, which has given so many labels
   pub record IsGiven (given name : ℕ) : Type 0 where
-    pub least : number * 2 ^ 24 < name
-    pub most : name ≤ number * 2 ^ 24 + given
+    pub least : number * 2 ^ 56 < name
+    pub most : name ≤ number * 2 ^ 56 + given
 
   -- an open socket of the section: its name was hashed as no kind but that of its state
   pub record IsOpen (given : ℕ) (f : History) (m : Mine) : Type 0 where
@@ -47,8 +47,8 @@ module _ (number : ℕ) where
   -- no name was hashed twice as one kind, and none that the section hasn't given
   pub record AreOnce (given : ℕ) (f : History) : Type 0 where
     pub once : (name : ℕ) (kind : Kind) → f name kind ≤ 1
-    pub below : (name : ℕ) (kind : Kind) → name ≤ number * 2 ^ 24 → f name kind ≡ 0
-    pub above : (name : ℕ) (kind : Kind) → number * 2 ^ 24 + given < name → f name kind ≡ 0
+    pub below : (name : ℕ) (kind : Kind) → name ≤ number * 2 ^ 56 → f name kind ≡ 0
+    pub above : (name : ℕ) (kind : Kind) → number * 2 ^ 56 + given < name → f name kind ≡ 0
 
   -- so it is, and these are its open sockets
   pub record Kept (given : ℕ) (f : History) (mine : List Mine) : Type 0 where
@@ -161,7 +161,7 @@ module _ (number : ℕ) where
   }
 
   -- the next name's socket was hashed
-  pub came : (given : ℕ) (f : History) (mine : List Mine) (n : Mine) (c : Card) → Kept given f mine → c.name ≡ number * 2 ^ 24 + given + 1 → IsAsCard c n → Kept (given + 1) (after f (Some c)) (mine ++ n ∷ [])
+  pub came : (given : ℕ) (f : History) (mine : List Mine) (n : Mine) (c : Card) → Kept given f mine → c.name ≡ number * 2 ^ 56 + given + 1 → IsAsCard c n → Kept (given + 1) (after f (Some c)) (mine ++ n ∷ [])
   came given f mine n c h name is =
       let named : IsGiven (given + 1) c.name = record { least = omega (arith, name); most = omega (arith, name) } in
       let new : (kind : Kind) → f c.name kind ≡ 0 = λ kind. h.names.above c.name kind (omega (arith, name)) in record {
@@ -173,7 +173,7 @@ module _ (number : ℕ) where
       }
 
   -- it was made, and not hashed
-  pub made : (given : ℕ) (f : History) (mine : List Mine) (n : Mine) → Kept given f mine → n.owner.name ≡ number * 2 ^ 24 + given + 1 → Kept (given + 1) f (mine ++ n ∷ [])
+  pub made : (given : ℕ) (f : History) (mine : List Mine) (n : Mine) → Kept given f mine → n.owner.name ≡ number * 2 ^ 56 + given + 1 → Kept (given + 1) f (mine ++ n ∷ [])
   made given f mine n h name = record {
     names = once_more given f h.names;
     sockets = each_push (IsOpen (given + 1) f) mine n (labelled given f mine h).sockets (record {

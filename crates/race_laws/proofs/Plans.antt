@@ -88,7 +88,7 @@ module _ (number : ℕ) where
     connect_replied own m h o None (refused end) s = record { now = given; few = omega arith; own = h }
     connect_replied own m h o (Some c) (refused end) s = absurd s
 
-    next_is : (own : Own) → OwnKept given f own → next_name own ≡ number * 2 ^ 24 + given + 1
+    next_is : (own : Own) → OwnKept given f own → next_name own ≡ number * 2 ^ 56 + given + 1
     next_is own h = λ i. name_at (h.number_is i) (h.given_is i)
 
     given_one : (own : Own) (label : List ℕ) → OwnKept given f own → length (with_label own label).labels ≡ given + 1

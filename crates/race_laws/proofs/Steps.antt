@@ -26,10 +26,10 @@ module _ (header : Header) (In : Change → Type 0) where
     -- with what was hashed before, these changes hash no name twice as one kind, and none that isn't this section's
     record HashOnce (f : History) (changes : List Change) : Type 0 where
       once : (name : ℕ) (kind : Kind) → f name kind + hashes name kind changes ≤ 1
-      below : (name : ℕ) (kind : Kind) → name ≤ number * 2 ^ 24 → f name kind + hashes name kind changes ≡ 0
-      above : (name : ℕ) (kind : Kind) → (number + 1) * 2 ^ 24 ≤ name → f name kind + hashes name kind changes ≡ 0
+      below : (name : ℕ) (kind : Kind) → name ≤ number * 2 ^ 56 → f name kind + hashes name kind changes ≡ 0
+      above : (name : ℕ) (kind : Kind) → (number + 1) * 2 ^ 56 ≤ name → f name kind + hashes name kind changes ≡ 0
 
-    at_end : (given : ℕ) (f : History) (own : Own) → OwnKept number given f own → given < 2 ^ 24 → HashOnce f []
+    at_end : (given : ℕ) (f : History) (own : Own) → OwnKept number given f own → given < 2 ^ 56 → HashOnce f []
     at_end given f own h few =
         let n = h.kept.names in record {
           once = λ name kind. omega (arith, n.once name kind);
@@ -37,7 +37,7 @@ module _ (header : Header) (In : Change → Type 0) where
           above = λ name kind l. omega (arith, n.above name kind (omega (arith, l, few)));
         }
 
-    steps_once : (given : ℕ) (f : History) (own : Own) (cs : List Command) (steps : List Step) → AreStepsOf header In own cs steps → OwnKept number given f own → given + length cs < 2 ^ 24
+    steps_once : (given : ℕ) (f : History) (own : Own) (cs : List Command) (steps : List Step) → AreStepsOf header In own cs steps → OwnKept number given f own → given + length cs < 2 ^ 56
         → HashOnce f (changes_in (deeds_of steps))
     steps_once given f own [] [] a h few = at_end given f own h (omega (arith, few))
     steps_once given f own (c ∷ cs) (s ∷ steps) a h few =
@@ -64,10 +64,10 @@ module _ (header : Header) (In : Change → Type 0) where
   -- the sections from that number on hash no name twice as one kind, and none of a section before
   pub record AllOnce (number : ℕ) (changes : List Change) : Type 0 where
     pub once : (name : ℕ) (kind : Kind) → hashes name kind changes ≤ 1
-    pub below : (name : ℕ) (kind : Kind) → name ≤ number * 2 ^ 24 → hashes name kind changes ≡ 0
+    pub below : (name : ℕ) (kind : Kind) → name ≤ number * 2 ^ 56 → hashes name kind changes ≡ 0
 
-  one_or_rest : (number first rest name : ℕ) → first ≤ 1 → rest ≤ 1 → ((number + 1) * 2 ^ 24 ≤ name → first ≡ 0) → (name ≤ (number + 1) * 2 ^ 24 → rest ≡ 0) → first + rest ≤ 1
-  one_or_rest number first rest name few left high low = elim (cases_lt name ((number + 1) * 2 ^ 24)) as (λ _. first + rest ≤ 1) [
+  one_or_rest : (number first rest name : ℕ) → first ≤ 1 → rest ≤ 1 → ((number + 1) * 2 ^ 56 ≤ name → first ≡ 0) → (name ≤ (number + 1) * 2 ^ 56 → rest ≡ 0) → first + rest ≤ 1
+  one_or_rest number first rest name few left high low = elim (cases_lt name ((number + 1) * 2 ^ 56)) as (λ _. first + rest ≤ 1) [
     | inl l ↦ omega (arith, few, low (omega (arith, l)))
     | inr l ↦ omega (arith, left, high (omega (arith, l)))
   ]

@@ -1,11 +1,16 @@
--- Whether the steps of a section come one after the other, computed: for worked records.
-use Rattle.std.proofs.Common.{◌≡◌, ℕ, ◌≤◌, ◌<◌, Bool, true, ◌&&◌, not, nat_lt, List}
-use Rattle.std.proofs.lemmas.Bool.{ltb-true, ltb-false, not-true}
+-- Whether the steps of a section come one after the other, and whether a four-tuple was free, computed: for worked
+-- records.
+use Rattle.std.proofs.Common.{◌≡◌, ℕ, ◌≤◌, ◌<◌, Bool, true, ◌==◌, ◌&&◌, not, nat_lt, List, arith}
+use Rattle.std.proofs.lemmas.Bool.{ltb-true, ltb-false, not-true, lt-ltb, eq-eqb, and_from}
 use Rattle.std.specs.List.{list_all}
-use Rattle.race_book.proofs.Checks.{pairwise, each_if, pairs_if, and_left, and_right}
-use Rattle.race_record.specs.Deeds.{drawn_in}
+use Rattle.chain_book.specs.declared.book.Change.{Change}
+use Rattle.chain_book.specs.Tuples.{keeps_from, waits_at}
+use Rattle.race_book.specs.Among.{Among}
+use Rattle.race_book.specs.Lives.{IsLife, Throughout}
+use Rattle.race_book.proofs.Checks.{pairwise, each_if, pairs_if, and_left, and_right, leaves_if, leaves_if_passes}
+use Rattle.race_record.specs.Deeds.{Given, drawn_in}
 use Rattle.race_record.specs.Record.{Step}
-use Rattle.race_record.specs.Lawful.{IsSpanned, Precedes, AreInOrder}
+use Rattle.race_record.specs.Lawful.{IsSpanned, Precedes, AreInOrder, WasFree}
 
 abbrev pub at_most : ℕ → ℕ → Bool
 at_most a b = not (nat_lt b a)
@@ -37,25 +42,37 @@ spanned_is clock s e =
       ascend = pairs_if (λ (n m : ℕ). n < m) nat_lt (drawn_in s.deeds) ltb-true (and_right (list_all (within s) (drawn_in s.deeds)) _ q);
     }
 
-abbrev pub is_below : ℕ → ℕ → Bool
-is_below bound n = nat_lt n bound
-
 abbrev pub precedes : Step → Step → Bool
-precedes s later =
-    at_most s.from later.from
-    && (list_all (is_below later.from) (drawn_in s.deeds) && list_all (at_most s.to) (drawn_in later.deeds))
+precedes s later = at_most s.to later.from
 
 precedes_is : (s later : Step) → precedes s later ≡ true → Precedes s later
-precedes_is s later e =
-    let r = and_right (at_most s.from later.from) _ e in
-    record {
-      seen = at_most_is s.from later.from (and_left (at_most s.from later.from) _ e);
-      below = each_if (λ (n : ℕ). n < later.from) (is_below later.from) (drawn_in s.deeds) (λ n q. ltb-true n later.from q) (and_left (list_all (is_below later.from) (drawn_in s.deeds)) _ r);
-      above = each_if (λ (n : ℕ). s.to ≤ n) (at_most s.to) (drawn_in later.deeds) (λ n q. at_most_is s.to n q) (and_right (list_all (is_below later.from) (drawn_in s.deeds)) _ r);
-    }
+precedes_is s later e = at_most_is s.to later.from e
 
 pub in_order_if : (clock : ℕ) (steps : List Step) → list_all (spanned clock) steps ≡ true → pairwise precedes steps ≡ true → AreInOrder clock steps
 in_order_if clock steps e p = record {
   each = each_if (IsSpanned clock) (spanned clock) steps (spanned_is clock) e;
   pairs = pairs_if Precedes precedes steps precedes_is p;
+}
+
+-- Who was there throughout
+
+-- no life that passes the test was there throughout
+none_throughout : (book : List Change) (test : Change → Bool) (from to : ℕ) → list_all (leaves_if_passes book (λ (h : Change). test h && nat_lt h.end from) to) book ≡ true
+    → (h : Change) → IsLife (Among book) h → test h ≡ true → Throughout (Among book) h from to → ⊥
+none_throughout book test from to e h l p t =
+    let g = leaves_if book (λ (x : Change). test x && nat_lt x.end from) to e h l (and_from (test h) (nat_lt h.end from) p (lt-ltb h.end from t.before)) in
+    let late : to ≤ g.unhash.begin = t.still g.unhash g.ends.there g.ends.after in
+    omega (arith, late, g.before)
+
+abbrev pub keeps_there : Given → Change → Bool
+keeps_there g h = (h.bucket == g.hash.bucket) && keeps_from g.wish.card g.wish.moment g.wish.rule h.card
+
+abbrev pub waits_there : Given → Change → Bool
+waits_there g h = (h.bucket == g.hash.bucket) && waits_at g.wish.card h.card
+
+pub free_if : (book : List Change) (from to : ℕ) (g : Given) → list_all (leaves_if_passes book (λ (h : Change). keeps_there g h && nat_lt h.end from) to) book ≡ true
+    → list_all (leaves_if_passes book (λ (h : Change). waits_there g h && nat_lt h.end from) to) book ≡ true → WasFree (Among book) from to g
+free_if book from to g k w = record {
+  unkept = λ h l b e. none_throughout book (keeps_there g) from to k h l (and_from (h.bucket == g.hash.bucket) (keeps_from g.wish.card g.wish.moment g.wish.rule h.card) (eq-eqb h.bucket g.hash.bucket b) e);
+  unwaited = λ none h l b e. none_throughout book (waits_there g) from to w h l (and_from (h.bucket == g.hash.bucket) (waits_at g.wish.card h.card) (eq-eqb h.bucket g.hash.bucket b) e);
 }

@@ -1,7 +1,7 @@
 -- What an operation did at the tables, one deed after the other, with what the tables answered: our own. Entries of
 -- journals have their numbers, and changes their stamps, from whatever tables they were made at.
 --
--- In two parts: what a deed is, up to `Vain`; and what deeds made and drew, of which the last five, from `entries_in`
+-- In two parts: what a deed is, up to `Given`; and what deeds made and drew, of which the last six, from `entries_in`
 -- on, speak of many deeds.
 use Rattle.std.specs.Prelude.{ℕ, ◌%◌, List, [], ◌∷◌, ◌++◌, Option, None, Some}
 use Rattle.std.specs.List.{flat_map}
@@ -45,6 +45,12 @@ pub record Vain : Type 0 where
   pub owned : ℕ
   pub held : ℕ
 
+-- a four-tuple that was given: the hash of the card, and the unhash of the TIME_WAIT that gave way, if one did
+pub record Given : Type 0 where
+  pub wish : Wish
+  pub hash : Change
+  pub replaced : Option Change
+
 abbrev pub one_or_none : {A : Type 0} → Option A → List A
 one_or_none None = []
 one_or_none (Some x) = x ∷ []
@@ -74,6 +80,15 @@ taken_tried wish _ = []
 abbrev pub taken_of : Deed → List Taken
 taken_of (inserted wish tried) = taken_tried wish tried
 taken_of _ = []
+
+abbrev pub given_tried : Wish → Tried → List Given
+given_tried wish (hashed hash replaced) = record { wish = wish; hash = hash; replaced = replaced } ∷ []
+given_tried wish _ = []
+
+-- the grant of a four-tuple that a deed was
+abbrev pub given_of : Deed → List Given
+given_of (inserted wish tried) = given_tried wish tried
+given_of _ = []
 
 abbrev pub vain_tried : Tried → List Vain
 vain_tried (no_slot number owned held) = record { number = number; owned = owned; held = held } ∷ []
@@ -110,6 +125,9 @@ changes_in deeds = flat_map changes_of deeds
 
 abbrev pub taken_in : List Deed → List Taken
 taken_in deeds = flat_map taken_of deeds
+
+abbrev pub given_in : List Deed → List Given
+given_in deeds = flat_map given_of deeds
 
 abbrev pub vain_in : List Deed → List Vain
 vain_in deeds = flat_map vain_of deeds

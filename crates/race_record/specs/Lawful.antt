@@ -1,7 +1,7 @@
 -- Which records of a race are lawful: our own. Each field of `Lawful` is one fact of a record.
 --
 -- To be read from `Lawful`, at the end: what its fields cite stands above it, in their order.
-use Rattle.std.specs.Prelude.{◌≡◌, ◌≢◌, ℕ, ◌+◌, ◌/◌, ◌^◌, ◌<◌, ◌≤◌, true, IsTrue, List, [], ◌∷◌, ◌++◌, length, map, Some}
+use Rattle.std.specs.Prelude.{◌≡◌, ◌≢◌, ℕ, ◌+◌, ◌/◌, ◌^◌, ◌<◌, ◌≤◌, true, IsTrue, None, List, [], ◌∷◌, ◌++◌, length, map, Some}
 use Rattle.std.specs.List.{flat_map, slice_index_or}
 use Rattle.list_words.specs.Lists.{Each, Pairs, SameItems}
 use Rattle.sock_card.specs.declared.card.Kind.TheVariants as kinds
@@ -22,7 +22,7 @@ use Rattle.sock_card.specs.declared.card.Card.{Card}
 use Rattle.sock_card.specs.declared.card.Packet.{Packet}
 use Rattle.socket_list.specs.Order.{ascending}
 use Rattle.socket_list.specs.declared.listing.Span.{Span}
-use Rattle.chain_book.specs.Tuples.{keeps_from}
+use Rattle.chain_book.specs.Tuples.{keeps_from, waits_at}
 use Rattle.flat_list.specs.declared.command.Command.{Command}
 use Rattle.flat_list.specs.declared.command.Command.TheVariants as commands
 use Rattle.flat_list.specs.declared.header.Header.{Header}
@@ -36,8 +36,9 @@ use Rattle.race_book.specs.Explained.{IsExplained, NamesItsBucket}
 use Rattle.race_book.specs.Serial.{IsSerial}
 use Rattle.race_record.specs.declared.record.Looked.{Looked}
 use Rattle.race_record.specs.declared.record.Looked.TheVariants as looks
-use Rattle.race_record.specs.Deeds.{Taken, Vain, entries_in, changes_in, taken_in, vain_in, drawn_in}
+use Rattle.race_record.specs.Deeds.{Given, Taken, Vain, entries_in, changes_in, given_in, taken_in, vain_in, drawn_in}
 use Rattle.race_record.specs.Goes.{Goes}
+use Rattle.race_record.specs.Stages.{IsInStages}
 use Rattle.race_record.specs.Record.{Race, Step, Sighting, steps_of, deeds_of, all_deeds}
 
 -- a fact of each item and of its number, where the first has that number
@@ -49,7 +50,7 @@ EachFrom P n (x ∷ xs) = P n x × EachFrom P (n + 1) xs
 -- before that number
 abbrev pub ExpiredLeave : (Change → Type 0) → Own → ℕ → Type 0
 ExpiredLeave In own to =
-    (h : Change) → IsLife In h → h.card.kind ≡ kinds.TimeWait → h.card.name / 2 ^ 24 ≡ own.number
+    (h : Change) → IsLife In h → h.card.kind ≡ kinds.TimeWait → h.card.name / 2 ^ 56 ≡ own.number
     → IsTrue (expired h.card.extra own.moment) → Leaves In h to
 
 -- so after a `reap`
@@ -86,12 +87,9 @@ pub record IsSpanned (clock : ℕ) (s : Step) : Type 0 where
   pub within : Each (λ (n : ℕ). (s.from ≤ n) × (n < s.to)) (drawn_in s.deeds)
   pub ascend : Pairs (λ (n m : ℕ). n < m) (drawn_in s.deeds)
 
--- A later step of the section begins with what its worker has seen by then: no less than at the step before, and more
--- than each number that this drew. What the later one draws lies at or above the end of the step before.
-pub record Precedes (s later : Step) : Type 0 where
-  pub seen : s.from ≤ later.from
-  pub below : Each (λ (n : ℕ). n < later.from) (drawn_in s.deeds)
-  pub above : Each (λ (n : ℕ). s.to ≤ n) (drawn_in later.deeds)
+-- A later step of the section begins with what its worker has seen by then: no less than the end of the step before.
+abbrev pub Precedes : Step → Step → Type 0
+Precedes s later = s.to ≤ later.from
 
 -- the steps of one section come one after the other
 pub record AreInOrder (clock : ℕ) (steps : List Step) : Type 0 where
@@ -140,6 +138,14 @@ module _ (In : Change → Type 0) (from to : ℕ) where
     pub keeps : keeps_from t.wish.card t.wish.moment t.wish.rule life.card ≡ true
     pub stood : Stood In life from to
 
+  -- nobody in the newcomer's chain that keeps the four-tuple was there throughout; and where no TIME_WAIT gave way,
+  -- none of the four-tuple was
+  pub record WasFree (g : Given) : Type 0 where
+    pub unkept : (h : Change) → IsLife In h → h.bucket ≡ g.hash.bucket
+        → keeps_from g.wish.card g.wish.moment g.wish.rule h.card ≡ true → ¬ (Throughout In h from to)
+    pub unwaited : g.replaced ≡ None → (h : Change) → IsLife In h → h.bucket ≡ g.hash.bucket
+        → waits_at g.wish.card h.card ≡ true → ¬ (Throughout In h from to)
+
   -- a life stood in that slot between the two numbers
   pub record WasOwned (slot : ℕ) : Type 0 where
     pub life : Change
@@ -172,10 +178,15 @@ module _ (In : Change → Type 0) (from to : ℕ) where
 abbrev pub TakenWereKept : Race → Step → Type 0
 TakenWereKept race s = Each (WasKept (Among race.book) s.from s.to) (taken_in s.deeds)
 
--- each slot that a step sought in vain was owned or held
+-- each four-tuple that a step was given was free
+abbrev pub GivenWereFree : Race → Step → Type 0
+GivenWereFree race s = Each (WasFree (Among race.book) s.from s.to) (given_in s.deeds)
+
+-- each slot that a step sought in vain was owned or held, since the number was drawn for the search
 abbrev pub SlotsWereUsed : Race → Step → Type 0
 SlotsWereUsed race s =
-    Each (NoneWasFree (Among race.book) s.from s.to race.shape.slots race.counts race.sightings) (vain_in s.deeds)
+    Each (λ (v : Vain). NoneWasFree (Among race.book) v.number s.to race.shape.slots race.counts race.sightings v)
+    (vain_in s.deeds)
 
 -- in one slot of one bucket's chain
 abbrev pub HaveOnePlace : Change → Change → Type 0
@@ -205,8 +216,8 @@ ListsAs race _ s = s.listings ≡ []
 abbrev pub Lists : Race → Step → Type 0
 Lists race s = ListsAs race s.command s
 
--- a packet's receipt: by the seed, between two loads of the clock, explained by the changes; and where it was given
--- up, it names the bucket
+-- a packet's receipt: by the seed, between two loads of the clock, explained by the changes, as a whole and each of
+-- its three lookups; and where it was given up, it names the bucket
 pub record IsReceiptOf (In : Change → Type 0) (shape : Shape) (seed clock : ℕ) (packet : Packet)
     (r : Receipt) : Type 0 where
   pub packet_is : r.packet ≡ packet
@@ -214,6 +225,7 @@ pub record IsReceiptOf (In : Change → Type 0) (shape : Shape) (seed clock : �
   pub order : r.t0 ≤ r.t1
   pub most : r.t1 ≤ clock
   pub explained : IsExplained In shape r
+  pub stages : IsInStages In shape seed packet r.t0 r.t1 r.answer
   pub bucket : NamesItsBucket shape seed packet r.answer
 
 module _ (In : Change → Type 0) (shape : Shape) (seed clock : ℕ) where
@@ -249,6 +261,11 @@ pub record AreSharesOf (race : Race) : Type 0 where
   pub each_once : SameItems (flat_map (λ mine. mine) race.shares) (numbers_below (length race.looked))
   pub turns : Each (AreTakenInTurn race.looked) race.shares
 
+-- an item of which nothing can be looked up
+abbrev pub IsNoPacket : Item → Type 0
+IsNoPacket (items.Packet packet) = ⊥
+IsNoPacket _ = Unit {0}
+
 -- The record is one of a race of that script with that capture.
 pub record Lawful (script : Script) (capture : Capture) (race : Race) : Type 0 where
   -- the tables are the script's
@@ -265,8 +282,12 @@ pub record Lawful (script : Script) (capture : Capture) (race : Race) : Type 0 w
   pub serial : IsSerial (Among race.book) race.shape race.seed
   -- whoever is reported to have kept a four-tuple stood meanwhile
   pub taken : Each (TakenWereKept race) (steps_of race)
+  -- and none who does was there throughout where one was given
+  pub given : Each (GivenWereFree race) (steps_of race)
   -- no slot was free where none was reported to be
   pub slots : Each (SlotsWereUsed race) (steps_of race)
+  -- no count was taken where no packet was looked up: so no slot was only held
+  pub counted : Each IsNoPacket capture.items → race.counts ≡ 0
   -- each dump lists what was there throughout, and nothing that wasn't there
   pub dumps : Each (Lists race) (steps_of race)
   -- each item of the capture has its answer, which the book explains

@@ -2,6 +2,7 @@
 pub mod Deeds
 pub mod Goes
 pub mod Record
+pub mod Stages
 pub mod Lawful
 pub mod Laws
 pub mod Headline

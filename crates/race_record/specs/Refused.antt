@@ -129,9 +129,9 @@ refused_race =
           ∷ [])
           ∷ (step (reusable b) replies.Ok [] 0 0
           ∷ step (commands.Bind b (one 90)) (replies.Port 90) (entered 90 bind_b ∷ []) 0 0
-          ∷ step (connect b 80) replies.Eaddrnotavail (inserted (wished owner_b) (kept_out (name_at 1 0)) ∷ []) 2 6
-          ∷ step (socket c) replies.Ok [] 3 6
-          ∷ step (commands.Bind c (one 91)) (replies.Port 91) (entered 91 bind_c ∷ []) 3 6
+          ∷ step (connect b 80) replies.Eaddrnotavail (inserted (wished owner_b) (kept_out (name_at 1 0)) ∷ []) 2 4
+          ∷ step (socket c) replies.Ok [] 4 4
+          ∷ step (commands.Bind c (one 91)) (replies.Port 91) (entered 91 bind_c ∷ []) 4 4
           ∷ step (connect c 80) (replies.Enfile 1 1) (inserted (wished owner_c) (no_slot 6 1 1) ∷ []) 4 7
           ∷ [])
           ∷ [];

@@ -259,7 +259,7 @@ second_race =
           ∷ step (commands.Listen a) (replies.Port 80)
           (entered 80 may_a ∷ added card_a (hashed hash_a None) ∷ entered 80 listen_a ∷ []) 0 2
           ∷ step (accept a b) replies.Ok
-          (inserted (newcomer card_b) (hashed hash_b None) ∷ entered 80 inherit_b ∷ []) 2 6
+          (inserted (newcomer card_b) (hashed hash_b None) ∷ entered 80 inherit_b ∷ []) 2 5
           ∷ step (commands.Close b) replies.TimeWait
           (added card_w (hashed hash_w None) ∷ left unhash_b ∷ entered 80 waits_b ∷ []) 5 10
           ∷ step (accept a d) replies.Ok

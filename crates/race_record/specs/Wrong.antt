@@ -9,6 +9,10 @@ use Rattle.bind_buckets.specs.declared.request.Entry.{Entry}
 use Rattle.bind_buckets.specs.declared.request.Request.TheVariants as requests
 use Rattle.bind_buckets.specs.declared.request.Answer.TheVariants as answers
 use Rattle.turn_table.specs.declared.note.Note.{Note}
+use Rattle.sock_card.specs.declared.owner.Owner.{Owner}
+use Rattle.sock_card.specs.declared.card.Card.{Card}
+use Rattle.sock_card.specs.declared.card.Kind.TheVariants as kinds
+use Rattle.sock_card.specs.Became.{as_waiting}
 use Rattle.chain_book.specs.declared.book.Act.TheVariants as acts
 use Rattle.chain_book.specs.declared.book.Change.{Change}
 use Rattle.chain_book.specs.declared.book.PacketAnswer.{PacketAnswer}
@@ -16,13 +20,14 @@ use Rattle.chain_book.specs.declared.book.PacketAnswer.TheVariants as found
 use Rattle.chain_book.specs.declared.book.PassEnd.TheVariants as ends
 use Rattle.flat_list.specs.declared.command.Command.TheVariants as commands
 use Rattle.flat_list.specs.declared.command.Reply.TheVariants as replies
-use Rattle.flat_list.specs.Rows.{with_slots, a, b, e, any, one, socket, reusable, connect}
+use Rattle.flat_list.specs.Owned.{connected_to, card_as}
+use Rattle.flat_list.specs.Rows.{with_slots, a, b, e, any, one, two, socket, reusable, connect}
 use Rattle.flat_list.specs.Script.{Script}
 use Rattle.flat_list.specs.Sections.{name_at}
 use Rattle.race_record.specs.declared.record.Looked.{Looked}
 use Rattle.race_record.specs.declared.record.Looked.TheVariants as looks
-use Rattle.race_record.specs.Deeds.{Deed, hashed, entered, inserted, added, left}
-use Rattle.race_record.specs.Record.{Race}
+use Rattle.race_record.specs.Deeds.{Deed, hashed, no_slot, entered, inserted, added, left}
+use Rattle.race_record.specs.Record.{Race, Step}
 use Rattle.race_record.specs.Lawful.{Lawful}
 use Rattle.race_record.specs.Worked.{note, change, step, and_then, listing, packet, receipt, first_script, dump_script, no_capture, first_race, first_bind, first_may, first_listen, owner_a, card_a, hash_a, card_d, owner_e, card_e, handshake_script, handshake_capture, handshake_race, card_r, hash_r, inherit_child, acknowledged_by, found_by_two}
 use Rattle.race_record.specs.Refused as refused
@@ -136,6 +141,90 @@ twins_race =
 abbrev pub Twins : Type 0
 Twins = ¬ (Lawful twins_script no_capture twins_race)
 
+-- a four-tuple that is given though the TIME_WAIT of another socket keeps it
+abbrev pub kept_script : Script
+kept_script =
+    record {
+      header = with_slots 3;
+      sections =
+          (reusable a ∷ commands.Bind a (one 90) ∷ connect a 80 ∷ commands.Close a ∷ reusable b
+          ∷ commands.Bind b (one 90) ∷ connect b 80 ∷ [])
+          ∷ [];
+      capture = None;
+    }
+
+-- the TIME_WAIT that a leaves
+abbrev pub card_w : Card
+card_w = card_as kinds.TimeWait (as_waiting (connected_to refused.owner_a 0x0A000001 (two 80))) 0
+
+abbrev pub owner_again : Owner
+owner_again = refused.reusing (name_at 1 1)
+
+abbrev pub hash_w : Change
+hash_w = change 0 1 card_w acts.Hash 2 3
+
+abbrev pub unhash_a : Change
+unhash_a = change 0 0 (refused.full_card refused.owner_a) acts.Unhash 4 5
+
+abbrev pub hash_kept : Change
+hash_kept = change 0 2 (refused.full_card owner_again) acts.Hash 6 7
+
+abbrev pub waits_a : Note Entry
+waits_a = note 2 1 (requests.ToTimeWait (name_at 1 0)) answers.Done
+
+abbrev pub bind_again : Note Entry
+bind_again = note 3 1 (requests.Bind owner_again) answers.Done
+
+abbrev pub connect_again : Note Entry
+connect_again = note 4 1 (requests.ConnectBound (name_at 1 1) 0x0A000001 0x0A000002 80) answers.Done
+
+abbrev pub kept_race : Race
+kept_race =
+    record first_race {
+      shape = record { slots = 3; bind = 1; hash = 1; listen = 1 };
+      sections =
+          (step (reusable a) replies.Ok [] 0 0
+          ∷ step (commands.Bind a (one 90)) (replies.Port 90) (entered 90 refused.bind_a ∷ []) 0 0
+          ∷ step (connect a 80) (replies.End (one 90))
+          (inserted (refused.wished refused.owner_a) (hashed refused.hash_a None) ∷ entered 90 refused.connect_a
+          ∷ []) 0 2
+          ∷ step (commands.Close a) replies.TimeWait
+          (added card_w (hashed hash_w None) ∷ left unhash_a ∷ entered 90 waits_a ∷ []) 2 6
+          ∷ step (reusable b) replies.Ok [] 6 6
+          ∷ step (commands.Bind b (one 90)) (replies.Port 90) (entered 90 bind_again ∷ []) 6 6
+          ∷ step (connect b 80) (replies.End (one 90))
+          (inserted (refused.wished owner_again) (hashed hash_kept None) ∷ entered 90 connect_again ∷ []) 6 8
+          ∷ [])
+          ∷ [];
+      journals = (refused.bind_a ∷ refused.connect_a ∷ waits_a ∷ bind_again ∷ connect_again ∷ []) ∷ [];
+      book = refused.hash_a ∷ hash_w ∷ unhash_a ∷ hash_kept ∷ [];
+      clock = 8;
+    }
+
+abbrev pub GivenThoughKept : Type 0
+GivenThoughKept = ¬ (Lawful kept_script no_capture kept_race)
+
+-- slots that are said to be held by lookups alone, though nothing was looked up
+abbrev pub held_race : Race
+held_race =
+    record first_race {
+      sections =
+          (step (socket a) replies.Ok [] 0 0
+          ∷ step (commands.Bind a (one 80)) (replies.Port 80) (entered 80 first_bind ∷ []) 0 0
+          ∷ step (commands.Listen a) (replies.Enfile 0 2)
+          (entered 80 first_may ∷ added card_a (no_slot 0 0 2) ∷ []) 0 1
+          ∷ [])
+          ∷ [];
+      journals = (first_bind ∷ first_may ∷ []) ∷ [];
+      book = [];
+      counts = 1;
+      sightings = record { slot = 0; since = 1; until = 1 } ∷ record { slot = 1; since = 1; until = 1 } ∷ [];
+      clock = 1;
+    }
+
+abbrev pub HeldByNobody : Type 0
+HeldByNobody = ¬ (Lawful first_script no_capture held_race)
+
 -- a number of the clock that two changes have
 abbrev pub pair_script : Script
 pair_script =
@@ -206,6 +295,47 @@ drop_race =
 abbrev pub AnothersCard : Type 0
 AnothersCard = ¬ (Lawful drop_script no_capture drop_race)
 
+-- a slot that is said to be owned where none was free, though its socket had gone before the search
+abbrev pub gone_script : Script
+gone_script =
+    record {
+      header = with_slots 1;
+      sections =
+          (socket a ∷ commands.Bind a (one 80) ∷ commands.Listen a ∷ commands.Drop a ∷ [])
+          ∷ (socket e ∷ commands.Bind e (any 90) ∷ commands.Listen e ∷ [])
+          ∷ [];
+      capture = None;
+    }
+
+abbrev pub unhash_gone : Change
+unhash_gone = change 1 0 card_a acts.Unhash 2 3
+
+abbrev pub bind_later : Note Entry
+bind_later = note 4 2 (requests.Bind owner_e) answers.Done
+
+abbrev pub may_later : Note Entry
+may_later = note 5 2 (requests.MayListen (name_at 2 0)) (answers.Group None)
+
+abbrev pub gone_race : Race
+gone_race =
+    record first_race {
+      shape = record { slots = 1; bind = 1; hash = 1; listen = 1 };
+      sections =
+          and_then (step (commands.Drop a) replies.Ok (left unhash_gone ∷ entered 80 remove_a ∷ []) 2 4)
+          ++ (step (socket e) replies.Ok [] 0 0
+          ∷ step (commands.Bind e (any 90)) (replies.Port 90) (entered 90 bind_later ∷ []) 0 0
+          ∷ step (commands.Listen e) (replies.Enfile 1 0)
+          (entered 90 may_later ∷ added card_e (no_slot 4 1 0) ∷ []) 0 5
+          ∷ [])
+          ∷ [];
+      journals = (first_bind ∷ first_may ∷ first_listen ∷ remove_a ∷ bind_later ∷ may_later ∷ []) ∷ [];
+      book = hash_a ∷ unhash_gone ∷ [];
+      clock = 5;
+    }
+
+abbrev pub OwnedBefore : Type 0
+OwnedBefore = ¬ (Lawful gone_script no_capture gone_race)
+
 -- a step that claims to have begun before what its worker drew
 abbrev pub at_script : Script
 at_script =
@@ -226,6 +356,30 @@ ListsNothing = ¬ (Lawful dump_script no_capture (record first_race { sections =
 -- one that claims to have listed from before its command began
 abbrev pub ListsBefore : Type 0
 ListsBefore = ¬ (Lawful dump_script no_capture (record first_race { sections = and_then (listing (card_a ∷ []) 1 2) }))
+
+-- one that lists nothing, as if it had been before the listener came, though the dump before it lists that
+abbrev pub dumps_script : Script
+dumps_script =
+    record {
+      header = with_slots 2;
+      sections =
+          (socket a ∷ commands.Bind a (one 80) ∷ commands.Listen a ∷ [])
+          ∷ (commands.Dump ∷ commands.Dump ∷ [])
+          ∷ [];
+      capture = None;
+    }
+
+abbrev pub listing_from_to : List Card → ℕ → ℕ → Step
+listing_from_to cards from to =
+    record (listing cards from to) { from = from; to = to }
+
+abbrev pub dumps_race : List Step → Race
+dumps_race dumps = record first_race { sections = first_race.sections ++ dumps ∷ [] }
+
+abbrev pub ListsBackwards : Type 0
+ListsBackwards =
+    ¬ (Lawful dumps_script no_capture
+    (dumps_race (listing_from_to (card_a ∷ []) 0 2 ∷ listing_from_to [] 0 0 ∷ [])))
 
 -- a handshake whose request was unhashed before the child was hashed, where `ack` did that
 abbrev pub unhash_early : Change
@@ -255,3 +409,9 @@ abbrev pub FoundListener : Type 0
 FoundListener =
     ¬ (Lawful handshake_script handshake_capture
     (record handshake_race { looked = found_by_two (found.Found card_a) (found.Found card_d) }))
+
+-- one that was given up in the listener's chain meanwhile
+abbrev pub GivenUpLater : Type 0
+GivenUpLater =
+    ¬ (Lawful handshake_script handshake_capture
+    (record handshake_race { looked = found_by_two (found.Again 1 (ends.Foreign 0)) (found.Found card_d) }))

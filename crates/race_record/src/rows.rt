@@ -34,8 +34,9 @@ pub fn refusals()
 {}
 
 /// Records that aren't lawful: in which a number of the clock belongs to nothing, or to two changes; a change is left
-/// out of the book; a `bind` enters its owner twice, and so is refused; two full sockets have one four-tuple; a card
-/// is taken out that is another's; a step begins with less than its worker has seen; a request is unhashed before its
+/// out of the book; a `bind` enters its owner twice, and so is refused; two full sockets have one four-tuple; a
+/// four-tuple is given though a TIME_WAIT keeps it; slots are held by lookups though nothing was looked up, or owned
+/// by a socket that had gone before one was sought; a card is taken out that is another's; a step begins with less than its worker has seen; a request is unhashed before its
 /// child is hashed, whether it is recorded so or as if it hadn't been.
 pub fn wrong_races()
     ensures number { wrong.NumberTooMany }
@@ -43,6 +44,9 @@ pub fn wrong_races()
     ensures change { wrong.ChangeLeftOut }
     ensures entry { wrong.EnteredTwice }
     ensures twins { wrong.Twins }
+    ensures kept { wrong.GivenThoughKept }
+    ensures held { wrong.HeldByNobody }
+    ensures owned { wrong.OwnedBefore }
     ensures card { wrong.AnothersCard }
     ensures step { wrong.BeganBefore }
     ensures unhash { wrong.UnhashedFirst }
@@ -51,18 +55,21 @@ pub fn wrong_races()
 
 /// So are those in which a packet finds nothing while a listener stands; or finds nothing as if it had been looked up
 /// before the listener came, by a looker that had found it already; or is given up for a change that never was, or in
-/// a bucket that isn't the packet's; or finds the listener while a request of its four-tuple stands.
+/// a bucket that isn't the packet's; or finds the listener, or is given up in its chain, while a request of its
+/// four-tuple stands.
 pub fn wrong_lookups()
     ensures nothing { wrong.FoundNothing }
     ensures start { wrong.FromTheStart }
     ensures cause { wrong.CauseNeverWas }
     ensures bucket { wrong.AnotherBucket }
     ensures listener { wrong.FoundListener }
+    ensures later { wrong.GivenUpLater }
 {}
 
-/// So are those in which a dump lists nothing while a listener stands,
-/// or claims to have begun before its command did.
+/// So are those in which a dump lists nothing while a listener stands, or claims to have begun before its command did;
+/// or one lists a listener, and the section's next one lists nothing as if it had been before the listener came.
 pub fn wrong_dumps()
     ensures nothing { wrong.ListsNothing }
     ensures before { wrong.ListsBefore }
+    ensures backwards { wrong.ListsBackwards }
 {}

@@ -1,8 +1,9 @@
 -- What the first worker has, once all others were joined to it, is a lawful record.
-use Rattle.std.proofs.Common.{◌≡◌, ◌≢◌, ℕ, zero, suc, ◌+◌, ◌<◌, ◌≤◌, ◌==◌, nat_le, Bool, true, false, cond, List, [], ◌∷◌, ◌++◌, length, map, filter, refl, sym, ap, ◌∙◌, subst, arith}
+use Rattle.std.proofs.Common.{◌≡◌, ◌≢◌, inl, inr, ℕ, zero, suc, ◌+◌, ◌<◌, ◌≤◌, ◌==◌, nat_le, Bool, true, false, cond, List, [], ◌∷◌, ◌++◌, length, map, filter, refl, sym, ap, ◌∙◌, subst, arith}
 use Rattle.std.specs.List.{flat_map, range_with_len}
 use Rattle.std.specs.Global.{Box}
 use Rattle.std.proofs.lemmas.List.{append-nil, length-map}
+use Rattle.std.proofs.lemmas.Grind.{flat_map-append}
 use Rattle.std.proofs.lemmas.Bool.{true≢false, eqb-true, eq-eqb, ne_eqb}
 use mathlib.Core.Option.{some}
 use lib.ListN.{get_elem?}
@@ -27,12 +28,13 @@ use Rattle.table_rule.specs.declared.view.Sight.{Sight}
 use Rattle.table_model.specs.Own.{Own, new_own}
 use Rattle.nulls_chain.specs.Changes.{Sees}
 use Rattle.race_book.specs.Among.{Among}
+use Rattle.race_book.proofs.AmongLemmas.{among_left, among_right}
 use Rattle.race_book.proofs.Endings.{to_each}
 use Rattle.race_book.proofs.Joined.{each_flat}
-use Rattle.race_record.specs.Deeds.{Vain, changes_of, vain_of, entries_in, changes_in, taken_in, vain_in, drawn_in}
+use Rattle.race_record.specs.Deeds.{Vain, changes_of, vain_of, entries_in, changes_in, given_in, taken_in, vain_in, drawn_in}
 use Rattle.race_record.specs.Gathered.{numbered, GaveItsOwn, IsInOrderOf, WereGathered}
 use Rattle.race_record.specs.Record.{Race, Step, steps_of, deeds_of, all_deeds}
-use Rattle.race_record.specs.Lawful.{EachFrom, AreStepsOf, AreSectionsOf, AreInOrder, IsSpanned, IsLegalJournal, IsCalledBy, AreJournalsOf, IsBookOf, itself, WasKept, TakenWereKept, NoneWasFree, SlotsWereUsed, Lists}
+use Rattle.race_record.specs.Lawful.{EachFrom, AreStepsOf, AreSectionsOf, AreInOrder, IsSpanned, IsLegalJournal, IsCalledBy, AreJournalsOf, IsBookOf, itself, WasKept, TakenWereKept, GivenWereFree, NoneWasFree, SlotsWereUsed, Lists}
 use Rattle.race_record.proofs.Drawn.{weigh, drawn_weighs}
 use Rattle.race_record.proofs.Gather.{gathered_journals}
 use Rattle.race_record.proofs.Weights.{total_flat}
@@ -40,15 +42,16 @@ use Rattle.chain_deeds.specs.Sides.{change_of}
 use Rattle.chain_deeds.specs.Made.{IsHomeIfHash, HasWords, number_of}
 use Rattle.nulls_chain.proofs.Saw.{are_settled}
 use Rattle.race_threads.specs.Joins.{Part}
-use Rattle.race_threads.specs.Made.{SawKeeper, SawNone, IsBy, SawNoWait, missed_in}
+use Rattle.race_threads.specs.Made.{SawFree, SawKeeper, SawNone, IsBy, SawNoWait, missed_in}
 use Rattle.race_threads.specs.Races.{SectionDone, AllDone, steps_by, HasEnded, AreReaped, AllReaped, Looks, book_of, race_by, IsLawfulBut, SaysSo}
 use Rattle.race_threads.specs.Said.{Said}
 use Rattle.race_threads.specs.Sections.{Makes, IsShown, layout_in}
 use Rattle.race_threads.proofs.Dumping.{saw_as_moves}
+use Rattle.race_threads.proofs.Freed.{frees}
 use Rattle.race_threads.proofs.FromRaw.{AreGood, serial, fits, stamps}
 use Rattle.race_threads.proofs.Listings.{lists}
 use Rattle.race_threads.proofs.Refusals.{was_kept, none_was_free}
-use Rattle.race_threads.proofs.Sightings.{keeper_moves, none_moves, no_wait_moves, ended_sees, same_sees, Moves}
+use Rattle.race_threads.proofs.Sightings.{free_moves, keeper_moves, none_moves, no_wait_moves, ended_sees, same_sees, Moves}
 use Rattle.race_threads.proofs.Sums.{sum_sections, each_number, each_section, many_sections, replies_are, listings_are, weigh_all, sum_numbers, weigh_filter, flat_filter, flat_same}
 use Rattle.race_threads.proofs.Weights.{map_flat, among_flat, same_each, same_among, flipped, weigh_map}
 
@@ -57,6 +60,15 @@ abbrev in_vain : (ℕ → ℕ) → Vain → ℕ
 in_vain f t = f t.number
 
 -- Steps
+
+-- what one step changed is what the steps changed
+among_deeds : (t : Step) (steps : List Step) → Among steps t → (u : Change) → Among (changes_in t.deeds) u → Among (changes_in (deeds_of steps)) u
+among_deeds t (s ∷ ss) (inl same) u a =
+    let here : Among (changes_in s.deeds) u = subst (λ (z : Step). Among (changes_in z.deeds) u) same a in
+    subst (λ l. Among l u) (sym (flat_map-append changes_of s.deeds (deeds_of ss))) (among_left u (changes_in s.deeds) (changes_in (deeds_of ss)) here)
+among_deeds t (s ∷ ss) (inr rest) u a =
+    subst (λ l. Among l u) (sym (flat_map-append changes_of s.deeds (deeds_of ss))) (among_right u (changes_in s.deeds) (changes_in (deeds_of ss)) (among_deeds t ss rest u a))
+among_deeds t [] there u a = absurd there
 
 steps_are : (header : Header) (In : Change → Type 0) (own last : Own) (cs : List Command) (ss : List Step) → Makes header own cs ss last → AreReaped header In own cs ss → AreStepsOf header In own cs ss
 steps_are header In own last [] [] m r = tt
@@ -254,8 +266,10 @@ module _ (header : Header) (scripts : List (List Command)) (part : ℕ → Part)
   shown_at m there s few h = record {
     keepers = each_weaken (SawKeeper (part m).chain.sights s.from (IsBy s.to)) (SawKeeper y.sights s.from (IsBy s.to)) (taken_in s.deeds)
         (keeper_moves (part m).chain.sights y.sights s.from s.from (IsBy s.to) (IsBy s.to) (omega arith) (moves m there s.to few)) h.keepers;
-    nones = each_weaken (SawNone (part m).chain.sights s.from (IsBy s.to) header.shape.slots) (SawNone y.sights s.from (IsBy s.to) header.shape.slots) (vain_in s.deeds)
-        (none_moves (part m).chain.sights y.sights s.from s.from (IsBy s.to) (IsBy s.to) (omega arith) (moves m there s.to few) header.shape.slots) h.nones;
+    frees = each_weaken (SawFree (part m).chain.sights s.from (IsBy s.to)) (SawFree y.sights s.from (IsBy s.to)) (given_in s.deeds)
+        (free_moves (part m).chain.sights y.sights s.from s.from (IsBy s.to) (IsBy s.to) (omega arith) (moves m there s.to few)) h.frees;
+    nones = each_weaken (SawNone (part m).chain.sights (IsBy s.to) header.shape.slots) (SawNone y.sights (IsBy s.to) header.shape.slots) (vain_in s.deeds)
+        (none_moves (part m).chain.sights y.sights (IsBy s.to) (IsBy s.to) (moves m there s.to few) header.shape.slots) h.nones;
     waits = each_weaken (SawNoWait (part m).chain.sights s.from (IsBy s.to) (layout_in header)) (SawNoWait y.sights s.from (IsBy s.to) (layout_in header)) (missed_in s.deeds)
         (no_wait_moves (part m).chain.sights y.sights s.from s.from (IsBy s.to) (IsBy s.to) (omega arith) (moves m there s.to few) (layout_in header)) h.waits;
     dumps = saw_as_moves (layout_in header) (part m).chain.sights y.sights s (λ a there_a u. stays m there a there_a (omega (arith, u, few))) s.command h.dumps;
@@ -276,10 +290,31 @@ module _ (header : Header) (scripts : List (List Command)) (part : ℕ → Part)
   taken = each_weaken (IsShown (layout_in header) y.sights) (TakenWereKept race) (steps_of race)
       (λ s h. each_weaken (SawKeeper y.sights s.from (IsBy s.to)) (WasKept (Among race.book) s.from s.to) (taken_in s.deeds) (was_kept header y clock e.whole good s.from s.to) h.keepers) shown
 
+  -- what a section that was joined did is in the book
+  into : (m : ℕ) (cs : List Command) (said : Said) (s : SectionDone header m cs (part m) said) → IsThere m → (u : Change) → Among (changes_in (deeds_of s.done.steps)) u → Among race.book u
+  into m cs said s there u a = subst (λ l. Among l u) (sym book_is) (among_flat (λ n. map change_of (part n).chain.book.closed) e.order m u there (subst (λ l. Among l u) (sym s.done.changes) a))
+
+  abbrev Frees : Step → Type 0
+  Frees s = IsShown (layout_in header) y.sights s × (IsSpanned clock s × ((u : Change) → Among (changes_in s.deeds) u → Among race.book u))
+
+  section_frees : (m : ℕ) (cs : List Command) (said : Said) (s : SectionDone header m cs (part m) said) → IsThere m × ((part m).chain.seen ≤ x.seen) → Each (GivenWereFree race) s.done.steps
+  section_frees m cs said s z =
+      each_weaken Frees (GivenWereFree race) s.done.steps
+      (λ t f. frees header y clock e.whole good t f.0.frees f.1.0 f.1.1)
+      (each_both (IsShown (layout_in header) y.sights) (λ t. IsSpanned clock t × ((u : Change) → Among (changes_in t.deeds) u → Among race.book u)) s.done.steps (section_shown m cs said s z.0)
+      (each_both (IsSpanned clock) (λ t. (u : Change) → Among (changes_in t.deeds) u → Among race.book u) s.done.steps
+      (later_order (part m).chain.seen clock (omega (arith, z.1, e.later)) s.done.steps s.done.order).each
+      (to_each (λ (t : Step). (u : Change) → Among (changes_in t.deeds) u → Among race.book u) s.done.steps (λ t a u b. into m cs said s z.0 u (among_deeds t s.done.steps a u b)))))
+
+  freed : Each (GivenWereFree race) (steps_of race)
+  freed = each_flat (GivenWereFree race) (λ (steps : List Step). steps) sections
+      (each_section header part (λ steps. Each (GivenWereFree race) steps) (λ m. IsThere m × ((part m).chain.seen ≤ x.seen)) 1 scripts says e.done lookers
+      (each_both IsThere (λ m. (part m).chain.seen ≤ x.seen) numbers there_all seen_all) section_frees)
+
   used : Each (SlotsWereUsed race) (steps_of race)
   used = each_weaken (IsShown (layout_in header) y.sights) (SlotsWereUsed race) (steps_of race)
-      (λ s h. each_weaken (SawNone y.sights s.from (IsBy s.to) header.shape.slots) (NoneWasFree (Among race.book) s.from s.to race.shape.slots race.counts race.sightings) (vain_in s.deeds)
-      (none_was_free header y clock e.whole good s.from s.to) h.nones) shown
+      (λ s h. each_weaken (SawNone y.sights (IsBy s.to) header.shape.slots) (λ (t : Vain). NoneWasFree (Among race.book) t.number s.to race.shape.slots race.counts race.sightings t) (vain_in s.deeds)
+      (none_was_free header y clock e.whole good s.to) h.nones) shown
 
   dumps : Each (Lists race) (steps_of race)
   dumps = each_weaken (IsShown (layout_in header) y.sights) (Lists race) (steps_of race)
@@ -363,6 +398,7 @@ module _ (header : Header) (scripts : List (List Command)) (part : ℕ → Part)
       book = book_ok;
       serial = serial header y clock e.whole good;
       taken = taken;
+      given = freed;
       slots = used;
       dumps = dumps;
     },

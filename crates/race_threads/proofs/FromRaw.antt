@@ -228,7 +228,7 @@ module _ (header : Header) (v : View) (clock : ℕ) (w : IsWhole v clock) (good 
   begin : BeginApart book
   begin = begin_apart book differ
 
-  end_after : EndAfter book
+  pub end_after : EndAfter book
   end_after c a = let r = raw_of c a in omega (arith, order_of r.change r.there, ap (λ (x : Change). x.begin) r.is, ap (λ (x : Change). x.end) r.is)
 
   -- Changes
@@ -410,7 +410,7 @@ module _ (header : Header) (v : View) (clock : ℕ) (w : IsWhole v clock) (good 
 
   -- Lookups
 
-  rank_is : (key : Packet) (ws : List ℕ) → rank_of key ws ≡ rank (Rattle.table_rule.specs.Words.card_from ws) key
+  pub rank_is : (key : Packet) (ws : List ℕ) → rank_of key ws ≡ rank (Rattle.table_rule.specs.Words.card_from ws) key
   rank_is key ws = two_words (record { ends = Rattle.std.proofs.Common.slice_index ws 0; ports = Rattle.std.proofs.Common.slice_index ws 1; name = Rattle.std.proofs.Common.slice_index ws 2; extra = Rattle.std.proofs.Common.slice_index ws 3 }) key
 
   pub raw_throughout : (d : Change) (r : RawOf d) (t0 t1 : ℕ) → Throughout (Among book) d t0 t1 → lookups.Throughout (mine v) r.change t0 t1
@@ -421,7 +421,7 @@ module _ (header : Header) (v : View) (clock : ℕ) (w : IsWhole v clock) (good 
   met : (t0 t1 : ℕ) (P : Raw → Type 0) (Q : Change → Type 0) → ((c : Raw) → InBook (mine v) c → P c → Q (change_of c)) → lookups.IsMet (mine v) t0 t1 P → MeetsSome (Among book) Q t0 t1
   met t0 t1 P Q f z = record { change = change_of z.change; there = among z.change z.there; sort = f z.change z.there z.is; meets = record { begun = z.meets.0; lasting = z.meets.1 } }
 
-  may_end : (c : Told) (slots : ℕ) (end : PassEnd) → lookups.IsStop (mine v) slots c (stop_of end) → MayEnd (Among book) slots c.bucket c.from c.to end
+  pub may_end : (c : Told) (slots : ℕ) (end : PassEnd) → lookups.IsStop (mine v) slots c (stop_of end) → MayEnd (Among book) slots c.bucket c.from c.to end
   may_end c slots (stops.Foreign b) s = let t = s.foreign refl in (t.0, met c.from c.to (λ h. (h.kind ≡ 1) × (h.bucket ≡ b)) (IsHashInto b) (λ h i p. (act_one h.kind p.0, p.1)) t.1)
   may_end c slots (stops.Dead i) s = met c.from c.to (λ h. (h.kind < 2) × (h.slot ≡ i)) (IsOfSlot i) (λ h j p. p.1) (s.slot (inl refl))
   may_end c slots (stops.Changed i) s = met c.from c.to (λ h. (h.kind < 2) × (h.slot ≡ i)) (IsOfSlot i) (λ h j p. p.1) (s.slot (inr refl))

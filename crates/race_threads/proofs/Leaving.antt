@@ -9,12 +9,12 @@ use Rattle.table_rule.specs.declared.view.Sight.{Sight}
 use Rattle.shared_slots.specs.Claims.{sight_by}
 use Rattle.race_book.specs.Among.{Among}
 use Rattle.race_book.proofs.AmongLemmas.{among_left, among_right}
-use Rattle.race_record.specs.Deeds.{Deed, Vain, hashed, kept_out, no_slot, entered, inserted, added, left, reaped, changes_of, taken_of, vain_of, drawn_of, changes_in, taken_in, vain_in, drawn_in}
+use Rattle.race_record.specs.Deeds.{Deed, Vain, hashed, kept_out, no_slot, entered, inserted, added, left, reaped, changes_of, given_of, taken_of, vain_of, drawn_of, changes_in, given_in, taken_in, vain_in, drawn_in}
 use Rattle.chain_deeds.specs.Sides.{Side}
 use Rattle.chain_deeds.specs.Made.{Made, AllLeave, IsHomeIfHash, number_of, SawNone as MadeNone, SawNoWait as MadeNoWait}
 use Rattle.chain_deeds.proofs.Seen.{sees_both, as_they_were}
-use Rattle.race_threads.specs.Made.{SawKeeper, SawNone, SawNoWait, IsAny, MadeAll, missed_of, missed_in}
-use Rattle.race_threads.proofs.Sightings.{Moves, keeper_moves, none_moves, no_wait_moves, any_sees, reads_seen}
+use Rattle.race_threads.specs.Made.{SawFree, SawKeeper, SawNone, SawNoWait, IsAny, MadeAll, missed_of, missed_in}
+use Rattle.race_threads.proofs.Sightings.{Moves, free_moves, keeper_moves, none_moves, no_wait_moves, any_sees, reads_seen}
 
 abbrev Less : ℕ → ℕ → Type 0
 Less n m = n < m
@@ -45,10 +45,36 @@ keepers_one (added card tried) c e m = tt
 keepers_one (left u) c e m = tt
 keepers_one (reaped card u) c e m = tt
 
-none_seen : (v : Vain) (c e : Side) → c.view.seen ≤ v.number → MadeNone v c e → SawNone e.view.sights c.view.seen IsAny c.layout.shape.slots v
-none_seen v c e le s = record {
+frees_one : (deed : Deed) (c e : Side) → Made deed c e → Each (SawFree e.view.sights c.view.seen IsAny) (given_of deed)
+frees_one (entered port note) c e m = tt
+frees_one (inserted wish (hashed hash old)) c e m =
+    let s = m.shows in (
+      record {
+        act = s.act;
+        sight = s.sight;
+        there = subst (λ l. Among l s.sight) (sym s.sights) (among_right s.sight s.earlier (s.sight ∷ []) (inl refl));
+        since = omega (arith, s.since);
+        is = tt;
+        bucket = s.bucket;
+        whole = s.whole;
+        others = s.others;
+        listed = s.listed;
+        cards = s.cards;
+        unkept = s.unkept;
+        unwaited = s.unwaited;
+      },
+      tt,
+    )
+frees_one (inserted wish (kept_out name)) c e m = tt
+frees_one (inserted wish (no_slot number owned held)) c e m = tt
+frees_one (added card tried) c e m = tt
+frees_one (left u) c e m = tt
+frees_one (reaped card u) c e m = tt
+
+none_seen : (v : Vain) (c e : Side) → MadeNone v c e → SawNone e.view.sights IsAny c.layout.shape.slots v
+none_seen v c e s = record {
   reads = s.reads;
-  each = reads_seen e.view.sights c.view.seen s.by s.reads (omega (arith, le, s.since))
+  each = reads_seen e.view.sights v.number s.by s.reads (omega (arith, s.since))
       (λ x a. subst (λ (l : List Sight). Among l x) (sym s.sights) (among_left x (s.earlier ++ map (sight_by s.by) s.reads) s.more (among_right x s.earlier (map (sight_by s.by) s.reads) a)));
   owned = s.owned;
   held = s.held;
@@ -57,14 +83,14 @@ none_seen v c e le s = record {
   once = s.once;
 }
 
-nones_one : (deed : Deed) (c e : Side) → Made deed c e → Each (SawNone e.view.sights c.view.seen IsAny c.layout.shape.slots) (vain_of deed)
+nones_one : (deed : Deed) (c e : Side) → Made deed c e → Each (SawNone e.view.sights IsAny c.layout.shape.slots) (vain_of deed)
 nones_one (entered port note) c e m = tt
 nones_one (inserted wish (hashed hash old)) c e m = tt
 nones_one (inserted wish (kept_out name)) c e m = tt
-nones_one (inserted wish (no_slot number owned held)) c e m = (none_seen (record { number = number; owned = owned; held = held }) c e m.numbers.0.0 m.shows, tt)
+nones_one (inserted wish (no_slot number owned held)) c e m = (none_seen (record { number = number; owned = owned; held = held }) c e m.shows, tt)
 nones_one (added card (hashed hash old)) c e m = tt
 nones_one (added card (kept_out name)) c e m = tt
-nones_one (added card (no_slot number owned held)) c e m = (none_seen (record { number = number; owned = owned; held = held }) c e m.numbers.0.0 m.shows, tt)
+nones_one (added card (no_slot number owned held)) c e m = (none_seen (record { number = number; owned = owned; held = held }) c e m.shows, tt)
 nones_one (left u) c e m = tt
 nones_one (reaped card u) c e m = tt
 
@@ -107,6 +133,7 @@ none_made c = record {
   read = refl;
   sees = (c.view.sights, [], as_they_were c.view.seen c.view.sights, sym (append-nil c.view.sights));
   keepers = tt;
+  frees = tt;
   nones = tt;
   waits = tt;
 }
@@ -151,13 +178,15 @@ module _ (deed : Deed) (deeds : List Deed) (c e d : Side) (m : Made deed c e) (h
     taken = h.taken ∙ m.taken;
     read = h.read ∙ m.read;
     sees = sees_both c.view e.view d.view m.later m.sees h.sees;
+    frees = each_append (SawFree d.view.sights c.view.seen IsAny) (given_of deed) (given_in deeds)
+        (each_weaken (SawFree e.view.sights c.view.seen IsAny) (SawFree d.view.sights c.view.seen IsAny) (given_of deed) (free_moves e.view.sights d.view.sights c.view.seen c.view.seen IsAny IsAny (omega arith) moves) (frees_one deed c e m))
+        (each_weaken (SawFree d.view.sights e.view.seen IsAny) (SawFree d.view.sights c.view.seen IsAny) (given_in deeds) (free_moves d.view.sights d.view.sights e.view.seen c.view.seen IsAny IsAny m.later stays) h.frees);
     keepers = each_append (SawKeeper d.view.sights c.view.seen IsAny) (taken_of deed) (taken_in deeds)
         (each_weaken (SawKeeper e.view.sights c.view.seen IsAny) (SawKeeper d.view.sights c.view.seen IsAny) (taken_of deed) (keeper_moves e.view.sights d.view.sights c.view.seen c.view.seen IsAny IsAny (omega arith) moves) (keepers_one deed c e m))
         (each_weaken (SawKeeper d.view.sights e.view.seen IsAny) (SawKeeper d.view.sights c.view.seen IsAny) (taken_in deeds) (keeper_moves d.view.sights d.view.sights e.view.seen c.view.seen IsAny IsAny m.later stays) h.keepers);
-    nones = each_append (SawNone d.view.sights c.view.seen IsAny c.layout.shape.slots) (vain_of deed) (vain_in deeds)
-        (each_weaken (SawNone e.view.sights c.view.seen IsAny c.layout.shape.slots) (SawNone d.view.sights c.view.seen IsAny c.layout.shape.slots) (vain_of deed) (none_moves e.view.sights d.view.sights c.view.seen c.view.seen IsAny IsAny (omega arith) moves c.layout.shape.slots) (nones_one deed c e m))
-        (subst (λ n. Each (SawNone d.view.sights c.view.seen IsAny n) (vain_in deeds)) slots_same
-        (each_weaken (SawNone d.view.sights e.view.seen IsAny e.layout.shape.slots) (SawNone d.view.sights c.view.seen IsAny e.layout.shape.slots) (vain_in deeds) (none_moves d.view.sights d.view.sights e.view.seen c.view.seen IsAny IsAny m.later stays e.layout.shape.slots) h.nones));
+    nones = each_append (SawNone d.view.sights IsAny c.layout.shape.slots) (vain_of deed) (vain_in deeds)
+        (each_weaken (SawNone e.view.sights IsAny c.layout.shape.slots) (SawNone d.view.sights IsAny c.layout.shape.slots) (vain_of deed) (none_moves e.view.sights d.view.sights IsAny IsAny moves c.layout.shape.slots) (nones_one deed c e m))
+        (subst (λ n. Each (SawNone d.view.sights IsAny n) (vain_in deeds)) slots_same h.nones);
     waits = each_append (SawNoWait d.view.sights c.view.seen IsAny c.layout) (missed_of deed) (missed_in deeds)
         (each_weaken (SawNoWait e.view.sights c.view.seen IsAny c.layout) (SawNoWait d.view.sights c.view.seen IsAny c.layout) (missed_of deed) (no_wait_moves e.view.sights d.view.sights c.view.seen c.view.seen IsAny IsAny (omega arith) moves c.layout) (waits_one deed c e m))
         (subst (λ l. Each (SawNoWait d.view.sights c.view.seen IsAny l) (missed_in deeds)) m.layout
@@ -180,6 +209,7 @@ entered_made port note deeds c d h = record {
   taken = h.taken;
   read = h.read;
   sees = h.sees;
+  frees = h.frees;
   keepers = h.keepers;
   nones = h.nones;
   waits = h.waits;

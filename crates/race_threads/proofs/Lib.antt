@@ -12,11 +12,15 @@ pub mod Sums
 pub mod Plans
 pub mod Waiting
 pub mod Missed
+pub mod Freed
 pub mod Reaping
 pub mod Closing
 pub mod Reaped
+pub mod Idle
+pub mod Staged
 pub mod Looking
 pub mod Searching
+pub mod Staging
 pub mod Looked
 pub mod Items
 pub mod Placing

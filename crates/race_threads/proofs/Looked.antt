@@ -1,7 +1,7 @@
 -- A looker takes one item more.
 use Rattle.std.proofs.Common.{◌≡◌, ℕ, ◌<◌, ◌≤◌, List, [], ◌∷◌, ◌++◌, refl, sym, ap, ◌∙◌, subst, arith, inl, inr, ⊎_elim}
 use Rattle.std.proofs.lemmas.List.{append-nil}
-use Rattle.list_words.proofs.EachLemmas.{each_weaken, each_both, each_push}
+use Rattle.list_words.proofs.EachLemmas.{each_weaken, each_both, each_push, each_front, each_back}
 use Rattle.list_words.proofs.PairsLemmas.{pairs_push}
 use Rattle.bind_buckets.specs.Turned.{View as BindView}
 use Rattle.sock_card.specs.declared.card.Packet.{Packet}
@@ -18,6 +18,7 @@ use Rattle.shared_demux.specs.Concludes.{Concluded, AfterListener, AfterFull, By
 use Rattle.shared_finds.specs.Finds.{InOrder}
 use Rattle.table_rule.specs.Plays.{Sat}
 use Rattle.table_rule.specs.declared.view.Layout.{Layout}
+use Rattle.table_rule.specs.declared.view.ReadView.{ReadView}
 use Rattle.table_rule.specs.declared.view.Receipt.{Receipt as Search}
 use Rattle.table_rule.specs.declared.view.Whole.{Whole}
 use Rattle.table_rule.specs.declared.view.BookView.{BookView}
@@ -29,12 +30,13 @@ use Rattle.race_record.specs.declared.record.Looked.{Looked}
 use Rattle.race_record.specs.declared.record.Looked.TheVariants as looks
 use Rattle.race_threads.specs.declared.looker.Look.{Look}
 use Rattle.race_threads.specs.Joins.{Part}
-use Rattle.race_threads.specs.Lookers.{IsLookup, IsLooked, item_at, Before, HasLooked, HasLookedNothingUp, LookedUp, looking, AllBefore, IsPassedOver, whole_for}
+use Rattle.race_threads.specs.Lookers.{IsLookup, IsLooked, IsIdle, item_at, Before, HasLooked, HasLookedNothingUp, LookedUp, looking, AllBefore, IsPassedOver, whole_for}
 use Rattle.race_threads.specs.Searches.{LooksAfter, AllLookAfter, HasSearched}
+use Rattle.race_threads.proofs.Staging.{stages_more}
 use Rattle.race_threads.proofs.Weights.{flat_push}
 
 pub looks_none : (header : Header) (passes : ℕ) (all : List Item) (p : Part) → HasLookedNothingUp p → HasLooked header passes all p []
-looks_none header passes all p h = record { each = tt; turns = tt; searched = record { searches = []; all = h.receipts; each = tt }; only = h.only }
+looks_none header passes all p h = record { each = tt; turns = tt; searched = record { searches = []; all = h.receipts; each = tt }; only = h.only; idle = λ i. h.taken }
 
 -- the searches for one item more
 after_more : (passes : ℕ) (all : List (List Search)) (took : List Look) (searches : List Search) (k : Look) → AllLookAfter passes all took → LooksAfter passes searches k.looked → AllLookAfter passes (all ++ searches ∷ []) (took ++ k ∷ [])
@@ -51,7 +53,7 @@ searched_more passes before after searches took k h more a = record {
 }
 
 -- more receipts, and a later number
-module _ (header : Header) (xs ys : List Whole) (a b : ℕ) (more : (c : Whole) → Among xs c → Among ys c) (le : a ≤ b) where
+module _ (header : Header) (xs ys : ReadView) (a b : ℕ) (more : (c : Whole) → Among xs.wholes c → Among ys.wholes c) (further : (s : Search) → Among xs.receipts s → Among ys.receipts s) (le : a ≤ b) where
   lookup_later : (packet : Packet) (r : Receipt) → IsLookup header xs a packet r → IsLookup header ys b packet r
   lookup_later packet r h = record {
     packet_is = h.packet_is;
@@ -59,6 +61,7 @@ module _ (header : Header) (xs ys : List Whole) (a b : ℕ) (more : (c : Whole) 
     order = h.order;
     most = omega (arith, h.most, le);
     there = more (whole_for r) h.there;
+    stages = stages_more xs.receipts ys.receipts further packet header.shape header.seed r.t0 r.t1 r.answer h.stages;
     told = h.told;
     bucket = h.bucket;
   }
@@ -75,16 +78,16 @@ module _ (header : Header) (xs ys : List Whole) (a b : ℕ) (more : (c : Whole) 
   looked_later items.Short looks.Skip h = absurd h
 
 -- what came of an item ended before what is seen
-ended_by : (header : Header) (wholes : List Whole) (seen : ℕ) (item : Item) (k : Looked) (r : Receipt) → seen ≤ r.t0 → IsLooked header wholes seen item k → Follows k (looks.Answered r)
-ended_by header wholes seen (items.Packet packet) (looks.Answered q) r le h = let m = h.most in omega (arith, m, le)
-ended_by header wholes seen items.Skip looks.Skip r le h = tt
-ended_by header wholes seen items.Short looks.Short r le h = tt
-ended_by header wholes seen (items.Packet packet) looks.Skip r le h = absurd h
-ended_by header wholes seen (items.Packet packet) looks.Short r le h = absurd h
-ended_by header wholes seen items.Skip (looks.Answered q) r le h = absurd h
-ended_by header wholes seen items.Skip looks.Short r le h = absurd h
-ended_by header wholes seen items.Short (looks.Answered q) r le h = absurd h
-ended_by header wholes seen items.Short looks.Skip r le h = absurd h
+ended_by : (header : Header) (read : ReadView) (seen : ℕ) (item : Item) (k : Looked) (r : Receipt) → seen ≤ r.t0 → IsLooked header read seen item k → Follows k (looks.Answered r)
+ended_by header read seen (items.Packet packet) (looks.Answered q) r le h = let m = h.most in omega (arith, m, le)
+ended_by header read seen items.Skip looks.Skip r le h = tt
+ended_by header read seen items.Short looks.Short r le h = tt
+ended_by header read seen (items.Packet packet) looks.Skip r le h = absurd h
+ended_by header read seen (items.Packet packet) looks.Short r le h = absurd h
+ended_by header read seen items.Skip (looks.Answered q) r le h = absurd h
+ended_by header read seen items.Skip looks.Short r le h = absurd h
+ended_by header read seen items.Short (looks.Answered q) r le h = absurd h
+ended_by header read seen items.Short looks.Skip r le h = absurd h
 
 -- of a lookup nothing else is left than its receipt
 pub record Leaves (m n : Sat) (c : Whole) : Type 0 where
@@ -113,36 +116,41 @@ module _ (header : Header) (passes : ℕ) (all : List Item) (v : BindView) (took
   more : (c : Whole) → Among m.0.read.wholes c → Among n.0.read.wholes c
   more c a = subst (λ x. Among x c) (sym left.wholes) (among_left c m.0.read.wholes (whole_for r ∷ []) a)
 
-  it : IsLookup header n.0.read.wholes n.0.seen packet r
+  further : (s : Search) → Among m.0.read.receipts s → Among n.0.read.receipts s
+  further s a = subst (λ x. Among x s) (sym l.searched) (among_left s m.0.read.receipts l.searches a)
+
+  it : IsLookup header n.0.read n.0.seen packet r
   it = record {
     packet_is = l.packet_is;
     seed_is = l.seed_is;
     order = l.order;
     most = omega (arith, left.seen);
     there = subst (λ x. Among x (whole_for r)) (sym left.wholes) (among_right (whole_for r) m.0.read.wholes (whole_for r ∷ []) (inl refl));
+    stages = l.stages;
     told = l.told;
     bucket = l.bucket;
   }
 
   abbrev Was : Look → Type 0
-  Was k = IsLooked header m.0.read.wholes m.0.seen (item_at all k.item) k.looked
+  Was k = IsLooked header m.0.read m.0.seen (item_at all k.item) k.looked
 
   abbrev Now : Look → Type 0
-  Now k = IsLooked header n.0.read.wholes n.0.seen (item_at all k.item) k.looked
+  Now k = IsLooked header n.0.read n.0.seen (item_at all k.item) k.looked
 
   pub looks_more : HasLooked header passes all (looking v n.0) (took ++ look ∷ [])
   looks_more = record {
     each = each_push Now took look
-        (each_weaken Was Now took (λ k z. looked_later header m.0.read.wholes n.0.read.wholes m.0.seen n.0.seen more (omega (arith, left.seen, l.fresh, l.order)) (item_at all k.item) k.looked z) h.each)
-        (subst (λ x. IsLooked header n.0.read.wholes n.0.seen x (looks.Answered r)) (sym at) it);
+        (each_weaken Was Now took (λ k z. looked_later header m.0.read n.0.read m.0.seen n.0.seen more further (omega (arith, left.seen, l.fresh, l.order)) (item_at all k.item) k.looked z) h.each)
+        (subst (λ x. IsLooked header n.0.read n.0.seen x (looks.Answered r)) (sym at) it);
     turns = pairs_push Before took look h.turns
-        (each_weaken (λ (k : Look). Was k × (k.item < i)) (λ k. Before k look) took (λ k z. (z.1, ended_by header m.0.read.wholes m.0.seen (item_at all k.item) k.looked r l.fresh z.0)) (each_both Was (λ (k : Look). k.item < i) took h.each before));
+        (each_weaken (λ (k : Look). Was k × (k.item < i)) (λ k. Before k look) took (λ k z. (z.1, ended_by header m.0.read m.0.seen (item_at all k.item) k.looked r l.fresh z.0)) (each_both Was (λ (k : Look). k.item < i) took h.each before));
     searched = searched_more passes m.0.read.receipts n.0.read.receipts l.searches took look h.searched l.searched l.after;
     only = record {
       mine = h.only.mine;
       closed = ap (λ (b : BookView). b.closed) left.book ∙ h.only.closed;
       lost = ap (λ (b : BookView). b.lost) left.book ∙ h.only.lost;
     };
+    idle = λ i. absurd (each_back (λ (k : Look). IsIdle k.looked) took (look ∷ []) i).0;
   }
 
 -- An item that is passed over
@@ -156,14 +164,14 @@ past_after passes items.Short looks.Skip h = absurd h
 past_after passes items.Short (looks.Answered r) h = absurd h
 past_after passes (items.Packet packet) k h = absurd h
 
-past_is : (header : Header) (wholes : List Whole) (seen : ℕ) (item : Item) (k : Looked) → IsPassedOver item k → IsLooked header wholes seen item k
-past_is header wholes seen items.Skip looks.Skip h = tt
-past_is header wholes seen items.Short looks.Short h = tt
-past_is header wholes seen items.Skip looks.Short h = absurd h
-past_is header wholes seen items.Skip (looks.Answered r) h = absurd h
-past_is header wholes seen items.Short looks.Skip h = absurd h
-past_is header wholes seen items.Short (looks.Answered r) h = absurd h
-past_is header wholes seen (items.Packet packet) k h = absurd h
+past_is : (header : Header) (read : ReadView) (seen : ℕ) (item : Item) (k : Looked) → IsPassedOver item k → IsLooked header read seen item k
+past_is header read seen items.Skip looks.Skip h = tt
+past_is header read seen items.Short looks.Short h = tt
+past_is header read seen items.Skip looks.Short h = absurd h
+past_is header read seen items.Skip (looks.Answered r) h = absurd h
+past_is header read seen items.Short looks.Skip h = absurd h
+past_is header read seen items.Short (looks.Answered r) h = absurd h
+past_is header read seen (items.Packet packet) k h = absurd h
 
 past_follows : (item : Item) (k : Looked) → IsPassedOver item k → (earlier : Looked) → Follows earlier k
 past_follows items.Skip looks.Skip h (looks.Answered r) = tt
@@ -183,10 +191,11 @@ pub looks_past : (header : Header) (passes : ℕ) (all : List Item) (p : Part) (
 looks_past header passes all p took i looked h over before =
     let look : Look = record { item = i; looked = looked } in
     record {
-      each = each_push (λ (k : Look). IsLooked header p.chain.read.wholes p.chain.seen (item_at all k.item) k.looked) took look h.each (past_is header p.chain.read.wholes p.chain.seen (item_at all i) looked over);
+      each = each_push (λ (k : Look). IsLooked header p.chain.read p.chain.seen (item_at all k.item) k.looked) took look h.each (past_is header p.chain.read p.chain.seen (item_at all i) looked over);
       turns = pairs_push Before took look h.turns (each_weaken (λ (k : Look). k.item < i) (λ k. Before k look) took (λ k l. (l, past_follows (item_at all i) looked over k.looked)) before);
       searched = searched_more passes p.chain.read.receipts p.chain.read.receipts [] took look h.searched (sym (append-nil p.chain.read.receipts)) (past_after passes (item_at all i) looked over);
       only = h.only;
+      idle = λ i. h.idle (each_front (λ (k : Look). IsIdle k.looked) took (look ∷ []) i);
     }
 
 -- The bucket of a lookup that was given up

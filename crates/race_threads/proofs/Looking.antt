@@ -43,7 +43,9 @@ use Rattle.race_threads.specs.Said.{Said}
 use Rattle.race_threads.specs.Sections.{layout_in}
 use Rattle.race_threads.proofs.Closing.{closes, good, each_there}
 use Rattle.race_threads.proofs.FromRaw.{explained, place_of}
+use Rattle.race_threads.proofs.Idle.{none_taken}
 use Rattle.race_threads.proofs.Reaped.{reaped as reaped_all}
+use Rattle.race_threads.proofs.Staged.{staged}
 use Rattle.race_threads.proofs.Weights.{among_flat, same_each, flipped}
 
 -- the numbers below n
@@ -75,8 +77,15 @@ module _ (script : Script) (capture : Capture) (part : ℕ → Part) (tooks : Li
   abbrev In : Change → Type 0
   In c = Among race.book c
 
+  -- a search of one that was joined is explained
+  searched_at : (m : ℕ) → Among e.order m → (s : Search) → Among (part m).chain.read.receipts s → IsExplained (mine y) header.shape.slots s
+  searched_at m there s h =
+      let a : Among y.read.receipts s = subst (λ (l : List Search). Among l s) (sym e.joined.receipts) (among_flat (λ n. (part n).chain.read.receipts) e.order m s there h) in
+      let p = place_of y.read.receipts s a in
+      subst (λ (l : Layout). IsExplained (mine y) l.shape.slots s) e.layout ((e.whole.book e.whole.parts e.whole.opened).3 p.0 s p.1)
+
   -- a receipt of one that was joined is explained
-  explained_at : (m : ℕ) → Among e.order m → (packet : Packet) (r : Receipt) → IsLookup header (part m).chain.read.wholes (part m).chain.seen packet r → (part m).chain.seen ≤ x.seen → IsReceiptOf In header.shape header.seed clock packet r
+  explained_at : (m : ℕ) → Among e.order m → (packet : Packet) (r : Receipt) → IsLookup header (part m).chain.read (part m).chain.seen packet r → (part m).chain.seen ≤ x.seen → IsReceiptOf In header.shape header.seed clock packet r
   explained_at m there packet r h seen =
       let a : Among y.read.wholes (whole_for r) = subst (λ (l : List Whole). Among l (whole_for r)) (sym e.joined.wholes) (among_flat (λ n. (part n).chain.read.wholes) e.order m (whole_for r) there h.there) in
       let p = place_of y.read.wholes (whole_for r) a in
@@ -88,10 +97,11 @@ module _ (script : Script) (capture : Capture) (part : ℕ → Part) (tooks : Li
         order = h.order;
         most = omega (arith, h.most, seen, e.later);
         explained = explained header y clock e.whole (good header script.sections part (length tooks) v x values says clock (looks_by passes tooks looked capture) e) r h.seed_is h.told w;
+        stages = staged header y clock e.whole (good header script.sections part (length tooks) v x values says clock (looks_by passes tooks looked capture) e) (part m).chain.read.receipts (searched_at m there) packet header.seed r.t0 r.t1 r.answer h.told h.stages;
         bucket = h.bucket;
       }
 
-  answered_at : (m : ℕ) → Among e.order m → (part m).chain.seen ≤ x.seen → (item : Item) (k : Looked) → IsLooked header (part m).chain.read.wholes (part m).chain.seen item k → Answers In header.shape header.seed clock item k
+  answered_at : (m : ℕ) → Among e.order m → (part m).chain.seen ≤ x.seen → (item : Item) (k : Looked) → IsLooked header (part m).chain.read (part m).chain.seen item k → Answers In header.shape header.seed clock item k
   answered_at m there seen (items.Packet packet) (looks.Answered r) h = explained_at m there packet r h seen
   answered_at m there seen items.Skip looks.Skip h = tt
   answered_at m there seen items.Short looks.Short h = tt
@@ -114,9 +124,9 @@ module _ (script : Script) (capture : Capture) (part : ℕ → Part) (tooks : Li
   right_all n [] a t h = tt
   right_all n (took ∷ rest) a t h = (
     each_map IsRight item_of took
-        (each_weaken (λ (k : Look). IsLooked header (part n).chain.read.wholes (part n).chain.seen (item_at capture.items k.item) k.looked × Tells k) (λ k. IsRight k.item) took
+        (each_weaken (λ (k : Look). IsLooked header (part n).chain.read (part n).chain.seen (item_at capture.items k.item) k.looked × Tells k) (λ k. IsRight k.item) took
         (λ k z. subst (Answers In header.shape header.seed clock (item_at capture.items k.item)) (sym z.1) (answered_at n h.0.0 h.0.1 (item_at capture.items k.item) k.looked z.0))
-        (each_both (λ (k : Look). IsLooked header (part n).chain.read.wholes (part n).chain.seen (item_at capture.items k.item) k.looked) Tells took a.0.each t.0)),
+        (each_both (λ (k : Look). IsLooked header (part n).chain.read (part n).chain.seen (item_at capture.items k.item) k.looked) Tells took a.0.each t.0)),
     right_all (n + 1) rest a.1 t.1 h.1,
   )
 
@@ -171,7 +181,9 @@ module _ (script : Script) (capture : Capture) (part : ℕ → Part) (tooks : Li
             book = l.book;
             serial = l.serial;
             taken = l.taken;
+            given = l.given;
             slots = l.slots;
+            counted = λ none. none_taken header part script.sections tooks says e.done passes capture.items none all e.order e.each_once x.slot.taken e.joined.taken;
             dumps = l.dumps;
             items = each_answer In header.shape header.seed clock capture.items looked told.count right_each;
             shares = shares;

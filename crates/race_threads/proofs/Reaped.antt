@@ -69,7 +69,7 @@ module _ (header : Header) (scripts : List (List Command)) (part : ℕ → Part)
 
   -- the TIME_WAITs that a worker hashed have the names of its section
   abbrev AreNamed : ℕ → Type 0
-  AreNamed m = (h : Change) → Among (closed_of m) h → IsWait h → h.card.name / 2 ^ 24 ≡ m
+  AreNamed m = (h : Change) → Among (closed_of m) h → IsWait h → h.card.name / 2 ^ 56 ≡ m
 
   section_named : (m : ℕ) (cs : List Command) (said : Said) → SectionDone header m cs (part m) said → AreFew cs → AreNamed m
   section_named m cs said s few_here h a w =
@@ -100,7 +100,7 @@ module _ (header : Header) (scripts : List (List Command)) (part : ℕ → Part)
 
     pub reaped_here : AreReaped header In (new_own header n) cs s.done.steps
     reaped_here =
-        let small : length (new_own header n).labels + length cs < 2 ^ 24 = omega (arith, few_here) in
+        let small : length (new_own header n).labels + length cs < 2 ^ 56 = omega (arith, few_here) in
         are_reaped header In y.sights (part n).chain.seen n
         (serial header y clock e.whole good).ends
         (λ g h p q named. once header (new_own header n) s.own cs s.done.steps s.done.makes (inside_new header n) small g h (back g p) (back h q)
@@ -108,7 +108,7 @@ module _ (header : Header) (scripts : List (List Command)) (part : ℕ → Part)
         (λ from to card saw h life is kind before. left header y clock e.whole good from to card saw h life is kind before)
         0 (new_own header n) s.own cs s.done.steps s.done.makes (inside_new header n) refl small
         (each_of_all (λ (t : Step). 0 ≤ t.from) s.done.steps (λ t. omega arith))
-        s.done.order.each s.done.turns
+        s.done.order.each s.done.order.pairs
         (closing.section_shown header scripts part lookers v x values says clock looks e n cs said s there)
         into (λ h o. inl (back h o))
 

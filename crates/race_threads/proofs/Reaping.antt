@@ -23,11 +23,11 @@ use Rattle.race_book.proofs.Endings.{each_of}
 use Rattle.race_record.specs.Deeds.{Deed, Tried, hashed, kept_out, no_slot, entered, inserted, added, left, reaped, changes_of, changes_in, changes_tried, drawn_of, drawn_in, drawn_in_try}
 use Rattle.race_record.specs.Goes.{IsReapOf}
 use Rattle.race_record.specs.Record.{Step, deeds_of}
-use Rattle.race_record.specs.Lawful.{IsSpanned, ExpiredLeave, ReapsAll}
+use Rattle.race_record.specs.Lawful.{IsSpanned, Precedes, ExpiredLeave, ReapsAll}
 use Rattle.race_record.proofs.Turns.{goes_once}
 use Rattle.race_threads.specs.Made.{SawNoWait, IsBy, missed_of, missed_in}
 use Rattle.race_threads.specs.Races.{AreReaped}
-use Rattle.race_threads.specs.Sections.{Makes, IsShown, EndsBefore, layout_in}
+use Rattle.race_threads.specs.Sections.{Makes, IsShown, layout_in}
 use Rattle.race_threads.proofs.Plans.{Grows, IsWait}
 use Rattle.race_threads.proofs.Waiting.{Open, Rests, Seeks, Turn, is_reap, turn}
 use Rattle.race_threads.proofs.Weights.{among_flat}
@@ -36,25 +36,25 @@ use Rattle.race_threads.proofs.Weights.{among_flat}
 
 -- the names of open sockets are those of the section's labels
 abbrev pub Inside : Own → Type 0
-Inside own = (n : ℕ) → Open own n → (own.number * 2 ^ 24 < n) × (n < next_name own)
+Inside own = (n : ℕ) → Open own n → (own.number * 2 ^ 56 < n) × (n < next_name own)
 
 inside_next : (own next : Own) → Inside own → Grows own next → Inside next
 inside_next own next i g n o = ⊎_elim
     (λ a. let b = i n a in (omega (arith, b.0, g.number), omega (arith, b.1, g.number, g.least)))
     (λ z. (omega (arith, z.0, g.number), omega (arith, z.0, z.1, g.number))) (g.names n o)
 
-section_by : (n name k : ℕ) → n * 2 ^ 24 < name → name < n * 2 ^ 24 + k + 1 → k < 2 ^ 24 → name / 2 ^ 24 ≡ n
+section_by : (n name k : ℕ) → n * 2 ^ 56 < name → name < n * 2 ^ 56 + k + 1 → k < 2 ^ 56 → name / 2 ^ 56 ≡ n
 section_by n name k low high few =
-    ap (λ x. x / 2 ^ 24) (let e : name ≡ n * 2 ^ 24 + (name - n * 2 ^ 24) = omega (arith, low) in e)
-    ∙ div-mul-add n (2 ^ 24) (name - n * 2 ^ 24) (omega (arith, low, high, few))
+    ap (λ x. x / 2 ^ 56) (let e : name ≡ n * 2 ^ 56 + (name - n * 2 ^ 56) = omega (arith, low) in e)
+    ∙ div-mul-add n (2 ^ 56) (name - n * 2 ^ 56) (omega (arith, low, high, few))
 
 -- a TIME_WAIT that is still to be hashed
 pub record Fresh (own : Own) (h : Change) : Type 0 where
   pub live : Open own h.card.name ⊎ (next_name own ≤ h.card.name)
   pub late : own.moment ≤ h.card.extra
-  pub section : h.card.name / 2 ^ 24 ≡ own.number
+  pub section : h.card.name / 2 ^ 56 ≡ own.number
 
-fresh_here : (own next : Own) (h : Change) → Inside own → length own.labels < 2 ^ 24 → Rests own next h → Fresh own h
+fresh_here : (own next : Own) (h : Change) → Inside own → length own.labels < 2 ^ 56 → Rests own next h → Fresh own h
 fresh_here own next h i few r =
     let b = i h.card.name r.was in
     record {
@@ -90,7 +90,7 @@ join_right : (s : Step) (ss : List Step) (h : Change) → Among (changes_in (dee
 join_right s ss h a = subst (λ l. Among l h) (sym (flat_map-append changes_of s.deeds (deeds_of ss))) (among_right h (changes_in s.deeds) (changes_in (deeds_of ss)) a)
 
 module _ (header : Header) where
-  pub fresh : (own last : Own) (cs : List Command) (ss : List Step) → Makes header own cs ss last → Inside own → length own.labels + length cs < 2 ^ 24 → (h : Change) → Among (changes_in (deeds_of ss)) h → IsWait h → Fresh own h
+  pub fresh : (own last : Own) (cs : List Command) (ss : List Step) → Makes header own cs ss last → Inside own → length own.labels + length cs < 2 ^ 56 → (h : Change) → Among (changes_in (deeds_of ss)) h → IsWait h → Fresh own h
   fresh own last [] [] m i few h a w = absurd a
   fresh own last (c ∷ cs) (s ∷ ss) m i few h a w =
       let t : Turn own m.0 (is_reap c) s.deeds = turn header own m.0 s.deeds s.reply c m.2 in
@@ -102,12 +102,12 @@ module _ (header : Header) where
   fresh own last (c ∷ cs) [] m i few h a w = absurd m
 
   -- one TIME_WAIT of each name
-  pub once : (own last : Own) (cs : List Command) (ss : List Step) → Makes header own cs ss last → Inside own → length own.labels + length cs < 2 ^ 24
+  pub once : (own last : Own) (cs : List Command) (ss : List Step) → Makes header own cs ss last → Inside own → length own.labels + length cs < 2 ^ 56
       → (g h : Change) → Among (changes_in (deeds_of ss)) g → Among (changes_in (deeds_of ss)) h → IsWait g → IsWait h → g.card.name ≡ h.card.name → g ≡ h
   once own last [] [] m i few g h a b v w e = absurd a
   once own last (c ∷ cs) (s ∷ ss) m i few g h a b v w e =
       let t : Turn own m.0 (is_reap c) s.deeds = turn header own m.0 s.deeds s.reply c m.2 in
-      let room : length m.0.labels + length cs < 2 ^ 24 = omega (arith, few, t.grows.most) in
+      let room : length m.0.labels + length cs < 2 ^ 56 = omega (arith, few, t.grows.most) in
       let inside : Inside m.0 = inside_next own m.0 i t.grows in
       ⊎_elim
       (λ here. ⊎_elim
@@ -160,7 +160,7 @@ module _ (header : Header) (In : Change → Type 0) (sights : List Sight) (clock
   pub record OfSection (h : Change) : Type 0 where
     pub life : IsLife In h
     pub kind : h.card.kind ≡ kinds.TimeWait
-    pub section : h.card.name / 2 ^ 24 ≡ n
+    pub section : h.card.name / 2 ^ 56 ≡ n
 
   is_wait : (h : Change) → OfSection h → IsWait h
   is_wait h o = record { hash = o.life.hash; kind = o.kind }
@@ -195,7 +195,7 @@ module _ (header : Header) (In : Change → Type 0) (sights : List Sight) (clock
           let same : one.life.card ≡ u.card = sym one.card in
           let named : one.life.card.name ≡ h.card.name = ap (λ (x : Card). x.name) same ∙ q.name ∙ ap (λ (x : Card). x.name) (sym is) in
           let kind : one.life.card.kind ≡ kinds.TimeWait = ap (λ (x : Card). x.kind) same ∙ q.kind ∙ ap (λ (x : Card). x.kind) (sym is) ∙ o.kind in
-          let it : one.life ≡ h = alike one.life h (record { life = one.is; kind = kind; section = ap (λ (k : ℕ). k / 2 ^ 24) named ∙ o.section }) o named in
+          let it : one.life ≡ h = alike one.life h (record { life = one.is; kind = kind; section = ap (λ (k : ℕ). k / 2 ^ 56) named ∙ o.section }) o named in
           record {
             unhash = u;
             ends = subst (λ (x : Change). Ends In x u) it one.ends;
@@ -242,8 +242,8 @@ module _ (header : Header) (In : Change → Type 0) (sights : List Sight) (clock
     reaps_at low own next c s t from spanned shown ins number all = tt
 
     -- each step of the section reaps to the end
-    pub are_reaped : (low : ℕ) (own last : Own) (cs : List Command) (ss : List Step) → Makes header own cs ss last → Inside own → own.number ≡ n → length own.labels + length cs < 2 ^ 24
-        → Each (λ (s : Step). low ≤ s.from) ss → Each (IsSpanned clock) ss → Pairs EndsBefore ss → Each (IsShown (layout_in header) sights) ss → ((u : Change) → Among (changes_in (deeds_of ss)) u → In u)
+    pub are_reaped : (low : ℕ) (own last : Own) (cs : List Command) (ss : List Step) → Makes header own cs ss last → Inside own → own.number ≡ n → length own.labels + length cs < 2 ^ 56
+        → Each (λ (s : Step). low ≤ s.from) ss → Each (IsSpanned clock) ss → Pairs Precedes ss → Each (IsShown (layout_in header) sights) ss → ((u : Change) → Among (changes_in (deeds_of ss)) u → In u)
         → ((h : Change) → OfSection h → Among (changes_in (deeds_of ss)) h ⊎ Past low own h) → AreReaped header In own cs ss
     are_reaped low own last [] [] m i number few from spanned turns shown ins all = tt
     are_reaped low own last (c ∷ cs) (s ∷ ss) m i number few from spanned turns shown ins all =

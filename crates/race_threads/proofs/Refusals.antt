@@ -132,31 +132,32 @@ module _ (header : Header) (v : View) (clock : ℕ) (w : IsWhole v clock) (good 
         (λ z. absurd (omega (arith, l, none_held v.sights from (IsBy to) reads z h)))
         (λ ne. let b = w.book w.parts w.opened in b.6 (omega (arith, ne)))
 
-    pub none_was_free : (t : Vain) → SawNone v.sights from (IsBy to) header.shape.slots t → NoneWasFree (Among (book_of v)) from to header.shape.slots v.slot.taken (flat_map held_in v.sights) t
-    none_was_free t h =
-        let count : ℕ = header.shape.slots in
-        let owned : List ℕ = flat_map owned_slot h.reads in
-        let held : List ℕ = flat_map held_slot h.reads in
-        let below = slots_below count h.reads h.below in
-        record {
-          owned = owned;
-          held = held;
-          all = omega (arith, count_owned h.reads, count_held h.reads, h.owned, h.held, h.all);
-          owned_count = count_owned h.reads ∙ h.owned;
-          held_count = count_held h.reads ∙ h.held;
-          distinct = all_differ (owned ++ held) (λ n. omega (
-            arith,
-            total-append (is n) owned held,
-            weigh_slots (is n) h.reads,
-            weigh_map (is n) slot_in h.reads,
-            h.once n,
-          ));
-          below = each_append (λ (slot : ℕ). slot < count) owned held
-              (each_flat (λ (slot : ℕ). slot < count) owned_slot h.reads (each_weaken (λ (r : Read). r.slot < count) (λ r. Each (λ (slot : ℕ). slot < count) (owned_slot r)) h.reads (λ r l. each_owned (λ (slot : ℕ). slot < count) r.slot r.owned (λ e. l)) below))
-              (each_flat (λ (slot : ℕ). slot < count) held_slot h.reads (each_weaken (λ (r : Read). r.slot < count) (λ r. Each (λ (slot : ℕ). slot < count) (held_slot r)) h.reads (λ r l. each_held (λ (slot : ℕ). slot < count) r.slot r.owned (λ e. l)) below));
-          owned_each = each_flat (WasOwned (Among (book_of v)) from to) owned_slot h.reads
-              (each_weaken (SawRead v.sights from (IsBy to)) (λ r. Each (WasOwned (Among (book_of v)) from to) (owned_slot r)) h.reads (λ r s. each_owned (WasOwned (Among (book_of v)) from to) r.slot r.owned (was_owned r s)) h.each);
-          held_each = each_flat (WasHeld (Among (book_of v)) from to (flat_map held_in v.sights)) held_slot h.reads
-              (each_weaken (SawRead v.sights from (IsBy to)) (λ r. Each (WasHeld (Among (book_of v)) from to (flat_map held_in v.sights)) (held_slot r)) h.reads (λ r s. each_held (WasHeld (Among (book_of v)) from to (flat_map held_in v.sights)) r.slot r.owned (was_held r s)) h.each);
-          counted = λ l. counted h.reads h.each (omega (arith, l, h.held));
-        }
+  pub none_was_free : (to : ℕ) (t : Vain) → SawNone v.sights (IsBy to) header.shape.slots t → NoneWasFree (Among (book_of v)) t.number to header.shape.slots v.slot.taken (flat_map held_in v.sights) t
+  none_was_free to t h =
+      let from : ℕ = t.number in
+      let count : ℕ = header.shape.slots in
+      let owned : List ℕ = flat_map owned_slot h.reads in
+      let held : List ℕ = flat_map held_slot h.reads in
+      let below = slots_below count h.reads h.below in
+      record {
+        owned = owned;
+        held = held;
+        all = omega (arith, count_owned h.reads, count_held h.reads, h.owned, h.held, h.all);
+        owned_count = count_owned h.reads ∙ h.owned;
+        held_count = count_held h.reads ∙ h.held;
+        distinct = all_differ (owned ++ held) (λ n. omega (
+          arith,
+          total-append (is n) owned held,
+          weigh_slots (is n) h.reads,
+          weigh_map (is n) slot_in h.reads,
+          h.once n,
+        ));
+        below = each_append (λ (slot : ℕ). slot < count) owned held
+            (each_flat (λ (slot : ℕ). slot < count) owned_slot h.reads (each_weaken (λ (r : Read). r.slot < count) (λ r. Each (λ (slot : ℕ). slot < count) (owned_slot r)) h.reads (λ r l. each_owned (λ (slot : ℕ). slot < count) r.slot r.owned (λ e. l)) below))
+            (each_flat (λ (slot : ℕ). slot < count) held_slot h.reads (each_weaken (λ (r : Read). r.slot < count) (λ r. Each (λ (slot : ℕ). slot < count) (held_slot r)) h.reads (λ r l. each_held (λ (slot : ℕ). slot < count) r.slot r.owned (λ e. l)) below));
+        owned_each = each_flat (WasOwned (Among (book_of v)) from to) owned_slot h.reads
+            (each_weaken (SawRead v.sights from (IsBy to)) (λ r. Each (WasOwned (Among (book_of v)) from to) (owned_slot r)) h.reads (λ r s. each_owned (WasOwned (Among (book_of v)) from to) r.slot r.owned (was_owned from to r s)) h.each);
+        held_each = each_flat (WasHeld (Among (book_of v)) from to (flat_map held_in v.sights)) held_slot h.reads
+            (each_weaken (SawRead v.sights from (IsBy to)) (λ r. Each (WasHeld (Among (book_of v)) from to (flat_map held_in v.sights)) (held_slot r)) h.reads (λ r s. each_held (WasHeld (Among (book_of v)) from to (flat_map held_in v.sights)) r.slot r.owned (was_held from to r s)) h.each);
+        counted = λ l. counted from to h.reads h.each (omega (arith, l, h.held));
+      }

@@ -23,17 +23,17 @@ use Rattle.table_rule.specs.declared.view.Receipt.{Receipt as Search}
 use Rattle.table_rule.specs.declared.view.Whole.{Whole}
 use Rattle.race_threads.specs.Searches.{GaveUpAfter, AnswersAfter}
 
-abbrev searches_of : Sat → List Search
+abbrev pub searches_of : Sat → List Search
 searches_of m = m.0.read.receipts
 
-same_stop : (stop : LookStop) → search_stop stop ≡ stop_of (book_end stop)
+pub same_stop : (stop : LookStop) → search_stop stop ≡ stop_of (book_end stop)
 same_stop (stops.Foreign bucket) = refl
 same_stop (stops.Dead slot) = refl
 same_stop (stops.Changed slot) = refl
 same_stop (stops.Long links) = refl
 
 -- one search
-searched_one : (bucket least passes : ℕ) (packet : Packet) (m : Sat) (end : LookEnd) (from to : ℕ) (n : Sat) → LookedAs bucket packet least passes m (words_end end) from to n → (s : Search) × (searches_of n ≡ searches_of m ++ s ∷ [])
+pub searched_one : (bucket least passes : ℕ) (packet : Packet) (m : Sat) (end : LookEnd) (from to : ℕ) (n : Sat) → LookedAs bucket packet least passes m (words_end end) from to n → (s : Search) × (searches_of n ≡ searches_of m ++ s ∷ [])
 searched_one bucket least passes packet m (ends.Found held card) from to n h = (_, ap searches_of h.6)
 searched_one bucket least passes packet m ends.None from to n h = (_, ap searches_of h.3)
 searched_one bucket least passes packet m (ends.Again b stop) from to n h = (_, ap searches_of h.1.4)
@@ -43,7 +43,7 @@ chosen_none : (slots : ℕ) (packet : Packet) (m : Sat) (best : Card) (choice : 
 chosen_none slots packet m best None card n h = ap searches_of h.1
 chosen_none slots packet m best (Some choice) card n h = ⊎_elim (λ a. ap searches_of a.2) (⊎_elim (λ a. ap searches_of a.2) (λ a. ap searches_of a.1.1)) h
 
-group_none : (slots groups : ℕ) (packet : Packet) (hash : ℕ) (m : Sat) (best : Card) (p : GroupPasses) (card : Card) (n : Sat) (p' : GroupPasses) → ByGroup slots groups packet hash m best p card n p' → searches_of n ≡ searches_of m
+pub group_none : (slots groups : ℕ) (packet : Packet) (hash : ℕ) (m : Sat) (best : Card) (p : GroupPasses) (card : Card) (n : Sat) (p' : GroupPasses) → ByGroup slots groups packet hash m best p card n p' → searches_of n ≡ searches_of m
 group_none slots groups packet hash m best p card n p' h = ⊎_elim (λ a. ap searches_of a.2) (λ a. chosen_none slots packet m best a.2.0 card n a.2.3) h
 
 module _ (layout : Layout) (packet : Packet) (passes : ℕ) (first : Sat) where

@@ -19,11 +19,12 @@ use Rattle.table_rule.specs.Plays.{settled}
 use Rattle.table_rule.specs.declared.view.Layout.{Layout}
 use Rattle.table_rule.specs.declared.view.BookView.{BookView}
 use Rattle.table_rule.specs.declared.view.ReadView.{ReadView}
+use Rattle.table_rule.specs.declared.view.SlotView.{SlotView}
 use Rattle.table_rule.specs.declared.view.Change.{Change as Closed}
 use Rattle.table_model.specs.Own.{Own, new_own}
 use Rattle.table_model.specs.Commands.{answers, plan}
 use Rattle.nulls_chain.specs.Changes.{Sees}
-use Rattle.race_record.specs.Deeds.{Deed, entry_of, changes_of, vain_of, entries_in, changes_in, taken_in, vain_in, drawn_in}
+use Rattle.race_record.specs.Deeds.{Deed, entry_of, changes_of, vain_of, entries_in, changes_in, given_in, taken_in, vain_in, drawn_in}
 use Rattle.race_record.specs.Goes.{Goes}
 use Rattle.race_record.specs.Record.{Step, deeds_of, reply_of}
 use Rattle.race_record.specs.Lawful.{IsSpanned, Precedes, IsCalledBy}
@@ -33,12 +34,12 @@ use Rattle.nulls_chain.proofs.Saw.{are_settled}
 use Rattle.chain_deeds.proofs.Seen.{sees_both}
 use Rattle.section_machine.specs.Sections.{Did}
 use Rattle.race_threads.specs.Dumped.{Listed}
-use Rattle.race_threads.specs.Made.{SawKeeper, SawNone, SawNoWait, IsAny, IsBy, MadeAll, Loads, loaded, missed_in}
+use Rattle.race_threads.specs.Made.{SawFree, SawKeeper, SawNone, SawNoWait, IsAny, IsBy, MadeAll, Loads, loaded, missed_in}
 use Rattle.race_threads.specs.Said.{Said, said_as, saying}
-use Rattle.race_threads.specs.Sections.{Makes, IsShown, EndsBefore, HasDone, HasNothing, layout_in, listings_in}
+use Rattle.race_threads.specs.Sections.{Makes, IsShown, HasDone, HasNothing, layout_in, listings_in}
 use Rattle.race_threads.proofs.Dumping.{Lasts, lasts, saw_as_moves, saw_step}
 use Rattle.race_threads.proofs.Leaving.{all_made}
-use Rattle.race_threads.proofs.Sightings.{each_by_place, keeper_moves, none_moves, ended_sees, all_loaded, any_sees, moves_both, same_sees, Moves, no_wait_moves}
+use Rattle.race_threads.proofs.Sightings.{each_by_place, free_moves, keeper_moves, none_moves, ended_sees, all_loaded, any_sees, moves_both, same_sees, Moves, no_wait_moves}
 use Rattle.race_threads.proofs.Weights.{flat_push}
 
 -- One step more
@@ -73,11 +74,7 @@ module _ (header : Header) (n : ℕ) (commands : List Command) (own next : Own) 
   spanned = each_weaken (IsSpanned c.view.seen) (IsSpanned number) h.steps (λ s o. record { order = o.order; most = omega (arith, o.most, later); within = o.within; ascend = o.ascend }) h.order.each
 
   precedes : (s : Step) → IsSpanned c.view.seen s → Precedes s step
-  precedes s o = record {
-    seen = omega (arith, o.order, o.most);
-    below = each_weaken (λ (k : ℕ). (s.from ≤ k) × (k < s.to)) (λ (k : ℕ). k < c.view.seen) (drawn_in s.deeds) (λ k z. omega (arith, z.1, o.most)) o.within;
-    above = each_weaken (λ (k : ℕ). (c.view.seen ≤ k) × (k < d.view.seen)) (λ (k : ℕ). s.to ≤ k) (drawn_in did.deeds) (λ k z. omega (arith, z.0, o.most)) made.numbers;
-  }
+  precedes s o = o.most
 
   it_is_spanned : IsSpanned number step
   it_is_spanned = record {
@@ -108,9 +105,11 @@ module _ (header : Header) (n : ℕ) (commands : List Command) (own next : Own) 
   it_is_shown = record {
     keepers = each_weaken (SawKeeper d.view.sights c.view.seen IsAny) (SawKeeper (loaded e number).view.sights c.view.seen (IsBy number)) (taken_in did.deeds)
         (keeper_moves d.view.sights (loaded e number).view.sights c.view.seen c.view.seen IsAny (IsBy number) (omega arith) moves) made.keepers;
-    nones = subst (λ k. Each (SawNone (loaded e number).view.sights c.view.seen (IsBy number) k) (vain_in did.deeds)) count_is
-        (each_weaken (SawNone d.view.sights c.view.seen IsAny c.layout.shape.slots) (SawNone (loaded e number).view.sights c.view.seen (IsBy number) c.layout.shape.slots) (vain_in did.deeds)
-        (none_moves d.view.sights (loaded e number).view.sights c.view.seen c.view.seen IsAny (IsBy number) (omega arith) moves c.layout.shape.slots) made.nones);
+    frees = each_weaken (SawFree d.view.sights c.view.seen IsAny) (SawFree (loaded e number).view.sights c.view.seen (IsBy number)) (given_in did.deeds)
+        (free_moves d.view.sights (loaded e number).view.sights c.view.seen c.view.seen IsAny (IsBy number) (omega arith) moves) made.frees;
+    nones = subst (λ k. Each (SawNone (loaded e number).view.sights (IsBy number) k) (vain_in did.deeds)) count_is
+        (each_weaken (SawNone d.view.sights IsAny c.layout.shape.slots) (SawNone (loaded e number).view.sights (IsBy number) c.layout.shape.slots) (vain_in did.deeds)
+        (none_moves d.view.sights (loaded e number).view.sights IsAny (IsBy number) moves c.layout.shape.slots) made.nones);
     waits = subst (λ (y : Layout). Each (SawNoWait (loaded e number).view.sights c.view.seen (IsBy number) y) (missed_in did.deeds)) h.layout
         (each_weaken (SawNoWait d.view.sights c.view.seen IsAny c.layout) (SawNoWait (loaded e number).view.sights c.view.seen (IsBy number) c.layout) (missed_in did.deeds)
         (no_wait_moves d.view.sights (loaded e number).view.sights c.view.seen c.view.seen IsAny (IsBy number) (omega arith) moves c.layout) made.waits);
@@ -125,8 +124,10 @@ module _ (header : Header) (n : ℕ) (commands : List Command) (own next : Own) 
       record {
         keepers = each_weaken (SawKeeper c.view.sights s.from (IsBy s.to)) (SawKeeper (loaded e number).view.sights s.from (IsBy s.to)) (taken_in s.deeds)
             (keeper_moves c.view.sights (loaded e number).view.sights s.from s.from (IsBy s.to) (IsBy s.to) (omega arith) go) z.0.keepers;
-        nones = each_weaken (SawNone c.view.sights s.from (IsBy s.to) header.shape.slots) (SawNone (loaded e number).view.sights s.from (IsBy s.to) header.shape.slots) (vain_in s.deeds)
-            (none_moves c.view.sights (loaded e number).view.sights s.from s.from (IsBy s.to) (IsBy s.to) (omega arith) go header.shape.slots) z.0.nones;
+        frees = each_weaken (SawFree c.view.sights s.from (IsBy s.to)) (SawFree (loaded e number).view.sights s.from (IsBy s.to)) (given_in s.deeds)
+            (free_moves c.view.sights (loaded e number).view.sights s.from s.from (IsBy s.to) (IsBy s.to) (omega arith) go) z.0.frees;
+        nones = each_weaken (SawNone c.view.sights (IsBy s.to) header.shape.slots) (SawNone (loaded e number).view.sights (IsBy s.to) header.shape.slots) (vain_in s.deeds)
+            (none_moves c.view.sights (loaded e number).view.sights (IsBy s.to) (IsBy s.to) go header.shape.slots) z.0.nones;
         waits = each_weaken (SawNoWait c.view.sights s.from (IsBy s.to) (layout_in header)) (SawNoWait (loaded e number).view.sights s.from (IsBy s.to) (layout_in header)) (missed_in s.deeds)
             (no_wait_moves c.view.sights (loaded e number).view.sights s.from s.from (IsBy s.to) (IsBy s.to) (omega arith) go (layout_in header)) z.0.waits;
         dumps = saw_as_moves (layout_in header) c.view.sights (loaded e number).view.sights s (λ x a u. same_sees c.view (loaded e number).view sees_all x a (omega (arith, u, to))) s.command z.0.dumps;
@@ -144,7 +145,6 @@ module _ (header : Header) (n : ℕ) (commands : List Command) (own next : Own) 
       each = each_push (IsSpanned number) h.steps step spanned it_is_spanned;
       pairs = pairs_push Precedes h.steps step h.order.pairs (each_weaken (IsSpanned c.view.seen) (λ s. Precedes s step) h.steps precedes h.order.each);
     };
-    turns = pairs_push EndsBefore h.steps step h.turns (each_weaken (IsSpanned c.view.seen) (λ s. EndsBefore s step) h.steps (λ s o. o.most) h.order.each);
     entries = did.gave.mine ∙ ap (λ x. x ++ entries_in header.shape.bind did.deeds) h.entries ∙ sym (in_more (entry_of header.shape.bind) h.steps step);
     caller = did.gave.caller ∙ h.caller;
     callers = subst (Each (IsCalledBy n)) (sym did.gave.mine)
@@ -168,6 +168,7 @@ module _ (header : Header) (n : ℕ) (commands : List Command) (own next : Own) 
         (each_weaken (λ s. IsShown (layout_in header) c.view.sights s × IsSpanned c.view.seen s) Shown h.steps still_shown (each_both (IsShown (layout_in header) c.view.sights) (IsSpanned c.view.seen) h.steps h.shown h.order.each))
         it_is_shown;
     wholes = ap (λ (y : ReadView). y.wholes) last.keeps.read ∙ ap (λ (y : ReadView). y.wholes) made.read ∙ h.wholes;
+    taken = ap (λ (y : SlotView). y.taken) last.keeps.slot ∙ made.taken ∙ h.taken;
   }
 
 -- a section begins
@@ -180,7 +181,6 @@ begins header n v c h = record {
   replied = refl;
   listed = refl;
   order = record { each = tt; pairs = tt };
-  turns = tt;
   entries = h.mine;
   caller = h.caller;
   callers = subst (Each (IsCalledBy n)) (sym h.mine) tt;
@@ -190,4 +190,5 @@ begins header n v c h = record {
   lost = λ f. ap (total f) h.lost;
   shown = tt;
   wholes = h.wholes;
+  taken = h.taken;
 }

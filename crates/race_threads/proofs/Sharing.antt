@@ -18,4 +18,4 @@ module _ (header : Header) (t : Tables) (m : ℕ) (w : Worker) (fresh : IsFresh 
 
   -- what the share reports
   pub looked_of : (other : Header) → AreTables other t → (passes : ℕ) (all : List Item) (n : Sat) (told : List Look) → TakesAll t.chains passes all (me w.chain.pass.steps) n told → HasLooked other passes all (looking (turned w) n.0) told
-  looked_of other are passes all n told takes = takes other (turned w) are.layout (record { only = record { mine = fresh.nothing.mine; closed = fresh.nothing.closed; lost = fresh.nothing.lost }; receipts = fresh.nothing.receipts })
+  looked_of other are passes all n told takes = takes other (turned w) are.layout (record { only = record { mine = fresh.nothing.mine; closed = fresh.nothing.closed; lost = fresh.nothing.lost }; receipts = fresh.nothing.receipts; taken = fresh.nothing.taken })

@@ -1,5 +1,5 @@
 -- Sightings that are settled, and what was seen by them.
-use Rattle.std.proofs.Common.{◌≡◌, ℕ, suc, ◌<◌, ◌≤◌, Bool, true, false, cond, List, [], ◌∷◌, ◌++◌, map, inl, inr, ⊎_elim, refl, sym, ap, ◌∙◌, subst, arith}
+use Rattle.std.proofs.Common.{◌≡◌, ℕ, suc, ◌<◌, ◌≤◌, Bool, true, false, cond, List, [], ◌∷◌, ◌++◌, map, ◌⊎◌, inl, inr, ⊎_elim, refl, sym, ap, ◌∙◌, subst, arith}
 use mathlib.Core.Option.{some}
 use lib.ListN.{get_elem?}
 use Rattle.list_words.specs.Lists.{Each}
@@ -8,6 +8,7 @@ use Rattle.sock_card.specs.declared.card.Card.{Card}
 use Rattle.table_rule.specs.Book.{open-end}
 use Rattle.table_rule.specs.Plays.{settled, settled_one, glimpse_of, held_of}
 use Rattle.table_rule.specs.declared.view.Layout.{Layout}
+use Rattle.table_rule.specs.declared.view.Seen.{Seen}
 use Rattle.table_rule.specs.declared.view.Sight.{Sight}
 use Rattle.table_rule.specs.declared.view.View.{View}
 use Rattle.shared_slots.specs.Claims.{Read, sight_by}
@@ -16,8 +17,8 @@ use Rattle.shared_sockets.specs.Comings.{name_of}
 use Rattle.shared_sockets.specs.Rows.{row_of, HasCard}
 use Rattle.race_book.specs.Among.{Among}
 use Rattle.race_book.proofs.AmongLemmas.{among_left}
-use Rattle.race_record.specs.Deeds.{Taken, Vain}
-use Rattle.race_threads.specs.Made.{SawKeeper, SawRead, SawNone, SawNoWait, IsAny, IsBy, listed_by, held_by}
+use Rattle.race_record.specs.Deeds.{Given, Taken, Vain}
+use Rattle.race_threads.specs.Made.{SawFree, SawKeeper, SawRead, SawNone, SawNoWait, IsAny, IsBy, listed_by, held_by}
 
 -- Lists
 
@@ -55,6 +56,24 @@ module _ (xs ys : List Sight) (a b : ℕ) (P Q : Sight → Type 0) (le : b ≤ a
         first = ap (λ l. Rattle.std.specs.Option.option_map name_of (Rattle.std.proofs.Common.find (Rattle.chain_book.specs.Chains.keeps t.wish.card t.wish.moment t.wish.rule) (row_of l))) m.listed ∙ h.first;
       }
 
+  pub free_moves : (g : Given) → SawFree xs a P g → SawFree ys b Q g
+  free_moves g h =
+      let m = moves h.sight h.there h.is in
+      record {
+        act = h.act;
+        sight = m.sight;
+        there = m.there;
+        since = omega (arith, le, h.since, m.since);
+        is = m.is;
+        bucket = m.bucket ∙ h.bucket;
+        whole = m.whole ∙ h.whole;
+        others = h.others;
+        listed = subst (Each (λ (s : Seen). (s.slot ≡ g.hash.slot) ⊎ Among h.others s)) (sym m.listed) h.listed;
+        cards = h.cards;
+        unkept = h.unkept;
+        unwaited = h.unwaited;
+      }
+
   read_moves : (r : Read) → SawRead xs a P r → SawRead ys b Q r
   read_moves r h =
       let m = moves h.sight h.there h.is in
@@ -81,16 +100,17 @@ module _ (xs ys : List Sight) (a b : ℕ) (P Q : Sight → Type 0) (le : b ≤ a
         none = ap (λ l. Rattle.std.proofs.Common.find (Rattle.chain_book.specs.Chains.waits_as card.name) (row_of l)) m.listed ∙ h.none;
       }
 
-  pub none_moves : (count : ℕ) (v : Vain) → SawNone xs a P count v → SawNone ys b Q count v
-  none_moves count v h = record {
-    reads = h.reads;
-    each = each_weaken (SawRead xs a P) (SawRead ys b Q) h.reads read_moves h.each;
-    owned = h.owned;
-    held = h.held;
-    all = h.all;
-    below = h.below;
-    once = h.once;
-  }
+-- what was read after a number drawn in vain
+pub none_moves : (xs ys : List Sight) (P Q : Sight → Type 0) → Moves xs P ys Q → (count : ℕ) (v : Vain) → SawNone xs P count v → SawNone ys Q count v
+none_moves xs ys P Q moves count v h = record {
+  reads = h.reads;
+  each = each_weaken (SawRead xs v.number P) (SawRead ys v.number Q) h.reads (read_moves xs ys v.number v.number P Q (omega arith) moves) h.each;
+  owned = h.owned;
+  held = h.held;
+  all = h.all;
+  below = h.below;
+  once = h.once;
+}
 
 -- Settling
 

@@ -23,12 +23,12 @@ use Rattle.table_rule.specs.declared.view.View.{View}
 use Rattle.race_threads.specs.declared.finish.Ended.{Ended}
 use Rattle.race_threads.specs.Finished.{HasFinished, as_known, listings_in, replies_in, told_in}
 use Rattle.race_threads.specs.declared.looker.Look.{Look}
-use Rattle.race_threads.specs.Lookers.{AreTold, item_of, looks_by}
+use Rattle.race_threads.specs.Lookers.{AreTold, item_of}
 use Rattle.race_threads.specs.Shares.{items_in}
-use Rattle.race_threads.specs.Races.{SaysSo, race_by, steps_by}
+use Rattle.race_threads.specs.Races.{SaysSo}
 use Rattle.race_threads.specs.Said.{Said, replied_in}
 use Rattle.race_threads.specs.Scripts.{IsForRace}
-use Rattle.race_threads.specs.Told.{IsToldOf}
+use Rattle.race_threads.specs.Told.{IsToldBy, race_of}
 use Rattle.race_threads.proofs.Looking.{looks_too}
 use Rattle.race_threads.proofs.Weights.{map_flat}
 use Rattle.race_book.proofs.Joined.{each_unflat}
@@ -53,7 +53,7 @@ items_once script passes capture lookers e h f =
 module _ (script : Script) (capture : Capture) (lookers passes : ℕ) (e : Ended) (looked : List Looked) (fits : IsForRace script) (h : HasFinished script passes capture.items lookers e)
     (many : length looked ≡ length capture.items) (there : Each (λ k. looked_at looked k.item ≡ k.looked) (flat_map told_in e.outcomes.items)) where
   abbrev race : Race
-  race = race_by script.header (looks_by passes h.tooks looked capture) (steps_by script.header h.part 1 script.sections h.says h.ended.done) e.buckets.items (seeing h.chain e.clock) e.clock
+  race = race_of script capture lookers passes e h looked
 
   abbrev IsThere : Look → Type 0
   IsThere k = looked_at looked k.item ≡ k.looked
@@ -66,7 +66,7 @@ module _ (script : Script) (capture : Capture) (lookers passes : ℕ) (e : Ended
 
   pub tells_race : (header : Header) (cut : Bool) (replies : List Reply) (listings : List Listing) (journals : List ℕ) (book : List Change)
       → header ≡ script.header → cut ≡ capture.cut → replies ≡ flat_map replies_in e.outcomes.items → listings ≡ flat_map listings_in e.outcomes.items → journals ≡ map count_in e.buckets.items → book ≡ list_of e.chain.pass.changes → map as_known book ≡ book
-      → IsToldOf script capture lookers passes (record {
+      → IsToldBy script capture lookers passes e (record {
         lookers = lookers;
         passes = passes;
         shape = header.shape;
@@ -86,10 +86,9 @@ module _ (script : Script) (capture : Capture) (lookers passes : ℕ) (e : Ended
       let closed = ap (λ l. map closes.change_of l) r ∙ e.chain.pass.told.0 h.kept ∙ ap (λ (y : View). y.book.closed) h.sees in
       let book_is = sym known ∙ as_known_all book ∙ ap (map change_of) closed in
       record {
-        race = race;
+        finished = h;
+        left = record { book = r; journals = q; replies = p; listings = l; looked = there; clock = refl };
         lawful = lawful.0;
-        lookers_are = h.lookers_are;
-        passes_are = refl;
         told_is = λ i. record {
           lookers = sym h.lookers_are i;
           passes = passes;

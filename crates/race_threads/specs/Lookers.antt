@@ -18,6 +18,7 @@ use Rattle.capture_reader.specs.Captures.{Capture}
 use Rattle.flat_list.specs.declared.header.Header.{Header}
 use Rattle.table_rule.specs.Plays.{Sat}
 use Rattle.table_rule.specs.Wholes.{whole_of}
+use Rattle.table_rule.specs.declared.view.ReadView.{ReadView}
 use Rattle.table_rule.specs.declared.view.Receipt.{Receipt as Search}
 use Rattle.table_rule.specs.declared.view.View.{View}
 use Rattle.table_rule.specs.declared.view.Whole.{Whole}
@@ -30,7 +31,7 @@ use Rattle.shared_demux.specs.Concludes.{Concluded}
 use Rattle.race_threads.specs.declared.looker.Look.{Look}
 use Rattle.race_threads.specs.Joins.{Part}
 use Rattle.race_threads.specs.Races.{HasOnlyLooked, Looks}
-use Rattle.race_threads.specs.Searches.{HasSearched, LooksAfter}
+use Rattle.race_threads.specs.Searches.{HasSearched, LooksAfter, WentInStages}
 
 -- a packet's receipt, as a pass keeps it
 abbrev pub whole_for : Receipt → Whole
@@ -41,22 +42,23 @@ abbrev pub IsTold : PacketAnswer → Type 0
 IsTold (answers.Found card) = unpacked (packed card) ≡ card
 IsTold _ = Unit {0}
 
--- the packet's receipt, which is among those of a pass
-pub record IsLookup (header : Header) (wholes : List Whole) (seen : ℕ) (packet : Packet) (r : Receipt) : Type 0 where
+-- the packet's receipt, which is among those of a pass, as are those of the searches by which it went
+pub record IsLookup (header : Header) (read : ReadView) (seen : ℕ) (packet : Packet) (r : Receipt) : Type 0 where
   pub packet_is : r.packet ≡ packet
   pub seed_is : r.seed ≡ header.seed
   pub order : r.t0 ≤ r.t1
   pub most : r.t1 ≤ seen
-  pub there : Among wholes (whole_for r)
+  pub there : Among read.wholes (whole_for r)
+  pub stages : WentInStages read.receipts header.shape header.seed packet r.t0 r.t1 r.answer
   pub told : IsTold r.answer
   pub bucket : NamesItsBucket header.shape header.seed packet r.answer
 
 -- what came of an item: the receipt of its packet, or that it is no packet
-abbrev pub IsLooked : Header → List Whole → ℕ → Item → Looked → Type 0
-IsLooked header wholes seen (items.Packet packet) (looks.Answered r) = IsLookup header wholes seen packet r
-IsLooked header wholes seen items.Skip looks.Skip = Unit {0}
-IsLooked header wholes seen items.Short looks.Short = Unit {0}
-IsLooked header wholes seen _ _ = ⊥
+abbrev pub IsLooked : Header → ReadView → ℕ → Item → Looked → Type 0
+IsLooked header read seen (items.Packet packet) (looks.Answered r) = IsLookup header read seen packet r
+IsLooked header read seen items.Skip looks.Skip = Unit {0}
+IsLooked header read seen items.Short looks.Short = Unit {0}
+IsLooked header read seen _ _ = ⊥
 
 abbrev pub item_at : List Item → ℕ → Item
 item_at all i = slice_index_or all i items.Skip
@@ -68,17 +70,25 @@ item_of k = k.item
 abbrev pub Before : Look → Look → Type 0
 Before k later = (k.item < later.item) × Follows k.looked later.looked
 
--- a looker looked these items up, with so many passes a lookup, and did nothing else
+-- no packet was looked up
+abbrev pub IsIdle : Looked → Type 0
+IsIdle (looks.Answered r) = ⊥
+IsIdle _ = Unit {0}
+
+-- a looker looked these items up, with so many passes a lookup, and did nothing else: it took counts only if one of
+-- them was a packet
 pub record HasLooked (header : Header) (passes : ℕ) (all : List Item) (p : Part) (took : List Look) : Type 0 where
-  pub each : Each (λ (k : Look). IsLooked header p.chain.read.wholes p.chain.seen (item_at all k.item) k.looked) took
+  pub each : Each (λ (k : Look). IsLooked header p.chain.read p.chain.seen (item_at all k.item) k.looked) took
   pub turns : Pairs Before took
   pub searched : HasSearched passes p.chain.read.receipts took
   pub only : HasOnlyLooked p
+  pub idle : Each (λ (k : Look). IsIdle k.looked) took → p.chain.slot.taken ≡ 0
 
 -- it has looked nothing up yet
 pub record HasLookedNothingUp (p : Part) : Type 0 where
   pub only : HasOnlyLooked p
   pub receipts : p.chain.read.receipts ≡ []
+  pub taken : p.chain.slot.taken ≡ 0
 
 -- so did all lookers, of which the first has that number
 abbrev pub AllLooked : Header → (passes : ℕ) → List Item → (ℕ → Part) → ℕ → List (List Look) → Type 0
@@ -116,6 +126,7 @@ pub record LookedUp (header : Header) (passes : ℕ) (packet : Packet) (m n : Sa
   pub searches : List Search
   pub searched : n.0.read.receipts ≡ m.0.read.receipts ++ searches
   pub after : LooksAfter passes searches (looks.Answered r)
+  pub stages : WentInStages n.0.read.receipts header.shape header.seed packet r.t0 r.t1 r.answer
 
 -- the chains' view of a looker
 abbrev pub looking : BindView → View → Part

@@ -1,12 +1,13 @@
 -- What deeds one after the other left at the chains: our own.
 --
 -- To be read from the beginning.
-use Rattle.std.specs.Prelude.{◌≡◌, ℕ, ◌+◌, ◌<◌, ◌≤◌, List, [], ◌∷◌, ◌++◌, map, cond, Some, find, None}
+use Rattle.std.specs.Prelude.{◌≡◌, ℕ, ◌+◌, ◌<◌, ◌≤◌, List, [], ◌∷◌, ◌++◌, map, cond, Some, find, None, ◌⊎◌}
 use Rattle.std.specs.List.{flat_map}
 use Rattle.std.specs.Option.{option_map}
 use Rattle.list_words.specs.Lists.{Each, Pairs, SameItems}
 use Rattle.sock_card.specs.declared.card.Card.{Card}
-use Rattle.chain_book.specs.Chains.{keeps, waits_as}
+use Rattle.chain_book.specs.declared.book.Act.TheVariants as acts
+use Rattle.chain_book.specs.Chains.{keeps, waits, waits_as}
 use Rattle.chain_book.specs.Homes.{home}
 use Rattle.table_rule.specs.Lists.{times}
 use Rattle.table_rule.specs.Plays.{seeing}
@@ -20,7 +21,7 @@ use Rattle.nulls_chain.specs.Changes.{Sees}
 use Rattle.shared_sockets.specs.Comings.{name_of}
 use Rattle.shared_sockets.specs.Rows.{row_of, HasCard}
 use Rattle.race_book.specs.Among.{Among}
-use Rattle.race_record.specs.Deeds.{Deed, reaped, Taken, Vain, changes_in, taken_in, vain_in, drawn_in}
+use Rattle.race_record.specs.Deeds.{Deed, reaped, Given, Taken, Vain, changes_in, given_in, taken_in, vain_in, drawn_in}
 use Rattle.chain_deeds.specs.Sides.{Side, changes_by}
 use Rattle.chain_deeds.specs.Made.{IsHomeIfHash, AllHaveWords, number_of}
 
@@ -52,6 +53,22 @@ module _ (sights : List Sight) (from : ℕ) (Is : Sight → Type 0) where
     pub first :
         option_map name_of (find (keeps t.wish.card t.wish.moment t.wish.rule) (row_of sight.listed)) ≡ Some t.name
 
+  -- the newcomer stood in its chain with some of those that had been there, of whom none keeps the four-tuple; and
+  -- where none gave way, none waits at it
+  pub record SawFree (g : Given) : Type 0 where
+    pub act : g.hash.act ≡ acts.Hash
+    pub sight : Sight
+    pub there : Among sights sight
+    pub since : from ≤ sight.since
+    pub is : Is sight
+    pub bucket : sight.bucket ≡ g.hash.bucket ∷ []
+    pub whole : sight.whole ≡ 1
+    pub others : List Seen
+    pub listed : Each (λ (s : Seen). (s.slot ≡ g.hash.slot) ⊎ Among others s) sight.listed
+    pub cards : Each HasCard others
+    pub unkept : find (keeps g.wish.card g.wish.moment g.wish.rule) (row_of others) ≡ None
+    pub unwaited : g.replaced ≡ None → find (waits g.wish.card) (row_of others) ≡ None
+
   -- the slot was read as owned, or as held alone
   pub record SawRead (r : Read) : Type 0 where
     pub sight : Sight
@@ -60,16 +77,6 @@ module _ (sights : List Sight) (from : ℕ) (Is : Sight → Type 0) where
     pub is : Is sight
     pub listed : sight.listed ≡ listed_by r
     pub held : sight.held ≡ held_by r
-
-  -- each of so many slots was
-  pub record SawNone (count : ℕ) (v : Vain) : Type 0 where
-    pub reads : List Read
-    pub each : Each SawRead reads
-    pub owned : owned_in reads ≡ v.owned
-    pub held : held_in reads ≡ v.held
-    pub all : v.owned + v.held ≡ count
-    pub below : Each (Between 0 count) (map slot_in reads)
-    pub once : (i : ℕ) → times i (map slot_in reads) ≤ 1
 
   -- the whole chain of the card was walked, and had no TIME_WAIT of its name
   pub record SawNoWait (layout : Layout) (card : Card) : Type 0 where
@@ -81,6 +88,16 @@ module _ (sights : List Sight) (from : ℕ) (Is : Sight → Type 0) where
     pub whole : sight.whole ≡ 1
     pub cards : Each HasCard sight.listed
     pub none : find (waits_as card.name) (row_of sight.listed) ≡ None
+
+-- each of so many slots was read as owned, or as held alone, after the number that was drawn in vain
+pub record SawNone (sights : List Sight) (Is : Sight → Type 0) (count : ℕ) (v : Vain) : Type 0 where
+  pub reads : List Read
+  pub each : Each (SawRead sights v.number Is) reads
+  pub owned : owned_in reads ≡ v.owned
+  pub held : held_in reads ≡ v.held
+  pub all : v.owned + v.held ≡ count
+  pub below : Each (Between 0 count) (map slot_in reads)
+  pub once : (i : ℕ) → times i (map slot_in reads) ≤ 1
 
 abbrev pub IsAny : Sight → Type 0
 IsAny s = Unit {0}
@@ -101,7 +118,8 @@ pub record MadeAll (deeds : List Deed) (c d : Side) : Type 0 where
   pub read : d.view.read ≡ c.view.read
   pub sees : Sees c.view d.view
   pub keepers : Each (SawKeeper d.view.sights c.view.seen IsAny) (taken_in deeds)
-  pub nones : Each (SawNone d.view.sights c.view.seen IsAny c.layout.shape.slots) (vain_in deeds)
+  pub frees : Each (SawFree d.view.sights c.view.seen IsAny) (given_in deeds)
+  pub nones : Each (SawNone d.view.sights IsAny c.layout.shape.slots) (vain_in deeds)
   pub waits : Each (SawNoWait d.view.sights c.view.seen IsAny c.layout) (missed_in deeds)
 
 -- it ended at that number or before

@@ -22,7 +22,7 @@ use Rattle.race_book.specs.Among.{Among}
 use Rattle.race_book.specs.Serial.{IsSerial}
 use Rattle.race_record.specs.Goes.{Goes}
 use Rattle.race_record.specs.Record.{Race, Step, Sighting, steps_of, replies_of, listings_of}
-use Rattle.race_record.specs.Lawful.{AreSectionsOf, AreInOrder, AreJournalsOf, IsBookOf, ReapsAll, TakenWereKept, SlotsWereUsed, Lists}
+use Rattle.race_record.specs.Lawful.{AreSectionsOf, AreInOrder, AreJournalsOf, IsBookOf, ReapsAll, TakenWereKept, GivenWereFree, SlotsWereUsed, Lists}
 use Rattle.race_record.specs.declared.record.Looked.{Looked}
 use Rattle.chain_deeds.specs.Sides.{change_of}
 use Rattle.chain_deeds.specs.Sizes.{IsSized}
@@ -144,6 +144,7 @@ pub record IsLawfulBut (header : Header) (scripts : List (List Command)) (race :
   pub book : IsBookOf race
   pub serial : IsSerial (Among race.book) race.shape race.seed
   pub taken : Each (TakenWereKept race) (steps_of race)
+  pub given : Each (GivenWereFree race) (steps_of race)
   pub slots : Each (SlotsWereUsed race) (steps_of race)
   pub dumps : Each (Lists race) (steps_of race)
 

@@ -1,7 +1,7 @@
 -- What a section's worker did from its first command on: our own.
-use Rattle.std.specs.Prelude.{◌≡◌, ℕ, ◌<◌, List, [], ◌∷◌, map, ◌≤◌}
+use Rattle.std.specs.Prelude.{◌≡◌, ℕ, ◌<◌, List, [], ◌∷◌, map}
 use Rattle.std.specs.List.{flat_map}
-use Rattle.list_words.specs.Lists.{Each, SameItems, Pairs}
+use Rattle.list_words.specs.Lists.{Each, SameItems}
 use Rattle.bind_buckets.specs.Turned.{View as BindView}
 use Rattle.flat_list.specs.declared.header.Header.{Header}
 use Rattle.flat_list.specs.declared.command.Command.{Command}
@@ -11,14 +11,14 @@ use Rattle.table_rule.specs.declared.view.Layout.{Layout}
 use Rattle.table_rule.specs.declared.view.Sight.{Sight}
 use Rattle.table_model.specs.Own.{Own, new_own}
 use Rattle.table_model.specs.Commands.{answers, plan}
-use Rattle.race_record.specs.Deeds.{entries_in, changes_in, taken_in, vain_in}
+use Rattle.race_record.specs.Deeds.{entries_in, changes_in, given_in, taken_in, vain_in}
 use Rattle.race_record.specs.Goes.{Goes}
 use Rattle.race_record.specs.Record.{Step, deeds_of, reply_of}
 use Rattle.race_record.specs.Lawful.{AreInOrder, IsCalledBy}
 use Rattle.chain_deeds.specs.Sides.{Side, changes_by}
 use Rattle.chain_deeds.specs.Made.{IsHomeIfHash, AllHaveWords, number_of}
 use Rattle.race_threads.specs.Dumped.{SawAs}
-use Rattle.race_threads.specs.Made.{SawKeeper, SawNone, IsBy, SawNoWait, missed_in}
+use Rattle.race_threads.specs.Made.{SawFree, SawKeeper, SawNone, IsBy, SawNoWait, missed_in}
 use Rattle.race_threads.specs.Said.{Said}
 
 -- what a script's chains are laid out for
@@ -36,16 +36,13 @@ Makes header own _ _ last = ⊥
 -- what refused a step was seen between its numbers, and so was that what it sought was gone, and what it listed
 pub record IsShown (layout : Layout) (sights : List Sight) (s : Step) : Type 0 where
   pub keepers : Each (SawKeeper sights s.from (IsBy s.to)) (taken_in s.deeds)
-  pub nones : Each (SawNone sights s.from (IsBy s.to) layout.shape.slots) (vain_in s.deeds)
+  pub frees : Each (SawFree sights s.from (IsBy s.to)) (given_in s.deeds)
+  pub nones : Each (SawNone sights (IsBy s.to) layout.shape.slots) (vain_in s.deeds)
   pub waits : Each (SawNoWait sights s.from (IsBy s.to) layout) (missed_in s.deeds)
   pub dumps : SawAs layout sights s.command s
 
 abbrev pub listings_in : Step → List Listing
 listings_in s = s.listings
-
--- a later step began with what the one before had ended with, or more
-abbrev pub EndsBefore : Step → Step → Type 0
-EndsBefore s later = s.to ≤ later.from
 
 -- a worker did these commands of section n from its beginning, and nothing else
 pub record HasDone (header : Header) (n : ℕ) (commands : List Command) (own : Own) (v : BindView) (c : Side)
@@ -57,7 +54,6 @@ pub record HasDone (header : Header) (n : ℕ) (commands : List Command) (own : 
   pub replied : map reply_of steps ≡ s.replies
   pub listed : flat_map listings_in steps ≡ s.listings
   pub order : AreInOrder c.view.seen steps
-  pub turns : Pairs EndsBefore steps
   pub entries : v.mine ≡ entries_in header.shape.bind (deeds_of steps)
   pub caller : v.caller ≡ n
   pub callers : Each (IsCalledBy n) v.mine
@@ -67,6 +63,7 @@ pub record HasDone (header : Header) (n : ℕ) (commands : List Command) (own : 
   pub lost : SameItems c.view.book.lost (map number_of (vain_in (deeds_of steps)))
   pub shown : Each (IsShown (layout_in header) c.view.sights) steps
   pub wholes : c.view.read.wholes ≡ []
+  pub taken : c.view.slot.taken ≡ 0
 
 -- a worker that has done nothing yet
 pub record HasNothing (header : Header) (n : ℕ) (v : BindView) (c : Side) : Type 0 where
@@ -78,3 +75,4 @@ pub record HasNothing (header : Header) (n : ℕ) (v : BindView) (c : Side) : Ty
   pub lost : c.view.book.lost ≡ []
   pub wholes : c.view.read.wholes ≡ []
   pub receipts : c.view.read.receipts ≡ []
+  pub taken : c.view.slot.taken ≡ 0

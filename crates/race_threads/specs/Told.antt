@@ -1,25 +1,23 @@
 -- What is reported of a race that was run: our own.
-use Rattle.std.specs.Prelude.{◌≡◌, ℕ, map}
+--
+-- To be read from the end: `IsToldOf` is what `race` returns, and each stands on those above it.
+use Rattle.std.specs.Prelude.{◌≡◌, ℕ, List, map}
 use Rattle.std.specs.List.{flat_map}
 use Rattle.bind_buckets.specs.Closed.{count_in}
 use Rattle.capture_reader.specs.Captures.{Capture}
 use Rattle.flat_list.specs.Script.{Script}
 use Rattle.list_words.specs.Lists.{Each}
+use Rattle.race_record.specs.declared.record.Looked.{Looked}
 use Rattle.race_record.specs.Lawful.{Lawful, looked_at}
 use Rattle.race_record.specs.Record.{Race}
 use Rattle.race_text.specs.Render.{Told, told}
 use Rattle.table_rule.specs.Changes.{list_of}
+use Rattle.table_rule.specs.Plays.{seeing}
 use Rattle.race_threads.specs.declared.finish.Ended.{Ended}
 use Rattle.race_threads.specs.declared.looker.Look.{Look}
 use Rattle.race_threads.specs.Finished.{HasFinished, listings_in, replies_in, told_in}
-
--- it is what some lawful record reports, of so many lookers with so many passes
-pub record IsToldOf (script : Script) (capture : Capture) (lookers passes : ℕ) (t : Told) : Type 0 where
-  pub race : Race
-  pub lawful : Lawful script capture race
-  pub lookers_are : race.lookers ≡ lookers
-  pub passes_are : race.passes ≡ passes
-  pub told_is : t ≡ told race
+use Rattle.race_threads.specs.Lookers.{looks_by}
+use Rattle.race_threads.specs.Races.{race_by, steps_by}
 
 -- It is what a race left at its end: all changes of the pass into which all others were joined, how many entries each
 -- bucket's journal has, what the sections replied and listed, what came of each item that a looker took, and the clock
@@ -32,8 +30,24 @@ pub record IsLeftBy (e : Ended) (t : Told) : Type 0 where
   pub looked : Each (λ (k : Look). looked_at t.looked k.item ≡ k.looked) (flat_map told_in e.outcomes.items)
   pub clock : t.clock ≡ e.clock
 
--- it is what one race of the script left, with so many lookers and passes, all of whose workers were joined
-pub record IsOfOneRun (script : Script) (capture : Capture) (lookers passes : ℕ) (t : Told) : Type 0 where
+-- The record of a race that has ended, by what came of its items: its steps are those of the sections, and its changes,
+-- its counts and what was read of slots are those of the pass into which all others were joined.
+abbrev pub race_of :
+    (script : Script) (capture : Capture) (lookers passes : ℕ) (e : Ended)
+    → HasFinished script passes capture.items lookers e → List Looked → Race
+race_of script capture lookers passes e h looked =
+    race_by script.header (looks_by passes h.tooks looked capture)
+    (steps_by script.header h.part 1 script.sections h.says h.ended.done) e.buckets.items (seeing h.chain e.clock)
+    e.clock
+
+-- it is what that race left, whose record is lawful, and reports it
+pub record IsToldBy (script : Script) (capture : Capture) (lookers passes : ℕ) (e : Ended) (t : Told) : Type 0 where
+  pub finished : HasFinished script passes capture.items lookers e
+  pub left : IsLeftBy e t
+  pub lawful : Lawful script capture (race_of script capture lookers passes e finished t.looked)
+  pub told_is : t ≡ told (race_of script capture lookers passes e finished t.looked)
+
+-- so it is of one race of the script, with so many lookers and passes, all of whose workers were joined
+pub record IsToldOf (script : Script) (capture : Capture) (lookers passes : ℕ) (t : Told) : Type 0 where
   pub ended : Ended
-  pub finished : HasFinished script passes capture.items lookers ended
-  pub left : IsLeftBy ended t
+  pub by : IsToldBy script capture lookers passes ended t

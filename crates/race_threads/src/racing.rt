@@ -2,7 +2,7 @@
 
 ghost use Rattle.std.specs.Prelude.{◌≤◌, IfOk};
 ghost use Rattle.race_threads.specs.Scripts.{IsForRace};
-ghost use Rattle.race_threads.specs.Told.{IsOfOneRun, IsToldOf};
+ghost use Rattle.race_threads.specs.Told.{IsToldOf};
 
 use crate::finish::finish;
 use crate::jobs::deal;
@@ -40,8 +40,7 @@ pub fn race<R: Threads + Wait + Sync, G: Gate>(
     requires some { 1 ≤ lookers }
     requires few { lookers ≤ 16 }
     requires passes { 1 ≤ passes }
-    ensures lawful { IfOk result (IsToldOf script.now capture.now lookers passes) }
-    ensures run { IfOk result (IsOfOneRun script.now capture.now lookers passes) }
+    ensures { IfOk result (IsToldOf script.now capture.now lookers passes) }
 {
     let (tables, mut first) = start(alloc, script.header())?;
     let (tickets, mut draws) = issue(alloc, capture.items())?;

@@ -8,7 +8,7 @@ ghost use Rattle.race_threads.specs.Finished.{HasFinished, as_known, listings_in
 ghost use Rattle.race_threads.specs.Lookers.{item_of};
 ghost use Rattle.race_threads.specs.Scripts.{IsForRace};
 ghost use Rattle.race_threads.specs.Shares.{items_in, put_all};
-ghost use Rattle.race_threads.specs.Told.{IsLeftBy, IsToldOf};
+ghost use Rattle.race_threads.specs.Told.{IsToldBy};
 ghost use Rattle.race_record.specs.Lawful.{looked_at};
 ghost use Rattle.turn_table.specs.Journals.{numbers_below};
 
@@ -122,8 +122,7 @@ pub fn tell(
 ) -> Result<Record, AllocError>
     requires script { IsForRace script.now }
     requires ended { HasFinished script.now passes capture.now.items lookers ended }
-    ensures lawful { IfOk result (IsToldOf script.now capture.now lookers passes) }
-    ensures left { IfOk result (IsLeftBy ended) }
+    ensures { IfOk result (IsToldBy script.now capture.now lookers passes ended) }
 {
     let header = script.header();
     let Ended {

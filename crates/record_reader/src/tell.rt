@@ -71,10 +71,10 @@ fn index_of(alloc: Global, lines: &[Line]) -> Result<BTreeMap<Name, u32>, AllocE
     Ok(index)
 }
 
-fn number_of(index: &BTreeMap<Name, u32>, name: &Name) -> u32
+fn number_of(index: &BTreeMap<Name, u32>, name: &Name) -> u64
     ensures { result ≡ number_by index.now name.now }
 {
-    index.get(name).copied().unwrap_or(0)
+    u64::from(index.get(name).copied().unwrap_or(0))
 }
 
 fn life_told(index: &BTreeMap<Name, u32>, life: &LifeLine) -> PrintedLife

@@ -14,7 +14,7 @@ use Rattle.list_words.proofs.TotalLemmas.{total-append}
 use Rattle.reuseport_group.specs.Words.{most, at, word_of, latest, HasMembers, NotBefore, Occurs}
 use Rattle.reuseport_group.specs.Views.{first, newcomer, nobody, cut, joined, looking, writing}
 use Rattle.reuseport_group.specs.Grouped.{Knows, Grouped}
-use Rattle.reuseport_group.specs.Plays.{Sat, Known, Saw, wrote}
+use Rattle.reuseport_group.specs.Plays.{Sat, Known, Saw, wrote, kept}
 use Rattle.reuseport_group.specs.declared.view.Stored.{Stored}
 use Rattle.reuseport_group.specs.declared.view.GroupView.{GroupView}
 use Rattle.list_words.proofs.PlaceLemmas.{at_below, only_one, each_set, each_set_snoc, each_set_two, total-set, terms_le, total-alone}
@@ -131,6 +131,34 @@ writes n slots id m g j l near le few part last s o len me fits = (
     known = known n s o id m.0 me;
   },
 )
+
+-- a load is a store of what stands there, or shows nothing
+pub keeps_or_looks : (n slots id : ℕ) (m : Sat) (g j : ℕ) (l : List ℕ) → g < n → j ≤ most → length l ≤ most → 0 < m.0.parts → (j ≡ 0 → HasMembers g l m.0.mine) → Allows (Grouped n) slots id m (at g j) (λ x. x) (kept g l (step slots (at g j) 0 0 none) m)
+keeps_or_looks n slots id m g j l near le few part last s o len me fits = dite (ℕ_discrete (get_or s.words (at g j) 0) (word_of l j))
+    (λ z. (
+      w n s o id m.0 me g j l near le few part last,
+      keeps,
+      tt,
+      subst (λ (x : ℕ). Grouped n record { words = set s.words (at g j) x; homes = s.homes; views = set s.views id (w n s o id m.0 me g j l near le few part last) }) (sym z) (written n s o id m.0 me g j l near le few part last),
+      λ k small same. let b : j ≡ k = omega arith in record {
+        same = λ _. record {
+          before = o.history;
+          is = ap (λ (p : ℕ). (writing m.0 o.history record { group = g; at = p; members = l }, m.1)) b;
+          known = known n s o id m.0 me;
+        };
+        other = λ y. absurd (y (z ∙ ap (word_of l) b));
+      },
+    ))
+    (λ z. (
+      looking m.0 o.history,
+      keeps,
+      tt,
+      subst (λ (ws : List ℕ). Grouped n record { words = ws; homes = s.homes; views = set s.views id (looking m.0 o.history) }) (sym (set-get_or s.words (at g j) 0)) (looked n s o id m.0 me),
+      λ k small same. let b : j ≡ k = omega arith in record {
+        same = λ y. absurd (z (y ∙ ap (word_of l) (sym b)));
+        other = λ _. record { now = o.history; is = refl; known = known n s o id m.0 me };
+      },
+    ))
 
 pub splits : (n id : ℕ) (v : GroupView) → 1 < v.parts → Splits (Grouped n) id v (cut v) (newcomer v.moments)
 splits n id v more s o me =

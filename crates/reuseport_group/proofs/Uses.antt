@@ -11,12 +11,12 @@ use Rattle.reuseport_group.specs.Passes.{known, newest, now}
 use Rattle.reuseport_group.specs.Views.{looking, writing, storing, publishing}
 use Rattle.reuseport_group.specs.declared.choice.Choice.{Choice}
 use Rattle.reuseport_group.specs.Grouped.{Grouped}
-use Rattle.reuseport_group.specs.Plays.{Sat, Known, Wrote, wrote}
+use Rattle.reuseport_group.specs.Plays.{Sat, Known, Wrote, wrote, Looked, Kept, kept}
 use Rattle.reuseport_group.specs.declared.view.Stored.{Stored}
 use Rattle.reuseport_group.specs.declared.view.GroupView.{GroupView}
 use Rattle.reuseport_group.specs.declared.pass.GroupPasses.{GroupPasses}
 use Rattle.reuseport_group.proofs.Moments.{later_same, later_more, later_trans, laters_from, laters_more, occurs_more, settles, count_small, count-is, was_member, all_stored, counted_whole, published_later, list_here, list_stored, list_other}
-use Rattle.reuseport_group.proofs.Steps.{writes}
+use Rattle.reuseport_group.proofs.Steps.{writes, keeps_or_looks}
 
 -- the store of word j of a list, as a call makes it
 pub stores_word : (key n slots id : ℕ) (m : Sat) (g g' j : ℕ) (l l' : List ℕ) (word value : ℕ) → key ≡ n → g ≡ g' → l ≡ l' → word ≡ at g j → value ≡ word_of l j → g < n → j ≤ most → length l ≤ most → 0 < m.0.parts → (j ≡ 0 → HasMembers g l m.0.mine)
@@ -29,6 +29,53 @@ stores_word key n slots id m g g' j l l' word value keyed same_g same_l is_word 
 pub did : (slots : ℕ) (m m' : Sat) (g g' j : ℕ) (l l' : List ℕ) (word value : ℕ) → g ≡ g' → l ≡ l' → word ≡ at g j → j ≤ most → wrote g' l' (step slots word value 0 none) m value m' → Wrote g l j m m'
 did slots m m' g g' j l l' word value same_g same_l is_word le told =
     subst (λ (h : ℕ). Wrote h l j m m') (sym same_g) (subst (λ (q : List ℕ). Wrote g' q j m m') (sym same_l) (told j le (is_word ∙ ap (λ (h : ℕ). at h j) same_g)))
+
+-- a load of it, as a call makes it
+pub keeps_word : (key n slots id : ℕ) (m : Sat) (g g' j : ℕ) (l l' : List ℕ) (word : ℕ) → key ≡ n → g ≡ g' → l ≡ l' → word ≡ at g j → g < n → j ≤ most → length l ≤ most → 0 < m.0.parts → (j ≡ 0 → HasMembers g l m.0.mine)
+    → Allows (Grouped key) slots id m word (λ x. x) (kept g' l' (step slots word 0 0 none) m)
+keeps_word key n slots id m g g' j l l' word keyed same_g same_l is_word near le few part last =
+    let P : ℕ → ℕ → List ℕ → ℕ → Type 0 = λ k h q w. Allows (Grouped k) slots id m w (λ x. x) (kept h q (step slots w 0 0 none) m) in
+    subst (λ (k : ℕ). P k g' l' word) (sym keyed) (subst (λ (h : ℕ). P n h l' word) same_g (subst (λ (q : List ℕ). P n g q word) same_l (subst (λ (w : ℕ). P n g l w) (sym is_word) (keeps_or_looks n slots id m g j l near le few part last))))
+
+-- and what it shows
+pub found : (slots : ℕ) (m m' : Sat) (g g' j : ℕ) (l l' : List ℕ) (word value : ℕ) → g ≡ g' → l ≡ l' → word ≡ at g j → j ≤ most → kept g' l' (step slots word 0 0 none) m value m' → Kept g l j m value m'
+found slots m m' g g' j l l' word value same_g same_l is_word le told =
+    subst (λ (h : ℕ). Kept h l j m value m') (sym same_g) (subst (λ (q : List ℕ). Kept g' q j m value m') (sym same_l) (told j le (is_word ∙ ap (λ (h : ℕ). at h j) same_g)))
+
+-- of one store: what it leaves known
+pub one_stored : (g j k : ℕ) (l : List ℕ) (m m' : Sat) → j ≡ k → Wrote g l j m m' → m'.0 ≡ storing m.0 m'.0.moments (record { group = g; at = k; members = l } ∷ [])
+one_stored g j k l m m' same t =
+    let e : Stored = record { group = g; at = j; members = l } in
+    let is : m'.0 ≡ writing m.0 t.before e = ap (λ (x : Sat). x.0) t.is in
+    let there : m'.0.moments ≡ (e ∷ t.before) ∷ [] = ap (λ (x : GroupView). x.moments) is in
+    is ∙ (ap (λ (ms : List (List Stored)). storing m.0 ms (e ∷ [])) (sym there) ∙ ap (λ (p : ℕ). storing m.0 m'.0.moments (record { group = g; at = p; members = l } ∷ [])) same)
+
+-- a load before it changes nothing of that
+pub looked_stored : (g j k : ℕ) (l : List ℕ) (m n m' : Sat) → j ≡ k → Looked m n → Wrote g l j n m' → m'.0 ≡ storing m.0 m'.0.moments (record { group = g; at = k; members = l } ∷ [])
+looked_stored g j k l m n m' same o t =
+    let e : Stored = record { group = g; at = k; members = l } in
+    one_stored g j k l n m' same t ∙ ap (λ (x : Sat). storing x.0 m'.0.moments (e ∷ [])) o.is
+
+pub follows_look : (m n : Sat) → Looked m n → Follows n.0.moments m.0.moments
+follows_look m n o h p =
+    let q : Each (NotBefore h) (o.now ∷ []) = subst (λ (x : Sat). Each (NotBefore h) x.0.moments) o.is p in
+    laters_from h o.now m.0.moments q.0 o.known.later
+
+pub look_empty : (m n : Sat) → m.1 ≡ [] → Looked m n → n.1 ≡ []
+look_empty m n empty o = ap (λ (x : Sat). x.1) o.is ∙ empty
+
+pub look_parts : (m n : Sat) → 0 < m.0.parts → Looked m n → 0 < n.0.parts
+look_parts m n part o = subst (λ (x : Sat). 0 < x.0.parts) (sym o.is) part
+
+-- after the store of one member more
+pub view_next : (i : ℕ) (v u u' : GroupView) (g : ℕ) (l : List ℕ) → u ≡ storing v u.moments (members_stored g l i) → u' ≡ storing u u'.moments (record { group = g; at = 1 + i; members = l } ∷ []) → u' ≡ storing v u'.moments (members_stored g l (i + 1))
+view_next i v u u' g l before next =
+    let first : 1 + i ≡ suc i = omega arith in
+    let count : suc i ≡ i + 1 = omega arith in
+    next
+    ∙ (ap (λ (k : ℕ). storing u u'.moments (record { group = g; at = k; members = l } ∷ [])) first
+    ∙ (ap (λ (x : GroupView). storing x u'.moments (record { group = g; at = suc i; members = l } ∷ [])) before
+    ∙ ap (λ (k : ℕ). storing v u'.moments (members_stored g l k)) count))
 
 -- after the store of one member more
 pub view_more : (i : ℕ) (m m' : Sat) (v : GroupView) (g : ℕ) (l : List ℕ) → m.0 ≡ storing v m.0.moments (members_stored g l i) → Wrote g l (suc i) m m' → m'.0 ≡ storing v m'.0.moments (members_stored g l (i + 1))

@@ -1,8 +1,8 @@
 -- What each step shows, as a relation of the step, the seat before, the number found and the seat after. Our own.
-use Rattle.std.specs.Prelude.{◌≡◌, ℕ, ◌≤◌, true, List, length}
+use Rattle.std.specs.Prelude.{◌≡◌, ◌≢◌, ℕ, ◌≤◌, true, List, length}
 use Rattle.atomic_table.specs.Table.{Me, Step}
 use Rattle.list_words.specs.Lists.{Each, SameItems}
-use Rattle.reuseport_group.specs.Words.{most, at, latest, NotBefore, AllOccur, Ordered}
+use Rattle.reuseport_group.specs.Words.{most, at, word_of, latest, NotBefore, AllOccur, Ordered}
 use Rattle.reuseport_group.specs.Views.{all_parts, looking, writing}
 use Rattle.reuseport_group.specs.declared.view.Stored.{Stored}
 use Rattle.reuseport_group.specs.declared.view.GroupView.{GroupView}
@@ -38,3 +38,17 @@ pub record Wrote (group : ℕ) (list : List ℕ) (j : ℕ) (m n : Sat) : Type 0 
 
 abbrev pub wrote : ℕ → List ℕ → Step (Unit {0}) → Sat → ℕ → Sat → Type 0
 wrote group list st m r n = (j : ℕ) → j ≤ most → st.word ≡ at group j → Wrote group list j m n
+
+-- a load that shows nothing of the word
+pub record Looked (m n : Sat) : Type 0 where
+  pub now : List Stored
+  pub is : n ≡ (looking m.0 now, m.1)
+  pub known : Known m.0 now
+
+-- a load that is the store of word j of a list, where that stands there
+pub record Kept (group : ℕ) (list : List ℕ) (j : ℕ) (m : Sat) (r : ℕ) (n : Sat) : Type 0 where
+  pub same : r ≡ word_of list j → Wrote group list j m n
+  pub other : r ≢ word_of list j → Looked m n
+
+abbrev pub kept : ℕ → List ℕ → Step (Unit {0}) → Sat → ℕ → Sat → Type 0
+kept group list st m r n = (j : ℕ) → j ≤ most → st.word ≡ at group j → Kept group list j m r n

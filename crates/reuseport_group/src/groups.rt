@@ -14,7 +14,7 @@ ghost use Rattle.reuseport_group.specs.Passes.{IsPassOf, IsSole, known};
 
 use crate::choice::Choice;
 use crate::pass::{GroupPasses, Groups, MOST};
-use crate::rule::{Both, Cut, Load, Store, Told};
+use crate::rule::{Both, Cut, Keep, Load, Store, Told};
 use atomic_table::Table;
 use jhash_words::scale;
 use std::alloc::{AllocError, Global};
@@ -83,6 +83,34 @@ impl Groups {
     // The type of a store, `Store<T>`, says of which list the store is. The two halves of `publish` make that type
     // from their arguments, by a `Brand`.
 
+    /// Stores the member at a place, or the zero there, where it doesn't stand there already.
+    fn store_member_as<T: Told>(
+        &self,
+        passes: &mut GroupPasses,
+        group: u32,
+        members: &[u64],
+        place: usize,
+    )
+        requires told { (group ≡ T.group) × (members.now ≡ T.members) }
+        requires table { passes.old.seat.table_id ≡ self.now.table.shared.table_id }
+        requires part { 0 < words.parts passes.old }
+        requires group { group < words.groups self.now }
+        requires few { length members.now ≤ most }
+        requires place { place < most }
+        ensures table { passes.new.seat.table_id ≡ passes.old.seat.table_id }
+        ensures view { known passes.new ≡ storing (known passes.old) (words.moments passes.new)
+            (record { group = group; at = 1 + place; members = members.now } ∷ []) }
+        ensures later { Follows (words.moments passes.new) (words.moments passes.old) }
+    {
+        let member = member_at(members, place);
+        let word = self.word(group, 1 + place);
+        if self.table.shared.load::<Keep<T>>(&mut passes.seat, word) != member {
+            self.table
+                .shared
+                .store::<Store<T>>(&mut passes.seat, word, member);
+        }
+    }
+
     fn store_members_as<T: Told>(&self, passes: &mut GroupPasses, group: u32, members: &[u64])
         requires told { (group ≡ T.group) × (members.now ≡ T.members) }
         requires table { passes.old.seat.table_id ≡ self.now.table.shared.table_id }
@@ -95,11 +123,7 @@ impl Groups {
         ensures later { Follows (words.moments passes.new) (words.moments passes.old) }
     {
         for i in 0..MOST {
-            let member = member_at(members, i);
-            let word = self.word(group, 1 + i);
-            self.table
-                .shared
-                .store::<Store<T>>(&mut passes.seat, word, member);
+            self.store_member_as::<T>(passes, group, members, i);
         }
     }
 
@@ -161,8 +185,9 @@ impl Groups {
 
     /// Stores a list in a group: its members, zeros after them up to the 64th, and last its count.
     ///
-    /// These are 65 atomic stores, each by itself, so other passes see a list come word by word: until
-    /// the count is stored, a choice may be by the old count and of a new member. Two passes that
+    /// Each word is stored by itself, so other passes see a list come word by word. A member, or a zero,
+    /// that stands there already is loaded, and that counts as its store: a short list costs 64 loads
+    /// and a few stores. Until the count is stored, a choice may be by the old count and of a new member. Two passes that
     /// publish one group at once leave words of both lists there; who calls sees to it that they don't,
     /// as Linux does by `reuseport_lock` of `net/core/sock_reuseport.c`. It takes no memory and waits
     /// for nothing.

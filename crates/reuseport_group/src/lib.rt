@@ -2,8 +2,8 @@
 //!
 //! Linux takes one member of the group by the packet's hash (`reuseport_select_sock` of
 //! `net/core/sock_reuseport.c`), so that all packets of a connection find one socket. A member is one
-//! number: the slot of its card in the upper half, and its name in the lower. None is chosen of no
-//! members alone.
+//! number: the slot of its card and 1 more in the upper half, and its name in the lower. None is chosen
+//! of no members alone.
 //!
 //! [`pick`] is that choice over a list that nobody changes. [`Groups`] has the lists of all groups in
 //! words that change in single atomic steps, for threads that look packets up while others publish new

@@ -43,6 +43,17 @@ impl<T: Told> Play<(), GroupView> for Store<T> {
     ghost then = { wrote T.group T.members };
 }
 
+/// Loads a word; where that of a list stands there already, this is its store.
+pub struct Keep<T> {
+    of: PhantomData<T>,
+}
+
+impl<T: Told> Play<(), GroupView> for Keep<T> {
+    ghost use Rattle.reuseport_group.specs.Plays.{kept};
+
+    ghost then = { kept T.group T.members };
+}
+
 /// Loads a word.
 pub struct Load;
 

@@ -140,7 +140,7 @@ const fn listener(section: u32) -> Card
         dev: 0,
         net: 0,
         kind: Kind::Listen,
-        name: section * 0x0100_0000 + 1,
+        name: section as u64 * 0x0100_0000_0000_0000 + 1,
         extra: 0,
     }
 }

@@ -106,7 +106,7 @@ fn a_listener_is_listed(rt: HostRuntime) -> Result<(), Fail> {
         dev: 0,
         net: 0,
         kind: Kind::Listen,
-        name: 0x0100_0001,
+        name: 0x0100_0000_0000_0001,
         extra: 0,
     };
     let told = replies

@@ -91,7 +91,7 @@ module _ (t : Tables) (k : Kept) (w u : Worker) (command : Command) (next : Own)
         ((did.does.alone sole.chains).0 count) (goes_leads count (plan k.header k.own command) did.deeds (answers next reply) did.goes)
         ∙ ap (λ (g : List (Placed Entry)). run (tables_by count g (chains_by (chained t u))) (ends (answers next reply))) (sym given)
 
-    pub command_refines : length k.own.labels + 1 < 2 ^ 24 → is_lookup command ≡ false → RefinesEach k (tables_of t w) command (tables_of t u) next reply
+    pub command_refines : length k.own.labels + 1 < 2 ^ 56 → is_lookup command ≡ false → RefinesEach k (tables_of t w) command (tables_of t u) next reply
     command_refines room asks_none flat header means =
         plans_refine k.own.number k.own (tables_of t w) flat command (record { tables = tables_of t u; result = answers next reply }) section.number room asks_none means
         (ap (λ (h : Header). run (tables_of t w) (plan h k.own command)) header ∙ comes)
@@ -125,7 +125,7 @@ module _ (t : Tables) (k l : Kept) (w u : Worker) (command : Command) (running :
   abbrev Does : Reply → Type 0
   Does reply = Did k.header k.own command (turned w) (turned u) (chained t w) (chained t u) l.own reply
 
-  pub step_leaves : (r : Result Reply AllocError) → IfOk r Does → OnOk r (IsSection t l u) → KeepsLists t w u → OnOk r (IsRunning t l u)
+  pub step_leaves : (r : Result Reply AllocError) → IfOk r Does → IsSection t l u → KeepsLists t w u → OnOk r (IsRunning t l u)
   step_leaves (Ok reply) did section lists =
       let s = running.sole in
       record {
@@ -134,7 +134,7 @@ module _ (t : Tables) (k l : Kept) (w u : Worker) (command : Command) (running :
       }
   step_leaves (Err e) did section lists = tt
 
-  pub step_refines : (r : Result Reply AllocError) → IfOk r Does → length k.own.labels + 1 < 2 ^ 24 → is_lookup command ≡ false
+  pub step_refines : (r : Result Reply AllocError) → IfOk r Does → length k.own.labels + 1 < 2 ^ 56 → is_lookup command ≡ false
       → IfOk r (RefinesEach k (tables_of t w) command (tables_of t u) l.own)
   step_refines (Ok reply) did room none = command_refines t k w u command l.own reply running.section running.sole did ready room none
   step_refines (Err e) did room none = tt

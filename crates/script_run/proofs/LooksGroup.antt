@@ -3,9 +3,9 @@ use Rattle.std.proofs.Common.{◌≡◌, ℕ, ◌+◌, ◌*◌, ◌/◌, ◌%◌
 use Rattle.std.specs.List.{list_any}
 use Rattle.std.specs.Option.{option_map_or}
 use Rattle.std.proofs.lemmas.Bool.{and_parts, and_from, eqb-true, eq-eqb}
-use Rattle.std.proofs.lemmas.List.{length-map}
+use Rattle.std.proofs.lemmas.List.{length-map, get_or-map}
 use Rattle.list_words.specs.Lists.{Each}
-use Rattle.list_words.proofs.EachLemmas.{some_same, found_passes}
+use Rattle.list_words.proofs.EachLemmas.{each_map, some_same, found_passes}
 use Rattle.sock_card.specs.declared.card.Card.{Card}
 use Rattle.sock_card.specs.declared.card.Kind.TheVariants as kinds
 use Rattle.sock_card.specs.declared.card.Packet.{Packet}
@@ -13,7 +13,7 @@ use Rattle.sock_card.specs.declared.owner.Owner.{Owner}
 use Rattle.sock_card.specs.Conflict.{is_listening}
 use Rattle.sock_card.specs.Rank.{rank, rank_as, listen_rank}
 use Rattle.jhash_words.specs.Places.{scale}
-use Rattle.reuseport_group.specs.Member.{AreMembers}
+use Rattle.reuseport_group.specs.Member.{slot_of, name_of, AreMembers}
 use Rattle.reuseport_group.specs.Pick.{pick}
 use Rattle.reuseport_group.specs.Pick as choices
 use Rattle.bind_buckets.specs.BindHash.{untouched}
@@ -26,7 +26,7 @@ use Rattle.flat_list.specs.declared.socket.Socket.{Socket}
 use Rattle.flat_list.specs.Flat.{Flat}
 use Rattle.flat_list.specs.Groups.{Group, has_member}
 use Rattle.flat_list.specs.Look.{chosen, member_of, group_of}
-use Rattle.flat_list.specs.Sound.{IsSound, IsGiven, IsGroupOf, GroupsAreOfMates, are_together}
+use Rattle.flat_list.specs.Sound.{IsSound, IsGroupOf, GroupsAreOfMates, are_together}
 use Rattle.table_model.specs.Tables.{Tables}
 use Rattle.table_model.specs.Means.{TablesMean, IsShape, names_in, members_of, stands_in_some}
 use Rattle.table_model.specs.Means as means
@@ -36,6 +36,7 @@ use Rattle.table_model.proofs.parts.Groups.{read_map}
 use Rattle.list_words.proofs.Items.{In, each_in, in_each, pairs_in, found_in, finds, any_in, place_in}
 use Rattle.chain_book.proofs.HashFits.{hash_fits, scale_below}
 use Rattle.flat_list.proofs.CardsOf.{OfSocket, of_socket, listening_kind, AtOneEnd, by_mates, grouped_shares}
+use Rattle.shared_ops.specs.Groups.{shown, words_in}
 use Rattle.script_run.proofs.CardsOf.{cards, HasNumber, same_name}
 use Rattle.script_run.proofs.CardsBest.{named_group}
 use Rattle.script_run.proofs.CardsStand.{in_row, stands_of}
@@ -43,6 +44,16 @@ use Rattle.script_run.proofs.CardsStand.{in_row, stands_of}
 pub some_pick : (ms : List ℕ) (hash : ℕ) → 1 ≤ length ms → pick ms hash ≡ Some (choices.chosen ms hash)
 some_pick [] hash h = absurd (omega arith)
 some_pick (m ∷ ms) hash h = refl
+
+-- what is shown of a member is never 0, and has its slot, where that is below 2 ^ 32 - 1, and the lower half of its name
+shown_some : (m : ℕ) → 0 < shown m
+shown_some m = omega arith
+
+shown_slot : (m : ℕ) → m / 2 ^ 64 + 1 < 2 ^ 32 → slot_of (shown m) ≡ m / 2 ^ 64
+shown_slot m fits = omega (arith, fits)
+
+shown_name : (m : ℕ) → name_of (shown m) ≡ m % 2 ^ 64 % 2 ^ 32
+shown_name m = omega arith
 
 other_way : (a b : Owner) → AtOneEnd a b → AtOneEnd b a
 other_way a b e = record { net = sym e.net; addr = sym e.addr; port = sym e.port; dev = sym e.dev }
@@ -120,35 +131,27 @@ module _ (t : Tables) (flat : Flat) (shape : IsShape flat.header) (sound : IsSou
       let net : a.net ≡ b.net = sym (ap (λ (c : Card). c.net) o.says.is) ∙ end.net ∙ ap (λ (c : Card). c.net) p.says.is in
       rank_alike a b packet listens_a listens_b local lport dev net
 
-  -- a card that stands says a name
-  named_some : (c : Card) → In c all → 1 ≤ c.name
-  named_some c i =
-      let o = of_socket flat.groups flat.sockets c i in
-      let first : 1 ≤ o.socket.owner.name % 2 ^ 24 = (each_in (IsGiven flat.sections) o.socket flat.sockets sound.given o.within).first in
-      let some : (n : ℕ) → 1 ≤ n % 2 ^ 24 → 1 ≤ n = λ n h. omega (arith, h) in
-      subst (λ n. 1 ≤ n) o.says.name (some o.socket.owner.name first)
-
   -- where a member's card stands
   pub record Member (m : ℕ) : Type 0 where
     pub row : ℕ
     pub hashed : Hashed
     pub there : In hashed (row_at t.chains row)
     pub mine : In hashed.card all
-    pub slot : hashed.slot ≡ m / 2 ^ 32
-    pub name : hashed.card.name ≡ m % 2 ^ 32
+    pub slot : hashed.slot ≡ m / 2 ^ 64
+    pub name : hashed.card.name ≡ m % 2 ^ 64
 
   member_at : (m : ℕ) → stands_in_some m t.chains.rows ≡ true → Member m
   member_at m h =
       let there = in_row (means.stands_as m) t.chains.rows h in
       let y = there.item in
-      let parts = and_parts (y.slot == m / 2 ^ 32) (y.card.name == m % 2 ^ 32) there.passes in
+      let parts = and_parts (y.slot == m / 2 ^ 64) (y.card.name == m % 2 ^ 64) there.passes in
       record {
         row = there.row;
         hashed = y;
         there = there.within;
         mine = stands_of t.chains flat mean.chains there.row y there.within;
-        slot = eqb-true y.slot (m / 2 ^ 32) parts.0;
-        name = eqb-true y.card.name (m % 2 ^ 32) parts.1;
+        slot = eqb-true y.slot (m / 2 ^ 64) parts.0;
+        name = eqb-true y.card.name (m % 2 ^ 64) parts.1;
       }
 
   -- the group of a number that the tables have
@@ -156,8 +159,12 @@ module _ (t : Tables) (flat : Flat) (shape : IsShape flat.header) (sound : IsSou
     abbrev standing : Standing
     standing = get_or t.buckets (n / 8) untouched
 
+    abbrev members : List ℕ
+    members = members_at standing.held (n % 8)
+
+    -- what lookers are shown of them
     abbrev pub words : List ℕ
-    words = members_at standing.held (n % 8)
+    words = words_in standing.held n
 
     place_low : n % 8 < 8
     place_low = omega arith
@@ -168,22 +175,24 @@ module _ (t : Tables) (flat : Flat) (shape : IsShape flat.header) (sound : IsSou
     abbrev IsThere : ℕ → Type 0
     IsThere m = stands_in_some m t.chains.rows ≡ true
 
-    stand : Each IsThere words
+    stand : Each IsThere members
     stand =
         let in_bucket = each_in (λ (s : Standing). Each (λ members. Each IsThere members) s.held.groups) standing t.buckets mean.groups.stand (place_in t.buckets (n / 8) untouched inside) in
         let eight : length standing.held.groups ≡ 8 = each_in (λ (s : Standing). length s.held.groups ≡ 8) standing t.buckets mean.groups.places (place_in t.buckets (n / 8) untouched inside) in
-        each_in (λ members. Each IsThere members) words standing.held.groups in_bucket (place_in standing.held.groups (n % 8) [] (subst (λ k. n % 8 < k) (sym eight) place_low))
+        each_in (λ members. Each IsThere members) members standing.held.groups in_bucket (place_in standing.held.groups (n % 8) [] (subst (λ k. n % 8 < k) (sym eight) place_low))
 
     pub are_members : AreMembers words
     are_members =
-        in_each (λ m. 0 < m) words
-        (λ m i. let at = member_at m (each_in IsThere m words stand i) in let some : (k : ℕ) → 1 ≤ k % 2 ^ 32 → 0 < k = λ k h. omega (arith, h) in some m (subst (λ k. 1 ≤ k) at.name (named_some at.hashed.card at.mine)))
+        each_map (λ m. 0 < m) shown members (in_each (λ m. 0 < shown m) members (λ m i. shown_some m))
 
-    names : names_in words ≡ members_of n flat.groups
+    names : names_in members ≡ members_of n flat.groups
     names = mean.groups.members (n / 8) (n % 8) inside place_low ∙ ap (λ k. members_of k flat.groups) split
 
-    count : length (names_in words) ≡ length words
-    count = length-map words (λ m. m % 2 ^ 32)
+    count : length (names_in members) ≡ length members
+    count = length-map members (λ m. m % 2 ^ 64)
+
+    many : length words ≡ length (names_in members)
+    many = length-map members shown ∙ sym count
 
     -- the group of a card that has this number is found by it
     found_as : (x : Card) (h : HasNumber (group_of x.name flat.groups) n) → find (places.at_number n) flat.groups ≡ Some h.group
@@ -195,8 +204,8 @@ module _ (t : Tables) (flat : Flat) (shape : IsShape flat.header) (sound : IsSou
     pub some_words : (x : Card) → HasNumber (group_of x.name flat.groups) n → 1 ≤ length words
     some_words x h =
         let is : IsGroupOf flat.header.shape.bind flat.sockets h.group = each_in (IsGroupOf flat.header.shape.bind flat.sockets) h.group flat.groups sound.grouped.each (found_in (has_member x.name) flat.groups h.group h.is) in
-        let members : names_in words ≡ h.group.members = names ∙ ap places.members_in (found_as x h) in
-        omega (arith, is.some, count, ap (length {A = ℕ}) members)
+        let same : names_in members ≡ h.group.members = names ∙ ap places.members_in (found_as x h) in
+        omega (arith, is.some, many, ap (length {A = ℕ}) same)
 
     module _ (packet : Packet) (seed : ℕ) (some : 1 ≤ length words) where
       abbrev hash : ℕ
@@ -212,14 +221,32 @@ module _ (t : Tables) (flat : Flat) (shape : IsShape flat.header) (sound : IsSou
       abbrev pub word : ℕ
       word = get_or words place 0
 
-      pub member_there : Member word
-      member_there = member_at word (each_in IsThere word words stand (place_in words place 0 low))
+      -- and the member of which it is shown
+      abbrev pub taken : ℕ
+      taken = get_or members place 0
 
-      named : word % 2 ^ 32 ≡ get_or (names_in words) place 0
-      named = sym (read_map (λ m. m % 2 ^ 32) words place 0)
+      within_members : place < length members
+      within_members = omega (arith, low, many, count)
 
-      listed : ListedAs (find (places.at_number n) flat.groups) (names_in words)
-      listed = listed_as (find (places.at_number n) flat.groups) (names_in words) names (subst (λ k. 1 ≤ k) (sym count) some)
+      word_is : word ≡ shown taken
+      word_is = get_or-map shown members place 0 0 within_members
+
+      pub member_there : Member taken
+      member_there = member_at taken (each_in IsThere taken members stand (place_in members place 0 within_members))
+
+      -- the word has its slot, where that is below 2 ^ 32 - 1, and the lower half of its name
+      pub word_slot : member_there.hashed.slot + 1 < 2 ^ 32 → slot_of word ≡ member_there.hashed.slot
+      word_slot fits =
+          ap slot_of word_is ∙ (shown_slot taken (subst (λ k. k + 1 < 2 ^ 32) member_there.slot fits) ∙ sym member_there.slot)
+
+      pub word_name : name_of word ≡ member_there.hashed.card.name % 2 ^ 32
+      word_name = ap name_of word_is ∙ (shown_name taken ∙ sym (ap (λ k. k % 2 ^ 32) member_there.name))
+
+      named : taken % 2 ^ 64 ≡ get_or (names_in members) place 0
+      named = sym (read_map (λ m. m % 2 ^ 64) members place 0)
+
+      listed : ListedAs (find (places.at_number n) flat.groups) (names_in members)
+      listed = listed_as (find (places.at_number n) flat.groups) (names_in members) names (subst (λ k. 1 ≤ k) many some)
 
       abbrev group : Group
       group = listed.group
@@ -228,20 +255,21 @@ module _ (t : Tables) (flat : Flat) (shape : IsShape flat.header) (sound : IsSou
       within = found_in (places.at_number n) flat.groups group listed.is
 
       -- its name is that which the list's group has there
-      chosen_is : word % 2 ^ 32 ≡ chosen hash group
+      chosen_is : taken % 2 ^ 64 ≡ chosen hash group
       chosen_is =
-          named ∙ (ap (λ k. get_or (names_in words) (scale hash k) 0) (sym count)
+          named ∙ (ap (λ k. get_or (names_in members) (scale hash k) 0) many
           ∙ ap (λ ns. get_or ns (scale hash (length ns)) 0) listed.members)
 
-      has_chosen : has_member (word % 2 ^ 32) group ≡ true
+      has_chosen : has_member (taken % 2 ^ 64) group ≡ true
       has_chosen =
-          subst (λ ns. list_any (λ m. m == word % 2 ^ 32) ns ≡ true) listed.members
-          (any_in (λ m. m == word % 2 ^ 32) (get_or (names_in words) place 0) (names_in words) (place_in (names_in words) place 0 (subst (λ k. place < k) (sym count) low))
-          (eq-eqb (get_or (names_in words) place 0) (word % 2 ^ 32) (sym named)))
+          subst (λ ns. list_any (λ m. m == taken % 2 ^ 64) ns ≡ true) listed.members
+          (any_in (λ m. m == taken % 2 ^ 64) (get_or (names_in members) place 0) (names_in members) (place_in (names_in members) place 0 (subst (λ k. place < k) many low))
+          (eq-eqb (get_or (names_in members) place 0) (taken % 2 ^ 64) (sym named)))
 
       -- so a card of that name is what the list's group comes to
-      pub member_is : (c : Card) → In c all → c.name ≡ word % 2 ^ 32 → member_of hash all flat.groups c ≡ Some c
-      member_is c i name =
+      pub member_is : (c : Card) → In c all → c.name ≡ member_there.hashed.card.name → member_of hash all flat.groups c ≡ Some c
+      member_is c i same_as =
+          let name : c.name ≡ taken % 2 ^ 64 = same_as ∙ member_there.name in
           let is : group_of c.name flat.groups ≡ Some group = named_group flat sound c group i within (ap (λ k. has_member k group) name ∙ has_chosen) in
           let f = finds (λ (d : Card). d.name == chosen hash group) c all i (eq-eqb c.name (chosen hash group) (name ∙ chosen_is)) in
           let same : f.item ≡ c = same_name flat sound f.item c f.within i (eqb-true f.item.name (chosen hash group) f.passes ∙ sym (name ∙ chosen_is)) in

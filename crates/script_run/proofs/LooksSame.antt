@@ -1,6 +1,6 @@
 -- What a packet finds by chains and lists that one worker made alone is what it finds in the flat list
 -- that they mean.
-use Rattle.std.proofs.Common.{◌≡◌, ◌≢◌, ℕ, zero, suc, ◌-◌, ◌*◌, ◌/◌, ◌%◌, ◌^◌, ◌<◌, ◌≤◌, Bool, true, false, cond, not, ◌||◌, ◌==◌, nat_lt, List, [], ◌∷◌, length, get_or, Option, Some, None, refl, sym, ap, ◌∙◌, subst, inl, inr, ⊎_elim, arith}
+use Rattle.std.proofs.Common.{◌≡◌, ◌≢◌, ℕ, zero, suc, ◌+◌, ◌-◌, ◌*◌, ◌/◌, ◌%◌, ◌^◌, ◌<◌, ◌≤◌, Bool, true, false, cond, not, ◌||◌, ◌==◌, nat_lt, List, [], ◌∷◌, length, get_or, Option, Some, None, refl, sym, ap, ◌∙◌, subst, inl, inr, ⊎_elim, arith}
 use lib.ListN.{get_elem?}
 use Rattle.std.specs.Prelude.{count_by}
 use Rattle.std.proofs.lemmas.Bool.{both_ways, ltb-false, cases_lt, eq-eqb}
@@ -18,7 +18,6 @@ use Rattle.sock_card.proofs.Most.{rank_most}
 use Rattle.turn_table.specs.declared.note.Placed.{Placed}
 use Rattle.bind_buckets.specs.BindHash.{untouched}
 use Rattle.bind_buckets.specs.Journal.{Standing}
-use Rattle.bind_buckets.specs.OwnerStep.{members_at}
 use Rattle.bind_buckets.specs.Turned.{standing_by}
 use Rattle.bind_buckets.specs.declared.request.Entry.{Entry}
 use Rattle.chain_book.specs.declared.book.PacketAnswer.{PacketAnswer}
@@ -44,7 +43,7 @@ use Rattle.shared_demux.specs.Chosen.{group_as, group_in, Chosen, ChosenBy, IsLi
 use Rattle.shared_demux.specs.Concludes.{AfterFull, AfterListener, ByOrder, whole_to}
 use Rattle.shared_finds.specs.Finds.{InOrder, card_rank}
 use Rattle.shared_finds.specs.Homes.{full_home}
-use Rattle.shared_ops.specs.Groups.{list_by}
+use Rattle.shared_ops.specs.Groups.{list_by, words_in}
 use Rattle.shared_slots.specs.declared.holds.Held.{Held}
 use Rattle.shared_sockets.specs.Alone.{chains_of}
 use Rattle.table_model.specs.Goes.{tables_by}
@@ -65,7 +64,7 @@ use Rattle.script_run.specs.Looks.{card_of, IsTold}
 use Rattle.list_words.proofs.Items.{In, count_in}
 use Rattle.script_run.proofs.CardsOf.{cards, no_group, some_group, HasNumber}
 use Rattle.script_run.proofs.CardsBest.{top, look_best, look_alone, look_none}
-use Rattle.script_run.proofs.LooksGroup.{Member, words, are_members, some_words, some_pick, word, member_there, member_is, member_like}
+use Rattle.script_run.proofs.LooksGroup.{Member, words, are_members, some_words, some_pick, word, taken, word_slot, word_name, member_there, member_is, member_like}
 use Rattle.script_run.proofs.Standing.{WasHashed, was_hashed, stands_in, all_below, one_up, told_rank}
 
 -- Ranks and groups
@@ -172,7 +171,7 @@ abbrev the_card : Card → PacketAnswer → Card
 the_card other (answers.Found card) = card
 the_card other _ = other
 
-module _ (m : Sat) (now : IsNow m.0) (clock : ℕ) (whole : WholeBook m.0 clock) (layout : Layout) (laid : m.0.layout ≡ layout) (next count : ℕ) (given : List (Placed Entry)) (p : GroupPasses) (sole : IsSole p) (many : ℕ) (many_is : many ≡ 8 * count) (listed : (group : ℕ) → group < many → published p group ≡ list_by given group)
+module _ (m : Sat) (now : IsNow m.0) (clock : ℕ) (whole : WholeBook m.0 clock) (layout : Layout) (laid : m.0.layout ≡ layout) (fits : layout.shape.slots < 2 ^ 32) (next count : ℕ) (given : List (Placed Entry)) (p : GroupPasses) (sole : IsSole p) (many : ℕ) (many_is : many ≡ 8 * count) (listed : (group : ℕ) → group < many → published p group ≡ list_by given group)
     (flat : Flat) (packet : Packet) (shape : IsShape flat.header) (sound : IsSound flat) (mean : TablesMean (tables_by count given (chains_of layout next m.0.book.closed)) flat) where
   abbrev t : Tables
   t = tables_by count given (chains_of layout next m.0.book.closed)
@@ -202,7 +201,7 @@ module _ (m : Sat) (now : IsNow m.0) (clock : ℕ) (whole : WholeBook m.0 clock)
 
     published_is : published p n ≡ list
     published_is =
-        listed n low ∙ ap (λ (s : Standing). members_at s.held (n % 8)) (sym (get_or-map-range_with_len (standing_by given) 0 count (n / 8) (n / 8) untouched (omega (arith, inside, buckets)) (omega arith)))
+        listed n low ∙ ap (λ (s : Standing). words_in s.held n) (sym (get_or-map-range_with_len (standing_by given) 0 count (n / 8) (n / 8) untouched (omega (arith, inside, buckets)) (omega arith)))
 
     picked_is : (choice : Option Choice) → Picked p n hash choice → choice ≡ pick list hash
     picked_is choice h =
@@ -230,73 +229,83 @@ module _ (m : Sat) (now : IsNow m.0) (clock : ℕ) (whole : WholeBook m.0 clock)
       ws = list n low
 
       -- of the best itself
-      module _ (itself : card ≡ best) where
-        number : HasNumber (group_of card.name flat.groups) n
-        number = some_group flat sound shape.bind many many_bind card n within (ap (λ (c : Card). group_in c many) itself ∙ is)
+      number : card ≡ best → HasNumber (group_of card.name flat.groups) n
+      number itself = some_group flat sound shape.bind many many_bind card n within (ap (λ (c : Card). group_in c many) itself ∙ is)
 
-        some_ws : 1 ≤ length ws
-        some_ws = some_words t flat shape sound mean n (inside n low) card number
+      has_words : card ≡ best → 1 ≤ length ws
+      has_words itself = some_words t flat shape sound mean n (inside n low) card (number itself)
 
-        abbrev m' : ℕ
-        m' = word t flat shape sound mean n (inside n low) packet layout.seed some_ws
+      -- of the member that the hash chooses
+      module _ (some_ws : 1 ≤ length ws) where
+        abbrev chosen_word : ℕ
+        chosen_word = word t flat shape sound mean n (inside n low) packet layout.seed some_ws
 
-        there : Member t flat shape sound mean m'
+        there : Member t flat shape sound mean (taken t flat shape sound mean n (inside n low) packet layout.seed some_ws)
         there = member_there t flat shape sound mean n (inside n low) packet layout.seed some_ws
 
         was : WasHashed m.0 now clock whole layout next there.row there.hashed
         was = was_hashed m.0 now clock whole layout next there.row there.hashed there.there
 
-        slot_is : was.hash.slot ≡ slot_of m'
-        slot_is = was.slot ∙ there.slot
-
-        inside_slots : slot_of m' < layout.shape.slots
-        inside_slots =
+        inside_there : there.hashed.slot < layout.shape.slots
+        inside_there =
             let low = slot_low t.chains.rows t.chains.slots.used there.row there.hashed there.there (mean.chains.alone there.hashed.slot) in
-            omega (arith, low, there.slot, length-map-range_with_len (used_in m.0.book.closed) 0 layout.shape.slots)
+            omega (arith, low, length-map-range_with_len (used_in m.0.book.closed) 0 layout.shape.slots)
 
-        not_gone : IsGone k.0 (slot_of m') → ⊥
+        slot_is : was.hash.slot ≡ slot_of chosen_word
+        unfolding there
+        slot_is =
+            let small : there.hashed.slot + 1 < 2 ^ 32 = omega (arith, inside_there, fits) in
+            was.slot ∙ sym (word_slot t flat shape sound mean n (inside n low) packet layout.seed some_ws small)
+
+        inside_slots : slot_of chosen_word < layout.shape.slots
+        inside_slots = subst (λ k. k < layout.shape.slots) (sym was.slot ∙ slot_is) inside_there
+
+        not_gone : IsGone k.0 (slot_of chosen_word) → ⊥
         not_gone gone =
             let e = gone (same.parts ∙ now.bare.0.all) (ap (λ (q : Part). q.book.opened) same.part ∙ now.idle) was.hash (subst (λ (q : Part). InBook (q ∷ []) was.hash) (sym same.part) was.there) was.is-hash slot_is in
             was.up e.0 (subst (λ (q : Part). Ends (q ∷ []) e.0 was.hash) same.part e.1)
 
-        like : (other : Card) → SlotStands k.0 (slot_of m') (words_of (packed other)) → other.name < 2 ^ 32 → IsLike packet best m' other
-        unfolding there
-        like other st named =
+        -- the card that stands in its slot is its own, since a slot is one card's alone
+        own_card : (other : Card) → SlotStands k.0 (slot_of chosen_word) (words_of (packed other)) → unpacked (packed other) ≡ there.hashed.card
+        own_card other st =
             let one : st.hash ≡ was.hash = one_up m.0 now clock whole st.hash was.hash (subst (λ (q : Part). InBook (q ∷ []) st.hash) same.part st.there) was.there st.is-hash was.is-hash (st.slot-is ∙ sym slot_is)
             (λ u e. st.stands u (subst (λ (q : Part). Ends (q ∷ []) u st.hash) (sym same.part) e)) was.up in
-            let card_is : unpacked (packed other) ≡ there.hashed.card = ap card_from (sym st.card-is ∙ ap (λ (c : Change). c.card) one) ∙ was.card in
-            let cut : other.name % 2 ^ 32 ≡ there.hashed.card.name = ap (λ (c : Card). c.name) card_is in (
-              omega (arith, cut, named, there.name),
+            ap card_from (sym st.card-is ∙ ap (λ (c : Change). c.card) one) ∙ was.card
+
+        like : card ≡ best → (other : Card) → SlotStands k.0 (slot_of chosen_word) (words_of (packed other)) → IsLike packet best chosen_word other
+        unfolding there
+        like itself other st =
+            let card_is = own_card other st in (
+              ap (λ (c : Card). c.name % 2 ^ 32) card_is ∙ sym (word_name t flat shape sound mean n (inside n low) packet layout.seed some_ws),
               words_rank packet (words_of (packed other))
                   ∙ (ap (λ (c : Card). rank c packet) card_is
-                  ∙ (member_like t flat shape sound mean n (inside n low) packet layout.seed some_ws card within number
+                  ∙ (member_like t flat shape sound mean n (inside n low) packet layout.seed some_ws card within (number itself)
                   ∙ (sym rank_is ∙ ap (card_rank packet) itself))),
             )
 
-      module _ (some_ws : 1 ≤ length ws) (n' : Sat) where
-        abbrev chosen_word : ℕ
-        chosen_word = word t flat shape sound mean n (inside n low) packet layout.seed some_ws
+        standing : IsAlone k.0 k.0.seen
+        standing = record {
+          parts = same.parts ∙ now.bare.0.all;
+          closed = ap (λ (q : Part). q.book.opened) same.part ∙ now.idle;
+          before = λ i c e. omega (arith, later, now.recent i c (ap (λ (q : Part). get_elem? q.book.closed i) (sym same.part) ∙ e));
+        }
 
-        by_chosen : Chosen layout.shape.slots packet k best chosen_word card n' → Some card ≡ looked
-        by_chosen (inl h) = absurd (omega (arith, inside_slots h.1, h.0))
-        by_chosen (inr (inl h)) = absurd (not_gone h.1 h.3)
-        by_chosen (inr (inr h)) = elim h.1.3 [
-          | inl z ↦
-              let name : card.name ≡ chosen_word % 2 ^ 32 = ap (λ (c : Card). c.name) z.1 ∙ z.0.0 in
-              let some : 1 ≤ rank card packet = omega (arith, matches, z.0.1, ap (card_rank packet) z.1, rank_is) in
-              sym (look_best flat sound packet layout.seed card within (top flat sound packet card within some below)
-              ∙ member_is t flat shape sound mean n (inside n low) packet layout.seed some_ws card within name)
-          | inr z ↦
-              let alone : IsAlone k.0 k.0.seen = record {
-                parts = same.parts ∙ now.bare.0.all;
-                closed = ap (λ (q : Part). q.book.opened) same.part ∙ now.idle;
-                before = λ i c e. omega (arith, later, now.recent i c (ap (λ (q : Part). get_elem? q.book.closed i) (sym same.part) ∙ e));
-              } in
-              absurd (z.0 (like z.1 h.1.0 (h.1.2 k.0.seen alone (omega arith)) h.1.4))
-        ]
+        module _ (n' : Sat) where
+          by_chosen : Chosen layout.shape.slots packet k best chosen_word card n' → Some card ≡ looked
+          unfolding there
+          by_chosen (inl h) = absurd (omega (arith, inside_slots, h.0))
+          by_chosen (inr (inl h)) = absurd (not_gone h.3)
+          by_chosen (inr (inr h)) = elim h.1.3 [
+            | inl z ↦
+                let is : card ≡ there.hashed.card = sym told ∙ (ap (λ (c : Card). unpacked (packed c)) z.1 ∙ own_card h.1.0 (h.1.2 k.0.seen standing (omega arith))) in
+                let some : 1 ≤ rank card packet = omega (arith, matches, z.0.1, ap (card_rank packet) z.1, rank_is) in
+                sym (look_best flat sound packet layout.seed card within (top flat sound packet card within some below)
+                ∙ member_is t flat shape sound mean n (inside n low) packet layout.seed some_ws card within (ap (λ (c : Card). c.name) is))
+            | inr z ↦ absurd (z.0 (like z.1 h.1.0 (h.1.2 k.0.seen standing (omega arith))))
+          ]
 
       by_choice : (choice : Option Choice) (n' : Sat) → choice ≡ pick ws hash → ChosenBy layout.shape.slots packet k best choice card n' → Some card ≡ looked
-      by_choice None n' e h = absurd (let z : None ≡ Some _ = e ∙ some_pick ws hash (some_ws h.0) in cc)
+      by_choice None n' e h = absurd (let z : None ≡ Some _ = e ∙ some_pick ws hash (has_words h.0) in cc)
       by_choice (Some c) n' e h =
           let at = picked_at ws hash c e in
           by_chosen at.0 n' (subst (λ w. Chosen layout.shape.slots packet k best w card n') at.1 h)

@@ -1,5 +1,5 @@
 -- Tables that nobody has asked anything, and their worker.
-use Rattle.std.proofs.Common.{◌≡◌, ℕ, zero, suc, ◌+◌, ◌%◌, false, List, [], ◌∷◌, get_or, map, replicate, refl, sym}
+use Rattle.std.proofs.Common.{◌≡◌, ℕ, zero, suc, ◌+◌, ◌%◌, false, List, [], ◌∷◌, get_or, map, replicate, refl, sym, ap}
 use Rattle.std.specs.List.{range_with_len}
 use mathlib.Core.Option.{some, some-ne-none}
 use lib.ListN.{get_elem?}
@@ -14,7 +14,7 @@ use Rattle.table_rule.specs.declared.view.Change.{Change}
 use Rattle.table_rule.specs.declared.view.Layout.{Layout}
 use Rattle.shared_sockets.specs.Alone.{chains_of}
 use Rattle.shared_sockets.specs.Rows.{row_of}
-use Rattle.shared_ops.specs.Groups.{list_by}
+use Rattle.shared_ops.specs.Groups.{list_by, shown}
 use Rattle.table_model.specs.Goes.{tables_by}
 use Rattle.table_model.specs.Tables.{new_tables}
 
@@ -54,4 +54,4 @@ no_members (suc n) (suc place) = no_members n place
 
 -- no bucket has a list that nobody has asked for
 pub none_listed : (group : ℕ) → [] ≡ list_by [] group
-none_listed group = sym (no_members 8 (group % 8))
+none_listed group = sym (ap (map shown) (no_members 8 (group % 8)))

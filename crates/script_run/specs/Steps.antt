@@ -31,7 +31,7 @@ commands_after sections = 2 ^ 24 * (64 - sections)
 
 -- no bucket was asked about a name of a section from that number on
 abbrev pub AreUnspoken : ℕ → Worker → Type 0
-AreUnspoken number w = (name : ℕ) → number * 2 ^ 24 ≤ name → IsUnspoken (turned w) name
+AreUnspoken number w = (name : ℕ) → number * 2 ^ 56 ≤ name → IsUnspoken (turned w) name
 
 -- a section's machine at a worker that is alone, between two commands
 pub record IsRunning (t : Shared) (k : Kept) (w : Worker) : Type 0 where

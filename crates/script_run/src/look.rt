@@ -34,6 +34,7 @@ pub(crate) fn look(tables: &Tables, worker: &mut Worker, packet: &Packet) -> Opt
 {
     // As the clock is loaded the pass learns that its own changes are all there are, and which of them ends which.
     tables.chains.now(&mut worker.chain);
+    tables.chains.chains.slots_are_few();
     let lookups = Lookups {
         chains: &tables.chains.chains,
         groups: &tables.groups,

@@ -70,7 +70,7 @@ fn step<R: Wait>(
     command: &KeptCommand,
 ) -> Result<Reply, AllocError>
     requires one { takes_items command.now ≡ false }
-    requires room { length machine.old.own.labels + 1 < 2 ^ 24 }
+    requires room { length machine.old.own.labels + 1 < 2 ^ 56 }
     requires running { IsRunning tables.now machine.old worker.old }
     requires enough { HasEnough machine.old worker.old }
     ensures running { OnOk result (IsRunning tables.now machine.new worker.new) }
@@ -100,7 +100,7 @@ fn run_command<'a, R: Wait>(
     command: &KeptCommand,
     items: &'a [Item],
 ) -> Result<&'a [Item], AllocError>
-    requires room { length machine.old.own.labels + 1 < 2 ^ 24 }
+    requires room { length machine.old.own.labels + 1 < 2 ^ 56 }
     requires running { IsRunning tables.now machine.old worker.old }
     requires enough { HasEnough machine.old worker.old }
     ensures running { OnOk result (IsRunning tables.now machine.new worker.new) }

@@ -39,7 +39,7 @@ pub record Giving (t : Tables) (k : Kept) (header : Header) (l l1 : Labelled) (m
   where
     pub before : Before k header l moment o waits
     pub section : IsSection t k w
-    pub room : length k.own.labels + 1 < 2 ^ 24
+    pub room : length k.own.labels + 1 < 2 ^ 56
     pub count : length l.places ≡ length l.labels
     pub given : l1 ≡ with_given l label
 
@@ -66,13 +66,13 @@ module _ {t : Tables} {k : Kept} {header : Header} {l l1 : Labelled} {moment : �
   pub stand : Stand t roll (turned w) (chained t w)
   stand = let s = was in record { all = s.stand; unspoken = s.unspoken }
 
-  has_room : length l.labels + 1 < 2 ^ 24
-  has_room = subst (λ (x : Kept). length x.own.labels + 1 < 2 ^ 24) (sym g.before.view) g.room
+  has_room : length l.labels + 1 < 2 ^ 56
+  has_room = subst (λ (x : Kept). length x.own.labels + 1 < 2 ^ 56) (sym g.before.view) g.room
 
   pub ungiven : IsUngiven roll name
   ungiven = next_ungiven own
 
-  pub its_section : name / 2 ^ 24 ≡ l.number
+  pub its_section : name / 2 ^ 56 ≡ l.number
   its_section = section_in_name l.number (length l.labels) has_room
 
   pub later : name < next_name more
@@ -107,7 +107,7 @@ module _ {t : Tables} {k : Kept} {header : Header} {l l1 : Labelled} {moment : �
       let m = mine_of x in
       let is : name ≡ m.owner.name = sym named in
       let un : IsUngiven roll m.owner.name = subst (IsUngiven roll) is ungiven in
-      let section_is : m.owner.name / 2 ^ 24 ≡ l.number = subst (λ (n : ℕ). n / 2 ^ 24 ≡ l.number) is its_section in
+      let section_is : m.owner.name / 2 ^ 56 ≡ l.number = subst (λ (n : ℕ). n / 2 ^ 56 ≡ l.number) is its_section in
       let before : m.owner.name < next_name more = subst (λ (n : ℕ). n < next_name more) is later in
       record {
         given = record { section = section_is; before = before };

@@ -36,7 +36,7 @@ pub new_name : (name : ℕ) (v : View) → IsUnspoken v name → IsNew name v
 new_name name v none = λ place. each_given (Misses name) v.caller place v.mine none
 
 -- a new socket stands
-pub newborn : (t : Tables) (r : Roll) (v : View) (c : Side) (next : ℕ) (m : Mine) → Tells v.caller r.number → m.owner.name / 2 ^ 24 ≡ r.number → m.owner.name < next → IsUnspoken v m.owner.name → m.owner.state ≡ states.Unbound
+pub newborn : (t : Tables) (r : Roll) (v : View) (c : Side) (next : ℕ) (m : Mine) → Tells v.caller r.number → m.owner.name / 2 ^ 56 ≡ r.number → m.owner.name < next → IsUnspoken v m.owner.name → m.owner.state ≡ states.Unbound
     → IsOpen t (with_next r next (r.sockets ++ m ∷ [])) v c m
 newborn t r v c next m tells section more none state =
     let name = m.owner.name in
@@ -84,7 +84,7 @@ module _ (mine : ℕ → Bool) (name : ℕ) where
 
 -- rests on its listener's names and its own, among these sockets and its own
 pub child_family : (r : Roll) (v w : View) (new : List (Placed Entry)) (next : ℕ) (ms : List Mine) (l m : Mine) (f : Family r l.owner.name v) → Gave v w new
-    → m.owner.name / 2 ^ 24 ≡ r.number → IsUngiven r m.owner.name → m.owner.name < next → IsUnspoken v m.owner.name → Asks (IsBirth l.owner.name m.owner.name) new
+    → m.owner.name / 2 ^ 56 ≡ r.number → IsUngiven r m.owner.name → m.owner.name < next → IsUnspoken v m.owner.name → Asks (IsBirth l.owner.name m.owner.name) new
     → l.owner.state ≡ states.Listening → Each (IsApart f.mine l.owner.name) ms → Each (λ (x : Mine). x.owner.name ≡ l.owner.name → x ≡ l) ms → Family (with_next r next (ms ++ m ∷ [])) m.owner.name w
 child_family r v w new next ms l m f g section un more none about listens apart only =
     let name = m.owner.name in

@@ -133,7 +133,7 @@ open_named l moment offsets waits label h = named_at l (place_in l.labels label)
 -- The socket of a name
 
 -- no place has a name before those of the section's labels
-pub none_before : (l : Labelled) (name : ℕ) → (l.number * 2 ^ 24 + 1 ≤ name → ⊥) → HaveNames (name_at l.number) l.places → find (is_named name) (those l.places) ≡ None
+pub none_before : (l : Labelled) (name : ℕ) → (l.number * 2 ^ 56 + 1 ≤ name → ⊥) → HaveNames (name_at l.number) l.places → find (is_named name) (those l.places) ≡ None
 none_before l name before h =
     find_none name (those l.places) (others (name_at l.number) name (λ i same. before (omega (arith, same))) l.places h)
 

@@ -14,7 +14,7 @@ use Rattle.section_machine.specs.Standing.{AreOf, IsSection, IsUnspoken, Tells}
 abbrev pub SectionComesNext : Type 0
 SectionComesNext =
     (t : Tables) (header : Header) (number : ℕ) (w : Worker) → AreOf header t → IsReady t w → number ≤ 64
-    → Tells (words.caller w.turns) number → ((name : ℕ) → number * 2 ^ 24 ≤ name → IsUnspoken (turned w) name)
+    → Tells (words.caller w.turns) number → ((name : ℕ) → number * 2 ^ 56 ≤ name → IsUnspoken (turned w) name)
     → IsSection t (kept header (new_own header number)) w
 
 -- and so one that asked no bucket yet

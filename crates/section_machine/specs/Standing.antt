@@ -31,7 +31,7 @@ roll_of own = record { number = own.number; next = next_name own; sockets = own.
 
 -- a label of the section stood for that name
 pub record IsGiven (r : Roll) (name : ℕ) : Type 0 where
-  pub section : name / 2 ^ 24 ≡ r.number
+  pub section : name / 2 ^ 56 ≡ r.number
   pub before : name < r.next
 
 -- no label of this section, or of a later one, has stood for it so far

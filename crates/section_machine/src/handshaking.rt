@@ -35,7 +35,7 @@ impl Machine {
     ) -> Result<Reply, Cause>
         requires section { IsSection tables.now self.old worker.old }
         requires enough { HasEnough self.old worker.old }
-        requires room { length self.old.own.labels + 1 < 2 ^ 24 }
+        requires room { length self.old.own.labels + 1 < 2 ^ 56 }
         ensures carried { IfOk result (Carries tables.now self.old
             (commands.syn_command self.old.header (own.with_label self.old.own label) (own.next_name self.old.own)
             (open_socket self.old.own listener.now) from at) self.new worker.old worker.new) }
@@ -80,7 +80,7 @@ impl Machine {
     ) -> Result<Reply, Cause>
         requires section { IsSection tables.now self.old worker.old }
         requires enough { HasEnough self.old worker.old }
-        requires room { length self.old.own.labels + 1 < 2 ^ 24 }
+        requires room { length self.old.own.labels + 1 < 2 ^ 56 }
         ensures carried { IfOk result (Carries tables.now self.old
             (commands.ack_command self.old.header (own.with_label self.old.own label) (own.next_name self.old.own)
             (open_socket self.old.own request.now)) self.new worker.old worker.new) }

@@ -83,15 +83,15 @@ impl Labels {
     }
 
     /// The name that the next label will stand for.
-    pub fn next_name(&self) -> u32
+    pub fn next_name(&self) -> u64
         ensures { result ≡ sections.name_at self.now.number (length self.now.labels) }
     {
-        self.number * 0x100_0000 + self.given.len() as u32 + 1
+        u64::from(self.number) * 0x100_0000_0000_0000 + self.given.len() as u64 + 1
     }
 
     /// Gives a label, which names no open socket so far. An `Err` changes nothing.
     pub fn give(&mut self, label: Label) -> Result<(), AllocError>
-        requires { length self.old.labels + 1 < 2 ^ 24 }
+        requires { length self.old.labels + 1 < 2 ^ 56 }
         ensures given { OnOk result (self.new ≡ spec.with_given self.old label) }
         ensures err { OnErr result (self.new ≡ self.old) }
     {
@@ -123,12 +123,12 @@ impl Labels {
     }
 
     /// The place of the label that stands for a name.
-    fn place_named(&self, name: u32) -> Option<usize>
+    fn place_named(&self, name: u64) -> Option<usize>
         ensures within { IfSome result (λ place. place < length self.now.labels) }
         ensures socket { option_and_then (at_place self.now.places) result
             ≡ find (is_named name) (those self.now.places) }
     {
-        let first = self.number * 0x100_0000 + 1;
+        let first = u64::from(self.number) * 0x100_0000_0000_0000 + 1;
         let place = name.checked_sub(first)? as usize;
         if place < self.len() {
             Some(place)
@@ -138,7 +138,7 @@ impl Labels {
     }
 
     /// The open socket of a name.
-    pub(crate) fn named(&self, name: u32) -> Option<&Sock>
+    pub(crate) fn named(&self, name: u64) -> Option<&Sock>
         ensures socket { option_map (λ (s : Bor Sock). mine_of s.now) result
             ≡ find (is_named name) (those self.now.places) }
         ensures state { IfSome result (λ s. FitsState s.now) }

@@ -1,7 +1,7 @@
 //! One section's own: its labels with their sockets, its moment, where its searches begin, and the TIME_WAITs that it
 //! left; its commands over tables that threads share.
 
-ghost use Rattle.std.specs.Prelude.{◌≡◌, true, false, ◌≤◌, ◌<◌, ◌+◌, ◌^◌, ◌%◌, ◌==◌, ◌&&◌, length, IfOk, IfErr, OnOk, OnErr};
+ghost use Rattle.std.specs.Prelude.{◌≡◌, true, false, ◌≤◌, ◌<◌, ◌+◌, ◌^◌, ◌%◌, ◌==◌, ◌&&◌, length, is_some, IfOk, IfErr, OnErr};
 ghost use Rattle.turn_table.specs.Passes as words;
 ghost use Rattle.flat_list.specs.Ports.{size};
 ghost use Rattle.flat_list.specs.declared.command.Command.TheVariants as variants;
@@ -128,6 +128,20 @@ impl Machine {
         self.labels.len()
     }
 
+    /// How many TIME_WAITs it left that it hasn't reaped.
+    pub fn waiting(&self) -> usize
+        ensures { result ≡ length self.now.own.waits }
+    {
+        self.waits.len()
+    }
+
+    /// Whether a name is that of an open socket.
+    pub fn is_open(&self, name: u64) -> bool
+        ensures { result ≡ is_some (own.open_named self.now.own name) }
+    {
+        self.labels.named(name).is_some()
+    }
+
     /// Comes to a moment, in seconds, unless it lies behind.
     fn at(&mut self, tables: &Tables, worker: &Worker, moment: u32) -> Reply
         requires section { IsSection tables.now self.old worker.now }
@@ -153,7 +167,7 @@ impl Machine {
         options: Options,
     ) -> Result<Reply, Cause>
         requires section { IsSection tables.now self.old worker.now }
-        requires room { length self.old.own.labels + 1 < 2 ^ 24 }
+        requires room { length self.old.own.labels + 1 < 2 ^ 56 }
         ensures carried { IfOk result (Carries tables.now self.old (commands.socket_command self.old.own label options)
             self.new worker.now worker.now) }
         ensures left { OnErr result (self.new ≡ self.old) }
@@ -266,7 +280,7 @@ impl Machine {
     ) -> Result<Reply, Cause>
         requires section { IsSection tables.now self.old worker.old }
         requires look { is_lookup command.now ≡ false }
-        requires room { length self.old.own.labels + 1 < 2 ^ 24 }
+        requires room { length self.old.own.labels + 1 < 2 ^ 56 }
         requires enough { HasEnough self.old worker.old }
         ensures carried { IfOk result (Carries tables.now self.old
             (commands.plan self.old.header self.old.own command.now) self.new worker.old worker.new) }
@@ -336,7 +350,7 @@ impl Machine {
     ) -> Result<Reply, Cause>
         requires section { IsSection tables.now self.old worker.old }
         requires look { is_lookup command.now ≡ false }
-        requires room { length self.old.own.labels + 1 < 2 ^ 24 }
+        requires room { length self.old.own.labels + 1 < 2 ^ 56 }
         requires enough { HasEnough self.old worker.old }
         ensures section { IsSection tables.now self.new worker.new }
         ensures did { IfOk result (Did self.old.header self.old.own command.now
@@ -370,9 +384,9 @@ impl Machine {
     ) -> Result<Reply, AllocError>
         requires section { IsSection tables.now self.old worker.old }
         requires look { is_lookup command.now ≡ false }
-        requires room { length self.old.own.labels + 1 < 2 ^ 24 }
+        requires room { length self.old.own.labels + 1 < 2 ^ 56 }
         requires enough { HasEnough self.old worker.old }
-        ensures section { OnOk result (IsSection tables.now self.new worker.new) }
+        ensures section { IsSection tables.now self.new worker.new }
         ensures did { IfOk result (Did self.old.header self.old.own command.now (turned worker.old) (turned worker.new)
             (chained tables.now worker.old) (chained tables.now worker.new) self.new.own) }
         ensures left { OnErr result (LeftOff self.old.header self.old.own command.now (turned worker.old)

@@ -95,6 +95,13 @@ impl Waits {
         }
     }
 
+    /// How many they are.
+    pub fn len(&self) -> usize
+        ensures { result ≡ length self.now }
+    {
+        self.items.len()
+    }
+
     /// Closes a socket at that moment, and keeps the TIME_WAIT that it leaves. Where it is left off the socket comes
     /// back as it was, and nothing has changed.
     pub(crate) fn close<P: Patience>(

@@ -1,16 +1,17 @@
 -- A caller after one command more.
-use Rattle.std.proofs.Common.{◌≡◌, ℕ, suc, ◌+◌, ◌-◌, ◌<◌, ◌^◌, true, List, [], ◌∷◌, ◌++◌, length, nat_lt, Result, Ok, Err, inl, inr, ◌⊎◌, refl, sym, ap, ◌∙◌, subst, arith, append-nil}
+use Rattle.std.proofs.Common.{◌≡◌, ℕ, suc, ◌+◌, ◌-◌, ◌*◌, ◌<◌, ◌≤◌, ◌^◌, true, List, [], ◌∷◌, ◌++◌, length, nat_lt, Result, Ok, Err, inl, inr, ◌⊎◌, refl, sym, ap, ◌∙◌, subst, arith, append-nil}
 use Rattle.list_words.specs.Lists.{Each}
 use Rattle.flat_calls.specs.Numbers.{label_of}
 use Rattle.flat_list.specs.declared.command.Command.{Command}
 use Rattle.flat_list.specs.declared.command.Command.TheVariants as commands
-use Rattle.section_machine.specs.Carried.{MayGoOn, Spends}
+use Rattle.section_machine.specs.Carried.{HasEnough, Spends}
 use Rattle.section_machine.specs.Sections.{Kept, GivesLabels, given_by}
 use Rattle.section_machine.specs.Standing.{IsSection}
-use Rattle.section_machine.proofs.Budgets.{go_on_next}
 use Rattle.shared_ops.specs.declared.tables.Tables.{Tables}
 use Rattle.shared_ops.specs.declared.tables.Worker.{Worker}
-use Rattle.shared_calls.specs.Callings.{IsCalling, calling}
+use Rattle.shared_ops.specs.Stands.{MayEnter}
+use Rattle.table_rule.specs.Passes.{known, drawn_by}
+use Rattle.shared_calls.specs.Callings.{IsCalling, HasEntries, HasStamps, calling}
 use Rattle.shared_calls.specs.Numbers.{IsNext, labels_to}
 use Rattle.shared_calls.proofs.Numbers.{length_labels}
 
@@ -34,9 +35,9 @@ given_one commands.Dump = inl refl
 -- the labels are numbers still, with room for one more
 record Labels (labels : List (List ℕ)) : Type 0 where
   pub numbered : labels ≡ labels_to (length labels)
-  pub few : length labels + 1 < 2 ^ 24
+  pub few : length labels + 1 < 2 ^ 56
 
-module _ (command : Command) (old : List (List ℕ)) (were : Labels old) (room : nat_lt 0 (length (given_by command)) ≡ true → length old + 2 < 2 ^ 24) (next : IsNext (length old + 1) command) where
+module _ (command : Command) (old : List (List ℕ)) (were : Labels old) (room : nat_lt 0 (length (given_by command)) ≡ true → length old + 2 < 2 ^ 56) (next : IsNext (length old + 1) command) where
   stay : (new : List (List ℕ)) → new ≡ old → Labels new
   stay new same = subst Labels (sym same) were
 
@@ -54,15 +55,23 @@ module _ (command : Command) (old : List (List ℕ)) (were : Labels old) (room :
   labels_after new (Err e) (inl gives) = grow new gives (given_one command)
   labels_after new (Err e) (inr same) = stay new same
 
+-- what a command takes
+pub enough : (t : Tables) (k : Kept) (w : Worker) (tag : ℕ) (command : Command) → IsCalling (calling t k w tag) → HasEntries (calling t k w tag) command → HasStamps (calling t k w tag) command → HasEnough k w
+enough t k w tag command c entries stamps =
+    let part = c.part in
+    record { enters = omega (arith, entries); draws = omega (arith, part, stamps) }
+
 -- the caller may go on
-pub goes_on : {X E : Type 0} (t : Tables) (k l : Kept) (w u : Worker) (n : ℕ) (command : Command) (r : Result X E) → IsCalling (calling t k w n) → (n ≡ 0 → ⊥) → (nat_lt 0 (length (given_by command)) ≡ true → length k.own.labels + 2 < 2 ^ 24)
-    → IsNext (length k.own.labels + 1) command → IsSection t l u → Spends k l w u → GivesLabels command k.own.labels l.own.labels r → IsCalling (calling t l u (n - 1))
-goes_on t k l w u n command r c some room next section spends gives =
+pub goes_on : {X E : Type 0} (t : Tables) (k l : Kept) (w u : Worker) (tag : ℕ) (command : Command) (r : Result X E) → IsCalling (calling t k w tag) → HasStamps (calling t k w tag) command
+    → (nat_lt 0 (length (given_by command)) ≡ true → length k.own.labels + 2 < 2 ^ 56) → IsNext (length k.own.labels + 1) command → IsSection t l u → Spends k l w u → GivesLabels command k.own.labels l.own.labels r
+    → IsCalling (calling t l u tag)
+goes_on t k l w u tag command r c stamps room next section spends gives =
     let labels = labels_after command k.own.labels (record { numbered = c.numbered; few = c.few }) room next l.own.labels r gives in
-    let left : n ≡ n - 1 + 1 = omega (arith, some) in
+    let part = c.part in
+    let drawn = spends.drawn 1 (omega (arith, part, stamps)) in
     record {
       section = section;
       numbered = labels.numbered;
       few = labels.few;
-      may = go_on_next (n - 1) k l w u (subst (λ (m : ℕ). MayGoOn m k w) left c.may) spends;
+      part = omega (arith, drawn);
     }

@@ -3,12 +3,12 @@ use Rattle.std.proofs.Common.{◌≡◌, ℕ, zero, suc, ◌+◌, ◌-◌, ◌*�
 use mathlib.Core.Logic.{dite}
 use native.Mathlib.Decide.{ℕ_discrete}
 use Rattle.std.specs.List.{position, position_or_len}
-use Rattle.std.specs.Int.{w32, from_be_bytes}
+use Rattle.std.specs.Int.{w64, from_be_bytes}
 use Rattle.std.specs.Option.{option_map}
 use Rattle.std.specs.Str.{bytes_eq}
 use Rattle.std.proofs.lemmas.Bool.{eq-eqb, eqb-true, false_from_ne_true}
 use Rattle.std.proofs.lemmas.Bool.Decides.{Decides-ltb}
-use Rattle.std.proofs.lemmas.Nat.{from_be_bytes-to_be_bytes_4}
+use Rattle.std.proofs.lemmas.Nat.{from_be_bytes-to_be_bytes_8}
 use Rattle.std.proofs.lemmas.Slice.Eq.{bytes_eq-Decides}
 use Rattle.std.proofs.lemmas.List.Folds.{position_or_len_push}
 use Rattle.std.proofs.Math.Dec.{eqb}
@@ -18,8 +18,8 @@ use Rattle.table_model.specs.Own.{open_named}
 use Rattle.shared_calls.specs.Numbers.{NumbersAreNames, labels_to}
 
 -- two numbers have two labels
-label_inj : (a b : ℕ) → a < 2 ^ 32 → b < 2 ^ 32 → label_of a ≡ label_of b → a ≡ b
-label_inj a b la lb same = sym (from_be_bytes-to_be_bytes_4 a la) ∙ ap (from_be_bytes w32) same ∙ from_be_bytes-to_be_bytes_4 b lb
+label_inj : (a b : ℕ) → a < 2 ^ 64 → b < 2 ^ 64 → label_of a ≡ label_of b → a ≡ b
+label_inj a b la lb same = sym (from_be_bytes-to_be_bytes_8 a la) ∙ ap (from_be_bytes w64) same ∙ from_be_bytes-to_be_bytes_8 b lb
 
 length_push : (xs : List (List ℕ)) (x : List ℕ) → length (xs ++ x ∷ []) ≡ suc (length xs)
 length_push [] x = refl
@@ -36,7 +36,7 @@ not_at_end : (m n x y : ℕ) → (m ≡ n → ⊥) → cond (eqb m n) x y ≡ y
 not_at_end m n x y ne = ap (λ (b : Bool). cond b x y) (false_from_ne_true (eqb m n) (λ e. ne (eqb-true m n e)))
 
 -- where the label of k stands
-module _ (k : ℕ) (few : k < 2 ^ 32) where
+module _ (k : ℕ) (few : k < 2 ^ 64) where
   abbrev is_it : List ℕ → Bool
   is_it l = bytes_eq l (label_of k)
 
@@ -46,7 +46,7 @@ module _ (k : ℕ) (few : k < 2 ^ 32) where
   it_is : is_it (label_of k) ≡ true
   it_is = (bytes_eq-Decides (label_of k) (label_of k)).1 refl
 
-  another : (m : ℕ) → m < 2 ^ 32 → (m ≡ k → ⊥) → is_it (label_of m) ≡ false
+  another : (m : ℕ) → m < 2 ^ 64 → (m ≡ k → ⊥) → is_it (label_of m) ≡ false
   another m lm ne = false_from_ne_true (is_it (label_of m)) (λ e. ne (label_inj m k lm few ((bytes_eq-Decides (label_of m) (label_of k)).0 e)))
 
   -- among one label more
@@ -84,5 +84,5 @@ module _ (k : ℕ) (few : k < 2 ^ 32) where
 pub numbers_are_names : NumbersAreNames
 numbers_are_names own k numbered few some l =
     let p : position (λ x. bytes_eq x (label_of k)) own.labels ≡ Some (k - 1) = subst (λ (ls : List (List ℕ)). position (λ x. bytes_eq x (label_of k)) ls ≡ Some (k - 1)) (sym numbered) (place k (omega (arith, few, l)) (length own.labels) some l) in
-    let name : name_at own.number (k - 1) ≡ own.number * 2 ^ 24 + k = omega (arith, some) in
+    let name : name_at own.number (k - 1) ≡ own.number * 2 ^ 56 + k = omega (arith, some) in
     ap (λ (o : Option ℕ). option_and_then (open_named own) (option_map (name_at own.number) o)) p ∙ ap (open_named own) name

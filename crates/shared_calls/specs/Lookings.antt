@@ -15,14 +15,15 @@ use Rattle.table_rule.specs.Calls.{layout_of, me, view}
 use Rattle.table_rule.specs.Passes.{known}
 use Rattle.table_rule.specs.declared.view.Whole.{Whole}
 
--- the tables, and its passes of the chains and of the lists of groups
+-- the tables, its passes of the chains and of the lists of groups, and the tables' tag
 pub record Looking : Type 0 where
   pub tables : Tables
   pub chain : ChainPass
   pub groups : GroupPasses
+  pub tag : ℕ
 
-abbrev pub looking : Tables → ChainPass → GroupPasses → Looking
-looking t chain groups = record { tables = t; chain = chain; groups = groups }
+abbrev pub looking : Tables → ChainPass → GroupPasses → ℕ → Looking
+looking t chain groups tag = record { tables = t; chain = chain; groups = groups; tag = tag }
 
 -- they are passes of these tables, at rest between two lookups
 pub record IsLooking (l : Looking) : Type 0 where
@@ -46,6 +47,7 @@ LooksInOrder old new packet passes look =
 -- chains keeps: each of them is explained by what stood hashed, once all passes are taken in.
 pub record Looks (old new : Looking) (packet : Packet) (passes : ℕ) (look : PacketLook) : Type 0 where
   pub tables : new.tables ≡ old.tables
+  pub tag : new.tag ≡ old.tag
   pub fresh : (known old.chain.pass).seen ≤ look.t0
   pub span : look.t0 ≤ look.t1
   pub order : LooksInOrder old new packet passes look

@@ -19,8 +19,8 @@ IsNumbered own = own.labels ≡ labels_to (length own.labels)
 abbrev pub IsNext : ℕ → Command → Type 0
 IsNext next command = Each (λ label. label ≡ label_of next) (given_by command)
 
--- what a number names is the socket of the name that has it in its lower 24 bits, and the caller's number above them
+-- what a number names is the socket of the name that has it in its lower 56 bits, and the caller's number above them
 abbrev pub NumbersAreNames : Type 0
 NumbersAreNames =
-    (own : Own) (k : ℕ) → IsNumbered own → length own.labels < 2 ^ 24 → 1 ≤ k → k ≤ length own.labels
-    → open_socket own (label_of k) ≡ open_named own (own.number * 2 ^ 24 + k)
+    (own : Own) (k : ℕ) → IsNumbered own → length own.labels < 2 ^ 56 → 1 ≤ k → k ≤ length own.labels
+    → open_socket own (label_of k) ≡ open_named own (own.number * 2 ^ 56 + k)

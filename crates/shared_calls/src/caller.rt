@@ -1,10 +1,14 @@
 //! A caller: a section of the shared tables, by one command at a time.
 
-ghost use Rattle.std.specs.Prelude.{◌≡◌, ◌+◌, nat_lt, true, false, length};
+ghost use Rattle.std.specs.Prelude.{◌≡◌, ◌↔◌, ◌+◌, ◌*◌, ◌≤◌, ◌^◌, nat_lt, true, false, length, IsTrue};
 ghost use Rattle.table_model.specs.Means.{is_lookup};
 ghost use Rattle.section_machine.specs.Sections.{given_by};
+ghost use Rattle.shared_calls.specs.Callings as spec;
 ghost use Rattle.shared_calls.specs.Callings.{Called, IsNoWait};
 ghost use Rattle.shared_calls.specs.Numbers.{IsNext};
+ghost use Rattle.table_rule.specs.Passes.{drawn_by};
+ghost use Rattle.turn_table.specs.Passes.{IsPassOf};
+ghost use Rattle.shared_ops.specs.Stands.{MayEnter};
 
 use flat_calls::Outcome;
 use flat_list::Command;
@@ -14,19 +18,20 @@ use shared_ops::{Cause, Tables, Worker};
 use std::marker::Model;
 use std::sync::Arc;
 
-/// How many calls a caller replies to.
-pub const CALLS: u32 = 0x2000_0000;
-
 /// How many sockets a caller makes.
-pub const SOCKETS: usize = 0xFF_FFFE;
+pub const SOCKETS: usize = 0xFF_FFFF_FFFF_FFFE;
 
-/// A section of shared tables, with its worker, and how many calls it replies to yet.
+/// How many of its last entries, and of its last numbers of the clock, a caller keeps for calls that end sockets: for
+/// each of 2^24 slots more than a hundred.
+pub const KEPT_BACK: u64 = 0x1_0000_0000;
+
+/// A section of shared tables, with its worker.
 #[derive(Drop)]
 pub struct Caller {
     pub(crate) tables: Arc<Tables>,
     pub(crate) worker: Worker,
     pub(crate) machine: Machine,
-    pub(crate) left: u32,
+    pub(crate) tag: u64,
 }
 
 impl Model for Caller {
@@ -35,9 +40,9 @@ impl Model for Caller {
 
     ghost Value = { Calling };
 
-    ghost view = { λ c. calling (arc_value c.tables) c.machine c.worker c.left };
+    ghost view = { λ c. calling (arc_value c.tables) c.machine c.worker c.tag };
 
-    ghost invariant = { λ c. IsCalling (calling (arc_value c.tables) c.machine c.worker c.left) };
+    ghost invariant = { λ c. IsCalling (calling (arc_value c.tables) c.machine c.worker c.tag) };
 }
 
 /// The command makes a socket, and so gives a number.
@@ -50,19 +55,49 @@ fn gives_number(command: &Command) -> bool
     )
 }
 
+/// What the command leaves to those that end sockets.
+fn kept_back(command: &Command) -> u64
+    ensures { result ≡ spec.kept_back command.now }
+{
+    match command {
+        Command::Close { .. } | Command::Drop { .. } | Command::At { .. } | Command::Reap => 0,
+        _ => KEPT_BACK,
+    }
+}
+
+/// The worker can make entries for a command, for the reaping of the section's TIME_WAITs, and so many more.
+fn has_entries(tables: &Tables, worker: &Worker, machine: &Machine, more: u64) -> bool
+    requires { IsPassOf tables.now.buckets worker.now.turns }
+    ensures { IsTrue result ↔ MayEnter (65540 + length machine.now.own.waits + more) worker.now }
+{
+    let drawn = u128::from(worker.turns.drawn(&tables.buckets));
+    let waiting = machine.waiting() as u128;
+    drawn + 65_540 + waiting + u128::from(more) <= 0x1_0000_0000_0000
+}
+
+/// The worker has numbers of the clock for a command, for the reaping of the section's TIME_WAITs, and so many more.
+fn has_stamps(worker: &Worker, machine: &Machine, more: u64) -> bool
+    ensures { IsTrue result
+        ↔ (drawn_by worker.now.chain.pass + 7 + 2 * length machine.now.own.waits + more ≤ 2 ^ 48) }
+{
+    let drawn = u128::from(worker.chain.pass.drawn());
+    let waiting = machine.waiting() as u128;
+    drawn + 7 + 2 * waiting + u128::from(more) <= 0x1_0000_0000_0000
+}
+
 impl Caller {
-    /// Its number, from 1, which the names of its sockets have above their lower 24 bits.
+    /// Its number, from 1, which the names of its sockets have above their lower 56 bits.
     pub fn number(&self) -> u32
         ensures { result ≡ self.now.kept.own.number }
     {
         self.machine.number()
     }
 
-    /// The number of its next socket: the lower 24 bits of the name that the socket will have.
-    pub fn next_number(&self) -> u32
+    /// The number of its next socket: the lower 56 bits of the name that the socket will have.
+    pub fn next_number(&self) -> u64
         ensures { result ≡ length self.now.kept.own.labels + 1 }
     {
-        self.machine.given() as u32 + 1
+        self.machine.given() as u64 + 1
     }
 
     /// Carries a command out, any but a lookup, whoever else is at the tables, and returns what comes of it. A command
@@ -75,17 +110,25 @@ impl Caller {
     ///
     /// `Busy`: another had a bucket or a chain for longer than the patience lasted. `NoMemory`: memory was wanting.
     /// The caller's sockets stand as they did, a number that the command gives is given, and of a `reap` a first part
-    /// is done. `NoNumber`: it has replied to as many calls as it does, or made as many sockets; nothing has changed.
+    /// is done. `NoNumber`: of the 2^48 entries and numbers of the clock that a worker
+    /// has, as many are drawn as the command leaves, or it has made as many sockets as it does; nothing has changed.
+    /// The last 2^32 are kept for `close`, `drop`, `at` and `reap`.
     pub fn call<P: Patience>(&mut self, patience: &P, command: &Command) -> Outcome
         requires look { is_lookup command.now ≡ false }
         requires next { IsNext (length self.old.kept.own.labels + 1) command.now }
         ensures called { Called self.old self.new command.now result }
         ensures patient { P.endless ≡ true → IsNoWait result }
     {
-        if self.left == 0 || gives_number(command) && self.machine.given() >= SOCKETS {
+        let more = kept_back(command);
+        if !has_stamps(&self.worker, &self.machine, more) {
             return Outcome::NoNumber;
         }
-        self.left -= 1;
+        if !has_entries(&self.tables, &self.worker, &self.machine, more) {
+            return Outcome::NoNumber;
+        }
+        if gives_number(command) && self.machine.given() >= SOCKETS {
+            return Outcome::NoNumber;
+        }
         let tables: &Tables = &self.tables;
         match self
             .machine

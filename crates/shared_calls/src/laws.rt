@@ -2,7 +2,7 @@
 
 ghost use Rattle.shared_calls.specs.Numbers.{NumbersAreNames};
 
-/// What a number names is the socket of the name that has it in its lower 24 bits, and the caller's number above them.
+/// What a number names is the socket of the name that has it in its lower 56 bits, and the caller's number above them.
 pub fn numbers_are_names()
     ensures { NumbersAreNames }
 {}

@@ -4,7 +4,7 @@
 //! sockets, its moment and its searches, and a [`Looker`] looks packets up, locks nothing and waits for nobody. Each
 //! goes to the thread that uses it; the tables go when the last of them does.
 //!
-//! A socket's label is its number's four bytes, and its name has that number in its lower 24 bits, and its caller's in
+//! A socket's label is its number's eight bytes, and its name has that number in its lower 56 bits, and its caller's in
 //! those above. So a lookup, which sees names, gives both numbers.
 //!
 //! ```text

@@ -19,6 +19,7 @@ pub struct Looker {
     pub(crate) tables: Arc<Tables>,
     pub(crate) chain: ChainPass,
     pub(crate) groups: GroupPasses,
+    pub(crate) tag: u64,
 }
 
 impl Model for Looker {
@@ -27,9 +28,9 @@ impl Model for Looker {
 
     ghost Value = { Looking };
 
-    ghost view = { λ l. looking (arc_value l.tables) l.chain l.groups };
+    ghost view = { λ l. looking (arc_value l.tables) l.chain l.groups l.tag };
 
-    ghost invariant = { λ l. IsLooking (looking (arc_value l.tables) l.chain l.groups) };
+    ghost invariant = { λ l. IsLooking (looking (arc_value l.tables) l.chain l.groups l.tag) };
 }
 
 impl Looker {

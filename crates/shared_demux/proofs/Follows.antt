@@ -24,7 +24,7 @@ use Rattle.shared_slots.specs.declared.holds.Held.{Held}
 use Rattle.sock_card.specs.Words.{packed}
 use Rattle.sock_card.specs.declared.card.Card.{Card}
 use Rattle.sock_card.specs.declared.card.Packet.{Packet}
-use Rattle.table_rule.specs.Alone.{IsAlone, IsSoleWhole}
+use Rattle.table_rule.specs.Alone.{IsAlone, IsSoleWhole, IsKnownWhole}
 use Rattle.table_rule.specs.Calls.{layout_of}
 use Rattle.table_rule.specs.Lists.{less}
 use Rattle.table_rule.specs.LookCalls.{HasRoom, place_of}
@@ -239,6 +239,9 @@ module _ (m k : Sat) (a : Stays m k) where
     found = λ z. let t = x.found z in (record { hash = t.0.hash; there = t.0.there; is-hash = t.0.is-hash; card-is = t.0.card-is; stands = t.0.stands }, t.1);
     again = x.again;
   }
+
+  pub known_before : (c : Whole) → IsKnownWhole k.0 c → IsKnownWhole m.0 c
+  known_before c w = let x = subst (λ (t : Sat). IsKnownWhole t.0 c) a.is w in record { none = x.none; found = x.found }
 
 -- The branch of a listener that was found: its group's choice, and the put of its count
 

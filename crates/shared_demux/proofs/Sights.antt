@@ -17,14 +17,6 @@ use Rattle.table_rule.specs.Words.{words_of}
 use Rattle.table_rule.specs.declared.view.Kept.{Kept}
 use Rattle.shared_demux.specs.Chosen.{sighted_view, StandsThere, IsBetween, Chosen}
 
--- a card whose words are a card's has a name of 32 bits
-pub name_low : (words : CardWords) (card : Card) → IsCardWords (words_of words) → packed card ≡ words → card.name < 2 ^ 32
-name_low words card is e =
-    let there : words.name ≡ is.words.name = ap (λ (ws : List ℕ). slice_index ws 2) is.is in
-    let cut : is.words.name % 2 ^ 32 ≡ is.words.name = ap (λ (w : CardWords). w.name) is.packs in
-    let name : card.name ≡ words.name = ap (λ (w : CardWords). w.name) e in
-    omega (arith, there, cut, name)
-
 module _ (m n : Sat) (slot : ℕ) (e : n ≡ (taking m.0 slot, m.1)) where
   abbrev took : Kept
   took = record { slot = slot; since = m.0.seen; words = [] }
@@ -59,5 +51,5 @@ module _ (m n : Sat) (slot : ℕ) (e : n ≡ (taking m.0 slot, m.1)) where
         record { hash = x.hash; there = x.there; is-hash = x.is-hash; slot-is = x.slot-is; card-is = x.card-is; stands = x.stands }
 
 -- the member was taken, loaded and put
-pub was_taken : (slots : ℕ) (packet : Packet) (m n : Sat) (best result card : Card) (member slot : ℕ) → slot ≡ slot_of member → slot < slots → n ≡ (sighted_view m.0 card, m.1) → StandsThere m.0 slot card → IsBetween packet best member card result → card.name < 2 ^ 32 → Chosen slots packet m best member result n
-was_taken slots packet m n best result card member slot is below e there which named = inr (inr (omega (arith, is, below), (card, e, subst (λ (k : ℕ). StandsThere m.0 k card) is there, which, named)))
+pub was_taken : (slots : ℕ) (packet : Packet) (m n : Sat) (best result card : Card) (member slot : ℕ) → slot ≡ slot_of member → slot < slots → n ≡ (sighted_view m.0 card, m.1) → StandsThere m.0 slot card → IsBetween packet best member card result → Chosen slots packet m best member result n
+was_taken slots packet m n best result card member slot is below e there which = inr (inr (omega (arith, is, below), (card, e, subst (λ (k : ℕ). StandsThere m.0 k card) is there, which)))

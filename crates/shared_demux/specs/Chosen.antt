@@ -3,7 +3,7 @@
 --
 -- To be read from the end: `ByGroup` is what Concludes cites, and stands on those above it. The contract of
 -- `look_packet` cites `LeavesLists`.
-use Rattle.std.specs.Prelude.{◌≡◌, ℕ, ◌+◌, ◌-◌, ◌^◌, ◌<◌, ◌≤◌, ◌⊎◌, ◌==◌, ◌||◌, nat_lt, [], ◌∷◌, ◌++◌, Option, Some, None, if◌then◌else◌}
+use Rattle.std.specs.Prelude.{◌≡◌, ℕ, ◌+◌, ◌-◌, ◌%◌, ◌^◌, ◌<◌, ◌≤◌, ◌⊎◌, ◌==◌, ◌||◌, nat_lt, [], ◌∷◌, ◌++◌, Option, Some, None, if◌then◌else◌}
 use Rattle.sock_card.specs.Words.{packed}
 use Rattle.sock_card.specs.declared.card.Card.{Card}
 use Rattle.sock_card.specs.declared.card.Packet.{Packet}
@@ -45,9 +45,9 @@ sighted_view v card =
 abbrev pub StandsThere : View → (slot : ℕ) → Card → Type 0
 StandsThere v slot card = (from : ℕ) → IsAlone v from → from ≤ v.seen → SlotStands v slot (words_of (packed card))
 
--- a member's card has the member's name and the best's rank
+-- a member's card has a name that ends as the member's number says, and the best's rank
 abbrev pub IsLike : Packet → Card → (member : ℕ) → Card → Type 0
-IsLike packet best member card = (card.name ≡ name_of member) × (card_rank packet card ≡ card_rank packet best)
+IsLike packet best member card = (card.name % 2 ^ 32 ≡ name_of member) × (card_rank packet card ≡ card_rank packet best)
 
 -- the member's card is the answer where it is like the best, else the best is
 abbrev pub IsBetween : Packet → (best : Card) → (member : ℕ) → (card result : Card) → Type 0
@@ -61,7 +61,7 @@ Chosen slots packet m best member result n =
     ⊎ ((slot_of member < slots) × (result ≡ best) × (n ≡ (trying m.0, m.1)) × IsGone m.0 (slot_of member))
     ⊎ ((slot_of member < slots) ×
     ((card : Card) × (n ≡ (sighted_view m.0 card, m.1)) × StandsThere m.0 (slot_of member) card
-    × IsBetween packet best member card result × (card.name < 2 ^ 32)))
+    × IsBetween packet best member card result))
 
 -- or where no member was chosen
 abbrev pub ChosenBy : (slots : ℕ) → Packet → Sat → (best : Card) → Option Choice → (result : Card) → Sat → Type 0

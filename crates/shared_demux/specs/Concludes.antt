@@ -67,28 +67,29 @@ abbrev pub AfterListener :
 AfterListener slots groups seed packet k p (looks.Found held best) end p' c n =
     (card : Card) × (chosen : Sat) × (put : Sat) × (end ≡ answers.Found card)
     × ByGroup slots groups packet (packet_hash packet seed) k best p card chosen p' × LetsGo chosen held.slot put
-    × Sums put c n
-AfterListener slots groups seed packet k p looks.None end p' c n = (end ≡ answers.None) × (p' ≡ p) × Sums k c n
+    × Sums put c n × (put.0.seen ≤ c.to)
+AfterListener slots groups seed packet k p looks.None end p' c n =
+    (end ≡ answers.None) × (p' ≡ p) × Sums k c n × (k.0.seen ≤ c.to)
 AfterListener slots groups seed packet k p (looks.Again bucket stop) end p' c n =
-    (end ≡ answers.Again bucket (book_end stop)) × (p' ≡ p) × Sums k c n
+    (end ≡ answers.Again bucket (book_end stop)) × (p' ≡ p) × Sums k c n × (k.0.seen ≤ c.to)
 
 abbrev pub ByListener :
     (slots groups : ℕ) → Layout → Packet → (passes : ℕ) → Sat → GroupPasses → PacketAnswer → GroupPasses → Whole → Sat
     → Type 0
 ByListener slots groups layout packet passes m p end p' c n =
     (look : LookEnd) × (from : ℕ) × (to : ℕ) × (k : Sat) × InOrder layout packet passes m look from to k
-    × AfterListener slots groups layout.seed packet k p look end p' c n × (m.0.seen ≤ k.0.seen)
+    × AfterListener slots groups layout.seed packet k p look end p' c n × (m.0.seen ≤ k.0.seen) × (m.0.seen ≤ from)
 
 -- after the lookup of a connected socket
 abbrev pub AfterFull :
     (slots groups : ℕ) → Layout → Packet → (passes : ℕ) → Sat → GroupPasses → LookEnd → PacketAnswer → GroupPasses
     → Whole → Sat → Type 0
 AfterFull slots groups layout packet passes k p (looks.Found held card) end p' c n =
-    (put : Sat) × (end ≡ answers.Found card) × (p' ≡ p) × LetsGo k held.slot put × Sums put c n
+    (put : Sat) × (end ≡ answers.Found card) × (p' ≡ p) × LetsGo k held.slot put × Sums put c n × (put.0.seen ≤ c.to)
 AfterFull slots groups layout packet passes k p looks.None end p' c n =
     ByListener slots groups layout packet passes k p end p' c n
 AfterFull slots groups layout packet passes k p (looks.Again bucket stop) end p' c n =
-    (end ≡ answers.Again bucket (book_end stop)) × (p' ≡ p) × Sums k c n
+    (end ≡ answers.Again bucket (book_end stop)) × (p' ≡ p) × Sums k c n × (k.0.seen ≤ c.to)
 
 -- the whole lookup began as that of a connected socket did
 abbrev pub ByOrder :
@@ -97,4 +98,4 @@ abbrev pub ByOrder :
 ByOrder slots groups layout packet passes m p end p' from c n =
     (look : LookEnd) × (to : ℕ) × (k : Sat)
     × LookedAs (full_home layout packet) packet 5 passes m (words_end look) from to k
-    × AfterFull slots groups layout packet passes k p look end p' c n × (m.0.seen ≤ k.0.seen)
+    × AfterFull slots groups layout packet passes k p look end p' c n × (m.0.seen ≤ k.0.seen) × (from ≤ to)

@@ -1,6 +1,6 @@
 //! The choice of a listener's group, while the best listener is held.
 
-ghost use Rattle.std.specs.Prelude.{◌≡◌, ◌^◌, ◌<◌, ◌∷◌, List, IfSome, IfNone};
+ghost use Rattle.std.specs.Prelude.{◌≡◌, ◌<◌, ◌∷◌, List, IfSome, IfNone};
 ghost use Rattle.chain_book.specs.Homes.{packet_hash};
 ghost use Rattle.reuseport_group.specs.Passes.{IsPassOf};
 ghost use Rattle.reuseport_group.specs.Passes as words;
@@ -52,7 +52,6 @@ fn card_of<P: Pace>(chains: &Chains, steps: &mut Steps, slot: u32, pace: &mut P)
     ensures table { IsOf chains.now steps.new }
     ensures card { (h : Kept) (hs : List Kept) → (view steps.old).read.kept ≡ h ∷ hs
         → Becomes steps.old steps.new (with_kept (view steps.old) (with_words h (words_of (packed result)) ∷ hs)) }
-    ensures named { result.name < 2 ^ 32 }
 {
     pace.step(Point::Check(slot));
     let ends = chains.step_read_held(steps, slot, 0);
@@ -80,7 +79,6 @@ fn sight<P: Pace>(chains: &Chains, steps: &mut Steps, slot: u32, pace: &mut P) -
     ensures gone { IfNone result (IsGone (view steps.old) slot) }
     ensures some { IfSome result (λ card. Becomes steps.old steps.new (sighted_view (view steps.old) card)) }
     ensures stands { IfSome result (λ card. StandsThere (view steps.old) slot card) }
-    ensures named { IfSome result (λ card. card.name < 2 ^ 32) }
 {
     pace.step(Point::Take(slot));
     if chains.step_take(steps, slot) < LEAST_LIVE {
@@ -94,7 +92,7 @@ fn sight<P: Pace>(chains: &Chains, steps: &mut Steps, slot: u32, pace: &mut P) -
     Some(card)
 }
 
-/// The member's card where it has the member's name and the best's rank, else the best.
+/// The member's card where its name ends as the member's number says and it has the best's rank, else the best.
 fn member_or_best<P: Pace>(
     chains: &Chains,
     steps: &mut Steps,
@@ -115,7 +113,9 @@ fn member_or_best<P: Pace>(
     }
     match sight(chains, steps, slot, pace) {
         Some(card) => {
-            if card.name == name_of(member) && rank_of(packet, &card) == rank_of(packet, best) {
+            if (card.name % 0x1_0000_0000) as u32 == name_of(member)
+                && rank_of(packet, &card) == rank_of(packet, best)
+            {
                 card
             } else {
                 *best

@@ -11,7 +11,7 @@ use Rattle.table_rule.specs.Alone.{NoneStands, CardStands, NoneKnown}
 use Rattle.table_rule.specs.Wholes.{Clears, FoundIn, StoppedIn}
 use Rattle.table_rule.specs.declared.view.View.{View}
 use Rattle.table_rule.specs.declared.view.Layout.{Layout}
-use Rattle.null_reader.specs.Looked.{LookedAs, stop_of, words_end}
+use Rattle.null_reader.specs.Looked.{LookedAs, MadeFew, OwnAs, stop_of, words_end}
 use Rattle.null_reader.specs.declared.answers.LookEnd.{LookEnd}
 use Rattle.null_reader.specs.declared.answers.LookEnd.TheVariants as answers
 use Rattle.shared_finds.specs.Homes.{full_home, exact_home, any_home}
@@ -54,7 +54,19 @@ InOrder layout packet passes m end from to n =
     (Decides end × LookedAs (exact_home layout packet) packet 3 passes m (words_end end) from to n)
     ⊎ ((ended : ℕ) × (began : ℕ) × (k : Sat) × (ended ≤ began)
     × LookedAs (exact_home layout packet) packet 3 passes m (words_end answers.None) from ended k
-    × LookedAs (any_home layout packet) packet 1 passes k (words_end end) began to n)
+    × LookedAs (any_home layout packet) packet 1 passes k (words_end end) began to n × (from ≤ ended) × (began ≤ to))
+
+-- each of the two made at most so many passes
+abbrev pub FewInOrder : (passes : ℕ) → Sat → LookEnd → Sat → Type 0
+FewInOrder passes m end n =
+    (Decides end × MadeFew passes m (words_end end) n)
+    ⊎ ((k : Sat) × MadeFew passes m (words_end answers.None) k × MadeFew passes k (words_end end) n)
+
+-- and of each the pass's own changes explain the receipt, where it drew all numbers of the clock up to that one's end
+abbrev pub OwnInOrder : Sat → LookEnd → (to : ℕ) → Sat → Type 0
+OwnInOrder m end to n =
+    (Decides end × OwnAs m.0 to n.0)
+    ⊎ ((ended : ℕ) × (k : Sat) × (ended ≤ to) × OwnAs m.0 ended k.0 × OwnAs k.0 to n.0)
 
 -- On a pass whose changes are all there are: the listener stands, and none better; never again
 abbrev pub SoleListener : Layout → Packet → View → LookEnd → Type 0

@@ -2,7 +2,7 @@
 
 ghost use Rattle.std.specs.Prelude.{◌≡◌, ◌<◌, ◌≤◌, []};
 ghost use Rattle.table_rule.specs.Calls.{IsOf, view, me, layout_of};
-ghost use Rattle.null_reader.specs.Looked.{HasTwo, LookedAs, IsWhole, SoleAs, KnownAs, HadEnded, IsInside, words_end};
+ghost use Rattle.null_reader.specs.Looked.{HasTwo, LookedAs, IsWhole, SoleAs, KnownAs, HadEnded, IsInside, MadeFew, OwnAs, words_end};
 ghost use Rattle.shared_finds.specs.Homes.{IsLaidOut, full_home};
 ghost use Rattle.shared_finds.specs.Finds.{FindsFull};
 
@@ -41,6 +41,8 @@ pub fn find<P: Pace>(
     ensures known { KnownAs (full_home layout.now packet.now) packet.now 5 (view steps.old)
         (words_end result.end) result.t0 }
     ensures before { HadEnded (view steps.old) result.t0 }
+    ensures few { MadeFew passes (me steps.old) (words_end result.end) (me steps.new) }
+    ensures own { OwnAs (view steps.old) result.t1 (view steps.new) }
 {
     let bucket = packet_home(&layout.shape, layout.seed, packet);
     look(chains, steps, bucket, packet, 5, passes, pace)

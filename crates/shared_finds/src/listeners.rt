@@ -4,7 +4,7 @@ ghost use Rattle.std.specs.Prelude.{◌≡◌, ◌<◌, ◌≤◌, []};
 ghost use Rattle.table_rule.specs.Calls.{IsOf, view, me, layout_of};
 ghost use Rattle.null_reader.specs.Looked.{HasTwo, IsWhole, IsInside, words_end};
 ghost use Rattle.shared_finds.specs.Homes.{IsLaidOut};
-ghost use Rattle.shared_finds.specs.Finds.{FindsListener, InOrder, SoleListener, KnownListener};
+ghost use Rattle.shared_finds.specs.Finds.{FindsListener, InOrder, FewInOrder, OwnInOrder, SoleListener, KnownListener};
 
 use chain_book::listen_home;
 use null_reader::answers::Look;
@@ -41,6 +41,8 @@ pub fn find<P: Pace>(
     ensures inside { IsInside (layout_of chains.now) (words_end result.end) }
     ensures sole { IsWhole (view steps.old) → SoleListener layout.now packet.now (view steps.old) result.end }
     ensures known { KnownListener layout.now packet.now (view steps.old) result.end result.t0 }
+    ensures few { FewInOrder passes (me steps.old) result.end (me steps.new) }
+    ensures own { OwnInOrder (me steps.old) result.end result.t1 (me steps.new) }
 {
     let exact = listen_home(
         &layout.shape,

@@ -34,7 +34,7 @@ use Rattle.port_search.specs.Turned.{AllRefuse, BindsAt, BindsNowhere, BindsNotY
 use Rattle.port_search.specs.Search.{IsNotFull}
 use Rattle.port_search.proofs.TurnSearch.{gave_none, gave_both}
 use Rattle.shared_ops.specs.Goes.{AreAsked, AskedAll, gone_of}
-use Rattle.shared_ops.specs.Groups.{members_in, Follows, IsLeft, ListsIn, SparesLists, GaveSparing, list_by, AreListed, KeepsListed}
+use Rattle.shared_ops.specs.Groups.{shown, words_in, Follows, IsLeft, ListsIn, SparesLists, GaveSparing, list_by, AreListed, KeepsListed}
 use Rattle.shared_ops.proofs.Goes.{asked_all}
 use Rattle.shared_ops.proofs.Listed.{keeps_both}
 use Rattle.shared_ops.proofs.There.{answers_so}
@@ -110,8 +110,8 @@ replay_spares n h [] s = refl
 replay_spares n h (e ∷ es) s = replay_spares n (owner_step n h e.request).held es s.1 ∙ step_spares n h e.request s.0
 
 -- the same groups have the same lists
-same_lists : (h k : Held) (group : ℕ) → k.groups ≡ h.groups → members_in k group ≡ members_in h group
-same_lists h k group same = ap (λ (gs : List (List ℕ)). get_or gs (group % 8) []) same
+same_lists : (h k : Held) (group : ℕ) → k.groups ≡ h.groups → words_in k group ≡ words_in h group
+same_lists h k group same = ap (λ (gs : List (List ℕ)). map shown (get_or gs (group % 8) [])) same
 
 -- Entries that change no list
 
@@ -233,12 +233,12 @@ lists_in t p turn v w h before added es group g0 g1 out sound within gave began 
 
 -- a group's list, where its bucket was asked so in the turn in which lists were published, and some that spare them
 -- before
-list_follows : (n : ℕ) (group : Option ℕ) (h k : Held) (p q : GroupPasses) (g : ℕ) → Follows n group h k p q → g / 8 ≡ n → published p g ≡ members_in h g → published q g ≡ members_in k g
+list_follows : (n : ℕ) (group : Option ℕ) (h k : Held) (p q : GroupPasses) (g : ℕ) → Follows n group h k p q → g / 8 ≡ n → published p g ≡ words_in h g → published q g ≡ words_in k g
 list_follows n None h k p q g follows own was =
     ap (λ v. list_at g v.mine) follows.nothing ∙ was ∙ sym (same_lists h k g follows.held)
 list_follows n (Some x) h k p q g follows own was =
-    dite (ℕ_discrete g x) (λ same. subst (λ y. published q y ≡ members_in k y) (sym same) follows.listed)
-    (λ other. follows.kept g other ∙ was ∙ sym (follows.others g own other))
+    dite (ℕ_discrete g x) (λ same. subst (λ y. published q y ≡ words_in k y) (sym same) follows.listed)
+    (λ other. follows.kept g other ∙ was ∙ sym (ap (map shown) (follows.others g own other)))
 
 list_elsewhere : (n : ℕ) (group : Option ℕ) (h k : Held) (p q : GroupPasses) (g : ℕ) → Follows n group h k p q → g / 8 ≢ n → published q g ≡ published p g
 list_elsewhere n None h k p q g follows apart = ap (λ v. list_at g v.mine) follows.nothing
@@ -273,15 +273,15 @@ module _ (count place : ℕ) (first es fs : List Entry) (group : Option ℕ) (v 
       let k = replayed place (entries_of (l.before ++ l.added)) in
       dite (ℕ_discrete (g / 8) place)
       (λ own.
-      let was : published p g ≡ members_in h g =
-      listed g within ∙ ap (λ n. members_in (replayed n (entries_at n v.mine)) g) own
+      let was : published p g ≡ words_in h g =
+      listed g within ∙ ap (λ n. words_in (replayed n (entries_at n v.mine)) g) own
       ∙ sym (same_lists (replayed place (entries_at place v.mine)) h g
       (ap (λ (xs : List Entry). (replayed place xs).groups) (began alone)
       ∙ ap (λ (x : Held). x.groups) (replayed_both place empty (entries_at place v.mine) first)
       ∙ replay_spares place (replayed place (entries_at place v.mine)) first s)) in
       list_follows place group h k p q g l.lists own was
-      ∙ ap (λ (xs : List Entry). members_in (replayed place xs) g) (ap entries_of (l.left.all is))
-      ∙ sym (ap (λ n. members_in (replayed n (entries_at n w.mine)) g) own))
+      ∙ ap (λ (xs : List Entry). words_in (replayed place xs) g) (ap entries_of (l.left.all is))
+      ∙ sym (ap (λ n. words_in (replayed n (entries_at n w.mine)) g) own))
       (λ apart.
       list_elsewhere place group h k p q g l.lists apart ∙ listed g within
       ∙ sym (ap (λ (ms : List (Placed Entry)). list_by ms g) all.gave.mine

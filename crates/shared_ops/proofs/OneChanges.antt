@@ -14,7 +14,7 @@ use Rattle.reuseport_group.specs.declared.pass.GroupPasses.{GroupPasses}
 use Rattle.reuseport_group.specs.Passes as lists
 use Rattle.reuseport_group.specs.Passes.{published}
 use Rattle.reuseport_group.specs.Views.{publishing}
-use Rattle.shared_ops.specs.Groups.{members_in, Follows, IsGroupOf}
+use Rattle.shared_ops.specs.Groups.{words_in, Follows, IsGroupOf}
 use Rattle.bind_buckets.proofs.GroupNumber.{place_within}
 use Rattle.shared_ops.proofs.There.{listens_as}
 
@@ -124,7 +124,7 @@ pub follows_none : (n : ℕ) (h k : Held) (p q : GroupPasses) → OneChanges n N
 follows_none n h k p q one same = record { held = one; nothing = ap lists.known same }
 
 pub follows_some : (n group : ℕ) (h k : Held) (p q : GroupPasses) → OneChanges n (Some group) h.groups k.groups
-    → lists.known q ≡ publishing (lists.known p) (lists.now q) group (members_in k group) → published q group ≡ members_in k group → ((other : ℕ) → other ≢ group → published q other ≡ published p other)
+    → lists.known q ≡ publishing (lists.known p) (lists.now q) group (words_in k group) → published q group ≡ words_in k group → ((other : ℕ) → other ≢ group → published q other ≡ published p other)
     → Follows n (Some group) h k p q
 follows_some n group h k p q one list listed kept =
     record {

@@ -3,7 +3,7 @@
 --
 -- Public contracts cite `ListsOfListen`, `ListsOfLeave` and `KeepsLists`, from each of which it is to be read upwards.
 -- The first two rest on `ListsIn`, which is of one turn.
-use Rattle.std.specs.Prelude.{◌≡◌, ◌≢◌, ◌⊎◌, ℕ, ◌+◌, ◌/◌, ◌%◌, ◌<◌, Bool, true, false, List, [], ◌∷◌, ◌++◌, Option, None, Some, Result, Ok, Err}
+use Rattle.std.specs.Prelude.{◌≡◌, ◌≢◌, ◌⊎◌, ℕ, ◌+◌, ◌-◌, ◌/◌, ◌%◌, ◌^◌, ◌<◌, Bool, true, false, List, [], ◌∷◌, ◌++◌, map, Option, None, Some, Result, Ok, Err}
 use Rattle.std.specs.Option.{option_map_or}
 use Rattle.sock_card.specs.Conflict.{owner_key}
 use Rattle.list_words.specs.Lists.{Each}
@@ -22,6 +22,7 @@ use Rattle.bind_buckets.specs.OwnTold.{own_given}
 use Rattle.bind_buckets.specs.OwnerStep.{Held, members_at}
 use Rattle.bind_buckets.specs.Turned.{View, Gave, IsAlone, entries_at}
 use Rattle.reuseport_group.specs.declared.pass.GroupPasses.{GroupPasses}
+use Rattle.reuseport_group.specs.Member.{member}
 use Rattle.reuseport_group.specs.Passes as lists
 use Rattle.reuseport_group.specs.Passes.{published}
 use Rattle.reuseport_group.specs.Views.{publishing}
@@ -40,6 +41,14 @@ use Rattle.shared_ops.specs.Stands.{turned}
 abbrev pub members_in : Held → ℕ → List ℕ
 members_in h group = members_at h (group % 8)
 
+-- what lookers are shown of a member: the slot of its card, which is below 2 ^ 32 - 1, and the lower half of its name
+abbrev pub shown : ℕ → ℕ
+shown m = member (m / 2 ^ 64 % (2 ^ 32 - 1)) (m % 2 ^ 32)
+
+-- what they are shown of that group
+abbrev pub words_in : Held → ℕ → List ℕ
+words_in h group = map shown (members_in h group)
+
 -- A bucket held this, and then that, in one turn
 
 -- no list of it changed, and nothing was published
@@ -50,8 +59,8 @@ pub record Stays (h k : Held) (p q : GroupPasses) : Type 0 where
 -- the list of this group of the bucket was published as the bucket had it then, and no other list of it changed
 pub record Publishes (number group : ℕ) (h k : Held) (p q : GroupPasses) : Type 0 where
   pub own : group / 8 ≡ number
-  pub list : lists.known q ≡ publishing (lists.known p) (lists.now q) group (members_in k group)
-  pub listed : published q group ≡ members_in k group
+  pub list : lists.known q ≡ publishing (lists.known p) (lists.now q) group (words_in k group)
+  pub listed : published q group ≡ words_in k group
   pub kept : (other : ℕ) → other ≢ group → published q other ≡ published p other
   pub others : (other : ℕ) → other / 8 ≡ number → other ≢ group → members_in k other ≡ members_in h other
 
@@ -167,7 +176,7 @@ pub record GaveSparing (v w : View) : Type 0 where
 
 -- the list of a group that its bucket has by these entries, if they are all
 abbrev pub list_by : List (Placed Entry) → ℕ → List ℕ
-list_by given group = members_in (replayed (group / 8) (entries_at (group / 8) given)) group
+list_by given group = words_in (replayed (group / 8) (entries_at (group / 8) given)) group
 
 -- of so many groups, the list that was published last for each is that which its bucket has by the pass's own entries
 abbrev pub AreListed : ℕ → View → GroupPasses → Type 0

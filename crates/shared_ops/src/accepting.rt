@@ -97,7 +97,7 @@ fn accept_shared<P: Patience>(
     tables: &Tables,
     worker: &mut Worker,
     listener: &Sock,
-    name: u32,
+    name: u64,
     from: End,
     at: End,
 ) -> Result<Sock, OpEnd>
@@ -151,7 +151,7 @@ pub fn accept<P: Patience>(
     tables: &Tables,
     worker: &mut Worker,
     listener: &Sock,
-    name: u32,
+    name: u64,
     from: End,
     at: End,
 ) -> Result<Sock, OpEnd>

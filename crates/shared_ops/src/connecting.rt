@@ -41,7 +41,7 @@ pub(crate) fn end_turn(
     buckets: &Turns<Box<Bucket>>,
     pass: &mut TurnPass<Box<Bucket>>,
     turn: Turn<Box<Bucket>>,
-    replaced: Option<u32>,
+    replaced: Option<u64>,
 )
     requires out { IsOut buckets.now pass.old turn }
     requires few { words.draws pass.old < 2 ^ 48 }

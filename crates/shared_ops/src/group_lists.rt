@@ -1,6 +1,6 @@
 //! The lists of groups of listeners, which are published under the turn of a group's bucket.
 
-ghost use Rattle.std.specs.Prelude.{◌≡◌, ◌≢◌, ℕ, ◌/◌, ◌^◌, ◌<◌, ◌≤◌, Option};
+ghost use Rattle.std.specs.Prelude.{◌≡◌, ◌≢◌, ℕ, ◌/◌, ◌^◌, ◌<◌, ◌≤◌, Option, length, map};
 ghost use Rattle.bind_buckets.specs.Bucket.{IsSound, answer_to};
 ghost use Rattle.bind_buckets.specs.Members.{has_member};
 ghost use Rattle.bind_buckets.specs.Callers.{MayName};
@@ -11,15 +11,38 @@ ghost use Rattle.bind_buckets.specs.declared.request.Answer.TheVariants as answe
 ghost use Rattle.reuseport_group.specs.Passes as lists;
 ghost use Rattle.reuseport_group.specs.Passes.{IsPassOf, published};
 ghost use Rattle.reuseport_group.specs.Views.{publishing};
-ghost use Rattle.shared_ops.specs.Groups.{Follows, IsGroupOf, members_in};
+ghost use Rattle.shared_ops.specs.Groups.{Follows, IsGroupOf, members_in, words_in};
+ghost use Rattle.shared_ops.specs.Groups as spec;
+ghost use Rattle.sock_card.specs.Limits.{group_room};
 ghost use Rattle.shared_ops.specs.Stands.{HasGroups, IsThere};
 
 use crate::asking;
 use crate::tables::Tables;
+use arrayvec::ArrayVec;
 use bind_buckets::{Bucket, turning};
-use reuseport_group::{GroupPasses, Groups, name_of};
-use sock_card::Owner;
+use reuseport_group::{GroupPasses, Groups, member_of};
+use sock_card::{GROUP_ROOM, Owner};
 use turn_table::{Turn, TurnPass};
+
+/// What lookers are shown of a member.
+fn shown(member: u128) -> u64
+    ensures { result ≡ spec.shown member }
+{
+    let slot = (member >> 64) as u64 % 0xffff_ffff;
+    member_of(slot as u32, (member % 0x1_0000_0000) as u32)
+}
+
+/// What they are shown of these members.
+fn shown_of(members: &[u128]) -> ArrayVec<u64, GROUP_ROOM>
+    requires { length members.now ≤ group_room }
+    ensures { result.items ≡ map spec.shown members.now }
+{
+    let mut words = ArrayVec::new();
+    for member in members {
+        words.push(shown(*member));
+    }
+    words
+}
 
 /// Publishes the list of a group of a bucket that is out, as the bucket stands.
 pub(crate) fn publish(
@@ -33,26 +56,26 @@ pub(crate) fn publish(
     requires own { group / 8 ≡ turn.now.value.value.number }
     ensures passes { IsPassOf groups.now passes.new }
     ensures list { lists.known passes.new ≡ publishing (lists.known passes.old) (lists.now passes.new) group
-        (members_in turn.now.value.value.held group) }
-    ensures listed { published passes.new group ≡ members_in turn.now.value.value.held group }
+        (words_in turn.now.value.value.held group) }
+    ensures listed { published passes.new group ≡ words_in turn.now.value.value.held group }
     ensures kept { (other : ℕ) → other ≢ group → published passes.new other ≡ published passes.old other }
 {
     turn.value.recall();
-    groups.publish(passes, group, turning::members(turn, group));
+    let words = shown_of(turning::members(turn, group));
+    groups.publish(passes, group, words.as_slice());
 }
 
 /// Whether the group has a member of that name.
-fn has_name(turn: &Turn<Box<Bucket>>, group: u32, name: u32) -> bool
+fn has_name(turn: &Turn<Box<Bucket>>, group: u32, name: u64) -> bool
     requires { group / 8 ≡ turn.now.value.value.number }
     ensures { result ≡ has_member name (members_in turn.now.value.value.held group) }
 {
-    turning::members(turn, group)
-        .iter()
-        .any(|member| name_of(*member) == name)
+    turning::members(turn, group).iter().any(|member| *member % 0x1_0000_0000_0000_0000
+        == u128::from(name))
 }
 
 /// The group in which a bucket that is out has a member of that name: the first, if there is one.
-fn group_of(turn: &Turn<Box<Bucket>>, name: u32) -> Option<u32>
+fn group_of(turn: &Turn<Box<Bucket>>, name: u64) -> Option<u32>
     requires { turn.now.place ≡ turn.now.value.value.number }
     ensures { IsGroupOf turn.now.place turn.now.value.value.held name result }
 {

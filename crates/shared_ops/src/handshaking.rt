@@ -147,7 +147,7 @@ fn ack_shared<P: Patience>(
     worker: &mut Worker,
     request: &Sock,
     listener: Option<&Sock>,
-    name: u32,
+    name: u64,
 ) -> Result<Connected, OpEnd>
     requires ready { IsReady tables.now worker.old }
     requires enters { MayEnter 1 worker.old }
@@ -218,7 +218,7 @@ pub fn ack<P: Patience>(
     worker: &mut Worker,
     request: Sock,
     listener: Option<&Sock>,
-    name: u32,
+    name: u64,
 ) -> Result<Sock, (Sock, OpEnd)>
     requires ready { IsReady tables.now worker.old }
     requires enters { MayEnter 1 worker.old }

@@ -22,7 +22,7 @@ use table_model::{Cause, OpEnd};
 #[derive(Debug, Drop)]
 pub struct Came {
     pub place: Place,
-    pub replaced: Option<u32>,
+    pub replaced: Option<u64>,
 }
 
 fn end_of(end: InsertEnd) -> OpEnd

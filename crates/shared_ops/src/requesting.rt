@@ -73,7 +73,7 @@ fn syn_shared<P: Patience>(
     tables: &Tables,
     worker: &mut Worker,
     listener: &Sock,
-    name: u32,
+    name: u64,
     from: End,
     at: End,
 ) -> Result<Sock, OpEnd>
@@ -125,7 +125,7 @@ pub fn syn<P: Patience>(
     tables: &Tables,
     worker: &mut Worker,
     listener: &Sock,
-    name: u32,
+    name: u64,
     from: End,
     at: End,
 ) -> Result<Sock, OpEnd>

@@ -31,7 +31,7 @@ impl Model for Unbound {
 
 impl Unbound {
     /// A new socket of that name. It takes no memory.
-    pub fn new(name: u32, options: Options) -> Self
+    pub fn new(name: u64, options: Options) -> Self
         ensures { result ≡ plain (new_owner name options) }
     {
         Unbound {

@@ -63,4 +63,4 @@ sign_of (seeks.Waiting name) = signs.Name name
 
 abbrev pub has_sign : Sign → CardWords → Bool
 has_sign (signs.Ends addresses ports) w = (w.ends == addresses) && (w.ports / 2 ^ 32 == ports)
-has_sign (signs.Name name) w = w.name % 2 ^ 32 == name
+has_sign (signs.Name name) w = w.name == name

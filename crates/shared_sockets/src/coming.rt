@@ -33,14 +33,14 @@ use table_rule::{Chains, Pass};
 #[derive(Debug, Drop)]
 pub struct Inserted {
     pub place: Place,
-    pub replaced: Option<u32>,
+    pub replaced: Option<u64>,
 }
 
 /// Why a card didn't come.
 #[derive(Clone, Copy)]
 pub enum InsertEnd {
     /// The socket of that name has its four-tuple.
-    Taken(u32),
+    Taken(u64),
     /// No slot is free.
     Full(Full),
 }
@@ -71,7 +71,7 @@ pub fn take_out(chains: &Chains, pass: &mut Pass, locked: &Locked, found: &Optio
     }
 }
 
-fn name_of(found: &Option<Hashed>) -> Option<u32>
+fn name_of(found: &Option<Hashed>) -> Option<u64>
     ensures { result ≡ option_map spec.name_of found.now }
 {
     found.map(|found| found.card.name)

@@ -118,7 +118,7 @@ pub fn remove_tw<P: Patience>(
     patience: &P,
     pass: &mut Pass,
     bucket: u32,
-    name: u32,
+    name: u64,
 ) -> Option<Option<u32>>
     requires table { IsPassOf chains.now pass.old }
     requires bucket { bucket < bucket_count (layout_of chains.now) }

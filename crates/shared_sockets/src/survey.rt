@@ -29,7 +29,7 @@ pub enum Sought {
     /// Who keeps the newcomer out, and the TIME_WAIT of its four-tuple.
     Room(Newcomer),
     /// The TIME_WAIT of that name.
-    Waiting(u32),
+    Waiting(u64),
 }
 
 /// What a walk has found: the first that keeps a newcomer out, and the first TIME_WAIT that is sought.
@@ -67,7 +67,7 @@ fn sign_of(sought: &Sought) -> Sign
 {
     match sought {
         Sought::Room(new) => ends_sign(&new.card),
-        Sought::Waiting(name) => Sign::Name(u64::from(*name)),
+        Sought::Waiting(name) => Sign::Name(*name),
     }
 }
 
@@ -77,7 +77,7 @@ fn has_sign(sign: Sign, words: &CardWords) -> bool
 {
     match sign {
         Sign::Ends(addresses, ports) => words.ends == addresses && words.ports / UPPER == ports,
-        Sign::Name(name) => words.name % UPPER == name,
+        Sign::Name(name) => words.name == name,
     }
 }
 

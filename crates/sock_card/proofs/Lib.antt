@@ -3,3 +3,4 @@ pub mod SameKinds
 pub mod Ranks
 pub mod Tuples
 pub mod Most
+pub mod WordTuples

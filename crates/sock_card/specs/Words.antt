@@ -38,13 +38,17 @@ unpacked w = record {
   dev = w.ports / 2 ^ 16 % 2 ^ 16;
   net = w.ports / 2 ^ 4 % 2 ^ 8;
   kind = kind_at (w.ports % 2 ^ 4);
-  name = w.name % 2 ^ 32;
+  name = w.name;
   extra = w.extra % 2 ^ 32;
 }
 
+-- a card that begins with these words
+abbrev pub begun : ℕ → ℕ → Card
+begun ends ports = unpacked (record { ends = ends; ports = ports; name = 0; extra = 0 })
+
 -- the rank of a card that begins with these words: what else it says changes no rank
 unfoldable pub word_rank : Packet → ℕ → ℕ → ℕ
-word_rank packet ends ports = rank (unpacked (record { ends = ends; ports = ports; name = 0; extra = 0 })) packet
+word_rank packet ends ports = rank (begun ends ports) packet
 
 -- the first two words of a card determine its rank
 abbrev pub TwoWordsTell : Type 0

@@ -1,5 +1,6 @@
-ghost use Rattle.std.specs.Prelude.{◌≡◌, ◌≤◌};
+ghost use Rattle.std.specs.Prelude.{ℕ, ◌≡◌, ◌≤◌, ◌==◌, ◌&&◌, ◌%◌, ◌^◌, if◌then◌else◌};
 ghost use Rattle.sock_card.specs.Words as spec;
+ghost use Rattle.sock_card.specs.Rank as rank_spec;
 ghost use Rattle.sock_card.specs.Rows.{card_words, known_words};
 
 use super::card::{Card, Kind, Packet, rank};
@@ -59,13 +60,13 @@ pub fn pack(card: &Card) -> CardWords
             + u64::from(card.dev) * DEVICE
             + u64::from(card.net) * NAMESPACE
             + number_of(card.kind),
-        name: u64::from(card.name),
+        name: card.name,
         extra: u64::from(card.extra),
     }
 }
 
-/// The card that four words say. A number that is no kind's is read as Full, and of a name and of what is said
-/// besides the lower 32 bits are read, so that all words say a card.
+/// The card that four words say. A number that is no kind's is read as Full, and of what is said besides
+/// the lower 32 bits are read, so that all words say a card.
 pub fn unpack(words: &CardWords) -> Card
     ensures { result ≡ spec.unpacked words.now }
 {
@@ -83,9 +84,45 @@ pub fn unpack(words: &CardWords) -> Card
         dev: (ports / DEVICE % 0x1_0000) as u16,
         net: (ports / NAMESPACE % 0x100) as u8,
         kind: kind_at(ports % NAMESPACE),
-        name: (name % UPPER) as u32,
+        name,
         extra: (extra % UPPER) as u32,
     }
+}
+
+/// Whether a card that begins with these two words has the packet's four-tuple: both addresses are compared as one
+/// word, and so are both ports.
+fn has_tuple(packet: &Packet, ends: u64, ports: u64) -> bool
+    ensures { result ≡ rank_spec.has_tuple (spec.begun ends ports) packet.now }
+{
+    ends == u64::from(packet.dst) * UPPER + u64::from(packet.src)
+        && ports / UPPER == u64::from(packet.dport) * 0x1_0000 + u64::from(packet.sport)
+        && ports / NAMESPACE % 0x100 == u64::from(packet.net)
+}
+
+fn takes_device(packet: &Packet, ports: u64) -> bool
+    ensures { (ends : ℕ) → result ≡ rank_spec.takes_device (spec.begun ends ports) packet.now }
+{
+    let dev = ports / DEVICE % 0x1_0000;
+    dev == 0 || dev == u64::from(packet.dev)
+}
+
+fn is_taken(packet: &Packet, ends: u64, ports: u64) -> bool
+    ensures { let card = spec.begun ends ports in
+        result ≡ (rank_spec.has_tuple card packet.now && rank_spec.takes_device card packet.now) }
+{
+    has_tuple(packet, ends, ports) && takes_device(packet, ports)
+}
+
+fn five_if(taken: bool) -> u8
+    ensures { result ≡ (if taken then 5 else 0) }
+{
+    if taken { 5 } else { 0 }
+}
+
+fn is_listener(ports: u64) -> bool
+    ensures { result ≡ (ports % 2 ^ 4) == 3 }
+{
+    ports % NAMESPACE == 3
 }
 
 /// How well the card that begins with these two words matches a packet: its rank.
@@ -94,13 +131,16 @@ pub fn word_rank(packet: &Packet, ends: u64, ports: u64) -> u8
     ensures rank { result ≡ spec.word_rank packet.now ends ports }
     ensures most { result ≤ 5 }
 {
-    let words = CardWords {
-        ends,
-        ports,
-        name: 0,
-        extra: 0,
-    };
-    rank(&unpack(&words), packet)
+    if is_listener(ports) {
+        let words = CardWords {
+            ends,
+            ports,
+            name: 0,
+            extra: 0,
+        };
+        return rank(&unpack(&words), packet);
+    }
+    five_if(is_taken(packet, ends, ports))
 }
 
 /// Two words are enough to determine a card's rank.

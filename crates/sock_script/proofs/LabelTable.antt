@@ -28,7 +28,7 @@ row_of name (s ∷ sections) zero = refl
 row_of name (s ∷ sections) (suc n) = row_of name sections n
 
 pub label_of_name : (sections : List (List Command)) (name : ℕ) → label_at (label_table sections) name ≡ label_in sections name
-label_of_name sections name = row_of (name % 2 ^ 24) ([] ∷ sections) (name / 2 ^ 24)
+label_of_name sections name = row_of (name % 2 ^ 56) ([] ∷ sections) (name / 2 ^ 56)
 
 label_of_found : (sections : List (List Command)) (answer : Option Card) → found_at (label_table sections) (replies.Found answer) ≡ found_label sections (replies.Found answer)
 label_of_found sections None = refl

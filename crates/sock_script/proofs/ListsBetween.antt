@@ -17,10 +17,10 @@ use Rattle.sock_script.proofs.SectionsApart.{grows_one, others_stay}
 abbrev label_count : ℕ → Flat → ℕ
 label_count n flat = length (labels_of n flat.sections)
 
-module _ (P : Flat → Type 0) (kept : (flat : Flat) (n : ℕ) (c : Command) → n ≤ 64 → label_count n flat + 1 < 2 ^ 24 → P flat → P (step flat n c).flat) where
+module _ (P : Flat → Type 0) (kept : (flat : Flat) (n : ℕ) (c : Command) → n ≤ 64 → label_count n flat + 1 < 2 ^ 56 → P flat → P (step flat n c).flat) where
   module _ (n : ℕ) (number : n ≤ 64) where
     -- of each list that a section's commands leave, and of the last
-    in_section : (flat : Flat) (commands : List Command) → label_count n flat + length commands < 2 ^ 24 → P flat → Each P (lists_from flat (issue n commands)) × P (after flat (issue n commands))
+    in_section : (flat : Flat) (commands : List Command) → label_count n flat + length commands < 2 ^ 56 → P flat → Each P (lists_from flat (issue n commands)) × P (after flat (issue n commands))
     in_section flat [] room h = (tt, h)
     in_section flat (c ∷ rest) room h =
         let next : Flat = (step flat n c).flat in

@@ -106,7 +106,7 @@ each_at P (y ∷ ys) zero x h lt here = subst P (sym here) h.0
 each_at P (y ∷ ys) (suc i) x h lt here = each_at P ys i x h.1 (omega arith) here
 
 -- a section of a small script has room for its labels
-pub has_room : (first flat : Flat) (script : Script) (items left : List Item) (out : Replies) (i : ℕ) (commands : List Command) → IsSmall script → i < length script.sections → commands ≡ get_or script.sections i commands → RanSections first flat script.sections items left out i → (i < 64) × (length (labels_of (i + 1) flat.sections) + length commands < 2 ^ 24)
+pub has_room : (first flat : Flat) (script : Script) (items left : List Item) (out : Replies) (i : ℕ) (commands : List Command) → IsSmall script → i < length script.sections → commands ≡ get_or script.sections i commands → RanSections first flat script.sections items left out i → (i < 64) × (length (labels_of (i + 1) flat.sections) + length commands < 2 ^ 56)
 has_room first flat script items left out i commands small lt here h =
     let few : length commands < 2 ^ 24 = each_at (λ (l : List Command). length l < 2 ^ 24) script.sections i commands small.commands lt here in
     let none : length (labels_of (i + 1) flat.sections) ≡ 0 = ap length (h.fresh (i + 1) (omega arith)) in

@@ -42,7 +42,7 @@ kind_word kinds.Request = codes "request"
 abbrev pub answer_with : List ℕ → Option Card → List ℕ
 answer_with label None = codes "none"
 answer_with label (Some card) =
-    kind_word card.kind ++ codes " " ++ decimal (card.name / 2 ^ 24) ++ codes "." ++ label
+    kind_word card.kind ++ codes " " ++ decimal (card.name / 2 ^ 56) ++ codes "." ++ label
 
 -- two numbers, with a space before each
 abbrev pub two_numbers : ℕ → ℕ → List ℕ
@@ -71,7 +71,7 @@ reply_with label (replies.Enfile owned held) = codes "ENFILE" ++ two_numbers own
 -- there is no such label
 abbrev pub label_in : List (List Command) → ℕ → List ℕ
 label_in sections name =
-    unwrap_or (slice_get ([] ∷ given_labels (slice_index_or ([] ∷ sections) (name / 2 ^ 24) [])) (name % 2 ^ 24)) []
+    unwrap_or (slice_get ([] ∷ given_labels (slice_index_or ([] ∷ sections) (name / 2 ^ 56) [])) (name % 2 ^ 56)) []
 
 -- the label of the socket that a reply names, or none
 abbrev pub found_label : List (List Command) → Reply → List ℕ

@@ -112,7 +112,7 @@ label_table sections = map (λ section. [] ∷ given_labels section) ([] ∷ sec
 
 -- the label of a name in such a table, or none
 abbrev pub label_at : List (List (List ℕ)) → ℕ → List ℕ
-label_at table name = unwrap_or (slice_get (slice_index_or table (name / 2 ^ 24) []) (name % 2 ^ 24)) []
+label_at table name = unwrap_or (slice_get (slice_index_or table (name / 2 ^ 56) []) (name % 2 ^ 56)) []
 
 -- the label of the socket that a reply names, or none
 abbrev pub found_at : List (List (List ℕ)) → Reply → List ℕ

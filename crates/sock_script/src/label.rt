@@ -87,11 +87,11 @@ impl<'a> Labels<'a> {
     }
 
     /// The label of the socket of that name, or none.
-    pub fn of_name(&self, name: u32) -> &'a [u8]
+    pub fn of_name(&self, name: u64) -> &'a [u8]
         ensures { result.now ≡ label_at (tables self.now.by_section.items) name }
     {
-        match self.by_section.get((name >> 24) as usize) {
-            Some(row) => label_in(row, (name % 0x100_0000) as usize),
+        match self.by_section.get((name >> 56) as usize) {
+            Some(row) => label_in(row, (name % 0x100_0000_0000_0000) as usize),
             None => &[],
         }
     }

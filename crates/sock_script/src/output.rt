@@ -8,7 +8,7 @@ ghost use Rattle.sock_script.specs.Shown.{kept_reply};
 ghost use Rattle.sock_script.specs.Steps.{found_at, issue, item_lines, label_at, Writes, WritesDump, WritesItems};
 
 use crate::label::Labels;
-use crate::shown::{Brief, Shown};
+use crate::shown::{Brief, Shown, whole};
 use crate::unwritten::Unwritten;
 use capture_reader::Capture;
 use flat_list::kept::Form;
@@ -89,13 +89,13 @@ fn put_kind(out: &mut Vec<u8>, kind: Kind) -> Result<(), AllocError>
 }
 
 /// Appends the kind and the name of a socket that was found; the label is that of its name.
-fn put_found(out: &mut Vec<u8>, kind: Kind, name: u32, label: &[u8]) -> Result<(), AllocError>
+fn put_found(out: &mut Vec<u8>, kind: Kind, name: u64, label: &[u8]) -> Result<(), AllocError>
     ensures { OnOk result (out.new.items ≡ out.old.items
-        ++ (spec.kind_word kind ++ codes " " ++ decimal (name / 2 ^ 24) ++ codes "." ++ label.now)) }
+        ++ (spec.kind_word kind ++ codes " " ++ decimal (name / 2 ^ 56) ++ codes "." ++ label.now)) }
 {
     put_kind(out, kind)?;
     put_byte(out, b' ')?;
-    put_number(out, (name >> 24) as u64)?;
+    put_number(out, name >> 56)?;
     put_byte(out, b'.')?;
     put_copy(out, label)
 }
@@ -236,9 +236,9 @@ fn put_brief(out: &mut Vec<u8>, reply: Brief, label: &[u8]) -> Result<(), AllocE
         }
         Brief::Count { high, low } => {
             put(out, b"ok ")?;
-            put_number(out, u64::from(high) * 0x1_0000_0000 + u64::from(low))
+            put_number(out, whole(high, low))
         }
-        Brief::Found { kind, name } => put_found(out, kind, name, label),
+        Brief::Found { kind, high, low } => put_found(out, kind, whole(high, low), label),
         Brief::None => put(out, b"none"),
         Brief::Skip => put(out, b"skip"),
         Brief::Short => put(out, b"short"),
@@ -269,7 +269,7 @@ fn found_label<'a>(labels: &Labels<'a>, reply: Brief) -> &'a [u8]
     ensures { result.now ≡ found_at (tables labels.now.by_section.items) (kept_reply reply) }
 {
     match reply {
-        Brief::Found { name, .. } => labels.of_name(name),
+        Brief::Found { high, low, .. } => labels.of_name(whole(high, low)),
         _ => &[],
     }
 }

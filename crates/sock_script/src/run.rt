@@ -56,7 +56,7 @@ fn run_command<'a>(
     items: &'a [Item],
 ) -> Result<&'a [Item], AllocError>
     requires number { n ≤ 64 }
-    requires room { length (labels_of n flat.old.sections) + 1 < 2 ^ 24 }
+    requires room { length (labels_of n flat.old.sections) + 1 < 2 ^ 56 }
     ensures runs { IfOk result (λ left.
         RunsCommand flat.old flat.new n command.now items.now left.now replies.old replies.new) }
     ensures labels { GivesOneAtMost flat.old.sections flat.new.sections }
@@ -82,7 +82,7 @@ fn run_section<'a>(
     items: &'a [Item],
 ) -> Result<&'a [Item], AllocError>
     requires number { n ≤ 64 }
-    requires room { length (labels_of n flat.old.sections) + length commands.now < 2 ^ 24 }
+    requires room { length (labels_of n flat.old.sections) + length commands.now < 2 ^ 56 }
     ensures { IfOk result (λ left.
         RunsSection flat.old flat.new n commands.now items.now left.now replies.old replies.new) }
 {

@@ -1,15 +1,15 @@
 //! What the output shows of replies, in less room than theirs.
 
-ghost use Rattle.std.specs.Prelude.{◌≡◌, ◌+◌, ◌*◌, ◌^◌, map, IfOk};
+ghost use Rattle.std.specs.Prelude.{◌≡◌, ◌+◌, ◌*◌, ◌^◌, map, IfOk, Some};
 ghost use Rattle.flat_list.specs.declared.command.Reply.TheVariants as replies;
 ghost use Rattle.sock_script.specs.Shown.{kept_reply, shown};
 
 use flat_list::{End, Reply};
-use sock_card::Kind;
+use sock_card::{Card, Kind};
 use std::alloc::{AllocError, Global};
 use std::marker::Model;
 
-/// What the output shows of a reply: of a card that was found, its kind and its name. It takes 12 bytes.
+/// What the output shows of a reply: of a card that was found, its kind and its name. It takes 16 bytes.
 ///
 /// A contract sees it as a reply whose card, if there is one, says nothing else.
 #[derive(Debug, Drop)]
@@ -25,10 +25,10 @@ pub enum Brief {
     End(End),
     TimeWait,
     NoSlot { owned: u32, held: u32 },
-    /// So many sockets: `high` times 2^32 and `low`, which may lie at any fourth byte.
+    /// So many sockets: `high` times 2^32 and `low`, which may lie at any fourth byte, as those of a name.
     Count { high: u32, low: u32 },
     /// A packet finds the socket of that name.
-    Found { kind: Kind, name: u32 },
+    Found { kind: Kind, high: u32, low: u32 },
     /// A packet finds none.
     None,
     Skip,
@@ -68,6 +68,25 @@ fn count_of(number: u64) -> Brief
     Brief::Count { high, low }
 }
 
+/// The number of those two halves.
+pub(crate) fn whole(high: u32, low: u32) -> u64
+    ensures { result ≡ high * 2 ^ 32 + low }
+{
+    u64::from(high) * 0x1_0000_0000 + u64::from(low)
+}
+
+/// How the card of a socket that was found is kept.
+fn found_of(card: &Card) -> Brief
+    ensures { kept_reply result ≡ shown (replies.Found (Some card.now)) }
+{
+    let (high, low) = halves(card.name);
+    Brief::Found {
+        kind: card.kind,
+        high,
+        low,
+    }
+}
+
 /// What is shown of a reply.
 fn brief_of(reply: &Reply) -> Brief
     ensures { kept_reply result ≡ shown reply.now }
@@ -82,10 +101,7 @@ fn brief_of(reply: &Reply) -> Brief
             held: *held,
         },
         Reply::Count(count) => count_of(*count),
-        Reply::Found(Some(card)) => Brief::Found {
-            kind: card.kind,
-            name: card.name,
-        },
+        Reply::Found(Some(card)) => found_of(card),
         Reply::Found(None) => Brief::None,
         Reply::Skip => Brief::Skip,
         Reply::Short => Brief::Short,

@@ -8,10 +8,10 @@ use sock_card::Card;
 use std::alloc::AllocError;
 
 /// Where a socket stands in a list: by its name, and of one name by the number of its kind.
-fn order_of(card: &Card) -> u64
+fn order_of(card: &Card) -> u128
     ensures { result ≡ spec.order_of card.now }
 {
-    u64::from(card.name) * 8 + card.kind as u64
+    u128::from(card.name) * 8 + card.kind as u128
 }
 
 /// The cards, ascending by name, and of one name by kind: a full socket, a TIME_WAIT, a listener, a request.

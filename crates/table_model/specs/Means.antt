@@ -74,7 +74,7 @@ pub record ChainsMean (chains : Chains) (flat : Flat) : Type 0 where
 
 -- the names in members' words
 abbrev pub names_in : List ℕ → List ℕ
-names_in members = map (λ m. m % 2 ^ 32) members
+names_in members = map (λ m. m % 2 ^ 64) members
 
 -- the names of the members of the group of that number in the list, none where it has no such group
 abbrev pub members_of : ℕ → List Group → List ℕ
@@ -83,7 +83,7 @@ members_of number groups =
 
 -- a member's word contains the slot of a listener and its name, and under that name it stands in that slot
 abbrev pub stands_as : ℕ → Hashed → Bool
-stands_as m x = (x.slot == m / 2 ^ 32) && (x.card.name == m % 2 ^ 32)
+stands_as m x = (x.slot == m / 2 ^ 64) && (x.card.name == m % 2 ^ 64)
 
 abbrev pub stands_in_some : ℕ → List (List Hashed) → Bool
 stands_in_some m rows = list_any (λ row. list_any (stands_as m) row) rows
@@ -105,7 +105,7 @@ pub record TablesMean (t : Tables) (flat : Flat) : Type 0 where
 
 -- a TIME_WAIT of section n
 abbrev pub is_wait_of : ℕ → Socket → Bool
-is_wait_of n s = is_time_wait s.owner.state && (s.owner.name / 2 ^ 24 == n)
+is_wait_of n s = is_time_wait s.owner.state && (s.owner.name / 2 ^ 56 == n)
 
 abbrev pub owner_of : Socket → Owner
 owner_of s = s.owner
@@ -134,9 +134,9 @@ weighs_as_wait f n s = cond (is_wait_of n s) (f s.owner s.stamp) 0
 
 -- a name that a section with so many labels has given
 pub record IsNameOf (n labels name : ℕ) : Type 0 where
-  pub section : name / 2 ^ 24 ≡ n
-  pub first : 1 ≤ name % 2 ^ 24
-  pub last : name % 2 ^ 24 ≤ labels
+  pub section : name / 2 ^ 56 ≡ n
+  pub first : 1 ≤ name % 2 ^ 56
+  pub last : name % 2 ^ 56 ≤ labels
 
 abbrev pub section_as : Own → Section
 section_as own =
@@ -184,7 +184,7 @@ is_lookup _ = false
 abbrev pub PlansRefine : Type 0
 PlansRefine =
     (n : ℕ) (own : Own) (t : Tables) (flat : Flat) (command : Command) (ended : Ended Replied)
-    → n ≤ 64 → length own.labels + 1 < 2 ^ 24 → is_lookup command ≡ false
+    → n ≤ 64 → length own.labels + 1 < 2 ^ 56 → is_lookup command ≡ false
     → Means n own t flat → run t (plan flat.header own command) ≡ Some ended → Refines n ended flat command
 
 -- and the tables never answer what no table answers
@@ -198,7 +198,7 @@ PlansEnd =
 abbrev pub OthersStay : Type 0
 OthersStay =
     (n m : ℕ) (own other : Own) (t : Tables) (flat : Flat) (command : Command) (ended : Ended Replied)
-    → n ≤ 64 → length own.labels + 1 < 2 ^ 24 → is_lookup command ≡ false → m ≢ n
+    → n ≤ 64 → length own.labels + 1 < 2 ^ 56 → is_lookup command ≡ false → m ≢ n
     → Means n own t flat → Means m other t flat → run t (plan flat.header own command) ≡ Some ended
     → Means m other ended.tables (step flat n command).flat
 

@@ -24,11 +24,11 @@ impl From<AllocError> for Cause {
 #[derive(Clone, Copy, Debug, PartialEq, Eq)]
 pub enum OpEnd {
     /// The owner of that name keeps the socket from its port.
-    InUse(u32),
+    InUse(u64),
     /// No port that was searched can be had.
     NoPort,
     /// The socket of that name has the four-tuple.
-    Taken(u32),
+    Taken(u64),
     /// The socket's state, or an end, doesn't fit.
     Inval,
     /// The socket listens or is connected.

@@ -81,10 +81,10 @@ MayUnlock v = (v.twice ≡ 0) ⊎ ((v.chain.met ≡ 1) × NoneTwice v.chain.walk
 
 -- the pass may draw one number more
 abbrev pub HasShare : View → Type 0
-HasShare v = drawn v + 1 ≤ v.slot.parts * 4294967296
+HasShare v = drawn v + 1 ≤ v.slot.parts * 281474976710656
 
 abbrev pub HasShares : ℕ → View → Type 0
-HasShares n v = drawn v + n ≤ v.slot.parts * 4294967296
+HasShares n v = drawn v + n ≤ v.slot.parts * 281474976710656
 
 -- what word q is at the start: a head is its own end, all else is 0
 abbrev pub FirstWord : ℕ → ℕ → ℕ → Type 0

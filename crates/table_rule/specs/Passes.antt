@@ -38,7 +38,7 @@ IsPassOf t pass = IsOf t pass.steps
 
 -- a split leaves it what it has drawn and what it holds
 abbrev pub HasShareLeft : View → Type 0
-HasShareLeft v = (length v.slot.holds ≤ (v.slot.parts - 1) * 4294967296) × (drawn v ≤ (v.slot.parts - 1) * 4294967296)
+HasShareLeft v = (length v.slot.holds ≤ (v.slot.parts - 1) * 4294967296) × (drawn v ≤ (v.slot.parts - 1) * 281474976710656)
 
 -- what a pass is after a split, what the one is that was split off, and what a pass is that took another in
 abbrev pub cut_of : Pass → Me (Unit {0}) View

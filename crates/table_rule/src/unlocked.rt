@@ -56,11 +56,11 @@ impl Chains {
         self.clock_start_as::<Brand>(steps, bucket, key, least)
     }
 
-    /// Loads the head of a bucket without its lock, as a pass begins.
+    /// Loads the head of a bucket without its lock, as a pass begins: the first one, or one after a pass that stopped.
     pub fn step_peek_head(&self, steps: &mut Steps, bucket: u32) -> u64
         requires table { IsOf self.now steps.old }
         requires bucket { bucket < bucket_count self.now.layout }
-        requires looks { (q : Reader) × Looks (view steps.old) q × (q.bucket ≡ bucket) }
+        requires looks { (q : Reader) × Looks (view steps.old) q × (q.bucket ≡ bucket) × (q.walking ≡ 0) }
         ensures table { IsOf self.now steps.new }
         ensures met { (q : Reader) → Looks (view steps.old) q
             → Arrives steps.old.seat.me (entering q) q.bucket result steps.new.seat.me }

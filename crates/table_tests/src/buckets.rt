@@ -11,7 +11,7 @@ const HERE: u32 = 0x0A00_0001;
 const THERE: u32 = 0x0A00_0002;
 
 /// A socket that is bound to 10.0.0.1 and a port.
-fn socket(name: u32, port: u16) -> Owner {
+fn socket(name: u64, port: u16) -> Owner {
     Owner {
         name,
         origin: name,
@@ -30,14 +30,14 @@ fn socket(name: u32, port: u16) -> Owner {
     }
 }
 
-fn sharing(name: u32, port: u16) -> Owner {
+fn sharing(name: u64, port: u16) -> Owner {
     Owner {
         reuseport: true,
         ..socket(name, port)
     }
 }
 
-fn reusing(name: u32, addr: u32) -> Owner {
+fn reusing(name: u64, addr: u32) -> Owner {
     Owner {
         addr,
         reuseaddr: true,
@@ -46,7 +46,7 @@ fn reusing(name: u32, addr: u32) -> Owner {
 }
 
 /// A socket for which `connect` chose a port.
-fn connecting(name: u32, port: u16) -> Owner {
+fn connecting(name: u64, port: u16) -> Owner {
     Owner {
         remote: THERE,
         rport: 1000,
@@ -100,7 +100,7 @@ fn connect(bucket: &mut Bucket, owner: Owner) -> Result<Answer, AllocError> {
     }
 }
 
-fn listen(bucket: &mut Bucket, name: u32, slot: u32) -> Result<Answer, AllocError> {
+fn listen(bucket: &mut Bucket, name: u64, slot: u32) -> Result<Answer, AllocError> {
     bucket.reserve()?;
     match bucket.may_listen(name) {
         Ok(group) => {
@@ -114,7 +114,7 @@ fn listen(bucket: &mut Bucket, name: u32, slot: u32) -> Result<Answer, AllocErro
     }
 }
 
-fn accept(bucket: &mut Bucket, parent: u32, name: u32) -> Result<Answer, AllocError> {
+fn accept(bucket: &mut Bucket, parent: u64, name: u64) -> Result<Answer, AllocError> {
     bucket.reserve()?;
     match bucket.owner(parent).copied() {
         Some(listener) if matches!(listener.state, State::Listening) && listener.addr == HERE => {
@@ -124,17 +124,17 @@ fn accept(bucket: &mut Bucket, parent: u32, name: u32) -> Result<Answer, AllocEr
     }
 }
 
-fn remove(bucket: &mut Bucket, name: u32) -> Result<Answer, AllocError> {
+fn remove(bucket: &mut Bucket, name: u64) -> Result<Answer, AllocError> {
     bucket.reserve()?;
     Ok(answer_of_name(bucket.remove(name)))
 }
 
-fn close(bucket: &mut Bucket, name: u32) -> Result<Answer, AllocError> {
+fn close(bucket: &mut Bucket, name: u64) -> Result<Answer, AllocError> {
     bucket.reserve()?;
     Ok(answer_of_name(bucket.to_time_wait(name)))
 }
 
-fn reap(bucket: &mut Bucket, name: u32) -> Result<Answer, AllocError> {
+fn reap(bucket: &mut Bucket, name: u64) -> Result<Answer, AllocError> {
     bucket.reserve()?;
     Ok(answer_of_name(bucket.remove_waiting(name)))
 }
@@ -147,12 +147,12 @@ enum Call {
     /// Whether the port is free, and if so, the socket is connected.
     Connect(Owner),
     /// Whether the socket of that name may listen, and if so, it listens, with that slot.
-    Listen(u32, u32),
+    Listen(u64, u32),
     /// The listener of the first name accepts a socket of the second.
-    Accept(u32, u32),
-    Remove(u32),
-    Close(u32),
-    Reap(u32),
+    Accept(u64, u64),
+    Remove(u64),
+    Close(u64),
+    Reap(u64),
 }
 
 fn carry_out(bucket: &mut Bucket, call: Call) -> Result<Answer, AllocError> {
@@ -183,11 +183,11 @@ fn check(rt: &impl Abort, alloc: Global, calls: &[(Call, Answer)]) -> Result<(),
     run(rt, &mut bucket, calls)
 }
 
-fn check_owner(rt: &impl Abort, bucket: &Bucket, name: u32, expected: Option<Owner>) {
+fn check_owner(rt: &impl Abort, bucket: &Bucket, name: u64, expected: Option<Owner>) {
     assert_eq!(rt; bucket.owner(name).copied(), expected, "of {name}");
 }
 
-fn check_members(rt: &impl Abort, bucket: &Bucket, group: u32, expected: &[u64]) {
+fn check_members(rt: &impl Abort, bucket: &Bucket, group: u32, expected: &[u128]) {
     assert_eq!(rt; bucket.members(group), expected, "in {group}");
 }
 
@@ -254,7 +254,7 @@ fn many_owners_at_one_end_refuse_none_at_another(rt: HostRuntime) -> Result<(), 
 }
 
 /// A socket is bound to the port that it shares, and wants to listen there.
-fn listening(name: u32, port: u16, slot: u32, answer: Answer) -> [(Call, Answer); 2] {
+fn listening(name: u64, port: u16, slot: u32, answer: Answer) -> [(Call, Answer); 2] {
     [
         (Call::Bind(sharing(name, port)), Answer::Done),
         (Call::Listen(name, slot), answer),
@@ -264,8 +264,8 @@ fn listening(name: u32, port: u16, slot: u32, answer: Answer) -> [(Call, Answer)
 #[test]
 fn a_group_has_sixty_four_members(rt: HostRuntime) -> Result<(), AllocError> {
     let mut bucket = Bucket::new(rt.alloc(), 1, 2);
-    for name in 1..65 {
-        let calls = listening(name, 81, name + 100, Answer::Group(Some(8)));
+    for name in 1..65u32 {
+        let calls = listening(u64::from(name), 81, name + 100, Answer::Group(Some(8)));
         run(&rt, &mut bucket, &calls)?;
     }
     let calls = listening(65, 81, 165, Answer::GroupFull);
@@ -277,8 +277,13 @@ fn a_group_has_sixty_four_members(rt: HostRuntime) -> Result<(), AllocError> {
 #[test]
 fn a_bucket_has_eight_groups(rt: HostRuntime) -> Result<(), AllocError> {
     let mut bucket = Bucket::new(rt.alloc(), 0, 1);
-    for name in 1..9 {
-        let calls = listening(name, name as u16, name, Answer::Group(Some(name - 1)));
+    for name in 1..9u32 {
+        let calls = listening(
+            u64::from(name),
+            name as u16,
+            name,
+            Answer::Group(Some(name - 1)),
+        );
         run(&rt, &mut bucket, &calls)?;
     }
     let calls = listening(9, 9, 9, Answer::GroupsFull);
@@ -363,7 +368,11 @@ fn the_last_member_takes_the_leavers_place(rt: HostRuntime) -> Result<(), AllocE
         (Call::Remove(2), Answer::Done),
     ];
     run(&rt, &mut bucket, &calls)?;
-    let expected = [0xB_0000_0001, 0xE_0000_0004, 0xD_0000_0003];
+    let expected = [
+        0xB_0000_0000_0000_0001,
+        0xE_0000_0000_0000_0004,
+        0xD_0000_0000_0000_0003,
+    ];
     check_members(&rt, &bucket, 0, &expected);
     Ok(())
 }

@@ -57,20 +57,28 @@ const PACKET: Packet = Packet {
 };
 
 /// What the names of the first caller's sockets have above their lower 24 bits.
-const FIRST: u32 = 0x100_0000;
+const FIRST: u64 = 0x100_0000_0000_0000;
 
 /// A caller and a looker of new tables, with the tables.
 fn open(alloc: Global) -> Result<(SharedTables, Caller, Looker), AllocError> {
-    let mut tables = SharedTables::new(alloc, &HEADER)?;
+    let mut tables = SharedTables::new(alloc, &HEADER, 7)?;
     let (Ok(caller), Ok(looker)) = (tables.caller(alloc), tables.looker(alloc)) else {
         return Err(AllocError);
     };
     Ok((tables, caller, looker))
 }
 
+/// A caller of the tables.
+fn hand_out(tables: &mut SharedTables, alloc: Global) -> Result<Caller, AllocError> {
+    match tables.caller(alloc) {
+        Ok(caller) => Ok(caller),
+        Err(_) => Err(AllocError),
+    }
+}
+
 /// Two callers of new tables, with the tables.
 fn open_two(alloc: Global) -> Result<(SharedTables, Caller, Caller), AllocError> {
-    let mut tables = SharedTables::new(alloc, &HEADER)?;
+    let mut tables = SharedTables::new(alloc, &HEADER, 7)?;
     let (Ok(first), Ok(second)) = (tables.caller(alloc), tables.caller(alloc)) else {
         return Err(AllocError);
     };
@@ -78,7 +86,7 @@ fn open_two(alloc: Global) -> Result<(SharedTables, Caller, Caller), AllocError>
 }
 
 /// A bound socket of the caller's, with its number.
-fn bind_here(caller: &mut Caller) -> (u32, Outcome) {
+fn bind_here(caller: &mut Caller) -> (u64, Outcome) {
     let number = caller.next_number();
     caller.call(&Tries(0), &commands::socket(number, PLAIN));
     (
@@ -88,20 +96,20 @@ fn bind_here(caller: &mut Caller) -> (u32, Outcome) {
 }
 
 /// A listener of the caller's, with its number.
-fn listen_here(caller: &mut Caller) -> (u32, Outcome) {
+fn listen_here(caller: &mut Caller) -> (u64, Outcome) {
     let (number, _) = bind_here(caller);
     (number, caller.call(&Tries(0), &commands::listen(number)))
 }
 
 /// A connection of that listener, with its number.
-fn accept_there(caller: &mut Caller, listener: u32) -> (u32, Outcome) {
+fn accept_there(caller: &mut Caller, listener: u64) -> (u64, Outcome) {
     let number = caller.next_number();
     let command = commands::accept(listener, number, THERE, HERE);
     (number, caller.call(&Tries(0), &command))
 }
 
 /// What a looker finds: the kind of socket and its name.
-fn found(looker: &mut Looker) -> Option<(Kind, u32)> {
+fn found(looker: &mut Looker) -> Option<(Kind, u64)> {
     let PacketLook { end, .. } = looker.look(&PACKET, 1);
     match end {
         PacketAnswer::Found(card) => Some((card.kind, card.name)),
@@ -147,5 +155,22 @@ fn what_was_handed_out_outlives_the_tables(rt: HostRuntime) -> Result<(), Fail> 
     assert_eq!(rt; errno_of(listening), 0);
     drop(caller);
     assert_eq!(rt; found(&mut looker), Some((Kind::Listen, FIRST | listener)));
+    Ok(())
+}
+
+#[test]
+fn a_caller_that_is_given_back_goes_out_again_with_its_sockets(
+    rt: HostRuntime,
+) -> Result<(), Fail> {
+    let (mut tables, mut caller, mut looker) = open(rt.alloc())?;
+    let (listener, _) = listen_here(&mut caller);
+    assert_eq!(rt; tables.may_come_back(&caller), true);
+    tables.take_back(caller);
+    assert_eq!(rt; found(&mut looker), Some((Kind::Listen, FIRST | listener)));
+    let mut next = hand_out(&mut tables, rt.alloc())?;
+    assert_eq!(rt; (next.number(), next.next_number()), (1, 2));
+    let closed = next.call(&Tries(0), &commands::close(listener));
+    assert_eq!(rt; errno_of(closed), 0);
+    assert_eq!(rt; found(&mut looker), None);
     Ok(())
 }

@@ -78,9 +78,9 @@ enum Came {
     /// It stands in that slot.
     At(u32),
     /// It stands in that slot, and the TIME_WAIT of that name is gone.
-    For(u32, u32),
+    For(u32, u64),
     /// The socket of that name has its four-tuple.
-    Taken(u32),
+    Taken(u64),
     /// So many slots are used.
     Full(u32),
     /// The one that was to come before it didn't.

@@ -106,7 +106,7 @@ enum Went {
     /// It is gone without a wait: so many slots were owned, and so many only held.
     NoSlot(u32, u32),
     /// The socket of that name kept its four-tuple from it.
-    Taken(u32),
+    Taken(u64),
     /// A request came in its place.
     Replaced,
     /// It never came, or never went.

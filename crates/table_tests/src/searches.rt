@@ -19,7 +19,7 @@ use std::thread::{Threads, join};
 use turn_table::{TurnPass, Turns};
 
 /// A socket that is to be bound to 0.0.0.0 in that namespace.
-fn socket(name: u32, net: u8) -> Owner
+fn socket(name: u64, net: u8) -> Owner
     ensures { result.name ≡ name }
 {
     Owner {
@@ -251,8 +251,8 @@ fn bind_ten<R: Wait>(
 {
     let mut pass = pass;
     let mut found = Vec::new(alloc);
-    for number in 0..10u32 {
-        let owner = socket(section * 0x100_0000 + number, 0);
+    for number in 0..10u64 {
+        let owner = socket(u64::from(section) * 0x100_0000_0000_0000 + number, 0);
         if let Ok(port) = find_bind(&Waits::by(rt), turns, &mut pass, forty(), owner) {
             found.push(port)?;
         }
@@ -330,10 +330,10 @@ fn four_threads_find_each_port_once(rt: HostRuntime) -> Result<(), Fail> {
 fn bind_soon(
     turns: &Turns<Box<Bucket>>,
     pass: &mut TurnPass<Box<Bucket>>,
-    name: u32,
+    name: u64,
 ) -> Result<u16, SearchEnd>
     requires pass { IsIdle turns.now pass.old × (words.caller pass.old ≡ 2) }
-    requires name { name / 2 ^ 24 ≡ 2 }
+    requires name { name / 2 ^ 56 ≡ 2 }
     requires few { words.draws pass.old + 4 ≤ 2 ^ 48 }
     ensures pass { IsIdle turns.now pass.new × (words.caller pass.new ≡ 2) }
     ensures draws { words.draws pass.new ≤ words.draws pass.old + 4 }
@@ -357,10 +357,10 @@ fn bind_beside<R: Wait>(
     let mut one = turning::split(&turns, &mut first);
     let mut two = turning::split(&turns, &mut first);
     let turn = turning::take(&Waits::by(rt), &turns, &mut one, bind_key(held, 0)).unwrap();
-    let before = bind_soon(&turns, &mut two, 0x200_0001);
-    let again = bind_soon(&turns, &mut two, 0x200_0002);
+    let before = bind_soon(&turns, &mut two, 0x200_0000_0000_0001);
+    let again = bind_soon(&turns, &mut two, 0x200_0000_0000_0002);
     turning::give(&turns, &mut one, turn);
-    let afterwards = bind_soon(&turns, &mut two, 0x200_0003);
+    let afterwards = bind_soon(&turns, &mut two, 0x200_0000_0000_0003);
     Ok([before, again, afterwards])
 }
 
@@ -387,11 +387,11 @@ fn bind_and_ask(
     requires one { IsIdle turns.now one.old × (words.caller one.old ≡ 1) × (words.draws one.old ≡ 0) }
     requires two { IsIdle turns.now two.old × (words.caller two.old ≡ 2) × (words.draws two.old ≡ 0) }
 {
-    let name = 0x100_0001;
+    let name = 0x100_0000_0000_0001;
     let ports = ports(false, 0, First::Odd);
     match find_bind_turn(&Tries(2), turns, one, ports, socket(name, 0)) {
         Ok((port, turn)) => {
-            let meanwhile = bind_soon(turns, two, 0x200_0001);
+            let meanwhile = bind_soon(turns, two, 0x200_0000_0000_0001);
             let mut turn = turn;
             let group = turning::may_listen(turns, one, &mut turn, name);
             turning::give(turns, one, turn);

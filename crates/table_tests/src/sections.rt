@@ -108,7 +108,7 @@ fn try_twice(
 ) -> (Result<Reply, Cause>, Result<Reply, Cause>)
     requires section { IsSection tables.now machine.old worker.old }
     requires look { is_lookup command.now ≡ false }
-    requires room { length machine.old.own.labels + 2 < 2 ^ 24 }
+    requires room { length machine.old.own.labels + 2 < 2 ^ 56 }
     requires enters { MayEnter (2 * 65540 + length machine.old.own.waits) worker.old }
     requires draws { MayDraw (2 * 6 + 2 * length machine.old.own.waits) worker.old }
     requires other { IsIdle tables.now.buckets other.old }

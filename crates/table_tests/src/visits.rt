@@ -13,7 +13,7 @@ use std::sync::Wait;
 use turn_table::{Turn, TurnPass, Turns};
 
 /// A socket with `reuseport` of that user, at 10.0.0.1 in the namespace 0.
-fn socket(name: u32, port: u16, uid: u32) -> Owner {
+fn socket(name: u64, port: u16, uid: u32) -> Owner {
     Owner {
         name,
         origin: name,
@@ -38,7 +38,7 @@ fn socket(name: u32, port: u16, uid: u32) -> Owner {
 enum Visit {
     Bind(Owner),
     Listen(Owner),
-    Remove(u32, u32),
+    Remove(u32, u64),
 }
 
 /// The group that a visit gives, or its refusal; None where memory ran out.
@@ -49,7 +49,7 @@ fn listen_and_give(
     turns: &Turns<Box<Bucket>>,
     pass: &mut TurnPass<Box<Bucket>>,
     turn: Turn<Box<Bucket>>,
-    name: u32,
+    name: u64,
 ) -> Told
     requires out { IsOut turns.now pass.old turn }
     requires caller { words.caller pass.old ≡ 0 }
@@ -119,7 +119,7 @@ fn remove<R: Wait>(
     turns: &Turns<Box<Bucket>>,
     pass: &mut TurnPass<Box<Bucket>>,
     key: u32,
-    name: u32,
+    name: u64,
 ) -> Told
     requires pass { IsIdle turns.now pass.old × (words.caller pass.old ≡ 0) }
     requires few { words.draws pass.old + 3 ≤ 2 ^ 48 }
@@ -233,11 +233,11 @@ fn namespaces_keep_apart(rt: HostRuntime) -> Result<(), AllocError> {
 /// One listener of port 80 more than a group has room for, and one of each of the eight ports from 81 on.
 fn listeners(alloc: Global) -> Result<Vec<Visit>, AllocError> {
     let mut visits = Vec::new(alloc);
-    for name in 0..65u32 {
+    for name in 0..65u64 {
         visits.push(Visit::Listen(socket(name, 80, 1)))?;
     }
     for place in 1..9u16 {
-        visits.push(Visit::Listen(socket(70 + u32::from(place), 80 + place, 1)))?;
+        visits.push(Visit::Listen(socket(70 + u64::from(place), 80 + place, 1)))?;
     }
     Ok(visits)
 }

@@ -146,15 +146,15 @@ fn all_hashed_sockets_are_listed_by_name(rt: HostRuntime) -> Result<(), Fail> {
     assert_eq!(rt; flat.list()?.len(), 0);
     listen_here(&mut flat, 2)?;
     close_and_connect(&mut flat)?;
-    let listed: Vec<(u32, Kind)> = flat
+    let listed: Vec<(u64, Kind)> = flat
         .list()?
         .iter()
         .map(|c| (c.name, c.kind))
         .collect(rt.alloc())?;
     let wanted = [
-        (0x100_0001, Kind::Full),
-        (0x200_0001, Kind::Listen),
-        (0x200_0002, Kind::TimeWait),
+        (0x0100_0000_0000_0001, Kind::Full),
+        (0x0200_0000_0000_0001, Kind::Listen),
+        (0x0200_0000_0000_0002, Kind::TimeWait),
     ];
     assert_eq!(rt; listed.as_slice(), wanted.as_slice());
     Ok(())

@@ -6,7 +6,7 @@ use std::alloc::AllocError;
 use std::test::Fail;
 
 /// Whether the socket of that name has come, where there is a place.
-fn come(name: u32, mate: Option<u32>, groups: &mut Vec<Group>) -> Result<bool, AllocError> {
+fn come(name: u64, mate: Option<u64>, groups: &mut Vec<Group>) -> Result<bool, AllocError> {
     groups.reserve(1)?;
     if !has_place(0, mate, groups) {
         return Ok(false);

@@ -28,7 +28,7 @@ const LISTENER: Card = Card {
     dev: 0,
     net: 0,
     kind: Kind::Listen,
-    name: 0x100_0001,
+    name: 0x0100_0000_0000_0001,
     extra: 0,
 };
 
@@ -41,12 +41,12 @@ const CONNECTION: Card = Card {
     dev: 0,
     net: 0,
     kind: Kind::Full,
-    name: 0x100_0002,
+    name: 0x0100_0000_0000_0002,
     extra: 0,
 };
 
 /// The name of the request by which it comes.
-const REQUEST: u32 = 0x100_0003;
+const REQUEST: u64 = 0x0100_0000_0000_0003;
 
 /// A packet of that connection.
 const PACKET: Packet = Packet {

@@ -48,7 +48,7 @@ fn listener(net: u8) -> Card {
         dev: 0,
         net,
         kind: Kind::Listen,
-        name: 0x100_0001,
+        name: 0x0100_0000_0000_0001,
         extra: 0,
     }
 }

@@ -22,7 +22,7 @@ module _ {V E H : Type 0} where
 
   -- what the pass says of itself when it runs
   abbrev pub IsTold : TurnPass V E H → Type 0
-  IsTold p = (p.caller ≡ (known p).caller) × (p.splits ≡ (known p).splits)
+  IsTold p = (p.caller ≡ (known p).caller) × (p.splits ≡ (known p).splits) × (p.draws ≡ (known p).draws)
 
   -- a pass of this table. One with a part knows what the table's values have in common
   abbrev pub IsPassOf : Turns V E H → TurnPass V E H → Type 0

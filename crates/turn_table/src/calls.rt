@@ -106,6 +106,7 @@ impl<V: Journaled> Turns<V> {
         ensures view { known pass.new ≡ drawing (known pass.old) result }
     {
         let _place = turn.place;
+        pass.draws += 1;
         self.table.shared.fetch_add::<Draw<V>>(&mut pass.seat, 0, 1)
     }
 
@@ -143,6 +144,15 @@ impl<V: Journaled> TurnPass<V> {
         self.caller
     }
 
+    /// How many numbers it drew itself.
+    pub fn drawn(&self, turns: &Turns<V>) -> u64
+        requires { IsPassOf turns.now self.now }
+        ensures { result ≡ words.draws self.now }
+    {
+        let _places = turns.count;
+        self.draws
+    }
+
     /// How many numbers were drawn. Those that this pass drew or found are below it. It takes no memory.
     pub fn now(&mut self, turns: &Turns<V>) -> u64
         requires { IsPassOf turns.now self.old }
@@ -172,6 +182,7 @@ impl<V: Journaled> TurnPass<V> {
             seat,
             caller: self.splits,
             splits: 0,
+            draws: 0,
         }
     }
 
@@ -187,6 +198,7 @@ impl<V: Journaled> TurnPass<V> {
             seat: turns.table.shared.split_seat::<Tell>(&mut self.seat),
             caller: 0,
             splits: 0,
+            draws: 0,
         }
     }
 

@@ -95,6 +95,7 @@ impl<V: Journaled> Turns<V> {
                     seat,
                     caller: 0,
                     splits: 0,
+                    draws: 0,
                 },
             )),
             Err(Refused { slots: _ }) => Err(AllocError),

@@ -26,6 +26,7 @@ pub struct TurnPass<V: Journaled> {
     pub(crate) seat: Seat<Option<V>, TurnView<V::Entry, V::Home>>,
     pub(crate) caller: u32,
     pub(crate) splits: u32,
+    pub(crate) draws: u64,
 }
 
 /// A value that is out. It can't be dropped: [`Turns::give`] takes it back.

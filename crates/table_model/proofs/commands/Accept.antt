@@ -64,7 +64,7 @@ module _ (n : ℕ) (own : Own) (t : Tables) (flat : Flat) (h : Means n own t fla
   accept_of name = unless n own t flat h label (accept_reply (with_label own label)) (is_no_accept l.owner from at) (plan_as name)
 
   -- `accept` of an open socket, beside the list's
-  pub accept_here : length own.labels + 1 < 2 ^ 24 → Carried n t (accept_of (new_name n own t flat h)) (flat_connect.accept (given n own t flat h label) (new_name n own t flat h) (Some l) from at)
+  pub accept_here : length own.labels + 1 < 2 ^ 56 → Carried n t (accept_of (new_name n own t flat h)) (flat_connect.accept (given n own t flat h label) (new_name n own t flat h) (Some l) from at)
   accept_here few =
       let name : ℕ = new_name n own t flat h in
       carried_unless n own t flat h label (accept_reply (with_label own label)) refl (is_no_accept l.owner from at) (plan_as name)

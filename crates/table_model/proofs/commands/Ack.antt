@@ -134,7 +134,7 @@ module _ (n : ℕ) (own : Own) (t : Tables) (flat : Flat) (h : Means n own t fla
             ap (λ (st : State). cond {A = ℕ} (is_owner st) (f r.owner) 0) is,
           ))
 
-      words : (v : ℕ) → v % 2 ^ 32 ≢ name → stands_in_some v t.chains.rows ≡ true → stands_in_some v chains.rows ≡ true
+      words : (v : ℕ) → v % 2 ^ 64 ≢ name → stands_in_some v t.chains.rows ≡ true → stands_in_some v chains.rows ≡ true
       words = words_handed t.chains flat h.tables.chains h.shape h.sound.names r at extra place kinds.Request stands_there (plain (child k).owner) kinds.Full slot free
 
       ungrouped : Each (λ g. has_member name g ≡ false) flat.groups
@@ -144,7 +144,7 @@ module _ (n : ℕ) (own : Own) (t : Tables) (flat : Flat) (h : Means n own t fla
       tables_left = record {
         owners = owners_left;
         chains = handed_means t.chains flat h.tables.chains h.shape h.sound.names r at extra place kinds.Request stands_there (plain (child k).owner) kinds.Full slot free (without name flat.sockets ++ child k ∷ []) weighs;
-        groups = groups_stay t left flat after h.tables.groups (inherits k).left.groups refl (λ v g st. words v (others_grouped name flat.groups ungrouped (v % 2 ^ 32) g) st);
+        groups = groups_stay t left flat after h.tables.groups (inherits k).left.groups refl (λ v g st. words v (others_grouped name flat.groups ungrouped (v % 2 ^ 64) g) st);
       }
 
       -- the child, with its place
@@ -172,7 +172,7 @@ module _ (n : ℕ) (own : Own) (t : Tables) (flat : Flat) (h : Means n own t fla
     pub hands_ends : (k : ℕ) → EndsSo t (hands k)
     hands_ends k = ends_by k (free_slot t.chains.slots) refl
 
-    module _ (few : length own.labels + 1 < 2 ^ 24) where
+    module _ (few : length own.labels + 1 < 2 ^ 56) where
       abbrev next : ℕ
       next = new_name n own t flat h
 
@@ -234,7 +234,7 @@ module _ (n : ℕ) (own : Own) (t : Tables) (flat : Flat) (h : Means n own t fla
   not_so : Carried n t (ends (reply (refused errors.Inval))) (unchanged given_so replies.Einval)
   not_so = record { ended = record { tables = t; result = reply (refused errors.Inval) }; runs = refl; reply = refl; means = refused_means n own t flat h label }
 
-  listener_by : r.owner.state ≡ states.Request → length own.labels + 1 < 2 ^ 24 → (o : Option Mine) (p : Option Socket) → OpenBoth n t flat o p
+  listener_by : r.owner.state ≡ states.Request → length own.labels + 1 < 2 ^ 56 → (o : Option Mine) (p : Option Socket) → OpenBoth n t flat o p
       → Carried n t (plan_by (new_name n own t flat h) o) (flat_connect.ack_by given_so (new_name n own t flat h) r p)
   listener_by is few None None both = not_so
   listener_by is few (Some x) (Some l) both =
@@ -248,7 +248,7 @@ module _ (n : ℕ) (own : Own) (t : Tables) (flat : Flat) (h : Means n own t fla
   abbrev plan_as : ℕ → State → Asking Replied
   plan_as k state = and_then (ack_from flat.header.shape flat.header.seed state m (open_named labelled_own r.owner.origin) k) (λ did. ends (reply did))
 
-  by_state : length own.labels + 1 < 2 ^ 24 → (state : State) → r.owner.state ≡ state
+  by_state : length own.labels + 1 < 2 ^ 56 → (state : State) → r.owner.state ≡ state
       → Carried n t (plan_as (new_name n own t flat h) state) (flat_connect.ack_socket given_so n (new_name n own t flat h) r state)
   by_state few states.Request e =
       listener_by e few (open_named own r.owner.origin) (open_in n r.owner.origin flat.sockets) (open_in_both n own t flat h.own_is h.sound.names r.owner.origin)
@@ -259,7 +259,7 @@ module _ (n : ℕ) (own : Own) (t : Tables) (flat : Flat) (h : Means n own t fla
   by_state few states.TimeWait e = not_so
 
   -- whatever its state is
-  pub acked : length own.labels + 1 < 2 ^ 24 → Carried n t (plan_as (new_name n own t flat h) r.owner.state) (flat_connect.ack given_so n (new_name n own t flat h) (Some r))
+  pub acked : length own.labels + 1 < 2 ^ 56 → Carried n t (plan_as (new_name n own t flat h) r.owner.state) (flat_connect.ack given_so n (new_name n own t flat h) (Some r))
   acked few = by_state few r.owner.state refl
 
   abbrev Ended_so : Asking Replied → Type 0

@@ -25,7 +25,7 @@ module _ (n : ℕ) (own : Own) (t : Tables) (flat : Flat) (h : Means n own t fla
   reap_carried = reap_mine n own t flat h
 
   -- `drop` beside the list's
-  pub drop_carried : (label : List ℕ) → length own.labels + 1 < 2 ^ 24 → Carried n t (plan flat.header own (commands.Drop label)) (step flat n (commands.Drop label))
+  pub drop_carried : (label : List ℕ) → length own.labels + 1 < 2 ^ 56 → Carried n t (plan flat.header own (commands.Drop label)) (step flat n (commands.Drop label))
   unfolding plan step
   drop_carried label few = drop_both n own t flat h near (open_socket own label) (outcome.open_socket flat n label) (open_both n own t flat h.own_is h.sound.names label few)
 
@@ -39,7 +39,7 @@ module _ (n : ℕ) (own : Own) (t : Tables) (flat : Flat) (h : Means n own t fla
   drop_ends label = drop_ends_by (open_socket own label) (open_there n own t flat h.own_is h.sound.names label)
 
   -- `close` beside the list's
-  pub close_carried : (label : List ℕ) → length own.labels + 1 < 2 ^ 24 → Carried n t (plan flat.header own (commands.Close label)) (step flat n (commands.Close label))
+  pub close_carried : (label : List ℕ) → length own.labels + 1 < 2 ^ 56 → Carried n t (plan flat.header own (commands.Close label)) (step flat n (commands.Close label))
   unfolding plan step
   close_carried label few = close_both n own t flat h near (open_socket own label) (outcome.open_socket flat n label) (open_both n own t flat h.own_is h.sound.names label few)
 
@@ -55,7 +55,7 @@ module _ (n : ℕ) (own : Own) (t : Tables) (flat : Flat) (h : Means n own t fla
 -- what is asked of `listen`
 abbrev pub ListenCarried : Type 0
 ListenCarried =
-    (n : ℕ) (own : Own) (t : Tables) (flat : Flat) → Means n own t flat → n ≤ 64 → (label : List ℕ) → length own.labels + 1 < 2 ^ 24
+    (n : ℕ) (own : Own) (t : Tables) (flat : Flat) → Means n own t flat → n ≤ 64 → (label : List ℕ) → length own.labels + 1 < 2 ^ 56
     → Carried n t (plan flat.header own (commands.Listen label)) (step flat n (commands.Listen label))
 
 abbrev pub ListenEnds : Type 0

@@ -42,7 +42,7 @@ pub record Refuses (then_ : ChainOutcome → Asking Did) : Type 0 where
   pub on_taken : (holder : ℕ) → then_ (taken holder) ≡ ends (refused (errors.Taken holder))
   pub on_full : (owned held : ℕ) → then_ (full owned held) ≡ ends (refused (errors.Full owned held))
 
-module _ (n : ℕ) (own : Own) (t : Tables) (flat : Flat) (h : Means n own t flat) (label : List ℕ) (few : length own.labels + 1 < 2 ^ 24)
+module _ (n : ℕ) (own : Own) (t : Tables) (flat : Flat) (h : Means n own t flat) (label : List ℕ) (few : length own.labels + 1 < 2 ^ 56)
     (a : Owner) (named : a.name ≡ new_name n own t flat h) (claims : IsClaim a) where
   -- the newcomer
   abbrev pub new : Socket
@@ -77,7 +77,7 @@ module _ (n : ℕ) (own : Own) (t : Tables) (flat : Flat) (h : Means n own t fla
   good_as k room q r e g = subst (λ (b : Bool). Good_so (out_as b (has_room flat)) e) (sym q) (subst (λ (b : Bool). Good_so (out_as k b) e) (sym r) g)
 
   of_section : is_open_in n new ≡ true
-  of_section = eq-eqb _ n (subst (λ (k : ℕ). k / 2 ^ 24 ≡ n) (sym named) (new_section n own t flat h few))
+  of_section = eq-eqb _ n (subst (λ (k : ℕ). k / 2 ^ 56 ≡ n) (sym named) (new_section n own t flat h few))
 
   came_good : (e : Ended Did) → HasCome own flat a beside_list e → Good_so (out_as false true) e
   came_good e c =

@@ -96,7 +96,7 @@ module _ (n : ℕ) (own : Own) (t : Tables) (flat : Flat) (h : Means n own t fla
       others : (y : Mine) (k : Option Kind) → name ≢ y.owner.name → StandsAs t.chains y k → StandsAs chains y k
       others = stays_handed t.chains flat h.tables.chains h.shape h.sound.names s at extra place kinds.Full full_stands w kinds.TimeWait slot free
 
-      words : (v : ℕ) → v % 2 ^ 32 ≢ name → stands_in_some v t.chains.rows ≡ true → stands_in_some v chains.rows ≡ true
+      words : (v : ℕ) → v % 2 ^ 64 ≢ name → stands_in_some v t.chains.rows ≡ true → stands_in_some v chains.rows ≡ true
       words = words_handed t.chains flat h.tables.chains h.shape h.sound.names s at extra place kinds.Full full_stands w kinds.TimeWait slot free
 
       asked : IsDone t.buckets (owner_key s.owner) (requests.ToTimeWait name) after
@@ -118,7 +118,7 @@ module _ (n : ℕ) (own : Own) (t : Tables) (flat : Flat) (h : Means n own t fla
         tables = record {
           owners = asked.left.owners;
           chains = chains_mean;
-          groups = groups_stay t left flat after h.tables.groups asked.left.groups refl (λ v g st. words v (others_grouped name flat.groups ungrouped (v % 2 ^ 32) g) st);
+          groups = groups_stay t left flat after h.tables.groups asked.left.groups refl (λ v g st. words v (others_grouped name flat.groups ungrouped (v % 2 ^ 64) g) st);
         };
         own_is = own_waits n own t flat h.own_is h.sound s at mine left own.moment waiter refl refl
             (each_weaken (λ (y : Mine). StandsAs t.chains y (kind_of y.owner.state)) (λ (y : Mine). name ≢ y.owner.name → StandsAs chains y (kind_of y.owner.state)) own.sockets

@@ -49,7 +49,7 @@ module _ (n : ℕ) (own : Own) (t : Tables) (flat : Flat) (h : Means n own t fla
     connect_ends_by (Some m) there = let c = connect_open m there.0 there.1 in (c.ended, c.runs)
 
   -- `connect` beside the list's
-  pub connect_carried : (label : List ℕ) (from : Option ℕ) (to : End) → length own.labels + 1 < 2 ^ 24
+  pub connect_carried : (label : List ℕ) (from : Option ℕ) (to : End) → length own.labels + 1 < 2 ^ 56
       → Carried n t (plan flat.header own (commands.Connect label from to)) (step flat n (commands.Connect label from to))
   unfolding plan step
   connect_carried label from to few = connect_both from to (open_socket own label) (outcome.open_socket flat n label) (open_both n own t flat h.own_is h.sound.names label few)

@@ -30,7 +30,7 @@ ends_so n own t flat command out c = (c.ended, c.runs)
 
 module _ (n : ℕ) (own : Own) (t : Tables) (flat : Flat) (h : Means n own t flat) where
   -- `bind` beside the list's
-  pub bind_carried : (label : List ℕ) (end : End) → length own.labels + 1 < 2 ^ 24 → Carried n t (plan flat.header own (commands.Bind label end)) (step flat n (commands.Bind label end))
+  pub bind_carried : (label : List ℕ) (end : End) → length own.labels + 1 < 2 ^ 56 → Carried n t (plan flat.header own (commands.Bind label end)) (step flat n (commands.Bind label end))
   unfolding plan step
   bind_carried label end few = bind_both n own t flat h end (open_socket own label) (outcome.open_socket flat n label) (open_both n own t flat h.own_is h.sound.names label few)
 
@@ -53,7 +53,7 @@ module _ (n : ℕ) (own : Own) (t : Tables) (flat : Flat) (h : Means n own t fla
   at_ends moment = ends_so n own t flat (commands.At moment) (step flat n (commands.At moment)) (at_carried moment)
 
   -- `socket` beside the list's
-  pub socket_carried : (label : List ℕ) (options : Options) → length own.labels + 1 < 2 ^ 24
+  pub socket_carried : (label : List ℕ) (options : Options) → length own.labels + 1 < 2 ^ 56
       → Carried n t (plan flat.header own (commands.Socket label options)) (step flat n (commands.Socket label options))
   unfolding plan step
   socket_carried label options few = socket_mine n own t flat h label options few
@@ -76,11 +76,11 @@ module _ (n : ℕ) (own : Own) (t : Tables) (flat : Flat) (h : Means n own t fla
 -- what each command comes to, beside the list
 abbrev pub AllCarried : Type 0
 AllCarried =
-    (n : ℕ) (own : Own) (t : Tables) (flat : Flat) (command : Command) → n ≤ 64 → length own.labels + 1 < 2 ^ 24 → is_lookup command ≡ false
+    (n : ℕ) (own : Own) (t : Tables) (flat : Flat) (command : Command) → n ≤ 64 → length own.labels + 1 < 2 ^ 56 → is_lookup command ≡ false
     → Means n own t flat → Carried n t (plan flat.header own command) (step flat n command)
 
 -- all commands refine the list's, where those are carried out so and the list stays sound
 pub plans_refine : StaysSound → AllCarried → PlansRefine
 plans_refine stays all n own t flat command ended near few looks h runs =
     refines n t (plan flat.header own command) flat command ended (all n own t flat command near few looks h)
-    (stays flat n command (subst (λ (l : List (List ℕ)). length l + 1 < 2 ^ 24) (sym (same_labels n own t flat h.own_is)) few) h.sound) runs
+    (stays flat n command (subst (λ (l : List (List ℕ)). length l + 1 < 2 ^ 56) (sym (same_labels n own t flat h.own_is)) few) h.sound) runs

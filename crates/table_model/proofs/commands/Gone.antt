@@ -86,7 +86,7 @@ stays_unhashed c flat mean m kind st y k d sy =
     (stand_unhashed c flat.header.shape flat.header.seed (weighing flat) (holds c flat mean) m.place.bucket (stands_test m) x is.found y (λ e. d (sym is.name ∙ e)) k sy)
 
 -- and so do members of other names
-pub words_unhashed : (c : Chains) (flat : Flat) (mean : ChainsMean c flat) (m : Mine) (kind : Kind) → StandsAs c m (Some kind) → (w : ℕ) → w % 2 ^ 32 ≢ m.owner.name → stands_in_some w c.rows ≡ true → stands_in_some w (unhashed c m.place).rows ≡ true
+pub words_unhashed : (c : Chains) (flat : Flat) (mean : ChainsMean c flat) (m : Mine) (kind : Kind) → StandsAs c m (Some kind) → (w : ℕ) → w % 2 ^ 64 ≢ m.owner.name → stands_in_some w c.rows ≡ true → stands_in_some w (unhashed c m.place).rows ≡ true
 words_unhashed c flat mean m kind st w d sw =
     let there = stands_there c m kind st in
     let x : Hashed = there.0 in
@@ -120,8 +120,8 @@ module _ (n : ℕ) (own : Own) (t : Tables) (flat : Flat) (h : Means n own t fla
   abbrev left : Flat
   left = record flat { sockets = without name flat.sockets; groups = leave name flat.groups }
 
-  small : name < 2 ^ 32
-  small = let section : name / 2 ^ 24 ≡ n = section_is n own t flat h.own_is h.sound s at mine in omega (arith, section, near)
+  small : name < 2 ^ 64
+  small = let section : name / 2 ^ 56 ≡ n = section_is n own t flat h.own_is h.sound s at mine in omega (arith, section, near)
 
   gone : list_any (has_name name) left.sockets ≡ false
   gone = no_name_left name flat.sockets
@@ -130,7 +130,7 @@ module _ (n : ℕ) (own : Own) (t : Tables) (flat : Flat) (h : Means n own t fla
   pub record HasLeft (chains : Chains) : Type 0 where
     pub means : ChainsMean chains left
     pub others : (y : Mine) (k : Option Kind) → name ≢ y.owner.name → StandsAs t.chains y k → StandsAs chains y k
-    pub words : (w : ℕ) → w % 2 ^ 32 ≢ name → stands_in_some w t.chains.rows ≡ true → stands_in_some w chains.rows ≡ true
+    pub words : (w : ℕ) → w % 2 ^ 64 ≢ name → stands_in_some w t.chains.rows ≡ true → stands_in_some w chains.rows ≡ true
 
   -- its card is unhashed
   pub left_unhashed : (m : Mine) (kind : Kind) → m.owner ≡ s.owner → StandsAs t.chains m (Some kind) → HasLeft (unhashed t.chains m.place)
@@ -196,7 +196,7 @@ module _ (n : ℕ) (own : Own) (t : Tables) (flat : Flat) (h : Means n own t fla
           owners = owners_kept t.buckets flat h.tables.owners h.shape.bind left refl
               (λ f. omega (arith, without_weighs name (owns f) s flat.sockets h.sound.names at, ap (λ (b : Bool). cond {A = ℕ} b (f s.owner) 0) unbound));
           chains = has.means;
-          groups = groups_stay t (with_chains t chains) flat left h.tables.groups refl none_leave (λ w g st. has.words w (others_grouped name flat.groups ungrouped (w % 2 ^ 32) g) st);
+          groups = groups_stay t (with_chains t chains) flat left h.tables.groups refl none_leave (λ w g st. has.words w (others_grouped name flat.groups ungrouped (w % 2 ^ 64) g) st);
         };
         own_is = own_left (with_chains t chains) has.others;
       }

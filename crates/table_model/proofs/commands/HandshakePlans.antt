@@ -56,7 +56,7 @@ module _ (n : ℕ) (own : Own) (t : Tables) (flat : Flat) (h : Means n own t fla
 
     -- the same under the name of the label that the command gives
     carried_by : (plan_of : ℕ → Option Mine → Asking Replied) (out_of : ℕ → Option Socket → Outcome) → Carried n t (plan_of name None) (out_of name None)
-        → ((m : Mine) (s : Socket) → IsOpen n t flat m s → Carried n t (plan_of name (Some m)) (out_of name (Some s))) → (named : List ℕ) → length own.labels + 1 < 2 ^ 24
+        → ((m : Mine) (s : Socket) → IsOpen n t flat m s → Carried n t (plan_of name (Some m)) (out_of name (Some s))) → (named : List ℕ) → length own.labels + 1 < 2 ^ 56
         → Carried n t (plan_of (own_words.next_name own) (open_socket own named)) (out_of (next_name n flat.sections) (outcome.open_socket flat n named))
     carried_by plan_of out_of none some named few =
         under_name n own t flat h (λ k. plan_of k (open_socket own named)) (λ k. out_of k (outcome.open_socket flat n named))
@@ -66,7 +66,7 @@ module _ (n : ℕ) (own : Own) (t : Tables) (flat : Flat) (h : Means n own t fla
     ends_by plan_of none some named = ends_there plan_of none some (open_socket own named) (open_there n own t flat h.own_is h.sound.names named)
 
     module _ (from at : End) where
-      accept_open : length own.labels + 1 < 2 ^ 24 → (m : Mine) (s : Socket) → IsOpen n t flat m s
+      accept_open : length own.labels + 1 < 2 ^ 56 → (m : Mine) (s : Socket) → IsOpen n t flat m s
           → Carried n t (accept_command flat.header labelled name (Some m) from at) (flat_connect.accept given_so name (Some s) from at)
       accept_open few m s is =
           subst (λ (a : Owner). Carried n t (accept_command flat.header labelled name (Some (plain a)) from at) (flat_connect.accept given_so name (Some s) from at)) (sym is.same)
@@ -76,7 +76,7 @@ module _ (n : ℕ) (own : Own) (t : Tables) (flat : Flat) (h : Means n own t fla
       accept_open_ends k m s is =
           subst (λ (a : Owner). EndsSo (accept_command flat.header labelled k (Some (plain a)) from at)) (sym is.same) (accept_here_ends n own t flat h s is.listed label from at k)
 
-      syn_open : length own.labels + 1 < 2 ^ 24 → (m : Mine) (s : Socket) → IsOpen n t flat m s
+      syn_open : length own.labels + 1 < 2 ^ 56 → (m : Mine) (s : Socket) → IsOpen n t flat m s
           → Carried n t (syn_command flat.header labelled name (Some m) from at) (flat_connect.syn given_so name (Some s) from at)
       syn_open few m s is =
           subst (λ (a : Owner). Carried n t (syn_command flat.header labelled name (Some (plain a)) from at) (flat_connect.syn given_so name (Some s) from at)) (sym is.same)
@@ -86,7 +86,7 @@ module _ (n : ℕ) (own : Own) (t : Tables) (flat : Flat) (h : Means n own t fla
       syn_open_ends k m s is =
           subst (λ (a : Owner). EndsSo (syn_command flat.header labelled k (Some (plain a)) from at)) (sym is.same) (syn_here_ends n own t flat h s label from at k)
 
-    ack_open : length own.labels + 1 < 2 ^ 24 → (m : Mine) (s : Socket) → IsOpen n t flat m s
+    ack_open : length own.labels + 1 < 2 ^ 56 → (m : Mine) (s : Socket) → IsOpen n t flat m s
         → Carried n t (ack_command flat.header labelled name (Some m)) (flat_connect.ack given_so n name (Some s))
     ack_open few m s is =
         subst (λ (x : Mine). Carried n t (ack_command flat.header labelled name (Some x)) (flat_connect.ack given_so n name (Some s))) (λ i. record m { owner = sym is.same i })
@@ -98,7 +98,7 @@ module _ (n : ℕ) (own : Own) (t : Tables) (flat : Flat) (h : Means n own t fla
         (acked_ends n own t flat h label s m.extra m.place is.listed is.mine (stands_so n t flat m s is) k)
 
   -- `accept` beside the list's
-  pub accept_carried : (listener label : List ℕ) (from at : End) → length own.labels + 1 < 2 ^ 24
+  pub accept_carried : (listener label : List ℕ) (from at : End) → length own.labels + 1 < 2 ^ 56
       → Carried n t (plan flat.header own (commands.Accept listener label from at)) (step flat n (commands.Accept listener label from at))
   unfolding plan step
   accept_carried listener label from at few =
@@ -112,7 +112,7 @@ module _ (n : ℕ) (own : Own) (t : Tables) (flat : Flat) (h : Means n own t fla
       ends_by label (λ m. accept_command flat.header (labelled label) (own_words.next_name own) m from at) (_, refl) (accept_open_ends label from at (own_words.next_name own)) listener
 
   -- `syn` beside the list's
-  pub syn_carried : (listener label : List ℕ) (from at : End) → length own.labels + 1 < 2 ^ 24
+  pub syn_carried : (listener label : List ℕ) (from at : End) → length own.labels + 1 < 2 ^ 56
       → Carried n t (plan flat.header own (commands.Syn listener label from at)) (step flat n (commands.Syn listener label from at))
   unfolding plan step
   syn_carried listener label from at few =
@@ -126,7 +126,7 @@ module _ (n : ℕ) (own : Own) (t : Tables) (flat : Flat) (h : Means n own t fla
       ends_by label (λ m. syn_command flat.header (labelled label) (own_words.next_name own) m from at) (_, refl) (syn_open_ends label from at (own_words.next_name own)) listener
 
   -- `ack` beside the list's
-  pub ack_carried : (request label : List ℕ) → length own.labels + 1 < 2 ^ 24 → Carried n t (plan flat.header own (commands.Ack request label)) (step flat n (commands.Ack request label))
+  pub ack_carried : (request label : List ℕ) → length own.labels + 1 < 2 ^ 56 → Carried n t (plan flat.header own (commands.Ack request label)) (step flat n (commands.Ack request label))
   unfolding plan step
   ack_carried request label few =
       carried_by label (λ k m. ack_command flat.header (labelled label) k m) (λ k s. flat_connect.ack (given_so label) n k s)

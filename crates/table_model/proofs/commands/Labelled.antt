@@ -41,12 +41,12 @@ module _ (n : ℕ) (own : Own) (t : Tables) (flat : Flat) (h : Means n own t fla
   under_name plan out c =
       subst (λ (j : ℕ). Carried n t (plan j) (out (next_name n flat.sections))) (sym own_name) (subst (λ (k : ℕ). Carried n t (plan new_name) (out k)) (sym flat_name) c)
 
-  module _ (few : length own.labels + 1 < 2 ^ 24) where
+  module _ (few : length own.labels + 1 < 2 ^ 56) where
     is_new : (s : Socket) → IsGiven flat.sections s → s.owner.name ≢ new_name
     is_new s given = λ e.
-        let section : s.owner.name / 2 ^ 24 ≡ n = omega (arith, e, few) in
-        let place : s.owner.name % 2 ^ 24 ≡ length own.labels + 1 = omega (arith, e, few) in
-        let count : length (labels_of (s.owner.name / 2 ^ 24) flat.sections) ≡ length own.labels = ap (λ (k : ℕ). length (labels_of k flat.sections)) section ∙ ap (λ (l : List (List ℕ)). length l) (same_labels n own t flat h.own_is) in
+        let section : s.owner.name / 2 ^ 56 ≡ n = omega (arith, e, few) in
+        let place : s.owner.name % 2 ^ 56 ≡ length own.labels + 1 = omega (arith, e, few) in
+        let count : length (labels_of (s.owner.name / 2 ^ 56) flat.sections) ≡ length own.labels = ap (λ (k : ℕ). length (labels_of k flat.sections)) section ∙ ap (λ (l : List (List ℕ)). length l) (same_labels n own t flat h.own_is) in
         absurd (omega (arith, given.last, place, count))
 
     -- it is the name of no socket in the list
@@ -54,7 +54,7 @@ module _ (n : ℕ) (own : Own) (t : Tables) (flat : Flat) (h : Means n own t fla
     fresh_name = each_weaken (IsGiven flat.sections) (λ (x : Socket). x.owner.name ≢ new_name) flat.sockets is_new h.sound.given
 
     -- of section n
-    pub new_section : new_name / 2 ^ 24 ≡ n
+    pub new_section : new_name / 2 ^ 56 ≡ n
     new_section = omega (arith, few)
 
   -- and of none that the section left in TIME_WAIT

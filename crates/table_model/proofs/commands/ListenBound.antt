@@ -122,8 +122,8 @@ module _ (n : ℕ) (own : Own) (t : Tables) (flat : Flat) (h : Means n own t fla
   abbrev t1 : Tables
   t1 = with_buckets t buckets
 
-  small : a.name < 2 ^ 32
-  small = let section : a.name / 2 ^ 24 ≡ n = section_is n own t flat h.own_is h.sound s at mine in omega (arith, section, few)
+  small : a.name < 2 ^ 64
+  small = let section : a.name / 2 ^ 56 ≡ n = section_is n own t flat h.own_is h.sound s at mine in omega (arith, section, few)
 
   not_listening : is_listening a.state ≡ false
   not_listening = ap is_listening bound

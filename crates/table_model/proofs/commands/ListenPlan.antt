@@ -23,7 +23,7 @@ module _ (n : ℕ) (own : Own) (t : Tables) (flat : Flat) (h : Means n own t fla
   bound_sound s is unbound = bind_search_sound flat n s s.owner.addr unbound h.sound (is_open flat n label s is)
 
   -- `listen` beside the list's
-  pub listen_carried : length own.labels + 1 < 2 ^ 24 → Carried n t (plan flat.header own (commands.Listen label)) (step flat n (commands.Listen label))
+  pub listen_carried : length own.labels + 1 < 2 ^ 56 → Carried n t (plan flat.header own (commands.Listen label)) (step flat n (commands.Listen label))
   unfolding plan step
   listen_carried room =
       listen_both n own t flat h few (open_socket own label) (open_in_list flat n label) (open_both n own t flat h.own_is h.sound.names label room) bound_sound

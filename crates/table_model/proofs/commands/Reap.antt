@@ -246,7 +246,7 @@ module _ (n : ℕ) (own : Own) (base : Flat) (shape : IsShape base.header) where
 
     words : EachWord (λ m. stands_in_some m chains_after.rows ≡ true) t.buckets
     words =
-        words_both (λ m. stands_in_some m t.chains.rows ≡ true) (λ m. name ≢ m % 2 ^ 32) (λ m. stands_in_some m chains_after.rows ≡ true) t.buckets
+        words_both (λ m. stands_in_some m t.chains.rows ≡ true) (λ m. name ≢ m % 2 ^ 64) (λ m. stands_in_some m chains_after.rows ≡ true) t.buckets
         (λ m st d.
         subst (λ (j : ℕ). stands_in_some m (unhashed t.chains (record { bucket = its_place.bucket; slot = j })).rows ≡ true) there.1.slot
         (some_unhashed t.chains base.header.shape base.header.seed (weighing (at xs)) (holds t.chains (at xs) k.tables.chains) its_place.bucket (stands_test stood) there.0 there.1.found m

@@ -137,7 +137,7 @@ module _ (n : ℕ) (own : Own) (base : Flat) (shape : IsShape base.header) (mome
         → Reaped t xs (record { owner = s.owner; extra = s.stamp; place = place } ∷ ws) count
     is_there s place found is over =
         let w : Mine = record { owner = s.owner; extra = s.stamp; place = place } in
-        let state : s.owner.state ≡ states.TimeWait = is_waiting s.owner.state (and_parts (is_time_wait s.owner.state) (s.owner.name / 2 ^ 24 == n) is.waits).0 in
+        let state : s.owner.state ≡ states.TimeWait = is_waiting s.owner.state (and_parts (is_time_wait s.owner.state) (s.owner.name / 2 ^ 56 == n) is.waits).0 in
         let card = card_of kinds.TimeWait w in
         let there = hashed_there n own base shape t xs k s place found state is.shut in
         let after : Tables = tables_after n own base shape t xs k s place found state is.shut in

@@ -58,7 +58,7 @@ module _ (n : ℕ) (own : Own) (t : Tables) (flat : Flat) (h : Means n own t fla
       (sym (same_moment n own t flat h.own_is)) (at_by moment (ltb moment own.moment))
 
   -- `socket`
-  module _ (label : List ℕ) (options : Options) (few : length own.labels + 1 < 2 ^ 24) where
+  module _ (label : List ℕ) (options : Options) (few : length own.labels + 1 < 2 ^ 56) where
     abbrev name : ℕ
     name = name_at n (length own.labels)
 
@@ -75,7 +75,7 @@ module _ (n : ℕ) (own : Own) (t : Tables) (flat : Flat) (h : Means n own t fla
     one_more = omega (arith, length-append own.labels (label ∷ []))
 
     of_section : is_open_in n new ≡ true
-    of_section = eq-eqb (name / 2 ^ 24) n (omega (arith, few))
+    of_section = eq-eqb (name / 2 ^ 56) n (omega (arith, few))
 
     socket_tables : TablesMean t after
     socket_tables =

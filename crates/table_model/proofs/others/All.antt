@@ -131,7 +131,7 @@ module _ (t : Tables) (flat : Flat) (chains : ChainsMean t.chains flat) (sound :
       let slot : ℕ = w.place.slot in
       let name : w.owner.name ≡ s.owner.name = ap (λ (o : Owner). o.name) same in
       let one : Only (has_name s.owner.name) s flat.sockets = only_named (has_name s.owner.name) flat.sockets s s.owner.name listed refl sound.names in
-      let named : s.named ≡ true = (and_parts s.named (s.owner.name / 2 ^ 24 == m) mine).0 in
+      let named : s.named ≡ true = (and_parts s.named (s.owner.name / 2 ^ 56 == m) mine).0 in
       let open_state : is_time_wait s.owner.state ≡ false = not-true (is_time_wait s.owner.state) (sym awake ∙ named) in
       let weight : Card → ℕ = λ card. cond {A = ℕ} (is_time_wait_kind card.kind) 1 0 in
       let kind_is : is_time_wait_kind x.card.kind ≡ false =
@@ -172,19 +172,19 @@ module _ (t : Tables) (flat : Flat) (chains : ChainsMean t.chains flat) (sound :
         once slot,
       )
 
-  module _ (n m : ℕ) (apart : m ≢ n) (w : Mine) (kind : Kind) (is : w.owner.name / 2 ^ 24 ≡ m) (stands : StandsAs c w (Some kind)) where
-    elsewhere_by : (x : Mine) (o : Option Kind) → x.owner.name / 2 ^ 24 ≡ n → StandsAs c x o → MayLeave (Elsewhere w.place.slot) x o
+  module _ (n m : ℕ) (apart : m ≢ n) (w : Mine) (kind : Kind) (is : w.owner.name / 2 ^ 56 ≡ m) (stands : StandsAs c w (Some kind)) where
+    elsewhere_by : (x : Mine) (o : Option Kind) → x.owner.name / 2 ^ 56 ≡ n → StandsAs c x o → MayLeave (Elsewhere w.place.slot) x o
     elsewhere_by x None there st = tt
-    elsewhere_by x (Some l) there st = slots_differ w x kind l (λ e. apart (sym is ∙ (ap (λ k. k / 2 ^ 24) e ∙ there))) stands st
+    elsewhere_by x (Some l) there st = slots_differ w x kind l (λ e. apart (sym is ∙ (ap (λ k. k / 2 ^ 56) e ∙ there))) stands st
 
     elsewhere : (o : Option Mine) → OpenThere n t flat o → OpenMayLeave (Elsewhere w.place.slot) o
     elsewhere None there = tt
     elsewhere (Some x) (s, there) =
         elsewhere_by x (kind_of x.owner.state)
-        (ap (λ (a : Owner). a.name / 2 ^ 24) there.same ∙ eqb-true (s.owner.name / 2 ^ 24) n (and_parts s.named (s.owner.name / 2 ^ 24 == n) there.mine).1)
+        (ap (λ (a : Owner). a.name / 2 ^ 56) there.same ∙ eqb-true (s.owner.name / 2 ^ 56) n (and_parts s.named (s.owner.name / 2 ^ 56 == n) there.mine).1)
         there.stands
 
-module _ (n m : ℕ) (own other : Own) (t : Tables) (flat : Flat) (command : Command) (ended : Ended Replied) (few : length own.labels + 1 < 2 ^ 24) (apart : m ≢ n)
+module _ (n m : ℕ) (own other : Own) (t : Tables) (flat : Flat) (command : Command) (ended : Ended Replied) (few : length own.labels + 1 < 2 ^ 56) (apart : m ≢ n)
     (mine : Means n own t flat) (theirs : Means m other t flat) (runs : run t (plan flat.header own command) ≡ Some ended) where
   abbrev left : Flat
   left = (step flat n command).flat
@@ -192,16 +192,16 @@ module _ (n m : ℕ) (own other : Own) (t : Tables) (flat : Flat) (command : Com
   stays_by : (w : Mine) (o : Option Kind) → HasSocket m flat w.owner → StandsAs t.chains w o → StandsAs ended.tables.chains w o
   stays_by w None has stands = tt
   stays_by w (Some kind) has stands =
-      let of_other : w.owner.name / 2 ^ 24 ≡ m =
-      ap (λ (a : Owner). a.name / 2 ^ 24) has.1 ∙ eqb-true (has.0.owner.name / 2 ^ 24) m (and_parts has.0.named (has.0.owner.name / 2 ^ 24 == m) has.3).1 in
+      let of_other : w.owner.name / 2 ^ 56 ≡ m =
+      ap (λ (a : Owner). a.name / 2 ^ 56) has.1 ∙ eqb-true (has.0.owner.name / 2 ^ 56) m (and_parts has.0.named (has.0.owner.name / 2 ^ 56 == m) has.3).1 in
       keeps_stands ended.tables.chains w kind
       (keeps_run w (card_of kind w) AnyReply (plan flat.header own command) t ended
       (plan_asks (λ new. Unit {0}) (Elsewhere w.place.slot) (λ new e. tt) (λ new. tt) flat.header own
       (λ label. elsewhere t flat theirs.tables.chains theirs.sound n m apart w kind of_other stands (open_socket own label) (open_there n own t flat mine.own_is mine.sound.names label)) command)
       (keeps_now t flat theirs.tables.chains theirs.sound m w kind has stands) runs)
 
-  few_labels : length (labels_of n flat.sections) + 1 < 2 ^ 24
-  few_labels = subst (λ (l : List (List ℕ)). length l + 1 < 2 ^ 24) (sym (same_labels n own t flat mine.own_is)) few
+  few_labels : length (labels_of n flat.sections) + 1 < 2 ^ 56
+  few_labels = subst (λ (l : List (List ℕ)). length l + 1 < 2 ^ 56) (sym (same_labels n own t flat mine.own_is)) few
 
   header_stays : left.header ≡ flat.header
   header_stays = (step_stays flat n command).0

@@ -41,26 +41,26 @@ kept_more q (y ∷ xs) x e = ap (λ l. cond (q y) (y ∷ l) l) (kept_more q xs x
 
 module _ (n m : ℕ) (apart : m ≢ n) where
   -- what has a name of section n is nothing of section m
-  not_named : (s : Socket) → s.owner.name / 2 ^ 24 ≡ n → (s.owner.name / 2 ^ 24 == m) ≡ false
-  not_named s is = ne_eqb (s.owner.name / 2 ^ 24) m (λ e. apart (sym e ∙ is))
+  not_named : (s : Socket) → s.owner.name / 2 ^ 56 ≡ n → (s.owner.name / 2 ^ 56 == m) ≡ false
+  not_named s is = ne_eqb (s.owner.name / 2 ^ 56) m (λ e. apart (sym e ∙ is))
 
   and_no : (a b : Bool) → b ≡ false → (a && b) ≡ false
   and_no true b e = e
   and_no false b e = refl
 
-  not_mine : (s : Socket) → s.owner.name / 2 ^ 24 ≡ n → is_open_in m s ≡ false
-  not_mine s is = and_no s.named (s.owner.name / 2 ^ 24 == m) (not_named s is)
+  not_mine : (s : Socket) → s.owner.name / 2 ^ 56 ≡ n → is_open_in m s ≡ false
+  not_mine s is = and_no s.named (s.owner.name / 2 ^ 56 == m) (not_named s is)
 
-  no_wait : (f : Owner → ℕ → ℕ) (s : Socket) → s.owner.name / 2 ^ 24 ≡ n → weighs_as_wait f m s ≡ 0
-  no_wait f s is = ap (λ (b : Bool). cond {A = ℕ} b (f s.owner s.stamp) 0) (and_no (is_time_wait s.owner.state) (s.owner.name / 2 ^ 24 == m) (not_named s is))
+  no_wait : (f : Owner → ℕ → ℕ) (s : Socket) → s.owner.name / 2 ^ 56 ≡ n → weighs_as_wait f m s ≡ 0
+  no_wait f s is = ap (λ (b : Bool). cond {A = ℕ} b (f s.owner s.stamp) 0) (and_no (is_time_wait s.owner.state) (s.owner.name / 2 ^ 56 == m) (not_named s is))
 
-  no_name : (name : ℕ) (s : Socket) → name / 2 ^ 24 ≡ m → s.owner.name / 2 ^ 24 ≡ n → has_name name s ≡ false
-  no_name name s here there = ne_eqb s.owner.name name (λ e. apart (sym here ∙ (ap (λ k. k / 2 ^ 24) (sym e) ∙ there)))
+  no_name : (name : ℕ) (s : Socket) → name / 2 ^ 56 ≡ m → s.owner.name / 2 ^ 56 ≡ n → has_name name s ≡ false
+  no_name name s here there = ne_eqb s.owner.name name (λ e. apart (sym here ∙ (ap (λ k. k / 2 ^ 56) (sym e) ∙ there)))
 
   -- a socket of section n takes the place of the one of its name
-  module _ (new : Socket) (is : new.owner.name / 2 ^ 24 ≡ n) where
-    old_is : (x : Socket) → has_name new.owner.name x ≡ true → x.owner.name / 2 ^ 24 ≡ n
-    old_is x e = ap (λ k. k / 2 ^ 24) (eqb-true x.owner.name new.owner.name e) ∙ is
+  module _ (new : Socket) (is : new.owner.name / 2 ^ 56 ≡ n) where
+    old_is : (x : Socket) → has_name new.owner.name x ≡ true → x.owner.name / 2 ^ 56 ≡ n
+    old_is x e = ap (λ k. k / 2 ^ 56) (eqb-true x.owner.name new.owner.name e) ∙ is
 
     mine_at : (x : Socket) (ys zs : List Socket) (b : Bool) → has_name new.owner.name x ≡ b → filter (is_open_in m) ys ≡ filter (is_open_in m) zs
         → filter (is_open_in m) (cond b new x ∷ ys) ≡ filter (is_open_in m) (x ∷ zs)
@@ -82,7 +82,7 @@ module _ (n m : ℕ) (apart : m ≢ n) where
     wait_put f (x ∷ xs) = omega (arith, wait_at f x (has_name new.owner.name x) refl, wait_put f xs)
 
   -- those that aren't kept are of section n
-  module _ (keep : Socket → Bool) (those : (x : Socket) → keep x ≡ false → x.owner.name / 2 ^ 24 ≡ n) where
+  module _ (keep : Socket → Bool) (those : (x : Socket) → keep x ≡ false → x.owner.name / 2 ^ 56 ≡ n) where
     mine_kept : (x : Socket) (ys zs : List Socket) (b : Bool) → keep x ≡ b → filter (is_open_in m) ys ≡ filter (is_open_in m) zs
         → filter (is_open_in m) (cond b (x ∷ ys) ys) ≡ filter (is_open_in m) (x ∷ zs)
     mine_kept x ys zs true e h = ap (λ l. cond (is_open_in m x) (x ∷ l) l) h
@@ -101,12 +101,12 @@ module _ (n m : ℕ) (apart : m ≢ n) where
     wait_filter f [] = refl
     wait_filter f (x ∷ xs) = wait_kept f x (filter keep xs) xs (keep x) refl (wait_filter f xs)
 
-    any_kept : (name : ℕ) (x : Socket) (ys zs : List Socket) (b : Bool) → name / 2 ^ 24 ≡ m → keep x ≡ b → list_any (has_name name) ys ≡ list_any (has_name name) zs
+    any_kept : (name : ℕ) (x : Socket) (ys zs : List Socket) (b : Bool) → name / 2 ^ 56 ≡ m → keep x ≡ b → list_any (has_name name) ys ≡ list_any (has_name name) zs
         → list_any (has_name name) (cond b (x ∷ ys) ys) ≡ (has_name name x || list_any (has_name name) zs)
     any_kept name x ys zs true here e h = ap (λ b. has_name name x || b) h
     any_kept name x ys zs false here e h = h ∙ sym (ap (λ b. b || list_any (has_name name) zs) (no_name name x here (those x e)))
 
-    any_filter : (name : ℕ) (xs : List Socket) → name / 2 ^ 24 ≡ m → list_any (has_name name) (filter keep xs) ≡ list_any (has_name name) xs
+    any_filter : (name : ℕ) (xs : List Socket) → name / 2 ^ 56 ≡ m → list_any (has_name name) (filter keep xs) ≡ list_any (has_name name) xs
     any_filter name [] here = refl
     any_filter name (x ∷ xs) here = any_kept name x (filter keep xs) xs (keep x) here refl (any_filter name xs here)
 
@@ -114,7 +114,7 @@ module _ (n m : ℕ) (apart : m ≢ n) where
     abbrev R : List Socket → Type 0
     R sockets = Rest m other sockets
 
-    still_there : (f : Owner → ℕ → ℕ) (xs ys : List Socket) → ((name : ℕ) → name / 2 ^ 24 ≡ m → list_any (has_name name) ys ≡ list_any (has_name name) xs)
+    still_there : (f : Owner → ℕ → ℕ) (xs ys : List Socket) → ((name : ℕ) → name / 2 ^ 56 ≡ m → list_any (has_name name) ys ≡ list_any (has_name name) xs)
         → total (weighs_if_there f ys) other.waits ≡ total (weighs_if_there f xs) other.waits
     still_there f xs ys same =
         total_each (weighs_if_there f ys) (weighs_if_there f xs) other.waits
@@ -122,27 +122,27 @@ module _ (n m : ℕ) (apart : m ≢ n) where
         (λ w g. ap (λ (b : Bool). cond {A = ℕ} b (f w.owner w.extra) 0) (same w.owner.name g.section)) given)
 
     alike : (xs ys : List Socket) → filter (is_open_in m) ys ≡ filter (is_open_in m) xs → ((f : Owner → ℕ → ℕ) → total (weighs_as_wait f m) ys ≡ total (weighs_as_wait f m) xs)
-        → ((name : ℕ) → name / 2 ^ 24 ≡ m → list_any (has_name name) ys ≡ list_any (has_name name) xs) → R xs → R ys
+        → ((name : ℕ) → name / 2 ^ 56 ≡ m → list_any (has_name name) ys ≡ list_any (has_name name) xs) → R xs → R ys
     alike xs ys mine waits same h = record {
       mine = h.mine ∙ sym (ap (map owner_of) mine);
       waits = λ f. still_there f xs ys same ∙ (h.waits f ∙ sym (waits f));
     }
 
-    pub rest_put : (new : Socket) (xs : List Socket) → new.owner.name / 2 ^ 24 ≡ n → R xs → R (put new xs)
+    pub rest_put : (new : Socket) (xs : List Socket) → new.owner.name / 2 ^ 56 ≡ n → R xs → R (put new xs)
     rest_put new xs is h = alike xs (put new xs) (mine_put new is xs) (λ f. wait_put new is f xs) (λ name here. any_put new name xs) h
 
-    pub rest_filter : (keep : Socket → Bool) (xs : List Socket) → ((x : Socket) → keep x ≡ false → x.owner.name / 2 ^ 24 ≡ n) → R xs → R (filter keep xs)
+    pub rest_filter : (keep : Socket → Bool) (xs : List Socket) → ((x : Socket) → keep x ≡ false → x.owner.name / 2 ^ 56 ≡ n) → R xs → R (filter keep xs)
     rest_filter keep xs those h = alike xs (filter keep xs) (mine_filter keep those xs) (λ f. wait_filter keep those f xs) (λ name here. any_filter keep those name xs here) h
 
-    pub rest_added : (new : Socket) (xs : List Socket) → new.owner.name / 2 ^ 24 ≡ n → R xs → R (xs ++ new ∷ [])
+    pub rest_added : (new : Socket) (xs : List Socket) → new.owner.name / 2 ^ 56 ≡ n → R xs → R (xs ++ new ∷ [])
     rest_added new xs is h =
         alike xs (xs ++ new ∷ []) (kept_more (is_open_in m) xs new (not_mine new is))
         (λ f. let none : weighs_as_wait f m new ≡ 0 = no_wait f new is in omega (arith, total-append (weighs_as_wait f m) xs (new ∷ []), none))
         (λ name here. any_more (has_name name) xs new (no_name name new here is)) h
 
-    pub rest_without : (s : Socket) (xs : List Socket) → s.owner.name / 2 ^ 24 ≡ n → R xs → R (without s.owner.name xs)
+    pub rest_without : (s : Socket) (xs : List Socket) → s.owner.name / 2 ^ 56 ≡ n → R xs → R (without s.owner.name xs)
     rest_without s xs is h =
-        rest_filter (λ x. not (has_name s.owner.name x)) xs (λ x e. ap (λ k. k / 2 ^ 24) (eqb-true x.owner.name s.owner.name (not-false (has_name s.owner.name x) e)) ∙ is) h
+        rest_filter (λ x. not (has_name s.owner.name x)) xs (λ x e. ap (λ k. k / 2 ^ 56) (eqb-true x.owner.name s.owner.name (not-false (has_name s.owner.name x) e)) ∙ is) h
 
     module _ (t : Tables) (flat : Flat) (own_is : OwnMeans m other t flat) (sound : IsSound flat) where
       -- but for the TIME_WAITs of a four-tuple, where there is one

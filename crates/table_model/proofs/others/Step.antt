@@ -33,21 +33,21 @@ use Rattle.table_model.proofs.others.Sockets.{Rest, rest_of, rest_put, rest_filt
 
 -- a section's name
 abbrev IsOf : ℕ → ℕ → Type 0
-IsOf n name = name / 2 ^ 24 ≡ n
+IsOf n name = name / 2 ^ 56 ≡ n
 
 abbrev AreOf : ℕ → Option Socket → Type 0
 AreOf n None = Unit {0}
 AreOf n (Some s) = IsOf n s.owner.name
 
-name_of : (n k : ℕ) → k + 1 < 2 ^ 24 → IsOf n (name_at n k)
+name_of : (n k : ℕ) → k + 1 < 2 ^ 56 → IsOf n (name_at n k)
 name_of n k few = omega arith
 
 found_of : (n name : ℕ) (sockets : List Socket) (o : Option Socket) → IsOf n name → open_named name sockets ≡ o → AreOf n o
 found_of n name sockets None is e = tt
 found_of n name sockets (Some s) is e =
-    ap (λ k. k / 2 ^ 24) (eqb-true s.owner.name name (and_parts (has_name name s) s.named (found_passes (λ x. has_name name x && x.named) sockets s e)).0) ∙ is
+    ap (λ k. k / 2 ^ 56) (eqb-true s.owner.name name (and_parts (has_name name s) s.named (found_passes (λ x. has_name name x && x.named) sockets s e)).0) ∙ is
 
-labelled_of : (n : ℕ) (sockets : List Socket) (labels : List (List ℕ)) (label : List ℕ) (o : Option ℕ) → position (λ l. bytes_eq l label) labels ≡ o → length labels + 1 < 2 ^ 24
+labelled_of : (n : ℕ) (sockets : List Socket) (labels : List (List ℕ)) (label : List ℕ) (o : Option ℕ) → position (λ l. bytes_eq l label) labels ≡ o → length labels + 1 < 2 ^ 56
     → AreOf n (option_and_then (λ name. open_named name sockets) (option_map (name_at n) o))
 labelled_of n sockets labels label None e few = tt
 labelled_of n sockets labels label (Some k) e few =
@@ -55,7 +55,7 @@ labelled_of n sockets labels label (Some k) e few =
     found_of n (name_at n k) sockets (open_named (name_at n k) sockets) (name_of n k (omega (arith, less, few))) refl
 
 -- the open socket that a label names has a name of the section
-open_of : (n : ℕ) (flat : Flat) (label : List ℕ) → length (labels_of n flat.sections) + 1 < 2 ^ 24 → AreOf n (open_socket flat n label)
+open_of : (n : ℕ) (flat : Flat) (label : List ℕ) → length (labels_of n flat.sections) + 1 < 2 ^ 56 → AreOf n (open_socket flat n label)
 open_of n flat label few =
     labelled_of n flat.sockets (labels_of n flat.sections) label (position (λ l. bytes_eq l label) (labels_of n flat.sections)) refl few
 
@@ -241,12 +241,12 @@ module _ (n m : ℕ) (apart : m ≢ n) (other : Own) (t : Tables) (flat : Flat) 
       rest_filter n m apart other own_is.given (λ s. not (is_expired n moment s)) flat.sockets
       (λ x e.
       let over : is_expired n moment x ≡ true = not-false (is_expired n moment x) e in
-      eqb-true (x.owner.name / 2 ^ 24) n
-      (and_parts (is_time_wait x.owner.state) (x.owner.name / 2 ^ 24 == n) (and_parts (is_time_wait x.owner.state && (x.owner.name / 2 ^ 24 == n)) (expired x.stamp moment) over).0).1)
+      eqb-true (x.owner.name / 2 ^ 56) n
+      (and_parts (is_time_wait x.owner.state) (x.owner.name / 2 ^ 56 == n) (and_parts (is_time_wait x.owner.state && (x.owner.name / 2 ^ 56 == n)) (expired x.stamp moment) over).0).1)
       here
 
   -- after any command of section n
-  pub step_rest : (c : Command) → length (labels_of n flat.sections) + 1 < 2 ^ 24 → R (step flat n c).flat.sockets
+  pub step_rest : (c : Command) → length (labels_of n flat.sections) + 1 < 2 ^ 56 → R (step flat n c).flat.sockets
   unfolding step
   step_rest (commands.Socket label options) few =
       rest_added n m apart other own_is.given (new_socket (next_name n flat.sections) options) flat.sockets (name_of n (length (labels_of n flat.sections)) few) here

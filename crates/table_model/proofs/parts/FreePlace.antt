@@ -81,7 +81,7 @@ module _ (bucket : ℕ) (places : List (List ℕ)) (groups : List Group) (eight 
   pub free_there : (place : ℕ) → place < 8 → not (list_any (at_number (8 * bucket + place)) groups) ≡ is_free (get_or places place [])
   free_there place l =
       none_there (8 * bucket + place) groups (find (at_number (8 * bucket + place)) groups) refl some
-      ∙ ap (λ (n : ℕ). n == 0) (sym (ap length (means place l)) ∙ length-map (get_or places place []) (λ m. m % 2 ^ 32))
+      ∙ ap (λ (n : ℕ). n == 0) (sym (ap length (means place l)) ∙ length-map (get_or places place []) (λ m. m % 2 ^ 64))
 
   -- the lowest number that no group has
   pub free_is : free_number bucket groups ≡ option_map (λ (i : ℕ). 8 * bucket + i) (position is_free places)

@@ -54,15 +54,15 @@ module _ (buckets : List Standing) (flat : Flat) (om : OwnersMean buckets flat) 
       none_found (find (is_owner_named name) owners) (total (ind (is_owner_named name)) owners) (found_weighs (is_owner_named name) owners)
       (part_none (weigh_in one) buckets (port % length buckets) untouched refl none)
 
-no_word : (name : ℕ) (members : List ℕ) → Each (λ m. name ≢ m % 2 ^ 32) members → has_member name members ≡ false
+no_word : (name : ℕ) (members : List ℕ) → Each (λ m. name ≢ m % 2 ^ 64) members → has_member name members ≡ false
 no_word name [] h = refl
-no_word name (m ∷ ms) h = ap (λ (b : Bool). b || list_any (is_named name) ms) (ne_eqb (m % 2 ^ 32) name (λ e. h.0 (sym e))) ∙ no_word name ms h.1
+no_word name (m ∷ ms) h = ap (λ (b : Bool). b || list_any (is_named name) ms) (ne_eqb (m % 2 ^ 64) name (λ e. h.0 (sym e))) ∙ no_word name ms h.1
 
-no_group : (name : ℕ) (groups : List (List ℕ)) → Each (λ members. Each (λ m. name ≢ m % 2 ^ 32) members) groups → find (has_member name) groups ≡ None
+no_group : (name : ℕ) (groups : List (List ℕ)) → Each (λ members. Each (λ m. name ≢ m % 2 ^ 64) members) groups → find (has_member name) groups ≡ None
 no_group name [] h = refl
 no_group name (ms ∷ rest) h = ap (λ (b : Bool). cond b (Some ms) (find (has_member name) rest)) (no_word name ms h.0) ∙ no_group name rest h.1
 
-no_member_at : (name : ℕ) (buckets : List Standing) (k : ℕ) → EachWord (λ m. name ≢ m % 2 ^ 32) buckets → find (has_member name) (get_or buckets k untouched).held.groups ≡ None
+no_member_at : (name : ℕ) (buckets : List Standing) (k : ℕ) → EachWord (λ m. name ≢ m % 2 ^ 64) buckets → find (has_member name) (get_or buckets k untouched).held.groups ≡ None
 no_member_at name [] k h = refl
 no_member_at name (s ∷ rest) zero h = no_group name s.held.groups h.0
 no_member_at name (s ∷ rest) (suc k) h = no_member_at name rest k h.1

@@ -83,9 +83,9 @@ PlacesStand rows places = Each (λ members. Each (λ m. stands_in_some m rows �
 
 -- the members of a bucket are grouped
 pub words_grouped : (t : Tables) (flat : Flat) → GroupsMean t flat → (number place : ℕ) → number < length t.buckets → place < 8
-    → Each (λ m. IsGrouped flat.groups (m % 2 ^ 32)) (get_or (places_of t number) place [])
+    → Each (λ m. IsGrouped flat.groups (m % 2 ^ 64)) (get_or (places_of t number) place [])
 words_grouped t flat gm number place l k =
-    each_unmap (IsGrouped flat.groups) (λ m. m % 2 ^ 32) (get_or (places_of t number) place [])
+    each_unmap (IsGrouped flat.groups) (λ m. m % 2 ^ 64) (get_or (places_of t number) place [])
     (subst (Each (IsGrouped flat.groups)) (sym (gm.members number place l k)) (members_grouped (8 * number + place) flat.groups))
 
 module _ (t after : Tables) (flat left : Flat) (gm : GroupsMean t flat) where
@@ -99,7 +99,7 @@ module _ (t after : Tables) (flat left : Flat) (gm : GroupsMean t flat) where
       sym (length-map after.buckets groups_in) ∙ (ap (λ l. length l) same ∙ length-map t.buckets groups_in)
 
   -- members that stood stand in the rows afterwards, bucket by bucket
-  pub stand_there : ((m : ℕ) → IsGrouped flat.groups (m % 2 ^ 32) → stands_in_some m t.chains.rows ≡ true → stands_in_some m after.chains.rows ≡ true)
+  pub stand_there : ((m : ℕ) → IsGrouped flat.groups (m % 2 ^ 64) → stands_in_some m t.chains.rows ≡ true → stands_in_some m after.chains.rows ≡ true)
       → (number : ℕ) → number < length t.buckets → PlacesStand after.chains.rows (places_of t number)
   stand_there keeps number l =
       let rows = t.chains.rows in
@@ -108,13 +108,13 @@ module _ (t after : Tables) (flat left : Flat) (gm : GroupsMean t flat) where
       each_by_place (λ members. Each (λ m. stands_in_some m after.chains.rows ≡ true) members) (places_of t number) []
       (λ place k.
       let ms = get_or (places_of t number) place [] in
-      each_weaken (λ m. IsGrouped flat.groups (m % 2 ^ 32) × (stands_in_some m rows ≡ true)) (λ m. stands_in_some m after.chains.rows ≡ true) ms (λ m h. keeps m h.0 h.1)
-      (each_both (λ m. IsGrouped flat.groups (m % 2 ^ 32)) (λ m. stands_in_some m rows ≡ true) ms (words_grouped t flat gm number place l (omega arith))
+      each_weaken (λ m. IsGrouped flat.groups (m % 2 ^ 64) × (stands_in_some m rows ≡ true)) (λ m. stands_in_some m after.chains.rows ≡ true) ms (λ m h. keeps m h.0 h.1)
+      (each_both (λ m. IsGrouped flat.groups (m % 2 ^ 64)) (λ m. stands_in_some m rows ≡ true) ms (words_grouped t flat gm number place l (omega arith))
       (each_at (λ members. Each (λ m. stands_in_some m rows ≡ true) members) (places_of t number) place [] stood k)))
 
   -- tables with the same groups, in whose rows each member stands that stood
   pub groups_stay : map groups_in after.buckets ≡ map groups_in t.buckets → left.groups ≡ flat.groups
-      → ((m : ℕ) → IsGrouped flat.groups (m % 2 ^ 32) → stands_in_some m t.chains.rows ≡ true → stands_in_some m after.chains.rows ≡ true)
+      → ((m : ℕ) → IsGrouped flat.groups (m % 2 ^ 64) → stands_in_some m t.chains.rows ≡ true → stands_in_some m after.chains.rows ≡ true)
       → GroupsMean after left
   groups_stay same groups keeps = record {
     members = λ number place l k.
@@ -175,8 +175,8 @@ module _ (m : ℕ) where
       or_right (list_any (stands_as m) r) (stands_in_some m (set rows b (new ∷ get_or rows b []))) (any_new rows b new (omega arith) h)
 
 -- the newcomer is named by its own word
-pub stands_new : (c : Chains) (b slot : ℕ) (card : Card) → b < length c.rows → card.name < 2 ^ 32 → stands_in_some (member slot card.name) (placed c b slot card).rows ≡ true
+pub stands_new : (c : Chains) (b slot : ℕ) (card : Card) → b < length c.rows → card.name < 2 ^ 64 → stands_in_some (member slot card.name) (placed c b slot card).rows ≡ true
 stands_new c b slot card l small =
     any_new (member slot card.name) c.rows b (record { slot = slot; card = card }) l
-    (and_from (slot == member slot card.name / 2 ^ 32) (card.name == member slot card.name % 2 ^ 32)
-    (eq-eqb slot (member slot card.name / 2 ^ 32) (omega arith)) (eq-eqb card.name (member slot card.name % 2 ^ 32) (omega arith)))
+    (and_from (slot == member slot card.name / 2 ^ 64) (card.name == member slot card.name % 2 ^ 64)
+    (eq-eqb slot (member slot card.name / 2 ^ 64) (omega arith)) (eq-eqb card.name (member slot card.name % 2 ^ 64) (omega arith)))

@@ -130,7 +130,7 @@ module _ (c : Chains) (flat : Flat) (mean : ChainsMean c flat) (shape : IsShape 
       gone_from newcomer (Some comes_as) d (stand_new c newcomer comes_as bucket (subst (λ (k : ℕ). k < length c.rows) (sym bucket) inside))
 
   -- and so do members of other names
-  pub words_handed : (v : ℕ) → v % 2 ^ 32 ≢ s.owner.name → stands_in_some v c.rows ≡ true → stands_in_some v handed.rows ≡ true
+  pub words_handed : (v : ℕ) → v % 2 ^ 64 ≢ s.owner.name → stands_in_some v c.rows ≡ true → stands_in_some v handed.rows ≡ true
   words_handed v d st =
       in_place (λ c. stands_in_some v c.rows ≡ true)
       (some_unhashed between flat.header.shape flat.header.seed (λ f. weighing flat f + f card) held place.bucket (stands_test m) x found v (λ e. d (sym e ∙ there.1.name))

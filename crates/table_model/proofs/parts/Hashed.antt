@@ -117,7 +117,7 @@ module _ (c : Chains) (flat : Flat) (m : ChainsMean c flat) (shape : IsShape fla
       let name : y.card.name ≡ rep.0.owner.name = rep.1.card (λ (z : Card). z.name) in
       let none : Each (λ (g : Group). has_member rep.0.owner.name g ≡ false) flat.groups =
       wait_in_no_group flat rep.0 (each_found (IsInOneGroup flat.groups) (waits_at a) flat.sockets rep.0 sound.grouped.sharing rep.1.found) rep.1.waits_there in
-      words_both (λ w. stands_in_some w t.chains.rows ≡ true) (λ w. y.card.name ≢ w % 2 ^ 32) (λ w. stands_in_some w (without_replaced here b (Some y)).rows ≡ true) t.buckets
+      words_both (λ w. stands_in_some w t.chains.rows ≡ true) (λ w. y.card.name ≢ w % 2 ^ 64) (λ w. stands_in_some w (without_replaced here b (Some y)).rows ≡ true) t.buckets
       (λ w st differs.
       some_unhashed here flat.header.shape flat.header.seed (λ f. weighing flat f + f card) (held c flat m shape sound a slot free) b (waits card) y (still_found c flat m shape sound a slot free y e) w differs
       (some_placed c b slot card w (inside c flat m shape sound a slot free) (subst (λ (d : Chains). stands_in_some w d.rows ≡ true) is st)))

@@ -87,14 +87,14 @@ module _ (mate name : ℕ) (groups : List Group) where
 abbrev pub joined_at_place : ℕ → ℕ → List (List ℕ) → List (List ℕ)
 joined_at_place place m places = set places place (joined_by m (get_or places place []))
 
-module _ (bucket name m place : ℕ) (places : List (List ℕ)) (groups after : List Group) (eight : length places ≡ 8) (l : place < 8) (named : m % 2 ^ 32 ≡ name) where
+module _ (bucket name m place : ℕ) (places : List (List ℕ)) (groups after : List Group) (eight : length places ≡ 8) (l : place < 8) (named : m % 2 ^ 64 ≡ name) where
   there_at : (k : ℕ) → k < 8 → (k ≡ place) ⊎ (k ≢ place) → GroupsAt bucket places groups → members_of (8 * bucket + place) after ≡ members_of (8 * bucket + place) groups ++ name ∷ []
       → ((n : ℕ) → n ≢ 8 * bucket + place → members_of n after ≡ members_of n groups) → names_in (get_or (joined_at_place place m places) k []) ≡ members_of (8 * bucket + k) after
   there_at k below (inl e) means more others =
       let read : get_or (joined_at_place place m places) k [] ≡ get_or places place [] ++ m ∷ [] =
       ap (λ j. get_or (joined_at_place place m places) j []) e ∙ get_or-set_same places place (joined_by m (get_or places place [])) [] (omega arith) in
       ap names_in read
-      ∙ (map-append (λ j. j % 2 ^ 32) (get_or places place []) (m ∷ [])
+      ∙ (map-append (λ j. j % 2 ^ 64) (get_or places place []) (m ∷ [])
       ∙ (ap (λ j. names_in (get_or places place []) ++ j ∷ []) named
       ∙ (ap (λ l. l ++ name ∷ []) (means place l) ∙ (sym more ∙ ap (λ j. members_of (8 * bucket + j) after) (sym e)))))
   there_at k below (inr q) means more others =

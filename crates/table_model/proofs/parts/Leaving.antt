@@ -86,31 +86,31 @@ changed_once : (name last : ℕ) (xs : List ℕ) → Pairs (λ a b. a ≢ b) xs 
 changed_once name last [] h = refl
 changed_once name last (x ∷ xs) h = changed_at name last x xs (x == name) refl h.0 (changed_once name last xs h.1)
 
-words_at : (name last m : ℕ) (ms : List ℕ) (b : Bool) → names_in (change_first (is_named name) (λ _. last) ms) ≡ change_first (is_name name) (λ _. last % 2 ^ 32) (names_in ms)
-    → names_in (cond b (last ∷ ms) (m ∷ change_first (is_named name) (λ _. last) ms)) ≡ cond b (last % 2 ^ 32 ∷ names_in ms) (m % 2 ^ 32 ∷ change_first (is_name name) (λ _. last % 2 ^ 32) (names_in ms))
+words_at : (name last m : ℕ) (ms : List ℕ) (b : Bool) → names_in (change_first (is_named name) (λ _. last) ms) ≡ change_first (is_name name) (λ _. last % 2 ^ 64) (names_in ms)
+    → names_in (cond b (last ∷ ms) (m ∷ change_first (is_named name) (λ _. last) ms)) ≡ cond b (last % 2 ^ 64 ∷ names_in ms) (m % 2 ^ 64 ∷ change_first (is_name name) (λ _. last % 2 ^ 64) (names_in ms))
 words_at name last m ms true later = refl
-words_at name last m ms false later = ap (λ l. m % 2 ^ 32 ∷ l) later
+words_at name last m ms false later = ap (λ l. m % 2 ^ 64 ∷ l) later
 
 -- the names of words of which the first of a name changed
-names_changed : (name last : ℕ) (ms : List ℕ) → names_in (change_first (is_named name) (λ _. last) ms) ≡ change_first (is_name name) (λ _. last % 2 ^ 32) (names_in ms)
+names_changed : (name last : ℕ) (ms : List ℕ) → names_in (change_first (is_named name) (λ _. last) ms) ≡ change_first (is_name name) (λ _. last % 2 ^ 64) (names_in ms)
 names_changed name last [] = refl
-names_changed name last (m ∷ ms) = words_at name last m ms (m % 2 ^ 32 == name) (names_changed name last ms)
+names_changed name last (m ∷ ms) = words_at name last m ms (m % 2 ^ 64 == name) (names_changed name last ms)
 
-last_by : (ms : List ℕ) (i : ℕ) → (i < length ms) ⊎ (length ms ≤ i) → get_or ms i 0 % 2 ^ 32 ≡ get_or (names_in ms) i 0
-last_by ms i (inl l) = sym (get_or-map (λ m. m % 2 ^ 32) ms i 0 0 l)
+last_by : (ms : List ℕ) (i : ℕ) → (i < length ms) ⊎ (length ms ≤ i) → get_or ms i 0 % 2 ^ 64 ≡ get_or (names_in ms) i 0
+last_by ms i (inl l) = sym (get_or-map (λ m. m % 2 ^ 64) ms i 0 0 l)
 last_by ms i (inr l) =
-    ap (λ m. m % 2 ^ 32) (get_or_past ms i 0 l) ∙ sym (get_or_past (names_in ms) i 0 (omega (arith, length-map ms (λ m. m % 2 ^ 32), l)))
+    ap (λ m. m % 2 ^ 64) (get_or_past ms i 0 l) ∙ sym (get_or_past (names_in ms) i 0 (omega (arith, length-map ms (λ m. m % 2 ^ 64), l)))
 
 -- the names in the words that are left are the names that are left
 pub words_left : (name : ℕ) (ms : List ℕ) → Pairs (λ a b. a ≢ b) (names_in ms) → names_in (left_in name ms) ≡ left_by name (names_in ms)
 words_left name ms differ =
-    let long : length (names_in ms) ≡ length ms = length-map ms (λ m. m % 2 ^ 32) in
+    let long : length (names_in ms) ≡ length ms = length-map ms (λ m. m % 2 ^ 64) in
     let last = length ms - 1 in
     let all : names_in (change_first (is_named name) (λ _. get_or ms last 0) ms) ≡ map (with_last name (get_or (names_in ms) last 0)) (names_in ms) =
     names_changed name (get_or ms last 0) ms
     ∙ (ap (λ z. change_first (is_name name) (λ _. z) (names_in ms)) (last_by ms last (cases_lt last (length ms)))
     ∙ changed_once name (get_or (names_in ms) last 0) (names_in ms) differ) in
-    sym (take-map (λ m. m % 2 ^ 32) last (change_first (is_named name) (λ _. get_or ms last 0) ms))
+    sym (take-map (λ m. m % 2 ^ 64) last (change_first (is_named name) (λ _. get_or ms last 0) ms))
     ∙ (ap (take last) all ∙ ap (λ n. take (n - 1) (map (with_last name (get_or (names_in ms) (n - 1) 0)) (names_in ms))) (sym long))
 
 words_by : (name : ℕ) (ms : List ℕ) (b : Bool) → Pairs (λ a b. a ≢ b) (names_in ms) → names_in (cond b (left_in name ms) ms) ≡ cond b (left_by name (names_in ms)) (names_in ms)

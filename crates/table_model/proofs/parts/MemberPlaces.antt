@@ -45,12 +45,12 @@ some_placed c b slot card m inside st =
     some_if _ _ _ _ (rows_weigh (stands_as m) c.rows) (rows_weigh (stands_as m) (set c.rows b (new ∷ row_at c b)))
     (omega (arith, weigh_set (ind (stands_as m)) c.rows b (new ∷ row_at c b) inside)) st
 
-not_as : (m : ℕ) (x : Hashed) → x.card.name ≢ m % 2 ^ 32 → ind (stands_as m) x ≡ 0
-not_as m x q = ap (λ (b : Bool). cond {A = ℕ} b 1 0) (and_right (x.slot == m / 2 ^ 32) (x.card.name == m % 2 ^ 32) (ne_eqb x.card.name (m % 2 ^ 32) q))
+not_as : (m : ℕ) (x : Hashed) → x.card.name ≢ m % 2 ^ 64 → ind (stands_as m) x ≡ 0
+not_as m x q = ap (λ (b : Bool). cond {A = ℕ} b 1 0) (and_right (x.slot == m / 2 ^ 64) (x.card.name == m % 2 ^ 64) (ne_eqb x.card.name (m % 2 ^ 64) q))
 
 -- a member stands as the card of another goes
 pub some_unhashed : (c : Chains) (shape : Shape) (seed : ℕ) (w : Weighing) → Holds c shape seed w → (b : ℕ) (q : Hashed → Bool) (x : Hashed) → find q (row_at c b) ≡ Some x → (m : ℕ)
-    → x.card.name ≢ m % 2 ^ 32 → stands_in_some m c.rows ≡ true → stands_in_some m (unhashed c (record { bucket = b; slot = x.slot })).rows ≡ true
+    → x.card.name ≢ m % 2 ^ 64 → stands_in_some m c.rows ≡ true → stands_in_some m (unhashed c (record { bucket = b; slot = x.slot })).rows ≡ true
 some_unhashed c shape seed w h b q x found m differs st =
     let left : List Hashed = filter (λ y. not (y.slot == x.slot)) (row_at c b) in
     some_if _ _ _ _ (rows_weigh (stands_as m) c.rows) (rows_weigh (stands_as m) (set c.rows b left))
@@ -99,18 +99,18 @@ no_member_in : (k : ℕ) (o : Option Group) → ((g : Group) → o ≡ Some g �
 no_member_in k None h = tt
 no_member_in k (Some g) h = no_member_here k g.members (h g refl)
 
-from_names : (k : ℕ) (ms : List ℕ) → Each (λ m. k ≢ m) (names_in ms) → Each (λ m. k ≢ m % 2 ^ 32) ms
+from_names : (k : ℕ) (ms : List ℕ) → Each (λ m. k ≢ m) (names_in ms) → Each (λ m. k ≢ m % 2 ^ 64) ms
 from_names k [] h = tt
 from_names k (m ∷ ms) h = (h.0, from_names k ms h.1)
 
 -- a name that no group has isn't in any word in the buckets
-pub words_differ : (t : Tables) (flat : Flat) (k : ℕ) → GroupsMean t flat → Each (λ (g : Group). has_member k g ≡ false) flat.groups → EachWord (λ m. k ≢ m % 2 ^ 32) t.buckets
+pub words_differ : (t : Tables) (flat : Flat) (k : ℕ) → GroupsMean t flat → Each (λ (g : Group). has_member k g ≡ false) flat.groups → EachWord (λ m. k ≢ m % 2 ^ 64) t.buckets
 words_differ t flat k gm none =
-    each_at (λ (s : Standing). Each (λ members. Each (λ m. k ≢ m % 2 ^ 32) members) s.held.groups) t.buckets untouched
+    each_at (λ (s : Standing). Each (λ members. Each (λ m. k ≢ m % 2 ^ 64) members) s.held.groups) t.buckets untouched
     (λ number l.
     let s : Standing = get_or t.buckets number untouched in
     let eight : length s.held.groups ≡ 8 = at_each (λ (s : Standing). length s.held.groups ≡ 8) t.buckets untouched gm.places number l in
-    each_at (λ members. Each (λ m. k ≢ m % 2 ^ 32) members) s.held.groups []
+    each_at (λ members. Each (λ m. k ≢ m % 2 ^ 64) members) s.held.groups []
     (λ place low.
     from_names k (get_or s.held.groups place [])
     (subst (Each (λ m. k ≢ m)) (sym (gm.members number place l (omega arith)))

@@ -90,7 +90,7 @@ own_new n own t t' flat s m h same mine awake apart waits_apart stands others = 
         there,
         h.waits f,
         total-append (weighs_as_wait f n) flat.sockets (s ∷ []),
-        ap (λ (b : Bool). cond {A = ℕ} (b && (s.owner.name / 2 ^ 24 == n)) (f s.owner s.stamp) 0) awake,
+        ap (λ (b : Bool). cond {A = ℕ} (b && (s.owner.name / 2 ^ 56 == n)) (f s.owner s.stamp) 0) awake,
       );
   names =
       subst (λ (l : List ℕ). Pairs (λ (a b : ℕ). a ≢ b) (l ++ map name_in own.waits)) (sym (map_push name_in own.sockets m))

@@ -131,17 +131,17 @@ module _ (n : ℕ) (own : Own) (t : Tables) (flat : Flat) (h : OwnMeans n own t 
   open_there label = there_named (name_of own label)
 
   -- the section of a name that it gave
-  given_here : (k : ℕ) → k + 1 < 2 ^ 24 → name_at n k / 2 ^ 24 ≡ n
+  given_here : (k : ℕ) → k + 1 < 2 ^ 56 → name_at n k / 2 ^ 56 ≡ n
   given_here k l = omega arith
 
-  named_here : (k : ℕ) → k + 1 < 2 ^ 24 → find (has_name (name_at n k)) mine ≡ open_named (name_at n k) flat.sockets
+  named_here : (k : ℕ) → k + 1 < 2 ^ 56 → find (has_name (name_at n k)) mine ≡ open_named (name_at n k) flat.sockets
   named_here k l =
       find_kept (has_name (name_at n k)) (is_open_in n) (λ (s : Socket). s.named) flat.sockets
       (λ s e.
-      let here : (s.owner.name / 2 ^ 24 == n) ≡ true = eq-eqb (s.owner.name / 2 ^ 24) n (ap (λ (j : ℕ). j / 2 ^ 24) (eqb-true s.owner.name (name_at n k) e) ∙ given_here k l) in
-      and_true s.named (s.owner.name / 2 ^ 24 == n) here)
+      let here : (s.owner.name / 2 ^ 56 == n) ≡ true = eq-eqb (s.owner.name / 2 ^ 56) n (ap (λ (j : ℕ). j / 2 ^ 56) (eqb-true s.owner.name (name_at n k) e) ∙ given_here k l) in
+      and_true s.named (s.owner.name / 2 ^ 56 == n) here)
 
-  opened : (labels : List (List ℕ)) (label : List ℕ) (o : Option ℕ) → position (λ l. bytes_eq l label) labels ≡ o → length labels + 1 < 2 ^ 24
+  opened : (labels : List (List ℕ)) (label : List ℕ) (o : Option ℕ) → position (λ l. bytes_eq l label) labels ≡ o → length labels + 1 < 2 ^ 56
       → OpenBoth n t flat (option_and_then (λ name. find (is_named name) own.sockets) (option_map (name_at n) o)) (option_and_then (λ name. open_named name flat.sockets) (option_map (name_at n) o))
   opened labels label None e l = tt
   opened labels label (Some k) e l =
@@ -149,7 +149,7 @@ module _ (n : ℕ) (own : Own) (t : Tables) (flat : Flat) (h : OwnMeans n own t 
       subst (OpenBoth n t flat (find (is_named (name_at n k)) own.sockets)) (named_here k (omega (arith, less, l))) (both_named (name_at n k))
 
   -- the open socket that a label names is the list's, or neither has one
-  pub open_both : (label : List ℕ) → length own.labels + 1 < 2 ^ 24 → OpenBoth n t flat (open_socket own label) (outcome.open_socket flat n label)
+  pub open_both : (label : List ℕ) → length own.labels + 1 < 2 ^ 56 → OpenBoth n t flat (open_socket own label) (outcome.open_socket flat n label)
   open_both label l =
       subst (λ (labels : List (List ℕ)). OpenBoth n t flat (open_socket own label) (option_and_then (λ name. open_named name flat.sockets) (option_map (name_at n) (position (λ l. bytes_eq l label) labels))))
       (sym (same_labels n own t flat h))

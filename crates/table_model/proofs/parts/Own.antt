@@ -116,8 +116,8 @@ own_put n own t t' flat new s m h names at mine same was is stands others = reco
         there,
         h.waits f,
         put_weighs new (weighs_as_wait f n) s flat.sockets names at,
-        ap (λ (b : Bool). cond {A = ℕ} (b && (s.owner.name / 2 ^ 24 == n)) (f s.owner s.stamp) 0) was,
-        ap (λ (b : Bool). cond {A = ℕ} (b && (new.owner.name / 2 ^ 24 == n)) (f new.owner new.stamp) 0) is,
+        ap (λ (b : Bool). cond {A = ℕ} (b && (s.owner.name / 2 ^ 56 == n)) (f s.owner s.stamp) 0) was,
+        ap (λ (b : Bool). cond {A = ℕ} (b && (new.owner.name / 2 ^ 56 == n)) (f new.owner new.stamp) 0) is,
       );
   names = subst (λ (l : List ℕ). Pairs (λ (a b : ℕ). a ≢ b) (l ++ map name_in own.waits)) (sym (own_names m own.sockets)) h.names;
   given = h.given;

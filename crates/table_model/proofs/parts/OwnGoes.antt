@@ -110,7 +110,7 @@ module _ (name : ℕ) where
 hidden_by : (n : ℕ) (new x : Socket) (ys zs : List Socket) (b : Bool) → new.named ≡ false → filter (is_open_in n) ys ≡ filter (is_open_in n) zs
     → filter (is_open_in n) (cond b new x ∷ ys) ≡ filter (is_open_in n) (cond (not b) (x ∷ zs) zs)
 hidden_by n new x ys zs true e h =
-    ap (λ (c : Bool). cond (c && (new.owner.name / 2 ^ 24 == n)) (new ∷ filter (is_open_in n) ys) (filter (is_open_in n) ys)) e ∙ h
+    ap (λ (c : Bool). cond (c && (new.owner.name / 2 ^ 56 == n)) (new ∷ filter (is_open_in n) ys) (filter (is_open_in n) ys)) e ∙ h
 hidden_by n new x ys zs false e h = ap (λ (l : List Socket). cond (is_open_in n x) (x ∷ l) l) h
 
 hidden : (n : ℕ) (new : Socket) (xs : List Socket) → new.named ≡ false → filter (is_open_in n) (put new xs) ≡ filter (is_open_in n) (without new.owner.name xs)
@@ -122,14 +122,14 @@ module _ (n : ℕ) (own : Own) (t : Tables) (flat : Flat) (h : OwnMeans n own t 
   name = s.owner.name
 
   -- the section of the name
-  pub section_is : name / 2 ^ 24 ≡ n
-  section_is = eqb-true (name / 2 ^ 24) n (and_parts s.named (name / 2 ^ 24 == n) mine).1
+  pub section_is : name / 2 ^ 56 ≡ n
+  section_is = eqb-true (name / 2 ^ 56) n (and_parts s.named (name / 2 ^ 56 == n) mine).1
 
   -- an open socket isn't in TIME_WAIT
   pub is_awake : is_time_wait s.owner.state ≡ false
   is_awake =
       let awake : IsAwakeIfNamed s = each_found IsAwakeIfNamed (has_name name) flat.sockets s sound.awake at in
-      not-true (is_time_wait s.owner.state) (sym awake ∙ (and_parts s.named (name / 2 ^ 24 == n) mine).0)
+      not-true (is_time_wait s.owner.state) (sym awake ∙ (and_parts s.named (name / 2 ^ 56 == n) mine).0)
 
   -- what holds of the names of the section's sockets holds of this one's
   at_own : (P : ℕ → Type 0) → Each P (map name_in own.sockets) → P name
@@ -154,7 +154,7 @@ module _ (n : ℕ) (own : Own) (t : Tables) (flat : Flat) (h : OwnMeans n own t 
       waits_differ)
 
   no_wait : (f : Owner → ℕ → ℕ) → weighs_as_wait f n s ≡ 0
-  no_wait f = ap (λ (b : Bool). cond {A = ℕ} (b && (name / 2 ^ 24 == n)) (f s.owner s.stamp) 0) is_awake
+  no_wait f = ap (λ (b : Bool). cond {A = ℕ} (b && (name / 2 ^ 56 == n)) (f s.owner s.stamp) 0) is_awake
 
   abbrev kept_test : Mine → Bool
   kept_test m = not (is_named name m)
@@ -184,14 +184,14 @@ module _ (n : ℕ) (own : Own) (t : Tables) (flat : Flat) (h : OwnMeans n own t 
   name_given : IsNameOf n (length own.labels) name
   name_given =
       let given : IsGiven flat.sections s = each_found (IsGiven flat.sections) (has_name name) flat.sockets s sound.given at in
-      let labels : labels_of (name / 2 ^ 24) flat.sections ≡ own.labels = ap (λ k. labels_of k flat.sections) section_is ∙ same_labels n own t flat h in
-      record { section = section_is; first = given.first; last = subst (λ (l : List (List ℕ)). name % 2 ^ 24 ≤ length l) labels given.last }
+      let labels : labels_of (name / 2 ^ 56) flat.sections ≡ own.labels = ap (λ k. labels_of k flat.sections) section_is ∙ same_labels n own t flat h in
+      record { section = section_is; first = given.first; last = subst (λ (l : List (List ℕ)). name % 2 ^ 56 ≤ length l) labels given.last }
 
   abbrev new : ℕ → Socket
   new moment = waiting s moment
 
   waits_weigh : (f : Owner → ℕ → ℕ) (moment : ℕ) → weighs_as_wait f n (new moment) ≡ f (new moment).owner moment
-  waits_weigh f moment = ap (λ (b : Bool). cond {A = ℕ} b (f (new moment).owner moment) 0) (eq-eqb (name / 2 ^ 24) n section_is)
+  waits_weigh f moment = ap (λ (b : Bool). cond {A = ℕ} b (f (new moment).owner moment) 0) (eq-eqb (name / 2 ^ 56) n section_is)
 
   is_there : (moment : ℕ) → list_any (has_name name) (put (new moment) flat.sockets) ≡ true
   is_there moment = any_put (new moment) name flat.sockets ∙ listed_there name flat.sockets s at

@@ -19,7 +19,7 @@ use Rattle.table_model.proofs.parts.Cards.{without_weighs}
 pub wait_not_mine : (n : ℕ) (s : Socket) → IsAwakeIfNamed s → is_time_wait s.owner.state ≡ true → is_open_in n s ≡ false
 wait_not_mine n s awake waits =
     let named : s.named ≡ false = awake ∙ ap not waits in
-    ap (λ (b : Bool). b && (s.owner.name / 2 ^ 24 == n)) named
+    ap (λ (b : Bool). b && (s.owner.name / 2 ^ 56 == n)) named
 
 mine_at : (b c : Bool) (y : Socket) (ys zs : List Socket) (n : ℕ) → is_open_in n y ≡ c → cond {A = ℕ} b (cond {A = ℕ} c 1 0) 0 ≡ 0 → filter (is_open_in n) ys ≡ zs
     → filter (is_open_in n) (cond (not b) (y ∷ ys) ys) ≡ cond c (y ∷ zs) zs

@@ -75,31 +75,31 @@ new_mean_empty header =
       };
     }
 
-none_of : (header : Header) (n : ℕ) (xs : List Section) (s : Socket) → (section_of header n xs).labels ≡ [] → IsGiven xs s → (s.owner.name / 2 ^ 24 == n) ≡ false
+none_of : (header : Header) (n : ℕ) (xs : List Section) (s : Socket) → (section_of header n xs).labels ≡ [] → IsGiven xs s → (s.owner.name / 2 ^ 56 == n) ≡ false
 none_of header n xs s none given =
-    false_from_ne_true (s.owner.name / 2 ^ 24 == n)
+    false_from_ne_true (s.owner.name / 2 ^ 56 == n)
     (λ e.
-    let is : s.owner.name / 2 ^ 24 ≡ n = eqb-true _ _ e in
-    let empty : labels_of (s.owner.name / 2 ^ 24) xs ≡ [] = rw is (sym (labels_are header n xs) ∙ none) in
-    let last : s.owner.name % 2 ^ 24 ≤ 0 = subst (λ (l : List (List ℕ)). s.owner.name % 2 ^ 24 ≤ length l) empty given.last in
-    let first : 1 ≤ s.owner.name % 2 ^ 24 = given.first in
+    let is : s.owner.name / 2 ^ 56 ≡ n = eqb-true _ _ e in
+    let empty : labels_of (s.owner.name / 2 ^ 56) xs ≡ [] = rw is (sym (labels_are header n xs) ∙ none) in
+    let last : s.owner.name % 2 ^ 56 ≤ 0 = subst (λ (l : List (List ℕ)). s.owner.name % 2 ^ 56 ≤ length l) empty given.last in
+    let first : 1 ≤ s.owner.name % 2 ^ 56 = given.first in
     absurd (omega (arith, last, first)))
 
-no_mine : (n : ℕ) (xs : List Socket) → Each (λ (s : Socket). (s.owner.name / 2 ^ 24 == n) ≡ false) xs → filter (is_open_in n) xs ≡ []
+no_mine : (n : ℕ) (xs : List Socket) → Each (λ (s : Socket). (s.owner.name / 2 ^ 56 == n) ≡ false) xs → filter (is_open_in n) xs ≡ []
 no_mine n [] h = refl
 no_mine n (x ∷ xs) h =
-    rw (and_right x.named (x.owner.name / 2 ^ 24 == n) h.0) (no_mine n xs h.1)
+    rw (and_right x.named (x.owner.name / 2 ^ 56 == n) h.0) (no_mine n xs h.1)
 
-no_waits : (n : ℕ) (f : Owner → ℕ → ℕ) (xs : List Socket) → Each (λ (s : Socket). (s.owner.name / 2 ^ 24 == n) ≡ false) xs → 0 ≡ total (weighs_as_wait f n) xs
+no_waits : (n : ℕ) (f : Owner → ℕ → ℕ) (xs : List Socket) → Each (λ (s : Socket). (s.owner.name / 2 ^ 56 == n) ≡ false) xs → 0 ≡ total (weighs_as_wait f n) xs
 no_waits n f [] h = refl
 no_waits n f (x ∷ xs) h =
-    rw (and_right (is_time_wait x.owner.state) (x.owner.name / 2 ^ 24 == n) h.0) (omega (arith, no_waits n f xs h.1))
+    rw (and_right (is_time_wait x.owner.state) (x.owner.name / 2 ^ 56 == n) h.0) (omega (arith, no_waits n f xs h.1))
 
 pub starts_meant : StartsMeant
 starts_meant n t flat positive shape sound means begins =
     let header = flat.header in
     let labels : (section_of header n flat.sections).labels ≡ [] = ap (λ (s : Section). s.labels) begins in
-    let none : Each (λ (s : Socket). (s.owner.name / 2 ^ 24 == n) ≡ false) flat.sockets = each_weaken (IsGiven flat.sections) (λ s. (s.owner.name / 2 ^ 24 == n) ≡ false) flat.sockets
+    let none : Each (λ (s : Socket). (s.owner.name / 2 ^ 56 == n) ≡ false) flat.sockets = each_weaken (IsGiven flat.sections) (λ s. (s.owner.name / 2 ^ 56 == n) ≡ false) flat.sockets
     (λ s given. none_of header n flat.sections s labels given) sound.given in
     record {
       shape = shape;

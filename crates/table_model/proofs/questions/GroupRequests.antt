@@ -34,7 +34,7 @@ use Rattle.table_model.proofs.parts.Groups.{each_at, each_by_place, places_of, I
 use Rattle.table_model.proofs.questions.WhichGroup.{HasRoom, group_of_sharing, in_no_group}
 
 -- a member's word has its name
-member_named : (slot name : ℕ) → name < 2 ^ 32 → member slot name % 2 ^ 32 ≡ name
+member_named : (slot name : ℕ) → name < 2 ^ 64 → member slot name % 2 ^ 64 ≡ name
 member_named slot name small = omega arith
 
 module _ {A : Type 0} (P : A → Type 0) where
@@ -102,7 +102,7 @@ of_bucket : (number place bucket one : ℕ) → place < 8 → one / 8 ≡ bucket
 of_bucket number place bucket one l home e = omega arith
 
 module _ (t : Tables) (flat : Flat) (om : OwnersMean t.buckets flat) (gm : GroupsMean t flat) (some : 1 ≤ flat.header.shape.bind) (sound : IsSound flat)
-    (name : ℕ) (s : Socket) (at : Listed name flat.sockets s) (owner : is_owner s.owner.state ≡ true) (small : name < 2 ^ 32) (chains : Chains) where
+    (name : ℕ) (s : Socket) (at : Listed name flat.sockets s) (owner : is_owner s.owner.state ≡ true) (small : name < 2 ^ 64) (chains : Chains) where
   abbrev port : ℕ
   port = (owner_key s.owner)
 
@@ -199,34 +199,34 @@ module _ (t : Tables) (flat : Flat) (om : OwnersMean t.buckets flat) (gm : Group
 
   -- the members that stood stand but for the one that leaves
   left_stand : (left : Flat) → left.groups ≡ leave name flat.groups → IsSound left → list_any (has_name name) left.sockets ≡ false
-      → ((m : ℕ) → IsGrouped flat.groups (m % 2 ^ 32) → m % 2 ^ 32 ≢ name → stands_in_some m t.chains.rows ≡ true → stands_in_some m chains.rows ≡ true)
+      → ((m : ℕ) → IsGrouped flat.groups (m % 2 ^ 64) → m % 2 ^ 64 ≢ name → stands_in_some m t.chains.rows ≡ true → stands_in_some m chains.rows ≡ true)
       → (number : ℕ) (places : List (List ℕ)) → length places ≡ 8 → GroupsAt number places left.groups
-      → Each (λ members. Each (λ m. IsGrouped flat.groups (m % 2 ^ 32) × (stands_in_some m t.chains.rows ≡ true)) members) places
+      → Each (λ members. Each (λ m. IsGrouped flat.groups (m % 2 ^ 64) × (stands_in_some m t.chains.rows ≡ true)) members) places
       → PlacesStand chains.rows places
   left_stand left same sound_left gone keeps number places long at_places stood =
       each_by_place (λ members. Each (λ m. stands_in_some m chains.rows ≡ true) members) places []
       (λ place k.
       let ms : List ℕ = get_or places place [] in
-      let others : Each (λ m. m % 2 ^ 32 ≢ name) ms = each_unmap (λ j. j ≢ name) (λ m. m % 2 ^ 32) ms
+      let others : Each (λ m. m % 2 ^ 64 ≢ name) ms = each_unmap (λ j. j ≢ name) (λ m. m % 2 ^ 64) ms
       (subst (Each (λ j. j ≢ name)) (sym (at_places place (omega (arith, k, long)))) (unknown_by left (8 * number + place) name (find (at_number (8 * number + place)) left.groups) refl sound_left gone)) in
-      each_weaken (λ m. (m % 2 ^ 32 ≢ name) × (IsGrouped flat.groups (m % 2 ^ 32) × (stands_in_some m t.chains.rows ≡ true))) (λ m. stands_in_some m chains.rows ≡ true) ms
+      each_weaken (λ m. (m % 2 ^ 64 ≢ name) × (IsGrouped flat.groups (m % 2 ^ 64) × (stands_in_some m t.chains.rows ≡ true))) (λ m. stands_in_some m chains.rows ≡ true) ms
       (λ m h. keeps m h.1.0 h.0 h.1.1)
-      (each_both (λ m. m % 2 ^ 32 ≢ name) (λ m. IsGrouped flat.groups (m % 2 ^ 32) × (stands_in_some m t.chains.rows ≡ true)) ms others
-      (each_at (λ members. Each (λ m. IsGrouped flat.groups (m % 2 ^ 32) × (stands_in_some m t.chains.rows ≡ true)) members) places place [] stood k)))
+      (each_both (λ m. m % 2 ^ 64 ≢ name) (λ m. IsGrouped flat.groups (m % 2 ^ 64) × (stands_in_some m t.chains.rows ≡ true)) ms others
+      (each_at (λ members. Each (λ m. IsGrouped flat.groups (m % 2 ^ 64) × (stands_in_some m t.chains.rows ≡ true)) members) places place [] stood k)))
 
-  stood_before : (number : ℕ) → number < length t.buckets → Each (λ members. Each (λ m. IsGrouped flat.groups (m % 2 ^ 32) × (stands_in_some m t.chains.rows ≡ true)) members) (places_of t number)
+  stood_before : (number : ℕ) → number < length t.buckets → Each (λ members. Each (λ m. IsGrouped flat.groups (m % 2 ^ 64) × (stands_in_some m t.chains.rows ≡ true)) members) (places_of t number)
   stood_before number l =
       let long : length (places_of t number) ≡ 8 = each_at (λ (x : Standing). length x.held.groups ≡ 8) t.buckets number untouched gm.places l in
-      each_by_place (λ members. Each (λ m. IsGrouped flat.groups (m % 2 ^ 32) × (stands_in_some m t.chains.rows ≡ true)) members) (places_of t number) []
+      each_by_place (λ members. Each (λ m. IsGrouped flat.groups (m % 2 ^ 64) × (stands_in_some m t.chains.rows ≡ true)) members) (places_of t number) []
       (λ place k.
       let ms : List ℕ = get_or (places_of t number) place [] in
-      each_both (λ m. IsGrouped flat.groups (m % 2 ^ 32)) (λ m. stands_in_some m t.chains.rows ≡ true) ms
+      each_both (λ m. IsGrouped flat.groups (m % 2 ^ 64)) (λ m. stands_in_some m t.chains.rows ≡ true) ms
       (words_grouped t flat gm number place l (omega (arith, k, long)))
       (each_at (λ members. Each (λ m. stands_in_some m t.chains.rows ≡ true) members) (places_of t number) place [] (each_at (λ (x : Standing). PlacesStand t.chains.rows x.held.groups) t.buckets number untouched gm.stand l) k))
 
   -- a socket leaves its port, and the group that it is in
   pub removed_means : (left : Flat) → left.groups ≡ leave name flat.groups → IsSound left → list_any (has_name name) left.sockets ≡ false
-      → ((m : ℕ) → IsGrouped flat.groups (m % 2 ^ 32) → m % 2 ^ 32 ≢ name → stands_in_some m t.chains.rows ≡ true → stands_in_some m chains.rows ≡ true)
+      → ((m : ℕ) → IsGrouped flat.groups (m % 2 ^ 64) → m % 2 ^ 64 ≢ name → stands_in_some m t.chains.rows ≡ true → stands_in_some m chains.rows ≡ true)
       → GroupsMean (record { buckets = asked_at t.buckets port (requests.Remove name); chains = chains }) left
   removed_means left same sound_left gone keeps =
       let request : Request = requests.Remove name in
@@ -244,8 +244,8 @@ module _ (t : Tables) (flat : Flat) (om : OwnersMean t.buckets flat) (gm : Group
       others
       (subst (PlacesStand chains.rows) (sym after)
       (left_stand left same sound_left gone keeps bucket after_removed long at_left
-      (change_places (λ members. Each (λ m. IsGrouped flat.groups (m % 2 ^ 32) × (stands_in_some m t.chains.rows ≡ true)) members) (is_member name) (left_in name) held.groups
-      (λ members h. each_left (λ m. IsGrouped flat.groups (m % 2 ^ 32) × (stands_in_some m t.chains.rows ≡ true)) name members h) (stood_before bucket inside))))
+      (change_places (λ members. Each (λ m. IsGrouped flat.groups (m % 2 ^ 64) × (stands_in_some m t.chains.rows ≡ true)) members) (is_member name) (left_in name) held.groups
+      (λ members h. each_left (λ m. IsGrouped flat.groups (m % 2 ^ 64) × (stands_in_some m t.chains.rows ≡ true)) name members h) (stood_before bucket inside))))
       (λ number l d. left_stand left same sound_left gone keeps number (places_of t number)
       (each_at (λ (x : Standing). length x.held.groups ≡ 8) t.buckets number untouched gm.places l)
       (λ place k. gm.members number place l k ∙ sym (others number place d k)) (stood_before number l))

@@ -393,7 +393,7 @@ module _ (t : Tables) (flat : Flat) (om : OwnersMean t.buckets flat) (gm : Group
       ∙ (ap (λ n. option_or (position (is_member n) held.groups) (position is_free held.groups)) named
       ∙ ap (λ o. option_or o (position is_free held.groups)) (place_of_group bucket held.groups flat.groups eight means s0.owner.name g sound.grouped.numbers g0.found only0 home)) in
       let its : members_of (8 * bucket + place) flat.groups ≡ g.members = ap (λ n. members_of n flat.groups) number ∙ ap members_in (found_number (has_member s1.owner.name) g flat.groups sound.grouped.numbers g1.found) in
-      let long : length (members_at held place) ≡ length g.members = sym (length-map (members_at held place) (λ m. m % 2 ^ 32)) ∙ ap (λ (ms : List ℕ). length ms) (means place l ∙ its) in
+      let long : length (members_at held place) ≡ length g.members = sym (length-map (members_at held place) (λ m. m % 2 ^ 64)) ∙ ap (λ (ms : List ℕ). length ms) (means place l ∙ its) in
       let joined : groups_with flat s ≡ join bucket a.name (Some s1.owner.name) flat.groups = joins (Some s1.owner.name) (ap (option_map (λ (m : Socket). m.owner.name)) there) in
       let full : list_any (is_full_group s1.owner.name) flat.groups ≡ (length g.members == group_room) = full_is s1.owner.name g flat.groups (length g.members == group_room) refl g1.found g1.only in
       by_full s1 g place (length g.members == group_room) refl l number placed long joined full only1 g1

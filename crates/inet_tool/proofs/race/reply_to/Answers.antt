@@ -15,15 +15,15 @@ race-requires-clause-script g c = λ lives within.
 
 pub render-requires-clause-slots : goal.render-requires-clause-slots
 render-requires-clause-slots g c =
-    fits c.in-Ok.script c.in-Ok-read.capture c.args.lookers c.args.passes c.in_ok-told.told c.in_ok-told.ensures.lawful
+    fits c.in-Ok.script c.in-Ok-read.capture c.args.lookers c.args.passes c.in_ok-told.told c.in_ok-told.ensures
 
 pub render-requires-clause-stamps : goal.render-requires-clause-stamps
 render-requires-clause-stamps g c =
-    differ c.in-Ok.script c.in-Ok-read.capture c.args.lookers c.args.passes c.in_ok-told.told c.in_ok-told.ensures.lawful
+    differ c.in-Ok.script c.in-Ok-read.capture c.args.lookers c.args.passes c.in_ok-told.told c.in_ok-told.ensures
 
 pub returns : goal.returns
 returns g c =
-    race_out c.in-Ok.script c.in-Ok-read.capture c.args.lookers c.args.passes c.in_ok-told.told c.in_ok-told.ensures.lawful
+    race_out c.in-Ok.script c.in-Ok-read.capture c.args.lookers c.args.passes c.in_ok-told.told c.in_ok-told.ensures
     c.args.bytes.now c.in_ok-text.text.items (λ i. omega (arith, c.type_inv.bytes i)) c.requires.within (omega arith) (omega arith) (c.in-Ok.ensures.small c.requires.within)
     c.in-Ok.ensures.script c.in-Ok-read.ensures.capture c.in_ok-text.ensures
 

@@ -1,4 +1,4 @@
-use Rattle.std.proofs.Common.{◌+◌, ◌/◌, ℕ, List, [], ◌∷◌, ◌++◌, Ok, Err, Option, Some, None, ap, arith, subst}
+use Rattle.std.proofs.Common.{◌+◌, ◌/◌, ℕ, List, [], ◌∷◌, ◌++◌, Ok, Err, Option, Some, None, ap, arith, subst, refl}
 use Rattle.null_reader.specs.Looked.{Visited, stopped, stop_of}
 use Rattle.table_rule.specs.declared.view.Stop.{Stop}
 use Rattle.null_reader.specs.declared.answers.Best.{Best}
@@ -28,7 +28,7 @@ pub drop_best-requires-clause-held : goal.drop_best-requires-clause-held
 drop_best-requires-clause-held g c = let w = c.requires.walking.5 in drop_nth (layout_of c.args.chains.now) c.requires.walking.0 w.q (stopped w.q c.in-Err.stop) c.args.best w.ks w.hs (w.taken + 1) (me c.visit.new.steps) w.best-is (stopped_at (layout_of c.args.chains.now) c.requires.walking.0 c.requires.walking.1 c.args.best c.args.link c.args.followed (me c.args.steps.now) c.requires.walking.5 c.requires.even.0 c.requires.even.1 c.args.key c.args.least c.in-Err.stop (me c.visit.new.steps) (subst (λ (k : ℕ). Visited (c.args.link / 2) c.args.key c.args.least k c.requires.walking.5.q (me c.args.steps.now) (Err c.in-Err.stop) (me c.visit.new.steps)) c.rank_so_far.ensures (c.in-Err.ensures.visited c.requires.walking.5.q (looks (layout_of c.args.chains.now) c.requires.walking.0 c.requires.walking.1 c.args.best c.args.link c.args.followed (me c.args.steps.now) c.requires.walking.5 c.requires.even.0 c.requires.even.1))))
 
 pub returns-in-Err-clause-turned : goal.returns-in-Err-clause-turned
-returns-in-Err-clause-turned g c = λ m q w k l early. (stopped w.q c.in-Err.stop, record { bucket = w.same.bucket; key = w.same.key; least = w.same.least; since = w.same.since }, ap (λ (x : List Stop). x ++ stop_of c.in-Err.stop ∷ []) (w.slot c.requires.even.0 c.requires.even.1).5, w.taken + 1, omega (arith, w.more), dropped (layout_of c.args.chains.now) m w.q (stopped w.q c.in-Err.stop) c.args.best w.ks w.hs (w.taken + 1) (me c.visit.new.steps) w.best-is (stopped_at (layout_of c.args.chains.now) m q c.args.best c.args.link c.args.followed (me c.args.steps.now) w c.requires.even.0 c.requires.even.1 c.args.key c.args.least c.in-Err.stop (me c.visit.new.steps) (subst (λ (k : ℕ). Visited (c.args.link / 2) c.args.key c.args.least k w.q (me c.args.steps.now) (Err c.in-Err.stop) (me c.visit.new.steps)) c.rank_so_far.ensures (c.in-Err.ensures.visited w.q (looks (layout_of c.args.chains.now) m q c.args.best c.args.link c.args.followed (me c.args.steps.now) w c.requires.even.0 c.requires.even.1)))) (me c.drop_best.new.steps) c.drop_best.ensures.none c.drop_best.ensures.some)
+returns-in-Err-clause-turned g c = λ m q w k l early. (stopped w.q c.in-Err.stop, record { bucket = w.same.bucket; key = w.same.key; least = w.same.least; since = w.same.since }, ap (λ (x : List Stop). x ++ stop_of c.in-Err.stop ∷ []) (w.slot c.requires.even.0 c.requires.even.1).5, w.taken + 1, omega (arith, w.more), dropped (layout_of c.args.chains.now) m w.q (stopped w.q c.in-Err.stop) c.args.best w.ks w.hs (w.taken + 1) (me c.visit.new.steps) w.best-is (stopped_at (layout_of c.args.chains.now) m q c.args.best c.args.link c.args.followed (me c.args.steps.now) w c.requires.even.0 c.requires.even.1 c.args.key c.args.least c.in-Err.stop (me c.visit.new.steps) (subst (λ (k : ℕ). Visited (c.args.link / 2) c.args.key c.args.least k w.q (me c.args.steps.now) (Err c.in-Err.stop) (me c.visit.new.steps)) c.rank_so_far.ensures (c.in-Err.ensures.visited w.q (looks (layout_of c.args.chains.now) m q c.args.best c.args.link c.args.followed (me c.args.steps.now) w c.requires.even.0 c.requires.even.1)))) (me c.drop_best.new.steps) c.drop_best.ensures.none c.drop_best.ensures.some, refl)
 
 pub overflow_cast-slot : goal.overflow_cast-slot
 overflow_cast-slot g c = omega (arith, c.args.chains.now.small, (c.requires.walking.5.slot c.requires.even.0 c.requires.even.1).4)

@@ -6,8 +6,9 @@ use Rattle.table_rule.specs.Words.{words_of}
 use Rattle.table_rule.specs.declared.view.View.{View}
 use Rattle.table_rule.specs.declared.view.Seen.{Seen}
 use Rattle.table_rule.specs.declared.view.ChainView.{ChainView}
-use Rattle.nulls_chain.specs.Changes.{Adds, WasChain, wait_in, waits_as}
+use Rattle.nulls_chain.specs.Changes.{Adds, OthersStay, Sees, WasChain, wait_in, waits_as}
 use Rattle.nulls_chain.proofs.Found.{found_in, some_more, waits_full, was_before}
+use Rattle.nulls_chain.proofs.Saw.{saw_same}
 use Rattle.nulls_chain.proofs.leaving.unhash_tw.Goals as goal
 
 -- the list with the TIME_WAIT that was met, and what follows
@@ -68,3 +69,16 @@ pub returns-clause-share : goal.returns-clause-share
 returns-clause-share c = λ more share.
     let kept = c.walk_to_end.ensures.kept ∙ ap (λ (s : Sat). (record s.0 { chain = (view c.walk_to_end.new.steps).chain }, s.1)) c.find_wait.ensures.kept in
     c.unhash_slot.ensures.share more (subst (λ (s : Sat). HasShares (more + 2) s.0) (sym kept) share)
+
+pub returns-clause-stay : goal.returns-clause-stay
+returns-clause-stay c =
+    let kept = c.walk_to_end.ensures.kept ∙ ap (λ (s : Sat). (record s.0 { chain = (view c.walk_to_end.new.steps).chain }, s.1)) c.find_wait.ensures.kept in
+    subst (λ (s : Sat). OthersStay c.in_ok-slot.slot s.0 (view c.unhash_slot.new.pass.steps)) kept c.unhash_slot.ensures.stay
+
+pub returns-clause-saw : goal.returns-clause-saw
+returns-clause-saw c =
+    let kept = c.walk_to_end.ensures.kept ∙ ap (λ (s : Sat). (record s.0 { chain = (view c.walk_to_end.new.steps).chain }, s.1)) c.find_wait.ensures.kept in
+    subst (λ (s : Sat). Sees s.0 (view c.unhash_slot.new.pass.steps)) kept c.unhash_slot.ensures.saw
+
+pub returns-in_err-slot-clause-saw : goal.returns-in_err-slot-clause-saw
+returns-in_err-slot-clause-saw c = saw_same (view c.args.pass.now.steps) (view c.find_wait.new.steps) (ap (λ (s : Sat). s.0.sights) c.find_wait.ensures.kept)

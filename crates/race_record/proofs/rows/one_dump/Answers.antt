@@ -78,7 +78,9 @@ returns c = record {
   book = record { each_once = λ f. refl; slots = (omega arith, tt); numbers = λ f. omega arith };
   serial = serial;
   taken = (tt, (tt, (tt, (tt, tt))));
+  given = (tt, (tt, (tt, (tt, tt))));
   slots = (tt, (tt, (tt, (tt, tt))));
+  counted = λ h. refl;
   dumps = (refl, (refl, (refl, ((_, _, refl, listed), tt))));
   items = tt;
   shares = record { count = refl; each_once = λ f. refl; turns = (record { ascend = tt; turns = tt }, tt) };

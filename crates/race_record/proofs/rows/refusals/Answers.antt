@@ -1,17 +1,22 @@
-use Rattle.std.proofs.Common.{◌≡◌, [], ◌∷◌, refl, arith, inl, inr}
+use Rattle.std.proofs.Common.{◌≡◌, ℕ, [], ◌∷◌, refl, sym, subst, arith, inl, inr}
 use Rattle.list_words.specs.Lists.{Each}
 use Rattle.sock_card.specs.Conflict.{overlap, refuses, agree}
 use Rattle.jhash_words.specs.Jhash.{jhash_1word, jhash_3words, started_mix, final_mix, mixed}
 use Rattle.jhash_words.specs.Places.{tuple_hash, listen_hash}
 use Rattle.bind_buckets.specs.OwnerStep.{owner_step}
-use Rattle.chain_book.specs.Homes.{home}
+use Rattle.chain_book.specs.Homes.{home, packet_home, listen_home}
 use Rattle.table_model.specs.Commands.{plan}
 use Rattle.race_book.specs.Among.{Among}
 use Rattle.race_book.specs.Serial.{IsSerial}
-use Rattle.race_book.proofs.Checks.{serial_if, begin_apart_if, distinct_if, stood_if}
+use Rattle.race_book.proofs.Checks.{serial_if, begin_apart_if, distinct_if, stood_if, none_if}
 use Rattle.race_record.specs.Lawful.{AreSectionsOf, AreJournalsOf, IsBookOf, AreInOrder, AreAnswered, AreSharesOf, IsReceiptOf, WasKept, NoneWasFree, EachFrom, IsLegalJournal}
-use Rattle.race_record.proofs.Checks.{in_order_if}
-use Rattle.race_book.specs.Explained.{IsExplained, NamesItsBucket, buckets_of}
+use Rattle.race_record.proofs.Checks.{in_order_if, free_if}
+use Rattle.race_book.specs.Explained.{IsExplained, MayEnd, NamesItsBucket, buckets_of, in_bucket}
+use Rattle.race_record.specs.Stages.{IsInStages}
+use Rattle.sock_card.specs.Rank.{rank}
+use Rattle.chain_book.specs.declared.book.PassEnd.{PassEnd}
+use Rattle.chain_book.specs.declared.book.PassEnd.TheVariants as ends
+use Rattle.chain_book.specs.declared.book.PacketAnswer.TheVariants as found
 use Rattle.chain_book.specs.declared.book.Receipt.{Receipt}
 use Rattle.race_record.specs.Refused.{refused_script, refused_capture, refused_race, hash_a, hash_d, unhash_d, held_d, to_d, wished, owner_b}
 use Rattle.flat_list.specs.Sections.{name_at}
@@ -63,20 +68,59 @@ unfolding tuple_hash listen_hash jhash_1word jhash_3words started_mix final_mix 
 listeners = inr (inl refl)
 
 receipt_of : (r : Receipt) → r.packet ≡ to_d → r.seed ≡ 0 → r.t0 ≤ r.t1 → r.t1 ≤ 7 → IsExplained (Among refused_race.book) refused_race.shape r
-    → NamesItsBucket refused_race.shape 0 to_d r.answer → IsReceiptOf (Among refused_race.book) refused_race.shape 0 7 to_d r
-receipt_of r p s o m e b = record { packet_is = p; seed_is = s; order = o; most = m; explained = e; bucket = b }
+    → IsInStages (Among refused_race.book) refused_race.shape 0 to_d r.t0 r.t1 r.answer → NamesItsBucket refused_race.shape 0 to_d r.answer → IsReceiptOf (Among refused_race.book) refused_race.shape 0 7 to_d r
+receipt_of r p s o m e g b = record { packet_is = p; seed_is = s; order = o; most = m; explained = e; stages = g; bucket = b }
+
+-- its first chain, and its second
+first_chain : packet_home refused_race.shape 0 to_d ≡ 0
+unfolding tuple_hash jhash_3words started_mix final_mix mixed
+first_chain = refl
+
+second_chain : listen_home refused_race.shape 0 to_d.dst to_d.dport to_d.net ≡ 1
+unfolding listen_hash jhash_1word started_mix final_mix mixed
+second_chain = refl
+
+abbrev Ends : ℕ → ℕ → ℕ → PassEnd → Type 0
+Ends bucket t0 t1 end = MayEnd (Among refused_race.book) 2 bucket t0 t1 end
+
+abbrev Staged : ℕ → ℕ → ℕ → PassEnd → Type 0
+Staged bucket t0 t1 end = IsInStages (Among refused_race.book) refused_race.shape 0 to_d t0 t1 (found.Again bucket end)
+
+-- given up in the first
+at_first : (t0 t1 : ℕ) (end : PassEnd) → Ends 0 t0 t1 end → Staged 0 t0 t1 end
+at_first t0 t1 end m = inl (sym first_chain, subst (λ (b : ℕ). Ends b t0 t1 end) (sym first_chain) m)
+
+-- in the second, after the first had nothing
+at_second : Ends 1 1 3 (ends.Foreign 0) → Staged 1 1 3 (ends.Foreign 0)
+unfolding rank
+at_second m = inr (
+  1,
+  omega arith,
+  omega arith,
+  none_if refused_race.book (in_bucket _ 5) _ 1 1 5 refl,
+  inl (sym second_chain, subst (λ (b : ℕ). Ends b 1 3 (ends.Foreign 0)) (sym second_chain) m),
+)
+
+dead : Ends 0 4 5 (ends.Dead 1)
+dead = record { change = unhash_d; there = gone_there; sort = refl; meets = record { begun = omega arith; lasting = omega arith } }
+
+foreign : Ends 1 1 3 (ends.Foreign 0)
+foreign = (λ e. absurd (omega (arith, e)), record { change = hash_d; there = d_there; sort = (refl, refl); meets = record { begun = omega arith; lasting = omega arith } })
+
+changed : Ends 0 2 5 (ends.Changed 1)
+changed = record { change = unhash_d; there = gone_there; sort = refl; meets = record { begun = omega arith; lasting = omega arith } }
+
+long : Ends 0 1 3 (ends.Long 3)
+long = (refl, record { change = hash_d; there = d_there; sort = refl; meets = record { begun = omega arith; lasting = omega arith } })
 
 items : AreAnswered (Among refused_race.book) refused_race.shape 0 7 refused_capture.items refused_race.looked
 items = (
-  receipt_of _ refl refl (omega arith) (omega arith) (record { change = unhash_d; there = gone_there; sort = refl; meets = record { begun = omega arith; lasting = omega arith } }) connections,
+  receipt_of _ refl refl (omega arith) (omega arith) dead (at_first 4 5 (ends.Dead 1) dead) connections,
   (
-    receipt_of _ refl refl (omega arith) (omega arith) (λ e. absurd (omega arith), record { change = hash_d; there = d_there; sort = (refl, refl); meets = record { begun = omega arith; lasting = omega arith } }) listeners,
+    receipt_of _ refl refl (omega arith) (omega arith) foreign (at_second foreign) listeners,
     (
-      receipt_of _ refl refl (omega arith) (omega arith) (record { change = unhash_d; there = gone_there; sort = refl; meets = record { begun = omega arith; lasting = omega arith } }) connections,
-      (
-        receipt_of _ refl refl (omega arith) (omega arith) (refl, record { change = hash_d; there = d_there; sort = refl; meets = record { begun = omega arith; lasting = omega arith } }) connections,
-        (tt, tt),
-      ),
+      receipt_of _ refl refl (omega arith) (omega arith) changed (at_first 2 5 (ends.Changed 1) changed) connections,
+      (receipt_of _ refl refl (omega arith) (omega arith) long (at_first 1 3 (ends.Long 3) long) connections, (tt, tt)),
     ),
   ),
 )
@@ -91,16 +135,16 @@ shares = record {
   );
 }
 
-kept : WasKept (Among refused_race.book) 2 6 (record { wish = wished owner_b; name = name_at 1 0 })
+kept : WasKept (Among refused_race.book) 2 4 (record { wish = wished owner_b; name = name_at 1 0 })
 kept = record {
   life = hash_a;
   is = record { there = a_there; hash = refl };
   name = refl;
   keeps = refl;
-  stood = stood_if refused_race.book (begin_apart_if refused_race.book refl) hash_a 2 6 refl;
+  stood = stood_if refused_race.book (begin_apart_if refused_race.book refl) hash_a 2 4 refl;
 }
 
-used : NoneWasFree (Among refused_race.book) 4 7 2 4 refused_race.sightings (record { number = 6; owned = 1; held = 1 })
+used : NoneWasFree (Among refused_race.book) 6 7 2 4 refused_race.sightings (record { number = 6; owned = 1; held = 1 })
 used = record {
   owned = 0 ∷ [];
   held = 1 ∷ [];
@@ -109,7 +153,7 @@ used = record {
   held_count = refl;
   distinct = distinct_if (0 ∷ 1 ∷ []) refl;
   below = (omega arith, (omega arith, tt));
-  owned_each = (record { life = hash_a; is = record { there = a_there; hash = refl }; slot_is = refl; stood = stood_if refused_race.book (begin_apart_if refused_race.book refl) hash_a 4 7 refl }, tt);
+  owned_each = (record { life = hash_a; is = record { there = a_there; hash = refl }; slot_is = refl; stood = stood_if refused_race.book (begin_apart_if refused_race.book refl) hash_a 6 7 refl }, tt);
   held_each = (record { sighting = held_d; there = inl refl; slot_is = refl; since = omega arith; until = omega arith }, tt);
   counted = λ l. omega arith;
 }
@@ -124,7 +168,9 @@ returns c = record {
   book = book;
   serial = serial;
   taken = (tt, (tt, (tt, (tt, (tt, (tt, (tt, (tt, (tt, ((kept, tt), (tt, (tt, (tt, tt)))))))))))));
+  given = (tt, (tt, ((free_if refused_race.book 0 2 _ refl refl, tt), (tt, (tt, ((free_if refused_race.book 2 4 _ refl refl, tt), (tt, (tt, (tt, (tt, (tt, (tt, (tt, tt)))))))))))));
   slots = (tt, (tt, (tt, (tt, (tt, (tt, (tt, (tt, (tt, (tt, (tt, (tt, ((used, tt), tt)))))))))))));
+  counted = λ h. absurd h.0;
   dumps = (refl, (refl, (refl, (refl, (refl, (refl, (refl, (refl, (refl, (refl, (refl, (refl, (refl, tt)))))))))))));
   items = items;
   shares = shares;

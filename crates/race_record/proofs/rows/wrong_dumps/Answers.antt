@@ -25,3 +25,6 @@ returns-clause-nothing c l =
 
 pub returns-clause-before : goal.returns-clause-before
 returns-clause-before c l = let d = l.dumps.1.1.1.0 in omega (arith, d.3.begins, ap (λ (ls : List Listing). (span_at ls).t0) d.2)
+
+pub returns-clause-backwards : goal.returns-clause-backwards
+returns-clause-backwards c l = omega (arith, l.spans.1.0.pairs.0.0)

@@ -1,10 +1,10 @@
-use Rattle.std.proofs.Common.{◌≡◌, ℕ, ◌≤◌, List, [], ◌∷◌, refl, sym, ap, ◌∙◌, subst, arith, inl, inr}
+use Rattle.std.proofs.Common.{◌≡◌, ℕ, ◌≤◌, List, [], ◌∷◌, refl, sym, ap, ◌∙◌, subst, arith, inl, inr, ⊎_elim}
 use Rattle.std.proofs.lemmas.Bool.{true≢false}
 use Rattle.jhash_words.specs.Jhash.{jhash_1word, jhash_3words, started_mix, final_mix, mixed}
 use Rattle.jhash_words.specs.Places.{tuple_hash, listen_hash}
 use Rattle.sock_card.specs.Rank.{rank}
 use Rattle.chain_book.specs.declared.book.Change.{Change}
-use Rattle.chain_book.specs.Homes.{home}
+use Rattle.chain_book.specs.Homes.{home, packet_home}
 use Rattle.race_book.specs.Among.{Among}
 use Rattle.race_book.specs.Explained.{IsAtHome, IsOfSlot, MeetsSome, buckets_of}
 use Rattle.race_book.specs.Lives.{Throughout, comes_after}
@@ -75,3 +75,18 @@ request_stays = record {
 pub returns-clause-listener : goal.returns-clause-listener
 returns-clause-listener c l =
     l.items.0.explained.best hash_r (record { there = inr (inl refl); hash = refl }) request_home (omega (arith, matches, request_ranks)) request_stays
+
+-- the chain in which the request would be found
+request_chain : packet_home handshake_race.shape 0 (packet 0x0A000001 80) ≡ 0
+unfolding tuple_hash jhash_3words started_mix final_mix mixed
+request_chain = refl
+
+-- it stands up to each number of the lookup
+still_there : (x : ℕ) → x ≤ 6 → Throughout (Among handshake_race.book) hash_r 4 x
+still_there x le = record { before = request_stays.before; still = λ u a t. omega (arith, request_stays.still u a t, le) }
+
+pub returns-clause-later : goal.returns-clause-later
+returns-clause-later c l = ⊎_elim
+    (λ gave. omega (arith, gave.0, request_chain))
+    (λ late. late.3 hash_r (record { there = inr (inl refl); hash = refl }) (sym request_chain) (omega (arith, request_ranks)) (still_there late.0 late.2))
+    l.items.0.stages

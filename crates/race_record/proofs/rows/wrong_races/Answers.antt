@@ -1,5 +1,6 @@
-use Rattle.std.proofs.Common.{◌≡◌, ◌==◌, ◌&&◌, true, nat_lt, [], ◌∷◌, refl, sym, ap, ◌∙◌, subst, arith, inl, inr}
+use Rattle.std.proofs.Common.{◌≡◌, ℕ, ◌≤◌, IsTrue, ◌==◌, ◌&&◌, true, nat_lt, List, [], ◌∷◌, length, refl, sym, ap, ◌∙◌, subst, arith, inl, inr}
 use Rattle.std.proofs.lemmas.Bool.{true≢false}
+use Rattle.list_words.specs.Lists.{Each}
 use Rattle.sock_card.specs.declared.card.Card.{Card}
 use Rattle.chain_book.specs.declared.book.Act.{Act}
 use Rattle.chain_book.specs.declared.book.Act.TheVariants as acts
@@ -10,13 +11,14 @@ use Rattle.flat_list.specs.Rows.{a, d, r, one, socket}
 use Rattle.table_model.specs.Own.{Own, new_own}
 use Rattle.table_model.specs.Commands.{Replied, answers, plan}
 use Rattle.race_book.specs.Among.{Among}
-use Rattle.race_book.specs.Lives.{Leaves, comes_after, is_hash, is_unhash}
+use Rattle.race_book.specs.Lives.{Ends, Leaves, Stood, comes_after, is_hash, is_unhash}
 use Rattle.race_book.specs.Serial.{EndsOne}
 use Rattle.race_record.specs.Goes.{Goes}
 use Rattle.race_record.specs.Deeds.{entered}
-use Rattle.race_record.specs.Worked.{first_bind, card_a, card_e, handshake_script}
+use Rattle.race_record.specs.Lawful.{WasOwned}
+use Rattle.race_record.specs.Worked.{first_bind, card_a, card_e, hash_a, handshake_script}
 use Rattle.race_record.specs.Refused as refused
-use Rattle.race_record.specs.Wrong.{twice_script, second_bind, twins_race, twin_b, drop_race, unhash_other, unhash_early}
+use Rattle.race_record.specs.Wrong.{twice_script, second_bind, twins_race, twin_b, kept_race, hash_w, drop_race, unhash_other, gone_race, unhash_gone, unhash_early}
 use Rattle.race_record.proofs.HashedFirst.{ack_hashes_first}
 use Rattle.race_record.proofs.rows.wrong_races.Goals as goal
 
@@ -73,11 +75,63 @@ not_hers o = elim o.is.there as (λ _. ⊥) [
   ]
 ]
 
+-- the TIME_WAIT stays
+stays_kept : (u : Change) → Among kept_race.book u → IsTrue (comes_after hash_w u) → 8 ≤ u.begin
+stays_kept u a t = elim a as (λ _. 8 ≤ u.begin) [
+  | inl e ↦ absurd (true≢false (sym t ∙ ap (comes_after hash_w) e))
+  | inr r ↦ elim r as (λ _. 8 ≤ u.begin) [
+    | inl e ↦ absurd (true≢false (sym t ∙ ap (comes_after hash_w) e))
+    | inr s ↦ elim s as (λ _. 8 ≤ u.begin) [
+      | inl e ↦ absurd (true≢false (sym t ∙ ap (comes_after hash_w) e))
+      | inr q ↦ elim q as (λ _. 8 ≤ u.begin) [
+        | inl e ↦ absurd (true≢false (sym t ∙ ap (comes_after hash_w) e))
+        | inr n ↦ absurd n
+      ]
+    ]
+  ]
+]
+
+pub returns-clause-kept : goal.returns-clause-kept
+returns-clause-kept c l =
+    l.given.1.1.1.1.1.1.0.0.unkept hash_w (record { there = inr (inl refl); hash = refl }) refl refl (record { before = omega arith; still = stays_kept })
+
+pub returns-clause-held : goal.returns-clause-held
+returns-clause-held c l = omega (arith, l.counted tt)
+
+-- the listener went before the search
+went : Ends (Among gone_race.book) hash_a unhash_gone
+went = record {
+  there = inr (inl refl);
+  after = refl;
+  first = λ u a t. elim a as (λ _. 2 ≤ u.begin) [
+    | inl e ↦ absurd (true≢false (sym t ∙ ap (comes_after hash_a) e))
+    | inr r ↦ elim r as (λ _. 2 ≤ u.begin) [ inl e ↦ omega (arith, ap (λ (x : Change). x.begin) e) | inr n ↦ absurd n ]
+  ];
+}
+
+nobody_then : (slot : ℕ) → WasOwned (Among gone_race.book) 4 5 slot → ⊥
+nobody_then slot w = elim w.is.there as (λ _. ⊥) [
+  | inl e ↦ let s : Stood (Among gone_race.book) hash_a 4 5 = subst (λ (x : Change). Stood (Among gone_race.book) x 4 5) e w.stood in omega (arith, s.still unhash_gone went)
+  | inr r ↦ elim r as (λ _. ⊥) [
+    | inl e ↦ true≢false (sym (ap is_hash w.is.hash) ∙ ap (λ (x : Change). is_hash x.act) e)
+    | inr n ↦ n
+  ]
+]
+
+none_of_one : (P : ℕ → Type 0) (xs : List ℕ) → length xs ≡ 1 → Each P xs → ((n : ℕ) → P n → ⊥) → ⊥
+none_of_one P [] e h f = absurd (omega (arith, e))
+none_of_one P (x ∷ xs) e h f = f x h.0
+
+pub returns-clause-owned : goal.returns-clause-owned
+returns-clause-owned c l =
+    let none = l.slots.1.1.1.1.1.1.0.0 in
+    none_of_one (WasOwned (Among gone_race.book) 4 5) none.owned none.owned_count none.owned_each nobody_then
+
 pub returns-clause-card : goal.returns-clause-card
 returns-clause-card c l = not_hers (l.serial.ends unhash_other (inr (inl refl)) refl)
 
 pub returns-clause-step : goal.returns-clause-step
-returns-clause-step c l = omega (arith, l.spans.0.pairs.1.1.0.0.below.0)
+returns-clause-step c l = omega (arith, l.spans.0.pairs.1.1.0.0)
 
 pub returns-clause-unhash : goal.returns-clause-unhash
 returns-clause-unhash c l =

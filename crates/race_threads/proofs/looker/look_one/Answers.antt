@@ -7,6 +7,8 @@ use Rattle.table_rule.specs.Plays.{Sat}
 use Rattle.table_rule.specs.declared.view.Layout.{Layout}
 use Rattle.race_threads.proofs.Looked.{names_bucket}
 use Rattle.race_threads.proofs.Searching.{went}
+use Rattle.race_threads.proofs.Staging.{went_in_stages}
+use Rattle.race_threads.specs.Searches.{WentInStages}
 use Rattle.race_threads.proofs.looker.look_one.Goals as goal
 
 pub returns-clause-up : goal.returns-clause-up
@@ -22,6 +24,7 @@ returns-clause-up g c header is =
     let whole = whole_to packet layout.seed look.t0 look.t1 look.end in
     let named = names_bucket slots groups layout packet c.args.passes old c.args.group_passes.now c.look_packet-end.new.group_passes look.end look.t0 whole new e.order in
     let ways = went layout packet c.args.passes old slots groups c.args.group_passes.now c.look_packet-end.new.group_passes look.end look.t0 whole new e.order in
+    let staged = went_in_stages layout packet c.args.passes slots groups old c.args.group_passes.now c.look_packet-end.new.group_passes look.end look.t0 whole new e.order in
     record {
       concluded = e.concluded;
       packet_is = refl;
@@ -33,4 +36,5 @@ returns-clause-up g c header is =
       searches = ways.0;
       searched = ways.1;
       after = ways.2;
+      stages = subst (λ (l : Layout). WentInStages new.0.read.receipts l.shape l.seed packet look.t0 look.t1 look.end) is staged;
     }

@@ -1,9 +1,8 @@
 use Rattle.std.proofs.Common.{ℕ, subst, sym}
 use Rattle.std.proofs.lemmas.Result.{IfOk-weaker}
 use Rattle.flat_list.specs.declared.header.Header.{Header}
-use Rattle.race_threads.specs.Finished.{HasFinished}
 use Rattle.race_threads.specs.Jobs.{AllReady}
-use Rattle.race_threads.specs.Told.{IsLeftBy, IsOfOneRun}
+use Rattle.race_threads.specs.Told.{IsToldBy, IsToldOf}
 use Rattle.race_threads.specs.Workers.{AreTables}
 use Rattle.race_threads.specs.Works.{AllWorked}
 use Rattle.race_threads.proofs.racing.race.Goals as goal
@@ -20,12 +19,8 @@ finish-requires-clause-worked g c =
     let worked = subst (λ (n : ℕ). AllWorked c.args.script.now c.args.passes c.args.capture.now.items c.in_ok-tables.tables c.in_ok-tickets.tickets n c.in_ok-done.done.items) (sym done.count) done.worked in
     (c.args.passes, worked)
 
-pub returns-clause-run : goal.returns-clause-run
-returns-clause-run g c =
-    let done = c.in_ok-done.ensures in
-    let worked = subst (λ (n : ℕ). AllWorked c.args.script.now c.args.passes c.args.capture.now.items c.in_ok-tables.tables c.in_ok-tickets.tickets n c.in_ok-done.done.items) (sym done.count) done.worked in
+pub returns : goal.returns
+returns g c =
     let ended = c.in_ok-ended.ended in
-    let finished : HasFinished c.args.script.now c.args.passes c.args.capture.now.items c.args.lookers ended =
-    c.in_ok-ended.ensures c.args.passes worked in
-    IfOk-weaker c.tell.result (IsLeftBy ended) (IsOfOneRun c.args.script.now c.args.capture.now c.args.lookers c.args.passes)
-    (λ told left. record { ended = ended; finished = finished; left = left }) c.tell.ensures.left
+    IfOk-weaker c.tell.result (IsToldBy c.args.script.now c.args.capture.now c.args.lookers c.args.passes ended) (IsToldOf c.args.script.now c.args.capture.now c.args.lookers c.args.passes)
+    (λ told by. record { ended = ended; by = by }) c.tell.ensures

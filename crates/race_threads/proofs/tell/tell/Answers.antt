@@ -20,8 +20,8 @@ all_told-requires c =
     (subst (λ (l : List Item). SameItems (flat_map items_in c.args.ended.outcomes.items) (numbers_below (length l))) (sym c.items.ensures) once)
     in record { once = it }
 
-pub returns-clause-lawful : goal.returns-clause-lawful
-returns-clause-lawful c =
+pub returns : goal.returns
+returns c =
     let e = c.args.ended in
     let known = subst (λ (l : List Change). map as_known l ≡ l) c.deref-4.ensures.value c.know_changes.ensures in
     let looked = c.in_ok-looked.looked.items in
@@ -35,14 +35,3 @@ returns-clause-lawful c =
     (c.in_ok-journals.ensures ∙ ap (map count_in) c.deref-3.ensures.value)
     c.into_list-book.ensures
     known
-
-pub returns-clause-left : goal.returns-clause-left
-returns-clause-left c =
-    record {
-      book = c.into_list-book.ensures;
-      journals = c.in_ok-journals.ensures ∙ ap (map count_in) c.deref-3.ensures.value;
-      replies = c.in_ok-replies.ensures ∙ ap (flat_map replies_in) c.deref.ensures.value;
-      listings = c.in_ok-listings.ensures;
-      looked = subst (λ (l : List Outcome). Each (λ k. looked_at c.in_ok-looked.looked.items k.item ≡ k.looked) (flat_map told_in l)) c.deref-2.ensures.value c.in_ok-looked.ensures.told;
-      clock = refl;
-    }

@@ -1,4 +1,4 @@
-use Rattle.std.proofs.Common.{◌≡◌, List, sym, ap, ◌∙◌, subst}
+use Rattle.std.proofs.Common.{◌≡◌, ◌+◌, ◌^◌, ◌<◌, List, sym, ap, ◌∙◌, subst, arith}
 use Rattle.reuseport_group.specs.Passes as lists
 use Rattle.shared_demux.specs.Concludes.{ByOrder, whole_to}
 use Rattle.shared_ops.specs.Stands.{buckets_of}
@@ -29,9 +29,10 @@ returns-clause-found c = λ flat shape sound mean.
     let n = me look.new.steps in
     let now : IsNow m.0 = sees_now (known worker.chain.pass) m.0 c.now.result c.now.ensures.later c.now.ensures.sees alone.chains in
     let laid : m.0.layout ≡ layout = c.now.ensures.rests.table.1 ∙ sym tables.chains.laid in
+    let fits : layout.shape.slots < 2 ^ 32 = omega (arith, subst (λ (l : Layout). l.shape.slots + 1 < 2 ^ 32) (sym tables.chains.laid) c.slots_are_few.ensures) in
     let same : (known worker.chain.pass).book.closed ≡ m.0.book.closed = sym (ap (λ (v : View). v.book.closed) c.now.ensures.sees) in
     let mean_now = subst (λ (closed : List Change). TablesMean (tables_by (buckets_of tables) (given worker.turns) (chains_of layout worker.chain.next closed)) flat) same mean in
     let order = subst (λ (l : Layout). ByOrder l.shape.slots slots layout packet 1 m worker.groups look.result.end look.new.group_passes look.result.t0 (whole_to packet layout.seed look.result.t0 look.result.t1 look.result.end) n) (sym tables.chains.laid) look.ensures.order in
     c.card_of.ensures.card
-    ∙ answered m now c.now.result c.now.ensures.whole layout laid worker.chain.next (buckets_of tables) (given worker.turns) worker.groups alone.groups slots alone.ready.groups.many alone.listed flat packet shape sound mean_now
+    ∙ answered m now c.now.result c.now.ensures.whole layout laid fits worker.chain.next (buckets_of tables) (given worker.turns) worker.groups alone.groups slots alone.ready.groups.many alone.listed flat packet shape sound mean_now
     look.result.end 1 look.new.group_passes look.result.t0 look.result.t1 n c.card_of.ensures.told (look.ensures.sole (now.bare.0.all, now.idle)) order

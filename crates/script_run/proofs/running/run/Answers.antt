@@ -1,8 +1,10 @@
-use Rattle.std.proofs.Common.{◌≡◌, ℕ, ◌+◌, ◌-◌, ◌∙◌, [], length, ap, subst, sym, arith}
+use Rattle.std.proofs.Common.{◌≡◌, ℕ, ◌+◌, ◌-◌, ◌^◌, ◌<◌, ◌∙◌, List, [], length, get_or, ap, subst, sym, arith}
 use Rattle.std.proofs.lemmas.List.{length-map}
 use Rattle.sock_script.specs.Output.{Replies, listings_from, events_from, issued_from}
 use Rattle.sock_script.specs.Steps.{shown_from}
 use Rattle.flat_list.specs.Flat.{new_flat}
+use Rattle.flat_list.specs.declared.command.Command.{Command}
+use Rattle.list_words.proofs.Items.{each_in, place_in}
 use Rattle.sock_script.proofs.RunTurns.{commands_at, has_room}
 use Rattle.flat_list.specs.Fits.{FitsTables}
 use Rattle.script_run.specs.Sole.{tables_of}
@@ -33,12 +35,15 @@ run_section-requires g c =
     let at = commands_at _ c.args.script.now.sections c.loop-i.i c.commands-item.result c.sections-commands-items.ensures c.loop-i-test.true c.commands-item.is in
     let i = c.loop-i.invariant in
     let room = has_room (new_flat c.header-header.result.now) i.ran.flat c.args.script.now c.args.capture.now.items c.loop-i.left.now c.loop-i.replies c.loop-i.i c.commands-item.result.items c.requires.small at.0 at.1 i.ran.ran in
+    let commands : List Command = c.commands-item.result.items in
+    let sections : List (List Command) = c.args.script.now.sections in
+    let few : length commands < 2 ^ 24 = subst (λ (cs : List Command). length cs < 2 ^ 24) (sym at.1) (each_in (λ (cs : List Command). length cs < 2 ^ 24) (get_or sections c.loop-i.i commands) sections c.requires.small.commands (place_in sections c.loop-i.i commands at.0)) in
     record {
       header = subst FitsTables (sym c.header-header.ensures) c.requires.header;
       tables = c.in_ok-tables.ensures.of;
       first = omega arith;
       number = omega (arith, room.0);
-      room = rw c.deref.ensures.value (omega (arith, room.1));
+      room = rw c.deref.ensures.value (omega (arith, few));
       sole = i.sole;
       unspoken = i.unspoken;
       may = subst (λ n. MayCarry (commands_after n) c.loop-i.worker) (before c.loop-i.i) i.may;

@@ -1,4 +1,4 @@
-use Rattle.std.proofs.Common.{ℕ, arith, subst}
+use Rattle.std.proofs.Common.{ℕ, arith, subst, inr}
 use Rattle.null_reader.specs.Looked.{LookedAs, SoleAs, words_end}
 use Rattle.null_reader.specs.declared.answers.LookEnd.{LookEnd}
 use Rattle.null_reader.specs.declared.answers.LookEnd.TheVariants as answers
@@ -31,3 +31,9 @@ returns-in-None-clause-sole g c = λ whole.
     then_sole (me c.args.steps.now) (me c.look-end.new.steps) stays c.args.layout.now c.args.packet.now c.look-end-in-None.result.end
     (subst (λ (e : LookEnd). SoleAs (exact_home c.args.layout.now c.args.packet.now) c.args.packet.now 3 (view c.args.steps.now) (words_end e)) c.in-None.is (subst (λ (b : ℕ). SoleAs b c.args.packet.now 3 (view c.args.steps.now) (words_end c.look-end.result.end)) c.listen_home-exact.ensures.home (c.look-end.ensures.sole whole)))
     (subst (λ (b : ℕ). SoleAs b c.args.packet.now 1 (view c.look-end.new.steps) (words_end c.look-end-in-None.result.end)) c.listen_home-any.ensures.home (c.look-end-in-None.ensures.sole (whole_on (me c.args.steps.now) (me c.look-end.new.steps) stays whole)))
+
+pub returns-in-None-clause-own : goal.returns-in-None-clause-own
+returns-in-None-clause-own g c =
+    let none = at_exact c.args.layout.now c.args.packet.now c.args.passes c.look-end.result.t0 c.look-end.result.t1 (me c.args.steps.now) (me c.look-end.new.steps) c.listen_home-exact.result c.look-end.result.end answers.None c.listen_home-exact.ensures.home c.in-None.is c.look-end.ensures.looked in
+    let seen = seen_after c.args.layout.now c.args.packet.now c.args.passes c.look-end.result.t0 c.look-end.result.t1 (me c.args.steps.now) (me c.look-end.new.steps) none in
+    inr (c.look-end.result.t1, me c.look-end.new.steps, omega (arith, c.look-end-in-None.ensures.fresh, c.look-end-in-None.ensures.span, seen), c.look-end.ensures.own, c.look-end-in-None.ensures.own)

@@ -18,13 +18,13 @@ invariant_of-self-2 c =
           let wanted = rw w.in_ok-homes.ensures.ok_part at w.homes_for.ensures in
           let some : 0 < length homes = omega (arith, wanted, sized, w.in_ok-resize.ensures.len) in
           let fits : length places ≤ most_places = omega (arith, many, c.self.invariant.fits, kept.places.ok.0) in
-          let items = rw w.self-inside-is at c.reserve.ensures.items in
+          let items = rw w.self-inside-is at c.reserve_exact.ensures.items in
           rw w.self-inside-is
           (same_in_homes places _ homes _ _ (items ∙ with_items_is kept.places places many)
           (with_items_is w.resize.new.self homes sized) some w.link_all.ensures.linked fits)
       | else-len-wanted w ↦
           let some : 0 < length kept.homes.items = omega (arith, w.if-len-wanted.false, c.len-2.ensures, kept.homes.ok.0) in
-          let items = rw w.self-inside-is at c.reserve.ensures.items in
+          let items = rw w.self-inside-is at c.reserve_exact.ensures.items in
           rw w.self-inside-is
           (same_in_homes kept.places.items _ kept.homes.items _ _ items refl some c.self.invariant.linked c.self.invariant.fits)
     ]

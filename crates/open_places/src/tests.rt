@@ -1,0 +1,32 @@
+//! Places with texts, of which one is let go.
+
+use crate::OpenPlaces;
+use std::test::Fail;
+
+#[test]
+fn a_value_is_where_it_was_put_until_it_is_taken(rt: HostRuntime) -> Result<(), Fail> {
+    let mut places = OpenPlaces::new(rt.alloc());
+    assert_eq!(rt; places.at(0).copied(), None);
+    places.give()?;
+    places.give()?;
+    places.give()?;
+    places.take_back();
+    assert_eq!(rt; places.len(), 2);
+    assert_eq!(rt; places.take(2), None);
+    assert_eq!(rt; places.at(1).copied(), None);
+    places.put(0, "none");
+    places.put(1, "one");
+    assert_eq!(rt; places.at(1).copied(), Some("one"));
+    assert_eq!(rt; places.take(0), Some("none"));
+    assert_eq!(rt; places.take(0), None);
+    places.let_go(0);
+    places.let_go(0);
+    assert_eq!(rt; places.at(0).copied(), None);
+    assert_eq!(rt; places.take(0), None);
+    assert_eq!(rt; places.take(7), None);
+    assert_eq!(rt; places.at(1).copied(), Some("one"));
+    assert_eq!(rt; places.len(), 2);
+    places.put(1, "again");
+    assert_eq!(rt; places.take(1), Some("again"));
+    Ok(())
+}
