@@ -7,7 +7,7 @@ use Rattle.flat_list.specs.declared.command.LabelKey.{LabelKey}
 use Rattle.flat_list.specs.Labels.{IsLabel, key_of, text_of}
 use Rattle.label_index.specs.declared.seed.LabelSeed.{LabelSeed}
 use Rattle.label_index.specs.Places.{place_in}
-use Rattle.label_index.specs.Firsts.{AreFirsts, NotesPlace, TellsNew, key_eq}
+use Rattle.label_index.specs.Firsts.{NotesPlace, TellsNew, key_eq}
 use Rattle.label_index.proofs.Places.{given_new, given_again}
 
 -- two keys are one exactly where their labels are
@@ -76,13 +76,7 @@ noted_again old between new label place i v is l at puts back labels count tells
     ∙ sym (given_again labels label text i (bytes_eq label text) refl there)
 
 -- what the map has at a label's key shows whether the label is new
-pub told_new : (firsts : Firsts) (label : List ℕ) (v : LabelKey) (o : Option ℕ) → v ≡ key_of label → IsLabel label → o ≡ get key_eq firsts v
-    → TellsNew firsts label (not (is_some o))
-told_new firsts label v o is l at labels tells =
-    ap (λ (p : Option ℕ). not (is_some p)) (at ∙ ap (get key_eq firsts) is ∙ tells label l)
-
--- a map in another order gives the same places
-pub reordered : (old new : Firsts) (count : ℕ) (labels : List (List ℕ)) → ((key : LabelKey) → get key_eq new key ≡ get key_eq old key)
-    → AreFirsts old count labels → AreFirsts new count labels
-reordered old new count labels same are =
-    record { tells = λ label l. same (key_of label) ∙ are.tells label l; count_is = are.count_is }
+pub told_new : (map : Firsts) (label : List ℕ) (v : LabelKey) (o : Option ℕ) → v ≡ key_of label → IsLabel label → o ≡ get key_eq map v
+    → TellsNew map label (not (is_some o))
+told_new map label v o is l at labels tells =
+    ap (λ (p : Option ℕ). not (is_some p)) (at ∙ ap (get key_eq map) is ∙ tells label l)

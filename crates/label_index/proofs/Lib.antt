@@ -1,2 +1,4 @@
 pub mod Places
 mod Firsts
+pub mod Numbers
+mod Noted

@@ -70,3 +70,26 @@ fn thousands_of_labels_have_their_places(rt: HostRuntime) -> Result<(), Fail> {
     }
     Ok(())
 }
+
+#[test]
+fn numbers_are_given_in_order_and_found(rt: HostRuntime) -> Result<(), Fail> {
+    let mut given = LabelIndex::numbered();
+    given.reserve(5)?;
+    for number in 1..300u64 {
+        assert!(rt; given.give_and_tell(&label(&rt, &number.to_be_bytes()))?);
+    }
+    for number in 1..300u64 {
+        let place = given.place_of(&label(&rt, &number.to_be_bytes()));
+        assert_eq!(rt; place, Some(number as usize - 1));
+    }
+    for other in [0u64, 1, 299, 301, u64::MAX] {
+        assert!(rt; given.give(&label(&rt, &other.to_be_bytes())).is_err());
+    }
+    assert!(rt; given.give(&label(&rt, b"a")).is_err());
+    assert_eq!(rt; given.len(), 299);
+    for other in [0u64, 300, u64::MAX] {
+        assert_eq!(rt; given.place_of(&label(&rt, &other.to_be_bytes())), None);
+    }
+    assert_eq!(rt; given.place_of(&label(&rt, b"a")), None);
+    Ok(())
+}

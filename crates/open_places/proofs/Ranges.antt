@@ -4,14 +4,14 @@ use mathlib.Core.Logic.{dite}
 use Rattle.std.proofs.Math.Decide.{dec_le}
 use Rattle.std.specs.List.{range_with_len, slice_index_or}
 use Rattle.std.specs.BTreeMap.{BTreeMap, get, Updates}
-use Rattle.std.specs.Prelude.{is_some, option_and_then}
+use Rattle.std.specs.Prelude.{is_some, option_and_then, IsSome}
 use Rattle.std.specs.Cmp.{nat_cmp_is}
 use Rattle.std.specs.Ordering.{nat_cmp, is_eq}
 use Rattle.std.specs.declared.cmp.Ordering.TheVariants.{Less, Greater}
 use Rattle.std.proofs.lemmas.Bool.{false≢true}
 use Rattle.std.proofs.lemmas.List.{get_or_past}
 use Rattle.std.proofs.lemmas.List.FromFn.{map-range_with_len_more, get_or-map-range_with_len, length-map-range_with_len}
-use Rattle.open_places.specs.Cells.{Places, cell_in, places_in, one_more, AreGiven}
+use Rattle.open_places.specs.Cells.{Places, cell_in, places_in, one_more, AreGiven, AreEmpty, AreEmptyFrom}
 
 module _ {X : Type 0} (f g : ℕ → X) where
   same_range : (a n : ℕ) → ((j : ℕ) → a ≤ j → j < a + n → g j ≡ f j) → map g (range_with_len a n) ≡ map f (range_with_len a n)
@@ -143,3 +143,24 @@ module _ {T : Type 0} (m n : BTreeMap ℕ (Option T)) (place : ℕ) (updates : U
       let same_cells : (places_in place n).cells ≡ before.cells = same_front (places_in place n).cells before.cells (cell_in m place) None (sym cells ∙ ap (λ (p : Places T). p.cells) is) in
       let same_kept : (places_in place n).kept ≡ before.kept = same_front (places_in place n).kept before.kept (is_some (get nat_cmp m place)) true (sym kept ∙ ap (λ (p : Places T). p.kept) is) in
       λ i. record { cells = same_cells i; kept = same_kept i }
+
+-- the first of the kept places from a number on
+module _ {T : Type 0} (count : ℕ) (m : BTreeMap ℕ (Option T)) (given : AreGiven count m) (first : ℕ) where
+  pub none_kept : ((q : ℕ) → first ≤ q → get nat_cmp m q ≡ None) → AreEmptyFrom (places_in count m).cells first
+  none_kept none i l = absent_none count m i given (none i l)
+
+  pub none_past : count ≤ first → AreEmptyFrom (places_in count m).cells first
+  none_past past i l = absent_none count m i given (given i (omega (arith, past, l)))
+
+  none_there : (o : Option (Option T)) → (IsSome o → ⊥) → o ≡ None
+  none_there None none = refl
+  none_there (Some x) none = absurd (none refl)
+
+  pub none_before : (place : ℕ) → ((q : ℕ) → first ≤ q → IsSome (get nat_cmp m q) → place ≤ q) → AreEmpty (places_in count m).cells first place
+  none_before place least i l before =
+      absent_none count m i given (none_there (get nat_cmp m i) (λ some. let le : place ≤ i = least i l some in omega (arith, le, before)))
+
+  pub place_below : (place : ℕ) → IsSome (get nat_cmp m place) → place < count
+  place_below place some = dite (dec_le count place)
+      (λ l. absurd (false≢true (ap is_some (sym (given place l)) ∙ some)))
+      (λ l. omega (arith, l))

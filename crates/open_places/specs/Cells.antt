@@ -1,6 +1,6 @@
 -- A list of places, each empty or with a value, of which only some are kept in memory: our own form.
-use Rattle.std.specs.Prelude.{◌≡◌, ℕ, ◌≤◌, Bool, true, List, [], ◌∷◌, ◌++◌, Option, None, map, is_some, option_and_then}
-use Rattle.std.specs.List.{range_with_len}
+use Rattle.std.specs.Prelude.{◌≡◌, ℕ, ◌<◌, ◌≤◌, Bool, true, List, [], ◌∷◌, ◌++◌, Option, None, map, is_some, option_and_then}
+use Rattle.std.specs.List.{range_with_len, slice_index_or}
 use Rattle.std.specs.Ordering.{nat_cmp}
 use Rattle.std.specs.BTreeMap.{BTreeMap, get}
 
@@ -12,6 +12,20 @@ pub record Places (T : Type 0) : Type 0 where
 -- one place more, which is empty and kept
 abbrev pub one_more : {T : Type 0} → Places T → Places T
 one_more p = record { cells = p.cells ++ None ∷ []; kept = p.kept ++ true ∷ [] }
+
+-- the places from the first number up to the second, without it, are empty
+abbrev pub AreEmpty : {T : Type 0} → List (Option T) → (first past : ℕ) → Type 0
+AreEmpty cells first past = (i : ℕ) → first ≤ i → i < past → slice_index_or cells i None ≡ None
+
+-- and so are all from that number on
+abbrev pub AreEmptyFrom : {T : Type 0} → List (Option T) → ℕ → Type 0
+AreEmptyFrom cells first = (i : ℕ) → first ≤ i → slice_index_or cells i None ≡ None
+
+-- the place has a value, and is the first from that number on that has one
+pub record IsNextFull {T : Type 0} (cells : List (Option T)) (first place : ℕ) : Type 0 where
+  pub from : first ≤ place
+  pub full : is_some (slice_index_or cells place None) ≡ true
+  pub between : AreEmpty cells first place
 
 module _ {T : Type 0} where
   abbrev pub cell_in : BTreeMap ℕ (Option T) → ℕ → Option T

@@ -1,9 +1,9 @@
 //! The places.
 
-ghost use Rattle.std.specs.Prelude.{◌≡◌, ◌≢◌, ◌<◌, ℕ, true, false, length, [], ◌∷◌, ◌++◌, None, Some, slice_set, OnOk, OnErr};
+ghost use Rattle.std.specs.Prelude.{◌≡◌, ◌≢◌, ◌<◌, ◌≤◌, ◌+◌, ◌^◌, ℕ, true, false, length, [], ◌∷◌, ◌++◌, None, Some, slice_set, MatchOption, IfSome, OnOk, OnErr};
 ghost use Rattle.std.specs.List.{slice_index_or};
 ghost use Rattle.std.specs.Option.{option_copied};
-ghost use Rattle.open_places.specs.Cells.{Places, one_more};
+ghost use Rattle.open_places.specs.Cells.{Places, AreEmpty, AreEmptyFrom, IsNextFull, one_more};
 
 use std::alloc::{AllocError, Global};
 use std::collections::BTreeMap;
@@ -80,6 +80,34 @@ impl<T: Drop> OpenPlaces<T> {
             Some(cell) => cell.as_ref(),
             None => None,
         }
+    }
+
+    /// The first place from that number on that is kept.
+    fn kept_from(&self, first: usize) -> Option<usize>
+        ensures within { IfSome result (λ place. (first ≤ place) × (place < length self.now.cells)) }
+        ensures fits { IfSome result (λ place. place + 1 < 2 ^ 64) }
+        ensures between { MatchOption result (AreEmptyFrom self.now.cells first) (AreEmpty self.now.cells first) }
+    {
+        if first >= self.count {
+            return None;
+        }
+        let (place, _) = self.kept.range(first..).next()?;
+        Some(*place)
+    }
+
+    /// The first place from that number on that has a value. It goes down the tree once, and once more for each empty
+    /// place before it that is kept; those that were let go cost nothing.
+    pub fn next_full(&self, first: usize) -> Option<usize>
+        ensures { MatchOption result (AreEmptyFrom self.now.cells first) (IsNextFull self.now.cells first) }
+    {
+        let mut from = first;
+        while let Some(place) = self.kept_from(from) {
+            if self.at(place).is_some() {
+                return Some(place);
+            }
+            from = place + 1;
+        }
+        None
     }
 
     /// Takes the value out of its place, which stays kept.

@@ -24,7 +24,7 @@ use Rattle.shared_ops.specs.declared.tables.Tables.{Tables}
 use Rattle.shared_ops.specs.declared.tables.Worker.{Worker}
 use Rattle.shared_ops.specs.Goes as ops
 use Rattle.shared_ops.specs.Accepting.{accepted}
-use Rattle.shared_ops.specs.Goes.{Went, CarriedOut}
+use Rattle.shared_ops.specs.Goes.{Went, Carried}
 use Rattle.shared_ops.specs.Socks.{mine_of, FitsState}
 use Rattle.shared_ops.specs.Stands.{IsReady, MayTell, StandsAs, buckets_of, turned, chained}
 use Rattle.section_machine.specs.Carried.{Carries}
@@ -86,7 +86,7 @@ module _ {p : Plan} {asker : Asker} (so : AsksSo p asker) where
 
   -- and where it is left off
   pub its_off : (t : Tables) (k : Kept) (header : Header) (own : Own) (w : Worker) → kept header own ≡ k → IsSection t k w → (u : Worker) (l : Mine) (name : ℕ) (end : OpEnd) (cause : Cause) → name ≡ next_name own → end ≡ errors.LeftOff cause
-      → CarriedOut accepted refused (buckets_of t) name (p t.chains.layout.shape t.chains.layout.seed l name) (turned w) (turned u) (chained t w) (chained t u) (Err end)
+      → Carried accepted refused (buckets_of t) (p t.chains.layout.shape t.chains.layout.seed l name) (turned w) (turned u) (chained t w) (chained t u) (Err end)
       → ops.LeftOff header.shape.bind (next_name own) (p header.shape header.seed l (next_name own)) (turned w) (turned u) (chained t w) (chained t u)
   its_off t k header own w view section u l name end cause is off carried =
       subst (λ (n : ℕ). ops.LeftOff header.shape.bind n (p header.shape header.seed l n) (turned w) (turned u) (chained t w) (chained t u)) is

@@ -34,7 +34,7 @@ use Rattle.shared_ops.specs.declared.tables.Tables.{Tables}
 use Rattle.shared_ops.specs.declared.tables.Worker.{Worker}
 use Rattle.shared_ops.specs.Goes as ops
 use Rattle.shared_ops.specs.Accepting.{accepted}
-use Rattle.shared_ops.specs.Goes.{Went, CarriedOut}
+use Rattle.shared_ops.specs.Goes.{Went, Carried}
 use Rattle.shared_ops.specs.Socks.{mine_of, FitsState}
 use Rattle.shared_ops.specs.Stands.{IsReady, MayTell, StandsAs, buckets_of, turned, chained}
 use Rattle.section_machine.specs.Carried.{Carries}
@@ -144,7 +144,7 @@ module _ {t : Tables} {k : Kept} {header : Header} {l l1 : Labelled} {moment : �
   gone =
       takes.after
       ∙ (ap (λ (x : Labelled). with_place x i None) g.given
-      ∙ ap (λ (ps : List (Option Mine)). record l { labels = l.labels ++ label ∷ []; places = ps }) (none_set l.places i))
+      ∙ ap (λ (ps : List (Option Mine)). record (with_given l label) { places = ps }) (none_set l.places i))
 
   there : IsThere roll m
   there = λ P h. each_there P l.places i m h here
@@ -205,7 +205,7 @@ module _ {t : Tables} {k : Kept} {header : Header} {l l1 : Labelled} {moment : �
 
   -- and where it is left off
   pub its_off : (u : Worker) (n : ℕ) (x : Option Mine) (end : OpEnd) (cause : Cause) → n ≡ name → x ≡ found → end ≡ errors.LeftOff cause
-      → CarriedOut accepted refused (buckets_of t) n (plans.ack t.chains.layout.shape t.chains.layout.seed m x n) (turned w) (turned u) (chained t w) (chained t u) (Err end)
+      → Carried accepted refused (buckets_of t) (plans.ack t.chains.layout.shape t.chains.layout.seed m x n) (turned w) (turned u) (chained t w) (chained t u) (Err end)
       → ops.LeftOff header.shape.bind name (plans.ack header.shape header.seed m parent name) (turned w) (turned u) (chained t w) (chained t u)
   its_off u n x end cause named is off carried =
       subst (λ (p : Asking Did). ops.LeftOff header.shape.bind name p (turned w) (turned u) (chained t w) (chained t u)) (same_plan header.shape header.seed n x named is)

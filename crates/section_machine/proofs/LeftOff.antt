@@ -27,11 +27,11 @@ use Rattle.shared_ops.specs.declared.sock.Sock.{Sock}
 use Rattle.shared_ops.specs.declared.tables.Tables.{Tables}
 use Rattle.shared_ops.specs.declared.tables.Worker.{Worker}
 use Rattle.shared_ops.specs.Goes as ops
-use Rattle.shared_ops.specs.Goes.{CarriedOut, IsUndecided}
+use Rattle.shared_ops.specs.Goes.{Carried, CarriedOut, IsUndecided}
 use Rattle.shared_ops.specs.Leads.{Leads}
 use Rattle.shared_ops.specs.Socks.{mine_of}
 use Rattle.shared_ops.specs.Stands.{buckets_of, turned, chained}
-use Rattle.shared_ops.proofs.Goes.{does_none}
+use Rattle.shared_ops.proofs.Goes.{carried_out, does_none}
 use Rattle.section_machine.specs.LeftOff.{IsLeftOff, Leaves, LacksLabel, GivesLabel, GivesBack, StopsReaping, speaker, socket_name, is_of_socket, IsUntouched}
 use Rattle.section_machine.specs.Places.{Labelled, Takes, own_of, with_given, with_place, named_by}
 use Rattle.section_machine.specs.Searches as searches
@@ -83,11 +83,16 @@ left_by_header header t f name v u c d are off =
     (subst (λ (x : Shape). ops.LeftOff (buckets_of t) name (f x t.chains.layout.seed) v u c d) are.shape off))
 
 -- an operation on a socket, whose plan is that by the tables' shape and seed
-pub off_as : {X : Type 0} (did : X → Did) (header : Header) (t : Tables) (f : Shape → ℕ → Asking Did) (p : Asking Did) (name : ℕ) (v u : View) (c d : Side) (end : OpEnd) (cause : Cause) → AreOf header t → p ≡ f t.chains.layout.shape t.chains.layout.seed → end ≡ errors.LeftOff cause
+pub off_out : {X : Type 0} (did : X → Did) (header : Header) (t : Tables) (f : Shape → ℕ → Asking Did) (p : Asking Did) (name : ℕ) (v u : View) (c d : Side) (end : OpEnd) (cause : Cause) → AreOf header t → p ≡ f t.chains.layout.shape t.chains.layout.seed → end ≡ errors.LeftOff cause
     → CarriedOut did refused (buckets_of t) name p v u c d (Err end) → ops.LeftOff header.shape.bind name (f header.shape header.seed) v u c d
-off_as did header t f p name v u c d end cause are same is carried =
+off_out did header t f p name v u c d end cause are same is carried =
     left_by_header header t f name v u c d are
     (subst (λ (q : Asking Did). ops.LeftOff (buckets_of t) name q v u c d) same (op_off did refused (buckets_of t) name p v u c d end cause is carried))
+
+pub off_as : {X : Type 0} (did : X → Did) (header : Header) (t : Tables) (f : Shape → ℕ → Asking Did) (p : Asking Did) (name : ℕ) (v u : View) (c d : Side) (end : OpEnd) (cause : Cause) → AreOf header t → p ≡ f t.chains.layout.shape t.chains.layout.seed → end ≡ errors.LeftOff cause
+    → Carried did refused (buckets_of t) p v u c d (Err end) → ops.LeftOff header.shape.bind name (f header.shape header.seed) v u c d
+off_as did header t f p name v u c d end cause are same is carried =
+    off_out did header t f p name v u c d end cause are same is (carried_out did refused (buckets_of t) name p v u c d (Err end) carried)
 
 -- nothing was asked, and nothing done
 pub untouched : (t : Tables) (k new : Kept) (command : Command) (w : Worker) → ((n : ℕ) → GivesBack n (speaker k.own command) []) → LacksLabel k.own command [] [] new.own → Leaves k.own command [] [] new.own → IsLeftOff t k command new w w

@@ -23,3 +23,4 @@ mod Children
 mod Handshakes
 mod Begins
 pub mod Budgets
+mod Opened

@@ -30,7 +30,7 @@ use Rattle.shared_ops.specs.declared.sock.Sock.TheVariants as socks
 use Rattle.shared_ops.specs.declared.tables.Tables.{Tables}
 use Rattle.shared_ops.specs.declared.tables.Worker.{Worker}
 use Rattle.shared_ops.specs.Goes as ops
-use Rattle.shared_ops.specs.Goes.{Went, CarriedOut}
+use Rattle.shared_ops.specs.Goes.{Went, Carried, CarriedOut}
 use Rattle.shared_ops.specs.Socks.{mine_of, FitsState}
 use Rattle.shared_ops.specs.Stands.{IsReady, MayTell, StandsAs, buckets_of, turned, chained}
 use Rattle.shared_ops.proofs.Goes.{goes_by, does_none}
@@ -69,16 +69,28 @@ of_header header t f v u c d rest are went =
     (subst (λ (x : Shape). Went (buckets_of t) (f x t.chains.layout.seed) v u c d rest) are.shape went))
 
 -- a refusal by which nothing was left off
-pub refused_went : {X : Type 0} (did : X → Did) (count name : ℕ) (p : Asking Did) (v u : View) (c d : Side) (end : OpEnd) → is_left_off end ≡ false → CarriedOut did refused count name p v u c d (Err end) → Went count p v u c d (ends (refused end))
-refused_went did count name p v u c d (errors.InUse n) told h = h
-refused_went did count name p v u c d errors.NoPort told h = h
-refused_went did count name p v u c d (errors.Taken n) told h = h
-refused_went did count name p v u c d errors.Inval told h = h
-refused_went did count name p v u c d errors.IsConn told h = h
-refused_went did count name p v u c d errors.GroupFull told h = h
-refused_went did count name p v u c d errors.GroupsFull told h = h
-refused_went did count name p v u c d (errors.Full owned held) told h = h
-refused_went did count name p v u c d (errors.LeftOff cause) told h = absurd (cc)
+pub refused_went : {X : Type 0} (did : X → Did) (count : ℕ) (p : Asking Did) (v u : View) (c d : Side) (end : OpEnd) → is_left_off end ≡ false → Carried did refused count p v u c d (Err end) → Went count p v u c d (ends (refused end))
+refused_went did count p v u c d (errors.InUse n) told h = h
+refused_went did count p v u c d errors.NoPort told h = h
+refused_went did count p v u c d (errors.Taken n) told h = h
+refused_went did count p v u c d errors.Inval told h = h
+refused_went did count p v u c d errors.IsConn told h = h
+refused_went did count p v u c d errors.GroupFull told h = h
+refused_went did count p v u c d errors.GroupsFull told h = h
+refused_went did count p v u c d (errors.Full owned held) told h = h
+refused_went did count p v u c d (errors.LeftOff cause) told h = absurd (cc)
+
+-- and so that of a plan that may give up a port
+pub refused_out : {X : Type 0} (did : X → Did) (count name : ℕ) (p : Asking Did) (v u : View) (c d : Side) (end : OpEnd) → is_left_off end ≡ false → CarriedOut did refused count name p v u c d (Err end) → Went count p v u c d (ends (refused end))
+refused_out did count name p v u c d (errors.InUse n) told h = h
+refused_out did count name p v u c d errors.NoPort told h = h
+refused_out did count name p v u c d (errors.Taken n) told h = h
+refused_out did count name p v u c d errors.Inval told h = h
+refused_out did count name p v u c d errors.IsConn told h = h
+refused_out did count name p v u c d errors.GroupFull told h = h
+refused_out did count name p v u c d errors.GroupsFull told h = h
+refused_out did count name p v u c d (errors.Full owned held) told h = h
+refused_out did count name p v u c d (errors.LeftOff cause) told h = absurd (cc)
 
 -- whatever holds anyway holds where the answer is an error
 pub on_err : {T E P : Type 0} (r : Result T E) → P → OnErr r P

@@ -13,12 +13,12 @@ use Rattle.section_machine.specs.Standing.{AreOf, IsSection, IsUnspoken, Tells}
 -- or of a later one
 abbrev pub SectionComesNext : Type 0
 SectionComesNext =
-    (t : Tables) (header : Header) (number : ℕ) (w : Worker) → AreOf header t → IsReady t w → number ≤ 64
+    (t : Tables) (header : Header) (number : ℕ) (w : Worker) → AreOf header t → IsReady t w → number ≤ 255
     → Tells (words.caller w.turns) number → ((name : ℕ) → number * 2 ^ 56 ≤ name → IsUnspoken (turned w) name)
     → IsSection t (kept header (new_own header number)) w
 
 -- and so one that asked no bucket yet
 abbrev pub SectionBegins : Type 0
 SectionBegins =
-    (t : Tables) (header : Header) (number : ℕ) (w : Worker) → AreOf header t → IsReady t w → number ≤ 64
+    (t : Tables) (header : Header) (number : ℕ) (w : Worker) → AreOf header t → IsReady t w → number ≤ 255
     → Tells (words.caller w.turns) number → (turned w).mine ≡ [] → IsSection t (kept header (new_own header number)) w

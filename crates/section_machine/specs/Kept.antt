@@ -7,7 +7,7 @@ use Rattle.section_machine.specs.Places.{HaveNames, mines}
 
 -- names fit, and each label has a place, where its socket has its name
 pub record AreLabels (number : ℕ) (labels : List (List ℕ)) (sockets : List (Option Sock)) : Type 0 where
-  pub section : number ≤ 64
+  pub section : number ≤ 255
   pub few : length labels < 2 ^ 56
   pub count : length sockets ≡ length labels
   pub names : HaveNames (name_at number) (mines sockets)

@@ -1,6 +1,7 @@
 -- What the contracts of this crate and of those above it cite.
 pub mod Sections
 pub mod Places
+pub mod Opened
 pub mod Kept
 pub mod Waits
 pub mod Standing

@@ -1,7 +1,7 @@
 -- The labels of a section, each with the open socket that it names, and how both are found without a search: our own.
 --
 -- To be read from the beginning: from `Labelled` on it is of the labels as calls see them.
-use Rattle.std.specs.Prelude.{◌≡◌, ℕ, ◌<◌, List, [], ◌∷◌, ◌++◌, length, Option, None, Some, option_and_then, slice_set, map, IfSome}
+use Rattle.std.specs.Prelude.{◌≡◌, ℕ, ◌<◌, Bool, true, false, List, [], ◌∷◌, ◌++◌, length, Option, None, Some, option_and_then, slice_set, map, IfSome}
 use Rattle.std.specs.List.{filter_map, slice_index_or}
 use Rattle.std.specs.Option.{option_map}
 use Rattle.flat_list.specs.Sections.{name_at}
@@ -27,15 +27,20 @@ abbrev pub HaveNames : (ℕ → ℕ) → List (Option Mine) → Type 0
 HaveNames name places = (i : ℕ) → IfSome (at_place places i) (λ (m : Mine). m.owner.name ≡ name i)
 
 -- a section's number, its labels in the order in which they were given, and at each one's place its socket, while it
--- is open
+-- is open; and which places are kept, so that a socket may come there
 pub record Labelled : Type 0 where
   pub number : ℕ
   pub labels : List (List ℕ)
   pub places : List (Option Mine)
+  pub kept : List Bool
 
 -- of a section that has given none
 abbrev pub no_labels : ℕ → Labelled
-no_labels n = record { number = n; labels = []; places = [] }
+no_labels n = record { number = n; labels = []; places = []; kept = [] }
+
+-- a socket may come to that place
+abbrev pub IsKept : Labelled → ℕ → Type 0
+IsKept l i = slice_index_or l.kept i false ≡ true
 
 -- the open socket that a label names
 abbrev pub named_by : Labelled → List ℕ → Option Mine
@@ -47,7 +52,19 @@ with_place l i o = record l { places = slice_set l.places i o }
 
 -- one label more, without a socket so far
 abbrev pub with_given : Labelled → List ℕ → Labelled
-with_given l label = record l { labels = l.labels ++ label ∷ []; places = l.places ++ None ∷ [] }
+with_given l label =
+    record l { labels = l.labels ++ label ∷ []; places = l.places ++ None ∷ []; kept = l.kept ++ true ∷ [] }
+
+-- labels and sockets are as they were, whatever is kept
+pub record KeepsLabels (old new : Labelled) : Type 0 where
+  pub number : new.number ≡ old.number
+  pub labels : new.labels ≡ old.labels
+  pub places : new.places ≡ old.places
+
+-- and that place is kept no more, if it is empty
+pub record LetsGo (old : Labelled) (i : ℕ) (new : Labelled) : Type 0 where
+  pub same : KeepsLabels old new
+  pub gone : at_place old.places i ≡ None → new.kept ≡ slice_set old.kept i false
 
 -- the label names no open socket
 pub record IsUnnamed (old : Labelled) (label : List ℕ) (new : Labelled) : Type 0 where
@@ -61,6 +78,7 @@ pub record Takes (old : Labelled) (label : List ℕ) (new : Labelled) (place : �
   pub within : place < length old.labels
   pub name : (mine_of socket).owner.name ≡ name_at old.number place
   pub state : FitsState socket
+  pub stays : IsKept old place
   pub after : new ≡ with_place old place None
 
 -- a section's own, with those labels and sockets

@@ -89,7 +89,7 @@ pub record AreOf (header : Header) (t : Tables) : Type 0 where
 pub record IsSection (t : Tables) (k : Kept) (w : Worker) : Type 0 where
   pub tables : AreOf k.header t
   pub ready : IsReady t w
-  pub number : k.own.number ≤ 64
+  pub number : k.own.number ≤ 255
   pub tells : Tells (words.caller w.turns) k.own.number
   pub stand : AllOpen t (roll_of k.own) (turned w) (chained t w)
   pub unspoken : (name : ℕ) → IsUngiven (roll_of k.own) name → IsUnspoken (turned w) name

@@ -1,28 +1,31 @@
 //! The labels of a section, and the open socket that each names.
 
-ghost use Rattle.std.specs.Prelude.{◌≡◌, ◌+◌, ◌<◌, ◌≤◌, ◌^◌, length, slice_set, find, None, Some, MatchOption, option_and_then, IfSome, OnOk, OnErr};
+ghost use Rattle.std.specs.Prelude.{◌≡◌, ◌+◌, ◌<◌, ◌≤◌, ◌^◌, length, slice_set, find, None, Some, MatchOption, option_and_then, true, false, ◌≢◌, ℕ, IfSome, OnOk, OnErr};
+ghost use Rattle.std.specs.List.{slice_index_or};
 ghost use Rattle.std.specs.Option.{option_map};
 ghost use Rattle.std.specs.Borrow.{Bor};
 ghost use Rattle.flat_list.specs.Sections as sections;
 ghost use Rattle.label_index.specs.Places.{place_in};
 ghost use Rattle.table_model.specs.Own.{is_named};
+ghost use Rattle.open_places.specs.Cells.{AreEmptyFrom, IsNextFull};
 ghost use Rattle.section_machine.specs.Places as spec;
-ghost use Rattle.section_machine.specs.Places.{HaveNames, IsUnnamed, Takes, at_place, those};
+ghost use Rattle.section_machine.specs.Places.{HaveNames, IsKept, IsUnnamed, KeepsLabels, LetsGo, Takes, at_place, those};
 ghost use Rattle.shared_ops.specs.Socks.{FitsState, mine_of};
 
 use flat_list::Label;
 use label_index::{LabelIndex, LabelSeed};
+use open_places::OpenPlaces;
 use shared_ops::Sock;
 use std::alloc::{AllocError, Global};
 use std::marker::Model;
-use std::mem;
 
-/// The labels that a section has given, and at each one's place its socket, while it is open.
+/// The labels that a section has given, and at each one's place its socket, while it is open. A place
+/// takes memory from when its label is given until it is let go.
 #[derive(Drop)]
 pub struct Labels {
     number: u32,
     given: LabelIndex,
-    sockets: Vec<Option<Sock>>,
+    sockets: OpenPlaces<Sock>,
 }
 
 impl Model for Labels {
@@ -31,39 +34,53 @@ impl Model for Labels {
 
     ghost Value = { Labelled };
 
-    ghost view = { λ l. record { number = l.number; labels = l.given; places = mines l.sockets.items } };
+    ghost view = { λ l. record
+        { number = l.number; labels = l.given; places = mines l.sockets.cells; kept = l.sockets.kept } };
 
-    ghost invariant = { λ l. AreLabels l.number l.given l.sockets.items };
+    ghost invariant = { λ l. AreLabels l.number l.given l.sockets.cells };
 }
 
 /// Takes the socket out of its place.
-fn take_at(sockets: &mut [Option<Sock>], place: usize) -> Option<Sock>
-    requires { place < length sockets.old }
-    ensures socket { option_map mine_of result ≡ at_place (spec.mines sockets.old) place }
-    ensures after { spec.mines sockets.new ≡ slice_set (spec.mines sockets.old) place None }
+fn take_at(sockets: &mut OpenPlaces<Sock>, place: usize) -> Option<Sock>
+    ensures socket { option_map mine_of result ≡ at_place (spec.mines sockets.old.cells) place }
+    ensures after { spec.mines sockets.new.cells ≡ slice_set (spec.mines sockets.old.cells) place None }
+    ensures count { length sockets.new.cells ≡ length sockets.old.cells }
+    ensures kept { sockets.new.kept ≡ sockets.old.kept }
+    ensures there { result ≢ None → slice_index_or sockets.old.kept place false ≡ true }
 {
-    mem::replace(&mut sockets[place], None)
+    sockets.take(place)
 }
 
 impl Labels {
     /// Of a section that has given none, whose hashes of labels begin with the seed. It takes no memory.
     pub fn new(alloc: Global, seed: LabelSeed, number: u32) -> Self
-        requires { number ≤ 64 }
+        requires { number ≤ 255 }
         ensures { result ≡ spec.no_labels number }
     {
         Labels {
             number,
             given: LabelIndex::new(alloc, seed),
-            sockets: Vec::new(alloc),
+            sockets: OpenPlaces::new(alloc),
         }
     }
 
-    /// Makes room for so many labels more.
+    /// Of a section that has given none, and whose labels are the numbers from 1 on. It takes no memory.
+    pub fn numbered(alloc: Global, number: u32) -> Self
+        requires { number ≤ 255 }
+        ensures { result ≡ spec.no_labels number }
+    {
+        Labels {
+            number,
+            given: LabelIndex::numbered(),
+            sockets: OpenPlaces::new(alloc),
+        }
+    }
+
+    /// Makes room for so many labels more, but not for their sockets.
     pub(crate) fn reserve(&mut self, more: usize) -> Result<(), AllocError>
         ensures { self.new ≡ self.old }
     {
-        self.given.reserve(more)?;
-        self.sockets.reserve(more)
+        self.given.reserve(more)
     }
 
     /// The section's number.
@@ -84,6 +101,7 @@ impl Labels {
 
     /// The name that the next label will stand for.
     pub fn next_name(&self) -> u64
+        requires { length self.now.labels + 1 < 2 ^ 56 }
         ensures { result ≡ sections.name_at self.now.number (length self.now.labels) }
     {
         u64::from(self.number) * 0x100_0000_0000_0000 + self.given.len() as u64 + 1
@@ -93,11 +111,14 @@ impl Labels {
     pub fn give(&mut self, label: Label) -> Result<(), AllocError>
         requires { length self.old.labels + 1 < 2 ^ 56 }
         ensures given { OnOk result (self.new ≡ spec.with_given self.old label) }
+        ensures kept { OnOk result (IsKept self.new (length self.old.labels)) }
         ensures err { OnErr result (self.new ≡ self.old) }
     {
-        self.sockets.reserve(1)?;
-        self.given.give(&label)?;
-        self.sockets.push(None)?;
+        self.sockets.give()?;
+        if let Err(error) = self.given.give(&label) {
+            self.sockets.take_back();
+            return Err(error);
+        }
         Ok(())
     }
 
@@ -112,12 +133,11 @@ impl Labels {
 
     /// The open socket at the place of a label.
     pub(crate) fn at(&self, place: Option<usize>) -> Option<&Sock>
-        requires within { IfSome place (λ i. i < length self.now.labels) }
         ensures socket { option_map (λ (s : Bor Sock). mine_of s.now) result
             ≡ option_and_then (at_place self.now.places) place }
         ensures state { IfSome result (λ s. FitsState s.now) }
     {
-        let socket = self.sockets[place?].as_ref()?;
+        let socket = self.sockets.at(place?)?;
         let _owner = socket.owner();
         Some(socket)
     }
@@ -146,6 +166,16 @@ impl Labels {
         self.at(self.place_named(name))
     }
 
+    /// The first place from that one on at which an open socket is.
+    pub(crate) fn next_full(&self, first: usize) -> Option<usize>
+        ensures next { MatchOption result (AreEmptyFrom self.now.places first) (IsNextFull self.now.places first) }
+        ensures within { IfSome result (λ place. place < length self.now.labels) }
+        ensures few { length self.now.labels < 2 ^ 56 }
+        ensures names { HaveNames (sections.name_at self.now.number) self.now.places }
+    {
+        self.sockets.next_full(first)
+    }
+
     /// Takes the open socket that a label names out of its place.
     pub fn take(&mut self, label: &Label) -> Option<(usize, Sock)>
         ensures cases { MatchOption result (IsUnnamed self.old label.now self.new)
@@ -157,14 +187,43 @@ impl Labels {
         Some((place, socket))
     }
 
-    /// Puts a socket to the place of its name.
+    /// Puts a socket to the place of its name. It takes no memory.
     pub fn put(&mut self, place: usize, socket: Sock)
-        requires within { place < length self.old.labels }
+        requires kept { IsKept self.old place }
         requires name { (mine_of socket).owner.name ≡ sections.name_at self.old.number place }
         ensures put { self.new ≡ spec.with_place self.old place (Some (mine_of socket)) }
         ensures state { FitsState socket }
     {
         let _owner = socket.owner();
-        self.sockets[place] = Some(socket);
+        self.sockets.put(place, socket);
+    }
+
+    /// Lets a place go, unless a socket is there: none comes there any more.
+    fn let_go(&mut self, place: usize)
+        ensures { LetsGo self.old place self.new }
+    {
+        if self.sockets.at(place).is_none() {
+            self.sockets.let_go(place);
+        }
+    }
+
+    /// Lets the place of a label go, unless a socket is there.
+    pub(crate) fn let_go_of(&mut self, label: &Label)
+        ensures same { KeepsLabels self.old self.new }
+        ensures gone { IfSome (place_in self.old.labels label.now) (λ place. LetsGo self.old place self.new) }
+    {
+        if let Some(place) = self.place_of(label) {
+            self.let_go(place);
+        }
+    }
+
+    /// Lets the place of the last label go, unless a socket is there.
+    pub(crate) fn let_go_last(&mut self)
+        ensures same { KeepsLabels self.old self.new }
+        ensures gone { (place : ℕ) → length self.old.labels ≡ place + 1 → LetsGo self.old place self.new }
+    {
+        if let Some(place) = self.len().checked_sub(1) {
+            self.let_go(place);
+        }
     }
 }

@@ -1,7 +1,7 @@
 //! One section's own: its labels with their sockets, its moment, where its searches begin, and the TIME_WAITs that it
 //! left; its commands over tables that threads share.
 
-ghost use Rattle.std.specs.Prelude.{◌≡◌, true, false, ◌≤◌, ◌<◌, ◌+◌, ◌^◌, ◌%◌, ◌==◌, ◌&&◌, length, is_some, IfOk, IfErr, OnErr};
+ghost use Rattle.std.specs.Prelude.{◌≡◌, true, false, ◌≤◌, ◌<◌, ◌+◌, ◌^◌, ◌%◌, ◌==◌, ◌&&◌, length, MatchOption, IfOk, IfErr, OnErr};
 ghost use Rattle.turn_table.specs.Passes as words;
 ghost use Rattle.flat_list.specs.Ports.{size};
 ghost use Rattle.flat_list.specs.declared.command.Command.TheVariants as variants;
@@ -16,6 +16,7 @@ ghost use Rattle.shared_ops.specs.Socks.{mine_of};
 ghost use Rattle.shared_ops.specs.Stands.{IsReady, turned, chained};
 ghost use Rattle.section_machine.specs.Carried.{Carries, HasEnough, Keeps, Spends};
 ghost use Rattle.section_machine.specs.LeftOff.{LeftOff, IsLeftOff};
+ghost use Rattle.section_machine.specs.Opened.{IsNextOpen, NoneAbove};
 ghost use Rattle.section_machine.specs.Sections.{Did, GivesLabels, KeepsHeader, kept};
 ghost use Rattle.section_machine.specs.Standing.{IsSection};
 
@@ -93,7 +94,7 @@ fn searches_bind(socket: &Sock, end: End) -> bool
 impl Machine {
     /// The section of that number, before its first command, whose hashes of labels begin with the seed.
     pub fn new(alloc: Global, seed: LabelSeed, header: &Header, number: u32) -> Self
-        requires number { number ≤ 64 }
+        requires number { number ≤ 255 }
         requires range { header.now.range.low ≤ header.now.range.high }
         requires even { size header.now.range % 2 ≡ 0 }
         ensures { result ≡ kept header.now (own.new_own header.now number) }
@@ -107,7 +108,24 @@ impl Machine {
         }
     }
 
-    /// Makes room for the sockets of so many labels more, so that they aren't moved as they become many.
+    /// The section of that number, before its first command, whose labels are the numbers from 1 on: it keeps none of
+    /// them.
+    pub fn numbered(alloc: Global, header: &Header, number: u32) -> Self
+        requires number { number ≤ 255 }
+        requires range { header.now.range.low ≤ header.now.range.high }
+        requires even { size header.now.range % 2 ≡ 0 }
+        ensures { result ≡ kept header.now (own.new_own header.now number) }
+    {
+        Machine {
+            header: *header,
+            labels: Labels::numbered(alloc, number),
+            moment: 0,
+            offsets: Offsets::new(header, number),
+            waits: Waits::new(alloc),
+        }
+    }
+
+    /// Makes room for so many labels more, so that they aren't moved as they become many.
     pub fn reserve(&mut self, more: usize) -> Result<(), AllocError>
         ensures { self.new ≡ self.old }
     {
@@ -135,11 +153,13 @@ impl Machine {
         self.waits.len()
     }
 
-    /// Whether a name is that of an open socket.
-    pub fn is_open(&self, name: u64) -> bool
-        ensures { result ≡ is_some (own.open_named self.now.own name) }
+    /// The lowest number above that one which names an open socket: the number of a socket is its label's place, counted
+    /// from 1. It goes through no number of a socket that is gone.
+    pub fn next_open(&self, after: usize) -> Option<usize>
+        ensures { MatchOption result (NoneAbove self.now.own after) (IsNextOpen self.now.own after) }
     {
-        self.labels.named(name).is_some()
+        let place = self.labels.next_full(after)?;
+        Some(place + 1)
     }
 
     /// Comes to a moment, in seconds, unless it lies behind.
@@ -324,6 +344,22 @@ impl Machine {
         }
     }
 
+    /// Lets the places go that a command leaves empty for good: that of a socket that it ended, and that of a label that
+    /// it gave to none.
+    fn let_go(&mut self, command: &Command)
+        ensures { self.new ≡ self.old }
+    {
+        match command {
+            Command::Close { label } | Command::Drop { label } => self.labels.let_go_of(label),
+            Command::Accept { .. } | Command::Syn { .. } => self.labels.let_go_last(),
+            Command::Ack { request, .. } => {
+                self.labels.let_go_of(request);
+                self.labels.let_go_last();
+            },
+            _ => {},
+        }
+    }
+
     /// Carries a command out, any but `look` and `packets`, whoever else is at the tables. A `dump` does nothing here:
     /// who carries a section's commands out makes the list.
     ///
@@ -367,7 +403,9 @@ impl Machine {
         ensures gives { GivesLabels command.now self.old.own.labels self.new.own.labels result }
         ensures patient { P.endless ≡ true → IfErr result (λ cause. cause ≡ causes.Memory) }
     {
-        self.carry(patience, tables, worker, command)
+        let outcome = self.carry(patience, tables, worker, command);
+        self.let_go(command);
+        outcome
     }
 
     /// [`Machine::try_step`], for as long as it takes.

@@ -1,4 +1,4 @@
-use Rattle.std.proofs.Common.{ap, ◌∙◌, slice_set}
+use Rattle.std.proofs.Common.{None, ap, ◌∙◌}
 use Rattle.std.specs.Option.{option_map}
 use Rattle.std.proofs.lemmas.List.{map-set}
 use Rattle.section_machine.specs.Places as spec
@@ -6,6 +6,4 @@ use Rattle.shared_ops.specs.Socks.{mine_of}
 use Rattle.section_machine.proofs.labels.take_at.Goals as goal
 
 pub returns-clause-after : goal.returns-clause-after
-returns-clause-after c =
-    map-set (option_map mine_of) c.args.sockets.now c.args.place c.replace.new.dest
-    ∙ ap (λ o. slice_set (spec.mines c.args.sockets.now) c.args.place (option_map mine_of o)) c.replace.ensures.after
+returns-clause-after c = ap spec.mines c.take.ensures.after ∙ map-set (option_map mine_of) c.args.sockets.now.cells c.args.place None

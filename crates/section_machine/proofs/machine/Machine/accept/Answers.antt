@@ -90,7 +90,7 @@ returns-in_ok-refusal-in-Err-clause-carried g c =
     (accept_asks c.args.from c.args.at) u c.accept.ensures.ready c.accept.ensures.caller c.in-Err.end c.connect_error.result
     (its_plan (accept_asks c.args.from c.args.at) t c.args.self.now c.self.inside.header (own_of c.self.inside.labels c.self.inside.moment c.self.inside.offsets c.self.inside.waits) w c.self.view_is c.requires.section u m c.next_name-name.result (refused c.in-Err.end)
     c.next_name-name.ensures
-    (refused_went accepted (buckets_of t) c.next_name-name.result _ (turned w) (turned u) (chained t w) (chained t u) c.in-Err.end c.in_ok-refusal-in-Err.ensures.kept.told c.in-Err.ensures.carried))
+    (refused_went accepted (buckets_of t) _ (turned w) (turned u) (chained t w) (chained t u) c.in-Err.end c.in_ok-refusal-in-Err.ensures.kept.told c.in-Err.ensures.carried))
     (c.connect_error.ensures ∙ ap connect_error c.in_ok-refusal-in-Err.ensures.kept.same)
 
 pub returns-in_err-refusal-in-Err-clause-err : goal.returns-in_err-refusal-in-Err-clause-err

@@ -97,7 +97,7 @@ returns-in_ok-refusal-in-Err-clause-carried g c =
     (its_plan gives c.take.new.self c.args.request.now c.in-Some.place c.in-Some.socket c.in-Some.ensures.cases
     u c.next_name-name.result (mine_found c.named-listener.result) (refused c.in-Err.end) c.next_name-name.ensures
     (c.named-listener.ensures.socket ∙ ap (λ (a : Owner). find (is_named a.origin) (those c.take.new.self.places)) c.owner.ensures.owner)
-    (refused_went accepted (buckets_of t) c.next_name-name.result _ (turned w) (turned u) (chained t w) (chained t u) c.in-Err.end c.in_ok-refusal-in-Err.ensures.kept.told c.in-Err.ensures.carried))
+    (refused_went accepted (buckets_of t) _ (turned w) (turned u) (chained t w) (chained t u) c.in-Err.end c.in_ok-refusal-in-Err.ensures.kept.told c.in-Err.ensures.carried))
     (typed_stands t c.in-Some.socket (turned u) (chained t u) c.in-Some.ensures.cases.state c.in-Err.ensures.kept)
     (c.connect_error.ensures ∙ ap connect_error c.in_ok-refusal-in-Err.ensures.kept.same)
     (c.put-in-Err.ensures.put ∙ ap (λ x. with_place c.take.new.self c.in-Some.place (Some (mine_of x))) c.in-Err.ensures.back)

@@ -1,4 +1,4 @@
-use Rattle.std.proofs.Common.{ℕ, Some, refl, sym, ap, ◌∙◌, subst}
+use Rattle.std.proofs.Common.{ℕ, Some, Ok, Err, refl, sym, ap, ◌∙◌, subst}
 use Rattle.flat_list.specs.declared.header.First.TheVariants as firsts
 use Rattle.flat_list.specs.declared.command.Command.TheVariants as commands
 use Rattle.flat_list.specs.declared.command.Reply.TheVariants as replies
@@ -11,6 +11,7 @@ use Rattle.table_model.specs.Commands.{answers, after_search, bind_command, bind
 use Rattle.shared_ops.specs.Goes.{Went}
 use Rattle.shared_ops.specs.Socks.{mine_of, first_mine}
 use Rattle.shared_ops.specs.Stands.{buckets_of, turned, chained}
+use Rattle.shared_ops.proofs.BindStands.{bind_stands}
 use Rattle.section_machine.specs.Places.{Labelled, own_of, with_place}
 use Rattle.section_machine.specs.Sections.{Kept}
 use Rattle.section_machine.specs.Searches as searches
@@ -30,11 +31,6 @@ returns-in_default-clause-carried g c =
 pub bind-requires-clause-may : goal.bind-requires-clause-may
 bind-requires-clause-may g c =
     tells_before c.args.tables.now c.args.self.now c.self.inside.header c.self.inside.labels c.take.new.self c.self.inside.moment c.self.inside.offsets c.self.inside.waits c.args.label.now c.in-Some.place c.in-Some.socket c.args.worker.now
-    (record { view = c.self.view_is; names = c.take.ensures.names }) c.in-Some.ensures.cases c.requires.section
-
-pub bind-requires-clause-stands : goal.bind-requires-clause-stands
-bind-requires-clause-stands g c =
-    stands_before c.args.tables.now c.args.self.now c.self.inside.header c.self.inside.labels c.take.new.self c.self.inside.moment c.self.inside.offsets c.self.inside.waits c.args.label.now c.in-Some.place c.in-Some.socket c.args.worker.now
     (record { view = c.self.view_is; names = c.take.ensures.names }) c.in-Some.ensures.cases c.requires.section
 
 pub put-requires-clause-name : goal.put-requires-clause-name
@@ -60,6 +56,9 @@ returns-in-Ok-clause-carried g c =
     let same = bind_same (mine_of s) c.args.end c.ports-ports.result (ports_of o firsts.Odd) (λ yes. c.ports-ports.ensures.ports (c.searches_bind-begins.ensures ∙ yes)) in
     let p = plan.bind (mine_of s) c.args.end (ports_of o firsts.Odd) in
     let rest = ends (done (mine_of c.in-Ok.socket)) in
+    let stood = stands_before t c.args.self.now c.self.inside.header c.self.inside.labels c.take.new.self c.self.inside.moment c.self.inside.offsets c.self.inside.waits c.args.label.now c.in-Some.place s w
+    (record { view = c.self.view_is; names = c.take.ensures.names }) c.in-Some.ensures.cases c.requires.section in
+    let left = bind_stands t s c.args.end c.ports-ports.result (turned w) (turned u) (chained t w) (chained t u) (Ok (c.in-Ok.socket, c.in-Ok.port)) c.in-Some.ensures.cases.state stood c.in-Ok.ensures.carried in
     let sec = before t c.args.self.now h c.self.inside.labels c.take.new.self c.self.inside.moment o c.self.inside.waits c.args.label.now c.in-Some.place s w (record { view = c.self.view_is; names = c.take.ensures.names }) c.in-Some.ensures.cases c.requires.section in
     done_so t c.args.self.now h c.self.inside.labels c.take.new.self c.self.inside.moment o c.self.inside.waits c.args.label.now c.in-Some.place s w
     (record { view = c.self.view_is; names = c.take.ensures.names }) c.in-Some.ensures.cases c.requires.section u c.bind.ensures.ready c.bind.ensures.caller p (of_bind (mine_of s) c.args.end (ports_of o firsts.Odd))
@@ -67,7 +66,7 @@ returns-in-Ok-clause-carried g c =
     c.in-Ok.socket (replies.Port c.in-Ok.port) c.put.new.self
     (of_header h t (λ shape seed. p) (turned w) (turned u) (chained t w) (chained t u) rest sec.tables
     (subst (λ (q : Asking Did). Went (buckets_of t) q (turned w) (turned u) (chained t w) (chained t u) rest) same c.in-Ok.ensures.carried))
-    c.put.ensures.state c.in-Ok.ensures.stands c.put.ensures.put
+    c.put.ensures.state (left c.put.ensures.state) c.put.ensures.put
     (λ x. ap (λ (n : ℕ). answers (with_socket x (mine_of c.in-Ok.socket)) (replies.Port n)) (sym c.in-Ok.ensures.port))
 
 pub returns-in_ok-refusal-in-Err-clause-carried : goal.returns-in_ok-refusal-in-Err-clause-carried
@@ -82,6 +81,9 @@ returns-in_ok-refusal-in-Err-clause-carried g c =
     let same = bind_same (mine_of s) c.args.end c.ports-ports.result (ports_of o firsts.Odd) (λ yes. c.ports-ports.ensures.ports (c.searches_bind-begins.ensures ∙ yes)) in
     let p = plan.bind (mine_of s) c.args.end (ports_of o firsts.Odd) in
     let rest = ends (refused c.in-Err.end) in
+    let stood = stands_before t c.args.self.now c.self.inside.header c.self.inside.labels c.take.new.self c.self.inside.moment c.self.inside.offsets c.self.inside.waits c.args.label.now c.in-Some.place s w
+    (record { view = c.self.view_is; names = c.take.ensures.names }) c.in-Some.ensures.cases c.requires.section in
+    let left = bind_stands t s c.args.end c.ports-ports.result (turned w) (turned u) (chained t w) (chained t u) (Err c.in-Err.end) c.in-Some.ensures.cases.state stood c.in-Err.ensures.carried in
     let sec = before t c.args.self.now h c.self.inside.labels c.take.new.self c.self.inside.moment o c.self.inside.waits c.args.label.now c.in-Some.place s w (record { view = c.self.view_is; names = c.take.ensures.names }) c.in-Some.ensures.cases c.requires.section in
     refused_then t c.args.self.now h c.self.inside.labels c.take.new.self c.self.inside.moment o c.self.inside.waits c.args.label.now c.in-Some.place s w
     (record { view = c.self.view_is; names = c.take.ensures.names }) c.in-Some.ensures.cases c.requires.section u c.bind.ensures.ready c.bind.ensures.caller p (of_bind (mine_of s) c.args.end (ports_of o firsts.Odd))
@@ -89,8 +91,8 @@ returns-in_ok-refusal-in-Err-clause-carried g c =
     c.in-Err.end c.bind_error.result c.put-in-Err.new.self
     (of_header h t (λ shape seed. p) (turned w) (turned u) (chained t w) (chained t u) rest sec.tables
     (subst (λ (q : Asking Did). Went (buckets_of t) q (turned w) (turned u) (chained t w) (chained t u) rest) same
-    (refused_went (first_mine {B = ℕ}) (buckets_of t) (mine_of s).owner.name _ (turned w) (turned u) (chained t w) (chained t u) c.in-Err.end c.in_ok-refusal-in-Err.ensures.kept.told c.in-Err.ensures.carried)))
-    c.in-Err.ensures.kept
+    (refused_went (first_mine {B = ℕ}) (buckets_of t) _ (turned w) (turned u) (chained t w) (chained t u) c.in-Err.end c.in_ok-refusal-in-Err.ensures.kept.told c.in-Err.ensures.carried)))
+    left
     (c.put-in-Err.ensures.put ∙ ap (λ x. with_place c.take.new.self c.in-Some.place (Some (mine_of x))) c.in-Err.ensures.back)
     (λ x. ap (answers x) (sym (c.bind_error.ensures ∙ ap bind_error c.in_ok-refusal-in-Err.ensures.kept.same)))
 
@@ -123,12 +125,15 @@ returns-in_err-refusal-in-Err-clause-section g c =
     let u = c.bind.new.worker in
     let same = bind_same (mine_of s) c.args.end c.ports-ports.result (ports_of o firsts.Odd) (λ yes. c.ports-ports.ensures.ports (c.searches_bind-begins.ensures ∙ yes)) in
     let p = plan.bind (mine_of s) c.args.end (ports_of o firsts.Odd) in
+    let stood = stands_before t c.args.self.now c.self.inside.header c.self.inside.labels c.take.new.self c.self.inside.moment c.self.inside.offsets c.self.inside.waits c.args.label.now c.in-Some.place s w
+    (record { view = c.self.view_is; names = c.take.ensures.names }) c.in-Some.ensures.cases c.requires.section in
+    let left = bind_stands t s c.args.end c.ports-ports.result (turned w) (turned u) (chained t w) (chained t u) (Err c.in-Err.end) c.in-Some.ensures.cases.state stood c.in-Err.ensures.carried in
     let sec = before t c.args.self.now c.self.inside.header c.self.inside.labels c.take.new.self c.self.inside.moment c.self.inside.offsets c.self.inside.waits c.args.label.now c.in-Some.place s w (record { view = c.self.view_is; names = c.take.ensures.names }) c.in-Some.ensures.cases c.requires.section in
     on_err c.from_residual.result
     (left_so t c.args.self.now c.self.inside.header c.self.inside.labels c.take.new.self c.self.inside.moment c.self.inside.offsets c.self.inside.waits c.args.label.now c.in-Some.place s w
     (record { view = c.self.view_is; names = c.take.ensures.names }) c.in-Some.ensures.cases c.requires.section u c.bind.ensures.ready c.bind.ensures.caller p (of_bind (mine_of s) c.args.end (ports_of o firsts.Odd)) c.ports-ports.new.self c.put-in-Err.new.self
     (off_as (first_mine {B = ℕ}) h t (λ shape seed. p) _ (mine_of s).owner.name (turned w) (turned u) (chained t w) (chained t u) c.in-Err.end _ sec.tables same c.in_err-refusal-in-Err.ensures.left c.in-Err.ensures.carried)
-    c.in-Err.ensures.kept (c.put-in-Err.ensures.put ∙ ap (λ x. with_place c.take.new.self c.in-Some.place (Some (mine_of x))) c.in-Err.ensures.back))
+    left (c.put-in-Err.ensures.put ∙ ap (λ x. with_place c.take.new.self c.in-Some.place (Some (mine_of x))) c.in-Err.ensures.back))
 
 pub returns-in_default-clause-gives : goal.returns-in_default-clause-gives
 returns-in_default-clause-gives g c =

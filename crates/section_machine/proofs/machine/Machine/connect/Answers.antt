@@ -97,7 +97,7 @@ returns-in_ok-refusal-in-Err-clause-carried g c =
     c.in-Err.end c.connect_error.result c.put-in-Err.new.self
     (of_header h t (λ shape seed. plan.connect shape seed (mine_of s) c.args.from c.args.to m (connect_rule h) ours) (turned w) (turned u) (chained t w) (chained t u) rest sec.tables
     (subst (λ (q : Asking Did). Went (buckets_of t) q (turned w) (turned u) (chained t w) (chained t u) rest) (same ∙ ruled)
-    (refused_went (first_mine {B = End}) (buckets_of t) (mine_of s).owner.name _ (turned w) (turned u) (chained t w) (chained t u) c.in-Err.end c.in_ok-refusal-in-Err.ensures.kept.told c.in-Err.ensures.carried)))
+    (refused_went (first_mine {B = End}) (buckets_of t) _ (turned w) (turned u) (chained t w) (chained t u) c.in-Err.end c.in_ok-refusal-in-Err.ensures.kept.told c.in-Err.ensures.carried)))
     c.in-Err.ensures.kept
     (c.put-in-Err.ensures.put ∙ ap (λ x. with_place c.take.new.self c.in-Some.place (Some (mine_of x))) c.in-Err.ensures.back)
     (λ x. ap (answers x) (sym (c.connect_error.ensures ∙ ap connect_error c.in_ok-refusal-in-Err.ensures.kept.same)))

@@ -19,8 +19,8 @@ use Rattle.section_machine.specs.Places.{own_of}
 use Rattle.section_machine.specs.Sections.{Kept, kept}
 use Rattle.section_machine.proofs.Searches.{listen_same}
 use Rattle.section_machine.proofs.Gives.{err_patient, gives_none, labels_put, labels_same, no_more}
-use Rattle.section_machine.proofs.LeftOff.{off_as, socket_left, listen_plan, its_speaker, its_search}
-use Rattle.section_machine.proofs.Settled.{nobody, done_so, left_so, refused_then, refused_went, before, stands_before, tells_before, of_header, on_err, sockets_back}
+use Rattle.section_machine.proofs.LeftOff.{off_out, socket_left, listen_plan, its_speaker, its_search}
+use Rattle.section_machine.proofs.Settled.{nobody, done_so, left_so, refused_then, refused_out, before, stands_before, tells_before, of_header, on_err, sockets_back}
 use Rattle.section_machine.proofs.machine.Machine.listen.Goals as goal
 
 pub returns-in_default-clause-carried : goal.returns-in_default-clause-carried
@@ -90,7 +90,7 @@ returns-in_ok-refusal-in-Err-clause-carried g c =
     c.in-Err.end c.bind_error.result c.put-in-Err.new.self
     (of_header h t (λ shape seed. plan.listen shape seed (mine_of s) (ports_of o firsts.Odd)) (turned w) (turned u) (chained t w) (chained t u) rest sec.tables
     (subst (λ (q : Asking Did). Went (buckets_of t) q (turned w) (turned u) (chained t w) (chained t u) rest) same
-    (refused_went (first_mine {B = ℕ}) (buckets_of t) (mine_of s).owner.name _ (turned w) (turned u) (chained t w) (chained t u) c.in-Err.end c.in_ok-refusal-in-Err.ensures.kept.told c.in-Err.ensures.carried)))
+    (refused_out (first_mine {B = ℕ}) (buckets_of t) (mine_of s).owner.name _ (turned w) (turned u) (chained t w) (chained t u) c.in-Err.end c.in_ok-refusal-in-Err.ensures.kept.told c.in-Err.ensures.carried)))
     c.in-Err.ensures.kept
     (c.put-in-Err.ensures.put ∙ ap (λ x. with_place c.take.new.self c.in-Some.place (Some (mine_of x))) c.in-Err.ensures.back)
     (λ x. ap (answers x) (sym (c.bind_error.ensures ∙ ap bind_error c.in_ok-refusal-in-Err.ensures.kept.same)))
@@ -124,7 +124,7 @@ returns-in_err-refusal-in-Err-clause-left g c =
     (socket_left t c.args.self.now h c.self.inside.labels c.take.new.self c.put-in-Err.new.self c.self.inside.moment o c.ports-ports.new.self c.self.inside.waits c.args.label.now c.in-Some.place s w u
     (record { view = c.self.view_is; names = c.take.ensures.names }) c.in-Some.ensures.cases (c.put-in-Err.ensures.put ∙ ap (λ x. with_place c.take.new.self c.in-Some.place (Some (mine_of x))) c.in-Err.ensures.back) (commands.Listen c.args.label.now) began (c.ports-ports.ensures.after ∙ ap (λ b. searches.after_search b o) c.is_unbound-begins.ensures)
     p (λ did. ends (bind_reply (after_search began own) did)) (λ e. listen_plan h own c.args.label.now (mine_of s) e) (λ e. its_speaker h own c.args.label.now (mine_of s) e) (λ e deeds back. its_search h own c.args.label.now (mine_of s) e (λ m. is_unbound m.owner.state))
-    (off_as (first_mine {B = ℕ}) h t (λ shape seed. plan.listen shape seed (mine_of s) (ports_of o firsts.Odd)) _ (mine_of s).owner.name (turned w) (turned u) (chained t w) (chained t u) c.in-Err.end _ sec.tables same c.in_err-refusal-in-Err.ensures.left c.in-Err.ensures.carried))
+    (off_out (first_mine {B = ℕ}) h t (λ shape seed. plan.listen shape seed (mine_of s) (ports_of o firsts.Odd)) _ (mine_of s).owner.name (turned w) (turned u) (chained t w) (chained t u) c.in-Err.end _ sec.tables same c.in_err-refusal-in-Err.ensures.left c.in-Err.ensures.carried))
 
 pub returns-in_err-refusal-in-Err-clause-section : goal.returns-in_err-refusal-in-Err-clause-section
 returns-in_err-refusal-in-Err-clause-section g c =
@@ -140,7 +140,7 @@ returns-in_err-refusal-in-Err-clause-section g c =
     on_err c.from_residual.result
     (left_so t c.args.self.now c.self.inside.header c.self.inside.labels c.take.new.self c.self.inside.moment c.self.inside.offsets c.self.inside.waits c.args.label.now c.in-Some.place s w
     (record { view = c.self.view_is; names = c.take.ensures.names }) c.in-Some.ensures.cases c.requires.section u c.listen.ensures.ready c.listen.ensures.caller p (of_listen h.shape h.seed (mine_of s) (ports_of o firsts.Odd)) c.ports-ports.new.self c.put-in-Err.new.self
-    (off_as (first_mine {B = ℕ}) h t (λ shape seed. plan.listen shape seed (mine_of s) (ports_of o firsts.Odd)) _ (mine_of s).owner.name (turned w) (turned u) (chained t w) (chained t u) c.in-Err.end _ sec.tables same c.in_err-refusal-in-Err.ensures.left c.in-Err.ensures.carried)
+    (off_out (first_mine {B = ℕ}) h t (λ shape seed. plan.listen shape seed (mine_of s) (ports_of o firsts.Odd)) _ (mine_of s).owner.name (turned w) (turned u) (chained t w) (chained t u) c.in-Err.end _ sec.tables same c.in_err-refusal-in-Err.ensures.left c.in-Err.ensures.carried)
     c.in-Err.ensures.kept (c.put-in-Err.ensures.put ∙ ap (λ x. with_place c.take.new.self c.in-Some.place (Some (mine_of x))) c.in-Err.ensures.back))
 
 pub returns-in_default-clause-gives : goal.returns-in_default-clause-gives
