@@ -14,8 +14,7 @@
  * - A handle is all zero before it is made, is changed by these calls alone, and isn't copied.
  * - A handle is at one call at a time; inet_tables_worker, inet_tables_looker and inet_tables_give_back are calls on
  *   both of theirs. Handles of the same shared tables may be at calls at the same time. Threads that share one handle
- *   put a lock of their own round each call. (A call writes its handle: those of several threads are best on cache
- *   lines of their own.)
+ *   put a lock of their own round each call.
  * - A handle goes from one thread to another by a lock, by a thread's start or join, or by an atomic that is stored
  *   and loaded as memory_order_seq_cst.
  * - No pointer is null, and no two arguments of a call point to the same bytes.
@@ -42,8 +41,8 @@
 extern "C" {
 #endif
 
-/* A handle, whatever it holds. */
-struct inet_tables { void *at; };
+/* A handle, whatever it holds. Each call writes it; by the bytes behind it no two handles share a cache line. */
+struct inet_tables { void *at; unsigned char apart[120]; };
 
 struct inet_sizes {
     uint32_t slots;  /* 1 to 2^24: hashed sockets at a time, and TIME_WAITs */
@@ -54,6 +53,13 @@ struct inet_sizes {
     uint16_t low;    /* ports of searches: from low, at least 1, */
     uint16_t high;   /* to high, an even number of them */
     bool twreuse;    /* tcp_tw_reuse */
+};
+
+/* The limits of a worker of shared tables. All 0: each call tries once, and there is no other limit. */
+struct inet_limits {
+    uint64_t tries;      /* where another worker has what a call needs, it tries as often again, and then is EAGAIN */
+    uint64_t most_waits; /* with so many TIME_WAITs of its own close leaves none, until some are reaped; 0: no limit */
+    uint64_t full_for;   /* after ENFILE none of the worker's next calls, as many as this, looks for a slot */
 };
 
 enum { INET_REUSEADDR = 1, INET_REUSEPORT = 2, INET_BIND_ADDRESS_NO_PORT = 4 };
@@ -84,20 +90,19 @@ struct inet_item {
 int inet_tables_new(struct inet_tables *tables, const struct inet_sizes *sizes);
 int inet_tables_share(struct inet_tables *tables, const struct inet_sizes *sizes, uint64_t tag);
 
-/* Hand out of shared tables, into a handle that holds nothing: a worker, 64 at a time at most, or a looker, 16000 at a
+/* Hand out of shared tables, into a handle that holds nothing: a worker, 255 at a time at most, or a looker, 16000 at a
  * time. What was given back goes out again, the last of it first: such a worker has the number, the sockets, the
- * TIME_WAITs and the moment that it had. Else workers are numbered from 1 on as they are made. Where another worker has
- * what a call needs, the call tries as many times more, and then answers EAGAIN. EBUSY comes exactly where the second
- * handle holds something, else EBADF exactly where the first has no shared tables, and else EUSERS exactly where all
- * are out; and else ENOMEM may. */
-int inet_tables_worker(struct inet_tables *shared, uint64_t tries, struct inet_tables *worker, uint32_t *number);
+ * TIME_WAITs and the moment that it had. Else workers are numbered from 1 on as they are made. The limits are the
+ * worker's until it is given back. EBUSY comes exactly where the second handle holds something, else EBADF exactly
+ * where the first has no shared tables, and else EUSERS exactly where all are out; and else ENOMEM may. */
+int inet_tables_worker(struct inet_tables *shared, const struct inet_limits *limits, struct inet_tables *worker,
+                       uint32_t *number);
 int inet_tables_looker(struct inet_tables *shared, struct inet_tables *looker);
 
 /* Gives a worker or a looker back to its shared tables, for the next who asks for one: its handle holds nothing then.
- * It takes no memory. The sockets of a worker stand meanwhile; no call lists them, so keep their numbers for its next
- * holder. EBADF comes exactly where the first handle holds no shared tables, or the second neither a worker nor a
- * looker; and else EINVAL exactly where it isn't theirs: it has another tag than they, or all that they made are
- * there. */
+ * It takes no memory. The sockets of a worker stand meanwhile: its next holder lists them by inet_tables_next_open.
+ * EBADF comes exactly where the first handle holds no shared tables, or the second neither a worker nor a looker; and
+ * else EINVAL exactly where it isn't theirs: it has another tag than they, or all that they made are there. */
 int inet_tables_give_back(struct inet_tables *shared, struct inet_tables *back);
 
 /* Gives up what the handle holds: it holds nothing then. Shared tables go with the last handle that has a part in
@@ -111,6 +116,8 @@ void inet_tables_free(struct inet_tables *tables);
  *
  * EAGAIN and ENOMEM: the worker's sockets stand as they did, and the call can be made again. But a worker's call
  * may have used up the number that it gives, or the place where a search begins; and of a reap a first part is done.
+ * ENOBUFS: one of the worker's last full_for calls was ENFILE, and this one, which would take a slot, did not look for
+ * one (listen, connect, accept, syn, ack). Nothing else was tested, and nothing has changed.
  * EOVERFLOW: a worker makes 2^56 - 2 sockets, and has 2^48 entries for bind buckets and 2^48 numbers of the clock, of
  * which a connection that is accepted, closed and reaped takes 3 and 8. The last 2^32 of both are kept for close, drop,
  * at and reap. A list replies to 2^56 - 2 calls. */
@@ -127,8 +134,15 @@ int inet_tables_accept(struct inet_tables *tables, uint32_t worker, uint64_t lis
 int inet_tables_syn(struct inet_tables *tables, uint32_t worker, uint64_t listener, uint32_t from_addr,
                     uint16_t from_port, uint32_t at_addr, uint16_t at_port, uint64_t *request);
 int inet_tables_ack(struct inet_tables *tables, uint32_t worker, uint64_t request, uint64_t *socket);
+/* A connected socket leaves a TIME_WAIT, where a slot is free for it and the worker has fewer than most_waits: of those
+ * that it left, all that it has not reaped. Else it is gone, as by drop. */
 int inet_tables_close(struct inet_tables *tables, uint32_t worker, uint64_t socket, bool *waits);
 int inet_tables_drop(struct inet_tables *tables, uint32_t worker, uint64_t socket);
+
+/* The lowest number above `after` that names an open socket of the worker, or 0 where none does, so from 0 on all of
+ * them, one after the other. Takes no memory and no time for sockets that are gone. Only on a worker's handle; on
+ * others EBADF, and 0 is written. */
+int inet_tables_next_open(struct inet_tables *tables, uint32_t worker, uint64_t after, uint64_t *socket);
 
 /* The worker's moment in seconds, and the end of its TIME_WAITs that have lasted 60. */
 int inet_tables_at(struct inet_tables *tables, uint32_t worker, uint32_t moment);

@@ -13,8 +13,8 @@ enum { CONNECTIONS = 500, PROXY = 0x0A000001 };
 
 static const uint32_t CLIENTS = 0xC0000200;
 
-/* How often a call tries again for what another worker has. */
-enum { TRIES = 1000 };
+/* A call tries so often again for what another worker has. */
+static const struct inet_limits LIMITS = {1000, 0, 0};
 
 static void must(int error, const char *what) {
     if (error != 0) {
@@ -131,7 +131,7 @@ static void misused(struct inet_tables *shared, struct accepter *accepter, struc
     printf("a packet for a worker: %s\n", name(inet_tables_look(&accepter->tables, 1, 1, 1, 1, 0, 0, &sight)));
     printf("a list of shared tables: %s\n", name(inet_tables_list(shared, &item, 1, &count)));
     printf("a worker into a handle that has one: %s\n",
-           name(inet_tables_worker(shared, TRIES, &accepter->tables, &number)));
+           name(inet_tables_worker(shared, &LIMITS, &accepter->tables, &number)));
 }
 
 /* A handshake in two steps: its request takes the packets while it lasts, and then the connection. */
@@ -148,6 +148,22 @@ static void shake_hands(struct accepter *me, struct looker *looker) {
     printf("a packet after it: %s\n",
            sight.kind == INET_CONNECTED && sight.socket == socket ? "the connection" : "another socket");
     must(inet_tables_drop(&me->tables, me->worker, socket), "drop");
+}
+
+/* The next holder of a worker that was given back closes what its last holder left open, but the listener. */
+static void hand_over(struct inet_tables *shared, struct accepter *me) {
+    uint64_t socket, dropped = 0;
+    accept_from(me, 1021);
+    accept_from(me, 1022);
+    must(inet_tables_give_back(shared, &me->tables), "give back");
+    must(inet_tables_worker(shared, &LIMITS, &me->tables, &me->worker), "worker");
+    must(inet_tables_next_open(&me->tables, me->worker, me->listener, &socket), "next open");
+    while (socket != 0) {
+        must(inet_tables_drop(&me->tables, me->worker, socket), "drop");
+        dropped++;
+        must(inet_tables_next_open(&me->tables, me->worker, socket, &socket), "next open");
+    }
+    printf("worker %u, handed over: %llu connections dropped\n", me->worker, (unsigned long long)dropped);
 }
 
 static void finish(struct accepter *me) {
@@ -167,7 +183,7 @@ int main(void) {
     struct looker lookers[2] = {{{NULL}, 1, 0}, {{NULL}, 2, 0}};
     pthread_t threads[4];
     for (uint32_t i = 0; i < 2; i++) {
-        must(inet_tables_worker(&shared, TRIES, &accepters[i].tables, &accepters[i].worker), "worker");
+        must(inet_tables_worker(&shared, &LIMITS, &accepters[i].tables, &accepters[i].worker), "worker");
         must(inet_tables_looker(&shared, &lookers[i].tables), "looker");
         open_listener(&accepters[i]);
     }
@@ -183,6 +199,7 @@ int main(void) {
     refusals(&accepters[0], &accepters[1]);
     misused(&shared, &accepters[0], &lookers[0]);
     shake_hands(&accepters[0], &lookers[0]);
+    hand_over(&shared, &accepters[0]);
     inet_tables_free(&shared);
     finish(&accepters[0]);
     finish(&accepters[1]);

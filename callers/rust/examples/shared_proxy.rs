@@ -2,14 +2,14 @@
 //! each by a worker of its own, and two look packets up meanwhile, each by a looker of its own. No lock is round any
 //! call. What it prints is the same whichever thread comes first, and what ../../c/shared_proxy.c prints of the same.
 
-use inet_tables::{Errno, Looker, Options, SharedTables, Sight, Sizes, Socket, Worker};
+use inet_tables::{Errno, Limits, Looker, Options, SharedTables, Sight, Sizes, Socket, Worker};
 use std::net::{Ipv4Addr, SocketAddrV4};
 use std::thread;
 
 const CONNECTIONS: u16 = 500;
 
-/// How often a call tries again for what another worker has.
-const TRIES: u64 = 1000;
+/// A call tries so often again for what another worker has.
+const LIMITS: Limits = Limits { tries: 1000, most_waits: 0, full_for: 0 };
 
 fn at(worker: u32) -> SocketAddrV4 {
     SocketAddrV4::new(Ipv4Addr::new(10, 0, 0, 1), 8000 + worker as u16)
@@ -98,6 +98,23 @@ fn shake_hands(worker: &mut Worker, listener: Socket, looker: &mut Looker) -> Re
     worker.drop_socket(socket)
 }
 
+/// The next holder of a worker that was given back closes what its last holder left open, but the listener.
+fn hand_over(shared: &mut SharedTables, mut worker: Worker, listener: Socket) -> Result<Worker, Errno> {
+    let number = worker.number();
+    worker.accept(listener, client(number, 1021), at(number))?;
+    worker.accept(listener, client(number, 1022), at(number))?;
+    shared.take_back(worker).map_err(|(errno, _)| errno)?;
+    let mut worker = shared.worker(LIMITS)?;
+    let (mut dropped, mut last) = (0, listener.number);
+    while let Some(socket) = worker.next_open(last)? {
+        worker.drop_socket(socket)?;
+        dropped += 1;
+        last = socket.number;
+    }
+    println!("worker {}, handed over: {dropped} connections dropped", worker.number());
+    Ok(worker)
+}
+
 fn finish(mut worker: Worker) -> Result<(), Errno> {
     worker.at(60)?;
     println!("worker {}: {} TIME_WAITs are over after a minute", worker.number(), worker.reap()?);
@@ -106,7 +123,7 @@ fn finish(mut worker: Worker) -> Result<(), Errno> {
 
 fn main() -> Result<(), Errno> {
     let mut shared = SharedTables::new(&Sizes { slots: 4096, seed: 7, ..Sizes::default() })?;
-    let mut workers = [shared.worker(TRIES)?, shared.worker(TRIES)?];
+    let mut workers = [shared.worker(LIMITS)?, shared.worker(LIMITS)?];
     let mut lookers = [shared.looker()?, shared.looker()?];
     let [one, two] = &mut workers;
     let listeners = [open_listener(one)?, open_listener(two)?];
@@ -132,6 +149,7 @@ fn main() -> Result<(), Errno> {
     let ([mut one, mut two], [mut looker, mut last]) = (workers, lookers);
     refusals(listeners[0], &mut two)?;
     shake_hands(&mut one, listeners[0], &mut looker)?;
+    let one = hand_over(&mut shared, one, listeners[0])?;
     drop(shared);
     finish(one)?;
     finish(two)?;

@@ -39,6 +39,19 @@ impl Default for Sizes {
     }
 }
 
+/// The limits of a worker, by default none, and one try.
+#[repr(C)]
+#[derive(Clone, Copy, Debug, Default)]
+pub struct Limits {
+    /// Where another worker has what a call needs, it tries as often again, and then is EAGAIN.
+    pub tries: u64,
+    /// With so many TIME_WAITs of its own [`Worker::close`] leaves none, until some are reaped; 0: no limit.
+    pub most_waits: u64,
+    /// After ENFILE none of the worker's next calls, as many as this, looks for a slot: those that take one are
+    /// ENOBUFS.
+    pub full_for: u64,
+}
+
 /// A refusal: a number of errno(3).
 #[derive(Clone, Copy, Debug, PartialEq, Eq)]
 pub struct Errno(pub i32);
@@ -55,6 +68,8 @@ impl Errno {
     pub const EUSERS: Errno = Errno(87);
     pub const EADDRINUSE: Errno = Errno(98);
     pub const EADDRNOTAVAIL: Errno = Errno(99);
+    /// One of the worker's last calls was ENFILE, as its limits count them, and this one did not look for a slot.
+    pub const ENOBUFS: Errno = Errno(105);
     pub const EISCONN: Errno = Errno(106);
 }
 

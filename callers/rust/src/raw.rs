@@ -1,13 +1,14 @@
 //! The handle, the library's exports, and each of its calls: all that is unsafe in this crate but ../src/heap.rs.
 
-use crate::{Errno, Item, Options, Sight, Sizes, Socket};
+use crate::{Errno, Item, Limits, Options, Sight, Sizes, Socket};
 use std::ffi::c_void;
 use std::net::{Ipv4Addr, SocketAddrV4};
 use std::ptr::null_mut;
 use std::sync::atomic::{AtomicU64, Ordering};
 
-/// A handle of its own: it is made once, lent to one call at a time, and given up once.
-#[repr(C)]
+/// A handle of its own: it is made once, lent to one call at a time, and given up once. Each call writes it, so no two
+/// handles share a cache line.
+#[repr(C, align(128))]
 pub struct Handle {
     at: *mut c_void,
 }
@@ -37,12 +38,11 @@ struct RawItem {
     net: u8,
 }
 
-// These fit the exports of crates/inet_c/src; nothing compares them.
+// `.ci/header` compares these with the exports of crates/inet_c/src, by name, type and order.
 unsafe extern "C" {
     fn inet_tables_new(tables: &mut Handle, sizes: &Sizes) -> i32;
     fn inet_tables_share(tables: &mut Handle, sizes: &Sizes, tag: u64) -> i32;
-    fn inet_tables_worker(shared: &mut Handle, tries: u64, worker: &mut Handle, number: &mut u32)
-    -> i32;
+    fn inet_tables_worker(shared: &mut Handle, limits: &Limits, worker: &mut Handle, number: &mut u32) -> i32;
     fn inet_tables_looker(shared: &mut Handle, looker: &mut Handle) -> i32;
     fn inet_tables_give_back(shared: &mut Handle, back: &mut Handle) -> i32;
     fn inet_tables_free(tables: &mut Handle);
@@ -90,6 +90,7 @@ unsafe extern "C" {
     fn inet_tables_ack(t: &mut Handle, worker: u32, request: u64, socket: &mut u64) -> i32;
     fn inet_tables_close(t: &mut Handle, worker: u32, socket: u64, waits: &mut bool) -> i32;
     fn inet_tables_drop(t: &mut Handle, worker: u32, socket: u64) -> i32;
+    fn inet_tables_next_open(t: &mut Handle, worker: u32, after: u64, socket: &mut u64) -> i32;
     fn inet_tables_at(t: &mut Handle, worker: u32, moment: u32) -> i32;
     fn inet_tables_reap(t: &mut Handle, worker: u32, count: &mut u64) -> i32;
     fn inet_tables_look(
@@ -133,11 +134,11 @@ impl Handle {
     }
 
     /// One that holds a worker of shared tables, with the worker's number.
-    pub fn worker(&mut self, tries: u64) -> Result<(Self, u32), Errno> {
+    pub fn worker(&mut self, limits: &Limits) -> Result<(Self, u32), Errno> {
         let mut worker = Handle::empty();
         let mut number = 0;
         // SAFETY: as above, and this handle is lent to this call alone; so in all calls below.
-        done(unsafe { inet_tables_worker(self, tries, &mut worker, &mut number) })?;
+        done(unsafe { inet_tables_worker(self, limits, &mut worker, &mut number) })?;
         Ok((worker, number))
     }
 
@@ -242,6 +243,14 @@ impl Handle {
     pub fn drop_socket(&mut self, s: Socket) -> Result<(), Errno> {
         // SAFETY: see above.
         done(unsafe { inet_tables_drop(self, s.worker, s.number) })
+    }
+
+    /// The open socket of the lowest number above that one, if there is one.
+    pub fn next_open(&mut self, worker: u32, after: u64) -> Result<Option<Socket>, Errno> {
+        let mut number = 0;
+        // SAFETY: see above.
+        done(unsafe { inet_tables_next_open(self, worker, after, &mut number) })?;
+        Ok((number != 0).then_some(Socket { worker, number }))
     }
 
     pub fn at(&mut self, worker: u32, moment: u32) -> Result<(), Errno> {

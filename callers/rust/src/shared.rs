@@ -1,7 +1,7 @@
 //! Tables that threads share, and what they hand out.
 
 use crate::raw::Handle;
-use crate::{Errno, Options, Sight, Sizes, Socket};
+use crate::{Errno, Limits, Options, Sight, Sizes, Socket};
 use std::net::{Ipv4Addr, SocketAddrV4};
 
 /// Tables that threads share. They hand out workers and lookers, and go with the last of all these.
@@ -15,10 +15,10 @@ impl SharedTables {
         Handle::share(sizes).map(|handle| SharedTables { handle })
     }
 
-    /// A worker, which tries so many times again for what another worker has: the one that was given back last, with
-    /// its sockets, or the next. EUSERS: 64 are out; ENOMEM.
-    pub fn worker(&mut self, tries: u64) -> Result<Worker, Errno> {
-        let (handle, number) = self.handle.worker(tries)?;
+    /// A worker under these limits: the one that was given back last, with its sockets, or the next. EUSERS: 255 are
+    /// out; ENOMEM.
+    pub fn worker(&mut self, limits: Limits) -> Result<Worker, Errno> {
+        let (handle, number) = self.handle.worker(&limits)?;
         Ok(Worker { handle, number })
     }
 
@@ -90,7 +90,8 @@ impl Worker {
         self.handle.ack(request)
     }
 
-    /// Closes a socket, and reports whether a TIME_WAIT stays.
+    /// Closes a socket, and reports whether a TIME_WAIT stays: none where no slot is free for it, or where the worker
+    /// has as many as its limits say.
     pub fn close(&mut self, s: Socket) -> Result<bool, Errno> {
         self.handle.close(s)
     }
@@ -98,6 +99,12 @@ impl Worker {
     /// Closes a socket without a trace.
     pub fn drop_socket(&mut self, s: Socket) -> Result<(), Errno> {
         self.handle.drop_socket(s)
+    }
+
+    /// The open socket of the lowest number above that one, if there is one: from 0 on each of them in turn. It takes
+    /// no memory, and no time for sockets that are gone.
+    pub fn next_open(&mut self, after: u64) -> Result<Option<Socket>, Errno> {
+        self.handle.next_open(self.number, after)
     }
 
     /// Sets the moment, in seconds.

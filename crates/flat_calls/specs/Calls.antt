@@ -35,6 +35,7 @@ abbrev pub Called : Numbered → Numbered → ℕ → Command → Outcome → Ty
 Called old new worker command (outcomes.Replied reply) = Steps old new worker command reply
 Called old new worker command outcomes.NoTables = ⊥
 Called old new worker command outcomes.Busy = ⊥
+Called old new worker command outcomes.FullLately = ⊥
 Called old new worker command outcomes.NoWorker = (new ≡ old) × ((worker ≡ 0) ⊎ (64 < worker))
 Called old new worker command outcomes.NoNumber =
     (new ≡ old) × (1 ≤ worker) × (worker ≤ 64) × (2 ^ 56 - 2 ≤ old.calls)

@@ -25,7 +25,7 @@ errno_of_reply replies.Skip = 0
 errno_of_reply replies.Short = 0
 
 -- EBADF where there are no tables, EAGAIN where another is there, ENOMEM, EINVAL of a worker that isn't, EOVERFLOW
--- where no call is left
+-- where no call is left, ENOBUFS where no slot was looked for
 abbrev pub errno_of : Outcome → ℕ
 errno_of (outcomes.Replied reply) = errno_of_reply reply
 errno_of outcomes.NoTables = 9
@@ -33,6 +33,7 @@ errno_of outcomes.Busy = 11
 errno_of outcomes.NoMemory = 12
 errno_of outcomes.NoWorker = 22
 errno_of outcomes.NoNumber = 75
+errno_of outcomes.FullLately = 105
 
 -- the end that the socket has from then on, as far as the reply gives it
 abbrev pub end_of : Outcome → End

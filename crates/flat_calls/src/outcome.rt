@@ -20,6 +20,8 @@ pub enum Outcome {
     NoMemory,
     /// Another had a part of the tables for longer than the caller tries.
     Busy,
+    /// No slot was free lately, and none was looked for.
+    FullLately,
 }
 
 fn errno_of_reply(reply: Reply) -> i32
@@ -56,6 +58,7 @@ pub fn errno_of(outcome: Outcome) -> i32
         Outcome::NoMemory => 12,
         Outcome::NoWorker => 22,
         Outcome::NoNumber => 75,
+        Outcome::FullLately => 105,
     }
 }
 

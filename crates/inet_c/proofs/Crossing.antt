@@ -31,7 +31,7 @@ index_send : IsSend LabelIndex.the_row
 index_send = search (keys.the_send, seeds.the_send, maps.crosses, crosses, log_knot.crosses, sendable) depth 60 fits 400000
 
 labels_send : IsSend Labels.the_row
-labels_send = search (index_send, sock.the_send, crosses, sendable) depth 60 fits 400000
+labels_send = search (index_send, sock.the_send, maps.crosses, crosses, sendable) depth 60 fits 400000
 
 machine_send : IsSend Machine.the_row
 machine_send = search (labels_send, offsets.the_send, waits.the_send, crosses, sendable) depth 60 fits 400000

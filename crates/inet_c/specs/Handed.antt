@@ -1,17 +1,19 @@
 -- How workers and lookers are handed out of shared tables. Our own.
 use Rattle.std.specs.Prelude.{◌≡◌, ◌≢◌, ◌⊎◌, ℕ, [], ◌∷◌, Option, None, Some}
 use Rattle.shared_calls.specs.Callings.{Calling}
+use Rattle.shared_calls.specs.Limits.{limited}
 use Rattle.shared_calls.specs.Lookings.{Looking}
 use Rattle.shared_calls.specs.Sharings.{Sharing, GivesCaller, GivesLooker, HandsCaller, HandsLooker}
+use Rattle.shared_calls.specs.declared.limited.Limits.{Limits}
 use Rattle.inet_c.specs.declared.held.Held.{Held}
 use Rattle.inet_c.specs.declared.held.Held.TheVariants as helds
 use Rattle.inet_c.specs.declared.making.Making.{Making}
 use Rattle.inet_c.specs.declared.making.Making.TheVariants as makings
 
--- a worker, which tries so often, and its number: the one that was given back last, or the next
-abbrev pub IsWorker : (tries number : ℕ) → Sharing → Sharing → Held → Type 0
-IsWorker tries number old new held =
-    (caller : Calling) × (held ≡ helds.Worker caller tries) × (number ≡ caller.kept.own.number)
+-- a worker, under these limits, and its number: the one that was given back last, or the next
+abbrev pub IsWorker : Limits → (number : ℕ) → Sharing → Sharing → Held → Type 0
+IsWorker limits number old new held =
+    (caller : Calling) × (held ≡ helds.Worker (limited caller limits)) × (number ≡ caller.kept.own.number)
     × GivesCaller old new caller
 
 -- a looker: the one that was given back last, or another

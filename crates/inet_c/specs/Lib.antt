@@ -1,6 +1,7 @@
 -- What the contracts of this crate cite.
 pub mod Owned
 pub mod Calls
+pub mod Opened
 pub mod Made
 pub mod Handed
 pub mod Returned

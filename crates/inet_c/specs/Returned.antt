@@ -9,19 +9,19 @@ use Rattle.inet_c.specs.declared.returning.Returning.TheVariants as returnings
 
 -- it is a worker or a looker that the tables may take back: it has their tag, and of those that were made one isn't here
 abbrev pub MayReturn : Sharing → Held → Type 0
-MayReturn tables (helds.Worker caller tries) = MayComeBack tables caller
+MayReturn tables (helds.Worker worker) = MayComeBack tables worker.caller
 MayReturn tables (helds.Looker looker) = LookerMayComeBack tables looker
 MayReturn tables _ = ⊥
 
 -- the tables have it with those that wait to be handed out, the last of them first
 abbrev pub TakesIn : Sharing → Sharing → Held → Type 0
-TakesIn old new (helds.Worker caller tries) = TakesBack old new caller
+TakesIn old new (helds.Worker worker) = TakesBack old new worker.caller
 TakesIn old new (helds.Looker looker) = TakesLookerBack old new looker
 TakesIn old new _ = ⊥
 
 -- it is a worker or a looker
 abbrev pub IsPart : Held → Type 0
-IsPart (helds.Worker caller tries) = Unit {0}
+IsPart (helds.Worker worker) = Unit {0}
 IsPart (helds.Looker looker) = Unit {0}
 IsPart _ = ⊥
 

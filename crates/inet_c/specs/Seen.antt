@@ -57,7 +57,7 @@ LooksIn (helds.Looker old) (helds.Looker new) packet sight errno = LooksAs old n
 LooksIn (helds.Looker old) _ packet sight errno = ⊥
 LooksIn (helds.List tables) new packet sight errno = (new ≡ helds.List tables) × FindsAs tables packet sight errno
 LooksIn (helds.Shared tables) new packet sight errno = (new ≡ helds.Shared tables) × FindsNone sight errno
-LooksIn (helds.Worker caller tries) new packet sight errno = (new ≡ helds.Worker caller tries) × FindsNone sight errno
+LooksIn (helds.Worker worker) new packet sight errno = (new ≡ helds.Worker worker) × FindsNone sight errno
 
 abbrev pub LooksOn : Option Held → Option Held → Packet → InetSight → ℕ → Type 0
 LooksOn None new packet sight errno = (new ≡ None) × FindsNone sight errno

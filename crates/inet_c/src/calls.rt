@@ -10,8 +10,7 @@ use crate::handle::InetTables;
 use crate::held::Held;
 use flat_calls::Outcome;
 use flat_list::Command;
-use patience::Tries;
-use shared_calls::Caller;
+use shared_calls::Limited;
 use std::alloc::Global;
 
 fn number_in(held: &Held) -> u64
@@ -19,7 +18,7 @@ fn number_in(held: &Held) -> u64
 {
     match held {
         Held::List(tables) => tables.next_number(),
-        Held::Worker { caller, .. } => caller.next_number(),
+        Held::Worker(worker) => worker.caller.next_number(),
         Held::Shared(_) | Held::Looker(_) => 0,
     }
 }
@@ -39,16 +38,16 @@ pub fn next_number(handle: &mut InetTables, alloc: Global) -> u64
     }
 }
 
-/// Carries out a command of the worker of that number, if the caller is that one.
-fn call_as(caller: &mut Caller, tries: u64, worker: u32, command: &Command) -> Outcome
+/// Carries out a command of the worker of that number, if it is that one.
+fn call_as(worker: &mut Limited, number: u32, command: &Command) -> Outcome
     requires look { is_lookup command.now ≡ false }
-    requires next { IsNext (length caller.old.kept.own.labels + 1) command.now }
-    ensures { CalledAs caller.old caller.new worker command.now result }
+    requires next { IsNext (length worker.old.caller.kept.own.labels + 1) command.now }
+    ensures { CalledAs worker.old worker.new number command.now result }
 {
-    if worker != caller.number() {
+    if number != worker.caller.number() {
         return Outcome::NoWorker;
     }
-    caller.call(&Tries(tries), command)
+    worker.call(command)
 }
 
 fn call_in(held: &mut Held, worker: u32, command: &Command) -> Outcome
@@ -58,7 +57,7 @@ fn call_in(held: &mut Held, worker: u32, command: &Command) -> Outcome
 {
     match held {
         Held::List(tables) => tables.call(worker, command),
-        Held::Worker { caller, tries } => call_as(caller, *tries, worker, command),
+        Held::Worker(held) => call_as(held, worker, command),
         Held::Shared(_) | Held::Looker(_) => Outcome::NoTables,
     }
 }

@@ -3,12 +3,13 @@
 ghost use Rattle.std.specs.Prelude.{◌≡◌, IfErr, None, OnErr, OnOk, Some};
 ghost use Rattle.inet_c.specs.Handed.{Hands, IsLooker, IsWorker, NumberedIf};
 ghost use Rattle.inet_c.specs.declared.held.Held.TheVariants as helds;
+ghost use Rattle.shared_calls.specs.Limits.{limited};
 ghost use Rattle.shared_calls.specs.Sharings.{HasNoCaller, HasNoLooker};
 
 use crate::handle::InetTables;
 use crate::held::Held;
 use crate::making::{Making, is_there};
-use shared_calls::{Caller, Looker, Refused, SharedTables};
+use shared_calls::{Caller, Limited, Limits, Looker, Refused, SharedTables};
 use std::alloc::Global;
 
 /// Puts a worker into a handle that holds nothing; for want of memory it comes back.
@@ -16,20 +17,20 @@ fn hold_worker(
     worker: &mut InetTables,
     alloc: Global,
     caller: Caller,
-    tries: u64,
+    limits: Limits,
 ) -> Result<(), Caller>
     requires { worker.old.held ≡ None }
-    ensures held { OnOk result (worker.new.held ≡ Some (helds.Worker caller tries)) }
+    ensures held { OnOk result (worker.new.held ≡ Some (helds.Worker (limited caller limits))) }
     ensures back { IfErr result (λ c. c ≡ caller) }
     ensures none { OnErr result (worker.new.held ≡ None) }
 {
-    match Box::new(alloc, Held::Worker { caller, tries }) {
+    match Box::new(alloc, Held::Worker(Limited::new(caller, limits))) {
         Ok(held) => {
             *worker = InetTables::of(held);
             Ok(())
         }
         Err(failed) => match failed.value {
-            Held::Worker { caller, .. } => Err(caller),
+            Held::Worker(worker) => Err(worker.caller),
             _ => unreachable!(),
         },
     }
@@ -57,20 +58,20 @@ fn hold_looker(handle: &mut InetTables, alloc: Global, looker: Looker) -> Result
 fn give_worker(
     tables: &mut SharedTables,
     alloc: Global,
-    tries: u64,
+    limits: Limits,
     worker: &mut InetTables,
     number: &mut u32,
 ) -> Making
     requires none { worker.old.held ≡ None }
     requires zero { number.old ≡ 0 }
-    ensures hands { Hands (IsWorker tries number.new) HasNoCaller (Some (helds.Shared tables.old))
+    ensures hands { Hands (IsWorker limits number.new) HasNoCaller (Some (helds.Shared tables.old))
         (Some (helds.Shared tables.new)) worker.old.held worker.new.held result }
     ensures number { NumberedIf result number.new }
 {
     match tables.caller(alloc) {
         Ok(caller) => {
             let given = caller.number();
-            match hold_worker(worker, alloc, caller, tries) {
+            match hold_worker(worker, alloc, caller, limits) {
                 Ok(()) => {
                     *number = given;
                     Making::Made
@@ -105,15 +106,15 @@ fn give_looker(tables: &mut SharedTables, alloc: Global, looker: &mut InetTables
 }
 
 /// A worker of shared tables, into a handle that holds nothing, and its number, or 0: the one that was given back last,
-/// or the next. It tries so often again for what another worker has.
+/// or the next. It is under these limits.
 pub fn hand_worker(
     handle: &mut InetTables,
     alloc: Global,
-    tries: u64,
+    limits: Limits,
     worker: &mut InetTables,
     number: &mut u32,
 ) -> Making
-    ensures hands { Hands (IsWorker tries number.new) HasNoCaller handle.old.held handle.new.held
+    ensures hands { Hands (IsWorker limits number.new) HasNoCaller handle.old.held handle.new.held
         worker.old.held worker.new.held result }
     ensures number { NumberedIf result number.new }
 {
@@ -125,8 +126,8 @@ pub fn hand_worker(
         None => Making::NoTables,
         Some(mut held) => {
             let making = match &mut *held {
-                Held::Shared(tables) => give_worker(tables, alloc, tries, worker, number),
-                Held::List(_) | Held::Worker { .. } | Held::Looker(_) => Making::NoTables,
+                Held::Shared(tables) => give_worker(tables, alloc, limits, worker, number),
+                Held::List(_) | Held::Worker(_) | Held::Looker(_) => Making::NoTables,
             };
             *handle = InetTables::of(held);
             making
@@ -146,7 +147,7 @@ pub fn hand_looker(handle: &mut InetTables, alloc: Global, looker: &mut InetTabl
         Some(mut held) => {
             let making = match &mut *held {
                 Held::Shared(tables) => give_looker(tables, alloc, looker),
-                Held::List(_) | Held::Worker { .. } | Held::Looker(_) => Making::NoTables,
+                Held::List(_) | Held::Worker(_) | Held::Looker(_) => Making::NoTables,
             };
             *handle = InetTables::of(held);
             making

@@ -12,7 +12,8 @@ use std::marker::Model;
 use std::mem::replace;
 use std::ptr::null_mut;
 
-/// What is held behind a pointer, or nothing where it is null: in C `struct inet_tables { void *at; }`.
+/// What is held behind a pointer, or nothing where it is null: in C `at` of `struct inet_tables`, whose other bytes the
+/// library neither reads nor writes.
 ///
 /// No pointer to a type with parts of its own may cross to C, so this one says nothing of what lies behind it.
 #[repr(C)]

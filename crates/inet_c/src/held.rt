@@ -1,7 +1,7 @@
 //! What a handle holds.
 
 use flat_calls::Tables;
-use shared_calls::{Caller, Looker, SharedTables};
+use shared_calls::{Limited, Looker, SharedTables};
 
 /// What a handle holds.
 #[derive(Drop)]
@@ -10,8 +10,8 @@ pub enum Held {
     List(Tables),
     /// Tables that threads share, of which workers and lookers are handed out.
     Shared(SharedTables),
-    /// A worker of such tables, and how often it tries again for what another worker has.
-    Worker { caller: Caller, tries: u64 },
+    /// A worker of such tables, under its limits.
+    Worker(Limited),
     /// A looker in such tables.
     Looker(Looker),
 }

@@ -13,6 +13,7 @@ pub mod handle;
 pub mod held;
 pub mod listing;
 pub mod making;
+pub mod opened;
 mod parts;
 pub mod returning;
 pub mod seen;

@@ -61,7 +61,7 @@ fn list_in(held: &Held, alloc: Global, items: &mut [Item], count: &mut u64) -> T
 {
     match held {
         Held::List(tables) => tell(tables, alloc, items, count),
-        Held::Shared(_) | Held::Worker { .. } | Held::Looker(_) => {
+        Held::Shared(_) | Held::Worker(_) | Held::Looker(_) => {
             *count = 0;
             Telling::NoTables
         }

@@ -35,14 +35,14 @@ pub fn errno_of(returning: Returning) -> i32
 fn is_part(held: &Held) -> bool
     ensures { IsTrue result ↔ IsPart held.now }
 {
-    matches!(held, Held::Worker { .. } | Held::Looker(_))
+    matches!(held, Held::Worker(_) | Held::Looker(_))
 }
 
 fn may_return(tables: &SharedTables, held: &Held) -> bool
     ensures { IsTrue result ↔ MayReturn tables.now held.now }
 {
     match held {
-        Held::Worker { caller, .. } => tables.may_come_back(caller),
+        Held::Worker(worker) => tables.may_come_back(&worker.caller),
         Held::Looker(looker) => tables.looker_may_come_back(looker),
         Held::List(_) | Held::Shared(_) => false,
     }
@@ -54,7 +54,7 @@ fn take_in(tables: &mut SharedTables, held: Held)
     ensures { TakesIn tables.old tables.new held }
 {
     match held {
-        Held::Worker { caller, .. } => tables.take_back(caller),
+        Held::Worker(worker) => tables.take_back(worker.caller),
         Held::Looker(looker) => tables.take_looker_back(looker),
         Held::List(_) | Held::Shared(_) => unreachable!(),
     }

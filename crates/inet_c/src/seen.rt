@@ -88,7 +88,7 @@ fn look_in(held: &mut Held, packet: &Packet, sight: &mut InetSight) -> i32
             *sight = told(tables.look(packet));
             0
         }
-        Held::Shared(_) | Held::Worker { .. } => {
+        Held::Shared(_) | Held::Worker(_) => {
             *sight = NOBODY;
             9
         }

@@ -3,21 +3,22 @@
 //! Each answers 0 or a number of errno(3), and writes what else it reports through its last references. `alloc` takes
 //! no place among the arguments in C.
 
-ghost use Rattle.std.specs.Prelude.{◌≡◌, pos};
+ghost use Rattle.std.specs.Prelude.{◌≡◌, ℕ, pos};
 ghost use Rattle.flat_calls.specs.Commands as commands;
 ghost use Rattle.flat_calls.specs.Errnos as told;
 ghost use Rattle.flat_calls.specs.declared.outcome.Outcome.{Outcome};
 ghost use Rattle.inet_c.specs.Calls.{CalledOn, next_number};
+ghost use Rattle.inet_c.specs.Opened.{TellsOpenOn};
 ghost use Rattle.inet_c.specs.Words as words;
 
 use crate::handle::InetTables;
-use crate::{calls, words};
+use crate::{calls, opened, words};
 use flat_calls::commands;
 use flat_calls::outcome::{count_of, end_of, errno_of, leaves_time_wait};
 use flat_list::{Command, End};
 use std::alloc::Global;
 
-/// Makes a socket of that worker, 1 to 64, in network namespace `net`, of user `uid`, on device `dev` or on none (0).
+/// Makes a socket of that worker, in network namespace `net`, of user `uid`, on device `dev` or on none (0).
 /// `flags` add up 1 for SO_REUSEADDR, 2 for SO_REUSEPORT and 4 for IP_BIND_ADDRESS_NO_PORT. `socket` is its number.
 #[unsafe(no_mangle)]
 pub extern "C" fn inet_tables_socket(
@@ -227,6 +228,22 @@ pub extern "C" fn inet_tables_drop(
 {
     let command = commands::drop_socket(socket);
     errno_of(calls::call(tables, alloc, worker, &command))
+}
+
+/// The lowest number above `after` which names an open socket of the worker, or 0.
+#[unsafe(no_mangle)]
+pub extern "C" fn inet_tables_next_open(
+    tables: &mut InetTables,
+    alloc: Global,
+    worker: u32,
+    after: u64,
+    socket: &mut u64,
+) -> i32
+    ensures same { tables.new.held ≡ tables.old.held }
+    ensures tells { (errno : ℕ) × (result ≡ pos errno)
+        × TellsOpenOn tables.old.held worker after socket.new errno }
+{
+    opened::next_open(tables, alloc, worker, after, socket)
 }
 
 /// Sets the worker's moment, in seconds, which never goes back.

@@ -22,6 +22,7 @@ use crate::{listing, returning};
 use flat_calls::Item;
 use flat_list::header::NONE_RESERVED;
 use flat_list::{Header, Range, Shape};
+use shared_calls::Limits;
 use sock_card::Packet;
 use std::alloc::Global;
 
@@ -88,22 +89,21 @@ pub extern "C" fn inet_tables_share(
 }
 
 /// Hands a worker of shared tables out, into a handle that holds nothing: the one that was given back last, with all
-/// that it has, or the next. It tries `tries` times again for what another worker has. `number` is the worker's, from 1
-/// on, or 0.
+/// that it has, or the next. It is under these limits. `number` is the worker's, from 1 on, or 0.
 #[unsafe(no_mangle)]
 pub extern "C" fn inet_tables_worker(
     tables: &mut InetTables,
     alloc: Global,
-    tries: u64,
+    limits: &Limits,
     worker: &mut InetTables,
     number: &mut u32,
 ) -> i32
     ensures { (making : Making)
-        × Hands (IsWorker tries number.new) HasNoCaller tables.old.held tables.new.held
+        × Hands (IsWorker limits.now number.new) HasNoCaller tables.old.held tables.new.held
         worker.old.held worker.new.held making
         × NumberedIf making number.new × (result ≡ pos (made.errno_of making)) }
 {
-    errno_of(hand_worker(tables, alloc, tries, worker, number))
+    errno_of(hand_worker(tables, alloc, *limits, worker, number))
 }
 
 /// Hands a looker in shared tables out, into a handle that holds nothing.

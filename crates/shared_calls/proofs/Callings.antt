@@ -12,8 +12,9 @@ use Rattle.shared_ops.specs.declared.tables.Worker.{Worker}
 use Rattle.shared_ops.specs.Stands.{MayEnter}
 use Rattle.table_rule.specs.Passes.{known, drawn_by}
 use Rattle.shared_calls.specs.Callings.{IsCalling, HasEntries, HasStamps, calling}
-use Rattle.shared_calls.specs.Numbers.{IsNext, labels_to}
-use Rattle.shared_calls.proofs.Numbers.{length_labels}
+use Rattle.label_index.specs.Numbers.{labels_to}
+use Rattle.label_index.proofs.Numbers.{length_labels}
+use Rattle.shared_calls.specs.Numbers.{IsNext}
 
 -- a command gives one label or none
 given_one : (command : Command) → (given_by command ≡ []) ⊎ ((label : List ℕ) × (given_by command ≡ label ∷ []))

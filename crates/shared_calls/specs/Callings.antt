@@ -95,3 +95,4 @@ Called old new command outcomes.Busy = Left old new command
 Called old new command outcomes.NoNumber = (new ≡ old) × HasNoNumber old command
 Called old new command outcomes.NoTables = ⊥
 Called old new command outcomes.NoWorker = ⊥
+Called old new command outcomes.FullLately = ⊥

@@ -3,3 +3,4 @@ pub mod Numbers
 pub mod Callings
 pub mod Lookings
 pub mod Sharings
+pub mod Limits

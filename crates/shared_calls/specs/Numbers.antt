@@ -1,15 +1,11 @@
 -- By which numbers the sockets of a caller go: our own.
-use Rattle.std.specs.Prelude.{◌≡◌, ℕ, zero, suc, ◌+◌, ◌*◌, ◌<◌, ◌≤◌, ◌^◌, List, [], ◌∷◌, ◌++◌, length}
+use Rattle.std.specs.Prelude.{◌≡◌, ℕ, ◌+◌, ◌*◌, ◌<◌, ◌≤◌, ◌^◌, length}
 use Rattle.list_words.specs.Lists.{Each}
 use Rattle.flat_calls.specs.Numbers.{label_of}
 use Rattle.flat_list.specs.declared.command.Command.{Command}
+use Rattle.label_index.specs.Numbers.{labels_to}
 use Rattle.section_machine.specs.Sections.{given_by}
 use Rattle.table_model.specs.Own.{Own, open_socket, open_named}
-
--- the labels of the first n: their numbers, from 1 on
-abbrev pub labels_to : ℕ → List (List ℕ)
-labels_to zero = []
-labels_to (suc n) = labels_to n ++ label_of (suc n) ∷ []
 
 -- a section's labels are its numbers
 abbrev pub IsNumbered : Own → Type 0

@@ -55,7 +55,7 @@ pub record IsSharing (s : Sharing) : Type 0 where
   pub fits : FitsTables s.header
   pub shared : words.home s.tables.buckets ≡ sharings.Shared
   pub counts : s.tables.chains.keeps_changes ≡ false
-  pub few_callers : s.callers ≤ 64
+  pub few_callers : s.callers ≤ 255
   pub few_lookers : s.lookers ≤ 16000
   pub few_idle : length s.idle ≤ s.callers
   pub few_resting : length s.resting ≤ s.lookers
@@ -81,7 +81,7 @@ pub record IsNew (header : Header) (tag : ℕ) (s : Sharing) : Type 0 where
 
 -- as many callers were made as there may be, and none of them was given back
 abbrev pub HasNoCaller : Sharing → Type 0
-HasNoCaller s = (s.callers ≡ 64) × (s.idle ≡ [])
+HasNoCaller s = (s.callers ≡ 255) × (s.idle ≡ [])
 
 -- as many lookers
 abbrev pub HasNoLooker : Sharing → Type 0

@@ -1,7 +1,8 @@
 //! A caller: a section of the shared tables, by one command at a time.
 
-ghost use Rattle.std.specs.Prelude.{◌≡◌, ◌↔◌, ◌+◌, ◌*◌, ◌≤◌, ◌^◌, nat_lt, true, false, length, IsTrue};
+ghost use Rattle.std.specs.Prelude.{◌≡◌, ◌↔◌, ◌+◌, ◌*◌, ◌≤◌, ◌^◌, nat_lt, true, false, length, IsTrue, MatchOption};
 ghost use Rattle.table_model.specs.Means.{is_lookup};
+ghost use Rattle.section_machine.specs.Opened.{IsNextOpen, NoneAbove};
 ghost use Rattle.section_machine.specs.Sections.{given_by};
 ghost use Rattle.shared_calls.specs.Callings as spec;
 ghost use Rattle.shared_calls.specs.Callings.{Called, IsNoWait};
@@ -98,6 +99,20 @@ impl Caller {
         ensures { result ≡ length self.now.kept.own.labels + 1 }
     {
         self.machine.given() as u64 + 1
+    }
+
+    /// The lowest number above that one which names an open socket. It costs no more for sockets that are gone.
+    pub fn next_open(&self, after: u64) -> Option<u64>
+        ensures { MatchOption result (NoneAbove self.now.kept.own after) (IsNextOpen self.now.kept.own after) }
+    {
+        Some(self.machine.next_open(after as usize)? as u64)
+    }
+
+    /// How many TIME_WAITs it left that it hasn't reaped.
+    pub fn waiting(&self) -> u64
+        ensures { result ≡ length self.now.kept.own.waits }
+    {
+        self.machine.waiting() as u64
     }
 
     /// Carries a command out, any but a lookup, whoever else is at the tables, and returns what comes of it. A command

@@ -13,13 +13,17 @@
 //! let number = caller.next_number();
 //! let outcome = caller.call(&Tries(1000), &commands::socket(number, options));
 //! ```
+//!
+//! [`Limited`] is a caller under limits of its own.
 #![tactic(auto)]
 
 pub mod caller;
 pub mod laws;
+pub mod limited;
 pub mod looker;
 pub mod tables;
 
 pub use caller::Caller;
+pub use limited::{Limited, Limits};
 pub use looker::Looker;
 pub use tables::{Refused, SharedTables};

@@ -9,7 +9,6 @@ use crate::looker::Looker;
 use bind_buckets::{Sharing, turning};
 use chain_deeds::ChainTable;
 use flat_list::Header;
-use label_index::LabelSeed;
 use reuseport_group::Groups;
 use section_machine::{Machine, laws};
 use shared_ops::{Tables, Worker};
@@ -18,7 +17,7 @@ use std::marker::Model;
 use std::sync::Arc;
 
 /// How many callers tables have.
-pub const CALLERS: u32 = 64;
+pub const CALLERS: u32 = 255;
 
 /// How many lookers tables have.
 pub const LOOKERS: u32 = 16_000;
@@ -101,7 +100,7 @@ impl SharedTables {
     ///
     /// # Errors
     ///
-    /// `AllOut`: all 64 are out. `Memory`: memory ran out. Nothing has changed.
+    /// `AllOut`: all 255 are out. `Memory`: memory ran out. Nothing has changed.
     pub fn caller(&mut self, alloc: Global) -> Result<Caller, Refused>
         ensures hands { IfOk result (GivesCaller self.old self.new) }
         ensures out { OnOk result (length self.new.idle < self.new.callers) }
@@ -127,7 +126,7 @@ impl SharedTables {
             chain: tables.chains.split(alloc, &mut self.first.chain),
             groups: self.first.groups.split(&tables.groups),
         };
-        let machine = Machine::new(alloc, LabelSeed::fixed(), &self.header, self.callers);
+        let machine = Machine::numbered(alloc, &self.header, self.callers);
         Ok(Caller {
             tables,
             worker,

@@ -6,7 +6,7 @@ use flat_calls::{Outcome, commands};
 use flat_list::header::NONE_RESERVED;
 use flat_list::{Command, End, Header, Options, Range, Shape};
 use patience::Tries;
-use shared_calls::{Caller, Looker, SharedTables};
+use shared_calls::{Caller, Limited, Limits, Looker, SharedTables};
 use sock_card::{Kind, Packet};
 use std::alloc::{AllocError, Global};
 use std::test::Fail;
@@ -172,5 +172,80 @@ fn a_caller_that_is_given_back_goes_out_again_with_its_sockets(
     let closed = next.call(&Tries(0), &commands::close(listener));
     assert_eq!(rt; errno_of(closed), 0);
     assert_eq!(rt; found(&mut looker), None);
+    Ok(())
+}
+
+#[test]
+fn open_sockets_are_told_in_turn(rt: HostRuntime) -> Result<(), Fail> {
+    let (_tables, mut caller, _looker) = open(rt.alloc())?;
+    assert_eq!(rt; caller.next_open(0), None);
+    let (listener, _) = listen_here(&mut caller);
+    let (child, _) = accept_there(&mut caller, listener);
+    // The four-tuple is taken, so this number never names a socket.
+    accept_there(&mut caller, listener);
+    let (last, _) = bind_here(&mut caller);
+    assert_eq!(rt; (child, last), (2, 4));
+    assert_eq!(rt; caller.next_open(0), Some(listener));
+    assert_eq!(rt; caller.next_open(listener), Some(child));
+    assert_eq!(rt; caller.next_open(child), Some(last));
+    assert_eq!(rt; caller.next_open(last), None);
+    caller.call(&Tries(0), &commands::drop_socket(child));
+    assert_eq!(rt; caller.next_open(listener), Some(last));
+    Ok(())
+}
+
+/// A listener of a limited caller of new tables of four slots, with its number.
+fn listen_limited(
+    alloc: Global,
+    most_waits: u64,
+    full_for: u64,
+) -> Result<(Limited, u64), AllocError> {
+    let (_tables, mut caller, _looker) = open(alloc)?;
+    let (listener, _) = listen_here(&mut caller);
+    let limits = Limits {
+        tries: 0,
+        most_waits,
+        full_for,
+    };
+    Ok((Limited::new(caller, limits), listener))
+}
+
+/// A connection of that listener from that port, with its number and errno.
+fn accept_from(limited: &mut Limited, listener: u64, port: u16) -> (u64, i32) {
+    let number = limited.caller.next_number();
+    let from = End { port, ..THERE };
+    let outcome = limited.call(&commands::accept(listener, number, from, HERE));
+    (number, errno_of(outcome))
+}
+
+/// A connection from that port is made and closed: whether a TIME_WAIT stays.
+fn leaves_one(limited: &mut Limited, listener: u64, port: u16) -> bool {
+    let (child, _) = accept_from(limited, listener, port);
+    leaves_time_wait(limited.call(&commands::close(child)))
+}
+
+#[test]
+fn a_close_leaves_no_more_time_waits_than_there_may_be(rt: HostRuntime) -> Result<(), Fail> {
+    let (mut limited, listener) = listen_limited(rt.alloc(), 1, 0)?;
+    assert_eq!(rt; leaves_one(&mut limited, listener, 5), true);
+    assert_eq!(rt; leaves_one(&mut limited, listener, 6), false);
+    limited.call(&Command::At { moment: 60 });
+    assert_eq!(rt; count_of(limited.call(&Command::Reap)), 1);
+    assert_eq!(rt; leaves_one(&mut limited, listener, 7), true);
+    Ok(())
+}
+
+#[test]
+fn who_found_no_slot_looks_for_none_for_so_many_calls(rt: HostRuntime) -> Result<(), Fail> {
+    let (mut limited, listener) = listen_limited(rt.alloc(), 0, 2)?;
+    let (first, _) = accept_from(&mut limited, listener, 5);
+    for port in 6..8u16 {
+        let (_, errno) = accept_from(&mut limited, listener, port);
+        assert_eq!(rt; errno, 0);
+    }
+    assert_eq!(rt; accept_from(&mut limited, listener, 8).1, 23);
+    assert_eq!(rt; errno_of(limited.call(&commands::drop_socket(first))), 0);
+    assert_eq!(rt; accept_from(&mut limited, listener, 8).1, 105);
+    assert_eq!(rt; accept_from(&mut limited, listener, 8).1, 0);
     Ok(())
 }

@@ -317,6 +317,9 @@ fn outlive_listener<R: Wait>(rt: &R, tables: &Tables, worker: &mut Worker, socke
     let Ok((bound, _)) = bind(&waits, tables, worker, other, at, ports()) else {
         return Went::Never;
     };
+    if bound.owner().name != 3 {
+        return Went::Never;
+    }
     match connect(
         &waits,
         tables,
@@ -368,6 +371,9 @@ fn call_again<R: Wait>(rt: &R, tables: &Tables, worker: &mut Worker, socket: Soc
     let Ok((bound, _)) = bind(&waits, tables, worker, other, at, ports()) else {
         return Went::Never;
     };
+    if bound.owner().name != 2 {
+        return Went::Never;
+    }
     let Ok((listener, _)) = listen(&waits, tables, worker, bound, ports()) else {
         return Went::Never;
     };

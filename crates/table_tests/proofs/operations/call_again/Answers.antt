@@ -1,4 +1,4 @@
-use Rattle.std.proofs.Common.{◌≡◌, ◌+◌, ◌==◌, ℕ, Some, false, sym, ap, subst, ◌∙◌, arith}
+use Rattle.std.proofs.Common.{◌≡◌, ◌+◌, ◌==◌, ℕ, Ok, Some, false, sym, ap, subst, ◌∙◌, arith}
 use Rattle.sock_card.specs.declared.owner.Owner.{Owner}
 use Rattle.bind_buckets.specs.Callers.{MayName}
 use Rattle.table_rule.specs.Calls.{HasShares}
@@ -8,8 +8,10 @@ use Rattle.chain_book.specs.declared.outcome.Replace.TheVariants as rules
 use Rattle.flat_list.specs.declared.command.End.{End}
 use Rattle.table_model.specs.Own.{Mine}
 use Rattle.table_model.specs.Operations as plans
+use Rattle.shared_ops.specs.declared.sock.Sock.TheVariants as socks
 use Rattle.shared_ops.specs.Socks.{mine_of}
 use Rattle.shared_ops.specs.Stands.{IsAway, MayDraw, buckets_of, chained, turned}
+use Rattle.shared_ops.proofs.BindStands.{bind_stands}
 use Rattle.shared_ops.proofs.Knows.{new_away}
 use Rattle.table_tests.proofs.Others.{AllMiss, close_never, connect_never, missed_new, still_missed}
 use Rattle.table_tests.proofs.operations.call_again.Goals as goal
@@ -20,8 +22,8 @@ close-requires-clause-draws g c =
     let some : MayDraw (4 + 4) c.args.worker.now = omega arith in
     c.connect-connected.ensures.drawn 4 some
 
-pub bind-requires-clause-stands : goal.bind-requires-clause-stands
-bind-requires-clause-stands g c =
+pub listen-requires-clause-stands : goal.listen-requires-clause-stands
+listen-requires-clause-stands g c =
     let t = c.args.tables.now in
     let n = buckets_of t in
     let l = t.chains.layout in
@@ -39,7 +41,10 @@ bind-requires-clause-stands g c =
     let closed : AllMiss 2 (turned w).mine =
     still_missed 2 n (plans.close l.shape l.seed full 5) _ (turned v) (turned w) (chained t v) (chained t w) c.in-Ok-TimeWait.ensures.carried (close_never l.shape l.seed 2 full named 5) connected in
     let may : MayName (turned w).caller 2 = λ some. absurd (some (c.close.ensures.caller ∙ c.connect-connected.ensures.caller ∙ c.requires.first)) in
-    subst (λ (name : ℕ). IsAway name (turned w)) (sym (ap (λ (m : Mine). m.owner.name) c.new.ensures)) (new_away 2 (turned w) may (missed_new 2 (turned w) closed))
+    let m = c.new.result in
+    let b = c.bind.new.worker in
+    let away : IsAway m.owner.name (turned w) = subst (λ (name : ℕ). IsAway name (turned w)) (sym (ap (λ (m : Mine). m.owner.name) c.new.ensures)) (new_away 2 (turned w) may (missed_new 2 (turned w) closed)) in
+    bind_stands t (socks.Unbound m) c.in-Ok.at c.ports-2.result (turned w) (turned b) (chained t w) (chained t b) (Ok (c.in-Ok-bind.bound, c.in-Ok-bind.field-0-1)) (ap (λ (x : Mine). x.owner.state) c.new.ensures) away c.in-Ok-bind.ensures.carried c.owner-2.ensures.state
 
 pub listen-requires-clause-draws : goal.listen-requires-clause-draws
 listen-requires-clause-draws g c =

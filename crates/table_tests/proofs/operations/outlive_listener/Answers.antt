@@ -1,4 +1,4 @@
-use Rattle.std.proofs.Common.{◌≡◌, ◌+◌, ◌==◌, ℕ, false, sym, ap, subst, ◌∙◌, arith}
+use Rattle.std.proofs.Common.{◌≡◌, ◌+◌, ◌==◌, ℕ, Ok, false, sym, ap, subst, ◌∙◌, arith}
 use Rattle.sock_card.specs.declared.owner.Owner.{Owner}
 use Rattle.bind_buckets.specs.Callers.{MayName}
 use Rattle.table_rule.specs.Calls.{HasShares}
@@ -7,8 +7,10 @@ use Rattle.chain_deeds.specs.declared.table.ChainPass.{ChainPass}
 use Rattle.flat_list.specs.declared.command.End.{End}
 use Rattle.table_model.specs.Own.{Mine}
 use Rattle.table_model.specs.Operations as plans
+use Rattle.shared_ops.specs.declared.sock.Sock.TheVariants as socks
 use Rattle.shared_ops.specs.Socks.{mine_of}
 use Rattle.shared_ops.specs.Stands.{IsAway, MayDraw, buckets_of, chained, turned}
+use Rattle.shared_ops.proofs.BindStands.{bind_stands}
 use Rattle.shared_ops.proofs.Knows.{new_away}
 use Rattle.table_tests.proofs.Others.{AllMiss, drop_never, listen_never, missed_new, still_missed, syn_never}
 use Rattle.table_tests.proofs.operations.outlive_listener.Goals as goal
@@ -26,8 +28,8 @@ drop_sock-requires-clause-draws g c =
     let more : MayDraw (2 + 4) c.listen.new.worker = c.listen.ensures.drawn 6 some in
     c.syn.ensures.drawn 2 more
 
-pub bind-requires-clause-stands : goal.bind-requires-clause-stands
-bind-requires-clause-stands g c =
+pub connect-requires-clause-stands : goal.connect-requires-clause-stands
+connect-requires-clause-stands g c =
     let t = c.args.tables.now in
     let n = buckets_of t in
     let l = t.chains.layout in
@@ -49,7 +51,10 @@ bind-requires-clause-stands g c =
     let dropped : AllMiss 3 (turned x).mine =
     still_missed 3 n (plans.drop listening plans.gone) _ (turned w) (turned x) (chained t w) (chained t x) c.in-Ok-drop_sock.ensures.carried (drop_never l.shape l.seed 3 listening listener plans.gone) called in
     let may : MayName (turned x).caller 3 = λ some. absurd (some (c.drop_sock.ensures.caller ∙ c.syn.ensures.caller ∙ c.listen.ensures.caller ∙ c.requires.first)) in
-    subst (λ (name : ℕ). IsAway name (turned x)) (sym (ap (λ (m : Mine). m.owner.name) c.new.ensures)) (new_away 3 (turned x) may (missed_new 3 (turned x) dropped))
+    let m = c.new.result in
+    let b = c.bind.new.worker in
+    let away : IsAway m.owner.name (turned x) = subst (λ (name : ℕ). IsAway name (turned x)) (sym (ap (λ (m : Mine). m.owner.name) c.new.ensures)) (new_away 3 (turned x) may (missed_new 3 (turned x) dropped)) in
+    bind_stands t (socks.Unbound m) at c.ports-2.result (turned x) (turned b) (chained t x) (chained t b) (Ok (c.in-Ok-bind.bound, c.in-Ok-bind.field-0-1)) (ap (λ (x : Mine). x.owner.state) c.new.ensures) away c.in-Ok-bind.ensures.carried c.owner-2.ensures.state
 
 pub connect-requires-clause-draws : goal.connect-requires-clause-draws
 connect-requires-clause-draws g c =
