@@ -10,16 +10,16 @@ use Rattle.chain_book.specs.declared.book.Change.{Change}
 use Rattle.chain_book.specs.declared.outcome.Hashed.{Hashed}
 use Rattle.chain_book.specs.Chains.{Outcome, put, insert_outcome, waits}
 use Rattle.chain_book.specs.Tuples.{waits_at, may_replace}
-use Rattle.table_rule.specs.Plays.{sight_of, unlocking, without}
+use Rattle.table_rule.specs.Plays.{sight_of, sight_at, unlocking}
 use Rattle.table_rule.specs.Sole.{IsNow}
-use Rattle.table_rule.specs.declared.view.ChainView.{ChainView}
 use Rattle.table_rule.specs.declared.view.View.{View}
 use Rattle.table_rule.specs.declared.view.Layout.{Layout}
 use Rattle.table_rule.specs.declared.view.Seen.{Seen}
+use Rattle.table_rule.specs.declared.view.Sight.{Sight}
 use Rattle.shared_slots.specs.declared.fresh.Full.{Full}
 use Rattle.nulls_chain.specs.Changes.{Rest, PlacesStay}
 use Rattle.nulls_chain.specs.declared.keeping.Place.{Place}
-use Rattle.shared_sockets.specs.Rows.{row_of, HasCard}
+use Rattle.shared_sockets.specs.Rows.{row_of, card_words, HasCard}
 use Rattle.shared_sockets.specs.Surveys.{waiting_in}
 use Rattle.shared_sockets.specs.Comings as spec
 use Rattle.shared_sockets.specs.Comings.{walking, IsChain, Comes, Departs, Goes, Admits, Refuses, FindsNone, HashesTo, name_of}
@@ -29,15 +29,16 @@ use Rattle.shared_sockets.specs.declared.survey.Newcomer.{Newcomer}
 use Rattle.shared_sockets.specs.declared.coming.Inserted.{Inserted}
 use Rattle.shared_sockets.specs.declared.coming.InsertEnd.{InsertEnd}
 use Rattle.shared_sockets.specs.declared.coming.InsertEnd.TheVariants as ends
-use Rattle.race_book.specs.Among.{Among}
+use Rattle.race_book.proofs.AmongLemmas.{among_left}
 use Rattle.race_record.specs.Deeds.{Wish, Tried, hashed, kept_out, no_slot, inserted, added, Vain}
 use Rattle.race_record.specs.Goes.{Grants, IsHashOf, outcome_of}
 use Rattle.chain_deeds.specs.Sides.{Side}
 use Rattle.chain_deeds.specs.Made.{Made, AnswersAlone, SawFree, SawKeeper}
 use Rattle.chain_deeds.specs.Answers.{Inserts, Adds, IsAdded}
 use Rattle.chain_deeds.proofs.Found.{IsTold, found_told, gives_way}
+use Rattle.chain_deeds.proofs.Seen.{same_sees, was_seen}
 use Rattle.chain_deeds.proofs.Stays.{all_stay}
-use Rattle.chain_deeds.proofs.Left.{side, change_at, StandsWell, made, left_unlocked, left_one, left_two, left_kept, in_vain, vain_is, left_none, saw_none}
+use Rattle.chain_deeds.proofs.Left.{side, change_at, bare_of, StandsWell, made, left_unlocked, left_one, left_two, left_kept, in_vain, vain_is, left_none, saw_none}
 use Rattle.chain_deeds.proofs.Alone.{came_told, taken_told, full_told, outcome_by, insert_answers, add_answers}
 
 pub quiet_of : (v w : View) → Rest v w → Quiet v w
@@ -67,22 +68,6 @@ hash_in bucket slot card v u c = change_at 1 bucket slot card c.change.0 c.chang
 abbrev pub gone_in : (bucket slot : ℕ) (card : Card) (v u : View) → Departs v u bucket slot card → Change
 gone_in bucket slot card v u d = change_at 0 bucket slot card d.change.0 d.change.1
 
--- it is of that slot, or one of those
-abbrev OneOf : ℕ → List Seen → Seen → Type 0
-OneOf slot others s = (s.slot ≡ slot) ⊎ Among others s
-
-each_one_of : (slot : ℕ) (others xs : List Seen) → ((s : Seen) → Among xs s → Among others s) → Each (OneOf slot others) xs
-each_one_of slot others [] f = tt
-each_one_of slot others (s ∷ xs) f = (inr (f s (inl refl)), each_one_of slot others xs (λ t a. f t (inr a)))
-
-each_cond : (P : Seen → Type 0) (b : Bool) (xs ys : List Seen) → Each P xs → Each P ys → Each P (cond b xs ys)
-each_cond P true xs ys h k = h
-each_cond P false xs ys h k = k
-
-each_without : (P : Seen → Type 0) (i : ℕ) (xs : List Seen) → Each P xs → Each P (without i xs)
-each_without P i [] h = tt
-each_without P i (s ∷ xs) h = each_cond P (s.slot == i) xs (s ∷ without i xs) h.1 (h.0, each_without P i xs h.1)
-
 -- Inserts
 
 module _ (layout : Layout) (from bucket : ℕ) (wish : Wish) (v w : View) (near : bucket < chain_count layout.shape) (home_is : home layout.shape layout.seed wish.card ≡ bucket) (stay : PlacesStay v w) where
@@ -95,7 +80,7 @@ module _ (layout : Layout) (from bucket : ℕ) (wish : Wish) (v w : View) (near 
   abbrev outcome : Outcome
   outcome = insert_outcome (chains_of layout from v.book.closed) wish.card wish.moment wish.rule
 
-  module _ (xs : List Seen) (seen : IsChain v bucket xs) (left : View) (unlocked : w ≡ unlocking left) where
+  module _ (xs : List Seen) (seen : IsChain v bucket xs) (left : View) (instant : ℕ) (unlocked : w ≡ unlocking left instant) where
     -- no one gave way
     came_alone : (cards : Each HasCard xs) (i : Inserted) (a : Admits layout from bucket new xs i (walking v bucket xs) left) → InsertsAlone layout from bucket new (Ok i) v w
         → left ≡ a.between → waiting_in new (row_of xs) ≡ None → Inserts wish (Ok i) old (side layout w (i.place.slot + 1))
@@ -103,26 +88,23 @@ module _ (layout : Layout) (from bucket : ℕ) (wish : Wish) (v w : View) (near 
         let u : View = a.between in
         let next : ℕ = i.place.slot + 1 in
         let c : Change = hash_in bucket i.place.slot wish.card (walking v bucket xs) u a.comes in
-        let is : w ≡ unlocking u = unlocked ∙ ap unlocking goes in
-        let l = left_unlocked (c ∷ []) [] (c.begin ∷ c.end ∷ []) layout from next v u
-        (left_one layout from next v u 1 bucket i.place.slot wish.card a.comes.change (quiet_of (walking v bucket xs) u a.comes.rest) a.comes.saw
+        let is : w ≡ unlocking u instant = unlocked ∙ ap (λ (y : View). unlocking y instant) goes in
+        let l = left_unlocked (c ∷ []) [] (c.begin ∷ c.end ∷ []) layout from next v u instant
+        (left_one layout from next v u 1 bucket i.place.slot wish.card (bare_of (walking v bucket xs) u 1 bucket i.place.slot (card_words wish.card) a.comes.change) (quiet_of (walking v bucket xs) u a.comes.rest) a.comes.saw
         (at_home layout bucket i.place.slot wish.card c.begin c.end a.comes.told home_is a.slot.inside)) in
-        let saw : SawFree wish c None old (side layout (unlocking u) next) = record {
-          act = refl;
-          earlier = u.sights;
-          sight = sight_of u;
-          sights = refl;
-          bucket = ap (λ (x : ChainView). x.locked) a.comes.chain;
-          since = a.comes.rest.5;
-          whole = ap (λ (x : ChainView). x.met) a.comes.chain;
-          others = xs;
-          listed = subst (Each (OneOf i.place.slot xs)) (sym (ap (λ (x : ChainView). x.walked) a.comes.chain)) (inl refl, each_one_of i.place.slot xs xs (λ s b. b));
+        let begun = a.comes.change.2.6 in
+        let saw : SawFree wish c None old (side layout (unlocking u instant) next) = record {
+          sight = sight_at (walking v bucket xs) c.begin;
+          there = among_left (sight_at (walking v bucket xs) c.begin) u.sights (sight_of u instant ∷ []) (was_seen (walking v bucket xs) u c.begin begun);
+          bucket = refl;
+          whole = refl;
+          instant = refl;
           cards = cards;
           unkept = a.unkept;
-          unwaited = λ e. none;
+          gave = none;
         } in
-        let m : Made (inserted wish (hashed c None)) old (side layout (unlocking u) next) =
-        made (inserted wish (hashed c None)) old (side layout (unlocking u) next) (record { act = refl; card_is = a.comes.told }) l saw in
+        let m : Made (inserted wish (hashed c None)) old (side layout (unlocking u instant) next) =
+        made (inserted wish (hashed c None)) old (side layout (unlocking u instant) next) (record { act = refl; card_is = a.comes.told }) l saw in
         let told : IsNow v → outcome ≡ outcome_of (hashed c None) =
         λ now. came_told layout from bucket new i v xs near now seen home_is a.unkept (alone now).0 ∙ ap (put i.place.slot) none in
         record {
@@ -148,8 +130,8 @@ module _ (layout : Layout) (from bucket : ℕ) (wish : Wish) (v w : View) (near 
         let g : Change = gone_in bucket x.slot x.card u left d in
         let t : Tried = hashed c (Some g) in
         let way = gives_way wish.card wish.moment wish.rule (row_of xs) x a.unkept some in
-        let l = left_unlocked (c ∷ g ∷ []) [] (c.begin ∷ c.end ∷ g.begin ∷ g.end ∷ []) layout from next v left
-        (left_two layout from next v u left 1 0 bucket i.place.slot x.slot wish.card x.card a.comes.change d.change (quiet_of (walking v bucket xs) u a.comes.rest) (quiet_of u left d.rest) a.comes.saw d.saw
+        let l = left_unlocked (c ∷ g ∷ []) [] (c.begin ∷ c.end ∷ g.begin ∷ g.end ∷ []) layout from next v left instant
+        (left_two layout from next v u left 1 0 bucket i.place.slot x.slot wish.card x.card (bare_of (walking v bucket xs) u 1 bucket i.place.slot (card_words wish.card) a.comes.change) (bare_of u left 0 bucket x.slot (card_words x.card) d.change) (quiet_of (walking v bucket xs) u a.comes.rest) (quiet_of u left d.rest) a.comes.saw d.saw
         (at_home layout bucket i.place.slot wish.card c.begin c.end a.comes.told home_is a.slot.inside) (no_hash layout bucket x.slot x.card g.begin g.end)) in
         let grants : Grants wish t = (
           record { act = refl; card_is = a.comes.told },
@@ -159,23 +141,19 @@ module _ (layout : Layout) (from bucket : ℕ) (wish : Wish) (v w : View) (near 
             may = ap (may_replace wish.rule wish.moment) x_told ∙ way.1;
           },
         ) in
-        let grown : Each (OneOf i.place.slot xs) u.chain.walked =
-        subst (Each (OneOf i.place.slot xs)) (sym (ap (λ (y : ChainView). y.walked) a.comes.chain)) (inl refl, each_one_of i.place.slot xs xs (λ s b. b)) in
-        let saw : SawFree wish c (Some g) old (side layout (unlocking left) next) = record {
-          act = refl;
-          earlier = left.sights;
-          sight = sight_of left;
-          sights = refl;
-          bucket = ap (λ (y : ChainView). y.locked) d.chain ∙ ap (λ (y : ChainView). y.locked) a.comes.chain;
-          since = d.rest.5 ∙ a.comes.rest.5;
-          whole = ap (λ (y : ChainView). y.met) d.chain ∙ ap (λ (y : ChainView). y.met) a.comes.chain;
-          others = xs;
-          listed = subst (Each (OneOf i.place.slot xs)) (sym (ap (λ (y : ChainView). y.walked) d.chain)) (each_without (OneOf i.place.slot xs) x.slot u.chain.walked grown);
+        let begun = a.comes.change.2.6 in
+        let walked : Sight = sight_at (walking v bucket xs) c.begin in
+        let saw : SawFree wish c (Some g) old (side layout (unlocking left instant) next) = record {
+          sight = walked;
+          there = among_left walked left.sights (sight_of left instant ∷ []) (same_sees u left d.saw walked (was_seen (walking v bucket xs) u c.begin begun) begun.0);
+          bucket = refl;
+          whole = refl;
+          instant = refl;
           cards = cards;
           unkept = a.unkept;
-          unwaited = λ e. absurd cc;
+          gave = (x, some, refl, sym x_told);
         } in
-        let m : Made (inserted wish t) old (side layout (unlocking left) next) = made (inserted wish t) old (side layout (unlocking left) next) grants l saw in
+        let m : Made (inserted wish t) old (side layout (unlocking left instant) next) = made (inserted wish t) old (side layout (unlocking left instant) next) grants l saw in
         let told : IsNow v → outcome ≡ outcome_of t =
         λ now. came_told layout from bucket new i v xs near now seen home_is a.unkept (alone now).0 ∙ (ap (put i.place.slot) some ∙ ap (λ (y : Card). put i.place.slot (Some (record { slot = x.slot; card = y }))) (sym x_told)) in
         record {
@@ -204,10 +182,10 @@ module _ (layout : Layout) (from bucket : ℕ) (wish : Wish) (v w : View) (near 
         → Inserts wish (Err (ends.Taken name)) old (side layout w from)
     refused cards name r alone =
         let t : Tried = kept_out name in
-        let y : View = unlocking (walking v bucket xs) in
-        let is : w ≡ y = unlocked ∙ ap unlocking r.same in
+        let y : View = unlocking (walking v bucket xs) instant in
+        let is : w ≡ y = unlocked ∙ ap (λ (y : View). unlocking y instant) r.same in
         let saw : SawKeeper wish name old (side layout y from) = record {
-          sight = sight_of (walking v bucket xs);
+          sight = sight_of (walking v bucket xs) instant;
           sights = refl;
           bucket = ap (λ (b : ℕ). b ∷ []) (sym home_is);
           since = refl;
@@ -215,7 +193,7 @@ module _ (layout : Layout) (from bucket : ℕ) (wish : Wish) (v w : View) (near 
           cards = cards;
           first = r.keeper;
         } in
-        let m : Made (inserted wish t) old (side layout y from) = made (inserted wish t) old (side layout y from) tt (left_kept layout from from v bucket xs) saw in
+        let m : Made (inserted wish t) old (side layout y from) = made (inserted wish t) old (side layout y from) tt (left_kept layout from from v bucket instant xs) saw in
         record {
           tried = t;
           answer = refl;
@@ -233,11 +211,11 @@ module _ (layout : Layout) (from bucket : ℕ) (wish : Wish) (v w : View) (near 
         let t : Tried = no_slot h.begin f.owned f.held in
         let vain : Vain = record { number = h.begin; owned = f.owned; held = f.held } in
         let u : View = in_vain v bucket xs h.begin h.full.1.reads in
-        let is : w ≡ unlocking u = unlocked ∙ ap unlocking (vain_is layout v bucket xs left f h) in
-        let m : Made (inserted wish t) old (side layout (unlocking u) from) =
-        made (inserted wish t) old (side layout (unlocking u) from) tt
-        (left_unlocked [] (vain ∷ []) (h.begin ∷ []) layout from from v u (left_none layout from from v bucket xs vain h.full.1.reads h.later))
-        (saw_none layout from from v bucket xs left f h (unlocking u) (sight_of u ∷ []) refl) in
+        let is : w ≡ unlocking u instant = unlocked ∙ ap (λ (y : View). unlocking y instant) (vain_is layout v bucket xs left f h) in
+        let m : Made (inserted wish t) old (side layout (unlocking u instant) from) =
+        made (inserted wish t) old (side layout (unlocking u instant) from) tt
+        (left_unlocked [] (vain ∷ []) (h.begin ∷ []) layout from from v u instant (left_none layout from from v bucket xs vain h.full.1.reads h.later))
+        (saw_none layout from from v bucket xs left f h (unlocking u instant) (sight_of u instant ∷ []) refl) in
         record {
           tried = t;
           answer = refl;
@@ -257,9 +235,9 @@ pub inserts_of : (layout : Layout) (from bucket : ℕ) (wish : Wish) (result : R
     → spec.Inserts layout from bucket (record { card = wish.card; moment = wish.moment; replace = wish.rule }) result v w
     → InsertsAlone layout from bucket (record { card = wish.card; moment = wish.moment; replace = wish.rule }) result v w → PlacesStay v w
     → Inserts wish result (side layout v from) (side layout w (next_by from result))
-inserts_of layout from bucket wish (Ok i) v w near at h alone stay = came layout from bucket wish v w near at stay h.chain h.seen h.left h.unlocked h.cards i h.comes alone
-inserts_of layout from bucket wish (Err (ends.Taken name)) v w near at h alone stay = refused layout from bucket wish v w near at stay h.chain h.seen h.left h.unlocked h.cards name h.comes alone
-inserts_of layout from bucket wish (Err (ends.Full f)) v w near at h alone stay = found_none layout from bucket wish v w near at stay h.chain h.seen h.left h.unlocked f h.comes.none alone
+inserts_of layout from bucket wish (Ok i) v w near at h alone stay = came layout from bucket wish v w near at stay h.chain h.seen h.left h.instant h.unlocked h.cards i h.comes alone
+inserts_of layout from bucket wish (Err (ends.Taken name)) v w near at h alone stay = refused layout from bucket wish v w near at stay h.chain h.seen h.left h.instant h.unlocked h.cards name h.comes alone
+inserts_of layout from bucket wish (Err (ends.Full f)) v w near at h alone stay = found_none layout from bucket wish v w near at stay h.chain h.seen h.left h.instant h.unlocked f h.comes.none alone
 
 -- Adds, whether or not the lock is given back
 
@@ -276,14 +254,14 @@ module _ (layout : Layout) (from bucket : ℕ) (card : Card) (v : View) (home_is
     pub outcome : outcome_by r ≡ outcome_of tried
     pub next : next_after (outcome_of tried) from ≡ next_after_add from r
     pub under : Made (added card tried) (side layout v from) (side layout u (next_after_add from r))
-    pub back : Made (added card tried) (side layout v from) (side layout (unlocking u) (next_after_add from r))
+    pub back : (instant : ℕ) → Made (added card tried) (side layout v from) (side layout (unlocking u instant) (next_after_add from r))
 
   pub tries_of : (r : Result Place Full) (u : View) → HashesTo layout from bucket card xs r (walking v bucket xs) u → Tries r u
   tries_of (Ok place) u h =
       let next : ℕ = place.slot + 1 in
       let c : Change = hash_in bucket place.slot card (walking v bucket xs) u h.comes in
       let t : Tried = hashed c None in
-      let l = left_one layout from next v u 1 bucket place.slot card h.comes.change (quiet_of (walking v bucket xs) u h.comes.rest) h.comes.saw
+      let l = left_one layout from next v u 1 bucket place.slot card (bare_of (walking v bucket xs) u 1 bucket place.slot (card_words card) h.comes.change) (quiet_of (walking v bucket xs) u h.comes.rest) h.comes.saw
       (at_home layout bucket place.slot card c.begin c.end h.comes.told home_is h.slot.inside) in
       let fits : IsHashOf card c = record { act = refl; card_is = h.comes.told } in
       record {
@@ -292,7 +270,7 @@ module _ (layout : Layout) (from bucket : ℕ) (card : Card) (v : View) (home_is
         outcome = refl;
         next = refl;
         under = made (added card t) (side layout v from) (side layout u next) fits l tt;
-        back = made (added card t) (side layout v from) (side layout (unlocking u) next) fits (left_unlocked (c ∷ []) [] (c.begin ∷ c.end ∷ []) layout from next v u l) tt;
+        back = λ instant. made (added card t) (side layout v from) (side layout (unlocking u instant) next) fits (left_unlocked (c ∷ []) [] (c.begin ∷ c.end ∷ []) layout from next v u instant l) tt;
       }
   tries_of (Err f) u h =
       let t : Tried = no_slot h.begin f.owned f.held in
@@ -302,17 +280,17 @@ module _ (layout : Layout) (from bucket : ℕ) (card : Card) (v : View) (home_is
       let l = left_none layout from from v bucket xs vain h.full.1.reads h.later in
       let under : Made (added card t) (side layout v from) (side layout y from) =
       made (added card t) (side layout v from) (side layout y from) tt l (saw_none layout from from v bucket xs u f h y [] (sym (append-nil y.sights))) in
-      let back : Made (added card t) (side layout v from) (side layout (unlocking y) from) =
-      made (added card t) (side layout v from) (side layout (unlocking y) from) tt
-      (left_unlocked [] (vain ∷ []) (h.begin ∷ []) layout from from v y l)
-      (saw_none layout from from v bucket xs u f h (unlocking y) (sight_of y ∷ []) refl) in
+      let back : (instant : ℕ) → Made (added card t) (side layout v from) (side layout (unlocking y instant) from) =
+      λ instant. made (added card t) (side layout v from) (side layout (unlocking y instant) from) tt
+      (left_unlocked [] (vain ∷ []) (h.begin ∷ []) layout from from v y instant l)
+      (saw_none layout from from v bucket xs u f h (unlocking y instant) (sight_of y instant ∷ []) refl) in
       record {
         tried = t;
         answer = refl;
         outcome = refl;
         next = refl;
         under = subst (λ (x : View). Made (added card t) (side layout v from) (side layout x from)) (sym is) under;
-        back = subst (λ (x : View). Made (added card t) (side layout v from) (side layout (unlocking x) from)) (sym is) back;
+        back = λ instant. subst (λ (x : View). Made (added card t) (side layout v from) (side layout (unlocking x instant) from)) (sym is) (back instant);
       }
 
 pub adds_of : (layout : Layout) (from bucket : ℕ) (card : Card) (r : Result Place Full) (v w : View) → home layout.shape layout.seed card ≡ bucket
@@ -324,7 +302,7 @@ adds_of layout from bucket card r v w at h alone stay =
       tried = t.tried;
       answer = t.answer;
       does = record {
-        leaves = (side layout w next, subst (λ (x : View). Made (added card t.tried) (side layout v from) (side layout x next)) (sym h.unlocked) t.back, refl);
+        leaves = (side layout w next, subst (λ (x : View). Made (added card t.tried) (side layout v from) (side layout x next)) (sym h.unlocked) (t.back h.instant), refl);
         stay = all_stay (added card t.tried ∷ []) v w stay;
         alone = subst (λ (n : ℕ). AnswersAlone (added card t.tried ∷ []) (side layout v from) (side layout w n)) t.next (add_answers layout from bucket card t.tried r v w alone t.outcome);
       };
@@ -333,8 +311,8 @@ adds_of layout from bucket card r v w at h alone stay =
 -- Who is refused changes nothing
 
 pub refused_closed : (layout : Layout) (from bucket : ℕ) (wanted : Newcomer) (end : InsertEnd) (v w : View) → spec.Inserts layout from bucket wanted (Err end) v w → w.book.closed ≡ v.book.closed
-refused_closed layout from bucket wanted (ends.Taken name) v w h = ap (λ (x : View). x.book.closed) (h.unlocked ∙ ap unlocking h.comes.same)
-refused_closed layout from bucket wanted (ends.Full f) v w h = ap (λ (x : View). x.book.closed) (h.unlocked ∙ ap unlocking (vain_is layout v bucket h.chain h.left f h.comes.none))
+refused_closed layout from bucket wanted (ends.Taken name) v w h = ap (λ (x : View). x.book.closed) (h.unlocked ∙ ap (λ (y : View). unlocking y h.instant) h.comes.same)
+refused_closed layout from bucket wanted (ends.Full f) v w h = ap (λ (x : View). x.book.closed) (h.unlocked ∙ ap (λ (y : View). unlocking y h.instant) (vain_is layout v bucket h.chain h.left f h.comes.none))
 
 pub full_closed : (layout : Layout) (from bucket : ℕ) (card : Card) (f : Full) (v w : View) → spec.Adds layout from bucket card (Err f) v w → w.book.closed ≡ v.book.closed
-full_closed layout from bucket card f v w h = ap (λ (x : View). x.book.closed) (h.unlocked ∙ ap unlocking (vain_is layout v bucket h.chain h.left f h.comes))
+full_closed layout from bucket card f v w h = ap (λ (x : View). x.book.closed) (h.unlocked ∙ ap (λ (y : View). unlocking y h.instant) (vain_is layout v bucket h.chain h.left f h.comes))

@@ -9,6 +9,7 @@ use Rattle.table_rule.specs.declared.view.Layout.{Layout}
 use Rattle.shared_slots.specs.declared.fresh.Full.{Full}
 use Rattle.nulls_chain.specs.Changes.{OtherPlacesStay}
 use Rattle.nulls_chain.specs.declared.keeping.Place.{Place}
+use Rattle.shared_sockets.specs.Rows.{card_words}
 use Rattle.shared_sockets.specs.Leavings as spec
 use Rattle.shared_sockets.specs.Alone.{LeavesAlone, WaitsAlone}
 use Rattle.race_record.specs.Deeds.{added, left}
@@ -16,7 +17,7 @@ use Rattle.race_record.specs.Goes.{IsUnhashAt}
 use Rattle.chain_deeds.specs.Made.{Made, AnswersAlone}
 use Rattle.chain_deeds.specs.Answers.{Removes, Waits}
 use Rattle.chain_deeds.proofs.Found.{IsTold}
-use Rattle.chain_deeds.proofs.Left.{side, change_at, made, left_one, left_unlocked}
+use Rattle.chain_deeds.proofs.Left.{side, change_at, bare_of, made, left_one, left_unlocked}
 use Rattle.chain_deeds.proofs.Alone.{leave_answers, wait_answers}
 use Rattle.chain_deeds.proofs.Stays.{other_stays}
 use Rattle.chain_deeds.proofs.Comes.{quiet_of, no_hash, next_after_add, tries_of}
@@ -34,7 +35,7 @@ pub removes_of : (layout : Layout) (next : ℕ) (place : Place) (v w : View) →
     → Removes place (side layout v next) (side layout w next)
 removes_of layout next place v w told h alone stay =
     let u : Change = change_at 0 place.bucket place.slot place.card h.change.0 h.change.1 in
-    let l = left_one layout next next v w 0 place.bucket place.slot place.card h.change h.quiet h.saw (no_hash layout place.bucket place.slot place.card u.begin u.end) in
+    let l = left_one layout next next v w 0 place.bucket place.slot place.card (bare_of v w 0 place.bucket place.slot (card_words place.card) h.change) h.quiet h.saw (no_hash layout place.bucket place.slot place.card u.begin u.end) in
     record {
       unhash = u;
       is = is_at place u.begin u.end told;
@@ -53,9 +54,9 @@ waits_of layout from place card r v w told at h alone stay =
     let mid : View = h.between in
     let d = h.departs in
     let u : Change = change_at 0 place.bucket place.slot place.card d.change.0 d.change.1 in
-    let l = left_unlocked (u ∷ []) [] (u.begin ∷ u.end ∷ []) layout next next mid h.left
-    (left_one layout next next mid h.left 0 place.bucket place.slot place.card d.change (quiet_of mid h.left d.rest) d.saw (no_hash layout place.bucket place.slot place.card u.begin u.end)) in
-    let gone : Made (left u) (side layout mid next) (side layout (unlocking h.left) next) = made (left u) (side layout mid next) (side layout (unlocking h.left) next) refl l tt in
+    let l = left_unlocked (u ∷ []) [] (u.begin ∷ u.end ∷ []) layout next next mid h.left h.instant
+    (left_one layout next next mid h.left 0 place.bucket place.slot place.card (bare_of mid h.left 0 place.bucket place.slot (card_words place.card) d.change) (quiet_of mid h.left d.rest) d.saw (no_hash layout place.bucket place.slot place.card u.begin u.end)) in
+    let gone : Made (left u) (side layout mid next) (side layout (unlocking h.left h.instant) next) = made (left u) (side layout mid next) (side layout (unlocking h.left h.instant) next) refl l tt in
     record {
       tried = t.tried;
       answer = t.answer;

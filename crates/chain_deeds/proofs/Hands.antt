@@ -75,6 +75,7 @@ module _ (layout : Layout) (from : ℕ) (place : Place) (card : Card) (v w : Vie
     comes = h.hands.comes;
     left = h.left;
     departs = h.hands.yields;
+    instant = h.instant;
     unlocked = h.unlocked;
   }
 
@@ -84,7 +85,8 @@ module _ (layout : Layout) (from : ℕ) (place : Place) (card : Card) (v w : Vie
     seen = h.seen;
     left = h.hands.between;
     comes = h.hands.comes;
-    unlocked = h.unlocked ∙ ap unlocking h.hands.yields.1;
+    instant = h.instant;
+    unlocked = h.unlocked ∙ ap (λ (y : View). unlocking y h.instant) h.hands.yields.1;
   }
 
   pub hands_of : (r : Result Place (Place × Full)) → IsTold place.card → home layout.shape layout.seed card ≡ place.bucket → spec.HandsOver layout from place card r v w → HandsAlone layout from place card r v w

@@ -7,7 +7,7 @@ use Rattle.sock_card.specs.Words.{packed, unpacked}
 use Rattle.sock_card.specs.declared.card.Card.{Card}
 use Rattle.chain_book.specs.declared.book.Change.{Change}
 use Rattle.table_rule.specs.Beyond.{IsCardWords}
-use Rattle.table_rule.specs.Plays.{beginning, dropping_beginning, settled, sight_of, unlocking}
+use Rattle.table_rule.specs.Plays.{beginning, dropping_beginning, settled, sight_of, sight_at, unlocking}
 use Rattle.table_rule.specs.declared.view.Change.{Change as Closed}
 use Rattle.table_rule.specs.declared.view.Layout.{Layout}
 use Rattle.table_rule.specs.declared.view.Seen.{Seen}
@@ -15,7 +15,7 @@ use Rattle.table_rule.specs.declared.view.Sight.{Sight}
 use Rattle.table_rule.specs.declared.view.View.{View}
 use Rattle.shared_slots.specs.Claims.{sight_by, Read}
 use Rattle.shared_slots.specs.declared.fresh.Full.{Full}
-use Rattle.nulls_chain.specs.Changes.{Adds, Sees}
+use Rattle.nulls_chain.specs.Changes.{Adds, Same, Sees}
 use Rattle.shared_sockets.specs.Rows.{card_words}
 use Rattle.shared_sockets.specs.Comings.{walking, FindsNone}
 use Rattle.shared_sockets.specs.Leavings.{Quiet}
@@ -69,9 +69,9 @@ made deed c d fits l shows = record {
 }
 
 -- as the lock is given back
-pub left_unlocked : (changes : List Change) (vain : List Vain) (drawn : List ℕ) (layout : Layout) (from next : ℕ) (v u : View) → Left changes vain drawn (side layout v from) (side layout u next)
-    → Left changes vain drawn (side layout v from) (side layout (unlocking u) next)
-left_unlocked changes vain drawn layout from next v u l = record {
+pub left_unlocked : (changes : List Change) (vain : List Vain) (drawn : List ℕ) (layout : Layout) (from next : ℕ) (v u : View) (instant : ℕ) → Left changes vain drawn (side layout v from) (side layout u next)
+    → Left changes vain drawn (side layout v from) (side layout (unlocking u instant) next)
+left_unlocked changes vain drawn layout from next v u instant l = record {
   layout = l.layout;
   closed = l.closed;
   homes = l.homes;
@@ -84,7 +84,7 @@ left_unlocked changes vain drawn layout from next v u l = record {
   holds = l.holds;
   taken = l.taken;
   read = l.read;
-  sees = sees_more v u l.sees;
+  sees = sees_more v u instant l.sees;
 }
 
 -- it stands at home, if it is a hash, and its words say its card
@@ -94,33 +94,42 @@ StandsWell layout kind bucket slot card b e = IsHomeIfHash layout (change_at kin
 card_has_words : (card : Card) → unpacked (packed card) ≡ card → IsCardWords (card_words card)
 card_has_words card told = record { words = packed card; is = refl; packs = ap packed told }
 
+-- a change that was closed, and its numbers: what is said of it whatever was walked
+abbrev pub Bare : View → View → (kind bucket slot : ℕ) → List ℕ → Type 0
+Bare v w kind bucket slot card =
+    (b : ℕ) × (e : ℕ) × (v.seen ≤ b) × (b < e) × (e < w.seen)
+    × (w.book.closed ≡ v.book.closed ++ record { kind = kind; bucket = bucket; slot = slot; card = card; begins = b; ends = e } ∷ []) × Same v w
+
+abbrev pub bare_of : (v w : View) (kind bucket slot : ℕ) (card : List ℕ) → Adds v w kind bucket slot card → Bare v w kind bucket slot card
+bare_of v w kind bucket slot card a = (a.0, a.1, a.2.0, a.2.1, a.2.2, a.2.3, a.2.4)
+
 -- one change
-pub left_one : (layout : Layout) (from next : ℕ) (v u : View) (kind bucket slot : ℕ) (card : Card) (a : Adds v u kind bucket slot (card_words card)) → Quiet v u → Sees v u
+pub left_one : (layout : Layout) (from next : ℕ) (v u : View) (kind bucket slot : ℕ) (card : Card) (a : Bare v u kind bucket slot (card_words card)) → Quiet v u → Sees v u
     → StandsWell layout kind bucket slot card a.0 a.1
     → Left (change_at kind bucket slot card a.0 a.1 ∷ []) [] (a.0 ∷ a.1 ∷ []) (side layout v from) (side layout u next)
 left_one layout from next v u kind bucket slot card a quiet saw home =
     let c : Closed = record { kind = kind; bucket = bucket; slot = slot; card = card_words card; begins = a.0; ends = a.1 } in
-    let low : v.seen ≤ a.0 = a.2.0 in
-    let order : a.0 < a.1 = a.2.1 in
-    let high : a.1 < u.seen = a.2.2 in
+    let low : v.seen ≤ a.0 = a.2 in
+    let order : a.0 < a.1 = a.3 in
+    let high : a.1 < u.seen = a.4 in
     record {
       layout = refl;
-      closed = ap (map change_of) a.2.3 ∙ map-append change_of v.book.closed (c ∷ []);
+      closed = ap (map change_of) a.5 ∙ map-append change_of v.book.closed (c ∷ []);
       homes = (home.0, tt);
-      words = λ h. subst (Each HasWords) (sym a.2.3) (each_append HasWords v.book.closed (c ∷ []) h ((λ k. card_has_words card (home.1 k)), tt));
+      words = λ h. subst (Each HasWords) (sym a.5) (each_append HasWords v.book.closed (c ∷ []) h ((λ k. card_has_words card (home.1 k)), tt));
       lost = quiet.0;
       numbers = ((low, omega arith), ((omega arith, high), tt));
       ascend = ((order, tt), (tt, tt));
       later = omega arith;
-      parts = a.2.4.0;
-      holds = a.2.4.1;
+      parts = a.6.0;
+      holds = a.6.1;
       taken = quiet.1;
       read = quiet.2;
       sees = saw;
     }
 
 -- two, one after the other
-pub left_two : (layout : Layout) (from next : ℕ) (v u w : View) (k l bucket slot old : ℕ) (card gone : Card) (a : Adds v u k bucket slot (card_words card)) (d : Adds u w l bucket old (card_words gone))
+pub left_two : (layout : Layout) (from next : ℕ) (v u w : View) (k l bucket slot old : ℕ) (card gone : Card) (a : Bare v u k bucket slot (card_words card)) (d : Bare u w l bucket old (card_words gone))
     → Quiet v u → Quiet u w → Sees v u → Sees u w
     → StandsWell layout k bucket slot card a.0 a.1 → StandsWell layout l bucket old gone d.0 d.1
     → Left (change_at k bucket slot card a.0 a.1 ∷ change_at l bucket old gone d.0 d.1 ∷ []) [] (a.0 ∷ a.1 ∷ d.0 ∷ d.1 ∷ []) (side layout v from) (side layout w next)
@@ -128,13 +137,13 @@ left_two layout from next v u w k l bucket slot old card gone a d q r s t home e
     let b : Closed = record { kind = k; bucket = bucket; slot = slot; card = card_words card; begins = a.0; ends = a.1 } in
     let c : Closed = record { kind = l; bucket = bucket; slot = old; card = card_words gone; begins = d.0; ends = d.1 } in
     let grown : w.book.closed ≡ v.book.closed ++ b ∷ c ∷ [] =
-    d.2.3 ∙ (ap (λ (cs : List Closed). cs ++ c ∷ []) a.2.3 ∙ append_assoc v.book.closed (b ∷ []) (c ∷ [])) in
-    let low : v.seen ≤ a.0 = a.2.0 in
-    let one : a.0 < a.1 = a.2.1 in
-    let mid : a.1 < u.seen = a.2.2 in
-    let then_ : u.seen ≤ d.0 = d.2.0 in
-    let two : d.0 < d.1 = d.2.1 in
-    let high : d.1 < w.seen = d.2.2 in
+    d.5 ∙ (ap (λ (cs : List Closed). cs ++ c ∷ []) a.5 ∙ append_assoc v.book.closed (b ∷ []) (c ∷ [])) in
+    let low : v.seen ≤ a.0 = a.2 in
+    let one : a.0 < a.1 = a.3 in
+    let mid : a.1 < u.seen = a.4 in
+    let then_ : u.seen ≤ d.0 = d.2 in
+    let two : d.0 < d.1 = d.3 in
+    let high : d.1 < w.seen = d.4 in
     record {
       layout = refl;
       closed = ap (map change_of) grown ∙ map-append change_of v.book.closed (b ∷ c ∷ []);
@@ -144,16 +153,16 @@ left_two layout from next v u w k l bucket slot old card gone a d q r s t home e
       numbers = ((low, omega arith), ((omega arith, omega arith), ((omega arith, omega arith), ((omega arith, high), tt))));
       ascend = ((one, (omega arith, (omega arith, tt))), ((omega arith, (omega arith, tt)), ((two, tt), (tt, tt))));
       later = omega arith;
-      parts = d.2.4.0 ∙ a.2.4.0;
-      holds = d.2.4.1 ∙ a.2.4.1;
+      parts = d.6.0 ∙ a.6.0;
+      holds = d.6.1 ∙ a.6.1;
       taken = r.1 ∙ q.1;
       read = r.2 ∙ q.2;
       sees = sees_both v u w (omega arith) s t;
     }
 
 -- a chain was walked under its lock, and nothing else
-pub left_kept : (layout : Layout) (from next : ℕ) (v : View) (bucket : ℕ) (xs : List Seen) → Left [] [] [] (side layout v from) (side layout (unlocking (walking v bucket xs)) next)
-left_kept layout from next v bucket xs = record {
+pub left_kept : (layout : Layout) (from next : ℕ) (v : View) (bucket instant : ℕ) (xs : List Seen) → Left [] [] [] (side layout v from) (side layout (unlocking (walking v bucket xs) instant) next)
+left_kept layout from next v bucket instant xs = record {
   layout = refl;
   closed = sym (append-nil (map change_of v.book.closed));
   homes = tt;
@@ -166,7 +175,7 @@ left_kept layout from next v bucket xs = record {
   holds = refl;
   taken = refl;
   read = refl;
-  sees = (v.sights, sight_of (walking v bucket xs) ∷ [], as_they_were v.seen v.sights, refl);
+  sees = (v.sights, sight_of (walking v bucket xs) instant ∷ [], as_they_were v.seen v.sights, refl);
 }
 
 -- A slot was sought in vain
@@ -175,7 +184,7 @@ left_kept layout from next v bucket xs = record {
 abbrev pub in_vain : (v : View) (bucket : ℕ) (xs : List Seen) (b : ℕ) → List Read → View
 in_vain v bucket xs b reads =
     let begun = beginning (walking v bucket xs) b in
-    dropping_beginning (record begun { sights = settled v.sights b ++ map (sight_by begun) reads })
+    dropping_beginning (record begun { sights = begun.sights ++ map (sight_by begun) reads })
 
 pub vain_is : (layout : Layout) (v : View) (bucket : ℕ) (xs : List Seen) (u : View) (f : Full) (h : FindsNone layout (walking v bucket xs) u f) → u ≡ in_vain v bucket xs h.begin h.full.1.reads
 vain_is layout v bucket xs u f h = h.is ∙ ap dropping_beginning h.full.1.is
@@ -195,7 +204,10 @@ left_none layout from next v bucket xs vain reads low = record {
   holds = refl;
   taken = refl;
   read = refl;
-  sees = (settled v.sights vain.number, map (sight_by (beginning (walking v bucket xs) vain.number)) reads, are_settled v.seen vain.number v.sights low, refl);
+  sees =
+      let begun = beginning (walking v bucket xs) vain.number in
+      let walked : Sight = sight_at (walking v bucket xs) vain.number in
+      (settled v.sights vain.number, walked ∷ map (sight_by begun) reads, are_settled v.seen vain.number v.sights low, append_assoc (settled v.sights vain.number) (walked ∷ []) (map (sight_by begun) reads));
 }
 
 pub saw_none : (layout : Layout) (from next : ℕ) (v : View) (bucket : ℕ) (xs : List Seen) (u : View) (f : Full) (h : FindsNone layout (walking v bucket xs) u f) (x : View) (more : List Sight)
@@ -204,6 +216,7 @@ pub saw_none : (layout : Layout) (from next : ℕ) (v : View) (bucket : ℕ) (xs
 saw_none layout from next v bucket xs u f h x more is = record {
   earlier = settled v.sights h.begin;
   settled = are_settled v.seen h.begin v.sights h.later;
+  walked = sight_at (walking v bucket xs) h.begin;
   by = beginning (walking v bucket xs) h.begin;
   since = refl;
   reads = h.full.1.reads;

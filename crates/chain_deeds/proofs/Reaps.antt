@@ -13,7 +13,7 @@ use Rattle.chain_book.specs.Chains.{Chains, row_at, home_in, waits_as, waiting, 
 use Rattle.table_rule.specs.Plays.{sight_of, unlocking}
 use Rattle.table_rule.specs.declared.view.Layout.{Layout}
 use Rattle.table_rule.specs.declared.view.View.{View}
-use Rattle.shared_sockets.specs.Rows.{row_of}
+use Rattle.shared_sockets.specs.Rows.{row_of, card_words}
 use Rattle.shared_sockets.specs.Alone.{chains_of, ReapsAlone}
 use Rattle.shared_sockets.specs.Comings.{walking, Departs, Goes}
 use Rattle.shared_sockets.specs.Leavings as spec
@@ -29,7 +29,7 @@ use Rattle.chain_deeds.specs.Answers.{Reaps, slot_in}
 use Rattle.chain_deeds.proofs.Found.{IsTold, found_told}
 use Rattle.nulls_chain.specs.Changes.{PlacesStay}
 use Rattle.chain_deeds.proofs.Stays.{all_stay}
-use Rattle.chain_deeds.proofs.Left.{side, change_at, made, left_kept, left_one, left_unlocked}
+use Rattle.chain_deeds.proofs.Left.{side, change_at, bare_of, made, left_kept, left_one, left_unlocked}
 use Rattle.chain_deeds.proofs.Comes.{quiet_of, no_hash}
 
 -- On a pass that was never split
@@ -69,11 +69,11 @@ module _ (layout : Layout) (next bucket : ℕ) (card : Card) (result : Option �
     (h : spec.Reaps bucket card.name result v w) (alone : ReapsAlone layout bucket card.name result v w) (stay : PlacesStay v w) where
   by_found : (o : Option Hashed) → waiting_as card.name (row_of h.chain) ≡ o → Reaps card result (side layout v next) (side layout w next)
   by_found None e =
-      let same : w ≡ unlocking (walking v bucket h.chain) =
-      h.unlocked ∙ ap unlocking (subst (λ (o : Option Hashed). Goes (walking v bucket h.chain) h.left bucket o) e h.goes) in
-      let saw : SawNoWait card (side layout v next) (side layout (unlocking (walking v bucket h.chain)) next) =
+      let same : w ≡ unlocking (walking v bucket h.chain) h.instant =
+      h.unlocked ∙ ap (λ (y : View). unlocking y h.instant) (subst (λ (o : Option Hashed). Goes (walking v bucket h.chain) h.left bucket o) e h.goes) in
+      let saw : SawNoWait card (side layout v next) (side layout (unlocking (walking v bucket h.chain) h.instant) next) =
       record {
-        sight = sight_of (walking v bucket h.chain);
+        sight = sight_of (walking v bucket h.chain) h.instant;
         sights = refl;
         bucket = ap (λ (b : ℕ). b ∷ []) (sym at);
         since = refl;
@@ -82,8 +82,8 @@ module _ (layout : Layout) (next bucket : ℕ) (card : Card) (result : Option �
         cards = h.cards;
         none = e;
       } in
-      let is : Made (reaped card None) (side layout v next) (side layout (unlocking (walking v bucket h.chain)) next) =
-      made (reaped card None) (side layout v next) (side layout (unlocking (walking v bucket h.chain)) next) tt (left_kept layout next next v bucket h.chain) saw in
+      let is : Made (reaped card None) (side layout v next) (side layout (unlocking (walking v bucket h.chain) h.instant) next) =
+      made (reaped card None) (side layout v next) (side layout (unlocking (walking v bucket h.chain) h.instant) next) tt (left_kept layout next next v bucket h.instant h.chain) saw in
       let told = h.slot ∙ ap (option_map slot_of) e in
       record {
         unhash = None;
@@ -105,10 +105,10 @@ module _ (layout : Layout) (next bucket : ℕ) (card : Card) (result : Option �
         kind = ap (λ (k : Card). k.kind) told_card ∙ (waiting-kind x.card.kind (and_right (x.card.name == card.name) (is_time_wait_kind x.card.kind) true_of) ∙ sym waits);
         name = ap (λ (k : Card). k.name) told_card ∙ eqb-true x.card.name card.name (and_left (x.card.name == card.name) (is_time_wait_kind x.card.kind) true_of);
       } in
-      let l = left_unlocked (u ∷ []) [] (u.begin ∷ u.end ∷ []) layout next next v h.left
-      (left_one layout next next v h.left 0 bucket x.slot x.card d.change (quiet_of (walking v bucket h.chain) h.left d.rest) d.saw (no_hash layout bucket x.slot x.card u.begin u.end)) in
-      let is : Made (reaped card (Some u)) (side layout v next) (side layout (unlocking h.left) next) =
-      made (reaped card (Some u)) (side layout v next) (side layout (unlocking h.left) next) fits l tt in
+      let l = left_unlocked (u ∷ []) [] (u.begin ∷ u.end ∷ []) layout next next v h.left h.instant
+      (left_one layout next next v h.left 0 bucket x.slot x.card (bare_of (walking v bucket h.chain) h.left 0 bucket x.slot (card_words x.card) d.change) (quiet_of (walking v bucket h.chain) h.left d.rest) d.saw (no_hash layout bucket x.slot x.card u.begin u.end)) in
+      let is : Made (reaped card (Some u)) (side layout v next) (side layout (unlocking h.left h.instant) next) =
+      made (reaped card (Some u)) (side layout v next) (side layout (unlocking h.left h.instant) next) fits l tt in
       let told = h.slot ∙ ap (option_map slot_of) e in
       record {
         unhash = Some u;

@@ -1,9 +1,12 @@
 -- What a pass saw, over two changes and over a search for a slot.
-use Rattle.std.proofs.Common.{◌≡◌, ℕ, ◌≤◌, List, [], ◌∷◌, ◌++◌, inl, refl, ap, ◌∙◌, append_assoc, subst}
-use Rattle.table_rule.specs.Plays.{sight_of, unlocking}
+use Rattle.std.proofs.Common.{◌≡◌, ℕ, ◌<◌, ◌≤◌, List, [], ◌∷◌, ◌++◌, ⊎_elim, inl, inr, refl, sym, ap, ◌∙◌, append_assoc, subst, arith}
+use Rattle.table_rule.specs.Book.{open-end}
+use Rattle.table_rule.specs.Plays.{sight_of, sight_at, unlocking}
 use Rattle.table_rule.specs.declared.view.Sight.{Sight}
 use Rattle.table_rule.specs.declared.view.View.{View}
-use Rattle.nulls_chain.specs.Changes.{AreSettled, Sees}
+use Rattle.nulls_chain.specs.Changes.{AreSettled, Sees, SawAt}
+use Rattle.race_book.specs.Among.{Among}
+use Rattle.race_book.proofs.AmongLemmas.{among_left, among_right}
 use Rattle.nulls_chain.proofs.Saw.{one-then}
 
 pub as_they_were : (least : ℕ) (xs : List Sight) → AreSettled least xs xs
@@ -39,5 +42,22 @@ sees_both v u w le s t =
     (k.earlier, k.rest ++ t.1, k.settled_so, t.3 ∙ (ap (λ (l : List Sight). l ++ t.1) k.is ∙ append_assoc k.earlier k.rest t.1))
 
 -- as the lock is given back, what was walked is one sighting more
-pub sees_more : (v u : View) → Sees v u → Sees v (unlocking u)
-sees_more v u s = (s.0, s.1 ++ sight_of u ∷ [], s.2, ap (λ (l : List Sight). l ++ sight_of u ∷ []) s.3 ∙ append_assoc s.0 s.1 (sight_of u ∷ []))
+pub sees_more : (v u : View) (instant : ℕ) → Sees v u → Sees v (unlocking u instant)
+sees_more v u instant s = (s.0, s.1 ++ sight_of u instant ∷ [], s.2, ap (λ (l : List Sight). l ++ sight_of u instant ∷ []) s.3 ∙ append_assoc s.0 s.1 (sight_of u instant ∷ []))
+
+-- a sighting that had ended stands as it is
+pub same_settled : (least : ℕ) (xs ys : List Sight) → AreSettled least xs ys → (s : Sight) → Among xs s → s.until < open-end → Among ys s
+same_settled least [] ys h s a few = absurd a
+same_settled least (x ∷ xs) [] h s a few = absurd h
+same_settled least (x ∷ xs) (y ∷ ys) h s a few = ⊎_elim
+    (λ e. ⊎_elim
+    (λ same. inl (e ∙ sym same))
+    (λ z. let still : s.until ≡ open-end = ap (λ (w : Sight). w.until) e ∙ z.0 in absurd (omega (arith, still, few))) h.0)
+    (λ b. inr (same_settled least xs ys h.1 s b few)) a
+
+pub same_sees : (v w : View) → Sees v w → (s : Sight) → Among v.sights s → s.until < open-end → Among w.sights s
+same_sees v w h s a few = subst (λ l. Among l s) (sym h.3) (among_left s h.0 h.1 (same_settled v.seen v.sights h.0 h.2 s a few))
+
+-- what was seen as a hash began
+pub was_seen : (v w : View) (number : ℕ) → SawAt v w number → Among w.sights (sight_at v number)
+was_seen v w number h = subst (λ l. Among l (sight_at v number)) (sym h.3) (among_right (sight_at v number) h.1 (sight_at v number ∷ h.2) (inl refl))

@@ -7,6 +7,7 @@ use Rattle.list_words.specs.Lists.{Each, Pairs}
 use Rattle.sock_card.specs.declared.card.Card.{Card}
 use Rattle.chain_book.specs.declared.book.Act.TheVariants as acts
 use Rattle.chain_book.specs.declared.book.Change.{Change}
+use Rattle.chain_book.specs.declared.outcome.Hashed.{Hashed}
 use Rattle.chain_book.specs.Chains.{keeps, waits, waits_as}
 use Rattle.chain_book.specs.Homes.{home}
 use Rattle.table_rule.specs.Beyond.{IsCardWords}
@@ -70,11 +71,12 @@ pub record SawKeeper (wish : Wish) (name : ℕ) (c d : Side) : Type 0 where
 pub record SawNone (v : Vain) (c d : Side) : Type 0 where
   pub earlier : List Sight
   pub settled : AreSettled c.view.seen c.view.sights earlier
+  pub walked : Sight
   pub by : View
   pub since : by.seen ≡ v.number + 1
   pub reads : List Read
   pub more : List Sight
-  pub sights : d.view.sights ≡ earlier ++ map (sight_by by) reads ++ more
+  pub sights : d.view.sights ≡ (earlier ++ walked ∷ []) ++ map (sight_by by) reads ++ more
   pub owned : owned_in reads ≡ v.owned
   pub held : held_in reads ≡ v.held
   pub all : v.owned + v.held ≡ c.layout.shape.slots
@@ -92,21 +94,22 @@ pub record SawNoWait (card : Card) (c d : Side) : Type 0 where
   pub cards : Each HasCard sight.listed
   pub none : find (waits_as card.name) (row_of sight.listed) ≡ None
 
--- As the lock of its chain was given back, the newcomer stood there with some of those that had been there, of whom
--- none keeps the four-tuple; and where none gave way, none waits at it.
+-- who gave way to a newcomer is the first of the chain that waits at its four-tuple, and else none does
+abbrev pub GaveWayIn : Wish → Option Change → List Seen → Type 0
+GaveWayIn wish None xs = find (waits wish.card) (row_of xs) ≡ None
+GaveWayIn wish (Some unhash) xs =
+    (x : Hashed) × (find (waits wish.card) (row_of xs) ≡ Some x) × (x.slot ≡ unhash.slot) × (x.card ≡ unhash.card)
+
+-- as the hash began, the whole chain was known under the lock, and nobody there kept the four-tuple
 pub record SawFree (wish : Wish) (hash : Change) (replaced : Option Change) (c d : Side) : Type 0 where
-  pub act : hash.act ≡ acts.Hash
-  pub earlier : List Sight
   pub sight : Sight
-  pub sights : d.view.sights ≡ earlier ++ sight ∷ []
+  pub there : Among d.view.sights sight
   pub bucket : sight.bucket ≡ hash.bucket ∷ []
-  pub since : sight.since ≡ c.view.seen
   pub whole : sight.whole ≡ 1
-  pub others : List Seen
-  pub listed : Each (λ (s : Seen). (s.slot ≡ hash.slot) ⊎ Among others s) sight.listed
-  pub cards : Each HasCard others
-  pub unkept : find (keeps wish.card wish.moment wish.rule) (row_of others) ≡ None
-  pub unwaited : replaced ≡ None → find (waits wish.card) (row_of others) ≡ None
+  pub instant : sight.instant ≡ hash.begin
+  pub cards : Each HasCard sight.listed
+  pub unkept : find (keeps wish.card wish.moment wish.rule) (row_of sight.listed) ≡ None
+  pub gave : GaveWayIn wish replaced sight.listed
 
 abbrev pub ShowsNone : Tried → Side → Side → Type 0
 ShowsNone (no_slot number owned held) c d = SawNone (record { number = number; owned = owned; held = held }) c d

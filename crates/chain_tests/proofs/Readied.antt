@@ -4,8 +4,8 @@ use Rattle.table_rule.specs.declared.view.View.{View}
 use Rattle.table_rule.specs.Calls.{IsIdle, HasShares}
 use Rattle.table_rule.specs.Plays.{unlocking}
 
-pub unlocked_ready : (v w : View) (n : ℕ) → w ≡ unlocking v → IsIdle v.slot → v.book.opened ≡ [] → HasShares n v → IsIdle w.slot × (w.book.opened ≡ []) × (w.chain.locked ≡ []) × HasShares n w
-unlocked_ready v w n is idle opened share = subst (λ (x : View). IsIdle x.slot × (x.book.opened ≡ []) × (x.chain.locked ≡ []) × HasShares n x) (sym is) (idle, opened, refl, share)
+pub unlocked_ready : (v w : View) (n instant : ℕ) → w ≡ unlocking v instant → IsIdle v.slot → v.book.opened ≡ [] → HasShares n v → IsIdle w.slot × (w.book.opened ≡ []) × (w.chain.locked ≡ []) × HasShares n w
+unlocked_ready v w n instant is idle opened share = subst (λ (x : View). IsIdle x.slot × (x.book.opened ≡ []) × (x.chain.locked ≡ []) × HasShares n x) (sym is) (idle, opened, refl, share)
 
 -- two of the numbers are for the next change
 pub shares_split : (v : View) (n : ℕ) → HasShares ((n + 1) + (n + 1)) v → HasShares ((n + n) + 2) v

@@ -1,16 +1,16 @@
 -- What a change leaves of all that its pass saw before.
 use Rattle.std.proofs.lemmas.List.{append-nil}
-use Rattle.std.proofs.Common.{◌≡◌, ℕ, ◌≤◌, List, [], ◌∷◌, ◌++◌, inl, inr, ⊎_elim, cond, Bool, eq-eqb, ne_eqb, sym, refl, ap, ◌∙◌, arith, map}
+use Rattle.std.proofs.Common.{◌≡◌, ℕ, ◌≤◌, List, [], ◌∷◌, ◌++◌, inl, inr, ⊎_elim, cond, Bool, eq-eqb, ne_eqb, sym, refl, ap, ◌∙◌, arith, map, ◌<◌, append_assoc}
 use mathlib.Core.Logic.{dite}
 use native.Mathlib.Decide.{ℕ_discrete}
 use Rattle.shared_slots.specs.Claims.{IsFull, sight_by}
 use Rattle.shared_slots.specs.declared.fresh.Full.{Full}
 use Rattle.table_rule.specs.Book.{open-end}
-use Rattle.table_rule.specs.Plays.{settled, settled_one, beginning, dropping_beginning}
+use Rattle.table_rule.specs.Plays.{settled, settled_one, sight_at, beginning, dropping_beginning}
 use Rattle.table_rule.specs.declared.view.Layout.{Layout}
 use Rattle.table_rule.specs.declared.view.Sight.{Sight}
 use Rattle.table_rule.specs.declared.view.View.{View}
-use Rattle.nulls_chain.specs.Changes.{IsSettled, AreSettled, Sees}
+use Rattle.nulls_chain.specs.Changes.{IsSettled, AreSettled, Sees, SawAt}
 
 one-is : (least r : ℕ) (s : Sight) → least ≤ r → IsSettled least s (settled_one r s)
 one-is least r s le = dite (ℕ_discrete s.until open-end)
@@ -48,6 +48,19 @@ pub settled-append : (xs ys : List Sight) (r : ℕ) → settled (xs ++ ys) r ≡
 settled-append [] ys r = refl
 settled-append (x ∷ xs) ys r = ap (λ (l : List Sight). settled_one r x ∷ l) (settled-append xs ys r)
 
+-- a sighting that has ended stays as it is
+ended_one : (s : Sight) (r : ℕ) → s.until < open-end → settled_one r s ≡ s
+ended_one s r few = ap (λ (b : Bool). cond b (record s { until = r }) s) (ne_eqb s.until open-end (λ e. omega (arith, few, e)))
+
+-- what was seen as a change began is there once it has ended
+pub saw_at : (v w : View) (b e : ℕ) (more : List Sight) → b < open-end → w.sights ≡ settled (settled v.sights b ++ sight_at v b ∷ more) e → SawAt v w b
+saw_at v w b e more few is = (
+  few,
+  settled (settled v.sights b) e,
+  settled more e,
+  is ∙ (settled-append (settled v.sights b) (sight_at v b ∷ more) e ∙ ap (λ (s : Sight). settled (settled v.sights b) e ++ s ∷ settled more e) (ended_one (sight_at v b) e few)),
+)
+
 -- a change, with what was seen between its two numbers
 pub saw : (v w : View) (b e : ℕ) (more : List Sight) → v.seen ≤ b → b ≤ e → w.sights ≡ settled (settled v.sights b ++ more) e → Sees v w
 saw v w b e more low order is = (
@@ -61,9 +74,9 @@ saw v w b e more low order is = (
 pub saw_none : (layout : Layout) (v u w : View) (b : ℕ) (f : Full) → IsFull layout (beginning v b) u f → v.seen ≤ b → w ≡ dropping_beginning u → Sees v w
 saw_none layout v u w b f full low is = (
   settled v.sights b,
-  map (sight_by (beginning v b)) full.1.reads,
+  sight_at v b ∷ map (sight_by (beginning v b)) full.1.reads,
   are_settled v.seen b v.sights low,
-  ap (λ (x : View). x.sights) is ∙ ap (λ (x : View). x.sights) full.1.is,
+  ap (λ (x : View). x.sights) is ∙ (ap (λ (x : View). x.sights) full.1.is ∙ append_assoc (settled v.sights b) (sight_at v b ∷ []) (map (sight_by (beginning v b)) full.1.reads)),
 )
 
 all_stand : (least : ℕ) (xs : List Sight) → AreSettled least xs xs

@@ -3,7 +3,7 @@
 --
 -- Of a change, contracts cite `Adds`, which is what the pass has more then, and `Rest`, `Sees`, `PlacesStay` and
 -- `OthersStay`, which say what stays. From these it is to be read upwards.
-use Rattle.std.specs.Prelude.{true, ◌+◌, ◌≡◌, ◌≢◌, ◌==◌, ℕ, ◌<◌, ◌≤◌, ◌%◌, List, [], ◌∷◌, ◌++◌, Option, None, Some, Bool, cond, false, find, slice_index, ◌⊎◌}
+use Rattle.std.specs.Prelude.{true, ◌+◌, ◌≡◌, ◌≢◌, ◌==◌, ℕ, zero, suc, ◌<◌, ◌≤◌, ◌%◌, List, [], ◌∷◌, ◌++◌, Option, None, Some, Bool, cond, false, find, slice_index, ◌⊎◌}
 use mathlib.Core.Option.{some}
 use lib.ListN.{get_elem?}
 use Rattle.list_words.specs.Lists.{Each}
@@ -18,7 +18,7 @@ use Rattle.table_rule.specs.Book.{open-end}
 use Rattle.table_rule.specs.Calls.{Tells, HasShares, seen_of}
 use Rattle.table_rule.specs.Owners.{IsPlace}
 use Rattle.table_rule.specs.Sole.{IsSole, chain_from}
-use Rattle.table_rule.specs.Plays.{without}
+use Rattle.table_rule.specs.Plays.{without, sight_at, IsAbove}
 use Rattle.table_rule.specs.Words.{words_of}
 use Rattle.table_rule.specs.declared.view.BookView.{BookView}
 use Rattle.table_rule.specs.declared.view.Change.{Change}
@@ -66,12 +66,23 @@ going v ahead met = record v { walked = v.walked ++ v.ahead; ahead = ahead; met 
 abbrev pub Same : View → View → Type 0
 Same v w = (w.slot.parts ≡ v.slot.parts) × (w.slot.holds ≡ v.slot.holds) × (w.book.opened ≡ []) × (v.seen ≤ w.seen)
 
+-- a sighting has what was walked of the locked bucket, as that number of the clock was drawn
+abbrev pub SawAt : View → View → ℕ → Type 0
+SawAt v w number =
+    (number < open-end) × (front : List Sight) × (back : List Sight) × (w.sights ≡ front ++ sight_at v number ∷ back)
+
+-- a hash's chain was seen as its beginning was drawn
+abbrev pub Began : (kind : ℕ) → View → View → ℕ → Type 0
+Began zero v w number = Unit {0}
+Began (suc n) v w number = SawAt v w number
+
 -- one change more is closed, later than all that the pass had seen, with these numbers
 abbrev pub AddsAt : View → View → ℕ → ℕ → ℕ → List ℕ → ℕ → ℕ → Type 0
 AddsAt v w kind bucket slot card b e =
     (v.seen ≤ b) × (b < e) × (e < w.seen)
     × (w.book.closed ≡ v.book.closed
     ++ record { kind = kind; bucket = bucket; slot = slot; card = card; begins = b; ends = e } ∷ []) × Same v w
+    × IsAbove v b × Began kind v w b
 
 -- the same, with some numbers
 abbrev pub Adds : View → View → ℕ → ℕ → ℕ → List ℕ → Type 0

@@ -22,7 +22,7 @@ pub step_refines : (n : ℕ) (own next : Own) (t after : Tables) (flat : Flat) (
     → StepRefines n flat command s next after
 step_refines n own next t new flat command s few room not_look means goes plays =
     let r : Refines n (record { tables = new; result = answers next s.reply }) flat command =
-    plans_refine n own t flat command (record { tables = new; result = answers next s.reply }) few room not_look means
+    plans_refine n own t flat command (record { tables = new; result = answers next s.reply }) (omega (arith, few)) room not_look means
     (played_runs (plan flat.header own command) t new s.deeds (answers next s.reply) goes plays) in
     record { reply = r.reply; means = r.means }
 

@@ -77,7 +77,7 @@ module _ (In : Change → Type 0) where
           left = ready.left;
           room = ready.room;
           none = ready.none;
-          means = others_stay n m own ready.own t flat c (record { tables = between; result = answers are.0 turn.taken.reply }) few (omega (arith, room)) none.0 apart means ready.means
+          means = others_stay n m own ready.own t flat c (record { tables = between; result = answers are.0 turn.taken.reply }) (omega (arith, few)) (omega (arith, room)) none.0 apart means ready.means
               (played_runs (plan flat.header own c) t between turn.taken.deeds (answers are.0 turn.taken.reply) is.goes plays);
           are = subst (λ (h : Header). AreStepsOf h In ready.own ready.left (steps_in m turns)) (sym (step_stays flat n c).0)
               (subst (AreStepsOf flat.header In ready.own ready.left) (others_turn m turn turns (turn.section == m) refl (λ e. apart (sym e))) ready.are);

@@ -110,7 +110,10 @@ module _ (In : Change → Type 0) (once : (g h : Change) → IsLife In g → IsL
             (each_ascending order_of (IsOfOneLife In span.t0 span.t1) (map card_in l.lives)
             (each_map (IsOfOneLife In span.t0 span.t1) card_in l.lives
             (each_weaken (IsThere span.t0 span.t1) (λ h. IsOfOneLife In span.t0 span.t1 h.card) l.lives (of_one span.t0 span.t1) l.stood)));
-        all = l.all;
+        all = λ h life t. l.all h life record {
+          before = let low = l.since h.bucket in omega (arith, t.before, low);
+          still = λ u there after. let late = t.still u there after in let high = l.until h.bucket in omega (arith, late, high);
+        };
       }
 
 module _ (race : Race) (once : (g h : Change) → IsLife (Among race.book) g → IsLife (Among race.book) h → g.card.name ≡ h.card.name → g.card.kind ≡ h.card.kind → g ≡ h) where

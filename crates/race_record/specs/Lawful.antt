@@ -38,7 +38,7 @@ use Rattle.race_record.specs.declared.record.Looked.{Looked}
 use Rattle.race_record.specs.declared.record.Looked.TheVariants as looks
 use Rattle.race_record.specs.Deeds.{Given, Taken, Vain, entries_in, changes_in, given_in, taken_in, vain_in, drawn_in}
 use Rattle.race_record.specs.Goes.{Goes}
-use Rattle.race_record.specs.Stages.{IsInStages}
+use Rattle.race_record.specs.Stages.{IsInStages, IsOfItsTime}
 use Rattle.race_record.specs.Record.{Race, Step, Sighting, steps_of, deeds_of, all_deeds}
 
 -- a fact of each item and of its number, where the first has that number
@@ -129,22 +129,39 @@ pub record IsBookOf (race : Race) : Type 0 where
   pub slots : FitSlots race.shape.slots race.book
   pub numbers : SameItems (drawn_in (all_deeds race)) (numbers_below race.clock)
 
+module _ (In : Change → Type 0) where
+  -- the life stood at that number of the clock: it had been hashed, and nobody had begun to unhash it
+  abbrev pub StandsAt : Change → ℕ → Type 0
+  StandsAt h number = Throughout In h number number
+
+  -- in the slot of who gave way one of its card stood as the newcomer's hash began
+  pub record GaveWay (g : Given) (unhash : Change) : Type 0 where
+    pub life : Change
+    pub is : IsLife In life
+    pub slot_is : life.slot ≡ unhash.slot
+    pub card_is : life.card ≡ unhash.card
+    pub stands : StandsAt life g.hash.begin
+
+  -- As the newcomer's hash began, nobody stood in its chain that keeps the four-tuple, and no TIME_WAIT of the
+  -- four-tuple did unless one gave way.
+  pub record WasFree (g : Given) : Type 0 where
+    pub unkept : (h : Change) → IsLife In h → h.bucket ≡ g.hash.bucket
+        → keeps_from g.wish.card g.wish.moment g.wish.rule h.card ≡ true → ¬ (StandsAt h g.hash.begin)
+    pub unwaited : g.replaced ≡ None → (h : Change) → IsLife In h → h.bucket ≡ g.hash.bucket
+        → waits_at g.wish.card h.card ≡ true → ¬ (StandsAt h g.hash.begin)
+    pub gave : (unhash : Change) → g.replaced ≡ Some unhash → GaveWay g unhash
+
 module _ (In : Change → Type 0) (from to : ℕ) where
-  -- a socket of that name stood between the two numbers that keeps the four-tuple
+  -- at some number between the two a socket of that name stood that keeps the four-tuple
   pub record WasKept (t : Taken) : Type 0 where
     pub life : Change
     pub is : IsLife In life
     pub name : life.card.name ≡ t.name
     pub keeps : keeps_from t.wish.card t.wish.moment t.wish.rule life.card ≡ true
-    pub stood : Stood In life from to
-
-  -- nobody in the newcomer's chain that keeps the four-tuple was there throughout; and where no TIME_WAIT gave way,
-  -- none of the four-tuple was
-  pub record WasFree (g : Given) : Type 0 where
-    pub unkept : (h : Change) → IsLife In h → h.bucket ≡ g.hash.bucket
-        → keeps_from g.wish.card g.wish.moment g.wish.rule h.card ≡ true → ¬ (Throughout In h from to)
-    pub unwaited : g.replaced ≡ None → (h : Change) → IsLife In h → h.bucket ≡ g.hash.bucket
-        → waits_at g.wish.card h.card ≡ true → ¬ (Throughout In h from to)
+    pub number : ℕ
+    pub since : from ≤ number
+    pub until : number ≤ to
+    pub stands : StandsAt In life number
 
   -- a life stood in that slot between the two numbers
   pub record WasOwned (slot : ℕ) : Type 0 where
@@ -180,7 +197,7 @@ TakenWereKept race s = Each (WasKept (Among race.book) s.from s.to) (taken_in s.
 
 -- each four-tuple that a step was given was free
 abbrev pub GivenWereFree : Race → Step → Type 0
-GivenWereFree race s = Each (WasFree (Among race.book) s.from s.to) (given_in s.deeds)
+GivenWereFree race s = Each (WasFree (Among race.book)) (given_in s.deeds)
 
 -- each slot that a step sought in vain was owned or held, since the number was drawn for the search
 abbrev pub SlotsWereUsed : Race → Step → Type 0
@@ -192,19 +209,24 @@ SlotsWereUsed race s =
 abbrev pub HaveOnePlace : Change → Change → Type 0
 HaveOnePlace g h = (g.bucket ≡ h.bucket) × (g.slot ≡ h.slot)
 
--- What was listed between two numbers of a step: each card is that of a life that stood at some time between the two
--- loads of the clock, no two of them of lives in one place, and of each life that was there throughout the card is
--- among them.
+-- What was listed between two numbers of a step: each chain as it was at one number between the two loads of the
+-- clock, and none earlier than a chain before it. Each card is that of a life that stood at its chain's number, no two
+-- of them of lives in one place, and of each life that stood then the card is among them.
 pub record IsListed (In : Change → Type 0) (from to : ℕ) (cards : List Card) (span : Span) : Type 0 where
   pub begins : from ≤ span.t0
   pub order : span.t0 ≤ span.t1
   pub ends : span.t1 ≤ to
   pub sorted : cards ≡ ascending cards
+  pub number : ℕ → ℕ
+  pub since : (bucket : ℕ) → span.t0 ≤ number bucket
+  pub until : (bucket : ℕ) → number bucket ≤ span.t1
+  pub ascend : (b c : ℕ) → b ≤ c → number b ≤ number c
   pub lives : List Change
   pub cards_are : SameItems cards (map (λ (h : Change). h.card) lives)
   pub stood : Each (λ h. IsLife In h × Stood In h span.t0 span.t1) lives
+  pub stands : Each (λ h. StandsAt In h (number h.bucket)) lives
   pub apart : Pairs (λ g h. ¬ (HaveOnePlace g h)) lives
-  pub all : (h : Change) → IsLife In h → Throughout In h span.t0 span.t1 → Among cards h.card
+  pub all : (h : Change) → IsLife In h → StandsAt In h (number h.bucket) → Among cards h.card
 
 -- what a step of that command listed: a `dump` one listing, between two loads of the clock, any other command nothing
 abbrev pub ListsAs : Race → Command → Step → Type 0
@@ -217,7 +239,7 @@ abbrev pub Lists : Race → Step → Type 0
 Lists race s = ListsAs race s.command s
 
 -- a packet's receipt: by the seed, between two loads of the clock, explained by the changes, as a whole and each of
--- its three lookups; and where it was given up, it names the bucket
+-- its three lookups; what was found was there at that time; and where it was given up, it names the bucket
 pub record IsReceiptOf (In : Change → Type 0) (shape : Shape) (seed clock : ℕ) (packet : Packet)
     (r : Receipt) : Type 0 where
   pub packet_is : r.packet ≡ packet
@@ -226,6 +248,7 @@ pub record IsReceiptOf (In : Change → Type 0) (shape : Shape) (seed clock : �
   pub most : r.t1 ≤ clock
   pub explained : IsExplained In shape r
   pub stages : IsInStages In shape seed packet r.t0 r.t1 r.answer
+  pub life : IsOfItsTime In r.t0 r.t1 r.answer
   pub bucket : NamesItsBucket shape seed packet r.answer
 
 module _ (In : Change → Type 0) (shape : Shape) (seed clock : ℕ) where
@@ -280,15 +303,15 @@ pub record Lawful (script : Script) (capture : Capture) (race : Race) : Type 0 w
   -- the book holds what the steps changed, and no number of the clock is without its use
   pub book : IsBookOf race
   pub serial : IsSerial (Among race.book) race.shape race.seed
-  -- whoever is reported to have kept a four-tuple stood meanwhile
+  -- whoever is reported to have kept a four-tuple stood then
   pub taken : Each (TakenWereKept race) (steps_of race)
-  -- and none who does was there throughout where one was given
+  -- and none who does stood as the hash began to which one was given
   pub given : Each (GivenWereFree race) (steps_of race)
   -- no slot was free where none was reported to be
   pub slots : Each (SlotsWereUsed race) (steps_of race)
   -- no count was taken where no packet was looked up: so no slot was only held
   pub counted : Each IsNoPacket capture.items → race.counts ≡ 0
-  -- each dump lists what was there throughout, and nothing that wasn't there
+  -- each dump lists exactly what stood in each chain, at one number for each
   pub dumps : Each (Lists race) (steps_of race)
   -- each item of the capture has its answer, which the book explains
   pub items : AreAnswered (Among race.book) race.shape race.seed race.clock capture.items race.looked

@@ -1,5 +1,5 @@
 -- A worked record of refusals: two sections want one four-tuple; a slot is sought while a lookup holds the last one;
--- and lookups that were never answered. Our own.
+-- and a lookup that was given up. Our own.
 --
 -- To be read from the end: `refused_race` is the record, by `refused_script` and `refused_capture`; what it is made of
 -- stands above it.
@@ -49,7 +49,7 @@ to_d = record { src = 0x0A000002; sport = 80; dst = 0x0A000001; dport = 92; dev 
 abbrev pub refused_capture : Capture
 refused_capture =
     record {
-      items = items.Packet to_d ∷ items.Packet to_d ∷ items.Packet to_d ∷ items.Packet to_d ∷ items.Short ∷ [];
+      items = items.Packet to_d ∷ items.Short ∷ [];
       cut = false;
     }
 
@@ -112,7 +112,7 @@ held_d = record { slot = 1; since = 7; until = 7 }
 abbrev pub refused_race : Race
 refused_race =
     record {
-      lookers = 4;
+      lookers = 1;
       passes = 1;
       shape = record { slots = 2; bind = 1; hash = 1; listen = 1 };
       seed = 0;
@@ -139,14 +139,11 @@ refused_race =
       book = hash_a ∷ hash_d ∷ unhash_d ∷ [];
       looked =
           looks.Answered (receipt to_d (found.Again 0 (ends.Dead 1)) 4 5)
-          ∷ looks.Answered (receipt to_d (found.Again 1 (ends.Foreign 0)) 1 3)
-          ∷ looks.Answered (receipt to_d (found.Again 0 (ends.Changed 1)) 2 5)
-          ∷ looks.Answered (receipt to_d (found.Again 0 (ends.Long 3)) 1 3)
           ∷ looks.Short
           ∷ [];
-      shares = (0 ∷ 4 ∷ []) ∷ (1 ∷ []) ∷ (2 ∷ []) ∷ (3 ∷ []) ∷ [];
+      shares = (0 ∷ 1 ∷ []) ∷ [];
       cut = false;
-      counts = 4;
+      counts = 1;
       sightings = held_d ∷ [];
       clock = 7;
     }

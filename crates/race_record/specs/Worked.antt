@@ -20,6 +20,7 @@ use Rattle.chain_book.specs.declared.book.Act.{Act}
 use Rattle.chain_book.specs.declared.book.Act.TheVariants as acts
 use Rattle.chain_book.specs.declared.book.Change.{Change}
 use Rattle.chain_book.specs.declared.book.PacketAnswer.{PacketAnswer}
+use Rattle.chain_book.specs.declared.book.PassEnd.TheVariants as ends
 use Rattle.chain_book.specs.declared.book.PacketAnswer.TheVariants as found
 use Rattle.chain_book.specs.declared.book.Receipt.{Receipt}
 use Rattle.chain_book.specs.declared.outcome.Replace.TheVariants as rules
@@ -145,8 +146,9 @@ abbrev pub dump_race : Race
 dump_race = record first_race { sections = and_then (listing (card_a ∷ []) 2 2) }
 
 -- Two sections beside each other: the first accepts a connection, closes it, and accepts one of the same four-tuple,
--- which replaces the TIME_WAIT, so that none is left to be reaped; the other listens meanwhile. Of two packets one
--- goes to the connections, and the other to the second listener while it is being hashed.
+-- which replaces the TIME_WAIT, so that none is left to be reaped; the other listens meanwhile. Of the packets one
+-- goes to the second listener while it is being hashed, and the others to the connections: one finds the newcomer, and
+-- three are given up, since the newcomer came into the slot that the first connection had left.
 abbrev pub second_script : Script
 second_script =
     record {
@@ -165,7 +167,10 @@ packet dst dport = record { src = 0x0A000002; sport = 1000; dst = dst; dport = d
 abbrev pub second_capture : Capture
 second_capture =
     record {
-      items = items.Packet (packet 0x0A000001 80) ∷ items.Packet (packet 0x0A000009 90) ∷ items.Skip ∷ [];
+      items =
+          items.Packet (packet 0x0A000001 80) ∷ items.Packet (packet 0x0A000009 90)
+          ∷ items.Packet (packet 0x0A000001 80) ∷ items.Packet (packet 0x0A000001 80)
+          ∷ items.Packet (packet 0x0A000001 80) ∷ items.Skip ∷ [];
       cut = true;
     }
 
@@ -249,7 +254,7 @@ receipt packet answer t0 t1 = record { packet = packet; seed = 0; answer = answe
 abbrev pub second_race : Race
 second_race =
     record {
-      lookers = 2;
+      lookers = 5;
       passes = 1;
       shape = record { slots = 4; bind = 1; hash = 1; listen = 1 };
       seed = 0;
@@ -280,9 +285,12 @@ second_race =
       looked =
           looks.Answered (receipt (packet 0x0A000001 80) (found.Found card_d) 9 11)
           ∷ looks.Answered (receipt (packet 0x0A000009 90) found.None 4 6)
+          ∷ looks.Answered (receipt (packet 0x0A000001 80) (found.Again 0 (ends.Changed 1)) 8 11)
+          ∷ looks.Answered (receipt (packet 0x0A000001 80) (found.Again 0 (ends.Foreign 1)) 4 11)
+          ∷ looks.Answered (receipt (packet 0x0A000001 80) (found.Again 0 (ends.Long 5)) 8 11)
           ∷ looks.Skip
           ∷ [];
-      shares = (0 ∷ 2 ∷ []) ∷ (1 ∷ []) ∷ [];
+      shares = (0 ∷ 5 ∷ []) ∷ (1 ∷ []) ∷ (2 ∷ []) ∷ (3 ∷ []) ∷ (4 ∷ []) ∷ [];
       cut = true;
       counts = 1;
       sightings = [];

@@ -2,7 +2,7 @@
 --
 -- Each definition of type `Type 0`, such as `NumberTooMany`, says of one record that it isn't lawful. What the record
 -- is made of stands above it, and in Worked and Refused.
-use Rattle.std.specs.Prelude.{ℕ, List, [], ◌∷◌, ◌++◌, false, None}
+use Rattle.std.specs.Prelude.{ℕ, List, [], ◌∷◌, ◌++◌, false, None, Some}
 use Rattle.capture_reader.specs.declared.packet.Item.TheVariants as items
 use Rattle.capture_reader.specs.Captures.{Capture}
 use Rattle.bind_buckets.specs.declared.request.Entry.{Entry}
@@ -21,16 +21,17 @@ use Rattle.chain_book.specs.declared.book.PassEnd.TheVariants as ends
 use Rattle.flat_list.specs.declared.command.Command.TheVariants as commands
 use Rattle.flat_list.specs.declared.command.Reply.TheVariants as replies
 use Rattle.flat_list.specs.Owned.{connected_to, card_as}
-use Rattle.flat_list.specs.Rows.{with_slots, a, b, e, any, one, two, socket, reusable, connect}
+use Rattle.flat_list.specs.Rows.{with_slots, a, b, d, e, any, one, two, socket, reusable, connect, accept}
 use Rattle.flat_list.specs.Script.{Script}
 use Rattle.flat_list.specs.Sections.{name_at}
 use Rattle.race_record.specs.declared.record.Looked.{Looked}
 use Rattle.race_record.specs.declared.record.Looked.TheVariants as looks
-use Rattle.race_record.specs.Deeds.{Deed, hashed, no_slot, entered, inserted, added, left}
+use Rattle.race_record.specs.Deeds.{Deed, hashed, kept_out, no_slot, entered, inserted, added, left, reaped}
 use Rattle.race_record.specs.Record.{Race, Step}
 use Rattle.race_record.specs.Lawful.{Lawful}
 use Rattle.race_record.specs.Worked.{note, change, step, and_then, listing, packet, receipt, first_script, dump_script, no_capture, first_race, first_bind, first_may, first_listen, owner_a, card_a, hash_a, card_d, owner_e, card_e, handshake_script, handshake_capture, handshake_race, card_r, hash_r, inherit_child, acknowledged_by, found_by_two}
 use Rattle.race_record.specs.Refused as refused
+use Rattle.race_record.specs.Worked as worked
 
 -- a number of the clock that belongs to nothing
 abbrev pub NumberTooMany : Type 0
@@ -98,6 +99,74 @@ CauseNeverWas = ¬ (Lawful first_script one_packet (with_answer (found.Again 1 (
 -- one that was given up in a bucket that isn't the packet's
 abbrev pub AnotherBucket : Type 0
 AnotherBucket = ¬ (Lawful first_script one_packet (with_answer (found.Again 2 (ends.Dead 0))))
+
+-- one that was given up at a slot while it was hashed into another chain
+abbrev pub DeadElsewhere : Type 0
+DeadElsewhere =
+    ¬ (Lawful first_script one_packet
+    (record first_race { looked = answered (found.Again 0 (ends.Dead 0)) 0 1 ∷ []; shares = (0 ∷ []) ∷ [] }))
+
+-- one that was led through too many links, though no slot was left and used again
+abbrev pub StrayedNowhere : Type 0
+StrayedNowhere =
+    ¬ (Lawful first_script one_packet
+    (record first_race { looked = answered (found.Again 1 (ends.Long 3)) 0 2 ∷ []; shares = (0 ∷ []) ∷ [] }))
+
+-- a listener that leaves; a connection of another section comes into its slot, in another chain, before the listener's
+-- unhash has its end; and a packet that is looked up only then finds the listener
+abbrev pub late_script : Script
+late_script =
+    record {
+      header = with_slots 1;
+      sections =
+          (socket a ∷ commands.Bind a (one 80) ∷ commands.Listen a ∷ commands.Drop a ∷ [])
+          ∷ (reusable b ∷ commands.Bind b (one 90) ∷ connect b 80 ∷ [])
+          ∷ [];
+      capture = None;
+    }
+
+abbrev pub late_unhash_a : Change
+late_unhash_a = change 1 0 card_a acts.Unhash 2 5
+
+abbrev pub hash_late_b : Change
+hash_late_b = change 0 0 (refused.full_card refused.owner_b) acts.Hash 3 4
+
+abbrev pub late_bind_b : Note Entry
+late_bind_b = note 3 2 (requests.Bind refused.owner_b) answers.Done
+
+abbrev pub late_connect_b : Note Entry
+late_connect_b = note 4 2 (requests.ConnectBound (name_at 2 0) 0x0A000001 0x0A000002 80) answers.Done
+
+abbrev pub late_remove_a : Note Entry
+late_remove_a = note 5 1 (requests.Remove (name_at 1 0)) answers.Done
+
+abbrev pub late_race : Race
+late_race =
+    record first_race {
+      shape = record { slots = 1; bind = 1; hash = 1; listen = 1 };
+      sections =
+          (step (socket a) replies.Ok [] 0 0
+          ∷ step (commands.Bind a (one 80)) (replies.Port 80) (entered 80 first_bind ∷ []) 0 0
+          ∷ step (commands.Listen a) (replies.Port 80)
+          (entered 80 first_may ∷ added card_a (hashed hash_a None) ∷ entered 80 first_listen ∷ []) 0 2
+          ∷ step (commands.Drop a) replies.Ok (left late_unhash_a ∷ entered 80 late_remove_a ∷ []) 2 6
+          ∷ [])
+          ∷ (step (reusable b) replies.Ok [] 0 0
+          ∷ step (commands.Bind b (one 90)) (replies.Port 90) (entered 90 late_bind_b ∷ []) 0 0
+          ∷ step (connect b 80) (replies.End (one 90))
+          (inserted (refused.wished refused.owner_b) (hashed hash_late_b None) ∷ entered 90 late_connect_b ∷ []) 0 6
+          ∷ [])
+          ∷ [];
+      journals = (first_bind ∷ first_may ∷ first_listen ∷ late_bind_b ∷ late_connect_b ∷ late_remove_a ∷ []) ∷ [];
+      book = hash_a ∷ hash_late_b ∷ late_unhash_a ∷ [];
+      looked = answered (found.Found card_a) 5 6 ∷ [];
+      shares = (0 ∷ []) ∷ [];
+      counts = 1;
+      clock = 6;
+    }
+
+abbrev pub FoundTooLate : Type 0
+FoundTooLate = ¬ (Lawful late_script one_packet late_race)
 
 -- two full sockets of one four-tuple
 abbrev pub twins_script : Script
@@ -203,6 +272,71 @@ kept_race =
 
 abbrev pub GivenThoughKept : Type 0
 GivenThoughKept = ¬ (Lawful kept_script no_capture kept_race)
+
+-- a newcomer that leaves the TIME_WAIT of its four-tuple standing, which is reaped later
+abbrev pub waiting_race : Race
+waiting_race =
+    record worked.second_race {
+      sections =
+          (step (socket a) replies.Ok [] 0 0
+          ∷ step (commands.Bind a (one 80)) (replies.Port 80) (entered 80 worked.bind_a ∷ []) 0 0
+          ∷ step (commands.Listen a) (replies.Port 80)
+          (entered 80 worked.may_a ∷ added card_a (hashed hash_a None) ∷ entered 80 worked.listen_a ∷ []) 0 2
+          ∷ step (accept a b) replies.Ok
+          (inserted (worked.newcomer worked.card_b) (hashed worked.hash_b None) ∷ entered 80 worked.inherit_b ∷ []) 2 5
+          ∷ step (commands.Close b) replies.TimeWait
+          (added worked.card_w (hashed worked.hash_w None) ∷ left worked.unhash_b ∷ entered 80 worked.waits_b ∷ []) 5 10
+          ∷ step (accept a d) replies.Ok
+          (inserted (worked.newcomer card_d) (hashed worked.hash_d None) ∷ entered 80 worked.inherit_d ∷ []) 10 12
+          ∷ step (commands.At 60) replies.Ok [] 12 12
+          ∷ step commands.Reap (replies.Count 1)
+          (reaped worked.card_w (Some worked.unhash_w) ∷ entered 80 worked.gone_b ∷ []) 12 14
+          ∷ [])
+          ∷ (step (socket e) replies.Ok [] 0 0
+          ∷ step (commands.Bind e (any 90)) (replies.Port 90) (entered 90 worked.bind_e ∷ []) 0 0
+          ∷ step (commands.Listen e) (replies.Port 90)
+          (entered 90 worked.may_e ∷ added card_e (hashed worked.hash_e None) ∷ entered 90 worked.listen_e ∷ []) 0 14
+          ∷ [])
+          ∷ [];
+    }
+
+abbrev pub WaitLeftStanding : Type 0
+WaitLeftStanding = ¬ (Lawful worked.second_script worked.second_capture waiting_race)
+
+-- a four-tuple that was refused before whoever is said to keep it stood
+abbrev pub soon_script : Script
+soon_script =
+    record {
+      header = with_slots 2;
+      sections =
+          (reusable a ∷ commands.Bind a (one 90) ∷ connect a 80 ∷ [])
+          ∷ (reusable b ∷ commands.Bind b (one 90) ∷ connect b 80 ∷ [])
+          ∷ [];
+      capture = None;
+    }
+
+abbrev pub soon_race : Race
+soon_race =
+    record first_race {
+      sections =
+          (step (reusable a) replies.Ok [] 0 0
+          ∷ step (commands.Bind a (one 90)) (replies.Port 90) (entered 90 refused.bind_a ∷ []) 0 0
+          ∷ step (connect a 80) (replies.End (one 90))
+          (inserted (refused.wished refused.owner_a) (hashed refused.hash_a None) ∷ entered 90 refused.connect_a
+          ∷ []) 0 2
+          ∷ [])
+          ∷ (step (reusable b) replies.Ok [] 0 0
+          ∷ step (commands.Bind b (one 90)) (replies.Port 90) (entered 90 refused.bind_b ∷ []) 0 0
+          ∷ step (connect b 80) replies.Eaddrnotavail
+          (inserted (refused.wished refused.owner_b) (kept_out (name_at 1 0)) ∷ []) 0 1
+          ∷ [])
+          ∷ [];
+      journals = (refused.bind_a ∷ refused.connect_a ∷ refused.bind_b ∷ []) ∷ [];
+      book = refused.hash_a ∷ [];
+    }
+
+abbrev pub RefusedTooSoon : Type 0
+RefusedTooSoon = ¬ (Lawful soon_script no_capture soon_race)
 
 -- slots that are said to be held by lookups alone, though nothing was looked up
 abbrev pub held_race : Race
@@ -380,6 +514,77 @@ abbrev pub ListsBackwards : Type 0
 ListsBackwards =
     ¬ (Lawful dumps_script no_capture
     (dumps_race (listing_from_to (card_a ∷ []) 0 2 ∷ listing_from_to [] 0 0 ∷ [])))
+
+-- one that lists neither a connection nor the TIME_WAIT that it left, while that is being done
+abbrev pub closing_script : Script
+closing_script =
+    record {
+      header = with_slots 3;
+      sections =
+          (reusable a ∷ commands.Bind a (one 90) ∷ connect a 80 ∷ commands.Close a ∷ []) ∷ (commands.Dump ∷ []) ∷ [];
+      capture = None;
+    }
+
+abbrev pub closing_race : Race
+closing_race =
+    record kept_race {
+      sections =
+          (step (reusable a) replies.Ok [] 0 0
+          ∷ step (commands.Bind a (one 90)) (replies.Port 90) (entered 90 refused.bind_a ∷ []) 0 0
+          ∷ step (connect a 80) (replies.End (one 90))
+          (inserted (refused.wished refused.owner_a) (hashed refused.hash_a None) ∷ entered 90 refused.connect_a
+          ∷ []) 0 2
+          ∷ step (commands.Close a) replies.TimeWait
+          (added card_w (hashed hash_w None) ∷ left unhash_a ∷ entered 90 waits_a ∷ []) 2 6
+          ∷ [])
+          ∷ (listing_from_to [] 2 6 ∷ [])
+          ∷ [];
+      journals = (refused.bind_a ∷ refused.connect_a ∷ waits_a ∷ []) ∷ [];
+      book = refused.hash_a ∷ hash_w ∷ unhash_a ∷ [];
+      clock = 6;
+    }
+
+abbrev pub ListsNeither : Type 0
+ListsNeither = ¬ (Lawful closing_script no_capture closing_race)
+
+-- one that lists a connection and not the listener, whose chain it lists later and which came before
+abbrev pub later_script : Script
+later_script =
+    record {
+      header = with_slots 2;
+      sections =
+          (socket a ∷ commands.Bind a (one 80) ∷ commands.Listen a ∷ [])
+          ∷ (reusable b ∷ commands.Bind b (one 90) ∷ connect b 80 ∷ [])
+          ∷ (commands.Dump ∷ [])
+          ∷ [];
+      capture = None;
+    }
+
+abbrev pub bind_third : Note Entry
+bind_third = note 3 2 (requests.Bind refused.owner_b) answers.Done
+
+abbrev pub connect_third : Note Entry
+connect_third = note 4 2 (requests.ConnectBound (name_at 2 0) 0x0A000001 0x0A000002 80) answers.Done
+
+abbrev pub later_race : Race
+later_race =
+    record first_race {
+      sections =
+          first_race.sections
+          ++ (step (reusable b) replies.Ok [] 0 0
+          ∷ step (commands.Bind b (one 90)) (replies.Port 90) (entered 90 bind_third ∷ []) 0 0
+          ∷ step (connect b 80) (replies.End (one 90))
+          (inserted (refused.wished refused.owner_b) (hashed twin_b None) ∷ entered 90 connect_third ∷ []) 0 4
+          ∷ [])
+          ∷ (listing_from_to (refused.full_card refused.owner_b ∷ []) 0 4 ∷ [])
+          ∷ [];
+      journals = (first_bind ∷ first_may ∷ first_listen ∷ bind_third ∷ connect_third ∷ []) ∷ [];
+      book = hash_a ∷ twin_b ∷ [];
+      clock = 4;
+    }
+
+abbrev pub ListsOutOfOrder : Type 0
+ListsOutOfOrder = ¬ (Lawful later_script no_capture later_race)
 
 -- a handshake whose request was unhashed before the child was hashed, where `ack` did that
 abbrev pub unhash_early : Change

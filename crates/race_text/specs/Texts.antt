@@ -30,7 +30,7 @@ dump_text =
 -- two sections beside each other
 abbrev pub second_text : List ℕ
 second_text =
-    codes "race lookers 2 passes 1\n"
+    codes "race lookers 5 passes 1\n"
     ++ codes "shape 4 1 1 1 seed 0\n"
     ++ codes "1 socket a ok\n"
     ++ codes "1 bind a ok 80\n"
@@ -51,7 +51,10 @@ second_text =
     ++ codes "life 0 1 full 1.d 10.0.0.1:80 10.0.0.2:1000 dev 0 hash 10 11 unhash -\n"
     ++ codes "packet 1 full 1.d t0 9 t1 11 from 10.0.0.2:1000 to 10.0.0.1:80 dev 0\n"
     ++ codes "packet 2 none t0 4 t1 6 from 10.0.0.2:1000 to 10.0.0.9:90 dev 0\n"
-    ++ codes "packet 3 skip\n"
+    ++ codes "packet 3 again changed 1 in 0 t0 8 t1 11 from 10.0.0.2:1000 to 10.0.0.1:80 dev 0\n"
+    ++ codes "packet 4 again foreign 1 in 0 t0 4 t1 11 from 10.0.0.2:1000 to 10.0.0.1:80 dev 0\n"
+    ++ codes "packet 5 again long 5 in 0 t0 8 t1 11 from 10.0.0.2:1000 to 10.0.0.1:80 dev 0\n"
+    ++ codes "packet 6 skip\n"
     ++ codes "cut\n"
     ++ codes "clock 14\n"
 
@@ -76,7 +79,7 @@ handshake_text =
 -- refusals
 abbrev pub refused_text : List ℕ
 refused_text =
-    codes "race lookers 4 passes 1\n"
+    codes "race lookers 1 passes 1\n"
     ++ codes "shape 2 1 1 1 seed 0\n"
     ++ codes "1 socket a ok\n"
     ++ codes "1 bind a ok 90\n"
@@ -95,8 +98,5 @@ refused_text =
     ++ codes "life 0 0 full 1.a 10.0.0.1:90 10.0.0.2:80 dev 0 hash 0 1 unhash -\n"
     ++ codes "life 0 1 full 1.d 10.0.0.1:92 10.0.0.2:80 dev 0 hash 2 3 unhash 4 5\n"
     ++ codes "packet 1 again dead 1 in 0 t0 4 t1 5 from 10.0.0.2:80 to 10.0.0.1:92 dev 0\n"
-    ++ codes "packet 2 again foreign 0 in 1 t0 1 t1 3 from 10.0.0.2:80 to 10.0.0.1:92 dev 0\n"
-    ++ codes "packet 3 again changed 1 in 0 t0 2 t1 5 from 10.0.0.2:80 to 10.0.0.1:92 dev 0\n"
-    ++ codes "packet 4 again long 3 in 0 t0 1 t1 3 from 10.0.0.2:80 to 10.0.0.1:92 dev 0\n"
-    ++ codes "packet 5 short\n"
+    ++ codes "packet 2 short\n"
     ++ codes "clock 7\n"

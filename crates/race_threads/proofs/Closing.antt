@@ -34,7 +34,7 @@ use Rattle.race_book.proofs.Joined.{each_flat}
 use Rattle.race_record.specs.Deeds.{Vain, changes_of, vain_of, entries_in, changes_in, given_in, taken_in, vain_in, drawn_in}
 use Rattle.race_record.specs.Gathered.{numbered, GaveItsOwn, IsInOrderOf, WereGathered}
 use Rattle.race_record.specs.Record.{Race, Step, steps_of, deeds_of, all_deeds}
-use Rattle.race_record.specs.Lawful.{EachFrom, AreStepsOf, AreSectionsOf, AreInOrder, IsSpanned, IsLegalJournal, IsCalledBy, AreJournalsOf, IsBookOf, itself, WasKept, TakenWereKept, GivenWereFree, NoneWasFree, SlotsWereUsed, Lists}
+use Rattle.race_record.specs.Lawful.{EachFrom, AreStepsOf, AreSectionsOf, AreInOrder, IsSpanned, IsLegalJournal, IsCalledBy, AreJournalsOf, IsBookOf, itself, WasKept, WasFree, TakenWereKept, GivenWereFree, NoneWasFree, SlotsWereUsed, Lists}
 use Rattle.race_record.proofs.Drawn.{weigh, drawn_weighs}
 use Rattle.race_record.proofs.Gather.{gathered_journals}
 use Rattle.race_record.proofs.Weights.{total_flat}
@@ -42,16 +42,17 @@ use Rattle.chain_deeds.specs.Sides.{change_of}
 use Rattle.chain_deeds.specs.Made.{IsHomeIfHash, HasWords, number_of}
 use Rattle.nulls_chain.proofs.Saw.{are_settled}
 use Rattle.race_threads.specs.Joins.{Part}
-use Rattle.race_threads.specs.Made.{SawFree, SawKeeper, SawNone, IsBy, SawNoWait, missed_in}
+use Rattle.race_threads.specs.Made.{SawFree, SawKeeper, SawNone, IsAny, IsBy, SawNoWait, missed_in}
 use Rattle.race_threads.specs.Races.{SectionDone, AllDone, steps_by, HasEnded, AreReaped, AllReaped, Looks, book_of, race_by, IsLawfulBut, SaysSo}
 use Rattle.race_threads.specs.Said.{Said}
 use Rattle.race_threads.specs.Sections.{Makes, IsShown, layout_in}
 use Rattle.race_threads.proofs.Dumping.{saw_as_moves}
-use Rattle.race_threads.proofs.Freed.{frees}
+use Rattle.chain_deeds.proofs.Seen.{same_sees}
+use Rattle.race_threads.proofs.Freed.{was_free}
 use Rattle.race_threads.proofs.FromRaw.{AreGood, serial, fits, stamps}
 use Rattle.race_threads.proofs.Listings.{lists}
 use Rattle.race_threads.proofs.Refusals.{was_kept, none_was_free}
-use Rattle.race_threads.proofs.Sightings.{free_moves, keeper_moves, none_moves, no_wait_moves, ended_sees, same_sees, Moves}
+use Rattle.race_threads.proofs.Sightings.{free_moves, keeper_moves, none_moves, no_wait_moves, ended_sees, any_sees, Moves}
 use Rattle.race_threads.proofs.Sums.{sum_sections, each_number, each_section, many_sections, replies_are, listings_are, weigh_all, sum_numbers, weigh_filter, flat_filter, flat_same}
 use Rattle.race_threads.proofs.Weights.{map_flat, among_flat, same_each, same_among, flipped, weigh_map}
 
@@ -60,15 +61,6 @@ abbrev in_vain : (ℕ → ℕ) → Vain → ℕ
 in_vain f t = f t.number
 
 -- Steps
-
--- what one step changed is what the steps changed
-among_deeds : (t : Step) (steps : List Step) → Among steps t → (u : Change) → Among (changes_in t.deeds) u → Among (changes_in (deeds_of steps)) u
-among_deeds t (s ∷ ss) (inl same) u a =
-    let here : Among (changes_in s.deeds) u = subst (λ (z : Step). Among (changes_in z.deeds) u) same a in
-    subst (λ l. Among l u) (sym (flat_map-append changes_of s.deeds (deeds_of ss))) (among_left u (changes_in s.deeds) (changes_in (deeds_of ss)) here)
-among_deeds t (s ∷ ss) (inr rest) u a =
-    subst (λ l. Among l u) (sym (flat_map-append changes_of s.deeds (deeds_of ss))) (among_right u (changes_in s.deeds) (changes_in (deeds_of ss)) (among_deeds t ss rest u a))
-among_deeds t [] there u a = absurd there
 
 steps_are : (header : Header) (In : Change → Type 0) (own last : Own) (cs : List Command) (ss : List Step) → Makes header own cs ss last → AreReaped header In own cs ss → AreStepsOf header In own cs ss
 steps_are header In own last [] [] m r = tt
@@ -258,6 +250,9 @@ module _ (header : Header) (scripts : List (List Command)) (part : ℕ → Part)
   moves : (m : ℕ) → IsThere m → (to : ℕ) → to < open-end → Moves (part m).chain.sights (IsBy to) y.sights (IsBy to)
   moves m there to few s a i = ended_sees to few x y sees_load s (subst (λ (l : List Sight). Among l s) (sym e.joined.sights) (among_flat (λ n. (part n).chain.sights) e.order m s there a)) i
 
+  any_moves : (m : ℕ) → IsThere m → Moves (part m).chain.sights IsAny y.sights IsAny
+  any_moves m there s a i = any_sees x y sees_load s (subst (λ (l : List Sight). Among l s) (sym e.joined.sights) (among_flat (λ n. (part n).chain.sights) e.order m s there a)) tt
+
   -- what it saw and had ended stands
   stays : (m : ℕ) → IsThere m → (s : Sight) → Among (part m).chain.sights s → s.until < open-end → Among y.sights s
   stays m there s a few = same_sees x y sees_load s (subst (λ (l : List Sight). Among l s) (sym e.joined.sights) (among_flat (λ n. (part n).chain.sights) e.order m s there a)) few
@@ -266,8 +261,8 @@ module _ (header : Header) (scripts : List (List Command)) (part : ℕ → Part)
   shown_at m there s few h = record {
     keepers = each_weaken (SawKeeper (part m).chain.sights s.from (IsBy s.to)) (SawKeeper y.sights s.from (IsBy s.to)) (taken_in s.deeds)
         (keeper_moves (part m).chain.sights y.sights s.from s.from (IsBy s.to) (IsBy s.to) (omega arith) (moves m there s.to few)) h.keepers;
-    frees = each_weaken (SawFree (part m).chain.sights s.from (IsBy s.to)) (SawFree y.sights s.from (IsBy s.to)) (given_in s.deeds)
-        (free_moves (part m).chain.sights y.sights s.from s.from (IsBy s.to) (IsBy s.to) (omega arith) (moves m there s.to few)) h.frees;
+    frees = each_weaken (SawFree (part m).chain.sights) (SawFree y.sights) (given_in s.deeds)
+        (free_moves (part m).chain.sights y.sights IsAny (any_moves m there)) h.frees;
     nones = each_weaken (SawNone (part m).chain.sights (IsBy s.to) header.shape.slots) (SawNone y.sights (IsBy s.to) header.shape.slots) (vain_in s.deeds)
         (none_moves (part m).chain.sights y.sights (IsBy s.to) (IsBy s.to) (moves m there s.to few) header.shape.slots) h.nones;
     waits = each_weaken (SawNoWait (part m).chain.sights s.from (IsBy s.to) (layout_in header)) (SawNoWait y.sights s.from (IsBy s.to) (layout_in header)) (missed_in s.deeds)
@@ -290,26 +285,9 @@ module _ (header : Header) (scripts : List (List Command)) (part : ℕ → Part)
   taken = each_weaken (IsShown (layout_in header) y.sights) (TakenWereKept race) (steps_of race)
       (λ s h. each_weaken (SawKeeper y.sights s.from (IsBy s.to)) (WasKept (Among race.book) s.from s.to) (taken_in s.deeds) (was_kept header y clock e.whole good s.from s.to) h.keepers) shown
 
-  -- what a section that was joined did is in the book
-  into : (m : ℕ) (cs : List Command) (said : Said) (s : SectionDone header m cs (part m) said) → IsThere m → (u : Change) → Among (changes_in (deeds_of s.done.steps)) u → Among race.book u
-  into m cs said s there u a = subst (λ l. Among l u) (sym book_is) (among_flat (λ n. map change_of (part n).chain.book.closed) e.order m u there (subst (λ l. Among l u) (sym s.done.changes) a))
-
-  abbrev Frees : Step → Type 0
-  Frees s = IsShown (layout_in header) y.sights s × (IsSpanned clock s × ((u : Change) → Among (changes_in s.deeds) u → Among race.book u))
-
-  section_frees : (m : ℕ) (cs : List Command) (said : Said) (s : SectionDone header m cs (part m) said) → IsThere m × ((part m).chain.seen ≤ x.seen) → Each (GivenWereFree race) s.done.steps
-  section_frees m cs said s z =
-      each_weaken Frees (GivenWereFree race) s.done.steps
-      (λ t f. frees header y clock e.whole good t f.0.frees f.1.0 f.1.1)
-      (each_both (IsShown (layout_in header) y.sights) (λ t. IsSpanned clock t × ((u : Change) → Among (changes_in t.deeds) u → Among race.book u)) s.done.steps (section_shown m cs said s z.0)
-      (each_both (IsSpanned clock) (λ t. (u : Change) → Among (changes_in t.deeds) u → Among race.book u) s.done.steps
-      (later_order (part m).chain.seen clock (omega (arith, z.1, e.later)) s.done.steps s.done.order).each
-      (to_each (λ (t : Step). (u : Change) → Among (changes_in t.deeds) u → Among race.book u) s.done.steps (λ t a u b. into m cs said s z.0 u (among_deeds t s.done.steps a u b)))))
-
   freed : Each (GivenWereFree race) (steps_of race)
-  freed = each_flat (GivenWereFree race) (λ (steps : List Step). steps) sections
-      (each_section header part (λ steps. Each (GivenWereFree race) steps) (λ m. IsThere m × ((part m).chain.seen ≤ x.seen)) 1 scripts says e.done lookers
-      (each_both IsThere (λ m. (part m).chain.seen ≤ x.seen) numbers there_all seen_all) section_frees)
+  freed = each_weaken (IsShown (layout_in header) y.sights) (GivenWereFree race) (steps_of race)
+      (λ s h. each_weaken (SawFree y.sights) (WasFree (Among race.book)) (given_in s.deeds) (was_free header y clock e.whole good) h.frees) shown
 
   used : Each (SlotsWereUsed race) (steps_of race)
   used = each_weaken (IsShown (layout_in header) y.sights) (SlotsWereUsed race) (steps_of race)

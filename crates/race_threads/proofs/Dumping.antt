@@ -9,7 +9,6 @@ use Rattle.socket_list.specs.declared.listing.Span.{Span}
 use Rattle.sock_card.specs.declared.card.Card.{Card}
 use Rattle.table_rule.specs.Plays.{seeing, settled}
 use Rattle.table_rule.specs.declared.view.Layout.{Layout}
-use Rattle.table_rule.specs.declared.view.Seen.{Seen}
 use Rattle.table_rule.specs.declared.view.Sight.{Sight}
 use Rattle.table_rule.specs.declared.view.View.{View}
 use Rattle.nulls_chain.specs.Changes.{Sees}
@@ -20,6 +19,7 @@ use Rattle.race_book.specs.Among.{Among}
 use Rattle.race_book.proofs.AmongLemmas.{among_right}
 use Rattle.race_record.specs.Record.{Step}
 use Rattle.shared_dump.specs.Dumps.{Keeps}
+use Rattle.shared_dump.specs.Rows.{Row}
 use Rattle.shared_dump.specs.Sightings.{sighting, sightings}
 use Rattle.shared_dump.proofs.Seeings.{keeps_same}
 use Rattle.shared_ops.specs.Stands.{chained}
@@ -30,7 +30,7 @@ use Rattle.race_threads.specs.Dumped.{Dumped, Listed, ListsMore, SawAll, SawAs}
 
 -- What was seen stands
 
-there_moves : (xs ys : List Sight) (from to b : ℕ) (rows : List (List Seen)) → ((x : Sight) → Among xs x → x.until ≡ to → Among ys x) → Each (Among xs) (sightings from to b rows) → Each (Among ys) (sightings from to b rows)
+there_moves : (xs ys : List Sight) (from to b : ℕ) (rows : List Row) → ((x : Sight) → Among xs x → x.until ≡ to → Among ys x) → Each (Among xs) (sightings from to b rows) → Each (Among ys) (sightings from to b rows)
 there_moves xs ys from to b [] f h = tt
 there_moves xs ys from to b (row ∷ rows) f h = (f (sighting from to b row) h.0 refl, there_moves xs ys from to (b + 1) rows f h.1)
 

@@ -1,5 +1,5 @@
 -- What a pass that has all parts knows of the chain table, said of the book that its changes make.
-use Rattle.std.proofs.Common.{◌≡◌, ◌≢◌, ℕ, zero, suc, ◌+◌, ◌<◌, ◌≤◌, ◌==◌, ◌&&◌, nat_lt, IsTrue, Bool, true, false, cond, List, [], ◌∷◌, inl, inr, ⊎_elim, map, refl, sym, ap, ◌∙◌, subst, arith, eq-eqb, ne_eqb}
+use Rattle.std.proofs.Common.{◌≡◌, ◌≢◌, ℕ, zero, suc, ◌+◌, ◌<◌, ◌≤◌, ◌==◌, ◌&&◌, nat_lt, IsTrue, Bool, true, false, cond, List, [], ◌∷◌, inl, inr, ⊎_elim, map, refl, sym, ap, ◌∙◌, subst, arith, eq-eqb, ne_eqb, Option, None, Some}
 use Rattle.std.proofs.lemmas.Bool.{true≢false, ltb-true, lt-ltb, eqb-true}
 use mathlib.Core.Logic.{dite}
 use native.Mathlib.Decide.{ℕ_discrete, dec_le}
@@ -18,7 +18,7 @@ use Rattle.table_rule.specs.declared.view.Change.{Change as Raw}
 use Rattle.table_rule.specs.declared.view.Sight.{Sight}
 use Rattle.table_rule.specs.declared.view.Seen.{Seen}
 use Rattle.table_rule.specs.Alone.{mine}
-use Rattle.table_rule.specs.Beyond.{Unlike, Present, SightTrue, IsCardWords}
+use Rattle.table_rule.specs.Beyond.{Unlike, Present, IsThere, SightTrue, IsCardWords}
 use Rattle.table_rule.specs.Book.{Part, InBook, Serial, Separate, below}
 use Rattle.table_rule.specs.Book as raw
 use Rattle.table_rule.specs.Rule.{book_part}
@@ -42,12 +42,13 @@ use Rattle.race_book.specs.Explained.{NoneFrom, MayAnswer, MayEnd, MeetsSome, Is
 use Rattle.race_book.specs.Among.{Among}
 use Rattle.race_book.specs.Laws.{BeginApart, EndAfter, EndInBucket, NoTwinsStand}
 use Rattle.race_book.specs.Listed.{stamps_of, StampsDiffer, FitSlots}
-use Rattle.race_book.specs.Lives.{IsLife, IsHash, Ends, Throughout, Stood, Leaves, comes_after, is_unhash}
+use Rattle.race_book.specs.Lives.{IsLife, IsHash, Ends, Throughout, Stood, Leaves, comes_after, is_unhash, ending}
 use Rattle.race_book.specs.Serial.{IsSerial, EndsOne, AreApart, AreHome, EachEndsOne, SlotsFollow, HasNoTwins}
-use Rattle.race_book.proofs.Endings.{each_of, one_beginning, to_each}
+use Rattle.race_book.proofs.Endings.{each_of, one_beginning, to_each, ending_ends, no_ending}
 use Rattle.race_book.proofs.Listing.{begin_apart}
 use Rattle.race_book.proofs.Checks.{unhash_act}
 use Rattle.race_book.proofs.Twins.{one_home, replay_has_none}
+use Rattle.race_record.specs.Stages.{LedAstray, NoneStayed, CanStop, IsOfItsTime}
 use Rattle.chain_deeds.specs.Sides.{act_of, change_of}
 use Rattle.chain_deeds.specs.Made.{IsHome, IsHomeIfHash, HasWords}
 use Rattle.race_threads.specs.Lookers.{IsTold, whole_for}
@@ -408,6 +409,52 @@ module _ (header : Header) (v : View) (clock : ℕ) (w : IsWhole v clock) (good 
         stood = stood t.hash s from to t.in-book t.is-hash low high t.begun t.left;
       }
 
+  -- Standing at one number
+
+  -- who stands in the raw book stands in the other
+  pub stands_there : (h : Raw) → InBook (mine v) h → h.kind ≡ 1 → (n : ℕ) → IsThere (mine v) h n → Throughout (Among book) (change_of h) n n
+  stands_there h b k n t = record { before = t.0; still = λ u there after. by_ending u there after (ending book (change_of h)) refl }
+    where
+      by_ending : (u : Change) → Among book u → IsTrue (comes_after (change_of h) u) → (o : Option Change) → ending book (change_of h) ≡ o → n ≤ u.begin
+      by_ending u there after None e = absurd (no_ending book (change_of h) e u there after)
+      by_ending u there after (Some x) e =
+          let q : Ends (Among book) (change_of h) x = ending_ends book (change_of h) x e in
+          let r = raw_of x q.there in
+          let late = t.1 r.change (ends_raw h r.change b r.there k (subst (λ (z : Change). Ends (Among book) (change_of h) z) r.is q)) in
+          let first = q.first u there after in
+          omega (arith, late, first, ap (λ (z : Change). z.begin) r.is)
+
+  -- a life of that slot and bucket, with the words that were seen, stood at the sighting's instant
+  pub record StandingLife (e : Seen) (b instant : ℕ) : Type 0 where
+    pub life : Change
+    pub words : List ℕ
+    pub is : IsLife (Among book) life
+    pub slot : life.slot ≡ e.slot
+    pub bucket : life.bucket ≡ b
+    pub card : life.card ≡ Rattle.table_rule.specs.Words.card_from words
+    pub told : (k a : ℕ) → k < 4 → get_elem? e.words k ≡ some a → get_elem? words k ≡ some a
+    pub stands : Throughout (Among book) life instant instant
+
+  pub standing_life : (s : Sight) → Among v.sights s → (m : ℕ) (e : Seen) → get_elem? s.listed m ≡ some e → (b : ℕ) → s.bucket ≡ b ∷ [] → (s.since ≤ s.instant) × (s.instant ≤ s.until) × StandingLife e b s.instant
+  standing_life s a m e at b had =
+      let p = place_of v.sights s a in
+      let f = all_of.2 p.0 s p.1 in
+      let t = f.listed m e at in
+      let here = t.bucket b had in (
+        f.since,
+        f.until,
+        record {
+          life = change_of t.hash;
+          words = t.hash.card;
+          is = life_of t.hash t.in-book t.is-hash;
+          slot = t.slot;
+          bucket = here.0;
+          card = refl;
+          told = t.words;
+          stands = stands_there t.hash t.in-book t.is-hash s.instant here.1;
+        },
+      )
+
   -- Lookups
 
   pub rank_is : (key : Packet) (ws : List ℕ) → rank_of key ws ≡ rank (Rattle.table_rule.specs.Words.card_from ws) key
@@ -420,6 +467,47 @@ module _ (header : Header) (v : View) (clock : ℕ) (w : IsWhole v clock) (good 
 
   met : (t0 t1 : ℕ) (P : Raw → Type 0) (Q : Change → Type 0) → ((c : Raw) → InBook (mine v) c → P c → Q (change_of c)) → lookups.IsMet (mine v) t0 t1 P → MeetsSome (Among book) Q t0 t1
   met t0 t1 P Q f z = record { change = change_of z.change; there = among z.change z.there; sort = f z.change z.there z.is; meets = record { begun = z.meets.0; lasting = z.meets.1 } }
+
+  raw_stood : (h : Raw) (t0 t1 : ℕ) → InBook (mine v) h → h.kind ≡ 1 → lookups.Stood (mine v) h t0 t1 → Stood (Among book) (change_of h) t0 t1
+  raw_stood h t0 t1 b k s = record {
+    begun = s.0;
+    still = λ u e. let r = raw_of u e.there in
+        let e' = subst (λ (x : Change). Ends (Among book) (change_of h) x) r.is e in
+        let g = s.1 r.change (ends_raw h r.change b r.there k e') in
+        omega (arith, g, ap (λ (x : Change). x.end) r.is);
+  }
+
+  led_astray : (bucket t0 t1 : ℕ) → lookups.HasStrayed (mine v) bucket t0 t1 → LedAstray (Among book) bucket t0 t1
+  led_astray bucket t0 t1 s = record {
+    life = change_of s.hash;
+    is = life_of s.hash s.ends.hash s.ends.is-hash;
+    bucket_is = s.bucket-is;
+    unhash = change_of s.unhash;
+    ends = ends_book s.hash s.unhash s.ends;
+    left = record { begun = s.left.0; lasting = s.left.1 };
+    again = change_of s.again;
+    again_is = life_of s.again s.there s.is-hash;
+    slot_is = s.slot-is;
+    after = s.after;
+    hashed = record { begun = s.hashed.0; lasting = s.hashed.1 };
+  }
+
+  none_stayed : (slot t0 t1 : ℕ) → lookups.NoneStayed (mine v) slot t0 t1 → NoneStayed (Among book) slot t0 t1
+  none_stayed slot t0 t1 none d life at through =
+      let r = raw_of d life.there in
+      none r.change r.there (raw_hash d r life.hash) (ap (λ (x : Change). x.slot) (sym r.is) ∙ at) (raw_throughout d r t0 t1 through)
+
+  -- what stopped a pass could do so
+  pub can_stop : (c : Told) (slots : ℕ) (end : PassEnd) → lookups.IsStop (mine v) slots c (stop_of end) → CanStop (Among book) c.bucket c.from c.to end
+  can_stop c slots (stops.Foreign b) s = led_astray c.bucket c.from c.to (s.astray (λ e. omega (arith, e)))
+  can_stop c slots (stops.Dead i) s = let t = s.dead refl in (
+    ⊎_elim
+        (λ z. inl record { life = change_of z.hash; is = life_of z.hash z.there z.is-hash; bucket_is = z.bucket-is; slot_is = z.slot-is; stood = raw_stood z.hash c.from c.to z.there z.is-hash z.stood })
+        (λ z. inr (led_astray c.bucket c.from c.to z)) t.0,
+    none_stayed i c.from c.to t.1,
+  )
+  can_stop c slots (stops.Changed i) s = led_astray c.bucket c.from c.to (s.astray (λ e. omega (arith, e)))
+  can_stop c slots (stops.Long n) s = led_astray c.bucket c.from c.to (s.astray (λ e. omega (arith, e)))
 
   pub may_end : (c : Told) (slots : ℕ) (end : PassEnd) → lookups.IsStop (mine v) slots c (stop_of end) → MayEnd (Among book) slots c.bucket c.from c.to end
   may_end c slots (stops.Foreign b) s = let t = s.foreign refl in (t.0, met c.from c.to (λ h. (h.kind ≡ 1) × (h.bucket ≡ b)) (IsHashInto b) (λ h i p. (act_one h.kind p.0, p.1)) t.1)
@@ -451,13 +539,7 @@ module _ (header : Header) (v : View) (clock : ℕ) (w : IsWhole v clock) (good 
             life = change_of h;
             is = life_of h f.1 f.2;
             same = ap Rattle.table_rule.specs.Words.card_from f.3 ∙ t;
-            stood = record {
-              begun = f.4.0;
-              still = λ u e. let q = raw_of u e.there in
-                  let e' = subst (λ (z : Change). Ends (Among book) (change_of h) z) q.is e in
-                  let g = f.4.1 q.change (ends_raw h q.change f.1 q.there f.2 e') in
-                  omega (arith, g, ap (λ (z : Change). z.end) q.is);
-            };
+            stood = raw_stood h r.t0 r.t1 f.1 f.2 f.4;
             enough = omega (arith, here, f.5);
             best = none_from r.packet r.t0 r.t1 (record (whole_of r.packet r.seed r.t0 (answers.Found card)) { to = r.t1 }) (rank_of r.packet ws) (rank card r.packet + 1) refl s refl refl f.6 (omega (arith, here));
           }
@@ -465,3 +547,24 @@ module _ (header : Header) (v : View) (clock : ℕ) (w : IsWhole v clock) (good 
       by_answer (answers.Again bucket end) t y =
           let f = y.again refl in
           may_end (lookups.as_receipt (record (whole_of r.packet r.seed r.t0 (answers.Again bucket end)) { to = r.t1 })) shape.slots end f.1.0
+
+  -- and a card that it says was found was its slot's then
+  pub of_its_time : (r : Receipt) → IsTold r.answer → lookups.IsWholeExplained (mine v) (layout_in header) (whole_for r) → IsOfItsTime (Among book) r.t0 r.t1 r.answer
+  of_its_time r told x = by_answer r.answer told x
+    where
+      by_answer : (a : PacketAnswer) → IsTold a → lookups.IsWholeExplained (mine v) (layout_in header) (record (whole_of r.packet r.seed r.t0 a) { to = r.t1 }) → IsOfItsTime (Among book) r.t0 r.t1 a
+      by_answer (answers.Found card) t y =
+          let f = y.found refl in
+          let h = f.0 in
+          record {
+            life = change_of h;
+            is = life_of h f.1 f.2;
+            card_is = ap Rattle.table_rule.specs.Words.card_from f.3 ∙ t;
+            stood = raw_stood h r.t0 r.t1 f.1 f.2 f.4;
+            newest = λ g l slot later. let q = raw_of g l.there in
+                let end = ap (λ (z : Change). z.end) q.is in
+                let n = f.7 q.change q.there (raw_hash g q l.hash) (ap (λ (z : Change). z.slot) (sym q.is) ∙ slot) (omega (arith, later, end)) in
+                omega (arith, n, end);
+          }
+      by_answer answers.None t y = tt
+      by_answer (answers.Again bucket end) t y = tt

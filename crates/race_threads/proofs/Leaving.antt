@@ -5,6 +5,7 @@ use Rattle.list_words.specs.Lists.{Each, Pairs, total}
 use Rattle.list_words.proofs.EachLemmas.{each_weaken, each_append}
 use Rattle.list_words.proofs.TotalLemmas.{total-append}
 use Rattle.sock_card.specs.declared.card.Card.{Card}
+use Rattle.chain_book.specs.Homes.{home}
 use Rattle.table_rule.specs.declared.view.Sight.{Sight}
 use Rattle.shared_slots.specs.Claims.{sight_by}
 use Rattle.race_book.specs.Among.{Among}
@@ -35,6 +36,8 @@ keepers_one (inserted wish (kept_out name)) c e m =
         there = subst (λ l. Among l s.sight) (sym s.sights) (among_right s.sight c.view.sights (s.sight ∷ []) (inl refl));
         since = omega (arith, s.since);
         is = tt;
+        bucket = home c.layout.shape c.layout.seed wish.card;
+        bucket_is = s.bucket;
         cards = s.cards;
         first = s.first;
       },
@@ -45,23 +48,19 @@ keepers_one (added card tried) c e m = tt
 keepers_one (left u) c e m = tt
 keepers_one (reaped card u) c e m = tt
 
-frees_one : (deed : Deed) (c e : Side) → Made deed c e → Each (SawFree e.view.sights c.view.seen IsAny) (given_of deed)
+frees_one : (deed : Deed) (c e : Side) → Made deed c e → Each (SawFree e.view.sights) (given_of deed)
 frees_one (entered port note) c e m = tt
 frees_one (inserted wish (hashed hash old)) c e m =
     let s = m.shows in (
       record {
-        act = s.act;
         sight = s.sight;
-        there = subst (λ l. Among l s.sight) (sym s.sights) (among_right s.sight s.earlier (s.sight ∷ []) (inl refl));
-        since = omega (arith, s.since);
-        is = tt;
+        there = s.there;
         bucket = s.bucket;
         whole = s.whole;
-        others = s.others;
-        listed = s.listed;
+        instant = s.instant;
         cards = s.cards;
         unkept = s.unkept;
-        unwaited = s.unwaited;
+        gave = s.gave;
       },
       tt,
     )
@@ -75,7 +74,7 @@ none_seen : (v : Vain) (c e : Side) → MadeNone v c e → SawNone e.view.sights
 none_seen v c e s = record {
   reads = s.reads;
   each = reads_seen e.view.sights v.number s.by s.reads (omega (arith, s.since))
-      (λ x a. subst (λ (l : List Sight). Among l x) (sym s.sights) (among_left x (s.earlier ++ map (sight_by s.by) s.reads) s.more (among_right x s.earlier (map (sight_by s.by) s.reads) a)));
+      (λ x a. subst (λ (l : List Sight). Among l x) (sym s.sights) (let before : List Sight = s.earlier ++ s.walked ∷ [] in among_left x (before ++ map (sight_by s.by) s.reads) s.more (among_right x before (map (sight_by s.by) s.reads) a)));
   owned = s.owned;
   held = s.held;
   all = s.all;
@@ -147,7 +146,7 @@ module _ (deed : Deed) (deeds : List Deed) (c e d : Side) (m : Made deed c e) (h
   moves = any_sees e.view d.view h.sees
 
   stays : Moves d.view.sights IsAny d.view.sights IsAny
-  stays s a i = record { sight = s; there = a; listed = refl; held = refl; bucket = refl; whole = refl; since = refl; is = tt }
+  stays s a i = record { sight = s; there = a; listed = refl; held = refl; bucket = refl; whole = refl; since = refl; instant = refl; is = tt }
 
   slots_same : e.layout.shape.slots ≡ c.layout.shape.slots
   slots_same = ap (λ (l : Rattle.table_rule.specs.declared.view.Layout.Layout). l.shape.slots) m.layout
@@ -178,9 +177,9 @@ module _ (deed : Deed) (deeds : List Deed) (c e d : Side) (m : Made deed c e) (h
     taken = h.taken ∙ m.taken;
     read = h.read ∙ m.read;
     sees = sees_both c.view e.view d.view m.later m.sees h.sees;
-    frees = each_append (SawFree d.view.sights c.view.seen IsAny) (given_of deed) (given_in deeds)
-        (each_weaken (SawFree e.view.sights c.view.seen IsAny) (SawFree d.view.sights c.view.seen IsAny) (given_of deed) (free_moves e.view.sights d.view.sights c.view.seen c.view.seen IsAny IsAny (omega arith) moves) (frees_one deed c e m))
-        (each_weaken (SawFree d.view.sights e.view.seen IsAny) (SawFree d.view.sights c.view.seen IsAny) (given_in deeds) (free_moves d.view.sights d.view.sights e.view.seen c.view.seen IsAny IsAny m.later stays) h.frees);
+    frees = each_append (SawFree d.view.sights) (given_of deed) (given_in deeds)
+        (each_weaken (SawFree e.view.sights) (SawFree d.view.sights) (given_of deed) (free_moves e.view.sights d.view.sights IsAny moves) (frees_one deed c e m))
+        h.frees;
     keepers = each_append (SawKeeper d.view.sights c.view.seen IsAny) (taken_of deed) (taken_in deeds)
         (each_weaken (SawKeeper e.view.sights c.view.seen IsAny) (SawKeeper d.view.sights c.view.seen IsAny) (taken_of deed) (keeper_moves e.view.sights d.view.sights c.view.seen c.view.seen IsAny IsAny (omega arith) moves) (keepers_one deed c e m))
         (each_weaken (SawKeeper d.view.sights e.view.seen IsAny) (SawKeeper d.view.sights c.view.seen IsAny) (taken_in deeds) (keeper_moves d.view.sights d.view.sights e.view.seen c.view.seen IsAny IsAny m.later stays) h.keepers);

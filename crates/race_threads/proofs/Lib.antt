@@ -21,6 +21,7 @@ pub mod Staged
 pub mod Looking
 pub mod Searching
 pub mod Staging
+pub mod Holding
 pub mod Looked
 pub mod Items
 pub mod Placing

@@ -1,5 +1,5 @@
 -- The book of all changes shows what a dump listed.
-use Rattle.std.proofs.Common.{◌≡◌, ℕ, ◌<◌, List, [], ◌∷◌, map, inl, inr, ⊎_elim, refl, sym, ap, ◌∙◌, subst, arith}
+use Rattle.std.proofs.Common.{◌≡◌, ℕ, ◌<◌, ◌≤◌, List, [], ◌∷◌, map, inl, inr, ⊎_elim, refl, sym, ap, ◌∙◌, subst, arith}
 use Rattle.list_words.specs.Lists.{Each, Pairs, total}
 use Rattle.sock_card.specs.declared.card.Card.{Card}
 use Rattle.socket_list.specs.declared.listing.Span.{Span}
@@ -9,8 +9,7 @@ use Rattle.flat_list.specs.declared.command.Command.TheVariants as commands
 use Rattle.flat_list.specs.declared.header.Header.{Header}
 use Rattle.table_model.proofs.parts.Chains.{home_below}
 use Rattle.table_rule.specs.Alone.{mine}
-use Rattle.table_rule.specs.Beyond.{SightTrue}
-use Rattle.table_rule.specs.Explained as lookups
+use Rattle.table_rule.specs.Beyond.{IsThere, SightTrue}
 use Rattle.table_rule.specs.Words.{bucket_count}
 use Rattle.table_rule.specs.declared.view.Change.{Change as Raw}
 use Rattle.table_rule.specs.declared.view.Sight.{Sight}
@@ -21,13 +20,13 @@ use Rattle.shared_dump.specs.Sightings.{sightings}
 use Rattle.chain_deeds.specs.Sides.{change_of}
 use Rattle.chain_deeds.specs.Sizes.{IsSized}
 use Rattle.race_book.specs.Among.{Among}
-use Rattle.race_book.specs.Lives.{IsLife, Ends, Stood, Throughout}
+use Rattle.race_book.specs.Lives.{IsLife, Stood}
 use Rattle.race_record.specs.Record.{Race, Step}
-use Rattle.race_record.specs.Lawful.{HaveOnePlace, IsListed, ListsAs}
+use Rattle.race_record.specs.Lawful.{HaveOnePlace, StandsAt, IsListed, ListsAs}
 use Rattle.race_threads.specs.Dumped.{SawAll, SawAs}
 use Rattle.race_threads.specs.Races.{IsWhole, book_of}
 use Rattle.race_threads.specs.Sections.{layout_in}
-use Rattle.race_threads.proofs.FromRaw.{AreGood, ends_raw, life_of, place_of, raw_of, raw_hash, raw_throughout, serial, RawOf}
+use Rattle.race_threads.proofs.FromRaw.{AreGood, end_after, life_of, place_of, raw_of, raw_hash, raw_throughout, serial, stands_there, RawOf}
 
 -- Lives of either book
 
@@ -56,26 +55,31 @@ module _ (header : Header) (v : View) (clock : ℕ) (w : IsWhole v clock) (good 
   all_true [] h = tt
   all_true (x ∷ xs) h = (let p = place_of v.sights x h.0 in let b = w.book w.parts w.opened in b.2 p.0 x p.1, all_true xs h.1)
 
-  module _ (t0 t1 : ℕ) where
-    abbrev IsThere : Change → Type 0
-    IsThere h = IsLife In h × Stood In h t0 t1
+  module _ (t0 t1 : ℕ) (number : ℕ → ℕ) (low : (b : ℕ) → t0 ≤ number b) (high : (b : ℕ) → number b ≤ t1) where
+    one_stands : (h : Raw) → books.IsLife (mine v) number h → StandsAt In (change_of h) (number h.bucket)
+    one_stands h l = stands_there header v clock w good h l.0 l.1 (number h.bucket) l.2
 
-    one_stood : (h : Raw) → books.IsLife (mine v) t0 t1 h → IsThere (change_of h)
+    one_stood : (h : Raw) → books.IsLife (mine v) number h → IsLife In (change_of h) × Stood In (change_of h) t0 t1
     one_stood h l =
-        let there = l.0 in
-        let kind = l.1 in
-        let stood : lookups.Stood (mine v) h t0 t1 = l.2 in (
-          life_of header v clock w good h there kind,
+        let life = life_of header v clock w good h l.0 l.1 in
+        let s = one_stands h l in
+        let order = end_after header v clock w good (change_of h) life.there in
+        let up = high h.bucket in
+        let down = low h.bucket in (
+          life,
           record {
-            begun = stood.0;
-            still = λ u e. let q = raw_of header v clock w good u e.there in
-                let e' = subst (λ (z : Change). Ends In (change_of h) z) q.is e in
-                let g = stood.1 q.change (ends_raw header v clock w good h q.change there q.there kind e') in
-                omega (arith, g, ap (λ (z : Change). z.end) q.is);
+            begun = let b = s.before in omega (arith, order, b, up);
+            still = λ u e. let late = s.still u e.there e.after in
+                let after = end_after header v clock w good u e.there in
+                omega (arith, down, late, after);
           },
         )
 
-    all_stood : (xs : List Raw) → Each (books.IsLife (mine v) t0 t1) xs → Each IsThere (map change_of xs)
+    all_stand : (xs : List Raw) → Each (books.IsLife (mine v) number) xs → Each (λ (h : Change). StandsAt In h (number h.bucket)) (map change_of xs)
+    all_stand [] k = tt
+    all_stand (x ∷ xs) k = (one_stands x k.0, all_stand xs k.1)
+
+    all_stood : (xs : List Raw) → Each (books.IsLife (mine v) number) xs → Each (λ (h : Change). IsLife In h × Stood In h t0 t1) (map change_of xs)
     all_stood [] k = tt
     all_stood (x ∷ xs) k = (one_stood x k.0, all_stood xs k.1)
 
@@ -90,11 +94,12 @@ module _ (header : Header) (v : View) (clock : ℕ) (w : IsWhole v clock) (good 
     told : AreTold (mine v) (bucket_count (layout_in header)) span.t0 span.t1 cards
     told = saw.told (mine v) (all_true (sightings span.t0 span.t1 0 saw.rows) saw.there)
 
-    throughout : (h : Change) → IsLife In h → Throughout In h span.t0 span.t1 → Among cards h.card
-    throughout h life there =
+    each_listed : (h : Change) → IsLife In h → StandsAt In h (told.instant h.bucket) → Among cards h.card
+    each_listed h life stands =
         let r : RawOf header v clock w good h = raw_of header v clock w good h life.there in
-        let low : r.change.bucket < bucket_count (layout_in header) = subst (λ (c : Change). c.bucket < bucket_count (layout_in header)) r.is (near h life) in
-        let a = told.all r.change r.there (raw_hash header v clock w good h r life.hash) low (raw_throughout header v clock w good h r span.t0 span.t1 there) in
+        let near_it : r.change.bucket < bucket_count (layout_in header) = subst (λ (c : Change). c.bucket < bucket_count (layout_in header)) r.is (near h life) in
+        let there = raw_throughout header v clock w good h r (told.instant h.bucket) (told.instant h.bucket) stands in
+        let a = told.all r.change r.there (raw_hash header v clock w good h r life.hash) near_it (subst (λ (c : Change). IsThere (mine v) r.change (told.instant c.bucket)) r.is there) in
         subst (λ l. Among l h.card) (sym told.cards)
         (subst (λ (c : Change). Among (map life_card told.lives) c.card) (sym r.is) (among_cards r.change told.lives a))
 
@@ -104,11 +109,16 @@ module _ (header : Header) (v : View) (clock : ℕ) (w : IsWhole v clock) (good 
       order = saw.order;
       ends = saw.ends;
       sorted = saw.sorted;
+      number = told.instant;
+      since = told.low;
+      until = told.high;
+      ascend = told.ascend;
       lives = map change_of told.lives;
       cards_are = λ f. ap (total f) (told.cards ∙ cards_are told.lives);
-      stood = all_stood span.t0 span.t1 told.lives told.stood;
+      stood = all_stood span.t0 span.t1 told.instant told.low told.high told.lives told.stand;
+      stands = all_stand span.t0 span.t1 told.instant told.low told.high told.lives told.stand;
       apart = apart_are told.lives told.once;
-      all = throughout;
+      all = each_listed;
     }
 
   -- so did each step

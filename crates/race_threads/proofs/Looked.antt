@@ -32,6 +32,8 @@ use Rattle.race_threads.specs.declared.looker.Look.{Look}
 use Rattle.race_threads.specs.Joins.{Part}
 use Rattle.race_threads.specs.Lookers.{IsLookup, IsLooked, IsIdle, item_at, Before, HasLooked, HasLookedNothingUp, LookedUp, looking, AllBefore, IsPassedOver, whole_for}
 use Rattle.race_threads.specs.Searches.{LooksAfter, AllLookAfter, HasSearched}
+use Rattle.shared_finds.specs.Stays.{More}
+use Rattle.race_threads.proofs.Holding.{held_more, concluded_more}
 use Rattle.race_threads.proofs.Staging.{stages_more}
 use Rattle.race_threads.proofs.Weights.{flat_push}
 
@@ -53,7 +55,7 @@ searched_more passes before after searches took k h more a = record {
 }
 
 -- more receipts, and a later number
-module _ (header : Header) (xs ys : ReadView) (a b : ℕ) (more : (c : Whole) → Among xs.wholes c → Among ys.wholes c) (further : (s : Search) → Among xs.receipts s → Among ys.receipts s) (le : a ≤ b) where
+module _ (header : Header) (xs ys : ReadView) (a b : ℕ) (more : (c : Whole) → Among xs.wholes c → Among ys.wholes c) (further : (s : Search) → Among xs.receipts s → Among ys.receipts s) (grown : More xs ys) (le : a ≤ b) where
   lookup_later : (packet : Packet) (r : Receipt) → IsLookup header xs a packet r → IsLookup header ys b packet r
   lookup_later packet r h = record {
     packet_is = h.packet_is;
@@ -62,6 +64,7 @@ module _ (header : Header) (xs ys : ReadView) (a b : ℕ) (more : (c : Whole) �
     most = omega (arith, h.most, le);
     there = more (whole_for r) h.there;
     stages = stages_more xs.receipts ys.receipts further packet header.shape header.seed r.t0 r.t1 r.answer h.stages;
+    held = held_more xs ys grown r.t0 r.answer h.held;
     told = h.told;
     bucket = h.bucket;
   }
@@ -127,6 +130,7 @@ module _ (header : Header) (passes : ℕ) (all : List Item) (v : BindView) (took
     most = omega (arith, left.seen);
     there = subst (λ x. Among x (whole_for r)) (sym left.wholes) (among_right (whole_for r) m.0.read.wholes (whole_for r ∷ []) (inl refl));
     stages = l.stages;
+    held = l.held;
     told = l.told;
     bucket = l.bucket;
   }
@@ -140,7 +144,7 @@ module _ (header : Header) (passes : ℕ) (all : List Item) (v : BindView) (took
   pub looks_more : HasLooked header passes all (looking v n.0) (took ++ look ∷ [])
   looks_more = record {
     each = each_push Now took look
-        (each_weaken Was Now took (λ k z. looked_later header m.0.read n.0.read m.0.seen n.0.seen more further (omega (arith, left.seen, l.fresh, l.order)) (item_at all k.item) k.looked z) h.each)
+        (each_weaken Was Now took (λ k z. looked_later header m.0.read n.0.read m.0.seen n.0.seen more further (concluded_more m n (whole_for r) l.concluded) (omega (arith, left.seen, l.fresh, l.order)) (item_at all k.item) k.looked z) h.each)
         (subst (λ x. IsLooked header n.0.read n.0.seen x (looks.Answered r)) (sym at) it);
     turns = pairs_push Before took look h.turns
         (each_weaken (λ (k : Look). Was k × (k.item < i)) (λ k. Before k look) took (λ k z. (z.1, ended_by header m.0.read m.0.seen (item_at all k.item) k.looked r l.fresh z.0)) (each_both Was (λ (k : Look). k.item < i) took h.each before));

@@ -42,7 +42,7 @@ use Rattle.race_threads.specs.Races.{HasEnded, SaysSo, race_by, steps_by, AreFew
 use Rattle.race_threads.specs.Said.{Said}
 use Rattle.race_threads.specs.Sections.{layout_in}
 use Rattle.race_threads.proofs.Closing.{closes, good, each_there}
-use Rattle.race_threads.proofs.FromRaw.{explained, place_of}
+use Rattle.race_threads.proofs.FromRaw.{explained, of_its_time, place_of}
 use Rattle.race_threads.proofs.Idle.{none_taken}
 use Rattle.race_threads.proofs.Reaped.{reaped as reaped_all}
 use Rattle.race_threads.proofs.Staged.{staged}
@@ -98,6 +98,7 @@ module _ (script : Script) (capture : Capture) (part : ℕ → Part) (tooks : Li
         most = omega (arith, h.most, seen, e.later);
         explained = explained header y clock e.whole (good header script.sections part (length tooks) v x values says clock (looks_by passes tooks looked capture) e) r h.seed_is h.told w;
         stages = staged header y clock e.whole (good header script.sections part (length tooks) v x values says clock (looks_by passes tooks looked capture) e) (part m).chain.read.receipts (searched_at m there) packet header.seed r.t0 r.t1 r.answer h.told h.stages;
+        life = of_its_time header y clock e.whole (good header script.sections part (length tooks) v x values says clock (looks_by passes tooks looked capture) e) r h.told w;
         bucket = h.bucket;
       }
 

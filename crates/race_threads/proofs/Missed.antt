@@ -64,9 +64,13 @@ module _ (header : Header) (v : View) (clock : ℕ) (w : IsWhole v clock) (good 
 
   -- it does not stay to the end of the walk
   stays_not : ((u : Change) → Ends (Among (book_of v)) h u → saw.sight.until ≤ u.begin) → ⊥
-  stays_not still = unlisted (seen_true.whole saw.whole (home header.shape header.seed card) saw.bucket r.change r.there (raw_hash header v clock w good h r life.hash) at_home
-      (omega (arith, before, saw.since, ap (λ (x : Change). x.end) r.is))
-      (λ u e. still (change_of u) (subst (λ (x : Change). Ends (Among (book_of v)) x (change_of u)) (sym r.is) (ends_book header v clock w good r.change u e))))
+  stays_not still = unlisted (seen_true.whole saw.whole (home header.shape header.seed card) saw.bucket r.change r.there (raw_hash header v clock w good h r life.hash) at_home (
+    let low = seen_true.since in omega (arith, before, saw.since, low, ap (λ (x : Change). x.end) r.is),
+    λ u e.
+        let high = seen_true.until in
+        let late = still (change_of u) (subst (λ (x : Change). Ends (Among (book_of v)) x (change_of u)) (sym r.is) (ends_book header v clock w good r.change u e)) in
+        omega (arith, high, late),
+  ))
 
   by_ending : (o : Option Change) → ending (book_of v) h ≡ o → Leaves (Among (book_of v)) h to
   by_ending None e = absurd (stays_not (λ u q. absurd (no_ending (book_of v) h e u q.there q.after)))

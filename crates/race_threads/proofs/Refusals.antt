@@ -26,7 +26,7 @@ use Rattle.race_record.proofs.Weights.{is, all_differ}
 use Rattle.race_threads.specs.Made.{SawKeeper, SawRead, SawNone, IsBy, held_by}
 use Rattle.race_threads.specs.Races.{IsWhole, book_of, held_in}
 use Rattle.race_threads.proofs.CardsTold.{found_seen, same_told}
-use Rattle.race_threads.proofs.FromRaw.{AreGood, each_at, seen_life}
+use Rattle.race_threads.proofs.FromRaw.{AreGood, each_at, seen_life, standing_life}
 use Rattle.race_threads.proofs.Weights.{weigh_map, among_flat}
 
 -- Slots that were read
@@ -95,7 +95,10 @@ module _ (header : Header) (v : View) (clock : ℕ) (w : IsWhole v clock) (good 
   pub was_kept : (from to : ℕ) (t : Taken) → SawKeeper v.sights from (IsBy to) t → WasKept (Among (book_of v)) from to t
   was_kept from to t h =
       let f = found_seen (keeps t.wish.card t.wish.moment t.wish.rule) h.sight.listed t.name h.first in
-      let l = seen_life header v clock w good h.sight h.there f.nth f.seen f.there from to h.since h.is in
+      let z = standing_life header v clock w good h.sight h.there f.nth f.seen f.there h.bucket h.bucket_is in
+      let l = z.2 in
+      let low = z.0 in
+      let high = z.1 in
       let c = each_at HasCard h.sight.listed f.nth f.seen f.there h.cards in
       let same : l.life.card ≡ card_from f.seen.words = l.card ∙ same_told f.seen.words l.words c.0 l.told in
       record {
@@ -103,7 +106,10 @@ module _ (header : Header) (v : View) (clock : ℕ) (w : IsWhole v clock) (good 
         is = l.is;
         name = ap (λ (x : Card). x.name) same ∙ f.named;
         keeps = ap (keeps_from t.wish.card t.wish.moment t.wish.rule) same ∙ f.passes;
-        stood = l.stood;
+        number = h.sight.instant;
+        since = omega (arith, h.since, low);
+        until = omega (arith, h.is, high);
+        stands = l.stands;
       }
 
   module _ (from to : ℕ) where

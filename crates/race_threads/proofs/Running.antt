@@ -93,7 +93,7 @@ module _ (header : Header) (t : Tables) (number : ℕ) where
       let own : Own = new_own header number in
       let done : HasDone header number [] own (turned w) (chained t w) (said_as [] []) = begins header number (turned w) (chained t w) n in
       subst (λ (x : Kept). Runs header t number commands x w (said_as replies listings)) (sym is) (record {
-        section = law t header number w of_header fresh.ready few (λ _. sym n.caller) n.mine;
+        section = law t header number w of_header fresh.ready (omega (arith, few)) (λ _. sym n.caller) n.mine;
         header_is = refl;
         turn_part = fresh.turn_part;
         chain_part = fresh.chain_part;

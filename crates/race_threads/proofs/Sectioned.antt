@@ -31,7 +31,7 @@ use Rattle.race_record.specs.Lawful.{IsSpanned, Precedes, IsCalledBy}
 use Rattle.chain_deeds.specs.Sides.{Side, change_of}
 use Rattle.chain_deeds.specs.Made.{IsHomeIfHash, HasWords, number_of}
 use Rattle.nulls_chain.proofs.Saw.{are_settled}
-use Rattle.chain_deeds.proofs.Seen.{sees_both}
+use Rattle.chain_deeds.proofs.Seen.{sees_both, same_sees}
 use Rattle.section_machine.specs.Sections.{Did}
 use Rattle.race_threads.specs.Dumped.{Listed}
 use Rattle.race_threads.specs.Made.{SawFree, SawKeeper, SawNone, SawNoWait, IsAny, IsBy, MadeAll, Loads, loaded, missed_in}
@@ -39,7 +39,7 @@ use Rattle.race_threads.specs.Said.{Said, said_as, saying}
 use Rattle.race_threads.specs.Sections.{Makes, IsShown, HasDone, HasNothing, layout_in, listings_in}
 use Rattle.race_threads.proofs.Dumping.{Lasts, lasts, saw_as_moves, saw_step}
 use Rattle.race_threads.proofs.Leaving.{all_made}
-use Rattle.race_threads.proofs.Sightings.{each_by_place, free_moves, keeper_moves, none_moves, ended_sees, all_loaded, any_sees, moves_both, same_sees, Moves, no_wait_moves}
+use Rattle.race_threads.proofs.Sightings.{each_by_place, free_moves, keeper_moves, none_moves, ended_sees, all_loaded, any_sees, moves_both, Moves, no_wait_moves}
 use Rattle.race_threads.proofs.Weights.{flat_push}
 
 -- One step more
@@ -105,8 +105,8 @@ module _ (header : Header) (n : ℕ) (commands : List Command) (own next : Own) 
   it_is_shown = record {
     keepers = each_weaken (SawKeeper d.view.sights c.view.seen IsAny) (SawKeeper (loaded e number).view.sights c.view.seen (IsBy number)) (taken_in did.deeds)
         (keeper_moves d.view.sights (loaded e number).view.sights c.view.seen c.view.seen IsAny (IsBy number) (omega arith) moves) made.keepers;
-    frees = each_weaken (SawFree d.view.sights c.view.seen IsAny) (SawFree (loaded e number).view.sights c.view.seen (IsBy number)) (given_in did.deeds)
-        (free_moves d.view.sights (loaded e number).view.sights c.view.seen c.view.seen IsAny (IsBy number) (omega arith) moves) made.frees;
+    frees = each_weaken (SawFree d.view.sights) (SawFree (loaded e number).view.sights) (given_in did.deeds)
+        (free_moves d.view.sights (loaded e number).view.sights (IsBy number) moves) made.frees;
     nones = subst (λ k. Each (SawNone (loaded e number).view.sights (IsBy number) k) (vain_in did.deeds)) count_is
         (each_weaken (SawNone d.view.sights IsAny c.layout.shape.slots) (SawNone (loaded e number).view.sights (IsBy number) c.layout.shape.slots) (vain_in did.deeds)
         (none_moves d.view.sights (loaded e number).view.sights IsAny (IsBy number) moves c.layout.shape.slots) made.nones);
@@ -124,8 +124,8 @@ module _ (header : Header) (n : ℕ) (commands : List Command) (own next : Own) 
       record {
         keepers = each_weaken (SawKeeper c.view.sights s.from (IsBy s.to)) (SawKeeper (loaded e number).view.sights s.from (IsBy s.to)) (taken_in s.deeds)
             (keeper_moves c.view.sights (loaded e number).view.sights s.from s.from (IsBy s.to) (IsBy s.to) (omega arith) go) z.0.keepers;
-        frees = each_weaken (SawFree c.view.sights s.from (IsBy s.to)) (SawFree (loaded e number).view.sights s.from (IsBy s.to)) (given_in s.deeds)
-            (free_moves c.view.sights (loaded e number).view.sights s.from s.from (IsBy s.to) (IsBy s.to) (omega arith) go) z.0.frees;
+        frees = each_weaken (SawFree c.view.sights) (SawFree (loaded e number).view.sights) (given_in s.deeds)
+            (free_moves c.view.sights (loaded e number).view.sights IsAny (any_sees c.view (loaded e number).view sees_all)) z.0.frees;
         nones = each_weaken (SawNone c.view.sights (IsBy s.to) header.shape.slots) (SawNone (loaded e number).view.sights (IsBy s.to) header.shape.slots) (vain_in s.deeds)
             (none_moves c.view.sights (loaded e number).view.sights (IsBy s.to) (IsBy s.to) go header.shape.slots) z.0.nones;
         waits = each_weaken (SawNoWait c.view.sights s.from (IsBy s.to) (layout_in header)) (SawNoWait (loaded e number).view.sights s.from (IsBy s.to) (layout_in header)) (missed_in s.deeds)

@@ -18,6 +18,7 @@ use Rattle.shared_sockets.specs.Rows.{row_of, HasCard}
 use Rattle.race_book.specs.Among.{Among}
 use Rattle.race_book.proofs.AmongLemmas.{among_left}
 use Rattle.race_record.specs.Deeds.{Given, Taken, Vain}
+use Rattle.chain_deeds.specs.Made.{GaveWayIn}
 use Rattle.race_threads.specs.Made.{SawFree, SawKeeper, SawRead, SawNone, SawNoWait, IsAny, IsBy, listed_by, held_by}
 
 -- Lists
@@ -38,6 +39,7 @@ pub record IsAs (sights : List Sight) (Is : Sight → Type 0) (s : Sight) : Type
   pub bucket : sight.bucket ≡ s.bucket
   pub whole : sight.whole ≡ s.whole
   pub since : sight.since ≡ s.since
+  pub instant : sight.instant ≡ s.instant
   pub is : Is sight
 
 abbrev pub Moves : List Sight → (Sight → Type 0) → List Sight → (Sight → Type 0) → Type 0
@@ -52,26 +54,10 @@ module _ (xs ys : List Sight) (a b : ℕ) (P Q : Sight → Type 0) (le : b ≤ a
         there = m.there;
         since = omega (arith, le, h.since, m.since);
         is = m.is;
+        bucket = h.bucket;
+        bucket_is = m.bucket ∙ h.bucket_is;
         cards = subst (Each HasCard) (sym m.listed) h.cards;
         first = ap (λ l. Rattle.std.specs.Option.option_map name_of (Rattle.std.proofs.Common.find (Rattle.chain_book.specs.Chains.keeps t.wish.card t.wish.moment t.wish.rule) (row_of l))) m.listed ∙ h.first;
-      }
-
-  pub free_moves : (g : Given) → SawFree xs a P g → SawFree ys b Q g
-  free_moves g h =
-      let m = moves h.sight h.there h.is in
-      record {
-        act = h.act;
-        sight = m.sight;
-        there = m.there;
-        since = omega (arith, le, h.since, m.since);
-        is = m.is;
-        bucket = m.bucket ∙ h.bucket;
-        whole = m.whole ∙ h.whole;
-        others = h.others;
-        listed = subst (Each (λ (s : Seen). (s.slot ≡ g.hash.slot) ⊎ Among h.others s)) (sym m.listed) h.listed;
-        cards = h.cards;
-        unkept = h.unkept;
-        unwaited = h.unwaited;
       }
 
   read_moves : (r : Read) → SawRead xs a P r → SawRead ys b Q r
@@ -100,6 +86,21 @@ module _ (xs ys : List Sight) (a b : ℕ) (P Q : Sight → Type 0) (le : b ≤ a
         none = ap (λ l. Rattle.std.proofs.Common.find (Rattle.chain_book.specs.Chains.waits_as card.name) (row_of l)) m.listed ∙ h.none;
       }
 
+-- what was known as a hash began
+pub free_moves : (xs ys : List Sight) (Q : Sight → Type 0) → Moves xs IsAny ys Q → (g : Given) → SawFree xs g → SawFree ys g
+free_moves xs ys Q moves g h =
+    let m = moves h.sight h.there tt in
+    record {
+      sight = m.sight;
+      there = m.there;
+      bucket = m.bucket ∙ h.bucket;
+      whole = m.whole ∙ h.whole;
+      instant = m.instant ∙ h.instant;
+      cards = subst (Each HasCard) (sym m.listed) h.cards;
+      unkept = ap (λ l. Rattle.std.proofs.Common.find (Rattle.chain_book.specs.Chains.keeps g.wish.card g.wish.moment g.wish.rule) (row_of l)) m.listed ∙ h.unkept;
+      gave = subst (GaveWayIn g.wish g.replaced) (sym m.listed) h.gave;
+    }
+
 -- what was read after a number drawn in vain
 pub none_moves : (xs ys : List Sight) (P Q : Sight → Type 0) → Moves xs P ys Q → (count : ℕ) (v : Vain) → SawNone xs P count v → SawNone ys Q count v
 none_moves xs ys P Q moves count v h = record {
@@ -114,13 +115,13 @@ none_moves xs ys P Q moves count v h = record {
 
 -- Settling
 
-settled_as : (least : ℕ) (s t : Sight) → IsSettled least s t → (t.listed ≡ s.listed) × (t.held ≡ s.held) × (t.since ≡ s.since) × (t.bucket ≡ s.bucket) × (t.whole ≡ s.whole)
+settled_as : (least : ℕ) (s t : Sight) → IsSettled least s t → (t.listed ≡ s.listed) × (t.held ≡ s.held) × (t.since ≡ s.since) × (t.bucket ≡ s.bucket) × (t.whole ≡ s.whole) × (t.instant ≡ s.instant)
 settled_as least s t h = ⊎_elim
-    (λ e. (ap (λ (x : Sight). x.listed) e, ap (λ (x : Sight). x.held) e, ap (λ (x : Sight). x.since) e, ap (λ (x : Sight). x.bucket) e, ap (λ (x : Sight). x.whole) e))
-    (λ z. (ap (λ (x : Sight). x.listed) z.3, ap (λ (x : Sight). x.held) z.3, ap (λ (x : Sight). x.since) z.3, ap (λ (x : Sight). x.bucket) z.3, ap (λ (x : Sight). x.whole) z.3)) h
+    (λ e. (ap (λ (x : Sight). x.listed) e, ap (λ (x : Sight). x.held) e, ap (λ (x : Sight). x.since) e, ap (λ (x : Sight). x.bucket) e, ap (λ (x : Sight). x.whole) e, ap (λ (x : Sight). x.instant) e))
+    (λ z. (ap (λ (x : Sight). x.listed) z.3, ap (λ (x : Sight). x.held) z.3, ap (λ (x : Sight). x.since) z.3, ap (λ (x : Sight). x.bucket) z.3, ap (λ (x : Sight). x.whole) z.3, ap (λ (x : Sight). x.instant) z.3)) h
 
 later_as : (y : Sight) (ys : List Sight) (Is : Sight → Type 0) (s : Sight) → IsAs ys Is s → IsAs (y ∷ ys) Is s
-later_as y ys Is s m = record { sight = m.sight; there = inr m.there; listed = m.listed; held = m.held; bucket = m.bucket; whole = m.whole; since = m.since; is = m.is }
+later_as y ys Is s m = record { sight = m.sight; there = inr m.there; listed = m.listed; held = m.held; bucket = m.bucket; whole = m.whole; since = m.since; instant = m.instant; is = m.is }
 
 any_settled : (least : ℕ) (xs ys : List Sight) → AreSettled least xs ys → Moves xs IsAny ys IsAny
 any_settled least [] ys h s a i = absurd a
@@ -134,6 +135,7 @@ any_settled least (x ∷ xs) (y ∷ ys) h s a i = ⊎_elim
       since = k.2 ∙ ap (λ (z : Sight). z.since) (sym e);
       bucket = k.3 ∙ ap (λ (z : Sight). z.bucket) (sym e);
       whole = k.4 ∙ ap (λ (z : Sight). z.whole) (sym e);
+      instant = k.5 ∙ ap (λ (z : Sight). z.instant) (sym e);
       is = tt;
     })
     (λ b. later_as y ys IsAny s (any_settled least xs ys h.1 s b i)) a
@@ -147,6 +149,7 @@ wider ys zs all Is e s m = record {
   bucket = m.bucket;
   whole = m.whole;
   since = m.since;
+  instant = m.instant;
   is = m.is;
 }
 
@@ -168,6 +171,7 @@ ended_settled least to few (x ∷ xs) (y ∷ ys) h s a i = ⊎_elim
       since = ap (λ (z : Sight). z.since) e';
       bucket = ap (λ (z : Sight). z.bucket) e';
       whole = ap (λ (z : Sight). z.whole) e';
+      instant = ap (λ (z : Sight). z.instant) e';
       is = subst (IsBy to) (sym e') i;
     })
     (λ z. let still : s.until ≡ open-end = ap (λ (w : Sight). w.until) e ∙ z.0 in absurd (omega (arith, still, i, few))) h.0)
@@ -175,19 +179,6 @@ ended_settled least to few (x ∷ xs) (y ∷ ys) h s a i = ⊎_elim
 
 pub ended_sees : (to : ℕ) → to < open-end → (v w : View) → Sees v w → Moves v.sights (IsBy to) w.sights (IsBy to)
 ended_sees to few v w h s a i = wider h.0 h.1 w.sights (IsBy to) h.3 s (ended_settled v.seen to few v.sights h.0 h.2 s a i)
-
--- and that very one stands
-same_settled : (least : ℕ) (xs ys : List Sight) → AreSettled least xs ys → (s : Sight) → Among xs s → s.until < open-end → Among ys s
-same_settled least [] ys h s a few = absurd a
-same_settled least (x ∷ xs) [] h s a few = absurd h
-same_settled least (x ∷ xs) (y ∷ ys) h s a few = ⊎_elim
-    (λ e. ⊎_elim
-    (λ same. inl (e ∙ sym same))
-    (λ z. let still : s.until ≡ open-end = ap (λ (w : Sight). w.until) e ∙ z.0 in absurd (omega (arith, still, few))) h.0)
-    (λ b. inr (same_settled least xs ys h.1 s b few)) a
-
-pub same_sees : (v w : View) → Sees v w → (s : Sight) → Among v.sights s → s.until < open-end → Among w.sights s
-same_sees v w h s a few = subst (λ l. Among l s) (sym h.3) (among_left s h.0 h.1 (same_settled v.seen v.sights h.0 h.2 s a few))
 
 -- one way on after another
 pub moves_both : (xs ys zs : List Sight) (P Q R : Sight → Type 0) → Moves xs P ys Q → Moves ys Q zs R → Moves xs P zs R
@@ -202,6 +193,7 @@ moves_both xs ys zs P Q R f g s a p =
       bucket = n.bucket ∙ m.bucket;
       whole = n.whole ∙ m.whole;
       since = n.since ∙ m.since;
+      instant = n.instant ∙ m.instant;
       is = n.is;
     }
 
@@ -217,15 +209,16 @@ all_loaded Is r (x ∷ xs) h s a i = ⊎_elim
       since = k.2 ∙ ap (λ (z : Sight). z.since) (sym e);
       bucket = k.3 ∙ ap (λ (z : Sight). z.bucket) (sym e);
       whole = k.4 ∙ ap (λ (z : Sight). z.whole) (sym e);
+      instant = k.5 ∙ ap (λ (z : Sight). z.instant) (sym e);
       is = h.0;
     })
     (λ b. later_as (settled_one r x) (settled xs r) Is s (all_loaded Is r xs h.1 s b i)) a
   where
-    by_test : (b : Bool) (r : ℕ) (s : Sight) → ((cond b (record s { until = r }) s).listed ≡ s.listed) × ((cond b (record s { until = r }) s).held ≡ s.held) × ((cond b (record s { until = r }) s).since ≡ s.since) × ((cond b (record s { until = r }) s).bucket ≡ s.bucket) × ((cond b (record s { until = r }) s).whole ≡ s.whole)
-    by_test true r s = (refl, refl, refl, refl, refl)
-    by_test false r s = (refl, refl, refl, refl, refl)
+    by_test : (b : Bool) (r : ℕ) (s : Sight) → ((cond b (record s { until = r }) s).listed ≡ s.listed) × ((cond b (record s { until = r }) s).held ≡ s.held) × ((cond b (record s { until = r }) s).since ≡ s.since) × ((cond b (record s { until = r }) s).bucket ≡ s.bucket) × ((cond b (record s { until = r }) s).whole ≡ s.whole) × ((cond b (record s { until = r }) s).instant ≡ s.instant)
+    by_test true r s = (refl, refl, refl, refl, refl, refl)
+    by_test false r s = (refl, refl, refl, refl, refl, refl)
 
-    one_as : (r : ℕ) (s : Sight) → ((settled_one r s).listed ≡ s.listed) × ((settled_one r s).held ≡ s.held) × ((settled_one r s).since ≡ s.since) × ((settled_one r s).bucket ≡ s.bucket) × ((settled_one r s).whole ≡ s.whole)
+    one_as : (r : ℕ) (s : Sight) → ((settled_one r s).listed ≡ s.listed) × ((settled_one r s).held ≡ s.held) × ((settled_one r s).since ≡ s.since) × ((settled_one r s).bucket ≡ s.bucket) × ((settled_one r s).whole ≡ s.whole) × ((settled_one r s).instant ≡ s.instant)
     one_as r s = by_test (Rattle.std.proofs.Common.eqb s.until open-end) r s
 
 -- what is read of a slot is seen by its sighting

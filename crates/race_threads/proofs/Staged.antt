@@ -29,7 +29,7 @@ use Rattle.race_record.specs.Stages.{IsInStages}
 use Rattle.race_threads.specs.Lookers.{IsTold}
 use Rattle.race_threads.specs.Races.{IsWhole, book_of}
 use Rattle.race_threads.specs.Searches.{SearchedIn, FoundNone, Gave, GaveLast, GaveOr, WentInStages}
-use Rattle.race_threads.proofs.FromRaw.{AreGood, may_end, rank_is, raw_hash, raw_of, raw_throughout}
+use Rattle.race_threads.proofs.FromRaw.{AreGood, may_end, can_stop, rank_is, raw_hash, raw_of, raw_throughout}
 
 -- Over a wider span
 
@@ -49,6 +49,41 @@ end_wider In slots bucket t0 t1 a b low high (stops.Foreign other) h = (h.0, met
 end_wider In slots bucket t0 t1 a b low high (stops.Dead slot) h = met_wider In _ t0 t1 a b low high h
 end_wider In slots bucket t0 t1 a b low high (stops.Changed slot) h = met_wider In _ t0 t1 a b low high h
 end_wider In slots bucket t0 t1 a b low high (stops.Long n) h = (h.0, met_wider In _ t0 t1 a b low high h.1)
+
+cause_wider : (In : Change → Type 0) (bucket t0 t1 a b : ℕ) → t0 ≤ a → b ≤ t1 → (end : PassEnd) → stages.CanStop In bucket a b end → stages.CanStop In bucket t0 t1 end
+cause_wider In bucket t0 t1 a b low high end h = by_end end h
+  where
+    astray : stages.LedAstray In bucket a b → stages.LedAstray In bucket t0 t1
+    astray s = record {
+      life = s.life;
+      is = s.is;
+      bucket_is = s.bucket_is;
+      unhash = s.unhash;
+      ends = s.ends;
+      left = record { begun = omega (arith, s.left.begun, high); lasting = omega (arith, s.left.lasting, low) };
+      again = s.again;
+      again_is = s.again_is;
+      slot_is = s.slot_is;
+      after = s.after;
+      hashed = record { begun = omega (arith, s.hashed.begun, high); lasting = omega (arith, s.hashed.lasting, low) };
+    }
+
+    by_end : (end : PassEnd) → stages.CanStop In bucket a b end → stages.CanStop In bucket t0 t1 end
+    by_end (stops.Foreign other) s = astray s
+    by_end (stops.Dead slot) s = (
+      ⊎_elim
+          (λ z. inl record {
+            life = z.life;
+            is = z.is;
+            bucket_is = z.bucket_is;
+            slot_is = z.slot_is;
+            stood = record { begun = omega (arith, z.stood.begun, high); still = λ u e. omega (arith, z.stood.still u e, low) };
+          })
+          (λ z. inr (astray z)) s.0,
+      λ x l at t. s.1 x l at (narrower In x t0 t1 a b low high t),
+    )
+    by_end (stops.Changed slot) s = astray s
+    by_end (stops.Long n) s = astray s
 
 module _ (header : Header) (v : View) (clock : ℕ) (w : IsWhole v clock) (good : AreGood header v) (searches : List Search)
     (known : (s : Search) → Among searches s → lookups.IsExplained (mine v) header.shape.slots s) (packet : Packet) where
@@ -89,6 +124,8 @@ module _ (header : Header) (v : View) (clock : ℕ) (w : IsWhole v clock) (good 
           h.0,
           subst (λ (b : ℕ). MayEnd In slots b t0 t1 end) g.bucket_is
               (end_wider In slots s.bucket t0 t1 s.from s.to g.begins g.ends end (may_end header v clock w good s slots end stop.0)),
+          subst (λ (b : ℕ). stages.CanStop In b t0 t1 end) g.bucket_is
+              (cause_wider In s.bucket t0 t1 s.from s.to g.begins g.ends end (can_stop header v clock w good s slots end stop.0)),
         )
 
     gave_last : (answer : PacketAnswer) → IsTold answer → GaveLast searches packet bucket least t0 t1 answer → stages.GaveLast In slots packet bucket least t0 t1 answer

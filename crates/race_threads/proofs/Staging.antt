@@ -72,7 +72,7 @@ module _ (xs ys : List Search) (more : (s : Search) → Among xs s → Among ys 
 
 -- One search
 
-last_there : (m k : Sat) (s : Search) → searches_of k ≡ searches_of m ++ s ∷ [] → Among (searches_of k) s
+pub last_there : (m k : Sat) (s : Search) → searches_of k ≡ searches_of m ++ s ∷ [] → Among (searches_of k) s
 last_there m k s e = subst (λ (l : List Search). Among l s) (sym e) (among_right s (searches_of m) (s ∷ []) (inl refl))
 
 module _ (packet : Packet) (passes bucket least t0 t1 : ℕ) (m : Sat) (from to : ℕ) (k : Sat) (low : t0 ≤ from) (high : to ≤ t1) where
@@ -103,7 +103,7 @@ module _ (packet : Packet) (passes bucket least t0 t1 : ℕ) (m : Sat) (from to 
       )
 
 -- what is seen then
-seen_one : (bucket least passes : ℕ) (packet : Packet) (m : Sat) (end : LookEnd) (from to : ℕ) (n : Sat) → LookedAs bucket packet least passes m (words_end end) from to n → n.0.seen ≡ to
+pub seen_one : (bucket least passes : ℕ) (packet : Packet) (m : Sat) (end : LookEnd) (from to : ℕ) (n : Sat) → LookedAs bucket packet least passes m (words_end end) from to n → n.0.seen ≡ to
 seen_one bucket least passes packet m (ends.Found held card) from to n h = ap (λ (z : Sat). z.0.seen) h.6
 seen_one bucket least passes packet m ends.None from to n h = ap (λ (z : Sat). z.0.seen) h.3
 seen_one bucket least passes packet m (ends.Again b stop) from to n h = ap (λ (z : Sat). z.0.seen) h.1.4
@@ -144,7 +144,7 @@ module _ (layout : Layout) (packet : Packet) (passes : ℕ) where
       (λ z. one_later (any_home layout packet) 1 z.2 look z.1 to k z.5 s (one_later (exact_home layout packet) 3 m ends.None from z.0 z.2 z.4 s a))
       h
 
-  in_order_seen : (m : Sat) (look : LookEnd) (from to : ℕ) (k : Sat) → InOrder layout packet passes m look from to k → k.0.seen ≡ to
+  pub in_order_seen : (m : Sat) (look : LookEnd) (from to : ℕ) (k : Sat) → InOrder layout packet passes m look from to k → k.0.seen ≡ to
   in_order_seen m look from to k h = ⊎_elim
       (λ z. seen_one (exact_home layout packet) 3 passes packet m look from to k z.1)
       (λ z. seen_one (any_home layout packet) 1 passes packet z.2 look z.1 to k z.5)

@@ -11,7 +11,6 @@ use Rattle.table_rule.specs.Beyond.{SightTrue}
 use Rattle.table_rule.specs.Book.{Part}
 use Rattle.table_rule.specs.Words.{bucket_count}
 use Rattle.table_rule.specs.declared.view.Layout.{Layout}
-use Rattle.table_rule.specs.declared.view.Seen.{Seen}
 use Rattle.table_rule.specs.declared.view.Sight.{Sight}
 use Rattle.nulls_chain.specs.Changes.{Sees}
 use Rattle.chain_deeds.specs.Sides.{Side}
@@ -19,6 +18,7 @@ use Rattle.race_book.specs.Among.{Among}
 use Rattle.race_record.specs.Record.{Step}
 use Rattle.shared_dump.specs.Books.{AreTold}
 use Rattle.shared_dump.specs.Dumps.{Keeps}
+use Rattle.shared_dump.specs.Rows.{Row}
 use Rattle.shared_dump.specs.Sightings.{sightings}
 
 -- Between these two numbers all chains were listed, each seen whole, as sightings show; and in each book of changes
@@ -28,7 +28,7 @@ pub record SawAll (layout : Layout) (sights : List Sight) (from to : ℕ) (cards
   pub order : span.t0 ≤ span.t1
   pub ends : span.t1 ≤ to
   pub sorted : cards ≡ ascending cards
-  pub rows : List (List Seen)
+  pub rows : List Row
   pub there : Each (Among sights) (sightings span.t0 span.t1 0 rows)
   pub told : (views : List Part) → Each (SightTrue views) (sightings span.t0 span.t1 0 rows)
       → AreTold views (bucket_count layout) span.t0 span.t1 cards

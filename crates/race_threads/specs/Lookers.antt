@@ -31,7 +31,7 @@ use Rattle.shared_demux.specs.Concludes.{Concluded}
 use Rattle.race_threads.specs.declared.looker.Look.{Look}
 use Rattle.race_threads.specs.Joins.{Part}
 use Rattle.race_threads.specs.Races.{HasOnlyLooked, Looks}
-use Rattle.race_threads.specs.Searches.{HasSearched, LooksAfter, WentInStages}
+use Rattle.race_threads.specs.Searches.{HasSearched, LooksAfter, WasHeld, WentInStages}
 
 -- a packet's receipt, as a pass keeps it
 abbrev pub whole_for : Receipt → Whole
@@ -50,6 +50,7 @@ pub record IsLookup (header : Header) (read : ReadView) (seen : ℕ) (packet : P
   pub most : r.t1 ≤ seen
   pub there : Among read.wholes (whole_for r)
   pub stages : WentInStages read.receipts header.shape header.seed packet r.t0 r.t1 r.answer
+  pub held : WasHeld read r.t0 r.answer
   pub told : IsTold r.answer
   pub bucket : NamesItsBucket header.shape header.seed packet r.answer
 
@@ -127,6 +128,7 @@ pub record LookedUp (header : Header) (passes : ℕ) (packet : Packet) (m n : Sa
   pub searched : n.0.read.receipts ≡ m.0.read.receipts ++ searches
   pub after : LooksAfter passes searches (looks.Answered r)
   pub stages : WentInStages n.0.read.receipts header.shape header.seed packet r.t0 r.t1 r.answer
+  pub held : WasHeld n.0.read r.t0 r.answer
 
 -- the chains' view of a looker
 abbrev pub looking : BindView → View → Part

@@ -6,8 +6,7 @@ use Rattle.std.specs.List.{flat_map}
 use Rattle.std.specs.Option.{option_map}
 use Rattle.list_words.specs.Lists.{Each, Pairs, SameItems}
 use Rattle.sock_card.specs.declared.card.Card.{Card}
-use Rattle.chain_book.specs.declared.book.Act.TheVariants as acts
-use Rattle.chain_book.specs.Chains.{keeps, waits, waits_as}
+use Rattle.chain_book.specs.Chains.{keeps, waits_as}
 use Rattle.chain_book.specs.Homes.{home}
 use Rattle.table_rule.specs.Lists.{times}
 use Rattle.table_rule.specs.Plays.{seeing}
@@ -23,7 +22,7 @@ use Rattle.shared_sockets.specs.Rows.{row_of, HasCard}
 use Rattle.race_book.specs.Among.{Among}
 use Rattle.race_record.specs.Deeds.{Deed, reaped, Given, Taken, Vain, changes_in, given_in, taken_in, vain_in, drawn_in}
 use Rattle.chain_deeds.specs.Sides.{Side, changes_by}
-use Rattle.chain_deeds.specs.Made.{IsHomeIfHash, AllHaveWords, number_of}
+use Rattle.chain_deeds.specs.Made.{GaveWayIn, IsHomeIfHash, AllHaveWords, number_of}
 
 -- the slot alone, if it was read as owned, and else none
 abbrev pub listed_by : Read → List Seen
@@ -49,25 +48,11 @@ module _ (sights : List Sight) (from : ℕ) (Is : Sight → Type 0) where
     pub there : Among sights sight
     pub since : from ≤ sight.since
     pub is : Is sight
+    pub bucket : ℕ
+    pub bucket_is : sight.bucket ≡ bucket ∷ []
     pub cards : Each HasCard sight.listed
     pub first :
         option_map name_of (find (keeps t.wish.card t.wish.moment t.wish.rule) (row_of sight.listed)) ≡ Some t.name
-
-  -- the newcomer stood in its chain with some of those that had been there, of whom none keeps the four-tuple; and
-  -- where none gave way, none waits at it
-  pub record SawFree (g : Given) : Type 0 where
-    pub act : g.hash.act ≡ acts.Hash
-    pub sight : Sight
-    pub there : Among sights sight
-    pub since : from ≤ sight.since
-    pub is : Is sight
-    pub bucket : sight.bucket ≡ g.hash.bucket ∷ []
-    pub whole : sight.whole ≡ 1
-    pub others : List Seen
-    pub listed : Each (λ (s : Seen). (s.slot ≡ g.hash.slot) ⊎ Among others s) sight.listed
-    pub cards : Each HasCard others
-    pub unkept : find (keeps g.wish.card g.wish.moment g.wish.rule) (row_of others) ≡ None
-    pub unwaited : g.replaced ≡ None → find (waits g.wish.card) (row_of others) ≡ None
 
   -- the slot was read as owned, or as held alone
   pub record SawRead (r : Read) : Type 0 where
@@ -88,6 +73,18 @@ module _ (sights : List Sight) (from : ℕ) (Is : Sight → Type 0) where
     pub whole : sight.whole ≡ 1
     pub cards : Each HasCard sight.listed
     pub none : find (waits_as card.name) (row_of sight.listed) ≡ None
+
+-- by a sighting of this list the whole chain of the newcomer was known as its hash began, and nobody there kept the
+-- four-tuple
+pub record SawFree (sights : List Sight) (g : Given) : Type 0 where
+  pub sight : Sight
+  pub there : Among sights sight
+  pub bucket : sight.bucket ≡ g.hash.bucket ∷ []
+  pub whole : sight.whole ≡ 1
+  pub instant : sight.instant ≡ g.hash.begin
+  pub cards : Each HasCard sight.listed
+  pub unkept : find (keeps g.wish.card g.wish.moment g.wish.rule) (row_of sight.listed) ≡ None
+  pub gave : GaveWayIn g.wish g.replaced sight.listed
 
 -- each of so many slots was read as owned, or as held alone, after the number that was drawn in vain
 pub record SawNone (sights : List Sight) (Is : Sight → Type 0) (count : ℕ) (v : Vain) : Type 0 where
@@ -118,7 +115,7 @@ pub record MadeAll (deeds : List Deed) (c d : Side) : Type 0 where
   pub read : d.view.read ≡ c.view.read
   pub sees : Sees c.view d.view
   pub keepers : Each (SawKeeper d.view.sights c.view.seen IsAny) (taken_in deeds)
-  pub frees : Each (SawFree d.view.sights c.view.seen IsAny) (given_in deeds)
+  pub frees : Each (SawFree d.view.sights) (given_in deeds)
   pub nones : Each (SawNone d.view.sights IsAny c.layout.shape.slots) (vain_in deeds)
   pub waits : Each (SawNoWait d.view.sights c.view.seen IsAny c.layout) (missed_in deeds)
 

@@ -1,5 +1,5 @@
--- What the lookups of a looker searched, after how many passes they were given up, and by which searches, one chain
--- after the other, they came to their answers: our own.
+-- What the lookups of a looker searched, after how many passes they were given up, under which counts they read what
+-- they found, and by which searches, one chain after the other, they came to their answers: our own.
 use Rattle.std.specs.Prelude.{◌≡◌, ℕ, ◌≤◌, ◌⊎◌, List, [], ◌∷◌, ◌++◌, length}
 use Rattle.std.specs.List.{flat_map}
 use Rattle.sock_card.specs.declared.card.Card.{Card}
@@ -14,8 +14,9 @@ use Rattle.race_book.specs.Among.{Among}
 use Rattle.race_record.specs.declared.record.Looked.{Looked}
 use Rattle.race_record.specs.declared.record.Looked.TheVariants as looks
 use Rattle.table_rule.specs.ReadersOk.{rank_of}
-use Rattle.table_rule.specs.Wholes.{stop_of}
+use Rattle.table_rule.specs.Wholes.{stop_of, FoundIn, SeenIn}
 use Rattle.table_rule.specs.Words.{words_of}
+use Rattle.table_rule.specs.declared.view.ReadView.{ReadView}
 use Rattle.table_rule.specs.declared.view.Receipt.{Receipt as Search}
 use Rattle.table_rule.specs.declared.view.Stop.{Stop}
 use Rattle.race_threads.specs.declared.looker.Look.{Look}
@@ -38,6 +39,13 @@ pub record GaveUpAfter (passes : ℕ) (searches : List Search) (packet : Packet)
 abbrev pub AnswersAfter : (passes : ℕ) → List Search → Packet → PacketAnswer → Type 0
 AnswersAfter passes searches packet (answers.Again bucket end) = GaveUpAfter passes searches packet bucket end
 AnswersAfter passes searches packet _ = Unit {0}
+
+-- Where a socket was found, its whole card was read under a count that was taken while LIVE stood, at that number or
+-- later: a search found it, or it is that of a group's member.
+abbrev pub WasHeld : ReadView → (from : ℕ) → PacketAnswer → Type 0
+WasHeld read from (answers.Found card) =
+    FoundIn read from (words_of (packed card)) ⊎ SeenIn read from (words_of (packed card))
+WasHeld read from _ = Unit {0}
 
 -- an item's searches: of one that is no packet there are none
 abbrev pub LooksAfter : (passes : ℕ) → List Search → Looked → Type 0

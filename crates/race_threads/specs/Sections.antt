@@ -36,7 +36,7 @@ Makes header own _ _ last = ⊥
 -- what refused a step was seen between its numbers, and so was that what it sought was gone, and what it listed
 pub record IsShown (layout : Layout) (sights : List Sight) (s : Step) : Type 0 where
   pub keepers : Each (SawKeeper sights s.from (IsBy s.to)) (taken_in s.deeds)
-  pub frees : Each (SawFree sights s.from (IsBy s.to)) (given_in s.deeds)
+  pub frees : Each (SawFree sights) (given_in s.deeds)
   pub nones : Each (SawNone sights (IsBy s.to) layout.shape.slots) (vain_in s.deeds)
   pub waits : Each (SawNoWait sights s.from (IsBy s.to) layout) (missed_in s.deeds)
   pub dumps : SawAs layout sights s.command s

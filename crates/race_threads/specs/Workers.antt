@@ -51,5 +51,6 @@ pub record IsFresh (header : Header) (t : Tables) (n : ℕ) (w : Worker) : Type 
   pub ready : IsReady t w
   pub turn_part : words.parts w.turns ≡ 1
   pub chain_part : (part_of w).chain.slot.parts ≡ 1
+  pub group_part : lists.parts w.groups ≡ 1
   pub draws : words.draws w.turns ≡ 0
   pub nothing : HasNothing header n (turned w) (chained t w)

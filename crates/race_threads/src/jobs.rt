@@ -119,9 +119,10 @@ pub fn gather(
     Ok(backwards(given))
 }
 
-fn backwards(mut outcomes: Vec<Outcome>) -> Vec<Outcome>
-    ensures { result.items ≡ reverse outcomes.items }
+/// The same from the last to the first.
+pub(crate) fn backwards<T>(mut all: Vec<T>) -> Vec<T>
+    ensures { result.items ≡ reverse all.items }
 {
-    outcomes.as_mut_slice().reverse();
-    outcomes
+    all.as_mut_slice().reverse();
+    all
 }

@@ -7,7 +7,7 @@ ghost use Rattle.race_threads.specs.Workers.{AreTables};
 ghost use Rattle.race_threads.specs.Works.{AllWorked, IsWorked};
 ghost use Rattle.tickets.specs.Passes.{tickets as tickets_of};
 
-use crate::jobs::Job;
+use crate::jobs::{Job, backwards};
 use crate::work::work;
 use capture_reader::Capture;
 use flat_list::Script;
@@ -20,6 +20,9 @@ use std::thread::{Threads, map_vec};
 use tickets::Tickets;
 
 /// Does all jobs beside each other, or one after the other where no thread can be had.
+///
+/// They are handed out from the last to the first: `map_vec` starts threads for its first jobs, and does the last one
+/// on this thread at once. So it is a section that begins first, and the lookers begin once their threads do.
 ///
 /// # Errors
 ///
@@ -58,6 +61,6 @@ pub fn run_all<R: Threads + Wait + Sync, G: Gate>(
             rt, alloc, seed, tables, tickets, script, capture, passes, gate, job,
         )
     };
-    let done = map_vec(rt, jobs, &run)?;
-    Ok(done)
+    let done = map_vec(rt, backwards(jobs), &run)?;
+    Ok(backwards(done))
 }

@@ -2,6 +2,8 @@
 
 ghost use Rattle.std.specs.Prelude.{◌≡◌, ◌+◌, ◌^◌, ◌<◌, OnOk};
 ghost use Rattle.flat_list.specs.declared.header.Header.{Header};
+ghost use Rattle.reuseport_group.specs.Passes as lists;
+ghost use Rattle.reuseport_group.specs.Views as list_views;
 ghost use Rattle.race_threads.specs.Workers.{AreTables, IsAtRest, IsFirst, IsFresh, part_of};
 ghost use Rattle.table_rule.specs.Plays.{both};
 ghost use Rattle.turn_table.specs.Passes as words;
@@ -39,6 +41,8 @@ pub fn join(tables: &Tables, first: &mut Worker, other: Worker) -> Result<(), Al
     ensures rest { OnOk result (IsAtRest tables.now first.new) }
     ensures turns { OnOk result ((part_of first.new).turns ≡ joined (part_of first.old).turns (part_of other).turns) }
     ensures chain { OnOk result ((part_of first.new).chain ≡ both (part_of first.old).chain (part_of other).chain) }
+    ensures groups { OnOk result (lists.known first.new.groups ≡ list_views.joined (lists.known first.old.groups)
+        (lists.known other.groups)) }
 {
     let Worker {
         turns,

@@ -1,5 +1,5 @@
 -- From the two loads of the clock and what was listed between them to what the pass knows.
-use Rattle.std.proofs.Common.{◌≡◌, ℕ, suc, List, [], ◌∷◌, ◌++◌, refl, sym, ap, ◌∙◌}
+use Rattle.std.proofs.Common.{◌≡◌, ℕ, suc, List, [], ◌∷◌, ◌++◌, refl, sym, ap, ◌∙◌, ◌≤◌, map}
 use mathlib.Core.Option.{some}
 use lib.ListN.{get_elem?}
 use Rattle.list_words.specs.Lists.{Each}
@@ -16,7 +16,7 @@ use Rattle.table_rule.specs.declared.view.View.{View}
 use Rattle.nulls_chain.proofs.Saw.{settled-append}
 use Rattle.shared_dump.specs.Books.{AreTold}
 use Rattle.shared_dump.specs.Dumps.{Keeps, ListsAll, Saw}
-use Rattle.shared_dump.specs.Rows.{all_cards}
+use Rattle.shared_dump.specs.Rows.{all_cards, chain_in}
 use Rattle.shared_dump.specs.Sightings.{sightings}
 use Rattle.shared_dump.specs.declared.dumping.Dump.{Dump}
 use Rattle.shared_dump.proofs.Lives.{is_true}
@@ -34,8 +34,8 @@ module _ (v u w x : View) (t0 t1 : ℕ) (first : u ≡ seeing v t0) (last : x �
   }
 
   module _ (layout : Layout) (count : ℕ) (all : count ≡ bucket_count layout) (old items : List Card) (none : old ≡ []) (l : ListsAll count old items u w) where
-    are_cards : items ≡ all_cards l.rows
-    are_cards = l.listed ∙ ap (λ (m : List Card). m ++ all_cards l.rows) none
+    are_cards : items ≡ all_cards (map chain_in l.rows)
+    are_cards = l.listed ∙ ap (λ (m : List Card). m ++ all_cards (map chain_in l.rows)) none
 
     sights_are : x.sights ≡ settled (settled v.sights t0) t1 ++ sightings t0 t1 0 l.rows
     sights_are =
@@ -44,13 +44,13 @@ module _ (v u w x : View) (t0 t1 : ℕ) (first : u ≡ seeing v t0) (last : x �
         ∙ (settled-append (settled v.sights t0) (sightings t0 open-end 0 l.rows) t1
         ∙ ap (λ (m : List Sight). settled (settled v.sights t0) t1 ++ m) (settled_sights t0 t1 0 l.rows)))
 
-    pub saw_all : (dump : Dump) → dump.items.items ≡ items → dump.t0 ≡ t0 → dump.t1 ≡ t1 → Saw layout dump v x
-    saw_all dump e a b = record {
+    pub saw_all : (dump : Dump) → dump.items.items ≡ items → dump.t0 ≡ t0 → dump.t1 ≡ t1 → dump.t0 ≤ dump.t1 → Saw layout dump v x
+    saw_all dump e a b order = record {
       rows = l.rows;
       each = l.each ∙ all;
       items = e ∙ are_cards;
       sights = sights_are ∙ λ i. settled (settled v.sights (sym a i)) (sym b i) ++ sightings (sym a i) (sym b i) 0 l.rows;
-      told = λ views k. is_true views dump.t0 dump.t1 (bucket_count layout) l.rows dump.items.items (l.each ∙ all) (e ∙ are_cards) l.chains k;
+      told = λ views k. is_true views dump.t0 dump.t1 (bucket_count layout) l.rows dump.items.items (l.each ∙ all) order l.ascend (e ∙ are_cards) l.chains k;
     }
 
   each-of : {A : Type 0} (P : A → Type 0) (xs ys : List A) → ((n : ℕ) (y : A) → get_elem? (xs ++ ys) n ≡ some y → P y) → Each P ys

@@ -2,10 +2,10 @@
 -- lists so. That it lists each life that was there throughout is our own.
 use Rattle.std.specs.Prelude.{◌≡◌, ℕ, List, ◌++◌, map, length}
 use Rattle.std.specs.List.{range_with_len}
-use Rattle.list_words.specs.Lists.{Each}
+use Rattle.list_words.specs.Lists.{Each, Pairs}
 use Rattle.sock_card.specs.declared.card.Card.{Card}
 use Rattle.shared_dump.specs.Books.{AreTold}
-use Rattle.shared_dump.specs.Rows.{all_cards, IsChain}
+use Rattle.shared_dump.specs.Rows.{Row, chain_in, NotAfter, all_cards, IsChain}
 use Rattle.shared_dump.specs.Sightings.{sightings}
 use Rattle.shared_dump.specs.declared.dumping.Dump.{Dump}
 use Rattle.table_rule.specs.Beyond.{SightTrue}
@@ -34,21 +34,23 @@ chains_from count closed = map (chain_from closed) (range_with_len 0 count)
 abbrev pub cards_from : Layout → List Change → List Card
 cards_from layout closed = all_cards (chains_from (bucket_count layout) closed)
 
--- the chains of the first buckets, so many, were listed one behind the other, each seen whole
+-- the chains of the first buckets, so many, were listed one behind the other, each seen whole and none earlier than
+-- those before it
 pub record ListsAll (count : ℕ) (old new : List Card) (v w : View) : Type 0 where
-  pub rows : List (List Seen)
+  pub rows : List Row
   pub each : length rows ≡ count
-  pub listed : new ≡ old ++ all_cards rows
-  pub chains : Each IsChain rows
-  pub sole : IsSole v → rows ≡ chains_from count v.book.closed
+  pub ascend : Pairs NotAfter rows
+  pub listed : new ≡ old ++ all_cards (map chain_in rows)
+  pub chains : Each IsChain (map chain_in rows)
+  pub sole : IsSole v → map chain_in rows ≡ chains_from count v.book.closed
   pub sights : w.sights ≡ v.sights ++ sightings v.seen open-end 0 rows
 
 -- the items are the chains that it saw, one for each bucket, between the two loads of the clock; and in each book in
 -- which what it saw is true, so are they
 pub record Saw (layout : Layout) (dump : Dump) (v w : View) : Type 0 where
-  pub rows : List (List Seen)
+  pub rows : List Row
   pub each : length rows ≡ bucket_count layout
-  pub items : dump.items.items ≡ all_cards rows
+  pub items : dump.items.items ≡ all_cards (map chain_in rows)
   pub sights : w.sights ≡ settled (settled v.sights dump.t0) dump.t1 ++ sightings dump.t0 dump.t1 0 rows
   pub told : (views : List Part) → Each (SightTrue views) (sightings dump.t0 dump.t1 0 rows)
       → AreTold views (bucket_count layout) dump.t0 dump.t1 dump.items.items

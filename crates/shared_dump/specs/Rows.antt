@@ -20,6 +20,17 @@ abbrev pub all_cards : List (List Seen) → List Card
 all_cards [] = []
 all_cards (xs ∷ more) = cards_of xs ++ all_cards more
 
+-- a bucket's chain as it was walked, and the clock of that instant
+pub record Row : Type 0 where
+  pub instant : ℕ
+  pub chain : List Seen
+
+abbrev pub chain_in : Row → List Seen
+chain_in row = row.chain
+
+abbrev pub NotAfter : Row → Row → Type 0
+NotAfter a b = a.instant ≤ b.instant
+
 -- each of its cards was read whole, and no slot stands in it twice
 abbrev pub IsChain : List Seen → Type 0
 IsChain xs = Each IsRead xs × ((i : ℕ) → stands i xs ≤ 1)

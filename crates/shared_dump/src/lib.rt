@@ -5,10 +5,10 @@
 //! `ss -tan` shows of a machine; the kernel's own dump may miss a socket that is there all the time,
 //! or list one twice.
 //!
-//! Each item is the card of a socket that stood there at some time of the call, none is listed twice, and each that was
-//! there throughout has its card listed: so it is in every book of changes in which what the pass saw is true, as in
-//! that of the pass into which all passes were joined. Not claimed: that the item in the place of a socket that was
-//! there throughout, with its card, is that very one, and no other like it.
+//! Each chain is listed as it was at one instant of the clock between the two loads, and a later chain at no earlier
+//! one: each item is the card of a socket that stood there then, none is listed twice, and each that did has its card
+//! listed. So it is in every book of changes in which what the pass saw is true, as in that of the pass into which all
+//! passes were joined.
 //!
 //! ```text
 //! let dump = dump_sockets(&chains, &shape, &rt, rt.alloc(), &mut pass)?;

@@ -35,7 +35,7 @@ use Rattle.race_record.specs.Goes.{outcome_of, hashed_of}
 use Rattle.chain_deeds.specs.Sides.{Side}
 use Rattle.chain_deeds.specs.Made.{Does}
 use Rattle.shared_ops.specs.Leads.{Leads}
-use Rattle.shared_ops.specs.Goes.{Went, CarriedOut, AreAsked, AskedAll, gone_of}
+use Rattle.shared_ops.specs.Goes.{Went, Carried, AreAsked, AskedAll, gone_of}
 use Rattle.shared_ops.specs.Hashing.{InsertsAs, PutsIn, wish_for}
 use Rattle.shared_ops.specs.declared.sock.Sock.{Sock}
 use Rattle.shared_ops.specs.declared.sock.Sock.TheVariants as socks
@@ -43,7 +43,7 @@ use Rattle.shared_ops.specs.declared.tables.Tables.{Tables}
 use Rattle.shared_ops.specs.Socks.{FitsState, full_at, mine_of}
 use Rattle.shared_ops.specs.Stands.{IsOwner, StandsAs}
 use Rattle.shared_ops.specs.There.{IsNew}
-use Rattle.shared_ops.proofs.Goes.{deed_at, by_entry, by_inserted, all_entries, does_both, does_entries, all_first, left_nowhere}
+use Rattle.shared_ops.proofs.Goes.{deed_at, by_entry, by_inserted, all_entries, does_both, does_entries, all_first, stops_nowhere}
 use Rattle.shared_ops.proofs.Inserted.{grants_of, put_outcome, keys_of, names_of}
 use Rattle.shared_ops.proofs.ConnectGoes.{replaced_leads, full_is, gone_quiet, hashed_still}
 use Rattle.shared_ops.proofs.Knows.{Grows, after, grows, grows_first, grows_rest, gave_first, all_pass, inherits, stands_on}
@@ -92,7 +92,7 @@ module _ (count : ℕ) (l a : Owner) (port : owner_key a ≡ owner_key l) (v w :
         does = does;
       }
 
-  pub accept_refused : (end : OpEnd) → InsertsAs (wish_for a 0 rules.Always) c d (Err end) → Gave v w [] → CarriedOut {X = Mine} done refused count a.name plan v w c d (Err end)
+  pub accept_refused : (end : OpEnd) → InsertsAs (wish_for a 0 rules.Always) c d (Err end) → Gave v w [] → Carried {X = Mine} done refused count plan v w c d (Err end)
   accept_refused (errors.Taken name) ins gave = refused_went (kept_out name) (errors.Taken name) refl ins gave
   accept_refused (errors.Full owned held) ins gave = refused_went (no_slot ins.number owned held) (errors.Full owned held) refl ins.does gave
   accept_refused (errors.InUse name) ins gave = absurd ins
@@ -102,7 +102,7 @@ module _ (count : ℕ) (l a : Owner) (port : owner_key a ≡ owner_key l) (v w :
   accept_refused errors.GroupFull ins gave = absurd ins
   accept_refused errors.GroupsFull ins gave = absurd ins
   accept_refused (errors.LeftOff causes.Memory) ins gave = absurd ins
-  accept_refused (errors.LeftOff causes.Busy) ins gave = left_nowhere count a.name plan v w c d ins tt gave
+  accept_refused (errors.LeftOff causes.Busy) ins gave = stops_nowhere count plan v w c d ins tt gave
 
 module _ (l a : Owner) (place : ℕ) (v w : View) (replaced : Option ℕ) (answer : Answer) (stands : StandsOwn l place v) (all : AskedAll place (child_entry l a ∷ gone_of replaced answer) v w) where
   -- the child stands

@@ -25,7 +25,7 @@ use Rattle.table_model.specs.Operations.{Did, done, refused, full_card, full_in,
 use Rattle.race_record.specs.Deeds.{Deed, Tried, hashed, no_slot, added, left}
 use Rattle.chain_deeds.specs.Sides.{Side}
 use Rattle.shared_ops.specs.Leads.{Leads}
-use Rattle.shared_ops.specs.Goes.{Went, CarriedOut, AskedAll}
+use Rattle.shared_ops.specs.Goes.{Went, Carried, AskedAll}
 use Rattle.shared_ops.specs.Accepting.{accepted}
 use Rattle.shared_ops.specs.Handshaking.{HandsOver, TakesOver, ack_answer}
 use Rattle.shared_ops.specs.declared.sock.Sock.{Sock}
@@ -33,7 +33,7 @@ use Rattle.shared_ops.specs.declared.sock.Sock.TheVariants as socks
 use Rattle.shared_ops.specs.declared.tables.Tables.{Tables}
 use Rattle.shared_ops.specs.Socks.{FitsState, full_at, mine_of, without_socket}
 use Rattle.shared_ops.specs.Stands.{IsHashed, IsOwner, StandsAs, place_in}
-use Rattle.shared_ops.proofs.Goes.{deed_at, by_added, by_entry, by_left, does_both, does_entry, left_nowhere, all_one, same_err}
+use Rattle.shared_ops.proofs.Goes.{deed_at, by_added, by_entry, by_left, does_both, does_entry, stops_nowhere, all_one, same_err}
 use Rattle.shared_ops.proofs.CloseGoes.{gave_one}
 use Rattle.shared_ops.proofs.AcceptGoes.{child_entry}
 
@@ -79,7 +79,7 @@ module _ (count : ℕ) (r : Mine) (l a : Owner) (v w : View) (c d : Side) where
       }
 
   -- no slot was free for it, or its chain wasn't had
-  pub ack_refused : (end : OpEnd) → HandsOver (place_in kinds.Request r) (full_card a) c d (Err end) → Gave v w [] → CarriedOut {X = Mine} done refused count a.name plan v w c d (Err end)
+  pub ack_refused : (end : OpEnd) → HandsOver (place_in kinds.Request r) (full_card a) c d (Err end) → Gave v w [] → Carried {X = Mine} done refused count plan v w c d (Err end)
   ack_refused (errors.Full owned held) none gave =
       let tried : Tried = no_slot none.number owned held in
       let there : Asking Did = ends (refused (errors.Full owned held)) in
@@ -97,12 +97,12 @@ module _ (count : ℕ) (r : Mine) (l a : Owner) (v w : View) (c d : Side) where
   ack_refused errors.GroupFull none gave = absurd none
   ack_refused errors.GroupsFull none gave = absurd none
   ack_refused (errors.LeftOff causes.Memory) none gave = absurd none
-  ack_refused (errors.LeftOff causes.Busy) none gave = left_nowhere count a.name plan v w c d none tt gave
+  ack_refused (errors.LeftOff causes.Busy) none gave = stops_nowhere count plan v w c d none tt gave
 
 -- what is handed back beside the answer
-pub ack_answers : (count name : ℕ) (p : Asking Did) (v w : View) (c d : Side) (s : Sock) (r : Result Mine OpEnd) → CarriedOut {X = Mine} done refused count name p v w c d r → CarriedOut accepted refused count name p v w c d (without_socket (ack_answer s r))
-ack_answers count name p v w c d s (Ok m) k = k
-ack_answers count name p v w c d s (Err end) k = same_err {X = Mine} {Y = Sock} done accepted refused count name p v w c d end k
+pub ack_answers : (count : ℕ) (p : Asking Did) (v w : View) (c d : Side) (s : Sock) (r : Result Mine OpEnd) → Carried {X = Mine} done refused count p v w c d r → Carried accepted refused count p v w c d (without_socket (ack_answer s r))
+ack_answers count p v w c d s (Ok m) k = k
+ack_answers count p v w c d s (Err end) k = same_err {X = Mine} {Y = Sock} done accepted refused count p v w c d end k
 
 module _ (shape : Shape) (seed name : ℕ) where
   -- it is no request

@@ -1,5 +1,5 @@
 -- How the plans of `bind` go on by the entries of a pass.
-use Rattle.std.proofs.Common.{◌≡◌, ℕ, ◌%◌, ◌==◌, ◌&&◌, Bool, true, List, [], ◌∷◌, ◌++◌, None, Result, Ok, Err, IfOk, IfErr, OnErr, refl, sym, ap, subst, ◌∙◌, false, append-nil, if◌then◌else◌, eq-eqb, ne_eqb, ◌≢◌}
+use Rattle.std.proofs.Common.{◌≡◌, ℕ, ◌%◌, ◌==◌, ◌&&◌, Bool, true, List, [], ◌∷◌, ◌++◌, None, Result, Ok, Err, IfOk, IfErr, refl, sym, ap, subst, ◌∙◌, false, append-nil, if◌then◌else◌, eq-eqb, ne_eqb, ◌≢◌}
 use Rattle.std.proofs.lemmas.Bool.{false≢true}
 use Rattle.sock_card.specs.declared.owner.Owner.{Owner}
 use Rattle.sock_card.specs.declared.owner.State.{State}
@@ -13,7 +13,6 @@ use Rattle.bind_buckets.specs.declared.request.Answer.TheVariants as answers
 use Rattle.bind_buckets.specs.declared.request.Entry.{Entry}
 use Rattle.bind_buckets.specs.declared.request.InUse.{InUse}
 use Rattle.bind_buckets.specs.Answers.{answer_of_bind}
-use Rattle.bind_buckets.specs.OwnTold.{StandsOwn}
 use Rattle.bind_buckets.specs.Turned.{View, Gave, OneAsked}
 use Rattle.flat_list.specs.declared.command.End.{End}
 use Rattle.flat_list.specs.Owned.{addressed, bound_at}
@@ -32,11 +31,11 @@ use Rattle.chain_deeds.specs.Made.{Does}
 use Rattle.shared_ops.specs.declared.sock.Sock.{Sock}
 use Rattle.shared_ops.specs.Binding.{end_of_bind, end_of_search, bound_to, bound_answer}
 use Rattle.shared_ops.specs.Leads.{Leads}
-use Rattle.shared_ops.specs.Goes.{Went, LeftOff, IsUndecided, CarriedOut, NotBusy}
+use Rattle.shared_ops.specs.Goes.{Went, Stops, Carried, NotBusy}
 use Rattle.shared_ops.specs.Socks.{first_mine, without_socket}
 use Rattle.shared_ops.specs.Stands.{IsAway}
-use Rattle.shared_ops.proofs.Goes.{deed_at, entry_is, by_entry, leads_both, entries_both, does_both, does_none, does_entry, went_nowhere, same_err}
-use Rattle.shared_ops.proofs.Knows.{AllQuiet, Came, grows, grows_first, grows_rest, after, knows_on, all_pass, away_on, asked_quiet, comes, came_stands}
+use Rattle.shared_ops.proofs.Goes.{deed_at, entry_is, by_entry, leads_both, entries_both, does_both, does_none, does_entry, went_nowhere, stops_there, same_err}
+use Rattle.shared_ops.proofs.Knows.{AllQuiet, Came, grows, grows_first, grows_rest, after, knows_on, all_pass, away_on, asked_quiet, comes}
 
 -- one question to a bucket
 pub went_one : {R : Type 0} (count port : ℕ) (request : Request) (answer : Answer) (then_ : Answer → Asking R) (v w : View) (c : Side) → OneAsked (port % count) request answer v w → Went count (asks port request then_) v w c c (then_ answer)
@@ -51,10 +50,6 @@ went_one count port request answer then_ v w c o =
 -- nothing was asked
 pub went_so_far : {R : Type 0} (count : ℕ) (plan : Asking R) (v w : View) (c : Side) → Gave v w [] → Went count plan v w c c plan
 went_so_far count plan v w c gave = record { deeds = []; leads = refl; gave = gave; does = does_none c }
-
-pub left_at_once : {R : Type 0} (count name : ℕ) (plan : Asking R) (v w : View) (c : Side) → IsUndecided plan [] → Gave v w [] → LeftOff count name plan v w c c
-left_at_once count name plan v w c undecided gave =
-    record { rest = plan; deeds = []; leads = refl; back = []; gives = tt; gave = gave; does = does_none c; still = refl; undecided = undecided }
 
 -- each of these ports of a namespace was asked once
 abbrev deeds_of : ℕ → List ℕ → List (Placed Entry) → List Deed
@@ -100,23 +95,9 @@ module _ (count : ℕ) (b : Owner) where
 module _ (count : ℕ) (a : Owner) (v w : View) where
   -- to the port that is given
   pub given_goes : (end : End) (r : Result (Unit {0}) InUse) (c : Side) → OneAsked (bind_key end.port a.net % count) (requests.Bind (bound_at a end.addr end.port)) (answer_of_bind r) v w
-      → CarriedOut {X = Unit {0}} (λ _. bound_to a end.addr end.port) refused count a.name (asks (bind_key end.port a.net) (requests.Bind (bound_at a end.addr end.port)) (bind_answered a end)) v w c c (end_of_bind r)
+      → Carried {X = Unit {0}} (λ _. bound_to a end.addr end.port) refused count (asks (bind_key end.port a.net) (requests.Bind (bound_at a end.addr end.port)) (bind_answered a end)) v w c c (end_of_bind r)
   given_goes end (Ok x) c o = went_one count (bind_key end.port a.net) (requests.Bind (bound_at a end.addr end.port)) answers.Done (bind_answered a end) v w c o
   given_goes end (Err e) c o = went_one count (bind_key end.port a.net) (requests.Bind (bound_at a end.addr end.port)) (answers.InUse e.0) (bind_answered a end) v w c o
-
-  pub given_stands : (end : End) (r : Result (Unit {0}) InUse) → OneAsked (bind_key end.port a.net % count) (requests.Bind (bound_at a end.addr end.port)) (answer_of_bind r) v w → IsAway a.name v
-      → IfOk (end_of_bind r) (λ _. StandsOwn (bound_at a end.addr end.port) (bind_key end.port a.net % count) w)
-  given_stands end (Ok x) o away =
-      let b = bound_at a end.addr end.port in
-      let place = bind_key end.port a.net % count in
-      came_stands b place w (comes b place (requests.Bind b) v w o.entry (away place) (grows v w (o.entry ∷ []) o.gave) o.asked refl refl)
-  given_stands end (Err e) o away = tt
-
-  pub given_kept : (end : End) (r : Result (Unit {0}) InUse) → OneAsked (bind_key end.port a.net % count) (requests.Bind (bound_at a end.addr end.port)) (answer_of_bind r) v w → IsAway a.name v
-      → OnErr (end_of_bind r) (IsAway a.name w)
-  given_kept end (Ok x) o away = tt
-  given_kept end (Err e) o away =
-      away_on a.name v w (o.entry ∷ []) away o.gave (asked_quiet (bind_key end.port a.net % count) (requests.Bind (bound_at a end.addr end.port)) (answers.InUse e.0) o.entry o.asked refl, tt)
 
   module _ (addr : ℕ) {R : Type 0} (found : ℕ → Asking R) (none : Asking R) where
     abbrev plan : List ℕ → Asking R
@@ -158,38 +139,23 @@ module _ (count : ℕ) (a : Owner) (v w : View) where
           does = does_each a.net ports at.refused c;
         }
 
-    pub search_stops : (ports : List ℕ) (c : Side) → BindsNotYet count b ports v w → LeftOff count a.name (plan ports) v w c c
+    pub search_stops : (ports : List ℕ) (c : Side) → BindsNotYet count b ports v w → Stops count (plan ports) v w c c
     search_stops ports c at =
-        record {
-          rest = plan (at.port ∷ at.after);
+        stops_there count (plan ports) (plan (at.port ∷ at.after)) v w c c refl tt
+        (record {
           deeds = deeds_of a.net at.before at.refused;
           leads = subst (λ ps. Leads (plan ps) (deeds_of a.net at.before at.refused) (plan (at.port ∷ at.after))) (sym at.split) (leads_refused at.before (at.port ∷ at.after) at.refused at.refusals);
-          back = [];
-          gives = tt;
-          gave = subst (Gave v w) (sym (append-nil (entries_in count (deeds_of a.net at.before at.refused)) ∙ entries_each count b at.before at.refused at.refusals)) at.gave;
+          gave = subst (Gave v w) (sym (entries_each count b at.before at.refused at.refusals)) at.gave;
           does = does_each a.net at.before at.refused c;
-          still = refl;
-          undecided = tt;
-        }
+        })
 
   pub searched_goes : (addr : ℕ) (ports : List ℕ) (r : Result ℕ SearchEnd) (c : Side) → IfOk r (BindsAt count (bound_at a addr 0) ports v w) → (r ≡ Err searches.NoPort → BindsNowhere count (bound_at a addr 0) ports v w) → (r ≡ Err searches.Memory → BindsNotYet count (bound_at a addr 0) ports v w) → (r ≡ Err searches.Busy → BindsNotYet count (bound_at a addr 0) ports v w) → IfErr r IsNotFull
-      → CarriedOut (bound_to a addr) refused count a.name (search_bind a addr (bound a addr) (ends (refused errors.NoPort)) ports) v w c c (end_of_search r)
+      → Carried (bound_to a addr) refused count (search_bind a addr (bound a addr) (ends (refused errors.NoPort)) ports) v w c c (end_of_search r)
   searched_goes addr ports (Ok port) c at none yet busy end = search_finds addr (bound a addr) (ends (refused errors.NoPort)) ports port c at
   searched_goes addr ports (Err searches.NoPort) c at none yet busy end = search_fails addr (bound a addr) (ends (refused errors.NoPort)) ports c (none refl)
   searched_goes addr ports (Err searches.Memory) c at none yet busy end = search_stops addr (bound a addr) (ends (refused errors.NoPort)) ports c (yet refl)
   searched_goes addr ports (Err searches.Busy) c at none yet busy end = search_stops addr (bound a addr) (ends (refused errors.NoPort)) ports c (busy refl)
   searched_goes addr ports (Err (searches.Full owned held)) c at none yet busy end = absurd end
-
-  pub searched_stands : (addr : ℕ) (ports : List ℕ) (r : Result ℕ SearchEnd) → IfOk r (BindsAt count (bound_at a addr 0) ports v w) → IsAway a.name v → IfOk (end_of_search r) (λ port. StandsOwn (bound_at a addr port) (bind_key port a.net % count) w)
-  searched_stands addr ports (Ok port) at away = came_stands (bound_at a addr port) (bind_key port a.net % count) w (search_came count (bound_at a addr 0) v w ports port refl away at)
-  searched_stands addr ports (Err end) at away = tt
-
-  pub searched_kept : (addr : ℕ) (ports : List ℕ) (r : Result ℕ SearchEnd) → (r ≡ Err searches.NoPort → BindsNowhere count (bound_at a addr 0) ports v w) → (r ≡ Err searches.Memory → BindsNotYet count (bound_at a addr 0) ports v w) → (r ≡ Err searches.Busy → BindsNotYet count (bound_at a addr 0) ports v w) → IfErr r IsNotFull → IsAway a.name v → OnErr (end_of_search r) (IsAway a.name w)
-  searched_kept addr ports (Ok port) none yet busy end away = tt
-  searched_kept addr ports (Err searches.NoPort) none yet busy end away = search_away count (bound_at a addr 0) v w ports refl away (none refl)
-  searched_kept addr ports (Err searches.Memory) none yet busy end away = stop_away count (bound_at a addr 0) v w ports refl away (yet refl)
-  searched_kept addr ports (Err searches.Busy) none yet busy end away = stop_away count (bound_at a addr 0) v w ports refl away (busy refl)
-  searched_kept addr ports (Err (searches.Full owned held)) none yet busy end away = absurd end
 
 -- whoever waits for good doesn't get the answer that it was busy
 pub search_patient : (r : Result ℕ SearchEnd) → IfErr r IsNotBusy → IfErr (end_of_search r) NotBusy
@@ -201,15 +167,15 @@ search_patient (Err (searches.Full owned held)) h = tt
 
 -- what is handed back beside the answer
 module _ (count : ℕ) (m : Mine) (end : End) (ports : List ℕ) (v w : View) (c : Side) (s : Sock) where
-  answered : (r : Result ℕ OpEnd) → CarriedOut (bound_to m.owner end.addr) refused count m.owner.name (bind_unbound m.owner end ports) v w c c r
-      → CarriedOut first_mine refused count m.owner.name (bind_unbound m.owner end ports) v w c c (without_socket (bound_answer s m.owner end.addr r))
+  answered : (r : Result ℕ OpEnd) → Carried (bound_to m.owner end.addr) refused count (bind_unbound m.owner end ports) v w c c r
+      → Carried first_mine refused count (bind_unbound m.owner end ports) v w c c (without_socket (bound_answer s m.owner end.addr r))
   answered (Ok port) k = k
-  answered (Err e) k = same_err {X = ℕ} {Y = Sock × ℕ} (bound_to m.owner end.addr) first_mine refused count m.owner.name (bind_unbound m.owner end ports) v w c c e k
+  answered (Err e) k = same_err {X = ℕ} {Y = Sock × ℕ} (bound_to m.owner end.addr) first_mine refused count (bind_unbound m.owner end ports) v w c c e k
 
-  pub bind_answers : (r : Result ℕ OpEnd) → m.owner.state ≡ states.Unbound → CarriedOut (bound_to m.owner end.addr) refused count m.owner.name (bind_unbound m.owner end ports) v w c c r
-      → CarriedOut first_mine refused count m.owner.name (bind m end ports) v w c c (without_socket (bound_answer s m.owner end.addr r))
+  pub bind_answers : (r : Result ℕ OpEnd) → m.owner.state ≡ states.Unbound → Carried (bound_to m.owner end.addr) refused count (bind_unbound m.owner end ports) v w c c r
+      → Carried first_mine refused count (bind m end ports) v w c c (without_socket (bound_answer s m.owner end.addr r))
   bind_answers r state k =
-      subst (λ (st : State). CarriedOut first_mine refused count m.owner.name (bind_as st m end ports) v w c c (without_socket (bound_answer s m.owner end.addr r))) (sym state) (answered r k)
+      subst (λ (st : State). Carried first_mine refused count (bind_as st m end ports) v w c c (without_socket (bound_answer s m.owner end.addr r))) (sym state) (answered r k)
 
 -- the plan by the end's port, and by when it is taken
 plan_by : Owner → End → List ℕ → Bool → Bool → Asking Did

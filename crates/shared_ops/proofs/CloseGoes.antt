@@ -1,5 +1,5 @@
 -- How the plans of `close` and `drop` go on.
-use Rattle.std.proofs.Common.{◌≡◌, ℕ, ◌+◌, ◌≤◌, ◌%◌, List, [], ◌∷◌, None, Result, Ok, Err, IfErr, IfOk, OnErr, OnOk, refl, sym, ap, subst, ◌∙◌, arith}
+use Rattle.std.proofs.Common.{◌≡◌, ℕ, ◌+◌, ◌%◌, List, [], ◌∷◌, None, Result, Ok, Err, IfErr, IfOk, OnErr, OnOk, refl, sym, ap, subst, ◌∙◌, arith}
 use Rattle.std.specs.Result.{IsErr}
 use Rattle.sock_card.specs.Conflict.{owner_key}
 use Rattle.sock_card.specs.declared.owner.Owner.{Owner}
@@ -14,7 +14,7 @@ use Rattle.bind_buckets.specs.declared.request.Request.TheVariants as requests
 use Rattle.bind_buckets.specs.declared.request.Answer.TheVariants as answers
 use Rattle.bind_buckets.specs.declared.request.Entry.{Entry}
 use Rattle.bind_buckets.specs.OwnTold.{StandsOwn}
-use Rattle.bind_buckets.specs.Turned.{View, Gave, IsAlone, KnowsAll, Within}
+use Rattle.bind_buckets.specs.Turned.{View, Gave, Within}
 use Rattle.reuseport_group.specs.declared.pass.GroupPasses.{GroupPasses}
 use Rattle.chain_book.specs.declared.book.Change.{Change}
 use Rattle.chain_book.specs.declared.outcome.Place.{Place}
@@ -22,13 +22,10 @@ use Rattle.chain_book.specs.declared.shape.Shape.{Shape}
 use Rattle.chain_book.specs.Homes.{home}
 use Rattle.flat_list.specs.Owned.{card_as}
 use Rattle.nulls_chain.specs.declared.keeping.Place.{Place as Stood}
-use Rattle.table_rule.specs.Sole.{IsNow}
 use Rattle.table_rule.specs.Calls.{HasShares}
 use Rattle.table_rule.specs.declared.view.View.{View as ChainView}
 use Rattle.table_model.specs.declared.operation.Cause.{Cause}
 use Rattle.table_model.specs.declared.operation.Cause.TheVariants as causes
-use Rattle.table_model.specs.declared.operation.OpEnd.{OpEnd}
-use Rattle.table_model.specs.declared.operation.OpEnd.TheVariants as errors
 use Rattle.table_model.specs.Own.{Mine, card_of}
 use Rattle.table_model.specs.Asking.{Asking, ends, asks, unhashes}
 use Rattle.table_model.specs.Operations as plan
@@ -44,12 +41,12 @@ use Rattle.shared_ops.specs.declared.sock.Sock.{Sock}
 use Rattle.shared_ops.specs.declared.sock.Sock.TheVariants as socks
 use Rattle.shared_ops.specs.declared.leaving.Closed.{Closed}
 use Rattle.shared_ops.specs.Socks.{mine_of, FitsState, without_socket}
-use Rattle.shared_ops.specs.Closes.{Replaces, GoesAlone, ClosedBy, ClosedByAlone, Leaves, became, close_answer, drop_answer, is_gone, leave_entry, spot_of}
+use Rattle.shared_ops.specs.Closes.{Replaces, GoesAlone, ClosedBy, Leaves, became, close_answer, drop_answer, is_gone, leave_entry, spot_of}
 use Rattle.shared_ops.specs.Goes.{Went, LeftOff, IsUndecided, AskedAll, NotBusy}
 use Rattle.shared_ops.specs.Leads.{Leads}
 use Rattle.shared_ops.specs.Stands.{IsHashed, place_in}
 use Rattle.shared_ops.specs.Groups.{KeepsListed, LeavesAs, ListsOfLeave}
-use Rattle.shared_ops.proofs.Goes.{deed_at, entry_is, by_entry, by_added, by_left, does_both, does_entry, One, all_one, went_alone, left_nowhere}
+use Rattle.shared_ops.proofs.Goes.{deed_at, entry_is, by_entry, by_added, by_left, does_both, does_entry, One, all_one, left_nowhere}
 use Rattle.shared_ops.proofs.Knows.{grows, stands_on}
 use Rattle.shared_ops.proofs.Lists.{sparing_same}
 
@@ -151,20 +148,6 @@ module _ (count : ℕ) (a : Owner) (v w : View) where
 pub request_leaves : (count : ℕ) (m : Mine) (v : View) (c d : Side) → Removes (place_in kinds.Request m) c d → Went count (unhashes m.place (card_of kinds.Request m) (ends plan.gone)) v v c d (ends plan.gone)
 request_leaves count m v c d r =
     record { deeds = left r.unhash ∷ []; leads = by_left m.place (card_of kinds.Request m) (ends plan.gone) r.unhash [] (ends plan.gone) r.is refl; gave = gave_none v; does = r.does }
-
--- where nobody else is at the tables
-pub closed_alone : {X : Type 0} (did : X → plan.Closed) (count name : ℕ) (p : Asking plan.Closed) (v w : View) (c d : Side) (r : Result X OpEnd) → 1 ≤ count → KnowsAll count w → IsAlone v → IsNow c.view
-    → ClosedBy did count name p v w c d r → ClosedByAlone did count p v.mine w.mine c d r
-closed_alone did count name p v w c d (Ok x) some knows alone now went = went_alone count p (ends (did x)) v w c d some went alone knows now
-closed_alone did count name p v w c d (Err (errors.LeftOff cause)) some knows alone now went = (cause, refl)
-closed_alone did count name p v w c d (Err (errors.InUse n)) some knows alone now went = absurd went
-closed_alone did count name p v w c d (Err errors.NoPort) some knows alone now went = absurd went
-closed_alone did count name p v w c d (Err (errors.Taken n)) some knows alone now went = absurd went
-closed_alone did count name p v w c d (Err errors.Inval) some knows alone now went = absurd went
-closed_alone did count name p v w c d (Err errors.IsConn) some knows alone now went = absurd went
-closed_alone did count name p v w c d (Err errors.GroupFull) some knows alone now went = absurd went
-closed_alone did count name p v w c d (Err errors.GroupsFull) some knows alone now went = absurd went
-closed_alone did count name p v w c d (Err (errors.Full owned held)) some knows alone now went = absurd went
 
 -- `close` of a socket that isn't connected
 pub close_drops : (shape : Shape) (seed : ℕ) (s : Sock) (moment : ℕ) → FitsState s → ((x : Mine) → s ≡ socks.Full x → ⊥) → plan.close shape seed (mine_of s) moment ≡ plan.drop (mine_of s) plan.gone

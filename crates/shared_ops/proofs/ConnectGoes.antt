@@ -32,13 +32,16 @@ use Rattle.race_record.specs.Goes.{outcome_of, hashed_of}
 use Rattle.chain_deeds.specs.Sides.{Side}
 use Rattle.chain_deeds.specs.Made.{Does}
 use Rattle.shared_ops.specs.Leads.{Leads}
-use Rattle.shared_ops.specs.Goes.{Went, CarriedOut, AreAsked, AskedAll, gone_of}
+use Rattle.shared_ops.specs.Goes.{Went, Carried, AreAsked, AskedAll, gone_of}
 use Rattle.shared_ops.specs.Hashing.{InsertsAs, PutsIn, wish_for}
+use Rattle.shared_ops.specs.declared.sock.Sock.{Sock}
+use Rattle.shared_ops.specs.declared.sock.Sock.TheVariants as socks
+use Rattle.shared_ops.specs.declared.tables.Tables.{Tables}
 use Rattle.shared_ops.specs.Socks.{full_at}
-use Rattle.shared_ops.specs.Stands.{IsHashed}
-use Rattle.shared_ops.proofs.Goes.{deed_at, by_entry, by_inserted, all_entries, does_both, does_entries, all_first, left_nowhere}
+use Rattle.shared_ops.specs.Stands.{IsHashed, StandsAs, buckets_of}
+use Rattle.shared_ops.proofs.Goes.{deed_at, by_entry, by_inserted, all_entries, does_both, does_entries, all_first, stops_nowhere}
 use Rattle.shared_ops.proofs.Inserted.{grants_of, put_outcome, keys_of, names_of}
-use Rattle.shared_ops.proofs.Knows.{AllQuiet, after, grows, grows_first, grows_rest, all_pass, asked_quiet, connects, stands_on}
+use Rattle.shared_ops.proofs.Knows.{AllQuiet, after, grows, grows_first, grows_rest, all_pass, asked_quiet, away_on, connects, stands_on}
 
 abbrev pub bound_entry : Owner → Entry
 bound_entry a = record { request = requests.ConnectBound a.name a.addr a.remote a.rport; answer = answers.Done }
@@ -126,7 +129,7 @@ module _ (count : ℕ) (a : Owner) (moment : ℕ) (rule : Replace) (v w : View) 
         does = does;
       }
 
-  pub connect_refused : (end : OpEnd) → InsertsAs (wish_for a moment rule) c d (Err end) → Gave v w [] → CarriedOut {X = Mine} done refused count a.name plan v w c d (Err end)
+  pub connect_refused : (end : OpEnd) → InsertsAs (wish_for a moment rule) c d (Err end) → Gave v w [] → Carried {X = Mine} done refused count plan v w c d (Err end)
   connect_refused (errors.Taken name) ins gave = refused_went (kept_out name) (errors.Taken name) refl ins gave
   connect_refused (errors.Full owned held) ins gave = refused_went (no_slot ins.number owned held) (errors.Full owned held) refl ins.does gave
   connect_refused (errors.InUse name) ins gave = absurd ins
@@ -135,7 +138,7 @@ module _ (count : ℕ) (a : Owner) (moment : ℕ) (rule : Replace) (v w : View) 
   connect_refused errors.IsConn ins gave = absurd ins
   connect_refused errors.GroupFull ins gave = absurd ins
   connect_refused errors.GroupsFull ins gave = absurd ins
-  connect_refused (errors.LeftOff causes.Busy) ins gave = left_nowhere count a.name plan v w c d ins tt gave
+  connect_refused (errors.LeftOff causes.Busy) ins gave = stops_nowhere count plan v w c d ins tt gave
   connect_refused (errors.LeftOff causes.Memory) ins gave = absurd ins
 
 -- the connected owner stands
@@ -162,3 +165,13 @@ hashed_still kind m c d same stay h = record {
   home = h.home ∙ ap (λ (l : Layout). home l.shape l.seed (card_of kind m)) (sym same);
   placed = (h.placed.0, h.placed.1, h.placed.2, h.placed.3, stay h.placed.0 h.placed.4);
 }
+
+-- a socket, where nothing was asked or done
+pub still_as : (t : Tables) (s : Sock) (v w : View) (c d : Side) → Gave v w [] → c ≡ d → StandsAs t s v c → StandsAs t s w d
+still_as t (socks.Unbound m) v w c d gave same h = away_on m.owner.name v w [] h gave tt
+still_as t (socks.Bound m) v w c d gave same h = stands_still m.owner (owner_key m.owner % buckets_of t) v w gave h
+still_as t (socks.Listening m) v w c d gave same h =
+    (stands_still m.owner (owner_key m.owner % buckets_of t) v w gave h.0, subst (IsHashed kinds.Listen m) same h.1)
+still_as t (socks.Full m) v w c d gave same h =
+    (stands_still m.owner (owner_key m.owner % buckets_of t) v w gave h.0, subst (IsHashed kinds.Full m) same h.1)
+still_as t (socks.Request m) v w c d gave same h = subst (IsHashed kinds.Request m) same h

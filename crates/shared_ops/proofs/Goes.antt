@@ -1,5 +1,5 @@
 -- How plans go on by deeds.
-use Rattle.std.proofs.Common.{◌≡◌, ℕ, ◌%◌, ◌≤◌, List, [], ◌∷◌, ◌++◌, map, Result, Ok, Err, IsErrAnd, refl, sym, ap, subst, ◌∙◌, append-nil, append_assoc}
+use Rattle.std.proofs.Common.{◌≡◌, ◌⊎◌, inl, inr, ℕ, ◌%◌, ◌≤◌, List, [], ◌∷◌, ◌++◌, map, Result, Ok, Err, IsErrAnd, refl, sym, ap, subst, ◌∙◌, append-nil, append_assoc}
 use Rattle.std.proofs.lemmas.List.{map-append}
 use Rattle.std.proofs.lemmas.List.Concat.{flat_map-append}
 use Rattle.sock_card.specs.declared.card.Card.{Card}
@@ -34,7 +34,9 @@ use Rattle.port_search.proofs.TurnSearch.{gave_none, gave_both}
 use Rattle.chain_deeds.specs.Sides.{Side, chains_by, changes_by}
 use Rattle.chain_deeds.specs.Made.{Does, AllLeave, Spares}
 use Rattle.shared_ops.specs.Leads.{Leads}
-use Rattle.shared_ops.specs.Goes.{Went, LeftOff, IsUndecided, CarriedOut, CarriedOutAlone, AreAsked, AskedAll}
+use Rattle.shared_ops.specs.Laws.{ComeAlone}
+use Rattle.shared_ops.specs.Stands.{buckets_of, chained, turned}
+use Rattle.shared_ops.specs.Goes.{Went, Stops, LeftOff, IsUndecided, Carried, CarriedOut, AreAsked, AskedAll}
 
 -- What was asked in one turn
 
@@ -228,41 +230,58 @@ left_both count name p q u v w c d e a still b =
       undecided = b.undecided;
     }
 
-pub left_there : {R : Type 0} (count name : ℕ) (p q : Asking R) (u v : View) (c d : Side) → c ≡ d → IsUndecided q [] → Went count p u v c d q → LeftOff count name p u v c d
-left_there count name p q u v c d same undecided a =
-    record {
-      rest = q;
-      deeds = a.deeds;
-      leads = a.leads;
-      back = [];
-      gives = tt;
-      gave = subst (Gave u v) (sym (append-nil (entries_in count a.deeds))) a.gave;
-      does = a.does;
-      still = ap changes_by (sym same);
-      undecided = undecided;
-    }
+pub stops_both : {R : Type 0} (count : ℕ) (p q : Asking R) (u v w : View) (c d e : Side) → Went count p u v c d q → changes_by d ≡ changes_by c → Stops count q v w d e → Stops count p u w c e
+stops_both count p q u v w c d e a still b =
+    record { rest = b.rest; went = went_both count p q b.rest u v w c d e a b.went; still = b.still ∙ still; undecided = b.undecided }
+
+pub stops_there : {R : Type 0} (count : ℕ) (p q : Asking R) (u v : View) (c d : Side) → c ≡ d → IsUndecided q [] → Went count p u v c d q → Stops count p u v c d
+stops_there count p q u v c d same undecided a = record { rest = q; went = a; still = ap changes_by (sym same); undecided = undecided }
 
 -- nothing was asked, and nothing done
-pub left_nowhere : {R : Type 0} (count name : ℕ) (p : Asking R) (v w : View) (c d : Side) → c ≡ d → IsUndecided p [] → Gave v w [] → LeftOff count name p v w c d
-left_nowhere count name p v w c d same undecided gave =
+pub stops_nowhere : {R : Type 0} (count : ℕ) (p : Asking R) (v w : View) (c d : Side) → c ≡ d → IsUndecided p [] → Gave v w [] → Stops count p v w c d
+stops_nowhere count p v w c d same undecided gave =
+    stops_there count p p v w c d same undecided (record { deeds = []; leads = refl; gave = gave; does = subst (Does [] c) same (does_none c) })
+
+-- where no port was given up
+pub left_of : {R : Type 0} (count name : ℕ) (p : Asking R) (v w : View) (c d : Side) → Stops count p v w c d → LeftOff count name p v w c d
+left_of count name p v w c d s =
     record {
-      rest = p;
-      deeds = [];
-      leads = refl;
+      rest = s.rest;
+      deeds = s.went.deeds;
+      leads = s.went.leads;
       back = [];
       gives = tt;
-      gave = gave;
-      does = subst (Does [] c) same (does_none c);
-      still = ap changes_by (sym same);
-      undecided = undecided;
+      gave = subst (Gave v w) (sym (append-nil (entries_in count s.went.deeds))) s.went.gave;
+      does = s.went.does;
+      still = s.still;
+      undecided = s.undecided;
     }
 
+pub left_there : {R : Type 0} (count name : ℕ) (p q : Asking R) (u v : View) (c d : Side) → c ≡ d → IsUndecided q [] → Went count p u v c d q → LeftOff count name p u v c d
+left_there count name p q u v c d same undecided a = left_of count name p u v c d (stops_there count p q u v c d same undecided a)
+
+pub left_nowhere : {R : Type 0} (count name : ℕ) (p : Asking R) (v w : View) (c d : Side) → c ≡ d → IsUndecided p [] → Gave v w [] → LeftOff count name p v w c d
+left_nowhere count name p v w c d same undecided gave = left_of count name p v w c d (stops_nowhere count p v w c d same undecided gave)
+
 -- a turn or room wasn't had: the plan is left off where it begins
-pub begun_not : {X R : Type 0} (did : X → R) (not_done : OpEnd → R) (count name : ℕ) (p : Asking R) (v w : View) (c d : Side) (cause : Cause) (r : Result X OpEnd)
-    → IsErrAnd r (λ end. end ≡ errors.LeftOff cause) → d ≡ c → IsUndecided p [] → Gave v w [] → CarriedOut did not_done count name p v w c d r
-begun_not did not_done count name p v w c d cause (Ok x) is same undecided gave = absurd is
-begun_not did not_done count name p v w c d cause (Err end) is same undecided gave =
-    subst (λ (e : OpEnd). CarriedOut did not_done count name p v w c d (Err e)) (sym is) (left_nowhere count name p v w c d (sym same) undecided gave)
+pub begun_not : {X R : Type 0} (did : X → R) (not_done : OpEnd → R) (count : ℕ) (p : Asking R) (v w : View) (c d : Side) (cause : Cause) (r : Result X OpEnd)
+    → IsErrAnd r (λ end. end ≡ errors.LeftOff cause) → d ≡ c → IsUndecided p [] → Gave v w [] → Carried did not_done count p v w c d r
+begun_not did not_done count p v w c d cause (Ok x) is same undecided gave = absurd is
+begun_not did not_done count p v w c d cause (Err end) is same undecided gave =
+    subst (λ (e : OpEnd). Carried did not_done count p v w c d (Err e)) (sym is) (stops_nowhere count p v w c d (sym same) undecided gave)
+
+module _ {X R : Type 0} (did : X → R) (not_done : OpEnd → R) (count : ℕ) (p q : Asking R) (u v w : View) (c d e : Side) (a : Went count p u v c d q) (still : changes_by d ≡ changes_by c) where
+  pub goes_both : (r : Result X OpEnd) → Carried did not_done count q v w d e r → Carried did not_done count p u w c e r
+  goes_both (Ok x) b = went_both count p q (ends (did x)) u v w c d e a b
+  goes_both (Err (errors.LeftOff cause)) b = stops_both count p q u v w c d e a still b
+  goes_both (Err (errors.InUse n)) b = went_both count p q (ends (not_done (errors.InUse n))) u v w c d e a b
+  goes_both (Err errors.NoPort) b = went_both count p q (ends (not_done errors.NoPort)) u v w c d e a b
+  goes_both (Err (errors.Taken n)) b = went_both count p q (ends (not_done (errors.Taken n))) u v w c d e a b
+  goes_both (Err errors.Inval) b = went_both count p q (ends (not_done errors.Inval)) u v w c d e a b
+  goes_both (Err errors.IsConn) b = went_both count p q (ends (not_done errors.IsConn)) u v w c d e a b
+  goes_both (Err errors.GroupFull) b = went_both count p q (ends (not_done errors.GroupFull)) u v w c d e a b
+  goes_both (Err errors.GroupsFull) b = went_both count p q (ends (not_done errors.GroupsFull)) u v w c d e a b
+  goes_both (Err (errors.Full owned held)) b = went_both count p q (ends (not_done (errors.Full owned held))) u v w c d e a b
 
 module _ {X R : Type 0} (did : X → R) (not_done : OpEnd → R) (count name : ℕ) (p q : Asking R) (u v w : View) (c d e : Side) (a : Went count p u v c d q) (still : changes_by d ≡ changes_by c) where
   pub carried_both : (r : Result X OpEnd) → CarriedOut did not_done count name q v w d e r → CarriedOut did not_done count name p u w c e r
@@ -277,9 +296,29 @@ module _ {X R : Type 0} (did : X → R) (not_done : OpEnd → R) (count name : �
   carried_both (Err errors.GroupsFull) b = went_both count p q (ends (not_done errors.GroupsFull)) u v w c d e a b
   carried_both (Err (errors.Full owned held)) b = went_both count p q (ends (not_done (errors.Full owned held))) u v w c d e a b
 
+-- a refusal: the plan stopped, or went on to it
+pub refused_or : {X R : Type 0} (did : X → R) (not_done : OpEnd → R) (count : ℕ) (p : Asking R) (v w : View) (c d : Side) (end : OpEnd) → Carried did not_done count p v w c d (Err end) → Stops count p v w c d ⊎ Went count p v w c d (ends (not_done end))
+refused_or did not_done count p v w c d (errors.LeftOff cause) k = inl k
+refused_or did not_done count p v w c d (errors.InUse n) k = inr k
+refused_or did not_done count p v w c d errors.NoPort k = inr k
+refused_or did not_done count p v w c d (errors.Taken n) k = inr k
+refused_or did not_done count p v w c d errors.Inval k = inr k
+refused_or did not_done count p v w c d errors.IsConn k = inr k
+refused_or did not_done count p v w c d errors.GroupFull k = inr k
+refused_or did not_done count p v w c d errors.GroupsFull k = inr k
+refused_or did not_done count p v w c d (errors.Full owned held) k = inr k
+
+-- a plan that is at its end asks and does nothing
+at_once_by : {R : Type 0} (x : R) (rest : Asking R) (v w : View) (c d : Side) (count : ℕ) (ds : List Deed) → Leads (ends x) ds rest → Gave v w (entries_in count ds) → AllLeave ds c d → Gave v w [] × (c ≡ d) × (ends x ≡ rest)
+at_once_by x rest v w c d count [] leads gave leaves = (gave, leaves, leads)
+at_once_by x rest v w c d count (deed ∷ ds) leads gave leaves = absurd leads.1
+
+pub at_once : {R : Type 0} (count : ℕ) (x : R) (rest : Asking R) (v w : View) (c d : Side) → Went count (ends x) v w c d rest → Gave v w [] × (c ≡ d) × (ends x ≡ rest)
+at_once count x rest v w c d went = at_once_by x rest v w c d count went.deeds went.leads went.gave went.does.leaves
+
 -- what is handed back beside the answer
-module _ {X Y R : Type 0} (did : X → R) (its : Y → R) (not_done : OpEnd → R) (count name : ℕ) (p : Asking R) (v w : View) (c d : Side) where
-  pub same_err : (end : OpEnd) → CarriedOut {X = X} did not_done count name p v w c d (Err end) → CarriedOut {X = Y} its not_done count name p v w c d (Err end)
+module _ {X Y R : Type 0} (did : X → R) (its : Y → R) (not_done : OpEnd → R) (count : ℕ) (p : Asking R) (v w : View) (c d : Side) where
+  pub same_err : (end : OpEnd) → Carried {X = X} did not_done count p v w c d (Err end) → Carried {X = Y} its not_done count p v w c d (Err end)
   same_err (errors.LeftOff cause) k = k
   same_err (errors.InUse n) k = k
   same_err errors.NoPort k = k
@@ -289,6 +328,30 @@ module _ {X Y R : Type 0} (did : X → R) (its : Y → R) (not_done : OpEnd → 
   same_err errors.GroupFull k = k
   same_err errors.GroupsFull k = k
   same_err (errors.Full owned held) k = k
+
+  pub same_left : (name : ℕ) (end : OpEnd) → CarriedOut {X = X} did not_done count name p v w c d (Err end) → CarriedOut {X = Y} its not_done count name p v w c d (Err end)
+  same_left name (errors.LeftOff cause) k = k
+  same_left name (errors.InUse n) k = k
+  same_left name errors.NoPort k = k
+  same_left name (errors.Taken n) k = k
+  same_left name errors.Inval k = k
+  same_left name errors.IsConn k = k
+  same_left name errors.GroupFull k = k
+  same_left name errors.GroupsFull k = k
+  same_left name (errors.Full owned held) k = k
+
+-- who gives up no port
+pub carried_out : {X R : Type 0} (did : X → R) (not_done : OpEnd → R) (count name : ℕ) (p : Asking R) (v w : View) (c d : Side) (r : Result X OpEnd) → Carried did not_done count p v w c d r → CarriedOut did not_done count name p v w c d r
+carried_out did not_done count name p v w c d (Ok x) k = k
+carried_out did not_done count name p v w c d (Err (errors.LeftOff cause)) k = left_of count name p v w c d k
+carried_out did not_done count name p v w c d (Err (errors.InUse n)) k = k
+carried_out did not_done count name p v w c d (Err errors.NoPort) k = k
+carried_out did not_done count name p v w c d (Err (errors.Taken n)) k = k
+carried_out did not_done count name p v w c d (Err errors.Inval) k = k
+carried_out did not_done count name p v w c d (Err errors.IsConn) k = k
+carried_out did not_done count name p v w c d (Err errors.GroupFull) k = k
+carried_out did not_done count name p v w c d (Err errors.GroupsFull) k = k
+carried_out did not_done count name p v w c d (Err (errors.Full owned held)) k = k
 
 -- Alone
 
@@ -302,15 +365,6 @@ went_alone count plan rest v w c d some went alone knows now =
     goes_alone count some v.mine (chains_by c) (chains_by d) plan (map (told_of count) went.deeds) rest lawful ((went.does.alone now).0 count) (leads_told count plan rest went.deeds went.leads)
     ∙ ap (λ g. run (tables_by count g (chains_by d)) rest) (sym mine)
 
-pub carried_alone : {X R : Type 0} (did : X → R) (not_done : OpEnd → R) (count name : ℕ) (plan : Asking R) (v w : View) (c d : Side) (r : Result X OpEnd) → 1 ≤ count → KnowsAll count w → IsAlone v → IsNow c.view
-    → CarriedOut did not_done count name plan v w c d r → CarriedOutAlone did not_done count plan v.mine w.mine c d r
-carried_alone did not_done count name plan v w c d (Ok x) some knows alone now went = went_alone count plan (ends (did x)) v w c d some went alone knows now
-carried_alone did not_done count name plan v w c d (Err (errors.LeftOff cause)) some knows alone now went = tt
-carried_alone did not_done count name plan v w c d (Err (errors.InUse n)) some knows alone now went = went_alone count plan (ends (not_done (errors.InUse n))) v w c d some went alone knows now
-carried_alone did not_done count name plan v w c d (Err errors.NoPort) some knows alone now went = went_alone count plan (ends (not_done errors.NoPort)) v w c d some went alone knows now
-carried_alone did not_done count name plan v w c d (Err (errors.Taken n)) some knows alone now went = went_alone count plan (ends (not_done (errors.Taken n))) v w c d some went alone knows now
-carried_alone did not_done count name plan v w c d (Err errors.Inval) some knows alone now went = went_alone count plan (ends (not_done errors.Inval)) v w c d some went alone knows now
-carried_alone did not_done count name plan v w c d (Err errors.IsConn) some knows alone now went = went_alone count plan (ends (not_done errors.IsConn)) v w c d some went alone knows now
-carried_alone did not_done count name plan v w c d (Err errors.GroupFull) some knows alone now went = went_alone count plan (ends (not_done errors.GroupFull)) v w c d some went alone knows now
-carried_alone did not_done count name plan v w c d (Err errors.GroupsFull) some knows alone now went = went_alone count plan (ends (not_done errors.GroupsFull)) v w c d some went alone knows now
-carried_alone did not_done count name plan v w c d (Err (errors.Full owned held)) some knows alone now went = went_alone count plan (ends (not_done (errors.Full owned held))) v w c d some went alone knows now
+pub come_alone : {R : Type 0} → ComeAlone R
+come_alone t w u plan did ready alone now went =
+    went_alone (buckets_of t) plan (ends did) (turned w) (turned u) (chained t w) (chained t u) ready.idle.some went alone ready.idle.knows now

@@ -4,6 +4,7 @@ pub mod Groups
 mod OneChanges
 pub mod Knows
 pub mod BindGoes
+pub mod BindStands
 mod ListenGoes
 mod ListenStands
 mod CloseGoes
@@ -17,6 +18,7 @@ mod AckGoes
 mod ReapGoes
 pub mod Listed
 mod Lists
+pub mod Spares
 mod ListTurns
 mod AskedFirst
 pub mod Crossing

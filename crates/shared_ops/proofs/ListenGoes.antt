@@ -30,7 +30,7 @@ use Rattle.shared_ops.specs.Leads.{Leads}
 use Rattle.shared_ops.specs.Goes.{Went, LeftOff, GivesUp, CarriedOut, AreAsked, AskedAll, gone_if}
 use Rattle.shared_ops.specs.Listens.{AddsAs, ComesTo, FindsNoSlot, SaysListen, asked_listen, said_listen, listen_answer}
 use Rattle.shared_ops.specs.Socks.{first_mine, listening_at, without_socket}
-use Rattle.shared_ops.proofs.Goes.{deed_at, entry_is, by_entry, by_added, all_entries, does_both, does_entry, does_entries, does_none, First, Two, all_first, all_two, same_err}
+use Rattle.shared_ops.proofs.Goes.{deed_at, entry_is, by_entry, by_added, all_entries, does_both, does_entry, does_entries, does_none, First, Two, all_first, all_two, same_left}
 
 module _ (count : ℕ) (a : Owner) (took : Bool) (v w : View) (c d : Side) where
   abbrev plan : Asking Did
@@ -192,4 +192,4 @@ module _ (count : ℕ) (a : Owner) (took : Bool) (v w : View) (c d : Side) where
 module _ (count name : ℕ) (p : Asking Did) (v w : View) (c d : Side) (s : Sock) where
   pub listen_answers : (r : Result Mine OpEnd) → CarriedOut {X = Mine} done refused count name p v w c d r → CarriedOut first_mine refused count name p v w c d (without_socket (listen_answer s r))
   listen_answers (Ok m) k = k
-  listen_answers (Err end) k = same_err {X = Mine} {Y = Sock × ℕ} done first_mine refused count name p v w c d end k
+  listen_answers (Err end) k = same_left {X = Mine} {Y = Sock × ℕ} done first_mine refused count p v w c d name end k

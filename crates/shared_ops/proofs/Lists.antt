@@ -1,5 +1,5 @@
 -- What entries leave of the lists of groups, and what a turn makes of those that are published.
-use Rattle.std.proofs.Common.{◌≡◌, ◌≢◌, ℕ, ◌/◌, ◌%◌, ◌==◌, Bool, cond, List, [], ◌∷◌, ◌++◌, map, filter, length, get_or, Option, Some, None, Result, Ok, Err, IfOk, IfErr, refl, sym, ap, subst, ◌∙◌, eq-eqb, ne_eqb, append_assoc, length-append, take, arith}
+use Rattle.std.proofs.Common.{◌≡◌, ◌≢◌, ℕ, ◌/◌, ◌%◌, ◌==◌, Bool, cond, List, [], ◌∷◌, ◌++◌, map, filter, length, get_or, Option, Some, None, Result, Ok, Err, IfOk, refl, sym, ap, subst, ◌∙◌, eq-eqb, ne_eqb, append_assoc, length-append, take, arith}
 use Rattle.std.proofs.lemmas.List.{map-append}
 use Rattle.std.proofs.Math.Seq.{take-append_seam}
 use mathlib.Core.Logic.{dite}
@@ -28,12 +28,8 @@ use Rattle.reuseport_group.specs.Passes.{IsSole, published}
 use Rattle.reuseport_group.specs.Words.{list_at}
 use Rattle.bind_buckets.specs.declared.request.ListenEnd.{ListenEnd}
 use Rattle.bind_buckets.specs.Answers.{answer_of_listen}
-use Rattle.port_search.specs.declared.ends.SearchEnd.{SearchEnd}
-use Rattle.port_search.specs.declared.ends.SearchEnd.TheVariants as searches
 use Rattle.port_search.specs.Turned.{AllRefuse, BindsAt, BindsNowhere, BindsNotYet}
-use Rattle.port_search.specs.Search.{IsNotFull}
-use Rattle.port_search.proofs.TurnSearch.{gave_none, gave_both}
-use Rattle.shared_ops.specs.Goes.{AreAsked, AskedAll, gone_of}
+use Rattle.shared_ops.specs.Goes.{AreAsked, AskedAll}
 use Rattle.shared_ops.specs.Groups.{shown, words_in, Follows, IsLeft, ListsIn, SparesLists, GaveSparing, list_by, AreListed, KeepsListed}
 use Rattle.shared_ops.proofs.Goes.{asked_all}
 use Rattle.shared_ops.proofs.Listed.{keeps_both}
@@ -149,17 +145,6 @@ asked_spares place (e ∷ es) (x ∷ xs) a s = (subst Spares (sym a.0.entry) s.0
 
 pub all_spares : (place : ℕ) (es : List Entry) (v w : View) → AskedAll place es v w → Each Spares es → GaveSparing v w
 all_spares place es v w all s = record { new = all.xs; gave = all.gave; spares = asked_spares place es all.xs all.asked s }
-
-pub none_spares : (v : View) → GaveSparing v v
-none_spares v = record { new = []; gave = gave_none v; spares = tt }
-
-pub spares_both : (u v w : View) → GaveSparing u v → GaveSparing v w → GaveSparing u w
-spares_both u v w a b =
-    record {
-      new = a.new ++ b.new;
-      gave = gave_both u v w a.new b.new a.gave b.gave;
-      spares = each_append (λ (x : Placed Entry). SparesLists x.note.entry.request) a.new b.new a.spares b.spares;
-    }
 
 -- The journal of a bucket that is given back
 
@@ -306,21 +291,10 @@ given_spares at v w ms gave s = all_spares at (entries_of ms) v w (asked_all at 
 pub made_none : (ms : List Note) → ms ≡ [] → Each Spares (entries_of ms)
 made_none ms none = subst (λ (xs : List Note). Each Spares (entries_of xs)) (sym none) tt
 
-pub made_only : (ms : List Note) (e : Entry) → entries_of ms ≡ e ∷ [] → Spares e → Each Spares (entries_of ms)
-made_only ms e only s = subst (Each Spares) (sym only) (s, tt)
-
 pub made_more : (t : Hash) (p : Pass) (turn : Out) (q : Pass) (after : Out) (request : Request) (answer : Answer) → Asks t p turn q after request answer
     → Each Spares (entries_of (made p turn)) → SparesLists request → Each Spares (entries_of (made q after))
 made_more t p turn q after request answer asks s spares =
     subst (Each Spares) (sym asks.made_is) (each_append Spares (entries_of (made p turn)) (record { request = request; answer = answer } ∷ []) s (spares, tt))
-
-gone_spares : (o : Option ℕ) (answer : Answer) → Each Spares (gone_of o answer)
-gone_spares None answer = tt
-gone_spares (Some name) answer = (tt, tt)
-
-pub ended_spares : (place : ℕ) (es : List Entry) (o : Option ℕ) (v w : View) → (answer : Answer) × AskedAll place (es ++ gone_of o answer) v w → Each Spares es → GaveSparing v w
-ended_spares place es o v w end s =
-    all_spares place (es ++ gone_of o end.0) v w end.1 (each_append Spares es (gone_of o end.0) s (gone_spares o end.0))
 
 -- A search for a port
 
@@ -346,13 +320,6 @@ nowhere_spares n a ports v w b = record { new = b.refused; gave = b.gave; spares
 
 pub not_yet_spares : (n : ℕ) (a : Owner) (ports : List ℕ) (v w : View) → BindsNotYet n a ports v w → GaveSparing v w
 not_yet_spares n a ports v w b = record { new = b.refused; gave = b.gave; spares = refusals_spare n a b.before b.refused b.refusals }
-
-pub search_spares : (n : ℕ) (a : Owner) (ports : List ℕ) (v w : View) (r : Result ℕ SearchEnd) → IfOk r (BindsAt n a ports v w) → (r ≡ Err searches.NoPort → BindsNowhere n a ports v w) → (r ≡ Err searches.Memory → BindsNotYet n a ports v w) → (r ≡ Err searches.Busy → BindsNotYet n a ports v w) → IfErr r IsNotFull → GaveSparing v w
-search_spares n a ports v w (Ok port) at none yet busy end = bound_spares n a ports v w port at
-search_spares n a ports v w (Err searches.NoPort) at none yet busy end = nowhere_spares n a ports v w (none refl)
-search_spares n a ports v w (Err searches.Memory) at none yet busy end = not_yet_spares n a ports v w (yet refl)
-search_spares n a ports v w (Err searches.Busy) at none yet busy end = not_yet_spares n a ports v w (busy refl)
-search_spares n a ports v w (Err (searches.Full owned held)) at none yet busy end = absurd end
 
 -- lists are kept past entries that change none
 pub kept_past : (count : ℕ) (u v w : View) (p q : GroupPasses) → GaveSparing u v → KeepsListed count v w p q → KeepsListed count u w p q

@@ -28,7 +28,7 @@ use Rattle.race_record.specs.Goes.{outcome_of, hashed_of}
 use Rattle.chain_deeds.specs.Sides.{Side, changes_by}
 use Rattle.chain_deeds.specs.Made.{Does}
 use Rattle.shared_ops.specs.Leads.{Leads}
-use Rattle.shared_ops.specs.Goes.{Went, LeftOff, CarriedOut, AreAsked, AskedAll, gone_of}
+use Rattle.shared_ops.specs.Goes.{Went, Stops, Carried, AreAsked, AskedAll, gone_of}
 use Rattle.shared_ops.specs.Hashing.{InsertsAs, DrawnAs, PutsIn, wish_for}
 use Rattle.shared_ops.specs.Searching.{free_entry, port_plan, TriesAt, TryLeaves, KeepsDraws, next_or}
 use Rattle.shared_ops.specs.Socks.{full_at}
@@ -36,7 +36,7 @@ use Rattle.shared_ops.specs.Stands.{IsAway, MayDraw}
 use Rattle.shared_ops.specs.declared.tables.Tables.{Tables}
 use Rattle.shared_ops.specs.declared.tables.Worker.{Worker}
 use Rattle.table_rule.specs.Passes as chain_words
-use Rattle.shared_ops.proofs.Goes.{deed_at, entry_is, by_entry, by_inserted, all_entries, does_both, does_entry, does_entries, One, all_one, went_both, went_nowhere, left_there, left_nowhere, carried_both}
+use Rattle.shared_ops.proofs.Goes.{deed_at, entry_is, by_entry, by_inserted, all_entries, does_both, does_entry, does_entries, One, all_one, went_both, went_nowhere, stops_there, stops_nowhere, goes_both}
 use Rattle.shared_ops.proofs.Inserted.{kept_still, grants_of, put_outcome, keys_of, names_of}
 use Rattle.shared_ops.proofs.ConnectGoes.{replaced_leads, full_is, gone_quiet}
 use Rattle.shared_ops.proofs.Knows.{AllQuiet, after, grows, grows_first, grows_rest, all_pass, asked_quiet, away_on, came_on, came_stands, comes, knows_on}
@@ -125,9 +125,9 @@ module _ (count : ℕ) (a : Owner) (moment : ℕ) (rule : Replace) (v w : View) 
       (asked_goes (answers.NotFree name) same (all_one (owner_key a % count) (held_entry a name) v w all), ap changes_by (sym same))
 
   -- the chain was another's for too long: the plan stands where the four-tuple was to be had
-  tries_busy : c ≡ d → One (owner_key a % count) (free_entry a) v w → (next : Asking Did) → LeftOff count a.name (port_plan c.layout a moment rule next) v w c d
+  tries_busy : c ≡ d → One (owner_key a % count) (free_entry a) v w → (next : Asking Did) → Stops count (port_plan c.layout a moment rule next) v w c d
   tries_busy same o next =
-      left_there count a.name (port_plan c.layout a moment rule next) (connect_free c.layout.shape c.layout.seed a moment rule next answers.Done) v w c d same tt
+      stops_there count (port_plan c.layout a moment rule next) (connect_free c.layout.shape c.layout.seed a moment rule next answers.Done) v w c d same tt
       (asked_goes answers.Done same o next)
 
   pub tries_refused : (end : OpEnd) → InsertsAs (wish_for a moment rule) c d (Err end) → AskedAll (owner_key a % count) (free_entry a ∷ []) v w → TriesAt count c.layout a moment rule v w c d (next_or end)
@@ -150,10 +150,10 @@ module _ (count : ℕ) (a : Owner) (moment : ℕ) (rule : Replace) (v w : View) 
   pub tries_not : (cause : Cause) (r : Result (Option Mine) OpEnd) → IsErrAnd r (λ end. end ≡ errors.LeftOff cause) → d ≡ c → Gave v w [] → TriesAt count c.layout a moment rule v w c d r
   tries_not cause (Ok found) is same gave = absurd is
   tries_not cause (Err end) is same gave =
-      subst (λ (e : OpEnd). TriesAt count c.layout a moment rule v w c d (Err e)) (sym is) (λ next. left_nowhere count a.name (port_plan c.layout a moment rule next) v w c d (sym same) tt gave)
+      subst (λ (e : OpEnd). TriesAt count c.layout a moment rule v w c d (Err e)) (sym is) (λ next. stops_nowhere count (port_plan c.layout a moment rule next) v w c d (sym same) tt gave)
 
   -- a search that ends here
-  pub tried_err : (next : Asking Did) (end : OpEnd) → TriesAt count c.layout a moment rule v w c d (Err end) → CarriedOut {X = Mine} done refused count a.name (port_plan c.layout a moment rule next) v w c d (Err end)
+  pub tried_err : (next : Asking Did) (end : OpEnd) → TriesAt count c.layout a moment rule v w c d (Err end) → Carried {X = Mine} done refused count (port_plan c.layout a moment rule next) v w c d (Err end)
   tried_err next (errors.LeftOff cause) k = k next
   tried_err next (errors.InUse n) k = k next
   tried_err next errors.NoPort k = k next
@@ -247,9 +247,9 @@ module _ (count : ℕ) (a : Owner) (source : ℕ) (to : End) (moment : ℕ) (rul
     pub seek_on : TriesAt count k.layout b moment rule u w k d (Ok None) → Seeking left w d
     seek_on t = (went_both count (search ports) (port_plan k.layout b moment rule (search left)) (search left) v u w c k d so_far (t.0 (search left)), t.1 ∙ s.1)
 
-    pub seek_err : (end : OpEnd) → TriesAt count k.layout b moment rule u w k d (Err end) → CarriedOut {X = Mine} done refused count a.name (search ports) v w c d (Err end)
-    seek_err end t = carried_both {X = Mine} done refused count a.name (search ports) (port_plan k.layout b moment rule (search left)) v u w c k d so_far s.1 (Err end)
-        (subst (λ n. CarriedOut {X = Mine} done refused count n (port_plan k.layout b moment rule (search left)) u w k d (Err end)) (ap (λ (o : Owner). o.name) b_is) (tried_err count b moment rule u w k d (search left) end t))
+    pub seek_err : (end : OpEnd) → TriesAt count k.layout b moment rule u w k d (Err end) → Carried {X = Mine} done refused count (search ports) v w c d (Err end)
+    seek_err end t = goes_both {X = Mine} done refused count (search ports) (port_plan k.layout b moment rule (search left)) v u w c k d so_far s.1 (Err end)
+        (tried_err count b moment rule u w k d (search left) end t)
 
 -- a port passed over is one port less to try
 pub enough : (most old new more : ℕ) (rest left : List ℕ) (port : ℕ) → rest ≡ port ∷ left → new ≡ old + 1 → old + (length rest + more) ≤ most → new + (length left + more) ≤ most

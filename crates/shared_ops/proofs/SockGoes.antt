@@ -13,14 +13,14 @@ use Rattle.table_model.specs.Operations.{Did, done, refused, connect, connect_fr
 use Rattle.chain_deeds.specs.Sides.{Side}
 use Rattle.shared_ops.specs.declared.sock.Sock.{Sock}
 use Rattle.shared_ops.specs.Connecting.{connect_answer}
-use Rattle.shared_ops.specs.Goes.{CarriedOut}
+use Rattle.shared_ops.specs.Goes.{Carried}
 use Rattle.shared_ops.specs.Socks.{first_mine, without_socket, source_to}
 use Rattle.shared_ops.proofs.Goes.{same_err}
 
-pub connect_answered : (count name : ℕ) (p : Asking Did) (v w : View) (c d : Side) (s : Sock) (r : Result Mine OpEnd) → CarriedOut {X = Mine} done refused count name p v w c d r → CarriedOut first_mine refused count name p v w c d (without_socket (connect_answer s r))
-connect_answered count name p v w c d s (Ok m) k = k
-connect_answered count name p v w c d s (Err end) k =
-    same_err {X = Mine} {Y = Sock × End} done first_mine refused count name p v w c d end k
+pub connect_answered : (count : ℕ) (p : Asking Did) (v w : View) (c d : Side) (s : Sock) (r : Result Mine OpEnd) → Carried {X = Mine} done refused count p v w c d r → Carried first_mine refused count p v w c d (without_socket (connect_answer s r))
+connect_answered count p v w c d s (Ok m) k = k
+connect_answered count p v w c d s (Err end) k =
+    same_err {X = Mine} {Y = Sock × End} done first_mine refused count p v w c d end k
 
 module _ (shape : Shape) (seed : ℕ) (m : Mine) (from : Option ℕ) (to : End) (moment : ℕ) (rule : Replace) (ports : List ℕ) where
   -- the plan of `connect` of a socket in that state, by its source

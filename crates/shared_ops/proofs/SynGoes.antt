@@ -27,7 +27,7 @@ use Rattle.race_record.specs.Goes.{outcome_of, hashed_of}
 use Rattle.chain_deeds.specs.Sides.{Side}
 use Rattle.chain_deeds.specs.Made.{Does}
 use Rattle.shared_ops.specs.Leads.{Leads}
-use Rattle.shared_ops.specs.Goes.{Went, CarriedOut, AreAsked, AskedAll, gone_of}
+use Rattle.shared_ops.specs.Goes.{Went, Carried, AreAsked, AskedAll, gone_of}
 use Rattle.shared_ops.specs.Handshaking.{OwnersStay}
 use Rattle.shared_ops.specs.Hashing.{InsertsAs, PutsIn, request_wish}
 use Rattle.shared_ops.specs.declared.sock.Sock.{Sock}
@@ -35,7 +35,7 @@ use Rattle.shared_ops.specs.declared.sock.Sock.TheVariants as socks
 use Rattle.shared_ops.specs.declared.tables.Tables.{Tables}
 use Rattle.shared_ops.specs.Socks.{FitsState, mine_of, request_at}
 use Rattle.shared_ops.specs.Stands.{IsHashed, IsOwner, StandsAs, buckets_of}
-use Rattle.shared_ops.proofs.Goes.{deed_at, by_inserted, all_entries, does_both, does_entries, left_nowhere}
+use Rattle.shared_ops.proofs.Goes.{deed_at, by_inserted, all_entries, does_both, does_entries, stops_nowhere}
 use Rattle.shared_ops.proofs.Inserted.{grants_of, put_outcome, keys_of, names_of}
 use Rattle.shared_ops.proofs.ConnectGoes.{replaced_leads, gone_quiet, stands_still}
 use Rattle.shared_ops.proofs.Knows.{grows, all_pass, stands_on}
@@ -91,7 +91,7 @@ module _ (count : ℕ) (r : Owner) (v w : View) (c d : Side) where
         does = does;
       }
 
-  pub syn_refused : (end : OpEnd) → InsertsAs (request_wish r) c d (Err end) → Gave v w [] → CarriedOut {X = Mine} done refused count r.name plan v w c d (Err end)
+  pub syn_refused : (end : OpEnd) → InsertsAs (request_wish r) c d (Err end) → Gave v w [] → Carried {X = Mine} done refused count plan v w c d (Err end)
   syn_refused (errors.Taken name) ins gave = refused_went (kept_out name) (errors.Taken name) refl ins gave
   syn_refused (errors.Full owned held) ins gave = refused_went (no_slot ins.number owned held) (errors.Full owned held) refl ins.does gave
   syn_refused (errors.InUse name) ins gave = absurd ins
@@ -101,7 +101,7 @@ module _ (count : ℕ) (r : Owner) (v w : View) (c d : Side) where
   syn_refused errors.GroupFull ins gave = absurd ins
   syn_refused errors.GroupsFull ins gave = absurd ins
   syn_refused (errors.LeftOff causes.Memory) ins gave = absurd ins
-  syn_refused (errors.LeftOff causes.Busy) ins gave = left_nowhere count r.name plan v w c d ins tt gave
+  syn_refused (errors.LeftOff causes.Busy) ins gave = stops_nowhere count plan v w c d ins tt gave
 
 -- who stands in a bucket stays, whichever TIME_WAIT's owner leaves
 pub owners_stay : (t : Tables) (place : ℕ) (replaced : Option ℕ) (answer : Answer) (v w : View) → AskedAll place (gone_of replaced answer) v w → OwnersStay t v w

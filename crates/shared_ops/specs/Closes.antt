@@ -1,11 +1,10 @@
--- What `close` comes to among others, and alone: our own.
+-- What `close` comes to among others: our own.
 --
--- To be read from the beginning. Contracts of public calls cite `became`, `ClosedBy`, `ClosedByAlone`, `leave_entry`,
--- `is_gone` and `OthersKept`; the rest is of private functions.
-use Rattle.std.specs.Prelude.{◌≡◌, ℕ, List, [], ◌∷◌, None, Result, Ok, Err}
+-- To be read from the beginning. Contracts of public calls cite `became`, `ClosedBy`, `leave_entry`, `is_gone` and
+-- `OthersKept`; the rest is of private functions.
+use Rattle.std.specs.Prelude.{◌≡◌, ℕ, [], ◌∷◌, None, Result, Ok, Err}
 use Rattle.sock_card.specs.declared.card.Card.{Card}
 use Rattle.sock_card.specs.declared.owner.Owner.{Owner}
-use Rattle.turn_table.specs.declared.note.Placed.{Placed}
 use Rattle.bind_buckets.specs.declared.request.Entry.{Entry}
 use Rattle.bind_buckets.specs.declared.request.Request.TheVariants as requests
 use Rattle.bind_buckets.specs.declared.request.Answer.TheVariants as answers
@@ -30,7 +29,7 @@ use Rattle.shared_ops.specs.declared.sock.Sock.{Sock}
 use Rattle.shared_ops.specs.declared.sock.Sock.TheVariants as socks
 use Rattle.shared_ops.specs.declared.leaving.Closed.{Closed}
 use Rattle.shared_ops.specs.declared.leaving.Closed.TheVariants as closes
-use Rattle.shared_ops.specs.Goes.{Went, LeftOff, Comes}
+use Rattle.shared_ops.specs.Goes.{Went, LeftOff}
 
 -- the place in a chain, without the card that stands there
 abbrev pub spot_of : Stood → Place
@@ -75,12 +74,6 @@ abbrev pub ClosedBy :
 ClosedBy did count name p v w c d (Ok x) = Went count p v w c d (ends (did x))
 ClosedBy did count name p v w c d (Err (errors.LeftOff cause)) = LeftOff count name p v w c d
 ClosedBy did count name p v w c d (Err end) = ⊥
-
-abbrev pub ClosedByAlone :
-    {X : Type 0} → (X → plan.Closed) → ℕ → Asking plan.Closed → List (Placed Entry) → List (Placed Entry) → Side → Side
-    → Result X OpEnd → Type 0
-ClosedByAlone did count p old new c d (Ok x) = Comes count p old new c d (did x)
-ClosedByAlone did count p old new c d (Err end) = (cause : Cause) × (end ≡ errors.LeftOff cause)
 
 -- what an owner asks that leaves its port
 abbrev pub leave_entry : Owner → Entry

@@ -1,7 +1,7 @@
 -- What an operation did by its plan, among others and alone: our own.
 --
--- To be read from the beginning. Contracts of public calls cite what stands up to `CarriedOutAlone`; from `AreAsked`
--- on it is of private functions.
+-- To be read from the beginning. Contracts of public calls cite what stands up to `Comes`; from `AreAsked` on it is of
+-- private functions.
 use Rattle.std.specs.Prelude.{◌≡◌, ℕ, ◌%◌, Bool, true, false, List, [], ◌∷◌, ◌++◌, Option, None, Some, Result, Ok, Err}
 use Rattle.sock_card.specs.declared.owner.Owner.{Owner}
 use Rattle.turn_table.specs.declared.note.Placed.{Placed}
@@ -30,12 +30,6 @@ pub record Went {R : Type 0} (count : ℕ) (plan : Asking R) (v w : View) (c d :
   pub gave : Gave v w (entries_in count deeds)
   pub does : Does deeds c d
 
--- the owner of that name leaves its port
-abbrev pub GivesUp : ℕ → ℕ → List (Placed Entry) → Type 0
-GivesUp count name [] = Unit {0}
-GivesUp count name (x ∷ []) = (key : ℕ) × IsAsked (key % count) (requests.Remove name) answers.Done x
-GivesUp count name _ = ⊥
-
 -- A question that isn't that for which these entries stand: where the owner has left its port, another than that it
 -- leave it, with which a refused `listen` ends.
 abbrev pub IsOther : Request → List (Placed Entry) → Type 0
@@ -48,6 +42,20 @@ IsUndecided (ends result) back = ⊥
 IsUndecided impossible back = ⊥
 IsUndecided (asks key request then_) back = IsOther request back
 IsUndecided rest back = Unit {0}
+
+-- For want of memory or of patience the plan went only that far: it stopped before it changed a chain and before it came
+-- to an end.
+pub record Stops {R : Type 0} (count : ℕ) (plan : Asking R) (v w : View) (c d : Side) : Type 0 where
+  pub rest : Asking R
+  pub went : Went count plan v w c d rest
+  pub still : changes_by d ≡ changes_by c
+  pub undecided : IsUndecided rest []
+
+-- the owner of that name leaves its port
+abbrev pub GivesUp : ℕ → ℕ → List (Placed Entry) → Type 0
+GivesUp count name [] = Unit {0}
+GivesUp count name (x ∷ []) = (key : ℕ) × IsAsked (key % count) (requests.Remove name) answers.Done x
+GivesUp count name _ = ⊥
 
 -- For want of memory or of patience the plan was left off before it changed a chain and before it came to an end, and
 -- then the owner left its port, or nothing more was asked. That no port stays taken is said by each call's clause on
@@ -68,7 +76,14 @@ abbrev pub NotBusy : OpEnd → Type 0
 NotBusy (errors.LeftOff causes.Busy) = ⊥
 NotBusy end = Unit {0}
 
--- the plan of a socket of that name went on to the end that the result says, whoever else was there
+-- the plan went on to the end that the result says, or stopped, whoever else was there
+abbrev pub Carried :
+    {X R : Type 0} → (X → R) → (OpEnd → R) → ℕ → Asking R → View → View → Side → Side → Result X OpEnd → Type 0
+Carried did not_done count plan v w c d (Ok x) = Went count plan v w c d (ends (did x))
+Carried did not_done count plan v w c d (Err (errors.LeftOff cause)) = Stops count plan v w c d
+Carried did not_done count plan v w c d (Err end) = Went count plan v w c d (ends (not_done end))
+
+-- and so the plan of a socket of that name, which may give up a port that it took
 abbrev pub CarriedOut :
     {X R : Type 0} → (X → R) → (OpEnd → R) → ℕ → ℕ → Asking R → View → View → Side → Side → Result X OpEnd → Type 0
 CarriedOut did not_done count name plan v w c d (Ok x) = Went count plan v w c d (ends (did x))
@@ -80,13 +95,6 @@ abbrev pub Comes : {R : Type 0} → ℕ → Asking R → List (Placed Entry) →
 Comes count plan old new c d did =
     run (tables_by count old (chains_by c)) plan
     ≡ Some (record { tables = tables_by count new (chains_by d); result = did })
-
-abbrev pub CarriedOutAlone :
-    {X R : Type 0} → (X → R) → (OpEnd → R) → ℕ → Asking R → List (Placed Entry) → List (Placed Entry) → Side → Side
-    → Result X OpEnd → Type 0
-CarriedOutAlone did not_done count plan old new c d (Ok x) = Comes count plan old new c d (did x)
-CarriedOutAlone did not_done count plan old new c d (Err (errors.LeftOff cause)) = Unit {0}
-CarriedOutAlone did not_done count plan old new c d (Err end) = Comes count plan old new c d (not_done end)
 
 -- the bucket of that place was asked so in turn
 abbrev pub AreAsked : ℕ → List Entry → List (Placed Entry) → Type 0

@@ -11,6 +11,7 @@ pub mod Goes
 pub mod Accepting
 pub mod Handshaking
 pub mod Reaping
+pub mod Laws
 -- What only private functions cite.
 pub mod Binding
 pub mod Hashing

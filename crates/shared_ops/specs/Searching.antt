@@ -17,7 +17,7 @@ use Rattle.chain_deeds.specs.Sides.{Side, changes_by}
 use Rattle.shared_ops.specs.declared.tables.Tables.{Tables}
 use Rattle.shared_ops.specs.declared.tables.Worker.{Worker}
 use Rattle.shared_ops.specs.Connecting.{StandsFull}
-use Rattle.shared_ops.specs.Goes.{Went, LeftOff}
+use Rattle.shared_ops.specs.Goes.{Went, Stops}
 use Rattle.shared_ops.specs.Stands.{IsAway, MayDraw}
 
 -- `connect` may choose the port
@@ -38,7 +38,7 @@ TriesAt count layout a moment rule v w c d (Ok None) =
     ((next : Asking Did) → Went count (port_plan layout a moment rule next) v w c d next)
     × (changes_by d ≡ changes_by c)
 TriesAt count layout a moment rule v w c d (Err (errors.LeftOff cause)) =
-    (next : Asking Did) → LeftOff count a.name (port_plan layout a moment rule next) v w c d
+    (next : Asking Did) → Stops count (port_plan layout a moment rule next) v w c d
 TriesAt count layout a moment rule v w c d (Err end) =
     (next : Asking Did) → Went count (port_plan layout a moment rule next) v w c d (ends (refused end))
 

@@ -3,15 +3,13 @@
 ghost use Rattle.std.specs.Prelude.{◌≡◌, ◌+◌, ◌≤◌, ◌==◌, ◌||◌, true, IfOk, IfErr};
 ghost use Rattle.sock_card.specs.Became as became;
 ghost use Rattle.turn_table.specs.Passes as words;
-ghost use Rattle.bind_buckets.specs.Turned.{IsAlone};
 ghost use Rattle.nulls_chain.specs.Changes.{PlacesStay};
 ghost use Rattle.table_model.specs.Operations as plans;
 ghost use Rattle.table_rule.specs.Passes as chain_words;
-ghost use Rattle.table_rule.specs.Sole.{IsNow};
 ghost use Rattle.shared_ops.specs.Accepting.{accepted};
 ghost use Rattle.shared_ops.specs.Connecting.{StandsFull};
-ghost use Rattle.shared_ops.specs.Groups.{GaveSparing, KeepsLists};
-ghost use Rattle.shared_ops.specs.Goes.{CarriedOut, CarriedOutAlone, NotBusy};
+ghost use Rattle.shared_ops.specs.Groups.{KeepsLists};
+ghost use Rattle.shared_ops.specs.Goes.{Carried, NotBusy};
 ghost use Rattle.shared_ops.specs.Socks.{mine_of};
 ghost use Rattle.shared_ops.specs.Spends.{Draws};
 ghost use Rattle.shared_ops.specs.Stands.{IsOwner, IsReady, MayDraw, MayEnter, MayTell, StandsAs};
@@ -56,8 +54,7 @@ fn accept_as<P: Patience>(
     ensures drawn { Draws 4 worker.old worker.new }
     ensures stay { PlacesStay (chain_words.known worker.old.chain.pass) (chain_words.known worker.new.chain.pass) }
     ensures groups { worker.new.groups ≡ worker.old.groups }
-    ensures spares { GaveSparing (turned worker.old) (turned worker.new) }
-    ensures carried { CarriedOut plans.done plans.refused (buckets_of tables.now) child.name
+    ensures carried { Carried plans.done plans.refused (buckets_of tables.now)
         (plans.accept_as tables.now.chains.layout.shape tables.now.chains.layout.seed listener.now child)
         (turned worker.old) (turned worker.new) (chained tables.now worker.old) (chained tables.now worker.new) result }
     ensures stands { IfOk result (StandsFull tables.now (turned worker.new) (chained tables.now worker.new)) }
@@ -91,55 +88,11 @@ fn accept_as<P: Patience>(
     }
 }
 
-/// [`accept`], among others.
-fn accept_shared<P: Patience>(
-    patience: &P,
-    tables: &Tables,
-    worker: &mut Worker,
-    listener: &Sock,
-    name: u64,
-    from: End,
-    at: End,
-) -> Result<Sock, OpEnd>
-    requires ready { IsReady tables.now worker.old }
-    requires enters { MayEnter 2 worker.old }
-    requires draws { MayDraw 4 worker.old }
-    requires parent { MayTell worker.old (mine_of listener.now).owner.name }
-    requires may { MayTell worker.old name }
-    requires new { IsNew name (turned worker.old) }
-    requires stands { StandsAs tables.now listener.now (turned worker.old) (chained tables.now worker.old) }
-    ensures ready { IsReady tables.now worker.new }
-    ensures caller { words.caller worker.new.turns ≡ words.caller worker.old.turns }
-    ensures entered { words.draws worker.new.turns ≤ words.draws worker.old.turns + 2 }
-    ensures drawn { Draws 4 worker.old worker.new }
-    ensures stay { PlacesStay (chain_words.known worker.old.chain.pass) (chain_words.known worker.new.chain.pass) }
-    ensures groups { worker.new.groups ≡ worker.old.groups }
-    ensures spares { GaveSparing (turned worker.old) (turned worker.new) }
-    ensures carried { CarriedOut accepted plans.refused (buckets_of tables.now) name
-        (plans.accept tables.now.chains.layout.shape tables.now.chains.layout.seed (mine_of listener.now) name from at)
-        (turned worker.old) (turned worker.new) (chained tables.now worker.old) (chained tables.now worker.new) result }
-    ensures stands { IfOk result (λ child.
-        StandsAs tables.now child (turned worker.new) (chained tables.now worker.new)) }
-    ensures listener { StandsAs tables.now listener.now (turned worker.new) (chained tables.now worker.new) }
-    ensures patient { P.endless ≡ true → IfErr result NotBusy }
-{
-    let owner = *listener.owner();
-    if owned::is_no_accept(&owner, from, at) {
-        return Err(OpEnd::Inval);
-    }
-    let child = owned::child_owner(owner, name, from, at);
-    match accept_as(patience, tables, worker, &owner, child) {
-        Ok(child) => Ok(Sock::Full(child)),
-        Err(end) => Err(end),
-    }
-}
-
 /// The socket of that new name which a listener accepts from one end at another (`inet_accept`). The listener stays as
 /// it is; the child keeps its port, and no conflict is looked for. A TIME_WAIT of the four-tuple gives way.
 ///
 /// Its plan goes on so by the answers of the entries that this call gave and by the changes that it made, whoever else
-/// was at the tables. On a worker that was never split, the plan comes to that on the tables that its own entries and
-/// changes make.
+/// was at the tables. What follows of that stands in [`crate::laws`].
 ///
 /// # Errors
 ///
@@ -169,18 +122,21 @@ pub fn accept<P: Patience>(
     ensures stay { PlacesStay (chain_words.known worker.old.chain.pass) (chain_words.known worker.new.chain.pass) }
     ensures groups { worker.new.groups ≡ worker.old.groups }
     ensures listed { KeepsLists tables.now worker.old worker.new }
-    ensures carried { CarriedOut accepted plans.refused (buckets_of tables.now) name
+    ensures carried { Carried accepted plans.refused (buckets_of tables.now)
         (plans.accept tables.now.chains.layout.shape tables.now.chains.layout.seed (mine_of listener.now) name from at)
         (turned worker.old) (turned worker.new) (chained tables.now worker.old) (chained tables.now worker.new) result }
-    ensures alone { IsAlone (turned worker.old) → IsNow (chained tables.now worker.old).view
-        → CarriedOutAlone accepted plans.refused (buckets_of tables.now)
-        (plans.accept tables.now.chains.layout.shape tables.now.chains.layout.seed (mine_of listener.now) name from at)
-        (words.given worker.old.turns) (words.given worker.new.turns)
-        (chained tables.now worker.old) (chained tables.now worker.new) result }
     ensures stands { IfOk result (λ child.
         StandsAs tables.now child (turned worker.new) (chained tables.now worker.new)) }
     ensures listener { StandsAs tables.now listener.now (turned worker.new) (chained tables.now worker.new) }
     ensures patient { P.endless ≡ true → IfErr result NotBusy }
 {
-    accept_shared(patience, tables, worker, listener, name, from, at)
+    let owner = *listener.owner();
+    if owned::is_no_accept(&owner, from, at) {
+        return Err(OpEnd::Inval);
+    }
+    let child = owned::child_owner(owner, name, from, at);
+    match accept_as(patience, tables, worker, &owner, child) {
+        Ok(child) => Ok(Sock::Full(child)),
+        Err(end) => Err(end),
+    }
 }

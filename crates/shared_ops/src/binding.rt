@@ -1,12 +1,11 @@
 //! `bind`.
 
-ghost use Rattle.std.specs.Prelude.{◌≡◌, ◌+◌, ◌%◌, ◌^◌, ◌<◌, ◌≤◌, ◌==◌, ◌&&◌, false, length, IfOk, IfErr, OnErr, true};
+ghost use Rattle.std.specs.Prelude.{◌≡◌, ◌+◌, ◌^◌, ◌<◌, ◌≤◌, ◌==◌, ◌&&◌, false, length, IfOk, IfErr, true};
 ghost use Rattle.sock_card.specs.Conflict.{bind_key};
 ghost use Rattle.turn_table.specs.Passes as words;
 ghost use Rattle.turn_table.specs.Passes.{known};
 ghost use Rattle.bind_buckets.specs.Callers.{MayName};
-ghost use Rattle.bind_buckets.specs.OwnTold.{StandsOwn};
-ghost use Rattle.bind_buckets.specs.Turned.{IsAlone, IsIdle};
+ghost use Rattle.bind_buckets.specs.Turned.{IsIdle};
 ghost use Rattle.bind_buckets.specs.declared.request.Request.TheVariants as requests;
 ghost use Rattle.chain_deeds.specs.Sides.{Side};
 ghost use Rattle.flat_list.specs.Owned.{bound_at};
@@ -14,15 +13,12 @@ ghost use Rattle.table_model.specs.Asking.{asks, ends};
 ghost use Rattle.table_model.specs.Operations as plans;
 ghost use Rattle.table_model.specs.Operations.{bind_answered, refused, search_bind};
 ghost use Rattle.table_model.specs.declared.operation.OpEnd.TheVariants as errors;
-ghost use Rattle.table_rule.specs.Calls.{HasShares};
-ghost use Rattle.table_rule.specs.Passes as chain_words;
-ghost use Rattle.table_rule.specs.Sole.{IsNow};
 ghost use Rattle.shared_ops.specs.Binding as spec;
 ghost use Rattle.shared_ops.specs.Binding.{bound_to};
-ghost use Rattle.shared_ops.specs.Goes.{CarriedOut, CarriedOutAlone, NotBusy};
-ghost use Rattle.shared_ops.specs.Groups.{GaveSparing, KeepsLists};
+ghost use Rattle.shared_ops.specs.Goes.{Carried, NotBusy};
+ghost use Rattle.shared_ops.specs.Groups.{KeepsLists};
 ghost use Rattle.shared_ops.specs.Socks.{mine_of, first_mine, without_socket};
-ghost use Rattle.shared_ops.specs.Stands.{IsReady, MayEnter, MayTell, IsAway, StandsAs, buckets_of, chained, turned};
+ghost use Rattle.shared_ops.specs.Stands.{IsReady, MayEnter, MayTell, buckets_of, chained, turned};
 
 use crate::sock::{Bound, Sock};
 use crate::tables::{Tables, Worker};
@@ -70,16 +66,11 @@ fn bind_given<P: Patience>(
     ensures idle { IsIdle buckets.now pass.new }
     ensures caller { words.caller pass.new ≡ words.caller pass.old }
     ensures draws { words.draws pass.new ≤ words.draws pass.old + 1 }
-    ensures carried { (c : Side) → CarriedOut (λ _. bound_to owner end.addr end.port) refused
-        (words.places buckets.now) owner.name
+    ensures carried { (c : Side) → Carried (λ _. bound_to owner end.addr end.port) refused
+        (words.places buckets.now)
         (asks (bind_key end.port owner.net) (requests.Bind (bound_at owner end.addr end.port))
         (bind_answered owner end))
         (known pass.old) (known pass.new) c c result }
-    ensures stands { IsAway owner.name (known pass.old) → IfOk result (λ _.
-        StandsOwn (bound_at owner end.addr end.port) (bind_key end.port owner.net % words.places buckets.now)
-        (known pass.new)) }
-    ensures kept { IsAway owner.name (known pass.old) → OnErr result (IsAway owner.name (known pass.new)) }
-    ensures spares { GaveSparing (known pass.old) (known pass.new) }
     ensures patient { P.endless ≡ true → IfErr result NotBusy }
 {
     let key = bind_key(end.port, owner.net);
@@ -115,13 +106,9 @@ fn bind_searched<P: Patience>(
     ensures idle { IsIdle buckets.now pass.new }
     ensures caller { words.caller pass.new ≡ words.caller pass.old }
     ensures draws { words.draws pass.new ≤ words.draws pass.old + length ports }
-    ensures carried { (c : Side) → CarriedOut (bound_to owner addr) refused (words.places buckets.now) owner.name
+    ensures carried { (c : Side) → Carried (bound_to owner addr) refused (words.places buckets.now)
         (search_bind owner addr (plans.bound owner addr) (ends (refused errors.NoPort)) ports)
         (known pass.old) (known pass.new) c c result }
-    ensures stands { IsAway owner.name (known pass.old) → IfOk result (λ port.
-        StandsOwn (bound_at owner addr port) (bind_key port owner.net % words.places buckets.now) (known pass.new)) }
-    ensures kept { IsAway owner.name (known pass.old) → OnErr result (IsAway owner.name (known pass.new)) }
-    ensures spares { GaveSparing (known pass.old) (known pass.new) }
     ensures patient { P.endless ≡ true → IfErr result NotBusy }
 {
     let bound = owned::bound_at(owner, addr, 0);
@@ -145,13 +132,8 @@ fn bind_unbound<P: Patience>(
     ensures idle { IsIdle buckets.now pass.new }
     ensures caller { words.caller pass.new ≡ words.caller pass.old }
     ensures draws { words.draws pass.new ≤ words.draws pass.old + (length ports + 1) }
-    ensures carried { (c : Side) → CarriedOut (bound_to owner end.addr) refused (words.places buckets.now) owner.name
+    ensures carried { (c : Side) → Carried (bound_to owner end.addr) refused (words.places buckets.now)
         (plans.bind_unbound owner end ports) (known pass.old) (known pass.new) c c result }
-    ensures stands { IsAway owner.name (known pass.old) → IfOk result (λ port.
-        StandsOwn (bound_at owner end.addr port) (bind_key port owner.net % words.places buckets.now)
-        (known pass.new)) }
-    ensures kept { IsAway owner.name (known pass.old) → OnErr result (IsAway owner.name (known pass.new)) }
-    ensures spares { GaveSparing (known pass.old) (known pass.new) }
     ensures patient { P.endless ≡ true → IfErr result NotBusy }
 {
     if end.port == 0 {
@@ -180,8 +162,18 @@ fn bound_answer(
     }
 }
 
-/// [`bind`], among others.
-fn bind_shared<P: Patience>(
+/// Binds a socket to an address and a port, or to the first port of a search where the end's port is 0; the port comes
+/// with the bound socket. One with `noport` has the address alone then, and comes without a port and with 0.
+///
+/// Its plan goes on so by the answers of the entries that this call gave, whoever else was at the tables. What follows
+/// of that stands in [`crate::laws`]: the bound socket stands, and a refused one as it did.
+///
+/// # Errors
+///
+/// `Inval`: it has a port already. `InUse`: the owner of that name keeps it from its port. `NoPort`: each of the ports
+/// was refused, at its own turn. `LeftOff`: a bucket wanted memory, or another had its turn for longer than the caller
+/// tries; the entries of the ports refused before stay. A refused socket comes back as it was.
+pub fn bind<P: Patience>(
     patience: &P,
     tables: &Tables,
     worker: &mut Worker,
@@ -192,21 +184,17 @@ fn bind_shared<P: Patience>(
     requires ready { IsReady tables.now worker.old }
     requires enters { MayEnter (length ports + 1) worker.old }
     requires may { MayTell worker.old (mine_of socket).owner.name }
-    requires stands { StandsAs tables.now socket (turned worker.old) (chained tables.now worker.old) }
     ensures ready { IsReady tables.now worker.new }
     ensures caller { words.caller worker.new.turns ≡ words.caller worker.old.turns }
     ensures entered { words.draws worker.new.turns ≤ words.draws worker.old.turns + (length ports + 1) }
     ensures chain { worker.new.chain ≡ worker.old.chain }
     ensures groups { worker.new.groups ≡ worker.old.groups }
-    ensures spares { GaveSparing (turned worker.old) (turned worker.new) }
-    ensures carried { CarriedOut first_mine refused (buckets_of tables.now) (mine_of socket).owner.name
+    ensures listed { KeepsLists tables.now worker.old worker.new }
+    ensures carried { Carried first_mine refused (buckets_of tables.now)
         (plans.bind (mine_of socket) end ports) (turned worker.old) (turned worker.new)
         (chained tables.now worker.old) (chained tables.now worker.new) (without_socket result) }
     ensures port { IfOk result (λ bound. bound.1 ≡ (mine_of bound.0).owner.port) }
     ensures back { IfErr result (λ refusal. refusal.0 ≡ socket) }
-    ensures stands { IfOk result (λ bound.
-        StandsAs tables.now bound.0 (turned worker.new) (chained tables.now worker.new)) }
-    ensures kept { OnErr result (StandsAs tables.now socket (turned worker.new) (chained tables.now worker.new)) }
     ensures patient { P.endless ≡ true → IfErr result (λ refusal. NotBusy refusal.1) }
 {
     let owner = *socket.owner();
@@ -230,50 +218,4 @@ fn bind_shared<P: Patience>(
         Sock::Full(full) => Err((Sock::Full(full), OpEnd::Inval)),
         Sock::Request(request) => Err((Sock::Request(request), OpEnd::Inval)),
     }
-}
-
-/// Binds a socket to an address and a port, or to the first port of a search where the end's port is 0; the port comes
-/// with the bound socket. One with `noport` has the address alone then, and comes without a port and with 0.
-///
-/// Its plan goes on so by the answers of the entries that this call gave, whoever else was at the tables. On a worker
-/// that was never split, the plan comes to that on the tables that its own entries make.
-///
-/// # Errors
-///
-/// `Inval`: it has a port already. `InUse`: the owner of that name keeps it from its port. `NoPort`: each of the ports
-/// was refused, at its own turn. `LeftOff`: a bucket wanted memory, or another had its turn for longer than the caller
-/// tries; the entries of the ports refused before stay. A refused socket comes back as it was.
-pub fn bind<P: Patience>(
-    patience: &P,
-    tables: &Tables,
-    worker: &mut Worker,
-    socket: Sock,
-    end: End,
-    ports: Ports,
-) -> Result<(Sock, u16), (Sock, OpEnd)>
-    requires ready { IsReady tables.now worker.old }
-    requires enters { MayEnter (length ports + 1) worker.old }
-    requires may { MayTell worker.old (mine_of socket).owner.name }
-    requires stands { StandsAs tables.now socket (turned worker.old) (chained tables.now worker.old) }
-    ensures ready { IsReady tables.now worker.new }
-    ensures caller { words.caller worker.new.turns ≡ words.caller worker.old.turns }
-    ensures entered { words.draws worker.new.turns ≤ words.draws worker.old.turns + (length ports + 1) }
-    ensures chain { worker.new.chain ≡ worker.old.chain }
-    ensures groups { worker.new.groups ≡ worker.old.groups }
-    ensures listed { KeepsLists tables.now worker.old worker.new }
-    ensures carried { CarriedOut first_mine refused (buckets_of tables.now) (mine_of socket).owner.name
-        (plans.bind (mine_of socket) end ports) (turned worker.old) (turned worker.new)
-        (chained tables.now worker.old) (chained tables.now worker.new) (without_socket result) }
-    ensures alone { IsAlone (turned worker.old) → IsNow (chained tables.now worker.old).view
-        → CarriedOutAlone first_mine refused (buckets_of tables.now) (plans.bind (mine_of socket) end ports)
-        (words.given worker.old.turns) (words.given worker.new.turns)
-        (chained tables.now worker.old) (chained tables.now worker.new) (without_socket result) }
-    ensures port { IfOk result (λ bound. bound.1 ≡ (mine_of bound.0).owner.port) }
-    ensures back { IfErr result (λ refusal. refusal.0 ≡ socket) }
-    ensures stands { IfOk result (λ bound.
-        StandsAs tables.now bound.0 (turned worker.new) (chained tables.now worker.new)) }
-    ensures kept { OnErr result (StandsAs tables.now socket (turned worker.new) (chained tables.now worker.new)) }
-    ensures patient { P.endless ≡ true → IfErr result (λ refusal. NotBusy refusal.1) }
-{
-    bind_shared(patience, tables, worker, socket, end, ports)
 }

@@ -1,20 +1,19 @@
 //! `connect`.
 
-ghost use Rattle.std.specs.Prelude.{◌≡◌, ◌+◌, ◌%◌, ◌^◌, ◌<◌, ◌≤◌, ◌++◌, ◌==◌, ◌||◌, true, length, IfOk, IfErr, OnErr};
+ghost use Rattle.std.specs.Prelude.{◌≡◌, ◌+◌, ◌^◌, ◌<◌, ◌≤◌, ◌++◌, ◌==◌, ◌||◌, true, length, IfOk, IfErr, OnErr};
 ghost use Rattle.sock_card.specs.Became as became;
 ghost use Rattle.turn_table.specs.Passes as words;
 ghost use Rattle.turn_table.specs.Passes.{known};
 ghost use Rattle.bind_buckets.specs.declared.request.Answer.{Answer as Said};
 ghost use Rattle.bind_buckets.specs.Bucket.{entries_of};
-ghost use Rattle.bind_buckets.specs.Turned.{View, IsAlone, IsIdle, IsOut, Within, made};
+ghost use Rattle.bind_buckets.specs.Turned.{View, IsIdle, IsOut, Within, made};
 ghost use Rattle.nulls_chain.specs.Changes.{PlacesStay};
 ghost use Rattle.table_model.specs.Operations as plans;
 ghost use Rattle.table_rule.specs.Passes as chain_words;
-ghost use Rattle.table_rule.specs.Sole.{IsNow};
 ghost use Rattle.shared_ops.specs.Connecting as spec;
 ghost use Rattle.shared_ops.specs.Connecting.{StandsFull};
-ghost use Rattle.shared_ops.specs.Goes.{AskedAll, CarriedOut, CarriedOutAlone, NotBusy, gone_of};
-ghost use Rattle.shared_ops.specs.Groups.{GaveSparing, KeepsLists};
+ghost use Rattle.shared_ops.specs.Goes.{AskedAll, Carried, NotBusy, gone_of};
+ghost use Rattle.shared_ops.specs.Groups.{KeepsLists};
 ghost use Rattle.shared_ops.specs.Socks as socks_spec;
 ghost use Rattle.shared_ops.specs.Socks.{mine_of, first_mine, without_socket, end_of};
 ghost use Rattle.shared_ops.specs.Spends.{Draws};
@@ -87,8 +86,7 @@ fn connect_bound<P: Patience>(
     ensures drawn { Draws 4 worker.old worker.new }
     ensures stay { PlacesStay (chain_words.known worker.old.chain.pass) (chain_words.known worker.new.chain.pass) }
     ensures groups { worker.new.groups ≡ worker.old.groups }
-    ensures spares { GaveSparing (turned worker.old) (turned worker.new) }
-    ensures carried { CarriedOut plans.done plans.refused (buckets_of tables.now) full.name
+    ensures carried { Carried plans.done plans.refused (buckets_of tables.now)
         (plans.connect_bound tables.now.chains.layout.shape tables.now.chains.layout.seed full moment rule)
         (turned worker.old) (turned worker.new) (chained tables.now worker.old) (chained tables.now worker.new) result }
     ensures stands { IfOk result (StandsFull tables.now (turned worker.new) (chained tables.now worker.new)) }
@@ -142,8 +140,20 @@ fn connect_answer(
     }
 }
 
-/// [`connect`], among others.
-fn connect_shared<P: Patience>(
+/// Connects a socket from an address to another end, at a moment in seconds; its own end comes with it. A socket keeps
+/// the address to which it is bound, unless that is 0.0.0.0, and its port; one without a port takes the first of a
+/// search. A TIME_WAIT of the four-tuple may give way by that rule.
+///
+/// Its plan goes on so by the answers of the entries that this call gave and by the changes that it made, whoever else
+/// was at the tables. What follows of that stands in [`crate::laws`].
+///
+/// # Errors
+///
+/// `Inval`: there is no such end or no such source, or it is a request. `IsConn`: it listens or is connected. `Taken`:
+/// the socket of that name keeps its four-tuple from it. `Full`: no slot was free. `NoPort`: each of the ports, at its
+/// own turn, was held or had its four-tuple taken. `LeftOff`: memory was wanting, or another had a bucket or a chain
+/// for longer than the caller tries; the entries that a search gave before stay. A refused socket comes back as it was.
+pub fn connect<P: Patience>(
     patience: &P,
     tables: &Tables,
     worker: &mut Worker,
@@ -165,8 +175,8 @@ fn connect_shared<P: Patience>(
     ensures drawn { Draws 4 worker.old worker.new }
     ensures stay { PlacesStay (chain_words.known worker.old.chain.pass) (chain_words.known worker.new.chain.pass) }
     ensures groups { worker.new.groups ≡ worker.old.groups }
-    ensures spares { GaveSparing (turned worker.old) (turned worker.new) }
-    ensures carried { CarriedOut first_mine plans.refused (buckets_of tables.now) (mine_of socket).owner.name
+    ensures listed { KeepsLists tables.now worker.old worker.new }
+    ensures carried { Carried first_mine plans.refused (buckets_of tables.now)
         (plans.connect tables.now.chains.layout.shape tables.now.chains.layout.seed (mine_of socket)
         from to moment rule ports)
         (turned worker.old) (turned worker.new)
@@ -201,64 +211,4 @@ fn connect_shared<P: Patience>(
         Sock::Full(full) => Err((Sock::Full(full), OpEnd::IsConn)),
         Sock::Request(request) => Err((Sock::Request(request), OpEnd::Inval)),
     }
-}
-
-/// Connects a socket from an address to another end, at a moment in seconds; its own end comes with it. A socket keeps
-/// the address to which it is bound, unless that is 0.0.0.0, and its port; one without a port takes the first of a
-/// search. A TIME_WAIT of the four-tuple may give way by that rule.
-///
-/// Its plan goes on so by the answers of the entries that this call gave and by the changes that it made, whoever else
-/// was at the tables. On a worker that was never split, the plan comes to that on the tables that its own entries and
-/// changes make.
-///
-/// # Errors
-///
-/// `Inval`: there is no such end or no such source, or it is a request. `IsConn`: it listens or is connected. `Taken`:
-/// the socket of that name keeps its four-tuple from it. `Full`: no slot was free. `NoPort`: each of the ports, at its
-/// own turn, was held or had its four-tuple taken. `LeftOff`: memory was wanting, or another had a bucket or a chain
-/// for longer than the caller tries; the entries that a search gave before stay. A refused socket comes back as it was.
-pub fn connect<P: Patience>(
-    patience: &P,
-    tables: &Tables,
-    worker: &mut Worker,
-    socket: Sock,
-    from: Option<u32>,
-    to: End,
-    moment: u32,
-    rule: Replace,
-    ports: Ports,
-) -> Result<(Sock, End), (Sock, OpEnd)>
-    requires ready { IsReady tables.now worker.old }
-    requires enters { MayEnter (length ports + 2) worker.old }
-    requires draws { MayDraw 4 worker.old }
-    requires may { MayTell worker.old (mine_of socket).owner.name }
-    requires stands { StandsAs tables.now socket (turned worker.old) (chained tables.now worker.old) }
-    ensures ready { IsReady tables.now worker.new }
-    ensures caller { words.caller worker.new.turns ≡ words.caller worker.old.turns }
-    ensures entered { words.draws worker.new.turns ≤ words.draws worker.old.turns + (length ports + 2) }
-    ensures drawn { Draws 4 worker.old worker.new }
-    ensures stay { PlacesStay (chain_words.known worker.old.chain.pass) (chain_words.known worker.new.chain.pass) }
-    ensures groups { worker.new.groups ≡ worker.old.groups }
-    ensures listed { KeepsLists tables.now worker.old worker.new }
-    ensures carried { CarriedOut first_mine plans.refused (buckets_of tables.now) (mine_of socket).owner.name
-        (plans.connect tables.now.chains.layout.shape tables.now.chains.layout.seed (mine_of socket)
-        from to moment rule ports)
-        (turned worker.old) (turned worker.new)
-        (chained tables.now worker.old) (chained tables.now worker.new) (without_socket result) }
-    ensures alone { IsAlone (turned worker.old) → IsNow (chained tables.now worker.old).view
-        → CarriedOutAlone first_mine plans.refused (buckets_of tables.now)
-        (plans.connect tables.now.chains.layout.shape tables.now.chains.layout.seed (mine_of socket)
-        from to moment rule ports)
-        (words.given worker.old.turns) (words.given worker.new.turns)
-        (chained tables.now worker.old) (chained tables.now worker.new) (without_socket result) }
-    ensures own_end { IfOk result (λ full. full.1 ≡ end_of (mine_of full.0)) }
-    ensures back { IfErr result (λ refusal. refusal.0 ≡ socket) }
-    ensures stands { IfOk result (λ full.
-        StandsAs tables.now full.0 (turned worker.new) (chained tables.now worker.new)) }
-    ensures kept { OnErr result (StandsAs tables.now socket (turned worker.new) (chained tables.now worker.new)) }
-    ensures patient { P.endless ≡ true → IfErr result (λ refusal. NotBusy refusal.1) }
-{
-    connect_shared(
-        patience, tables, worker, socket, from, to, moment, rule, ports,
-    )
 }

@@ -4,7 +4,6 @@ ghost use Rattle.std.specs.Prelude.{◌≡◌, ◌+◌, ◌≤◌, ◌==◌, ◌
 ghost use Rattle.sock_card.specs.Became as became;
 ghost use Rattle.sock_card.specs.declared.card.Kind.TheVariants as kinds;
 ghost use Rattle.turn_table.specs.Passes as words;
-ghost use Rattle.bind_buckets.specs.Turned.{IsAlone};
 ghost use Rattle.chain_book.specs.Tuples.{same_cards};
 ghost use Rattle.chain_deeds.specs.Sides.{HasRoom, IsResting, side_of};
 ghost use Rattle.nulls_chain.specs.Changes.{OthersStay, OtherPlacesStay, PlacesStay};
@@ -14,12 +13,11 @@ ghost use Rattle.table_model.specs.Operations.{full_card};
 ghost use Rattle.table_model.specs.Own.{card_of};
 ghost use Rattle.table_rule.specs.Calls.{HasShares};
 ghost use Rattle.table_rule.specs.Passes.{known};
-ghost use Rattle.table_rule.specs.Sole.{IsNow};
 ghost use Rattle.shared_ops.specs.Accepting.{accepted};
 ghost use Rattle.shared_ops.specs.Closes.{OthersKept};
 ghost use Rattle.shared_ops.specs.Connecting.{StandsFull};
-ghost use Rattle.shared_ops.specs.Groups.{GaveSparing, KeepsLists};
-ghost use Rattle.shared_ops.specs.Goes.{CarriedOut, CarriedOutAlone, NotBusy};
+ghost use Rattle.shared_ops.specs.Groups.{KeepsLists};
+ghost use Rattle.shared_ops.specs.Goes.{Carried, NotBusy};
 ghost use Rattle.shared_ops.specs.Handshaking as spec;
 ghost use Rattle.shared_ops.specs.Handshaking.{HandsOver, mine_found};
 ghost use Rattle.shared_ops.specs.Socks.{mine_of, without_socket};
@@ -107,8 +105,7 @@ fn ack_as<P: Patience>(
     ensures entered { words.draws worker.new.turns ≤ words.draws worker.old.turns + 1 }
     ensures drawn { Draws 4 worker.old worker.new }
     ensures groups { worker.new.groups ≡ worker.old.groups }
-    ensures spares { GaveSparing (turned worker.old) (turned worker.new) }
-    ensures carried { CarriedOut plans.done plans.refused (buckets_of tables.now) child.name
+    ensures carried { Carried plans.done plans.refused (buckets_of tables.now)
         (plans.ack_as tables.now.chains.layout.shape tables.now.chains.layout.seed request.now listener.now child)
         (turned worker.old) (turned worker.new) (chained tables.now worker.old) (chained tables.now worker.new) result }
     ensures stands { IfOk result (StandsFull tables.now (turned worker.new) (chained tables.now worker.new)) }
@@ -163,8 +160,7 @@ fn ack_shared<P: Patience>(
     ensures entered { words.draws worker.new.turns ≤ words.draws worker.old.turns + 1 }
     ensures drawn { Draws 4 worker.old worker.new }
     ensures groups { worker.new.groups ≡ worker.old.groups }
-    ensures spares { GaveSparing (turned worker.old) (turned worker.new) }
-    ensures carried { CarriedOut plans.done plans.refused (buckets_of tables.now) name
+    ensures carried { Carried plans.done plans.refused (buckets_of tables.now)
         (plans.ack tables.now.chains.layout.shape tables.now.chains.layout.seed (mine_of request.now)
         (mine_found listener.entry) name)
         (turned worker.old) (turned worker.new) (chained tables.now worker.old) (chained tables.now worker.new) result }
@@ -204,8 +200,7 @@ fn ack_answer(request: Sock, child: Result<Connected, OpEnd>) -> Result<Sock, (S
 /// port. The listener, which stays as it is, is the one by which the request came, if that is open still.
 ///
 /// Its plan goes on so by the answers of the entries that this call gave and by the changes that it made, whoever else
-/// was at the tables. On a worker that was never split, the plan comes to that on the tables that its own entries and
-/// changes make.
+/// was at the tables. What follows of that stands in [`crate::laws`].
 ///
 /// # Errors
 ///
@@ -235,16 +230,10 @@ pub fn ack<P: Patience>(
     ensures drawn { Draws 4 worker.old worker.new }
     ensures groups { worker.new.groups ≡ worker.old.groups }
     ensures listed { KeepsLists tables.now worker.old worker.new }
-    ensures carried { CarriedOut accepted plans.refused (buckets_of tables.now) name
+    ensures carried { Carried accepted plans.refused (buckets_of tables.now)
         (plans.ack tables.now.chains.layout.shape tables.now.chains.layout.seed (mine_of request)
         (mine_found listener.entry) name)
         (turned worker.old) (turned worker.new)
-        (chained tables.now worker.old) (chained tables.now worker.new) (without_socket result) }
-    ensures alone { IsAlone (turned worker.old) → IsNow (chained tables.now worker.old).view
-        → CarriedOutAlone accepted plans.refused (buckets_of tables.now)
-        (plans.ack tables.now.chains.layout.shape tables.now.chains.layout.seed (mine_of request)
-        (mine_found listener.entry) name)
-        (words.given worker.old.turns) (words.given worker.new.turns)
         (chained tables.now worker.old) (chained tables.now worker.new) (without_socket result) }
     ensures stands { IfOk result (λ child.
         StandsAs tables.now child (turned worker.new) (chained tables.now worker.new)) }

@@ -7,19 +7,18 @@ ghost use Rattle.turn_table.specs.Passes as words;
 ghost use Rattle.turn_table.specs.Passes.{known};
 ghost use Rattle.table_rule.specs.Passes as chain_words;
 ghost use Rattle.table_rule.specs.Calls.{HasShares};
-ghost use Rattle.table_rule.specs.Sole.{IsNow};
 ghost use Rattle.chain_book.specs.Homes.{home};
 ghost use Rattle.nulls_chain.specs.Changes.{IsPlaced, OthersStay};
 ghost use Rattle.shared_sockets.specs.Comings.{FourDrawn};
 ghost use Rattle.bind_buckets.specs.Callers.{MayName};
 ghost use Rattle.bind_buckets.specs.OwnTold.{StandsOwn};
-ghost use Rattle.bind_buckets.specs.Turned.{View, Gave, IsIdle, IsOut, IsAlone, Within, made};
+ghost use Rattle.bind_buckets.specs.Turned.{View, Gave, IsIdle, IsOut, Within, made};
 ghost use Rattle.chain_deeds.specs.Sides.{HasRoom, IsResting, side_of};
 ghost use Rattle.table_model.specs.Asking.{ends, unhashes};
 ghost use Rattle.table_model.specs.Own.{card_of};
 ghost use Rattle.table_model.specs.Operations as plans;
 ghost use Rattle.shared_ops.specs.Closes as spec;
-ghost use Rattle.shared_ops.specs.Closes.{ClosedBy, ClosedByAlone, Leaves, OthersKept, WaitsAs, is_gone, leave_entry, spot_of};
+ghost use Rattle.shared_ops.specs.Closes.{ClosedBy, Leaves, OthersKept, WaitsAs, is_gone, leave_entry, spot_of};
 ghost use Rattle.shared_ops.specs.Goes.{AskedAll, NotBusy, Went};
 ghost use Rattle.shared_ops.specs.Groups.{KeepsListed, KeepsLists, LeavesAs, LeavesOrStays, ListsOfLeave};
 ghost use Rattle.reuseport_group.specs.Passes as words_of_groups;
@@ -495,8 +494,7 @@ fn close_as<P: Patience>(
 ///
 /// Where no slot is free for the TIME_WAIT the socket goes without one, and the answer says how full the slots are.
 /// Its plan goes on so by the answers of the entries that this call gave and by the changes that it made, whoever
-/// else was at the tables. On a worker that was never split, the plan comes to that on the tables that its own
-/// entries and changes make.
+/// else was at the tables. What follows of that stands in [`crate::laws`].
 ///
 /// # Errors
 ///
@@ -521,11 +519,6 @@ pub fn close<P: Patience>(
     ensures carried { ClosedBy spec.became (buckets_of tables.now) (mine_of socket).owner.name
         (plans.close tables.now.chains.layout.shape tables.now.chains.layout.seed (mine_of socket) moment)
         (turned worker.old) (turned worker.new)
-        (chained tables.now worker.old) (chained tables.now worker.new) (without_socket result) }
-    ensures alone { IsAlone (turned worker.old) → IsNow (chained tables.now worker.old).view
-        → ClosedByAlone spec.became (buckets_of tables.now)
-        (plans.close tables.now.chains.layout.shape tables.now.chains.layout.seed (mine_of socket) moment)
-        (words.given worker.old.turns) (words.given worker.new.turns)
         (chained tables.now worker.old) (chained tables.now worker.new) (without_socket result) }
     ensures back { IfErr result (λ refusal. refusal.0 ≡ socket) }
     ensures kept { OnErr result (StandsAs tables.now socket (turned worker.new) (chained tables.now worker.new)) }
@@ -564,10 +557,6 @@ pub fn drop_sock<P: Patience>(
     ensures carried { ClosedBy is_gone (buckets_of tables.now) (mine_of socket).owner.name
         (plans.drop (mine_of socket) plans.gone)
         (turned worker.old) (turned worker.new)
-        (chained tables.now worker.old) (chained tables.now worker.new) (without_socket result) }
-    ensures alone { IsAlone (turned worker.old) → IsNow (chained tables.now worker.old).view
-        → ClosedByAlone is_gone (buckets_of tables.now) (plans.drop (mine_of socket) plans.gone)
-        (words.given worker.old.turns) (words.given worker.new.turns)
         (chained tables.now worker.old) (chained tables.now worker.new) (without_socket result) }
     ensures back { IfErr result (λ refusal. refusal.0 ≡ socket) }
     ensures kept { OnErr result (StandsAs tables.now socket (turned worker.new) (chained tables.now worker.new)) }

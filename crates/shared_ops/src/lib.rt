@@ -6,8 +6,9 @@
 //! came. An operation takes the turn of its key's bind bucket, makes room, and then takes a chain's lock: never two
 //! turns and never two locks. So want of memory comes before anything has changed. What an operation asks of buckets
 //! and chains, in which order, and what it comes to is its plan in table_model; each contract says which deeds it did
-//! by that plan, whoever else was at the tables, and that on a worker which was never split the plan, carried out on
-//! the tables that its own entries and changes make, comes to the same.
+//! by that plan, whoever else was at the tables. What follows of that for any plan is a law, in [`laws`]: that on a
+//! worker which was never split the plan, carried out on the tables that its own entries and changes make, comes to
+//! the same, say.
 //!
 //! ```text
 //! // `tables` and `worker` are those of a run or of a race.
@@ -23,6 +24,7 @@ pub mod connecting;
 mod group_lists;
 pub mod handshaking;
 mod hashing;
+pub mod laws;
 pub mod leaving;
 pub mod listening;
 pub mod reaping;

@@ -8,7 +8,6 @@ ghost use Rattle.turn_table.specs.Passes as words;
 ghost use Rattle.turn_table.specs.Passes.{known};
 ghost use Rattle.table_rule.specs.Passes as chain_words;
 ghost use Rattle.table_rule.specs.Calls.{HasShares};
-ghost use Rattle.table_rule.specs.Sole.{IsNow};
 ghost use Rattle.nulls_chain.specs.Changes.{PlacesStay, TwoDrawn};
 ghost use Rattle.bind_buckets.specs.declared.request.Answer.TheVariants as answers;
 ghost use Rattle.bind_buckets.specs.declared.request.Entry.{Entry};
@@ -16,11 +15,11 @@ ghost use Rattle.bind_buckets.specs.declared.request.Request.TheVariants as requ
 ghost use Rattle.bind_buckets.specs.Answers.{answer_of_end};
 ghost use Rattle.bind_buckets.specs.Bucket.{entries_of, answer_to};
 ghost use Rattle.bind_buckets.specs.Callers.{MayName};
-ghost use Rattle.bind_buckets.specs.Turned.{View, IsIdle, IsOut, IsAlone, Within, made};
+ghost use Rattle.bind_buckets.specs.Turned.{View, IsIdle, IsOut, Within, made};
 ghost use Rattle.chain_deeds.specs.Sides.{HasRoom, IsResting, side_of};
 ghost use Rattle.table_model.specs.Asking.{ends};
 ghost use Rattle.table_model.specs.Operations as plans;
-ghost use Rattle.shared_ops.specs.Goes.{AskedAll, CarriedOut, CarriedOutAlone, HoldsAfter, NotBusy, gone_if};
+ghost use Rattle.shared_ops.specs.Goes.{AskedAll, CarriedOut, HoldsAfter, NotBusy, gone_if};
 ghost use Rattle.shared_ops.specs.Groups.{GaveBack, KeepsLists, ListsOfListen, StartsLists, StartsUnbound};
 ghost use Rattle.shared_ops.specs.Listens as spec;
 ghost use Rattle.shared_ops.specs.Listens.{AddsAs, IsKnownEnd, SaysListen, TellsAs, asked_listen};
@@ -374,8 +373,21 @@ fn listen_answer(
     }
 }
 
-/// [`listen`], among others.
-fn listen_shared<P: Patience>(
+/// Lets a socket listen; its port comes with it. One without a port takes the first of a search, at the
+/// address to which it is bound, or 0.0.0.0. A listener
+/// stays as it is.
+///
+/// Its plan goes on so by the answers of the entries that this call gave and by the changes that it made, whoever
+/// else was at the tables. What follows of that stands in [`crate::laws`].
+///
+/// # Errors
+///
+/// `Inval`: it is connected, or a request. `InUse`: the owner of that name keeps it from listening. `NoPort`: each of
+/// the ports was refused, at its own turn. `GroupFull` and `GroupsFull`: no place in a group of listeners. `Full`: no
+/// slot was free. `LeftOff`: a bucket, or the worker's changes where they are kept, wanted memory, or another had a
+/// bucket's turn or the lock of its chain for longer than the caller tries; the entries of the ports refused before
+/// stay. A refused socket comes back as it was; a port that this call took for it is given up.
+pub fn listen<P: Patience>(
     patience: &P,
     tables: &Tables,
     worker: &mut Worker,
@@ -420,58 +432,4 @@ fn listen_shared<P: Patience>(
         Sock::Full(full) => Err((Sock::Full(full), OpEnd::Inval)),
         Sock::Request(request) => Err((Sock::Request(request), OpEnd::Inval)),
     }
-}
-
-/// Lets a socket listen; its port comes with it. One without a port takes the first of a search, at the
-/// address to which it is bound, or 0.0.0.0. A listener
-/// stays as it is.
-///
-/// Its plan goes on so by the answers of the entries that this call gave and by the changes that it made, whoever
-/// else was at the tables. On a worker that was never split, the plan comes to that on the tables that its own
-/// entries and changes make.
-///
-/// # Errors
-///
-/// `Inval`: it is connected, or a request. `InUse`: the owner of that name keeps it from listening. `NoPort`: each of
-/// the ports was refused, at its own turn. `GroupFull` and `GroupsFull`: no place in a group of listeners. `Full`: no
-/// slot was free. `LeftOff`: a bucket, or the worker's changes where they are kept, wanted memory, or another had a
-/// bucket's turn or the lock of its chain for longer than the caller tries; the entries of the ports refused before
-/// stay. A refused socket comes back as it was; a port that this call took for it is given up.
-pub fn listen<P: Patience>(
-    patience: &P,
-    tables: &Tables,
-    worker: &mut Worker,
-    socket: Sock,
-    ports: Ports,
-) -> Result<(Sock, u16), (Sock, OpEnd)>
-    requires ready { IsReady tables.now worker.old }
-    requires enters { MayEnter (length ports + 2) worker.old }
-    requires draws { MayDraw 2 worker.old }
-    requires may { MayTell worker.old (mine_of socket).owner.name }
-    requires stands { StandsAs tables.now socket (turned worker.old) (chained tables.now worker.old) }
-    ensures ready { IsReady tables.now worker.new }
-    ensures caller { words.caller worker.new.turns ≡ words.caller worker.old.turns }
-    ensures entered { words.draws worker.new.turns ≤ words.draws worker.old.turns + (length ports + 2) }
-    ensures drawn { Draws 2 worker.old worker.new }
-    ensures carried { CarriedOut first_mine plans.refused (buckets_of tables.now) (mine_of socket).owner.name
-        (plans.listen tables.now.chains.layout.shape tables.now.chains.layout.seed (mine_of socket) ports)
-        (turned worker.old) (turned worker.new)
-        (chained tables.now worker.old) (chained tables.now worker.new) (without_socket result) }
-    ensures alone { IsAlone (turned worker.old) → IsNow (chained tables.now worker.old).view
-        → CarriedOutAlone first_mine plans.refused (buckets_of tables.now)
-        (plans.listen tables.now.chains.layout.shape tables.now.chains.layout.seed (mine_of socket) ports)
-        (words.given worker.old.turns) (words.given worker.new.turns)
-        (chained tables.now worker.old) (chained tables.now worker.new) (without_socket result) }
-    ensures port { IfOk result (λ listens. listens.1 ≡ (mine_of listens.0).owner.port) }
-    ensures back { IfErr result (λ refusal. refusal.0 ≡ socket) }
-    ensures stands { IfOk result (λ listens. StandsAs tables.now listens.0 (turned worker.new)
-        (chained tables.now worker.new)) }
-    ensures kept { OnErr result (StandsAs tables.now socket (turned worker.new) (chained tables.now worker.new)) }
-    ensures lists { ListsOfListen (buckets_of tables.now) socket (turned worker.new)
-        worker.old.groups worker.new.groups (without_socket result) }
-    ensures listed { KeepsLists tables.now worker.old worker.new }
-    ensures stay { PlacesStay (chained tables.now worker.old).view (chained tables.now worker.new).view }
-    ensures patient { P.endless ≡ true → IfErr result (λ refusal. NotBusy refusal.1) }
-{
-    listen_shared(patience, tables, worker, socket, ports)
 }

@@ -8,7 +8,7 @@ ghost use Rattle.chain_deeds.specs.Sides.{HasRoom, IsResting};
 ghost use Rattle.nulls_chain.specs.Changes.{PlacesStay};
 ghost use Rattle.table_model.specs.Own as own;
 ghost use Rattle.table_model.specs.declared.operation.Cause.TheVariants as causes;
-ghost use Rattle.shared_ops.specs.Groups.{GaveSparing, KeepsLists};
+ghost use Rattle.shared_ops.specs.Groups.{KeepsLists};
 ghost use Rattle.shared_ops.specs.Reaping.{ReapsOne};
 ghost use Rattle.shared_ops.specs.Spends.{Draws};
 ghost use Rattle.shared_ops.specs.Stands.{HasGroups, IsReady, MayDraw, MayEnter, buckets_of, chained, turned};
@@ -62,7 +62,6 @@ fn reap_in<P: Patience>(
     ensures patient { P.endless ≡ true → OnErr result ⊥ }
     ensures stay { PlacesStay (chained tables.now worker.old).view (chained tables.now worker.new).view }
     ensures groups { worker.new.groups ≡ worker.old.groups }
-    ensures spares { (v : View) → Within v (turned worker.old) → GaveSparing v (turned worker.new) }
 {
     let card = owned::card_as(Kind::TimeWait, &waiting.owner, waiting.stamp);
     let mut turn = turn;

@@ -3,14 +3,12 @@
 ghost use Rattle.std.specs.Prelude.{◌≡◌, ◌+◌, ◌≤◌, IfOk, true, IfErr};
 ghost use Rattle.sock_card.specs.declared.card.Kind.TheVariants as kinds;
 ghost use Rattle.turn_table.specs.Passes as words;
-ghost use Rattle.bind_buckets.specs.Turned.{IsAlone};
 ghost use Rattle.nulls_chain.specs.Changes.{PlacesStay};
 ghost use Rattle.table_model.specs.Operations as plans;
 ghost use Rattle.table_rule.specs.Passes as chain_words;
-ghost use Rattle.table_rule.specs.Sole.{IsNow};
 ghost use Rattle.shared_ops.specs.Accepting.{accepted};
-ghost use Rattle.shared_ops.specs.Groups.{GaveSparing, KeepsLists};
-ghost use Rattle.shared_ops.specs.Goes.{CarriedOut, CarriedOutAlone, NotBusy};
+ghost use Rattle.shared_ops.specs.Groups.{KeepsLists};
+ghost use Rattle.shared_ops.specs.Goes.{Carried, NotBusy};
 ghost use Rattle.shared_ops.specs.Handshaking.{OwnersStay};
 ghost use Rattle.shared_ops.specs.Socks.{mine_of};
 ghost use Rattle.shared_ops.specs.Spends.{Draws};
@@ -45,8 +43,7 @@ fn syn_as<P: Patience>(
     ensures drawn { Draws 4 worker.old worker.new }
     ensures stay { PlacesStay (chain_words.known worker.old.chain.pass) (chain_words.known worker.new.chain.pass) }
     ensures groups { worker.new.groups ≡ worker.old.groups }
-    ensures spares { GaveSparing (turned worker.old) (turned worker.new) }
-    ensures carried { CarriedOut plans.done plans.refused (buckets_of tables.now) request.name
+    ensures carried { Carried plans.done plans.refused (buckets_of tables.now)
         (plans.syn_as tables.now.chains.layout.shape tables.now.chains.layout.seed request)
         (turned worker.old) (turned worker.new) (chained tables.now worker.old) (chained tables.now worker.new) result }
     ensures stands { IfOk result (λ r. IsHashed kinds.Request r (chained tables.now worker.new)) }
@@ -67,53 +64,12 @@ fn syn_as<P: Patience>(
     }
 }
 
-/// [`syn`], among others.
-fn syn_shared<P: Patience>(
-    patience: &P,
-    tables: &Tables,
-    worker: &mut Worker,
-    listener: &Sock,
-    name: u64,
-    from: End,
-    at: End,
-) -> Result<Sock, OpEnd>
-    requires ready { IsReady tables.now worker.old }
-    requires enters { MayEnter 1 worker.old }
-    requires draws { MayDraw 4 worker.old }
-    requires stands { StandsAs tables.now listener.now (turned worker.old) (chained tables.now worker.old) }
-    ensures ready { IsReady tables.now worker.new }
-    ensures caller { words.caller worker.new.turns ≡ words.caller worker.old.turns }
-    ensures entered { words.draws worker.new.turns ≤ words.draws worker.old.turns + 1 }
-    ensures drawn { Draws 4 worker.old worker.new }
-    ensures stay { PlacesStay (chain_words.known worker.old.chain.pass) (chain_words.known worker.new.chain.pass) }
-    ensures groups { worker.new.groups ≡ worker.old.groups }
-    ensures spares { GaveSparing (turned worker.old) (turned worker.new) }
-    ensures carried { CarriedOut accepted plans.refused (buckets_of tables.now) name
-        (plans.syn tables.now.chains.layout.shape tables.now.chains.layout.seed (mine_of listener.now) name from at)
-        (turned worker.old) (turned worker.new) (chained tables.now worker.old) (chained tables.now worker.new) result }
-    ensures stands { IfOk result (λ request.
-        StandsAs tables.now request (turned worker.new) (chained tables.now worker.new)) }
-    ensures listener { StandsAs tables.now listener.now (turned worker.new) (chained tables.now worker.new) }
-    ensures patient { P.endless ≡ true → IfErr result NotBusy }
-{
-    let owner = *listener.owner();
-    if owned::is_no_accept(&owner, from, at) {
-        return Err(OpEnd::Inval);
-    }
-    let request = owned::request_owner(owner, name, from, at);
-    match syn_as(patience, tables, worker, request) {
-        Ok(request) => Ok(Sock::Request(request)),
-        Err(end) => Err(end),
-    }
-}
-
 /// The request of that name for a handshake with a listener from one end at another (`tcp_conn_request`,
 /// `inet_csk_reqsk_queue_hash_add`). The listener stays as it is; the request is in no bind bucket. It keeps its
 /// four-tuple as a full socket does, and a TIME_WAIT of that gives way.
 ///
 /// Its plan goes on so by the answers of the entries that this call gave and by the changes that it made, whoever else
-/// was at the tables. On a worker that was never split, the plan comes to that on the tables that its own entries and
-/// changes make.
+/// was at the tables. What follows of that stands in [`crate::laws`].
 ///
 /// # Errors
 ///
@@ -140,18 +96,21 @@ pub fn syn<P: Patience>(
     ensures stay { PlacesStay (chain_words.known worker.old.chain.pass) (chain_words.known worker.new.chain.pass) }
     ensures groups { worker.new.groups ≡ worker.old.groups }
     ensures listed { KeepsLists tables.now worker.old worker.new }
-    ensures carried { CarriedOut accepted plans.refused (buckets_of tables.now) name
+    ensures carried { Carried accepted plans.refused (buckets_of tables.now)
         (plans.syn tables.now.chains.layout.shape tables.now.chains.layout.seed (mine_of listener.now) name from at)
         (turned worker.old) (turned worker.new) (chained tables.now worker.old) (chained tables.now worker.new) result }
-    ensures alone { IsAlone (turned worker.old) → IsNow (chained tables.now worker.old).view
-        → CarriedOutAlone accepted plans.refused (buckets_of tables.now)
-        (plans.syn tables.now.chains.layout.shape tables.now.chains.layout.seed (mine_of listener.now) name from at)
-        (words.given worker.old.turns) (words.given worker.new.turns)
-        (chained tables.now worker.old) (chained tables.now worker.new) result }
     ensures stands { IfOk result (λ request.
         StandsAs tables.now request (turned worker.new) (chained tables.now worker.new)) }
     ensures listener { StandsAs tables.now listener.now (turned worker.new) (chained tables.now worker.new) }
     ensures patient { P.endless ≡ true → IfErr result NotBusy }
 {
-    syn_shared(patience, tables, worker, listener, name, from, at)
+    let owner = *listener.owner();
+    if owned::is_no_accept(&owner, from, at) {
+        return Err(OpEnd::Inval);
+    }
+    let request = owned::request_owner(owner, name, from, at);
+    match syn_as(patience, tables, worker, request) {
+        Ok(request) => Ok(Sock::Request(request)),
+        Err(end) => Err(end),
+    }
 }

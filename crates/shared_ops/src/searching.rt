@@ -10,8 +10,7 @@ ghost use Rattle.nulls_chain.specs.Changes.{PlacesStay};
 ghost use Rattle.table_model.specs.Operations as plans;
 ghost use Rattle.table_rule.specs.Passes as chain_words;
 ghost use Rattle.shared_ops.specs.Connecting.{StandsFull};
-ghost use Rattle.shared_ops.specs.Goes.{CarriedOut, NotBusy};
-ghost use Rattle.shared_ops.specs.Groups.{GaveSparing};
+ghost use Rattle.shared_ops.specs.Goes.{Carried, NotBusy};
 ghost use Rattle.shared_ops.specs.Searching as spec;
 ghost use Rattle.shared_ops.specs.Searching.{KeepsDraws, PassesBy, TriesAt, TryLeaves, free_entry};
 ghost use Rattle.shared_ops.specs.Spends.{Draws};
@@ -73,8 +72,6 @@ fn connect_in<P: Patience>(
     ensures keeps { KeepsDraws worker.old worker.new result }
     ensures stay { PlacesStay (chain_words.known worker.old.chain.pass) (chain_words.known worker.new.chain.pass) }
     ensures groups { worker.new.groups ≡ worker.old.groups }
-    ensures spares { (v : View) → Within v (turned worker.old)
-        → entries_of (made worker.old.turns turn) ≡ free_entry full ∷ [] → GaveSparing v (turned worker.new) }
     ensures tries { (v : View) → Within v (turned worker.old)
         → entries_of (made worker.old.turns turn) ≡ free_entry full ∷ []
         → TriesAt (buckets_of tables.now) tables.now.chains.layout full moment rule v (turned worker.new)
@@ -130,7 +127,6 @@ fn connect_at<P: Patience>(
     ensures keeps { KeepsDraws worker.old worker.new result }
     ensures stay { PlacesStay (chain_words.known worker.old.chain.pass) (chain_words.known worker.new.chain.pass) }
     ensures groups { worker.new.groups ≡ worker.old.groups }
-    ensures spares { GaveSparing (turned worker.old) (turned worker.new) }
     ensures tries { TriesAt (buckets_of tables.now) tables.now.chains.layout full moment rule (turned worker.old)
         (turned worker.new) (chained tables.now worker.old) (chained tables.now worker.new) result }
     ensures leaves { TryLeaves tables.now full.name (turned worker.new) (chained tables.now worker.new) result }
@@ -177,8 +173,7 @@ pub(crate) fn search_connect<P: Patience>(
     ensures drawn { Draws 4 worker.old worker.new }
     ensures stay { PlacesStay (chain_words.known worker.old.chain.pass) (chain_words.known worker.new.chain.pass) }
     ensures groups { worker.new.groups ≡ worker.old.groups }
-    ensures spares { GaveSparing (turned worker.old) (turned worker.new) }
-    ensures carried { CarriedOut plans.done plans.refused (buckets_of tables.now) owner.name
+    ensures carried { Carried plans.done plans.refused (buckets_of tables.now)
         (plans.search_connect tables.now.chains.layout.shape tables.now.chains.layout.seed owner source to
         moment rule ports)
         (turned worker.old) (turned worker.new) (chained tables.now worker.old) (chained tables.now worker.new) result }

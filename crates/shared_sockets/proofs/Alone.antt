@@ -83,8 +83,8 @@ goes_now v w bucket (Some x) t o = adds_now v w 0 bucket x.slot _ t.change o
 pub walking_now : (v : View) (bucket : ℕ) (xs : List Seen) → IsNow v → IsNow (walking v bucket xs)
 walking_now v bucket xs o = record { bare = (record { all = o.bare.0.all; rises = o.bare.0.rises; waits = o.bare.0.waits }, o.bare.1); idle = o.idle; recent = o.recent }
 
-pub unlocking_now : (v w : View) → w ≡ unlocking v → IsNow v → IsNow w
-unlocking_now v w e o = subst IsNow (sym e) record { bare = (record { all = o.bare.0.all; rises = o.bare.0.rises; waits = o.bare.0.waits }, o.bare.1); idle = o.idle; recent = o.recent }
+pub unlocking_now : (v w : View) (instant : ℕ) → w ≡ unlocking v instant → IsNow v → IsNow w
+unlocking_now v w instant e o = subst IsNow (sym e) record { bare = (record { all = o.bare.0.all; rises = o.bare.0.rises; waits = o.bare.0.waits }, o.bare.1); idle = o.idle; recent = o.recent }
 
 -- What a change leaves
 
@@ -188,14 +188,14 @@ module _ (layout : Layout) (from bucket : ℕ) (le : from ≤ layout.shape.slots
           subst (Ends (Ok i) w) (sym out) (
             (told, a.replaced),
             left,
-            unlocking_now h.left w h.unlocked (goes_now a.between h.left bucket old a.goes_out (adds_now (walking v bucket xs) a.between 1 bucket i.place.slot _ a.comes.change (walking_now v bucket xs now))),
+            unlocking_now h.left w h.instant h.unlocked (goes_now a.between h.left bucket old a.goes_out (adds_now (walking v bucket xs) a.between 1 bucket i.place.slot _ a.comes.change (walking_now v bucket xs now))),
           )
       ends_alone (Err (ends.Taken name)) w h is =
           let a = subst (λ (l : List Seen). Refuses new l name (walking v bucket l) h.left) is h.comes in
           subst (Ends (Err (ends.Taken name)) w) (sym (taken-is (keeper_in new (row_of xs)) name refl a.keeper)) (
             refl,
-            ap (λ (x : View). chains_of layout from x.book.closed) (h.unlocked ∙ ap unlocking a.same),
-            unlocking_now h.left w h.unlocked (subst IsNow (sym a.same) (walking_now v bucket xs now)),
+            ap (λ (x : View). chains_of layout from x.book.closed) (h.unlocked ∙ ap (λ (y : View). unlocking y h.instant) a.same),
+            unlocking_now h.left w h.instant h.unlocked (subst IsNow (sym a.same) (walking_now v bucket xs now)),
           )
       ends_alone (Err (ends.Full f)) w h is =
           let a = subst (λ (l : List Seen). FindsNoSlot layout new l f (walking v bucket l) h.left) is h.comes in
@@ -203,7 +203,7 @@ module _ (layout : Layout) (from bucket : ℕ) (le : from ≤ layout.shape.slots
           subst (Ends (Err (ends.Full f)) w) (sym (free-is a.unkept ∙ full-is h.left f (waiting_in new (row_of xs)) a.none)) (
             refl,
             ap (λ (x : View). chains_of layout from x.book.closed) h.unlocked ∙ ap (chains_of layout from) none.1,
-            unlocking_now h.left w h.unlocked none.0,
+            unlocking_now h.left w h.instant h.unlocked none.0,
           )
 
 pub insert_alone : (layout : Layout) (from bucket : ℕ) (new : Newcomer) (result : Result Inserted InsertEnd) (v w : View) → from ≤ layout.shape.slots → bucket < chain_count layout.shape
@@ -221,7 +221,7 @@ pub adds_alone : (layout : Layout) (from bucket : ℕ) (card : Card) (r : Result
 adds_alone layout from bucket card r v w le near at h now =
     let a = hash_alone layout from bucket le near v now h.chain h.seen card at r h.left h.comes in
     let next = next_after (add_outcome (chains_of layout from v.book.closed)) from in
-    (a.0, ap (λ (x : View). chains_of layout next x.book.closed) h.unlocked ∙ a.1, unlocking_now h.left w h.unlocked a.2)
+    (a.0, ap (λ (x : View). chains_of layout next x.book.closed) h.unlocked ∙ a.1, unlocking_now h.left w h.instant h.unlocked a.2)
 
 pub waits_alone : (layout : Layout) (from : ℕ) (place : Place) (card : Card) (r : Result Place Full) (v w : View) → from ≤ layout.shape.slots → place.bucket < chain_count layout.shape
     → home layout.shape layout.seed card ≡ place.bucket → Waits layout from place card r v w → WaitsAlone layout from place card r v w
@@ -233,7 +233,7 @@ waits_alone layout from place card r v w le near at h now =
           ∙ (ap (chains_of layout next) h.departs.change.2.3
           ∙ (unhashed_as_book layout next h.between.book.closed place.bucket place.slot h.departs.change.0 h.departs.change.1 near _
           ∙ ap (λ (x : Chains). unhashed x (record { bucket = place.bucket; slot = place.slot })) a.1)),
-      unlocking_now h.left w h.unlocked (adds_now h.between h.left 0 place.bucket place.slot _ h.departs.change a.2),
+      unlocking_now h.left w h.instant h.unlocked (adds_now h.between h.left 0 place.bucket place.slot _ h.departs.change a.2),
     )
 
 -- what is left once the request went, or where no slot was free
@@ -276,14 +276,14 @@ hands_alone layout from request card r v w le near at h now = go r refl
               ∙ (unhashed_as_book layout next between.book.closed request.bucket request.slot d.change.0 d.change.1 near _
               ∙ (ap (λ (x : Chains). unhashed x (record { bucket = request.bucket; slot = request.slot })) added.1
               ∙ put-yields (hashed t card outcome) request.bucket card request place outcome (subst (λ (k : Result Place (Place × Full)). IsAdded request.bucket card outcome (came k)) e added.0)))),
-          unlocking_now h.left w h.unlocked (adds_now between h.left 0 request.bucket request.slot _ d.change added.2),
+          unlocking_now h.left w h.instant h.unlocked (adds_now between h.left 0 request.bucket request.slot _ d.change added.2),
         )
     go (Err f) e =
         let same : h.left ≡ between = (subst (λ (k : Result Place (Place × Full)). Yields request k between h.left) e h.hands.yields).1 in (
           added.0,
-          ap (λ (x : View). chains_of layout next x.book.closed) (h.unlocked ∙ ap unlocking same)
+          ap (λ (x : View). chains_of layout next x.book.closed) (h.unlocked ∙ ap (λ (y : View). unlocking y h.instant) same)
               ∙ (added.1 ∙ full-yields (hashed t card outcome) request.bucket card request f.1 outcome (subst (λ (k : Result Place (Place × Full)). IsAdded request.bucket card outcome (came k)) e added.0)),
-          unlocking_now h.left w h.unlocked (subst IsNow (sym same) added.2),
+          unlocking_now h.left w h.instant h.unlocked (subst IsNow (sym same) added.2),
         )
 
 pub reaps_alone : (layout : Layout) (bucket name : ℕ) (result : Option ℕ) (v w : View) → bucket < chain_count layout.shape → Reaps bucket name result v w → ReapsAlone layout bucket name result v w
@@ -297,5 +297,5 @@ reaps_alone layout bucket name result v w near h now = (
             ∙ (goes_left layout bucket near next (waiting_as name (row_of h.chain)) (walking v bucket h.chain) h.left h.goes
             ∙ ap (without_replaced t bucket) (sym is)),
       ),
-  unlocking_now h.left w h.unlocked (goes_now (walking v bucket h.chain) h.left bucket (waiting_as name (row_of h.chain)) h.goes (walking_now v bucket h.chain now)),
+  unlocking_now h.left w h.instant h.unlocked (goes_now (walking v bucket h.chain) h.left bucket (waiting_as name (row_of h.chain)) h.goes (walking_now v bucket h.chain now)),
 )

@@ -33,10 +33,10 @@ chain_is v u bucket xs is was once = record {
 }
 
 -- as the lock is given back, what was walked is one sighting more
-pub sees_unlocked : (u x w v : View) {bucket : ℕ} → u ≡ locking v bucket → w ≡ unlocking x → Sees u x → Sees v w
-sees_unlocked u x w v {bucket} lv un s =
+pub sees_unlocked : (u x w v : View) {bucket : ℕ} (instant : ℕ) → u ≡ locking v bucket → w ≡ unlocking x instant → Sees u x → Sees v w
+sees_unlocked u x w v {bucket} instant lv un s =
     let t : Sees (locking v bucket) x = subst (λ (y : View). Sees y x) lv s in
-    (t.0, t.1 ++ sight_of x ∷ [], t.2, ap (λ (y : View). y.sights) un ∙ (ap (λ (l : List Sight). l ++ sight_of x ∷ []) t.3 ∙ append_assoc t.0 t.1 (sight_of x ∷ [])))
+    (t.0, t.1 ++ sight_of x instant ∷ [], t.2, ap (λ (y : View). y.sights) un ∙ (ap (λ (l : List Sight). l ++ sight_of x instant ∷ []) t.3 ∙ append_assoc t.0 t.1 (sight_of x instant ∷ [])))
 
 -- a pass that has just locked a bucket stands before its chain
 pub since_at : (layout : Layout) (v w : View) (locked : Locked) (bucket : ℕ) → bucket < bucket_count layout → HasLockSince v locked bucket w → IsAt layout locked w

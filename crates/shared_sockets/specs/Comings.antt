@@ -126,7 +126,8 @@ pub record Inserts (layout : Layout) (from bucket : ℕ) (new : Newcomer) (resul
   pub cards : Each HasCard chain
   pub left : View
   pub comes : ComesTo layout from bucket new chain result (walking v bucket chain) left
-  pub unlocked : w ≡ unlocking left
+  pub instant : ℕ
+  pub unlocked : w ≡ unlocking left instant
 
 -- a card comes that no four-tuple keeps out, or no slot is free
 pub record IsHashed (layout : Layout) (from bucket : ℕ) (card : Card) (xs : List Seen) (place : Place)
@@ -147,4 +148,5 @@ pub record Adds (layout : Layout) (from bucket : ℕ) (card : Card) (result : Re
   pub seen : IsChain v bucket chain
   pub left : View
   pub comes : HashesTo layout from bucket card chain result (walking v bucket chain) left
-  pub unlocked : w ≡ unlocking left
+  pub instant : ℕ
+  pub unlocked : w ≡ unlocking left instant

@@ -44,7 +44,8 @@ pub record HandsOver (layout : Layout) (from : ℕ) (request : Place) (card : Ca
   pub seen : IsChain v request.bucket chain
   pub left : View
   pub hands : HandsTo layout from request card chain result (walking v request.bucket chain) left
-  pub unlocked : w ≡ unlocking left
+  pub instant : ℕ
+  pub unlocked : w ≡ unlocking left instant
 
 -- Of a handover by which the pass came from v to w, hash being that of its request: in each state of the table in which
 -- the clock is past the hash's end, and in which the pass, number k there, has the book that it had at that clock, the

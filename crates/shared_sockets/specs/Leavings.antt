@@ -43,7 +43,8 @@ pub record Waits (layout : Layout) (from : ℕ) (place : Place) (card : Card) (r
   pub comes : HashesTo layout from place.bucket card chain result (walking v place.bucket chain) between
   pub left : View
   pub departs : Departs between left place.bucket place.slot place.card
-  pub unlocked : w ≡ unlocking left
+  pub instant : ℕ
+  pub unlocked : w ≡ unlocking left instant
 
 abbrev pub slot_of : Hashed → ℕ
 slot_of x = x.slot
@@ -60,4 +61,5 @@ pub record Reaps (bucket name : ℕ) (result : Option ℕ) (v w : View) : Type 0
   pub slot : result ≡ option_map slot_of (waiting_as name (row_of chain))
   pub left : View
   pub goes : Goes (walking v bucket chain) left bucket (waiting_as name (row_of chain))
-  pub unlocked : w ≡ unlocking left
+  pub instant : ℕ
+  pub unlocked : w ≡ unlocking left instant

@@ -59,9 +59,13 @@ among_turn x xs there =
 
 pub told_in_order : (views : List Part) (buckets t0 t1 : ℕ) (items : List Card) → AreTold views buckets t0 t1 items → AreTold views buckets t0 t1 (ascending items)
 told_in_order views buckets t0 t1 items t = record {
+  instant = t.instant;
+  low = t.low;
+  high = t.high;
+  ascend = t.ascend;
   lives = in_turn t.lives;
   cards = ap ascending t.cards ∙ sym (map_ascending order_of life_card t.lives);
-  stood = each_turn (IsLife views t0 t1) t.lives t.stood;
+  stand = each_turn (IsLife views t.instant) t.lives t.stand;
   once = apart_turn t.lives t.once;
   all = λ h there hash low still. among_turn h t.lives (t.all h there hash low still);
 }

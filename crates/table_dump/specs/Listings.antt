@@ -3,6 +3,7 @@ use Rattle.std.specs.Prelude.{◌≡◌, ◌≤◌, List, ◌++◌, Some}
 use Rattle.list_words.specs.Lists.{Each}
 use Rattle.shared_dump.specs.Books.{AreTold}
 use Rattle.shared_dump.specs.Dumps.{Keeps}
+use Rattle.shared_dump.specs.Rows.{Row}
 use Rattle.shared_dump.specs.Sightings.{sightings}
 use Rattle.shared_ops.specs.Stands.{chained}
 use Rattle.shared_ops.specs.declared.tables.Tables.{Tables}
@@ -14,7 +15,6 @@ use Rattle.table_rule.specs.Beyond.{SightTrue}
 use Rattle.table_rule.specs.Book.{Part}
 use Rattle.table_rule.specs.Plays.{settled}
 use Rattle.table_rule.specs.Words.{bucket_count}
-use Rattle.table_rule.specs.declared.view.Seen.{Seen}
 
 -- All of a worker is as it was, but for what it has seen: its entries and its groups, its changes and the room for
 -- more, its slots and its lookups. So is all that its sockets stand by.
@@ -35,7 +35,7 @@ pub record IsListing (t : Tables) (listing : Listing) (w u : Worker) : Type 0 wh
   pub order : span.t0 ≤ span.t1
   pub ends : (chained t u).view.seen ≡ span.t1
   pub sorted : listing.cards ≡ ascending listing.cards
-  pub rows : List (List Seen)
+  pub rows : List Row
   pub sights :
       (chained t u).view.sights ≡ settled (settled (chained t w).view.sights span.t0) span.t1
       ++ sightings span.t0 span.t1 0 rows

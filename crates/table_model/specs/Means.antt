@@ -184,21 +184,21 @@ is_lookup _ = false
 abbrev pub PlansRefine : Type 0
 PlansRefine =
     (n : ℕ) (own : Own) (t : Tables) (flat : Flat) (command : Command) (ended : Ended Replied)
-    → n ≤ 64 → length own.labels + 1 < 2 ^ 56 → is_lookup command ≡ false
+    → n ≤ 255 → length own.labels + 1 < 2 ^ 56 → is_lookup command ≡ false
     → Means n own t flat → run t (plan flat.header own command) ≡ Some ended → Refines n ended flat command
 
 -- and the tables never answer what no table answers
 abbrev pub PlansEnd : Type 0
 PlansEnd =
     (n : ℕ) (own : Own) (t : Tables) (flat : Flat) (command : Command)
-    → n ≤ 64 → is_lookup command ≡ false → Means n own t flat
+    → n ≤ 255 → is_lookup command ≡ false → Means n own t flat
     → (ended : Ended Replied) × (run t (plan flat.header own command) ≡ Some ended)
 
 -- and what another section knows of itself stays meant
 abbrev pub OthersStay : Type 0
 OthersStay =
     (n m : ℕ) (own other : Own) (t : Tables) (flat : Flat) (command : Command) (ended : Ended Replied)
-    → n ≤ 64 → length own.labels + 1 < 2 ^ 56 → is_lookup command ≡ false → m ≢ n
+    → n ≤ 255 → length own.labels + 1 < 2 ^ 56 → is_lookup command ≡ false → m ≢ n
     → Means n own t flat → Means m other t flat → run t (plan flat.header own command) ≡ Some ended
     → Means m other ended.tables (step flat n command).flat
 

@@ -13,7 +13,7 @@ use Rattle.chain_book.specs.Homes.{packet_home, listen_home}
 use Rattle.chain_book.proofs.RankHomes.{five_home, high_home, low_home}
 use Rattle.table_rule.specs.Words.{card_from, with_seed}
 use Rattle.table_rule.specs.Book.{Life}
-use Rattle.table_rule.specs.ReadersOk.{rank_of, SlotMet, HashMet, NoneBetter, NoneAbove, CardStood, StopOk, ReceiptOk, SightedOk, WholeOk, ReadOk}
+use Rattle.table_rule.specs.ReadersOk.{rank_of, SlotMet, HashMet, LeftMet, Strayed, LifeStood, NoneBetter, NoneAbove, CardStood, StopOk, ReceiptOk, SightedOk, WholeOk, ReadOk}
 use Rattle.table_rule.specs.Wholes.{Clears, IsClear, FoundIn, SeenIn, StoppedIn, Follows}
 use Rattle.table_rule.specs.declared.view.View.{View}
 use Rattle.table_rule.specs.declared.view.ReadView.{ReadView}
@@ -31,16 +31,32 @@ module _ (lives : ℕ → List Life) (t₀ s₀ s₁ t₁ : ℕ) (later : t₀ �
   wide_hash : (P : ℕ → Type 0) → HashMet lives s₀ s₁ P → HashMet lives t₀ t₁ P
   wide_hash P m = record { slot = m.slot; nth = m.nth; life = m.life; there = m.there; bucket = m.bucket; meets = let z = m.meets in (omega (arith, z.0), omega (arith, z.1)) }
 
+  wide_strayed : (bucket : ℕ) → Strayed lives s₀ s₁ bucket → Strayed lives t₀ t₁ bucket
+  wide_strayed bucket m = record {
+    slot = m.slot;
+    from = let l = m.from in record { nth = l.nth; life = l.life; there = l.there; bucket-is = l.bucket-is; left = let z = l.left in (omega (arith, z.0), omega (arith, z.1)) };
+    again = m.again;
+    later = m.later;
+    there = m.there;
+    after = m.after;
+    hashed = let z = m.hashed in (omega (arith, z.0), omega (arith, z.1));
+  }
+
+  wide_stood : (bucket i : ℕ) → LifeStood lives s₀ s₁ bucket i → LifeStood lives t₀ t₁ bucket i
+  wide_stood bucket i m = record { nth = m.nth; life = m.life; there = m.there; bucket-is = m.bucket-is; begun = let z = m.begun in omega arith; left = let z = m.left in omega arith }
+
   wide_stop : (slots bucket : ℕ) (e : Stop) → StopOk lives s₀ s₁ slots bucket e → StopOk lives t₀ t₁ slots bucket e
   wide_stop slots bucket e o = record {
     known = o.known;
     foreign = λ k. let t = o.foreign k in (t.0, wide_hash (λ b. b ≡ e.at) t.1);
     slot = λ k. wide_slot e.at (o.slot k);
     long = λ k. let t = o.long k in (t.0, wide_hash (λ b. Unit {0}) t.1);
+    dead = λ k. let t = o.dead k in (⊎_elim (λ z. inl (wide_stood bucket e.at z)) (λ z. inr (wide_strayed bucket z)) t.0, λ n x there before still. t.1 n x there (omega arith) (omega arith));
+    astray = λ k. wide_strayed bucket (o.astray k);
   }
 
   wide_card : (card : List ℕ) → CardStood lives s₀ s₁ card → CardStood lives t₀ t₁ card
-  wide_card card o = record { slot = o.slot; nth = o.nth; life = o.life; there = o.there; card-is = o.card-is; begun = let z = o.begun in omega arith; left = let z = o.left in omega arith }
+  wide_card card o = record { slot = o.slot; nth = o.nth; life = o.life; there = o.there; card-is = o.card-is; begun = let z = o.begun in omega arith; left = let z = o.left in omega arith; newest = λ k y e lt. let z = o.newest k y e lt in omega arith }
 
 -- a rank of the words is that of the card that they say
 pub words_rank : (key : Packet) (ws : List ℕ) → rank_of key ws ≡ rank (card_from ws) key
@@ -87,8 +103,8 @@ module _ (layout : Layout) (lives : ℕ → List Life) (clock : ℕ) (v : ReadVi
       (each_weaken (StopOk lives s.receipt.from s.receipt.to layout.shape.slots s.receipt.bucket) (StopOk lives from clock layout.shape.slots s.receipt.bucket) last (wide_stop lives from s.receipt.from s.receipt.to clock s.later ok.span.1 layout.shape.slots s.receipt.bucket) (each_back (StopOk lives s.receipt.from s.receipt.to layout.shape.slots s.receipt.bucket) s.front last all))
 
 -- the receipt of a whole lookup holds
-pub follows_ok : (layout : Layout) (next linked : ℕ → ℕ) (card : ℕ → ℕ → ℕ) (lives : ℕ → List Life) (clock : ℕ) (v : View) (c : Whole) → v.layout ≡ layout → v.seen ≤ clock → ReadOk layout next linked card lives clock v.read → Follows v c → WholeOk layout lives clock (record c { to = clock })
-follows_ok layout next linked card lives clock v c own seen ok f =
+pub follows_ok : (layout : Layout) (next : ℕ → ℕ) (chain : ℕ → List ℕ) (card : ℕ → ℕ → ℕ) (lives : ℕ → List Life) (clock : ℕ) (v : View) (c : Whole) → v.layout ≡ layout → v.seen ≤ clock → ReadOk layout next chain card lives clock v.read → Follows v c → WholeOk layout lives clock (record c { to = clock })
+follows_ok layout next chain card lives clock v c own seen ok f =
     let clear : (best : ℕ) → IsClear v.read (with_seed v.layout c.seed) c.key c.from best → NoneAbove lives c.from clock (with_seed layout c.seed) c.key best = λ best z.
     none_above layout lives clock v.read ok.receipts ok.sighted (with_seed layout c.seed) c.key c.from best (subst (λ (g : Layout). IsClear v.read (with_seed g c.seed) c.key c.from best) own z) in
     record {

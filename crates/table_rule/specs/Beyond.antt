@@ -71,7 +71,12 @@ Falls f (x ∷ xs) = Each (λ y. f y < f x) xs × Falls f xs
 abbrev pub Words : Seen → Life → Type 0
 Words e x = (w a : ℕ) → w < 4 → get_elem? e.words w ≡ some a → get_elem? x.card w ≡ some a
 
--- a life of e's slot, with its words, stood between the sighting's numbers
+-- at this number of the clock it had been hashed, and nobody had begun to unhash it
+abbrev pub StandsAt : ℕ → Life → Type 0
+StandsAt instant x = (x.linked < instant) × (instant ≤ x.leaving)
+
+-- a life of e's slot, with its words, stood between the sighting's numbers; of a chain, in its bucket and at its
+-- instant
 pub record StoodAs (lives : ℕ → List Life) (s : Sight) (e : Seen) : Type 0 where
   pub nth : ℕ
   pub life : Life
@@ -79,7 +84,7 @@ pub record StoodAs (lives : ℕ → List Life) (s : Sight) (e : Seen) : Type 0 w
   pub begun : life.begun < s.until
   pub left : s.since ≤ life.left
   pub words : Words e life
-  pub bucket : (b : ℕ) → s.bucket ≡ b ∷ [] → life.bucket ≡ b
+  pub bucket : (b : ℕ) → s.bucket ≡ b ∷ [] → (life.bucket ≡ b) × StandsAt s.instant life
 
 pub record Listed (s : Sight) (i : ℕ) (x : Life) : Type 0 where
   pub nth : ℕ
@@ -89,13 +94,14 @@ pub record Listed (s : Sight) (i : ℕ) (x : Life) : Type 0 where
   pub words : Words seen x
 
 pub record SightOk (clock : ℕ) (lives : ℕ → List Life) (s : Sight) : Type 0 where
-  pub since : s.since ≤ clock
+  pub since : s.since ≤ s.instant
+  pub instant : s.instant ≤ clock
+  pub before : s.instant ≤ s.until
   pub until : (s.until ≤ clock) ⊎ (s.until ≡ open-end)
   pub listed : (n : ℕ) (e : Seen) → get_elem? s.listed n ≡ some e → StoodAs lives s e
-  -- each life of the bucket that was hashed before the sighting began, and that nobody began to unhash before its
-  -- second number
+  -- each life of the bucket that stood at its instant
   pub whole : s.whole ≡ 1 → (b : ℕ) → s.bucket ≡ b ∷ [] → (i n : ℕ) (x : Life) → get_elem? (lives i) n ≡ some x
-      → x.bucket ≡ b → x.linked < s.since → s.until ≤ x.leaving → Listed s i x
+      → x.bucket ≡ b → StandsAt s.instant x → Listed s i x
 
 pub record SightsOk (clock : ℕ) (lives : ℕ → List Life) (v : View) : Type 0 where
   pub since : v.since ≤ clock
@@ -139,7 +145,12 @@ abbrev pub Unlike : List Part → Type 0
 Unlike views =
     (u g h : Change) (t : ℕ) → Present views u g → Present views u h → Shows t g.card → Shows t h.card → g ≡ h
 
--- a life with e's words stood in that slot between the sighting's numbers, by the book alone
+-- the hash's life stood at this number of the clock
+abbrev pub IsThere : List Part → Change → ℕ → Type 0
+IsThere views h instant = (h.ends < instant) × ((u : Change) → Ends views u h → instant ≤ u.begins)
+
+-- a life with e's words stood in that slot between the sighting's numbers, by the book alone; of a chain, in its bucket
+-- and at its instant
 pub record StoodOf (views : List Part) (s : Sight) (e : Seen) : Type 0 where
   pub hash : Change
   pub in-book : InBook views hash
@@ -148,7 +159,7 @@ pub record StoodOf (views : List Part) (s : Sight) (e : Seen) : Type 0 where
   pub begun : hash.begins < s.until
   pub left : (u : Change) → Ends views u hash → s.since ≤ u.ends
   pub words : (w a : ℕ) → w < 4 → get_elem? e.words w ≡ some a → get_elem? hash.card w ≡ some a
-  pub bucket : (b : ℕ) → s.bucket ≡ b ∷ [] → hash.bucket ≡ b
+  pub bucket : (b : ℕ) → s.bucket ≡ b ∷ [] → (hash.bucket ≡ b) × IsThere views hash s.instant
 
 pub record ListedOf (s : Sight) (h : Change) : Type 0 where
   pub nth : ℕ
@@ -158,7 +169,9 @@ pub record ListedOf (s : Sight) (h : Change) : Type 0 where
   pub words : (w a : ℕ) → w < 4 → get_elem? seen.words w ≡ some a → get_elem? h.card w ≡ some a
 
 pub record SightTrue (views : List Part) (s : Sight) : Type 0 where
+  pub since : s.since ≤ s.instant
+  pub until : s.instant ≤ s.until
   pub listed : (n : ℕ) (e : Seen) → get_elem? s.listed n ≡ some e → StoodOf views s e
-  -- each hash of the bucket that was throughout is listed
+  -- each life of the bucket that stood at its instant is listed
   pub whole : s.whole ≡ 1 → (b : ℕ) → s.bucket ≡ b ∷ [] → (h : Change) → InBook views h → h.kind ≡ 1 → h.bucket ≡ b
-      → h.ends < s.since → ((u : Change) → Ends views u h → s.until ≤ u.begins) → ListedOf s h
+      → IsThere views h s.instant → ListedOf s h

@@ -12,7 +12,7 @@ use Rattle.table_rule.specs.Words.{words_of}
 use Rattle.table_rule.specs.ChainsOk.{first_link}
 use Rattle.table_rule.specs.CardsOk.{NoneTwice}
 use Rattle.table_rule.specs.Owners.{time_waits, HasPlace}
-use Rattle.table_rule.specs.Plays.{card_in}
+use Rattle.table_rule.specs.Plays.{card_in, unlocking, IsAbove}
 use Rattle.table_rule.specs.Rule.{drawn}
 use Rattle.table_rule.specs.declared.view.Change.{Change}
 use Rattle.table_rule.specs.declared.view.View.{View}
@@ -38,6 +38,11 @@ IsOf t steps = (steps.seat.table_id ≡ t.table.shared.table_id) × ((view steps
 -- it knows this from now on, and all else of it stays
 abbrev pub Becomes : (old new : Steps) → View → Type 0
 Becomes old new v = new.seat.me ≡ (v, old.seat.me.1)
+
+-- it has given its lock back, at an instant of the clock that is no earlier than that of any sighting
+abbrev pub Unlocks : (old new : Steps) → Type 0
+Unlocks old new =
+    (instant : ℕ) × IsAbove (view old) instant × Becomes old new (unlocking (view old) instant)
 
 abbrev pub Stays : (old new : Steps) → Type 0
 Stays old new = new.seat.me ≡ old.seat.me

@@ -1,7 +1,9 @@
+//! Captures, written in hexadecimal, and the items that are read of them.
+
 use capture_reader::{CaptureEnd, Item, packets};
 use sock_card::Packet;
 use std::alloc::Global;
-use std::test::Fail;
+use std::process::Abort;
 
 /// A header of an Ethernet capture from a machine with the lowest byte first.
 const HEADER: &str = "d4c3b2a1 0200 0400 00000000 00000000 ffff0000 01000000";
@@ -59,36 +61,8 @@ const LOOPBACK: &str = "
     00000101080a00005c000000060000005c00000000000000446106005e09c3e73a00000042000000000000000000000000000000
     0800450000342c304000400610927f0000017f0000019c411f90e6d6bee8aa79d9d780100040fe2800000101080a00005c000000";
 
-/// Adds bytes written in hexadecimal, with blanks between some of them.
-fn add_hex(bytes: &mut Vec<u8>, alloc: Global, text: &str) -> Result<(), Fail> {
-    for word in text.split_ascii_whitespace() {
-        let part = hex::decode(alloc, word)?;
-        bytes.extend_from_slice(part.as_slice())?;
-    }
-    Ok(())
-}
-
-/// A capture of those parts, in hexadecimal.
-fn capture_of(alloc: Global, header: &str, records: &str) -> Result<Vec<u8>, Fail> {
-    let mut bytes = Vec::new(alloc);
-    add_hex(&mut bytes, alloc, header)?;
-    add_hex(&mut bytes, alloc, records)?;
-    Ok(bytes)
-}
-
-/// Whether a capture of those parts has these items, and whether it is cut as stated.
-fn reads(
-    alloc: Global,
-    header: &str,
-    records: &str,
-    items: &[Item],
-    cut: bool,
-) -> Result<bool, Fail> {
-    let capture = packets(alloc, &capture_of(alloc, header, records)?, 0, 0)?;
-    Ok(capture.items() == items && capture.is_cut() == cut)
-}
-
-/// The packet that the captures hold, from 10.0.0.2:1000 to 10.0.0.1:80.
+/// The packet that the captures hold, from 10.0.0.2:1000 to 10.0.0.1:80, as it comes in by that device of that
+/// namespace.
 fn packet(dev: u16, net: u8) -> Packet {
     Packet {
         src: 0x0a00_0002,
@@ -100,251 +74,323 @@ fn packet(dev: u16, net: u8) -> Packet {
     }
 }
 
-#[test]
-fn packets_are_found_with_a_tag_and_without(rt: HostRuntime) -> Result<(), Fail> {
-    let bytes = capture_of(rt.alloc(), HEADER, RECORDS)?;
-    assert_eq!(rt; bytes.len(), 228);
-    let capture = packets(rt.alloc(), &bytes, 7, 15)?;
-    let found = Item::Packet(packet(7, 15));
-    assert!(rt; capture.items() == [found, Item::Skip, found, Item::Skip].as_slice());
-    assert!(rt; capture.is_cut());
-    Ok(())
-}
+/// The same by no device, in the first namespace.
+const FOUND: Item = Item::Packet(Packet {
+    src: 0x0a00_0002,
+    sport: 1000,
+    dst: 0x0a00_0001,
+    dport: 80,
+    dev: 0,
+    net: 0,
+});
 
-#[test]
-fn a_capture_may_be_cut_anywhere(rt: HostRuntime) -> Result<(), Fail> {
-    let bytes = capture_of(rt.alloc(), HEADER, RECORDS)?;
-    for len in 0..=bytes.len() {
-        let capture = packets(rt.alloc(), &bytes[..len], 0, 0);
-        if 0 < len && len < 24 {
-            assert!(rt; matches!(capture, Err(CaptureEnd::BadHead)), "at {len}");
-            continue;
+/// A record of that packet in a capture of raw IP, its numbers with the lowest byte first or with the highest.
+const LITTLE: &str = "00000000 00000000 18000000 18000000
+    45000028 00000000 40060000 0a000002 0a000001 03e80050";
+
+const BIG: &str = "00000000 00000000 00000018 00000018
+    45000028 00000000 40060000 0a000002 0a000001 03e80050";
+
+/// Each header of raw IP that is read, with a record in its order.
+const HEADERS: [(&str, &str); 4] = [
+    (
+        "d4c3b2a1 0200 0400 00000000 00000000 ffff0000 65000000",
+        LITTLE,
+    ),
+    (
+        "4d3cb2a1 0200 0400 01000000 02000000 00000000 e4000000",
+        LITTLE,
+    ),
+    (
+        "a1b2c3d4 0002 0004 00000000 00000000 0000ffff 00000065",
+        BIG,
+    ),
+    (
+        "a1b23c4d 0002 0004 00000001 00000002 00000000 000000e4",
+        BIG,
+    ),
+];
+
+/// Headers that are refused.
+const REFUSED: [&str; 9] = [
+    "d4c3b2a1 0200 0400 00000000 00000000 ffff0000 010000",
+    "34cdb2a1 0200 0400 00000000 00000000 ffff0000 01000000",
+    "0a0d0d0a 1c000000 4d3c2b1a 01000000 ffffffff ffffffff",
+    "d4c3b2a1 0100 0400 00000000 00000000 ffff0000 01000000",
+    "d4c3b2a1 0200 0300 00000000 00000000 ffff0000 01000000",
+    "d4c3b2a1 0002 0004 00000000 00000000 ffff0000 01000000",
+    "d4c3b2a1 0200 0400 00000000 00000000 ffff0000 00000001",
+    "d4c3b2a1 0200 0400 00000000 00000000 ffff0000 71000000",
+    "d4c3b2a1 0200 0400 00000000 00000000 ffff0000 65000100",
+];
+
+/// Records behind their times, each with its item: each test of a stored packet.
+const STORED: [(&str, Item); 14] = [
+    // A frame without a whole EtherType, and one without what stands after its tag.
+    (
+        "0d000000 0d000000 000000000000 000000000000 08",
+        Item::Short,
+    ),
+    (
+        "11000000 11000000 000000000000 000000000000 8100 0005 08",
+        Item::Short,
+    ),
+    // IPv6, and two tags.
+    (
+        "0e000000 0e000000 000000000000 000000000000 86dd",
+        Item::Skip,
+    ),
+    (
+        "12000000 12000000 000000000000 000000000000 8100 0005 8100",
+        Item::Skip,
+    ),
+    // An IP header that isn't whole.
+    (
+        "21000000 21000000 000000000000 000000000000 0800
+        45000028 00000000 40060000 0a000002 0a0000",
+        Item::Short,
+    ),
+    // Version 6, and a header of four words.
+    (
+        "22000000 22000000 000000000000 000000000000 0800
+        65000028 00000000 40060000 0a000002 0a000001",
+        Item::Skip,
+    ),
+    (
+        "26000000 26000000 000000000000 000000000000 0800
+        44000028 00000000 40060000 0a000002 0a000001 03e80050",
+        Item::Skip,
+    ),
+    // UDP, and a later fragment: neither needs its ports.
+    (
+        "22000000 22000000 000000000000 000000000000 0800
+        45000028 00000000 40110000 0a000002 0a000001",
+        Item::Skip,
+    ),
+    (
+        "22000000 22000000 000000000000 000000000000 0800
+        45000028 00001000 40060000 0a000002 0a000001",
+        Item::Skip,
+    ),
+    // The first fragment of several, one that may not be cut into fragments, and one with options.
+    (
+        "26000000 26000000 000000000000 000000000000 0800
+        45000028 00002000 40060000 0a000002 0a000001 03e80050",
+        FOUND,
+    ),
+    (
+        "26000000 26000000 000000000000 000000000000 0800
+        45000028 00004000 40060000 0a000002 0a000001 03e80050",
+        FOUND,
+    ),
+    (
+        "2a000000 2a000000 000000000000 000000000000 0800
+        4600002c 00000000 40060000 0a000002 0a000001 01010100 03e80050",
+        FOUND,
+    ),
+    // Ports that aren't whole, with options and without.
+    (
+        "25000000 25000000 000000000000 000000000000 0800
+        45000028 00000000 40060000 0a000002 0a000001 03e800",
+        Item::Short,
+    ),
+    (
+        "26000000 26000000 000000000000 000000000000 0800
+        4600002c 00000000 40060000 0a000002 0a000001 01010100",
+        Item::Short,
+    ),
+];
+
+/// Blocks that are not valid, and so end a capture.
+const INVALID: [&str; 10] = [
+    // Lengths: not a multiple of four, too small, greater than what is left, and two that differ.
+    "05000000 0d000000 00 0d000000",
+    "05000000 08000000 08000000",
+    "05000000 10000000 10000000",
+    "05000000 0c000000 10000000",
+    // A section of another mark, one of another major version, and one that is too short.
+    "0a0d0d0a 1c000000 4e3c2b1a 0100 0000 ffffffff ffffffff 1c000000",
+    "0a0d0d0a 1c000000 4d3c2b1a 0200 0000 ffffffff ffffffff 1c000000",
+    "0a0d0d0a 18000000 4d3c2b1a 0100 0000 ffffffff 18000000",
+    // An interface that is too short; a packet of an interface that isn't there,
+    // and of more bytes than there are.
+    "01000000 10000000 0100 0000 10000000",
+    "06000000 20000000 02000000 00000000 00000000 00000000 00000000 20000000",
+    "06000000 24000000 00000000 00000000 00000000 05000000 05000000 0a0b0c0d 24000000",
+];
+
+/// The bytes of these parts, which are written in hexadecimal, with blanks between some of them.
+fn bytes_of(alloc: Global, parts: &[&str]) -> Option<Vec<u8>> {
+    let mut bytes = Vec::new(alloc);
+    for part in parts {
+        for word in part.split_ascii_whitespace() {
+            let some = hex::decode(alloc, word).ok()?;
+            bytes.extend_from_slice(some.as_slice()).ok()?;
         }
-        let capture = capture?;
-        let ends = [78, 108, 166, 220];
-        let whole = ends.iter().filter(|end| **end <= len).count();
-        assert_eq!(rt; capture.items().len(), whole, "at {len}");
-        let plain = len == 0 || len == 24 || ends.contains(&len);
-        assert_eq!(rt; capture.is_cut(), !plain, "at {len}");
     }
-    Ok(())
+    Some(bytes)
 }
 
-#[test]
-fn each_header_that_is_read(rt: HostRuntime) -> Result<(), Fail> {
-    let little = "00000000 00000000 18000000 18000000
-        45000028 00000000 40060000 0a000002 0a000001 03e80050";
-    let big = "00000000 00000000 00000018 00000018
-        45000028 00000000 40060000 0a000002 0a000001 03e80050";
-    for (header, record) in [
-        (
-            "d4c3b2a1 0200 0400 00000000 00000000 ffff0000 65000000",
-            little,
-        ),
-        (
-            "4d3cb2a1 0200 0400 01000000 02000000 00000000 e4000000",
-            little,
-        ),
-        (
-            "a1b2c3d4 0002 0004 00000000 00000000 0000ffff 00000065",
-            big,
-        ),
-        (
-            "a1b23c4d 0002 0004 00000001 00000002 00000000 000000e4",
-            big,
-        ),
-    ] {
-        let bytes = capture_of(rt.alloc(), header, record)?;
-        let capture = packets(rt.alloc(), &bytes, 0, 0)?;
-        assert!(rt;
-            capture.items() == [Item::Packet(packet(0, 0))].as_slice(),
-            "{header}"
-        );
-        assert!(rt; !capture.is_cut(), "{header}");
+/// Whether a capture has these items, and whether it is cut as stated.
+fn reads(alloc: Global, bytes: &[u8], dev: u16, net: u8, items: &[Item], cut: bool) -> bool {
+    match packets(alloc, bytes, dev, net) {
+        Ok(capture) => capture.items() == items && capture.is_cut() == cut,
+        Err(_) => false,
     }
-    Ok(())
 }
 
-#[test]
-fn other_headers_are_refused(rt: HostRuntime) -> Result<(), Fail> {
-    for header in [
-        "d4c3b2a1 0200 0400 00000000 00000000 ffff0000 010000",
-        "34cdb2a1 0200 0400 00000000 00000000 ffff0000 01000000",
-        "0a0d0d0a 1c000000 4d3c2b1a 01000000 ffffffff ffffffff",
-        "d4c3b2a1 0100 0400 00000000 00000000 ffff0000 01000000",
-        "d4c3b2a1 0200 0300 00000000 00000000 ffff0000 01000000",
-        "d4c3b2a1 0002 0004 00000000 00000000 ffff0000 01000000",
-        "d4c3b2a1 0200 0400 00000000 00000000 ffff0000 00000001",
-        "d4c3b2a1 0200 0400 00000000 00000000 ffff0000 71000000",
-        "d4c3b2a1 0200 0400 00000000 00000000 ffff0000 65000100",
-    ] {
-        let bytes = capture_of(rt.alloc(), header, "")?;
-        let capture = packets(rt.alloc(), &bytes, 0, 0);
-        assert!(rt; matches!(capture, Err(CaptureEnd::BadHead)), "{header}");
+/// Asserts that a capture of these parts has these items, and is cut as stated.
+fn check_items(rt: &impl Abort, alloc: Global, parts: &[&str], items: &[Item], cut: bool) {
+    let right = bytes_of(alloc, parts).map(|bytes| reads(alloc, &bytes, 0, 0, items, cut));
+    let last = parts.last().copied().unwrap_or("");
+    assert!(rt; right == Some(true), "{last}");
+}
+
+/// Whether a capture of these bytes has an item for each record that is whole, and is cut unless it ends where a part
+/// of it does; or whether it is refused, if its head isn't whole.
+fn is_cut_right(
+    alloc: Global,
+    bytes: &[u8],
+    head: usize,
+    records: &[usize],
+    ends: &[usize],
+) -> bool {
+    let len = bytes.len();
+    let capture = packets(alloc, bytes, 0, 0);
+    if 0 < len && len < head {
+        return matches!(capture, Err(CaptureEnd::BadHead));
     }
-    Ok(())
-}
-
-#[test]
-fn each_test_of_a_stored_packet(rt: HostRuntime) -> Result<(), Fail> {
-    let found = Item::Packet(packet(0, 0));
-    for (record, item) in [
-        // A frame without a whole EtherType, and one without what stands after its tag.
-        (
-            "0d000000 0d000000 000000000000 000000000000 08",
-            Item::Short,
-        ),
-        (
-            "11000000 11000000 000000000000 000000000000 8100 0005 08",
-            Item::Short,
-        ),
-        // IPv6, and two tags.
-        (
-            "0e000000 0e000000 000000000000 000000000000 86dd",
-            Item::Skip,
-        ),
-        (
-            "12000000 12000000 000000000000 000000000000 8100 0005 8100",
-            Item::Skip,
-        ),
-        // An IP header that isn't whole.
-        (
-            "21000000 21000000 000000000000 000000000000 0800
-            45000028 00000000 40060000 0a000002 0a0000",
-            Item::Short,
-        ),
-        // Version 6, and a header of four words.
-        (
-            "22000000 22000000 000000000000 000000000000 0800
-            65000028 00000000 40060000 0a000002 0a000001",
-            Item::Skip,
-        ),
-        (
-            "26000000 26000000 000000000000 000000000000 0800
-            44000028 00000000 40060000 0a000002 0a000001 03e80050",
-            Item::Skip,
-        ),
-        // UDP, and a later fragment: neither needs its ports.
-        (
-            "22000000 22000000 000000000000 000000000000 0800
-            45000028 00000000 40110000 0a000002 0a000001",
-            Item::Skip,
-        ),
-        (
-            "22000000 22000000 000000000000 000000000000 0800
-            45000028 00001000 40060000 0a000002 0a000001",
-            Item::Skip,
-        ),
-        // The first fragment of several, one that may not be cut into fragments, and one with options.
-        (
-            "26000000 26000000 000000000000 000000000000 0800
-            45000028 00002000 40060000 0a000002 0a000001 03e80050",
-            found,
-        ),
-        (
-            "26000000 26000000 000000000000 000000000000 0800
-            45000028 00004000 40060000 0a000002 0a000001 03e80050",
-            found,
-        ),
-        (
-            "2a000000 2a000000 000000000000 000000000000 0800
-            4600002c 00000000 40060000 0a000002 0a000001 01010100 03e80050",
-            found,
-        ),
-        // Ports that aren't whole, with options and without.
-        (
-            "25000000 25000000 000000000000 000000000000 0800
-            45000028 00000000 40060000 0a000002 0a000001 03e800",
-            Item::Short,
-        ),
-        (
-            "26000000 26000000 000000000000 000000000000 0800
-            4600002c 00000000 40060000 0a000002 0a000001 01010100",
-            Item::Short,
-        ),
-    ] {
-        let mut bytes = capture_of(rt.alloc(), HEADER, "00000000 00000000")?;
-        add_hex(&mut bytes, rt.alloc(), record)?;
-        let capture = packets(rt.alloc(), &bytes, 0, 0)?;
-        assert!(rt; capture.items() == [item].as_slice(), "{record}");
-        assert!(rt; !capture.is_cut(), "{record}");
+    let whole = records.iter().filter(|end| **end <= len).count();
+    match capture {
+        Ok(capture) => capture.items().len() == whole && capture.is_cut() != ends.contains(&len),
+        Err(_) => false,
     }
-    Ok(())
 }
 
-#[test]
-fn no_stored_length_is_refused(rt: HostRuntime) -> Result<(), Fail> {
-    let bytes = capture_of(rt.alloc(), HEADER, "00000000 00000000 ffffffff ffffffff 00")?;
-    let capture = packets(rt.alloc(), &bytes, 0, 0)?;
-    assert!(rt; capture.items().is_empty());
-    assert!(rt; capture.is_cut());
-    Ok(())
-}
-
-#[test]
-fn blocks_in_either_order(rt: HostRuntime) -> Result<(), Fail> {
-    let found = Item::Packet(packet(0, 0));
-    for (first, second, items) in [
-        (BLOCKS, "", [found, Item::Skip].as_slice()),
-        (BIG_BLOCKS, "", [found].as_slice()),
-        (BLOCKS, BIG_BLOCKS, [found, Item::Skip, found].as_slice()),
-        (BIG_BLOCKS, BLOCKS, [found, found, Item::Skip].as_slice()),
-    ] {
-        assert!(rt; reads(rt.alloc(), first, second, items, false)?, "{first}");
-    }
-    Ok(())
-}
-
-#[test]
-fn blocks_may_end_anywhere(rt: HostRuntime) -> Result<(), Fail> {
-    let bytes = capture_of(rt.alloc(), BLOCKS, BIG_BLOCKS)?;
+/// Asserts that of the first bytes of a capture, however many they are.
+fn check_cuts(
+    rt: &impl Abort,
+    alloc: Global,
+    bytes: &[u8],
+    head: usize,
+    records: &[usize],
+    ends: &[usize],
+) {
     for len in 0..=bytes.len() {
-        let capture = packets(rt.alloc(), &bytes[..len], 0, 0);
-        if 0 < len && len < 28 {
-            assert!(rt; matches!(capture, Err(CaptureEnd::BadHead)), "at {len}");
-            continue;
-        }
-        let capture = capture?;
-        let whole = [156, 188, 308].iter().filter(|end| **end <= len).count();
-        let ends = [0, 28, 48, 68, 84, 156, 188, 224, 244, 308];
-        let right = capture.items().len() == whole && capture.is_cut() != ends.contains(&len);
+        let right = is_cut_right(alloc, &bytes[..len], head, records, ends);
         assert!(rt; right, "at {len}");
     }
-    Ok(())
+}
+
+/// Asserts of each header, with its record, that the packet is found.
+fn check_headers(rt: &impl Abort, alloc: Global, rows: &[(&str, &str)]) {
+    for (header, record) in rows {
+        check_items(rt, alloc, &[header, record], &[FOUND], false);
+    }
+}
+
+/// Whether a capture that begins with this header is refused.
+fn is_refused(alloc: Global, header: &str) -> bool {
+    match bytes_of(alloc, &[header]) {
+        Some(bytes) => matches!(packets(alloc, &bytes, 0, 0), Err(CaptureEnd::BadHead)),
+        None => false,
+    }
+}
+
+fn check_refused(rt: &impl Abort, alloc: Global, headers: &[&str]) {
+    for header in headers {
+        assert!(rt; is_refused(alloc, header), "{header}");
+    }
+}
+
+/// Asserts of each record, behind its times, which item it is.
+fn check_stored(rt: &impl Abort, alloc: Global, rows: &[(&str, Item)]) {
+    for (record, item) in rows {
+        let parts = [HEADER, "00000000 00000000", record];
+        check_items(rt, alloc, &parts, &[*item], false);
+    }
+}
+
+/// Asserts of each block that it ends the capture behind whose blocks it stands.
+fn check_invalid(rt: &impl Abort, alloc: Global, blocks: &[&str]) {
+    for block in blocks {
+        check_items(rt, alloc, &[BLOCKS, block], &[FOUND, Item::Skip], true);
+    }
+}
+
+/// Whether the four records are read as they are to be, of a device in a namespace.
+fn reads_records(alloc: Global, bytes: &[u8]) -> bool {
+    let found = Item::Packet(packet(7, 15));
+    let items = [found, Item::Skip, found, Item::Skip];
+    bytes.len() == 228 && reads(alloc, bytes, 7, 15, &items, true)
 }
 
 #[test]
-fn blocks_that_are_not_valid_end_a_capture(rt: HostRuntime) -> Result<(), Fail> {
-    let found = Item::Packet(packet(0, 0));
-    let section = "0a0d0d0a 1c000000 4d3c2b1a 0100 0000 ffffffff ffffffff 1c000000";
-    let items = [found, Item::Skip];
-    for block in [
-        // Lengths: not a multiple of four, too small, greater than what is left, and two that differ.
-        "05000000 0d000000 00 0d000000",
-        "05000000 08000000 08000000",
-        "05000000 10000000 10000000",
-        "05000000 0c000000 10000000",
-        // A section of another mark, one of another major version, and one that is too short.
-        "0a0d0d0a 1c000000 4e3c2b1a 0100 0000 ffffffff ffffffff 1c000000",
-        "0a0d0d0a 1c000000 4d3c2b1a 0200 0000 ffffffff ffffffff 1c000000",
-        "0a0d0d0a 18000000 4d3c2b1a 0100 0000 ffffffff 18000000",
-        // An interface that is too short; a packet of an interface that isn't there,
-        // and of more bytes than there are.
-        "01000000 10000000 0100 0000 10000000",
-        "06000000 20000000 02000000 00000000 00000000 00000000 00000000 20000000",
-        "06000000 24000000 00000000 00000000 00000000 05000000 05000000 0a0b0c0d 24000000",
-    ] {
-        assert!(rt;
-            reads(rt.alloc(), BLOCKS, block, items.as_slice(), true)?,
-            "{block}"
-        );
-    }
+fn packets_are_found_with_a_tag_and_without(rt: HostRuntime) {
+    let bytes = bytes_of(rt.alloc(), &[HEADER, RECORDS]).expect(&rt, "no bytes");
+    assert!(rt; reads_records(rt.alloc(), &bytes));
+}
+
+#[test]
+fn a_capture_may_be_cut_anywhere(rt: HostRuntime) {
+    let records = bytes_of(rt.alloc(), &[HEADER, RECORDS]).expect(&rt, "no bytes");
+    check_cuts(
+        &rt,
+        rt.alloc(),
+        &records,
+        24,
+        &[78, 108, 166, 220],
+        &[0, 24, 78, 108, 166, 220],
+    );
+    let blocks = bytes_of(rt.alloc(), &[BLOCKS, BIG_BLOCKS]).expect(&rt, "no bytes");
+    check_cuts(
+        &rt,
+        rt.alloc(),
+        &blocks,
+        28,
+        &[156, 188, 308],
+        &[0, 28, 48, 68, 84, 156, 188, 224, 244, 308],
+    );
+}
+
+#[test]
+fn each_header_and_each_test_of_a_stored_packet(rt: HostRuntime) {
+    check_headers(&rt, rt.alloc(), &HEADERS);
+    check_refused(&rt, rt.alloc(), &REFUSED);
+    check_stored(&rt, rt.alloc(), &STORED);
+}
+
+#[test]
+fn blocks_in_either_order(rt: HostRuntime) {
+    let alloc = rt.alloc();
+    check_items(&rt, alloc, &[BLOCKS], &[FOUND, Item::Skip], false);
+    check_items(&rt, alloc, &[BIG_BLOCKS], &[FOUND], false);
+    check_items(
+        &rt,
+        alloc,
+        &[BLOCKS, BIG_BLOCKS],
+        &[FOUND, Item::Skip, FOUND],
+        false,
+    );
+    check_items(
+        &rt,
+        alloc,
+        &[BIG_BLOCKS, BLOCKS],
+        &[FOUND, FOUND, Item::Skip],
+        false,
+    );
+}
+
+#[test]
+fn what_is_not_valid_ends_a_capture(rt: HostRuntime) {
+    check_invalid(&rt, rt.alloc(), &INVALID);
     // The interfaces of a section are its own.
+    let section = "0a0d0d0a 1c000000 4d3c2b1a 0100 0000 ffffffff ffffffff 1c000000";
     let packet = "06000000 20000000 00000000 00000000 00000000 00000000 00000000 20000000";
-    let bytes = capture_of(rt.alloc(), section, packet)?;
-    let capture = packets(rt.alloc(), &bytes, 0, 0)?;
-    assert!(rt; capture.items().is_empty() && capture.is_cut());
-    Ok(())
+    check_items(&rt, rt.alloc(), &[section, packet], &[], true);
+    // No stored length is refused.
+    let record = "00000000 00000000 ffffffff ffffffff 00";
+    check_items(&rt, rt.alloc(), &[HEADER, record], &[], true);
 }
 
 /// A packet between those ports of 127.0.0.1.
@@ -360,20 +406,18 @@ fn local(sport: u16, dport: u16) -> Item {
 }
 
 #[test]
-fn a_capture_that_a_tool_wrote(rt: HostRuntime) -> Result<(), Fail> {
+fn a_capture_that_a_tool_wrote(rt: HostRuntime) {
     let (there, back) = (local(40001, 8080), local(8080, 40001));
-    let refused = [local(40004, 8081), local(8081, 40004)];
     let items = [
         there,
         back,
         there,
         Item::Skip,
-        refused[0],
-        refused[1],
+        local(40004, 8081),
+        local(8081, 40004),
         there,
         back,
         there,
     ];
-    assert!(rt; reads(rt.alloc(), LOOPBACK, "", items.as_slice(), false)?);
-    Ok(())
+    check_items(&rt, rt.alloc(), &[LOOPBACK], &items, false);
 }

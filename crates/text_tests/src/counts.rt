@@ -3,7 +3,6 @@ ghost use Rattle.std.specs.Prelude.{◌≤◌};
 
 use sock_script::{Counts, make, run};
 use std::alloc::{AllocError, Global};
-use std::test::Fail;
 
 /// The lines of the counts of a generated script.
 fn lines_of(alloc: Global, seed: u32, count: u32) -> Result<Vec<u8>, AllocError>
@@ -14,18 +13,28 @@ fn lines_of(alloc: Global, seed: u32, count: u32) -> Result<Vec<u8>, AllocError>
     Counts::of(&script, &replies.each).text(alloc)
 }
 
-#[test]
-fn no_steps_count_nothing(rt: HostRuntime) -> Result<(), Fail> {
-    let lines = lines_of(rt.alloc(), 1, 0)?;
-    let wanted = b"commands 0\nok 0\nrefused 0\nfound 0\nnone 0\n";
-    assert!(rt; lines.as_slice() == wanted.as_slice());
-    Ok(())
+/// Whether these are the lines of the counts.
+fn counts(alloc: Global, seed: u32, count: u32, wanted: &[u8]) -> Result<bool, AllocError>
+    requires { count ≤ 100000 }
+{
+    Ok(lines_of(alloc, seed, count)?.as_slice() == wanted)
 }
 
 #[test]
-fn two_thousand_steps_are_counted(rt: HostRuntime) -> Result<(), Fail> {
-    let lines = lines_of(rt.alloc(), 7, 2000)?;
-    let wanted = b"commands 3445\nok 2769\nrefused 676\nfound 55\nnone 208\n";
-    assert!(rt; lines.as_slice() == wanted.as_slice());
+fn generated_steps_are_counted(rt: HostRuntime) -> Result<(), AllocError> {
+    let alloc = rt.alloc();
+    let none = counts(
+        alloc,
+        1,
+        0,
+        b"commands 0\nok 0\nrefused 0\nfound 0\nnone 0\n",
+    )?;
+    let many = counts(
+        alloc,
+        7,
+        2000,
+        b"commands 3445\nok 2769\nrefused 676\nfound 55\nnone 208\n",
+    )?;
+    assert!(rt; none && many, "none: {none}, two thousand: {many}");
     Ok(())
 }

@@ -7,8 +7,8 @@ use flat_list::{
     Command, End, Flat, Header, Label, NONE_RESERVED, Options, Query, Range, Reply, Shape,
 };
 use sock_card::Kind;
-use std::alloc::AllocError;
-use std::test::Fail;
+use std::alloc::{AllocError, Global};
+use std::process::Abort;
 
 const PLAIN: Options = Options {
     net: None,
@@ -46,6 +46,14 @@ const HERE: End = End {
 const THERE: End = End {
     addr: 0x0A00_0002,
     port: 5,
+};
+
+/// From there to here.
+const QUERY: Query = Query {
+    from: THERE,
+    to: HERE,
+    dev: None,
+    net: None,
 };
 
 fn label(text: &[u8]) -> Label
@@ -86,32 +94,58 @@ fn close_and_reap(flat: &mut Flat) -> Result<(Reply, Reply), AllocError>
     Ok((closed, reaped))
 }
 
-#[test]
-fn an_accepted_socket_is_found_closed_and_reaped(rt: HostRuntime) -> Result<(), Fail> {
-    let alloc = rt.alloc();
-    let mut flat = Flat::new(alloc, &HEADER);
-    assert_eq!(rt; listen_here(&mut flat, 1)?, Reply::Port(80));
+/// Section 1's listener a accepts a socket c.
+fn accept_here(flat: &mut Flat) -> Result<Reply, AllocError>
+    requires { (m : ℕ) → length (sections_spec.labels_of m flat.old.sections) ≤ 3 }
+    ensures { (m : ℕ) → length (sections_spec.labels_of m flat.new.sections) ≤ 4 }
+{
     let accept = Command::Accept {
         listener: label(b"a"),
         label: label(b"c"),
         from: THERE,
         at: HERE,
     };
-    assert_eq!(rt; flat.apply(1, &accept)?, Reply::Ok);
-    let packet = packet_of(Query {
-        from: THERE,
-        to: HERE,
-        dev: None,
-        net: None,
-    });
-    let card = flat.look(&packet).ok_or("none found")?;
-    assert_eq!(rt; card.kind, Kind::Full);
-    assert_eq!(rt; flat.label_of(card.name), b"c".as_slice());
+    flat.apply(1, &accept)
+}
+
+/// What kind of socket a packet from there finds here.
+fn kind_found(flat: &Flat) -> Option<Kind> {
+    let packet = packet_of(QUERY);
+    Some(flat.look(&packet)?.kind)
+}
+
+fn check_kind(rt: &impl Abort, flat: &Flat, kind: Kind) {
+    assert!(rt; kind_found(flat) == Some(kind));
+}
+
+/// Whether the socket that such a packet finds has that label.
+fn finds_label(flat: &Flat, label: &[u8]) -> bool {
+    let packet = packet_of(QUERY);
+    match flat.look(&packet) {
+        Some(card) => flat.label_of(card.name) == label,
+        None => false,
+    }
+}
+
+fn check_label(rt: &impl Abort, flat: &Flat, label: &[u8]) {
+    assert!(rt; finds_label(flat, label));
+}
+
+fn check_reply(rt: &impl Abort, reply: Reply, expected: Reply) {
+    assert!(rt; reply == expected);
+}
+
+#[test]
+fn an_accepted_socket_is_found_closed_and_reaped(rt: HostRuntime) -> Result<(), AllocError> {
+    let mut flat = Flat::new(rt.alloc(), &HEADER);
+    check_reply(&rt, listen_here(&mut flat, 1)?, Reply::Port(80));
+    check_reply(&rt, accept_here(&mut flat)?, Reply::Ok);
+    check_kind(&rt, &flat, Kind::Full);
+    check_label(&rt, &flat, b"c");
     let (closed, reaped) = close_and_reap(&mut flat)?;
-    assert_eq!(rt; closed, Reply::TimeWait);
-    assert_eq!(rt; reaped, Reply::Count(1));
-    let card = flat.look(&packet).ok_or("none found")?;
-    assert_eq!(rt; card.kind, Kind::Listen);
+    check_reply(&rt, closed, Reply::TimeWait);
+    check_reply(&rt, reaped, Reply::Count(1));
+    check_kind(&rt, &flat, Kind::Listen);
     Ok(())
 }
 
@@ -140,22 +174,26 @@ fn close_and_connect(flat: &mut Flat) -> Result<(Reply, Reply), AllocError>
     Ok((closed, flat.apply(1, &connect)?))
 }
 
+/// All sockets that are listed, by name and kind.
+fn listed(flat: &Flat, alloc: Global) -> Result<Vec<(u64, Kind)>, AllocError> {
+    flat.list()?.iter().map(|c| (c.name, c.kind)).collect(alloc)
+}
+
+fn check_listed(rt: &impl Abort, listed: &[(u64, Kind)], expected: &[(u64, Kind)]) {
+    assert!(rt; listed == expected);
+}
+
 #[test]
-fn all_hashed_sockets_are_listed_by_name(rt: HostRuntime) -> Result<(), Fail> {
+fn all_hashed_sockets_are_listed_by_name(rt: HostRuntime) -> Result<(), AllocError> {
     let mut flat = Flat::new(rt.alloc(), &HEADER);
-    assert_eq!(rt; flat.list()?.len(), 0);
+    check_listed(&rt, &listed(&flat, rt.alloc())?, &[]);
     listen_here(&mut flat, 2)?;
     close_and_connect(&mut flat)?;
-    let listed: Vec<(u64, Kind)> = flat
-        .list()?
-        .iter()
-        .map(|c| (c.name, c.kind))
-        .collect(rt.alloc())?;
     let wanted = [
         (0x0100_0000_0000_0001, Kind::Full),
         (0x0200_0000_0000_0001, Kind::Listen),
         (0x0200_0000_0000_0002, Kind::TimeWait),
     ];
-    assert_eq!(rt; listed.as_slice(), wanted.as_slice());
+    check_listed(&rt, &listed(&flat, rt.alloc())?, &wanted);
     Ok(())
 }

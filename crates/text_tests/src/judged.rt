@@ -9,7 +9,7 @@ use book_audit::printed::{
 use chain_book::Shape;
 use sock_card::{Card, Kind, Packet};
 use std::alloc::{AllocError, Global};
-use std::test::Fail;
+use std::process::Abort;
 
 /// Bucket 0 is the only one of connected sockets, and bucket 1 the only one of listeners.
 const SHAPE: Shape = Shape {
@@ -57,6 +57,62 @@ const PACKET: Packet = Packet {
     dev: 0,
     net: 0,
 };
+
+/// A lookup's answer, the clock as it began and as it ended, and whether the lives explain it.
+type Looked = (PrintedAnswer, u64, u64, bool);
+
+const LISTENING: PrintedAnswer = PrintedAnswer::Found(Kind::Listen, LISTENER.name);
+
+const CONNECTED: PrintedAnswer = PrintedAnswer::Found(Kind::Full, CONNECTION.name);
+
+const REQUESTED: PrintedAnswer = PrintedAnswer::Found(Kind::Request, REQUEST);
+
+/// Lookups beside a listener that is hashed from 0 to 1, and a connection that is hashed from 2 to 3 and unhashed from
+/// 4 to 5.
+const LOOKS: [Looked; 18] = [
+    (LISTENING, 2, 4, true),
+    (CONNECTED, 2, 4, true),
+    // the connection was there throughout
+    (LISTENING, 4, 4, false),
+    // it was hashed later, or gone before
+    (CONNECTED, 1, 2, false),
+    (CONNECTED, 6, 6, false),
+    // no card of that name is of that kind
+    (
+        PrintedAnswer::Found(Kind::TimeWait, CONNECTION.name),
+        2,
+        4,
+        false,
+    ),
+    // nothing is found
+    (PrintedAnswer::None, 1, 2, true),
+    (PrintedAnswer::None, 2, 3, false),
+    // lookups that were given up
+    (PrintedAnswer::Again(1, PrintedEnd::Foreign(0)), 2, 3, true),
+    (PrintedAnswer::Again(0, PrintedEnd::Foreign(0)), 2, 3, false),
+    (PrintedAnswer::Again(1, PrintedEnd::Foreign(2)), 2, 3, false),
+    (PrintedAnswer::Again(2, PrintedEnd::Foreign(0)), 2, 3, false),
+    (PrintedAnswer::Again(1, PrintedEnd::Dead(1)), 2, 3, true),
+    (PrintedAnswer::Again(1, PrintedEnd::Dead(0)), 2, 3, false),
+    (PrintedAnswer::Again(0, PrintedEnd::Changed(1)), 2, 3, true),
+    (PrintedAnswer::Again(2, PrintedEnd::Changed(1)), 2, 3, false),
+    (PrintedAnswer::Again(1, PrintedEnd::Long(3)), 2, 3, true),
+    (PrintedAnswer::Again(1, PrintedEnd::Long(2)), 2, 3, false),
+];
+
+/// Lookups beside a listener, a request that is hashed from 2 to 3 and unhashed from 6 to 7, and its child, which is
+/// hashed from 4 to 5.
+const LOOKS_OF_A_HANDSHAKE: [Looked; 7] = [
+    (LISTENING, 2, 3, true),
+    (REQUESTED, 2, 3, true),
+    (REQUESTED, 4, 4, true),
+    // the request was there throughout, or gone before
+    (LISTENING, 4, 4, false),
+    (REQUESTED, 8, 8, false),
+    // and it isn't reported as a full socket
+    (PrintedAnswer::Found(Kind::Full, REQUEST), 4, 4, false),
+    (CONNECTED, 8, 8, true),
+];
 
 fn listener(slot: u64, begin: u64, end: u64) -> PrintedLife {
     PrintedLife {
@@ -137,217 +193,202 @@ fn found(
     judge(alloc, &printed)
 }
 
-/// What is found of lives alone.
-fn found_of_lives(alloc: Global, lives: &[PrintedLife], clock: u64) -> Result<Finding, AllocError> {
-    found(alloc, lives, &[], clock)
-}
-
-/// What is found of one packet beside a listener that is hashed from 0 to 1, and a connection that is hashed from 2
-/// to 3 and unhashed from 4 to 5.
-fn found_of_packet(
-    alloc: Global,
-    answer: PrintedAnswer,
-    t0: u64,
-    t1: u64,
-) -> Result<Finding, AllocError> {
-    let lives = [listener(0, 0, 1), gone(connection(1, 2, 3), 4, 5)];
-    let packets = [PrintedPacket::Passed, look(answer, t0, t1)];
-    found(alloc, &lives, &packets, 6)
-}
-
 fn wrong(why: Why, at: usize) -> Finding {
     Finding::Wrong { why, at }
 }
 
-#[test]
-fn one_listener_is_sound(rt: HostRuntime) -> Result<(), Fail> {
-    let lives = [listener(0, 0, 1)];
-    assert_eq!(rt; found_of_lives(rt.alloc(), &lives, 2)?, Finding::Sound);
-    Ok(())
+/// Asserts what is found of lives alone.
+fn check_lives(
+    rt: &impl Abort,
+    alloc: Global,
+    case: &str,
+    lives: &[PrintedLife],
+    clock: u64,
+    expected: Finding,
+) {
+    let found = found(alloc, lives, &[], clock).ok();
+    assert!(rt; found == Some(expected), "{case}");
+}
+
+/// What is found of these packets' last, if the lives explain it, and if not.
+fn explained(packets: &[PrintedPacket], is_explained: bool) -> Finding {
+    if is_explained {
+        Finding::Sound
+    } else {
+        wrong(Why::Receipt, packets.len().saturating_sub(1))
+    }
+}
+
+/// Asserts of each lookup whether these lives explain it, behind that many packets that weren't looked up.
+fn check_looks(
+    rt: &impl Abort,
+    alloc: Global,
+    lives: &[PrintedLife],
+    passed: usize,
+    clock: u64,
+    looks: &[Looked],
+) {
+    for (place, (answer, t0, t1, is_explained)) in looks.iter().enumerate() {
+        let packets = [PrintedPacket::Passed, look(*answer, *t0, *t1)];
+        let packets = &packets[1 - passed.min(1)..];
+        let found = found(alloc, lives, packets, clock).ok();
+        let expected = explained(packets, *is_explained);
+        assert!(rt; found == Some(expected), "lookup {place} behind {passed}");
+    }
 }
 
 #[test]
-fn the_clock_is_one_too_many(rt: HostRuntime) -> Result<(), Fail> {
+fn numbers_of_the_clock(rt: HostRuntime) {
+    let alloc = rt.alloc();
     let lives = [listener(0, 0, 1)];
-    assert_eq!(rt;
-        found_of_lives(rt.alloc(), &lives, 3)?,
-        wrong(Why::Count, 0)
+    check_lives(&rt, alloc, "one listener", &lives, 2, Finding::Sound);
+    check_lives(
+        &rt,
+        alloc,
+        "the clock is one too many",
+        &lives,
+        3,
+        wrong(Why::Count, 0),
     );
-    Ok(())
-}
-
-#[test]
-fn a_number_drawn_in_vain(rt: HostRuntime) -> Result<(), Fail> {
-    let alloc = rt.alloc();
-    let mut printed = printed(alloc, &[listener(0, 0, 1)], &[], 3)?;
-    printed.vain = 1;
-    assert_eq!(rt; judge(alloc, &printed)?, Finding::Sound);
-    Ok(())
-}
-
-#[test]
-fn numbers_of_the_clock(rt: HostRuntime) -> Result<(), Fail> {
-    let alloc = rt.alloc();
-    // a hash that ends as it begins
-    let still = [listener(0, 1, 1)];
-    assert_eq!(rt; found_of_lives(alloc, &still, 2)?, wrong(Why::Stamp, 0));
-    // an unhash that begins before the hash ends
-    let early = [gone(listener(0, 0, 2), 1, 3)];
-    assert_eq!(rt; found_of_lives(alloc, &early, 4)?, wrong(Why::Stamp, 0));
-    // a number that isn't below the clock
-    let late = [listener(0, 0, 1), listener(1, 2, 4)];
-    assert_eq!(rt; found_of_lives(alloc, &late, 4)?, wrong(Why::Stamp, 1));
-    // numbers of an earlier life: of two lines that have some, the first
-    let again = [
+    let lives = [listener(0, 1, 1)];
+    check_lives(
+        &rt,
+        alloc,
+        "a hash ends as it begins",
+        &lives,
+        2,
+        wrong(Why::Stamp, 0),
+    );
+    let lives = [gone(listener(0, 0, 2), 1, 3)];
+    check_lives(
+        &rt,
+        alloc,
+        "an unhash begins before the hash ends",
+        &lives,
+        4,
+        wrong(Why::Stamp, 0),
+    );
+    let lives = [listener(0, 0, 1), listener(1, 2, 4)];
+    check_lives(
+        &rt,
+        alloc,
+        "a number isn't below the clock",
+        &lives,
+        4,
+        wrong(Why::Stamp, 1),
+    );
+    let lives = [
         listener(0, 0, 1),
         gone(listener(1, 2, 3), 4, 5),
         listener(1, 5, 6),
         listener(1, 6, 7),
     ];
-    assert_eq!(rt; found_of_lives(alloc, &again, 8)?, wrong(Why::Stamp, 2));
+    check_lives(
+        &rt,
+        alloc,
+        "numbers of an earlier life: of two lines that have some, the first",
+        &lives,
+        8,
+        wrong(Why::Stamp, 2),
+    );
+}
+
+#[test]
+fn a_number_drawn_in_vain(rt: HostRuntime) -> Result<(), AllocError> {
+    let alloc = rt.alloc();
+    let mut printed = printed(alloc, &[listener(0, 0, 1)], &[], 3)?;
+    printed.vain = 1;
+    let found = judge(alloc, &printed)?;
+    assert!(rt; found == Finding::Sound);
     Ok(())
 }
 
 #[test]
-fn a_strange_bucket(rt: HostRuntime) -> Result<(), Fail> {
+fn buckets_and_changes(rt: HostRuntime) {
+    let alloc = rt.alloc();
     let stray = PrintedLife {
         bucket: 0,
         ..listener(1, 2, 3)
     };
     let lives = [listener(0, 0, 1), stray];
-    assert_eq!(rt; found_of_lives(rt.alloc(), &lives, 4)?, wrong(Why::Home, 1));
-    Ok(())
-}
-
-#[test]
-fn changes_that_meet(rt: HostRuntime) -> Result<(), Fail> {
-    let alloc = rt.alloc();
-    let hashes = [listener(0, 0, 2), listener(1, 1, 3)];
-    assert_eq!(rt; found_of_lives(alloc, &hashes, 4)?, wrong(Why::Overlap, 1));
-    // a hash within the first life's unhash, behind one that meets nothing
-    let unhash = [
+    check_lives(
+        &rt,
+        alloc,
+        "a strange bucket",
+        &lives,
+        4,
+        wrong(Why::Home, 1),
+    );
+    let lives = [listener(0, 0, 2), listener(1, 1, 3)];
+    check_lives(
+        &rt,
+        alloc,
+        "two hashes meet",
+        &lives,
+        4,
+        wrong(Why::Overlap, 1),
+    );
+    let lives = [
         gone(listener(0, 0, 1), 2, 7),
         connection(1, 3, 4),
         listener(2, 5, 6),
     ];
-    assert_eq!(rt; found_of_lives(alloc, &unhash, 8)?, wrong(Why::Overlap, 2));
-    Ok(())
+    check_lives(
+        &rt,
+        alloc,
+        "a hash within the first life's unhash, behind one that meets nothing",
+        &lives,
+        8,
+        wrong(Why::Overlap, 2),
+    );
+    // the third life shares a slot with the first, and the second is in a strange bucket
+    let lives = [listener(0, 0, 1), stray, connection(0, 4, 5)];
+    check_lives(
+        &rt,
+        alloc,
+        "the first test decides",
+        &lives,
+        9,
+        wrong(Why::Home, 1),
+    );
 }
 
 #[test]
-fn one_slot(rt: HostRuntime) -> Result<(), Fail> {
+fn slots_and_four_tuples(rt: HostRuntime) {
     let alloc = rt.alloc();
     let lives = [listener(0, 0, 1), connection(0, 2, 3)];
-    assert_eq!(rt; found_of_lives(alloc, &lives, 4)?, wrong(Why::Slot, 1));
-    let freed = [gone(listener(0, 0, 1), 2, 3), connection(0, 4, 5)];
-    assert_eq!(rt; found_of_lives(alloc, &freed, 6)?, Finding::Sound);
-    Ok(())
-}
-
-#[test]
-fn one_four_tuple(rt: HostRuntime) -> Result<(), Fail> {
-    let alloc = rt.alloc();
+    check_lives(&rt, alloc, "one slot", &lives, 4, wrong(Why::Slot, 1));
+    let lives = [gone(listener(0, 0, 1), 2, 3), connection(0, 4, 5)];
+    check_lives(
+        &rt,
+        alloc,
+        "a slot that was freed",
+        &lives,
+        6,
+        Finding::Sound,
+    );
     let lives = [listener(0, 0, 1), connection(1, 2, 3), connection(2, 4, 5)];
-    assert_eq!(rt; found_of_lives(alloc, &lives, 6)?, wrong(Why::Twin, 2));
-    // the first is on its way out before the second is hashed
-    let follow = [
+    check_lives(&rt, alloc, "one four-tuple", &lives, 6, wrong(Why::Twin, 2));
+    let lives = [
         listener(0, 0, 1),
         gone(connection(1, 2, 3), 4, 5),
         connection(2, 6, 7),
     ];
-    assert_eq!(rt; found_of_lives(alloc, &follow, 8)?, Finding::Sound);
-    Ok(())
+    check_lives(
+        &rt,
+        alloc,
+        "the first is on its way out before the second is hashed",
+        &lives,
+        8,
+        Finding::Sound,
+    );
 }
 
 #[test]
-fn found_cards(rt: HostRuntime) -> Result<(), Fail> {
+fn lookups(rt: HostRuntime) {
     let alloc = rt.alloc();
-    let listening = PrintedAnswer::Found(Kind::Listen, LISTENER.name);
-    let connected = PrintedAnswer::Found(Kind::Full, CONNECTION.name);
-    let unexplained = wrong(Why::Receipt, 1);
-    assert_eq!(rt; found_of_packet(alloc, listening, 2, 4)?, Finding::Sound);
-    assert_eq!(rt; found_of_packet(alloc, connected, 2, 4)?, Finding::Sound);
-    // the connection was there throughout
-    assert_eq!(rt; found_of_packet(alloc, listening, 4, 4)?, unexplained);
-    // it was hashed later, or gone before
-    assert_eq!(rt; found_of_packet(alloc, connected, 1, 2)?, unexplained);
-    assert_eq!(rt; found_of_packet(alloc, connected, 6, 6)?, unexplained);
-    // no card of that name is of that kind
-    let waiting = PrintedAnswer::Found(Kind::TimeWait, CONNECTION.name);
-    assert_eq!(rt; found_of_packet(alloc, waiting, 2, 4)?, unexplained);
-    Ok(())
-}
-
-#[test]
-fn a_handshake(rt: HostRuntime) -> Result<(), Fail> {
-    let alloc = rt.alloc();
+    let lives = [listener(0, 0, 1), gone(connection(1, 2, 3), 4, 5)];
+    check_looks(&rt, alloc, &lives, 1, 6, &LOOKS);
     let lives = [listener(0, 0, 1), request(1), connection(2, 4, 5)];
-    let listening = PrintedAnswer::Found(Kind::Listen, LISTENER.name);
-    let requested = PrintedAnswer::Found(Kind::Request, REQUEST);
-    let connected = PrintedAnswer::Found(Kind::Full, CONNECTION.name);
-    let unexplained = wrong(Why::Receipt, 0);
-    for (answer, t0, t1, finding) in [
-        (listening, 2, 3, Finding::Sound),
-        (requested, 2, 3, Finding::Sound),
-        (requested, 4, 4, Finding::Sound),
-        // the request was there throughout, or gone before
-        (listening, 4, 4, unexplained),
-        (requested, 8, 8, unexplained),
-        // and it isn't reported as a full socket
-        (PrintedAnswer::Found(Kind::Full, REQUEST), 4, 4, unexplained),
-        (connected, 8, 8, Finding::Sound),
-    ] {
-        let packets = [look(answer, t0, t1)];
-        assert_eq!(rt; found(alloc, &lives, &packets, 8)?, finding);
-    }
-    Ok(())
-}
-
-#[test]
-fn nothing_found(rt: HostRuntime) -> Result<(), Fail> {
-    let alloc = rt.alloc();
-    assert_eq!(rt;
-        found_of_packet(alloc, PrintedAnswer::None, 1, 2)?,
-        Finding::Sound
-    );
-    let unexplained = wrong(Why::Receipt, 1);
-    assert_eq!(rt;
-        found_of_packet(alloc, PrintedAnswer::None, 2, 3)?,
-        unexplained
-    );
-    Ok(())
-}
-
-#[test]
-fn lookups_given_up(rt: HostRuntime) -> Result<(), Fail> {
-    let alloc = rt.alloc();
-    let unexplained = wrong(Why::Receipt, 1);
-    for (bucket, end, finding) in [
-        (1, PrintedEnd::Foreign(0), Finding::Sound),
-        (0, PrintedEnd::Foreign(0), unexplained),
-        (1, PrintedEnd::Foreign(2), unexplained),
-        (2, PrintedEnd::Foreign(0), unexplained),
-        (1, PrintedEnd::Dead(1), Finding::Sound),
-        (1, PrintedEnd::Dead(0), unexplained),
-        (0, PrintedEnd::Changed(1), Finding::Sound),
-        (2, PrintedEnd::Changed(1), unexplained),
-        (1, PrintedEnd::Long(3), Finding::Sound),
-        (1, PrintedEnd::Long(2), unexplained),
-    ] {
-        let answer = PrintedAnswer::Again(bucket, end);
-        assert_eq!(rt; found_of_packet(alloc, answer, 2, 3)?, finding);
-    }
-    Ok(())
-}
-
-#[test]
-fn the_first_test_decides(rt: HostRuntime) -> Result<(), Fail> {
-    // the third life shares a slot with the first, and the second is in a strange bucket
-    let stray = PrintedLife {
-        bucket: 0,
-        ..listener(1, 2, 3)
-    };
-    let lives = [listener(0, 0, 1), stray, connection(0, 4, 5)];
-    assert_eq!(rt; found_of_lives(rt.alloc(), &lives, 9)?, wrong(Why::Home, 1));
-    Ok(())
+    check_looks(&rt, alloc, &lives, 0, 8, &LOOKS_OF_A_HANDSHAKE);
 }

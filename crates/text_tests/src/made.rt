@@ -3,21 +3,28 @@
 use capture_reader::Capture;
 use sock_script::make::script;
 use sock_script::{output, run};
-use std::test::Fail;
+use std::alloc::{AllocError, Global};
+use std::process::Abort;
+
+/// What is written for a generated script of 16 steps.
+fn written(alloc: Global) -> Result<Vec<u8>, AllocError> {
+    let script = script(alloc, 7, 16)?;
+    let capture = Capture::new(alloc);
+    let replies = run::replies(alloc, &script, &[])?;
+    output::text(alloc, &script, &capture, &replies.each, &replies.listings)
+}
+
+fn check_text(rt: &impl Abort, text: &[u8], wanted: &[u8]) {
+    assert!(rt; text == wanted);
+}
 
 #[test]
-fn sixteen_steps_are_answered(rt: HostRuntime) -> Result<(), Fail> {
-    let script = script(rt.alloc(), 7, 16)?;
-    let capture = Capture::new(rt.alloc());
-    let replies = run::replies(rt.alloc(), &script, &[])?;
-    let out = output::text(
-        rt.alloc(),
-        &script,
-        &capture,
-        &replies.each,
-        &replies.listings,
-    )?;
-    let wanted = b"1 socket s1 ok
+fn sixteen_steps_are_answered(rt: HostRuntime) -> Result<(), AllocError> {
+    let text = written(rt.alloc())?;
+    check_text(
+        &rt,
+        &text,
+        b"1 socket s1 ok
 1 bind s1 ok 38651
 1 listen s1 ok 38651
 1 close s2 EBADF
@@ -47,7 +54,7 @@ fn sixteen_steps_are_answered(rt: HostRuntime) -> Result<(), Fail> {
 1 socket s16 ok
 1 bind s16 ok 8052
 1 listen s16 ok 8052
-";
-    assert!(rt; out.as_slice() == wanted.as_slice());
+",
+    );
     Ok(())
 }

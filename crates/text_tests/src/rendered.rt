@@ -1,6 +1,6 @@
 //! Records of one listener, written.
 
-ghost use Rattle.std.specs.Prelude.{IfOk};
+ghost use Rattle.std.specs.Prelude.{◌≡◌, IfOk};
 ghost use Rattle.race_book.specs.Listed.{StampsDiffer, FitSlots};
 
 use chain_book::{Act, Change, PacketAnswer, PassEnd, Receipt, Shape};
@@ -13,7 +13,7 @@ use sock_card::{Card, Kind, Packet};
 use sock_script::parse::{Mode, ScriptEnd, parse};
 use socket_list::{Listing, Span};
 use std::alloc::{AllocError, Global};
-use std::test::Fail;
+use std::process::Abort;
 
 const SCRIPT: &[u8] = b"table slots 2 bind 1 hash 1 listen 1
 script 1
@@ -121,9 +121,48 @@ fn text_of(alloc: Global, net: u8, looked: Vec<Looked>) -> Result<Vec<u8>, Scrip
     Ok(render(alloc, &script, &told)?)
 }
 
+/// Asserts what is written of a race.
+fn check_text(rt: &impl Abort, text: &[u8], wanted: &[u8]) {
+    assert!(rt; text == wanted);
+}
+
+/// Adds the reply to a dump, and what it lists: the listener in the namespace 3.
+fn add_dump(alloc: Global, told: &mut Record) -> Result<(), AllocError>
+    ensures shape { told.new.shape ≡ told.old.shape }
+    ensures book { told.new.book ≡ told.old.book }
+{
+    told.replies.push(Reply::Ok)?;
+    let mut cards = Vec::new(alloc);
+    cards.push(listener(3))?;
+    told.listings.push(Listing {
+        cards,
+        span: Some(Span { t0: 2, t1: 2 }),
+    })?;
+    Ok(())
+}
+
+/// The text of the race in the namespace 3, with a dump of its listener.
+fn dump_text(alloc: Global) -> Result<Vec<u8>, ScriptEnd> {
+    let script = parse(alloc, LabelSeed::fixed(), DUMP_SCRIPT, Mode::Race)?;
+    let mut told = told(alloc, 3, Vec::new(alloc))?;
+    add_dump(alloc, &mut told)?;
+    Ok(render(alloc, &script, &told)?)
+}
+
+/// One packet that met the listener on its way in.
+fn looked(alloc: Global) -> Result<Vec<Looked>, AllocError> {
+    let mut looked = Vec::new(alloc);
+    looked.push(LOOKED)?;
+    Ok(looked)
+}
+
 #[test]
-fn one_listener(rt: HostRuntime) -> Result<(), Fail> {
-    let wanted = b"race lookers 1 passes 1
+fn one_listener(rt: HostRuntime) -> Result<(), ScriptEnd> {
+    let text = text_of(rt.alloc(), 0, Vec::new(rt.alloc()))?;
+    check_text(
+        &rt,
+        &text,
+        b"race lookers 1 passes 1
 shape 2 1 1 1 seed 0
 1 socket a ok
 1 bind a ok 80
@@ -131,15 +170,18 @@ shape 2 1 1 1 seed 0
 journal 0 3
 life 1 0 listen 1.a 10.0.0.1:80 0.0.0.0:0 dev 0 hash 0 1 unhash -
 clock 2
-";
-    let text = text_of(rt.alloc(), 0, Vec::new(rt.alloc()))?;
-    assert!(rt; text.as_slice() == wanted.as_slice());
+",
+    );
     Ok(())
 }
 
 #[test]
-fn a_namespace(rt: HostRuntime) -> Result<(), Fail> {
-    let wanted = b"race lookers 1 passes 1
+fn a_namespace(rt: HostRuntime) -> Result<(), ScriptEnd> {
+    let text = text_of(rt.alloc(), 3, looked(rt.alloc())?)?;
+    check_text(
+        &rt,
+        &text,
+        b"race lookers 1 passes 1
 shape 2 1 1 1 seed 0
 1 socket a ok
 1 bind a ok 80
@@ -148,17 +190,18 @@ journal 0 3
 life 1 0 listen 1.a 10.0.0.1:80 0.0.0.0:0 dev 0 net 3 hash 0 1 unhash -
 packet 1 again dead 0 in 1 t0 0 t1 1 from 10.0.0.2:1000 to 10.0.0.1:80 dev 0 net 3
 clock 2
-";
-    let mut looked = Vec::new(rt.alloc());
-    looked.push(LOOKED)?;
-    let text = text_of(rt.alloc(), 3, looked)?;
-    assert!(rt; text.as_slice() == wanted.as_slice());
+",
+    );
     Ok(())
 }
 
 #[test]
-fn a_dump(rt: HostRuntime) -> Result<(), Fail> {
-    let wanted = b"race lookers 1 passes 1
+fn a_dump(rt: HostRuntime) -> Result<(), ScriptEnd> {
+    let text = dump_text(rt.alloc())?;
+    check_text(
+        &rt,
+        &text,
+        b"race lookers 1 passes 1
 shape 2 1 1 1 seed 0
 1 socket a ok
 1 bind a ok 80
@@ -168,17 +211,7 @@ shape 2 1 1 1 seed 0
 journal 0 3
 life 1 0 listen 1.a 10.0.0.1:80 0.0.0.0:0 dev 0 net 3 hash 0 1 unhash -
 clock 2
-";
-    let script = parse(rt.alloc(), LabelSeed::fixed(), DUMP_SCRIPT, Mode::Race)?;
-    let mut told = told(rt.alloc(), 3, Vec::new(rt.alloc()))?;
-    told.replies.push(Reply::Ok)?;
-    let mut cards = Vec::new(rt.alloc());
-    cards.push(listener(3))?;
-    told.listings.push(Listing {
-        cards,
-        span: Some(Span { t0: 2, t1: 2 }),
-    })?;
-    let text = render(rt.alloc(), &script, &told)?;
-    assert!(rt; text.as_slice() == wanted.as_slice());
+",
+    );
     Ok(())
 }

@@ -1,4 +1,4 @@
-ghost use Rattle.std.specs.Prelude.{◌≤◌, ◌^◌, length};
+//! Which lines scripts may have, and what is written for a script.
 
 use capture_reader::Capture;
 use flat_list::Reply;
@@ -6,57 +6,176 @@ use label_index::LabelSeed;
 use sock_script::parse::{Mode, ScriptEnd, parse};
 use sock_script::{Shown, capture, output, run};
 use std::alloc::{AllocError, Global};
-use std::test::Fail;
+use std::process::Abort;
 
-/// The first bad line, 0 for want of memory, and none where the text is a script.
-fn bad_line(alloc: Global, text: &[u8], mode: Mode) -> Option<u64> {
-    match parse(alloc, LabelSeed::fixed(), text, mode) {
-        Ok(_) => None,
-        Err(ScriptEnd::BadLine(n)) => Some(n),
-        Err(ScriptEnd::Memory) => Some(0),
-    }
-}
+/// A text, and its first line that is outside the grammar, if one is.
+type Text = (&'static [u8], Option<u64>);
 
-/// What is written for a text that is a script.
-fn output_of(alloc: Global, text: &[u8]) -> Result<Vec<u8>, ScriptEnd>
-    requires { length text.now ≤ 2 ^ 24 }
-{
-    let script = parse(alloc, LabelSeed::fixed(), text, Mode::Run)?;
-    let capture = capture::read(alloc, &script, text).map_err(|_| ScriptEnd::Memory)?;
-    let replies = run::replies(alloc, &script, capture.items())?;
-    Ok(output::text(alloc, &script, &capture, &replies.each, &replies.listings)?)
-}
+/// A script, and what is written for it.
+type Served = (&'static [u8], &'static [u8]);
 
-/// So many section lines.
-fn sections(alloc: Global, count: u32) -> Result<String, AllocError> {
-    let mut text = String::new(alloc);
-    for i in 0..count {
-        write!(text, "script {}\n", i.wrapping_add(1))?;
-    }
-    Ok(text)
-}
+/// Bytes and line ends.
+const BYTES: [Text; 8] = [
+    (b"", None),
+    (b"#\0\xff\n \t\nscript 1\r\n\tsocket  a \r\n#", None),
+    (b"script 1\nsocket a\0\n", Some(2)),
+    (b"script 1\nsocket \xc3\xa4\n", Some(2)),
+    (b"script 1\r\r\n", Some(1)),
+    (b"script 1\n\rsocket a\n", Some(2)),
+    (b"script 1\nsocket a", None),
+    (b"script 1\nsocket", Some(2)),
+];
 
-/// A line of so many reserved ports, from 1 on.
-fn reserved(alloc: Global, count: u32) -> Result<String, AllocError> {
-    let mut text = String::from_str(alloc, "reserved")?;
-    for i in 0..count {
-        write!(text, " {}", i.wrapping_add(1))?;
-    }
-    Ok(text)
-}
+/// Rules over earlier lines.
+const EARLIER: [Text; 9] = [
+    (b"bind a 1.2.3.4:5", Some(1)),
+    (
+        b"table slots 2 bind 1 hash 1 listen 1\nscript 1\nscript 2\n",
+        None,
+    ),
+    (b"script 1\ntable slots 2 bind 1 hash 1 listen 1\n", Some(2)),
+    (
+        b"table slots 2 bind 1 hash 1 listen 1\ntable slots 2 bind 1 hash 1 listen 1\n",
+        Some(2),
+    ),
+    (b"script 2\n", Some(1)),
+    (b"script 1\nsocket a\n# two\nscript 3\n", Some(4)),
+    (b"script 1\nsocket a\nsocket b\n\nsocket a\n", Some(5)),
+    (b"script 1\nsocket a\nscript 2\nsocket a\n", None),
+    (
+        b"script 1\naccept a b from 1.2.3.4:5 at 1.2.3.4:6\nsocket b\n",
+        Some(3),
+    ),
+];
 
-#[test]
-fn each_command_has_its_line(rt: HostRuntime) -> Result<(), Fail> {
-    let text = b"script 1\nsocket a\nsocket b\nbind a 0.0.0.0:80\nbind b 10.0.0.1:80\n";
-    let out = output_of(rt.alloc(), text)?;
-    let wanted = b"1 socket a ok\n1 socket b ok\n1 bind a ok 80\n1 bind b EADDRINUSE\n";
-    assert!(rt; out.as_slice() == wanted.as_slice());
-    Ok(())
-}
+/// Header lines come once and first.
+const HEADERS: [Text; 5] = [
+    (
+        b"seed 4294967295\noffset 65535\n# any order\nrange 1 65534\ntable slots 2 bind 1 hash 1 listen 1\nscript 1\n",
+        None,
+    ),
+    (b"offset 7\nrange 1000 2000\nscript 1\n", Some(2)),
+    (b"range 1001 1000\nscript 1\n", Some(1)),
+    (b"seed 1\noffset 2\nseed 1\n", Some(3)),
+    (b"seed 1\nscript 1\noffset 2\n", Some(3)),
+];
 
-#[test]
-fn connected_sockets_have_their_lines(rt: HostRuntime) -> Result<(), Fail> {
-    let text = b"table slots 3 bind 1 hash 1 listen 1
+/// Reserved ports ascend.
+const RESERVED: [Text; 13] = [
+    (b"reserved 65535\nscript 1\n", None),
+    (b"reserved 1 2 65535\nrange 1 2\nscript 1\n", None),
+    (b"reserved\n", Some(1)),
+    (b"reserved 0\n", Some(1)),
+    (b"reserved 65536\n", Some(1)),
+    (b"reserved 65535 65536\n", Some(1)),
+    (b"reserved 80 80\n", Some(1)),
+    (b"reserved 79 81 80\n", Some(1)),
+    (b"reserved 080\n", Some(1)),
+    (b"reserved 80 http\n", Some(1)),
+    (b"reserved 80\nseed 1\nreserved 81\n", Some(3)),
+    (b"script 1\nreserved 80\n", Some(2)),
+    (b"Reserved 80\n", Some(1)),
+];
+
+/// The last option is noport.
+const NOPORT: [Text; 7] = [
+    (b"script 1\nsocket a noport\n", None),
+    (
+        b"script 1\nsocket a net 1 uid 2 dev 3 reuseaddr reuseport noport\n",
+        None,
+    ),
+    (b"script 1\nsocket noport noport\n", None),
+    (b"script 1\nsocket a noport noport\n", Some(2)),
+    (b"script 1\nsocket a noport reuseport\n", Some(2)),
+    (b"script 1\nsocket a noport reuseaddr\n", Some(2)),
+    (b"script 1\nsocket a noport dev 1\n", Some(2)),
+];
+
+/// A capture ends the script.
+const CAPTURES: [Text; 7] = [
+    (b"capture", None),
+    (b"capture dev 65535\nno line\n\0", None),
+    (
+        b"script 1\nsocket a\npackets 1000000\ncapture\nsocket a\n",
+        None,
+    ),
+    (b"capture dev 0\n", Some(1)),
+    (b"capture dev\n", Some(1)),
+    (b"capture 1\n", Some(1)),
+    (b"script 1\npackets 1000001\n", Some(2)),
+];
+
+/// Namespaces are sixteen, and in their place.
+const NAMESPACES: [Text; 13] = [
+    (b"script 1\nsocket a net 0 uid 1 dev 2 reuseaddr\n", None),
+    (b"script 1\nsocket a net 16\n", Some(2)),
+    (b"script 1\nsocket a net 07\n", Some(2)),
+    (b"script 1\nsocket a net\n", Some(2)),
+    (b"script 1\nsocket a net 1 net 1\n", Some(2)),
+    (b"script 1\nsocket a uid 1 net 1\n", Some(2)),
+    (
+        b"script 1\nlook 10.0.0.2:5 10.0.0.1:80 dev 1 net 15\n",
+        None,
+    ),
+    (
+        b"script 1\nlook 10.0.0.2:5 10.0.0.1:80 net 1 dev 1\n",
+        Some(2),
+    ),
+    (b"script 1\nlook 10.0.0.2:5 10.0.0.1:80 net 16\n", Some(2)),
+    (b"capture net 15\nno line\n", None),
+    (b"capture dev 1 net 0\nno line\n", None),
+    (b"capture net 1 dev 1\n", Some(1)),
+    (b"capture net 1 net 1\n", Some(1)),
+];
+
+/// Lines that a run's script and a race's have alike: handshakes, in which a label is given once, by whichever command,
+/// and dumps, which have no words.
+const ALIKE: [Text; 11] = [
+    (
+        b"script 1\nsyn a r from 10.0.0.2:1000 at 10.0.0.1:80\nack r c\n",
+        None,
+    ),
+    (
+        b"script 1\nsyn a r from 10.0.0.2:1 at 10.0.0.1:80\nsocket r\n",
+        Some(3),
+    ),
+    (b"script 1\nsocket c\nack r c\n", Some(3)),
+    (
+        b"script 1\nsyn a r at 10.0.0.1:80 from 10.0.0.2:1\n",
+        Some(2),
+    ),
+    (b"script 1\nsyn a r from 10.0.0.2:1\n", Some(2)),
+    (b"script 1\nack r\n", Some(2)),
+    (b"script 1\nack r c d\n", Some(2)),
+    (b"script 1\ndump\n", None),
+    (b"script 1\n dump\t\r\ndump\n", None),
+    (b"script 1\ndump all\n", Some(2)),
+    (b"dump\nscript 1\n", Some(1)),
+];
+
+/// Lookups and packets, which a run's script may have.
+const LOOKS: [Text; 2] = [
+    (b"script 1\nsocket a\nlook 10.0.0.2:5 10.0.0.1:80\n", None),
+    (b"script 1\npackets 1\n", None),
+];
+
+/// The same, which a race's script may not have.
+const LOOKS_OF_RACES: [Text; 2] = [
+    (
+        b"script 1\nsocket a\nlook 10.0.0.2:5 10.0.0.1:80\n",
+        Some(3),
+    ),
+    (b"script 1\npackets 1\n", Some(2)),
+];
+
+/// Each command has its line; connected sockets have theirs.
+const COMMANDS: [Served; 2] = [
+    (
+        b"script 1\nsocket a\nsocket b\nbind a 0.0.0.0:80\nbind b 10.0.0.1:80\n",
+        b"1 socket a ok\n1 socket b ok\n1 bind a ok 80\n1 bind b EADDRINUSE\n",
+    ),
+    (
+        b"table slots 3 bind 1 hash 1 listen 1
 script 1
 socket a
 bind a 10.0.0.1:80
@@ -77,9 +196,8 @@ bind l 255.0.0.1:65535
 connect l from 255.0.0.1 to 10.0.0.3:80
 drop k
 drop k
-";
-    let out = output_of(rt.alloc(), text)?;
-    let wanted = b"1 socket a ok
+",
+        b"1 socket a ok
 1 bind a ok 80
 1 listen a ok 80
 1 accept c ok
@@ -97,14 +215,13 @@ drop k
 2 connect l ENFILE 3 0
 2 drop k ok
 2 drop k EBADF
-";
-    assert!(rt; out.as_slice() == wanted.as_slice());
-    Ok(())
-}
+",
+    ),
+];
 
-#[test]
-fn handshakes_have_their_lines(rt: HostRuntime) -> Result<(), Fail> {
-    let text = b"script 1
+/// Handshakes have their lines.
+const HANDSHAKES: [Served; 1] = [(
+    b"script 1
 socket a
 bind a 10.0.0.1:80
 listen a
@@ -122,10 +239,8 @@ syn a f from 10.0.0.2:1000 at 10.0.0.1:80
 dump
 drop f
 look 10.0.0.2:1000 10.0.0.1:80
-";
-    assert_eq!(rt; bad_line(rt.alloc(), text, Mode::Run), None);
-    let out = output_of(rt.alloc(), text)?;
-    let wanted = b"1 socket a ok
+",
+    b"1 socket a ok
 1 bind a ok 80
 1 listen a ok 80
 1 syn r ok
@@ -146,42 +261,14 @@ look 10.0.0.2:1000 10.0.0.1:80
 1 item request 1.f 10.0.0.1:80 10.0.0.2:1000 dev 0
 1 drop f ok
 1 look listen 1.a
-";
-    assert!(rt; out.as_slice() == wanted.as_slice());
-    Ok(())
-}
+",
+)];
 
-#[test]
-fn handshakes_are_read(rt: HostRuntime) -> Result<(), Fail> {
-    let cases: [(&[u8], Option<u64>); 7] = [
-        (
-            b"script 1\nsyn a r from 10.0.0.2:1000 at 10.0.0.1:80\nack r c\n",
-            None,
-        ),
-        // a label is given once, by whichever command
-        (
-            b"script 1\nsyn a r from 10.0.0.2:1 at 10.0.0.1:80\nsocket r\n",
-            Some(3),
-        ),
-        (b"script 1\nsocket c\nack r c\n", Some(3)),
-        (
-            b"script 1\nsyn a r at 10.0.0.1:80 from 10.0.0.2:1\n",
-            Some(2),
-        ),
-        (b"script 1\nsyn a r from 10.0.0.2:1\n", Some(2)),
-        (b"script 1\nack r\n", Some(2)),
-        (b"script 1\nack r c d\n", Some(2)),
-    ];
-    for (text, line) in cases {
-        assert_eq!(rt; bad_line(rt.alloc(), text, Mode::Run), line);
-        assert_eq!(rt; bad_line(rt.alloc(), text, Mode::Race), line);
-    }
-    Ok(())
-}
-
-#[test]
-fn ports_are_searched_as_the_header_says(rt: HostRuntime) -> Result<(), Fail> {
-    let text = b"offset 5
+/// Ports are searched as the header says; a search passes reserved ports by; late ports are taken by connect and
+/// listen.
+const SEARCHES: [Served; 3] = [
+    (
+        b"offset 5
 range 1000 1003
 script 1
 socket a
@@ -194,9 +281,8 @@ socket d
 connect d from 10.0.0.1 to 10.0.0.2:80
 socket e
 bind e 10.0.0.1:0
-";
-    let out = output_of(rt.alloc(), text)?;
-    let wanted = b"1 socket a ok
+",
+        b"1 socket a ok
 1 bind a ok 1001
 1 socket b ok
 1 bind b ok 1003
@@ -206,110 +292,10 @@ bind e 10.0.0.1:0
 1 connect d ok 10.0.0.1:1002
 1 socket e ok
 1 bind e EADDRINUSE
-";
-    assert!(rt; out.as_slice() == wanted.as_slice());
-    Ok(())
-}
-
-#[test]
-fn bytes_and_line_ends(rt: HostRuntime) -> Result<(), Fail> {
-    let cases: [(&[u8], Option<u64>); 8] = [
-        (b"", None),
-        (b"#\0\xff\n \t\nscript 1\r\n\tsocket  a \r\n#", None),
-        (b"script 1\nsocket a\0\n", Some(2)),
-        (b"script 1\nsocket \xc3\xa4\n", Some(2)),
-        (b"script 1\r\r\n", Some(1)),
-        (b"script 1\n\rsocket a\n", Some(2)),
-        (b"script 1\nsocket a", None),
-        (b"script 1\nsocket", Some(2)),
-    ];
-    for (text, line) in cases {
-        assert_eq!(rt; bad_line(rt.alloc(), text, Mode::Run), line);
-    }
-    Ok(())
-}
-
-#[test]
-fn rules_over_earlier_lines(rt: HostRuntime) -> Result<(), Fail> {
-    let cases: [(&[u8], Option<u64>); 9] = [
-        (b"bind a 1.2.3.4:5", Some(1)),
-        (
-            b"table slots 2 bind 1 hash 1 listen 1\nscript 1\nscript 2\n",
-            None,
-        ),
-        (b"script 1\ntable slots 2 bind 1 hash 1 listen 1\n", Some(2)),
-        (
-            b"table slots 2 bind 1 hash 1 listen 1\ntable slots 2 bind 1 hash 1 listen 1\n",
-            Some(2),
-        ),
-        (b"script 2\n", Some(1)),
-        (b"script 1\nsocket a\n# two\nscript 3\n", Some(4)),
-        (b"script 1\nsocket a\nsocket b\n\nsocket a\n", Some(5)),
-        (b"script 1\nsocket a\nscript 2\nsocket a\n", None),
-        (
-            b"script 1\naccept a b from 1.2.3.4:5 at 1.2.3.4:6\nsocket b\n",
-            Some(3),
-        ),
-    ];
-    for (text, line) in cases {
-        assert_eq!(rt; bad_line(rt.alloc(), text, Mode::Run), line);
-    }
-    Ok(())
-}
-
-#[test]
-fn header_lines_come_once_and_first(rt: HostRuntime) -> Result<(), Fail> {
-    let cases: [(&[u8], Option<u64>); 5] = [
-        (
-            b"seed 4294967295\noffset 65535\n# any order\nrange 1 65534\ntable slots 2 bind 1 hash 1 listen 1\nscript 1\n",
-            None,
-        ),
-        (b"offset 7\nrange 1000 2000\nscript 1\n", Some(2)),
-        (b"range 1001 1000\nscript 1\n", Some(1)),
-        (b"seed 1\noffset 2\nseed 1\n", Some(3)),
-        (b"seed 1\nscript 1\noffset 2\n", Some(3)),
-    ];
-    for (text, line) in cases {
-        assert_eq!(rt; bad_line(rt.alloc(), text, Mode::Run), line);
-    }
-    Ok(())
-}
-
-#[test]
-fn reserved_ports_ascend(rt: HostRuntime) -> Result<(), Fail> {
-    let cases: [(&[u8], Option<u64>); 13] = [
-        (b"reserved 65535\nscript 1\n", None),
-        (b"reserved 1 2 65535\nrange 1 2\nscript 1\n", None),
-        (b"reserved\n", Some(1)),
-        (b"reserved 0\n", Some(1)),
-        (b"reserved 65536\n", Some(1)),
-        (b"reserved 65535 65536\n", Some(1)),
-        (b"reserved 80 80\n", Some(1)),
-        (b"reserved 79 81 80\n", Some(1)),
-        (b"reserved 080\n", Some(1)),
-        (b"reserved 80 http\n", Some(1)),
-        (b"reserved 80\nseed 1\nreserved 81\n", Some(3)),
-        (b"script 1\nreserved 80\n", Some(2)),
-        (b"Reserved 80\n", Some(1)),
-    ];
-    for (text, line) in cases {
-        assert_eq!(rt; bad_line(rt.alloc(), text, Mode::Run), line);
-    }
-    Ok(())
-}
-
-#[test]
-fn reserved_ports_are_sixty_four_at_most(rt: HostRuntime) -> Result<(), Fail> {
-    let most = reserved(rt.alloc(), 64)?;
-    assert_eq!(rt; bad_line(rt.alloc(), most.as_bytes(), Mode::Run), None);
-    let more = reserved(rt.alloc(), 65)?;
-    assert_eq!(rt; bad_line(rt.alloc(), more.as_bytes(), Mode::Run), Some(1));
-    Ok(())
-}
-
-#[test]
-fn a_search_passes_reserved_ports_by(rt: HostRuntime) -> Result<(), Fail> {
-    let text = b"range 40000 40003
+",
+    ),
+    (
+        b"range 40000 40003
 offset 0
 reserved 40001 40003
 script 1
@@ -321,9 +307,8 @@ socket c
 bind c 0.0.0.0:0
 socket d
 bind d 0.0.0.0:40001
-";
-    let out = output_of(rt.alloc(), text)?;
-    let wanted = b"1 socket a ok
+",
+        b"1 socket a ok
 1 bind a ok 40000
 1 socket b ok
 1 bind b ok 40002
@@ -331,34 +316,10 @@ bind d 0.0.0.0:40001
 1 bind c EADDRINUSE
 1 socket d ok
 1 bind d ok 40001
-";
-    assert!(rt; out.as_slice() == wanted.as_slice());
-    Ok(())
-}
-
-#[test]
-fn the_last_option_is_noport(rt: HostRuntime) -> Result<(), Fail> {
-    let cases: [(&[u8], Option<u64>); 7] = [
-        (b"script 1\nsocket a noport\n", None),
-        (
-            b"script 1\nsocket a net 1 uid 2 dev 3 reuseaddr reuseport noport\n",
-            None,
-        ),
-        (b"script 1\nsocket noport noport\n", None),
-        (b"script 1\nsocket a noport noport\n", Some(2)),
-        (b"script 1\nsocket a noport reuseport\n", Some(2)),
-        (b"script 1\nsocket a noport reuseaddr\n", Some(2)),
-        (b"script 1\nsocket a noport dev 1\n", Some(2)),
-    ];
-    for (text, line) in cases {
-        assert_eq!(rt; bad_line(rt.alloc(), text, Mode::Run), line);
-    }
-    Ok(())
-}
-
-#[test]
-fn late_ports_are_taken_by_connect_and_listen(rt: HostRuntime) -> Result<(), Fail> {
-    let text = b"range 40000 40001
+",
+    ),
+    (
+        b"range 40000 40001
 script 1
 socket a noport
 bind a 10.0.0.1:0
@@ -371,9 +332,8 @@ bind c 10.0.0.9:0
 listen c
 look 10.0.0.2:5 10.0.0.9:40001
 look 10.0.0.2:5 10.0.0.7:40001
-";
-    let out = output_of(rt.alloc(), text)?;
-    let wanted = b"1 socket a ok
+",
+        b"1 socket a ok
 1 bind a ok 0
 1 socket b ok
 1 bind b ok 0
@@ -384,72 +344,13 @@ look 10.0.0.2:5 10.0.0.7:40001
 1 listen c ok 40001
 1 look listen 1.c
 1 look none
-";
-    assert!(rt; out.as_slice() == wanted.as_slice());
-    Ok(())
-}
+",
+    ),
+];
 
-#[test]
-fn sections_are_sixty_four_at_most(rt: HostRuntime) -> Result<(), Fail> {
-    let most = sections(rt.alloc(), 64)?;
-    assert_eq!(rt; bad_line(rt.alloc(), most.as_bytes(), Mode::Run), None);
-    let more = sections(rt.alloc(), 65)?;
-    assert_eq!(rt; bad_line(rt.alloc(), more.as_bytes(), Mode::Run), Some(65));
-    Ok(())
-}
-
-#[test]
-fn a_capture_ends_the_script(rt: HostRuntime) -> Result<(), Fail> {
-    let cases: [(&[u8], Option<u64>); 7] = [
-        (b"capture", None),
-        (b"capture dev 65535\nno line\n\0", None),
-        (
-            b"script 1\nsocket a\npackets 1000000\ncapture\nsocket a\n",
-            None,
-        ),
-        (b"capture dev 0\n", Some(1)),
-        (b"capture dev\n", Some(1)),
-        (b"capture 1\n", Some(1)),
-        (b"script 1\npackets 1000001\n", Some(2)),
-    ];
-    for (text, line) in cases {
-        assert_eq!(rt; bad_line(rt.alloc(), text, Mode::Run), line);
-    }
-    Ok(())
-}
-
-#[test]
-fn namespaces_are_sixteen_and_in_place(rt: HostRuntime) -> Result<(), Fail> {
-    let cases: [(&[u8], Option<u64>); 13] = [
-        (b"script 1\nsocket a net 0 uid 1 dev 2 reuseaddr\n", None),
-        (b"script 1\nsocket a net 16\n", Some(2)),
-        (b"script 1\nsocket a net 07\n", Some(2)),
-        (b"script 1\nsocket a net\n", Some(2)),
-        (b"script 1\nsocket a net 1 net 1\n", Some(2)),
-        (b"script 1\nsocket a uid 1 net 1\n", Some(2)),
-        (
-            b"script 1\nlook 10.0.0.2:5 10.0.0.1:80 dev 1 net 15\n",
-            None,
-        ),
-        (
-            b"script 1\nlook 10.0.0.2:5 10.0.0.1:80 net 1 dev 1\n",
-            Some(2),
-        ),
-        (b"script 1\nlook 10.0.0.2:5 10.0.0.1:80 net 16\n", Some(2)),
-        (b"capture net 15\nno line\n", None),
-        (b"capture dev 1 net 0\nno line\n", None),
-        (b"capture net 1 dev 1\n", Some(1)),
-        (b"capture net 1 net 1\n", Some(1)),
-    ];
-    for (text, line) in cases {
-        assert_eq!(rt; bad_line(rt.alloc(), text, Mode::Run), line);
-    }
-    Ok(())
-}
-
-#[test]
-fn two_tenants_have_one_end(rt: HostRuntime) -> Result<(), Fail> {
-    let text = b"script 1
+/// Two tenants have one end.
+const TENANTS: [Served; 1] = [(
+    b"script 1
 socket a
 bind a 10.0.0.1:80
 listen a
@@ -465,9 +366,8 @@ socket d net 1
 bind d 10.0.0.1:90
 connect c to 10.0.0.2:80
 connect d to 10.0.0.2:80
-";
-    let out = output_of(rt.alloc(), text)?;
-    let wanted = b"1 socket a ok
+",
+    b"1 socket a ok
 1 bind a ok 80
 1 listen a ok 80
 1 socket b ok
@@ -482,35 +382,23 @@ connect d to 10.0.0.2:80
 1 bind d ok 90
 1 connect c ok 10.0.0.1:90
 1 connect d ok 10.0.0.1:90
-";
-    assert!(rt; out.as_slice() == wanted.as_slice());
-    Ok(())
-}
+",
+)];
 
-#[test]
-fn a_dump_has_a_line_for_each_socket(rt: HostRuntime) -> Result<(), Fail> {
-    let cases: [(&[u8], &[u8]); 2] = [
-        (b"script 1\ndump\n", b"1 dump 0\n"),
-        (
-            b"script 1\nsocket a\nbind a 10.0.0.1:80\nlisten a\ndump\n",
-            b"1 socket a ok
+/// A dump has a line for each socket, of all sections and namespaces, and of waits.
+const DUMPS: [Served; 3] = [
+    (b"script 1\ndump\n", b"1 dump 0\n"),
+    (
+        b"script 1\nsocket a\nbind a 10.0.0.1:80\nlisten a\ndump\n",
+        b"1 socket a ok
 1 bind a ok 80
 1 listen a ok 80
 1 dump 1
 1 item listen 1.a 10.0.0.1:80 0.0.0.0:0 dev 0
 ",
-        ),
-    ];
-    for (text, wanted) in cases {
-        let out = output_of(rt.alloc(), text)?;
-        assert!(rt; out.as_slice() == wanted);
-    }
-    Ok(())
-}
-
-#[test]
-fn a_dump_lists_sections_namespaces_and_waits(rt: HostRuntime) -> Result<(), Fail> {
-    let text = b"script 1
+    ),
+    (
+        b"script 1
 socket late
 socket a
 bind a 10.0.0.1:80
@@ -531,9 +419,8 @@ close k
 bind k 10.0.0.3:90
 drop k
 dump
-";
-    let out = output_of(rt.alloc(), text)?;
-    let wanted = b"1 socket late ok
+",
+        b"1 socket late ok
 1 socket a ok
 1 bind a ok 80
 1 listen a ok 80
@@ -562,49 +449,121 @@ dump
 3 item full 1.c 10.0.0.1:80 10.0.0.2:1000 dev 0
 3 item listen 2.b 0.0.0.0:80 0.0.0.0:0 dev 3 net 15
 3 item time-wait 3.k 10.0.0.3:90 10.0.0.2:80 dev 0
-";
-    assert!(rt; out.as_slice() == wanted.as_slice());
-    Ok(())
-}
+",
+    ),
+];
 
-#[test]
-fn a_dump_has_no_words(rt: HostRuntime) -> Result<(), Fail> {
-    let cases: [(&[u8], Option<u64>); 4] = [
-        (b"script 1\ndump\n", None),
-        (b"script 1\n dump\t\r\ndump\n", None),
-        (b"script 1\ndump all\n", Some(2)),
-        (b"dump\nscript 1\n", Some(1)),
-    ];
-    for (text, line) in cases {
-        assert_eq!(rt; bad_line(rt.alloc(), text, Mode::Run), line);
-        assert_eq!(rt; bad_line(rt.alloc(), text, Mode::Race), line);
+/// The first bad line, 0 for want of memory, and none where the text is a script.
+fn bad_line(alloc: Global, text: &[u8], mode: Mode) -> Option<u64> {
+    match parse(alloc, LabelSeed::fixed(), text, mode) {
+        Ok(_) => None,
+        Err(ScriptEnd::BadLine(n)) => Some(n),
+        Err(ScriptEnd::Memory) => Some(0),
     }
+}
+
+/// Asserts of each text which of its lines is the first outside the grammar.
+fn check_lines(rt: &impl Abort, alloc: Global, mode: Mode, about: &str, texts: &[Text]) {
+    for (place, (text, line)) in texts.iter().enumerate() {
+        let found = bad_line(alloc, text, mode);
+        assert!(rt; found == *line, "text {place} of {about}");
+    }
+}
+
+/// What is written for a text that is a script.
+fn output_of(alloc: Global, text: &[u8]) -> Result<Vec<u8>, ScriptEnd> {
+    let script = parse(alloc, LabelSeed::fixed(), text, Mode::Run)?;
+    if text.len() > 1 << 24 {
+        return Err(ScriptEnd::Memory);
+    }
+    let capture = capture::read(alloc, &script, text).map_err(|_| ScriptEnd::Memory)?;
+    let replies = run::replies(alloc, &script, capture.items())?;
+    Ok(output::text(alloc, &script, &capture, &replies.each, &replies.listings)?)
+}
+
+/// Whether this is written for a text that is a script.
+fn is_written(alloc: Global, text: &[u8], wanted: &[u8]) -> Result<bool, ScriptEnd> {
+    Ok(output_of(alloc, text)?.as_slice() == wanted)
+}
+
+/// Asserts of each script what is written for it.
+fn check_outputs(rt: &impl Abort, alloc: Global, about: &str, scripts: &[Served]) {
+    for (place, (text, wanted)) in scripts.iter().enumerate() {
+        let written = is_written(alloc, text, wanted);
+        assert!(rt; matches!(written, Ok(true)), "script {place} of {about}");
+    }
+}
+
+/// So many section lines.
+fn sections(alloc: Global, count: u32) -> Result<String, AllocError> {
+    let mut text = String::new(alloc);
+    for i in 0..count {
+        write!(text, "script {}\n", i.wrapping_add(1))?;
+    }
+    Ok(text)
+}
+
+/// A line of so many reserved ports, from 1 on.
+fn reserved(alloc: Global, count: u32) -> Result<String, AllocError> {
+    let mut text = String::from_str(alloc, "reserved")?;
+    for i in 0..count {
+        write!(text, " {}", i.wrapping_add(1))?;
+    }
+    Ok(text)
+}
+
+fn check_line(rt: &impl Abort, alloc: Global, text: &str, line: Option<u64>) {
+    assert!(rt; bad_line(alloc, text.as_bytes(), Mode::Run) == line);
+}
+
+#[test]
+fn lines_of_runs_and_races(rt: HostRuntime) {
+    let alloc = rt.alloc();
+    check_lines(&rt, alloc, Mode::Run, "bytes", &BYTES);
+    check_lines(&rt, alloc, Mode::Run, "rules over earlier lines", &EARLIER);
+    check_lines(&rt, alloc, Mode::Run, "headers", &HEADERS);
+    check_lines(&rt, alloc, Mode::Run, "reserved ports", &RESERVED);
+    check_lines(&rt, alloc, Mode::Run, "noport", &NOPORT);
+    check_lines(&rt, alloc, Mode::Run, "captures", &CAPTURES);
+    check_lines(&rt, alloc, Mode::Run, "namespaces", &NAMESPACES);
+    check_lines(&rt, alloc, Mode::Run, "handshakes and dumps", &ALIKE);
+    check_lines(&rt, alloc, Mode::Race, "handshakes and dumps", &ALIKE);
+    check_lines(&rt, alloc, Mode::Run, "lookups of a run", &LOOKS);
+    check_lines(&rt, alloc, Mode::Race, "lookups of a race", &LOOKS_OF_RACES);
+}
+
+#[test]
+fn sections_and_reserved_ports_are_sixty_four_at_most(rt: HostRuntime) -> Result<(), AllocError> {
+    let alloc = rt.alloc();
+    check_line(&rt, alloc, sections(alloc, 64)?.as_str(), None);
+    check_line(&rt, alloc, sections(alloc, 65)?.as_str(), Some(65));
+    check_line(&rt, alloc, reserved(alloc, 64)?.as_str(), None);
+    check_line(&rt, alloc, reserved(alloc, 65)?.as_str(), Some(1));
     Ok(())
 }
 
 #[test]
-fn a_dump_without_a_listing_has_no_line(rt: HostRuntime) -> Result<(), Fail> {
+fn outputs_of_scripts(rt: HostRuntime) {
     let alloc = rt.alloc();
-    let script = parse(
-        alloc,
-        LabelSeed::fixed(),
-        b"script 1\ndump\nreap\n",
-        Mode::Run,
-    )?;
+    check_outputs(&rt, alloc, "commands", &COMMANDS);
+    check_outputs(&rt, alloc, "handshakes", &HANDSHAKES);
+    check_outputs(&rt, alloc, "searches", &SEARCHES);
+    check_outputs(&rt, alloc, "tenants", &TENANTS);
+    check_outputs(&rt, alloc, "dumps", &DUMPS);
+}
+
+/// What is written for a dump without a listing, and what stands behind it.
+fn output_without_a_listing(alloc: Global) -> Result<Vec<u8>, ScriptEnd> {
+    let text = b"script 1\ndump\nreap\n";
+    let script = parse(alloc, LabelSeed::fixed(), text, Mode::Run)?;
     let capture = Capture::new(alloc);
     let replies = Shown::of_each(alloc, &[Reply::Ok, Reply::Count(0)])?;
-    let out = output::text(alloc, &script, &capture, &replies, &[])?;
-    assert!(rt; out.as_slice() == b"1 reap ok 0\n".as_slice());
-    Ok(())
+    Ok(output::text(alloc, &script, &capture, &replies, &[])?)
 }
 
 #[test]
-fn a_race_has_no_look(rt: HostRuntime) -> Result<(), Fail> {
-    let text = b"script 1\nsocket a\nlook 10.0.0.2:5 10.0.0.1:80\n";
-    assert_eq!(rt; bad_line(rt.alloc(), text, Mode::Run), None);
-    assert_eq!(rt; bad_line(rt.alloc(), text, Mode::Race), Some(3));
-    let text = b"script 1\npackets 1\n";
-    assert_eq!(rt; bad_line(rt.alloc(), text, Mode::Run), None);
-    assert_eq!(rt; bad_line(rt.alloc(), text, Mode::Race), Some(2));
+fn a_dump_without_a_listing_has_no_line(rt: HostRuntime) -> Result<(), ScriptEnd> {
+    let out = output_without_a_listing(rt.alloc())?;
+    assert!(rt; out.as_slice() == b"1 reap ok 0\n".as_slice());
     Ok(())
 }

@@ -18,7 +18,7 @@ use Rattle.table_model.proofs.commands.HandshakePlans.{accept_carried, accept_en
 use Rattle.table_model.proofs.commands.Drop.{drop_both, drop_open, drop_none}
 use Rattle.table_model.proofs.commands.Close.{close_both, close_open, close_none}
 
-module _ (n : ℕ) (own : Own) (t : Tables) (flat : Flat) (h : Means n own t flat) (near : n ≤ 64) where
+module _ (n : ℕ) (own : Own) (t : Tables) (flat : Flat) (h : Means n own t flat) (near : n ≤ 255) where
   -- `reap` beside the list's
   pub reap_carried : Carried n t (plan flat.header own commands.Reap) (step flat n commands.Reap)
   unfolding plan step
@@ -55,11 +55,11 @@ module _ (n : ℕ) (own : Own) (t : Tables) (flat : Flat) (h : Means n own t fla
 -- what is asked of `listen`
 abbrev pub ListenCarried : Type 0
 ListenCarried =
-    (n : ℕ) (own : Own) (t : Tables) (flat : Flat) → Means n own t flat → n ≤ 64 → (label : List ℕ) → length own.labels + 1 < 2 ^ 56
+    (n : ℕ) (own : Own) (t : Tables) (flat : Flat) → Means n own t flat → n ≤ 255 → (label : List ℕ) → length own.labels + 1 < 2 ^ 56
     → Carried n t (plan flat.header own (commands.Listen label)) (step flat n (commands.Listen label))
 
 abbrev pub ListenEnds : Type 0
-ListenEnds = (n : ℕ) (own : Own) (t : Tables) (flat : Flat) → Means n own t flat → n ≤ 64 → (label : List ℕ) → Ends t own flat (commands.Listen label)
+ListenEnds = (n : ℕ) (own : Own) (t : Tables) (flat : Flat) → Means n own t flat → n ≤ 255 → (label : List ℕ) → Ends t own flat (commands.Listen label)
 
 -- each command is carried out
 pub all_carried : ListenCarried → AllCarried

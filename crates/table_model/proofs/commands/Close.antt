@@ -44,7 +44,7 @@ use Rattle.table_model.proofs.parts.OwnGoes.{is_awake, own_waits}
 use Rattle.table_model.proofs.parts.Handed.{handed, handed_means, stays_handed, words_handed}
 use Rattle.table_model.proofs.commands.Drop.{stands_so, carried_unhashed, carried_leave, carried_at_once, carried_portless}
 
-module _ (n : ℕ) (own : Own) (t : Tables) (flat : Flat) (h : Means n own t flat) (near : n ≤ 64) (s : Socket) (extra : ℕ) (place : Place)
+module _ (n : ℕ) (own : Own) (t : Tables) (flat : Flat) (h : Means n own t flat) (near : n ≤ 255) (s : Socket) (extra : ℕ) (place : Place)
     (at : Listed s.owner.name flat.sockets s) (mine : is_open_in n s ≡ true) (stands : StandsAs t.chains (record { owner = s.owner; extra = extra; place = place }) (kind_of s.owner.state)) where
   abbrev m : Mine
   m = record { owner = s.owner; extra = extra; place = place }
@@ -179,7 +179,7 @@ module _ (n : ℕ) (own : Own) (t : Tables) (flat : Flat) (h : Means n own t fla
   pub closed : Carried n t (plan_as s.owner.state) (flat_step.close_socket flat n s s.owner.state)
   closed = by_state s.owner.state refl
 
-module _ (n : ℕ) (own : Own) (t : Tables) (flat : Flat) (h : Means n own t flat) (near : n ≤ 64) where
+module _ (n : ℕ) (own : Own) (t : Tables) (flat : Flat) (h : Means n own t flat) (near : n ≤ 255) where
   -- `close` of a socket that is open here and in the list
   pub close_open : (m : Mine) (s : Socket) → IsOpen n t flat m s → Carried n t (close_command flat.header own (Some m)) (flat_step.close flat n (Some s))
   close_open m s is =

@@ -34,7 +34,7 @@ use Rattle.table_model.proofs.parts.OpenSocket.{IsOpen, OpenBoth}
 use Rattle.table_model.proofs.parts.OwnGoes.{is_awake}
 use Rattle.table_model.proofs.commands.Gone.{left_unhashed, left_unhashed_none, leaves_port, leaves_nothing}
 
-module _ (n : ℕ) (own : Own) (t : Tables) (flat : Flat) (h : Means n own t flat) (near : n ≤ 64) (s : Socket) (extra : ℕ) (place : Place)
+module _ (n : ℕ) (own : Own) (t : Tables) (flat : Flat) (h : Means n own t flat) (near : n ≤ 255) (s : Socket) (extra : ℕ) (place : Place)
     (at : Listed s.owner.name flat.sockets s) (mine : is_open_in n s ≡ true) (stands : StandsAs t.chains (record { owner = s.owner; extra = extra; place = place }) (kind_of s.owner.state)) (reply : Reply) where
   abbrev pub m : Mine
   m = record { owner = s.owner; extra = extra; place = place }
@@ -111,7 +111,7 @@ pub stands_so : (n : ℕ) (t : Tables) (flat : Flat) (m : Mine) (s : Socket) →
 stands_so n t flat m s is =
     subst (λ (x : Mine). StandsAs t.chains x (kind_of x.owner.state)) (λ i. record m { owner = is.same i }) is.stands
 
-module _ (n : ℕ) (own : Own) (t : Tables) (flat : Flat) (h : Means n own t flat) (near : n ≤ 64) where
+module _ (n : ℕ) (own : Own) (t : Tables) (flat : Flat) (h : Means n own t flat) (near : n ≤ 255) where
   -- `drop` of a socket that is open here and in the list
   pub drop_open : (m : Mine) (s : Socket) → IsOpen n t flat m s → Carried n t (drop_command own (Some m)) (drop flat (Some s))
   drop_open m s is =

@@ -76,7 +76,7 @@ module _ (n : ℕ) (own : Own) (t : Tables) (flat : Flat) (h : Means n own t fla
 -- what each command comes to, beside the list
 abbrev pub AllCarried : Type 0
 AllCarried =
-    (n : ℕ) (own : Own) (t : Tables) (flat : Flat) (command : Command) → n ≤ 64 → length own.labels + 1 < 2 ^ 56 → is_lookup command ≡ false
+    (n : ℕ) (own : Own) (t : Tables) (flat : Flat) (command : Command) → n ≤ 255 → length own.labels + 1 < 2 ^ 56 → is_lookup command ≡ false
     → Means n own t flat → Carried n t (plan flat.header own command) (step flat n command)
 
 -- all commands refine the list's, where those are carried out so and the list stays sound

@@ -113,7 +113,7 @@ not_listening states.Full h = absurd (cc)
 not_listening states.TimeWait h = absurd (cc)
 not_listening states.Request h = refl
 
-module _ (n : ℕ) (own : Own) (t : Tables) (flat : Flat) (h : Means n own t flat) (near : n ≤ 64) (s : Socket) (at : Listed s.owner.name flat.sockets s) (mine : is_open_in n s ≡ true) where
+module _ (n : ℕ) (own : Own) (t : Tables) (flat : Flat) (h : Means n own t flat) (near : n ≤ 255) (s : Socket) (at : Listed s.owner.name flat.sockets s) (mine : is_open_in n s ≡ true) where
   abbrev name : ℕ
   name = s.owner.name
 

@@ -149,7 +149,7 @@ nobody_named : (name n : ℕ) (groups : List Group) (o : Option Group) → find 
 nobody_named name n groups None e h = refl
 nobody_named name n groups (Some g) e h = each_found (λ g. has_member name g ≡ false) (at_number n) groups g h e
 
-module _ (n : ℕ) (own : Own) (t : Tables) (flat : Flat) (h : Means n own t flat) (few : n ≤ 64) (s : Socket) (extra : ℕ) (place : Place)
+module _ (n : ℕ) (own : Own) (t : Tables) (flat : Flat) (h : Means n own t flat) (few : n ≤ 255) (s : Socket) (extra : ℕ) (place : Place)
     (at : Listed s.owner.name flat.sockets s) (mine : is_open_in n s ≡ true) (stands : StandsAs t.chains (record { owner = s.owner; extra = extra; place = place }) (kind_of s.owner.state)) where
   abbrev m : Mine
   m = record { owner = s.owner; extra = extra; place = place }
@@ -414,7 +414,7 @@ module _ (n : ℕ) (own : Own) (t : Tables) (flat : Flat) (h : Means n own t fla
   pub listen_mine : (s.owner.state ≡ states.Unbound → IsSound (flat_step.bind_search flat n s s.owner.addr).flat) → Carried n t (plan_as s.owner.state) (listen_socket flat n s s.owner.state)
   listen_mine sound = by_state s.owner.state refl sound
 
-module _ (n : ℕ) (own : Own) (t : Tables) (flat : Flat) (h : Means n own t flat) (few : n ≤ 64) where
+module _ (n : ℕ) (own : Own) (t : Tables) (flat : Flat) (h : Means n own t flat) (few : n ≤ 255) where
   -- once a socket that `listen` binds leaves the list sound
   abbrev pub BindsSound : Option Socket → Type 0
   BindsSound o = (s : Socket) → o ≡ Some s → s.owner.state ≡ states.Unbound → IsSound (flat_step.bind_search flat n s s.owner.addr).flat

@@ -72,7 +72,7 @@ none_extra name [] h = refl
 none_extra name (g ∷ groups) h =
     ap (λ o. option_map_or (λ (y : Group). y.number + 1) o 0) (cond-false (has_member name g) (Some g) (find (has_member name) groups) h.0) ∙ none_extra name groups h.1
 
-module _ (n : ℕ) (own : Own) (t : Tables) (flat : Flat) (h : Means n own t flat) (few : n ≤ 64) (s : Socket) (at : Listed s.owner.name flat.sockets s) (mine : is_open_in n s ≡ true)
+module _ (n : ℕ) (own : Own) (t : Tables) (flat : Flat) (h : Means n own t flat) (few : n ≤ 255) (s : Socket) (at : Listed s.owner.name flat.sockets s) (mine : is_open_in n s ≡ true)
     (bound : s.owner.state ≡ states.Bound) (took : Bool) where
   abbrev a : Owner
   a = s.owner

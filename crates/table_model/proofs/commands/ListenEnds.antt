@@ -96,7 +96,7 @@ module _ (flat : Flat) (some : 1 ≤ flat.header.shape.bind) (names : Pairs Name
   at_port_ends : (t : Tables) → OwnersMean t.buckets flat → ComesToEnd t (listen_at shape seed true a)
   at_port_ends t om = by_asked t (may_listen_asked t.buckets flat om some names a.name s at owner)
 
-module _ (n : ℕ) (own : Own) (t : Tables) (flat : Flat) (h : Means n own t flat) (few : n ≤ 64) (m : Mine) (s : Socket) (is : IsOpen n t flat m s) where
+module _ (n : ℕ) (own : Own) (t : Tables) (flat : Flat) (h : Means n own t flat) (few : n ≤ 255) (m : Mine) (s : Socket) (is : IsOpen n t flat m s) where
   bound_ends : (bound : s.owner.state ≡ states.Bound) → Listens n own t flat h few s is.listed is.mine bound false ⊎ Refuses n own t flat h few s is.listed is.mine bound false
       → ComesToEnd t (listen_at flat.header.shape flat.header.seed false s.owner)
   bound_ends bound (inl x) = (record { tables = x.tables; result = done x.result }, x.runs)
@@ -137,7 +137,7 @@ module _ (n : ℕ) (own : Own) (t : Tables) (flat : Flat) (h : Means n own t fla
       (then_replies t (after_search (is_unbound s.owner.state) own) (listen_as flat.header.shape flat.header.seed s.owner.state (record { owner = s.owner; extra = m.extra; place = m.place }) (ports_of own.offsets firsts.Odd))
       (state_ends m.extra m.place s.owner.state refl (ports_of own.offsets firsts.Odd)))
 
-module _ (n : ℕ) (own : Own) (t : Tables) (flat : Flat) (h : Means n own t flat) (few : n ≤ 64) where
+module _ (n : ℕ) (own : Own) (t : Tables) (flat : Flat) (h : Means n own t flat) (few : n ≤ 255) where
   open_ends : (o : Option Mine) → OpenThere n t flat o → ComesToEnd t (listen_command flat.header own o)
   open_ends None there = (_, refl)
   open_ends (Some m) there = mine_ends n own t flat h few m there.0 there.1

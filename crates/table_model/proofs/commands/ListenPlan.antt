@@ -17,7 +17,7 @@ use Rattle.table_model.proofs.parts.OpenSocket.{open_both}
 use Rattle.table_model.proofs.commands.Carried.{Carried}
 use Rattle.table_model.proofs.commands.Listen.{listen_both}
 
-module _ (n : ℕ) (own : Own) (t : Tables) (flat : Flat) (h : Means n own t flat) (few : n ≤ 64) (label : List ℕ) where
+module _ (n : ℕ) (own : Own) (t : Tables) (flat : Flat) (h : Means n own t flat) (few : n ≤ 255) (label : List ℕ) where
   -- as `listen` binds a socket
   bound_sound : (s : Socket) → open_in_list flat n label ≡ Some s → s.owner.state ≡ states.Unbound → IsSound (flat_step.bind_search flat n s s.owner.addr).flat
   bound_sound s is unbound = bind_search_sound flat n s s.owner.addr unbound h.sound (is_open flat n label s is)

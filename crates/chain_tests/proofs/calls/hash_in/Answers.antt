@@ -17,7 +17,7 @@ returns-clause-ready g c =
     let e = c.hash_with-answer.ensures in
     let lent = shares_split (view c.args.pass.now.steps) n c.requires.ready.4 in
     let share = e.share (n + n) (subst (λ (s : Sat). HasShares ((n + n) + 2) s.0) (sym c.walk_to_end.ensures.kept) (subst (λ (s : Sat). HasShares ((n + n) + 2) s.0) (sym (rw c.unwrap-locked.ensures at c.lock.ensures.view)) lent)) in
-    let r = unlocked_ready (view c.hash_with-answer.new.pass.steps) (view c.unlock.new.steps) (n + n) (ap (λ (s : Sat). s.0) c.unlock.ensures.view) e.idle.0 e.idle.1 share in
+    let r = unlocked_ready (view c.hash_with-answer.new.pass.steps) (view c.unlock.new.steps) (n + n) c.unlock.ensures.view.0 (ap (λ (s : Sat). s.0) c.unlock.ensures.view.2) e.idle.0 e.idle.1 share in
     (c.unlock.ensures.table, r.0, r.1, r.2, r.3, omega (arith, c.requires.ready.5, e.len, e.room))
 
 -- a card without a four-tuple of its own is alone

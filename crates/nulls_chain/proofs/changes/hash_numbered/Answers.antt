@@ -1,9 +1,9 @@
-use Rattle.std.proofs.Common.{rules, ◌≡◌, ◌++◌, map, ◌∙◌, ℕ, [], List, sym, ap, refl, arith, subst}
-use Rattle.table_rule.specs.Plays.{Sat, beginning, first_of, settled}
+use Rattle.std.proofs.Common.{rules, ◌≡◌, ◌++◌, map, ◌∙◌, ℕ, [], List, sym, ap, refl, arith, subst, ◌∷◌, append_assoc}
+use Rattle.table_rule.specs.Plays.{Sat, beginning, first_of, settled, sight_at}
 use Rattle.table_rule.specs.declared.view.Sight.{Sight}
 use Rattle.table_rule.specs.declared.view.View.{View}
 use Rattle.shared_slots.specs.Claims.{IsFull, sight_by}
-use Rattle.nulls_chain.proofs.Saw.{saw, saw_none}
+use Rattle.nulls_chain.proofs.Saw.{saw, saw_at, saw_none}
 use Rattle.table_rule.specs.Book.{open-end}
 use Rattle.table_rule.specs.declared.view.Change.{Change}
 use Rattle.table_rule.specs.Owners.{IsPlace}
@@ -54,11 +54,32 @@ returns-in-Ok-clause-saw g c =
     let e : ℕ = c.step_end-end.result in
     let begun = ap (λ (s : Sat). s.0) c.step_begin_hash-begin.ensures.view in
     let low = c.step_begin_hash-begin.ensures.seen in
-    let more : List Sight = map (sight_by (view c.step_begin_hash-begin.new.steps)) t.4.reads in
+    let reads : List Sight = map (sight_by (view c.step_begin_hash-begin.new.steps)) t.4.reads in
+    let more : List Sight = sight_at v b ∷ reads in
     let claimed : (view c.claim.new.steps).sights ≡ settled v.sights b ++ more =
-    ap (λ (s : Sat). s.0.sights) t.5 ∙ (ap (λ (x : View). x.sights) t.4.is ∙ ap (λ (x : View). x.sights ++ more) begun) in
+    ap (λ (s : Sat). s.0.sights) t.5 ∙ (ap (λ (x : View). x.sights) t.4.is ∙ (ap (λ (x : View). x.sights ++ reads) begun ∙ append_assoc (settled v.sights b) (sight_at v b ∷ []) reads)) in
     let linked : (view c.link.new.steps).sights ≡ settled v.sights b ++ more = c.link.ensures.sights ∙ (ap (λ (s : Sat). s.0.sights) c.write_card.ensures.fresh ∙ claimed) in
     saw v (view c.step_end-end.new.steps) b e more low (search rules) (ap (λ (s : Sat). s.0.sights) c.step_end-end.ensures.view ∙ ap (λ (l : List Sight). settled l e) linked)
+
+pub returns-in-Ok-clause-change : goal.returns-in-Ok-clause-change
+returns-in-Ok-clause-change g c =
+    let v = view c.args.steps.now in
+    let t = c.in-Ok.ensures.some in
+    let b : ℕ = c.step_begin_hash-begin.result in
+    let e : ℕ = c.step_end-end.result in
+    let begun = ap (λ (s : Sat). s.0) c.step_begin_hash-begin.ensures.view in
+    let reads : List Sight = map (sight_by (view c.step_begin_hash-begin.new.steps)) t.4.reads in
+    let claimed : (view c.claim.new.steps).sights ≡ settled v.sights b ++ sight_at v b ∷ reads =
+    ap (λ (s : Sat). s.0.sights) t.5 ∙ (ap (λ (x : View). x.sights) t.4.is ∙ (ap (λ (x : View). x.sights ++ reads) begun ∙ append_assoc (settled v.sights b) (sight_at v b ∷ []) reads)) in
+    let linked : (view c.link.new.steps).sights ≡ settled v.sights b ++ sight_at v b ∷ reads = c.link.ensures.sights ∙ (ap (λ (s : Sat). s.0.sights) c.write_card.ensures.fresh ∙ claimed) in (
+      c.step_begin_hash-begin.ensures.seen,
+      search rules,
+      search rules,
+      search rules,
+      search rules,
+      c.step_begin_hash-begin.ensures.above,
+      saw_at v (view c.step_end-end.new.steps) b e reads (search rules) (ap (λ (s : Sat). s.0.sights) c.step_end-end.ensures.view ∙ ap (λ (l : List Sight). settled l e) linked),
+    )
 
 pub returns-in-Err-clause-saw : goal.returns-in-Err-clause-saw
 returns-in-Err-clause-saw g c =

@@ -12,7 +12,7 @@ use Rattle.race_book.specs.Serial.{IsSerial}
 use Rattle.race_book.proofs.Checks.{serial_if, begin_apart_if, stood_if}
 use Rattle.race_record.specs.Lawful.{AreSectionsOf, AreJournalsOf, AreInOrder, IsListed}
 use Rattle.race_record.specs.Worked.{dump_script, dump_race, card_a, hash_a}
-use Rattle.race_record.proofs.Checks.{in_order_if}
+use Rattle.race_record.proofs.Checks.{in_order_if, stands_if}
 use Rattle.race_record.proofs.Listener.{lives}
 use Rattle.race_record.proofs.rows.one_dump.Goals as goal
 
@@ -61,9 +61,14 @@ listed = record {
   order = omega arith;
   ends = omega arith;
   sorted = refl;
+  number = λ b. 2;
+  since = λ b. omega arith;
+  until = λ b. omega arith;
+  ascend = λ b c le. omega arith;
   lives = hash_a ∷ [];
   cards_are = λ f. refl;
   stood = ((lives, stood_if dump_race.book (begin_apart_if dump_race.book refl) hash_a 2 2 refl), tt);
+  stands = (stands_if dump_race.book hash_a 2 refl refl, tt);
   apart = (tt, tt);
   all = λ h l t. elim l.there as (λ _. Among (card_a ∷ []) h.card) [ inl e ↦ inl (ap (λ (x : Change). x.card) e) | inr n ↦ absurd n ];
 }

@@ -10,7 +10,7 @@ use Rattle.table_model.specs.Commands.{plan}
 use Rattle.race_book.specs.Among.{Among}
 use Rattle.race_book.specs.Explained.{at_home, in_bucket}
 use Rattle.race_book.specs.Serial.{IsSerial}
-use Rattle.race_book.proofs.Checks.{serial_if, begin_apart_if, find_if, none_if}
+use Rattle.race_book.proofs.Checks.{serial_if, begin_apart_if, find_if, none_if, stood_if}
 use Rattle.race_record.specs.Lawful.{AreSectionsOf, AreJournalsOf, IsBookOf, AreInOrder, AreAnswered, AreSharesOf}
 use Rattle.race_record.specs.Worked.{handshake_script, handshake_capture, handshake_race, hash_r, hash_child}
 use Rattle.race_record.proofs.Checks.{in_order_if, free_if}
@@ -84,6 +84,13 @@ items = (
     most = omega arith;
     explained = find_if handshake_race.book (begin_apart_if handshake_race.book refl) (at_home handshake_race.shape 0) _ 4 6 hash_r (inr (inl refl)) refl refl refl;
     stages = inl (omega arith, none_if handshake_race.book (in_bucket _ 5) _ 4 6 6 refl);
+    life = record {
+      life = hash_r;
+      is = record { there = inr (inl refl); hash = refl };
+      card_is = refl;
+      stood = stood_if handshake_race.book (begin_apart_if handshake_race.book refl) hash_r 4 6 refl;
+      newest = λ g l slot later. omega (arith, later);
+    };
     bucket = tt;
   },
   (
@@ -94,6 +101,13 @@ items = (
       most = omega arith;
       explained = find_if handshake_race.book (begin_apart_if handshake_race.book refl) (at_home handshake_race.shape 0) _ 6 8 hash_child (inr (inr (inl refl))) refl refl refl;
       stages = inl (omega arith, none_if handshake_race.book (in_bucket _ 5) _ 6 8 6 refl);
+      life = record {
+        life = hash_child;
+        is = record { there = inr (inr (inl refl)); hash = refl };
+        card_is = refl;
+        stood = stood_if handshake_race.book (begin_apart_if handshake_race.book refl) hash_child 6 8 refl;
+        newest = λ g l slot later. omega (arith, later);
+      };
       bucket = tt;
     },
     tt,
@@ -117,7 +131,7 @@ returns c = record {
   book = book;
   serial = serial;
   taken = (tt, (tt, (tt, (tt, (tt, tt)))));
-  given = (tt, (tt, (tt, ((free_if handshake_race.book 2 4 _ refl refl, tt), (tt, tt)))));
+  given = (tt, (tt, (tt, ((free_if handshake_race.book _ refl refl refl, tt), (tt, tt)))));
   slots = (tt, (tt, (tt, (tt, (tt, tt)))));
   counted = λ h. refl;
   dumps = (refl, (refl, (refl, (refl, (refl, tt)))));

@@ -1,4 +1,4 @@
-use Rattle.std.proofs.Common.{◌≡◌, ℕ, [], ◌∷◌, refl, sym, subst, arith, inl, inr}
+use Rattle.std.proofs.Common.{◌≡◌, ℕ, IsTrue, [], ◌∷◌, refl, sym, ap, ◌∙◌, subst, arith, inl, inr}
 use Rattle.list_words.specs.Lists.{Each}
 use Rattle.sock_card.specs.Conflict.{overlap, refuses, agree}
 use Rattle.jhash_words.specs.Jhash.{jhash_1word, jhash_3words, started_mix, final_mix, mixed}
@@ -10,9 +10,12 @@ use Rattle.race_book.specs.Among.{Among}
 use Rattle.race_book.specs.Serial.{IsSerial}
 use Rattle.race_book.proofs.Checks.{serial_if, begin_apart_if, distinct_if, stood_if, none_if}
 use Rattle.race_record.specs.Lawful.{AreSectionsOf, AreJournalsOf, IsBookOf, AreInOrder, AreAnswered, AreSharesOf, IsReceiptOf, WasKept, NoneWasFree, EachFrom, IsLegalJournal}
-use Rattle.race_record.proofs.Checks.{in_order_if, free_if}
+use Rattle.race_record.proofs.Checks.{in_order_if, free_if, stands_if}
 use Rattle.race_book.specs.Explained.{IsExplained, MayEnd, NamesItsBucket, buckets_of, in_bucket}
-use Rattle.race_record.specs.Stages.{IsInStages}
+use Rattle.race_record.specs.Stages.{IsInStages, IsOfItsTime, CanStop}
+use Rattle.race_book.specs.Lives.{IsLife, Throughout, comes_after, is_unhash}
+use Rattle.chain_book.specs.declared.book.Change.{Change}
+use Rattle.std.proofs.lemmas.Bool.{true≢false}
 use Rattle.sock_card.specs.Rank.{rank}
 use Rattle.chain_book.specs.declared.book.PassEnd.{PassEnd}
 use Rattle.chain_book.specs.declared.book.PassEnd.TheVariants as ends
@@ -58,27 +61,19 @@ d_there = inr (inl refl)
 gone_there : Among refused_race.book unhash_d
 gone_there = inr (inr (inl refl))
 
--- the buckets of the packet
+-- the bucket of the packet
 connections : Among (buckets_of refused_race.shape 0 to_d) 0
 unfolding tuple_hash listen_hash jhash_1word jhash_3words started_mix final_mix mixed
 connections = inl refl
 
-listeners : Among (buckets_of refused_race.shape 0 to_d) 1
-unfolding tuple_hash listen_hash jhash_1word jhash_3words started_mix final_mix mixed
-listeners = inr (inl refl)
-
 receipt_of : (r : Receipt) → r.packet ≡ to_d → r.seed ≡ 0 → r.t0 ≤ r.t1 → r.t1 ≤ 7 → IsExplained (Among refused_race.book) refused_race.shape r
-    → IsInStages (Among refused_race.book) refused_race.shape 0 to_d r.t0 r.t1 r.answer → NamesItsBucket refused_race.shape 0 to_d r.answer → IsReceiptOf (Among refused_race.book) refused_race.shape 0 7 to_d r
-receipt_of r p s o m e g b = record { packet_is = p; seed_is = s; order = o; most = m; explained = e; stages = g; bucket = b }
+    → IsInStages (Among refused_race.book) refused_race.shape 0 to_d r.t0 r.t1 r.answer → IsOfItsTime (Among refused_race.book) r.t0 r.t1 r.answer → NamesItsBucket refused_race.shape 0 to_d r.answer → IsReceiptOf (Among refused_race.book) refused_race.shape 0 7 to_d r
+receipt_of r p s o m e g l b = record { packet_is = p; seed_is = s; order = o; most = m; explained = e; stages = g; life = l; bucket = b }
 
--- its first chain, and its second
+-- its first chain
 first_chain : packet_home refused_race.shape 0 to_d ≡ 0
 unfolding tuple_hash jhash_3words started_mix final_mix mixed
 first_chain = refl
-
-second_chain : listen_home refused_race.shape 0 to_d.dst to_d.dport to_d.net ≡ 1
-unfolding listen_hash jhash_1word started_mix final_mix mixed
-second_chain = refl
 
 abbrev Ends : ℕ → ℕ → ℕ → PassEnd → Type 0
 Ends bucket t0 t1 end = MayEnd (Among refused_race.book) 2 bucket t0 t1 end
@@ -87,52 +82,42 @@ abbrev Staged : ℕ → ℕ → ℕ → PassEnd → Type 0
 Staged bucket t0 t1 end = IsInStages (Among refused_race.book) refused_race.shape 0 to_d t0 t1 (found.Again bucket end)
 
 -- given up in the first
-at_first : (t0 t1 : ℕ) (end : PassEnd) → Ends 0 t0 t1 end → Staged 0 t0 t1 end
-at_first t0 t1 end m = inl (sym first_chain, subst (λ (b : ℕ). Ends b t0 t1 end) (sym first_chain) m)
-
--- in the second, after the first had nothing
-at_second : Ends 1 1 3 (ends.Foreign 0) → Staged 1 1 3 (ends.Foreign 0)
-unfolding rank
-at_second m = inr (
-  1,
-  omega arith,
-  omega arith,
-  none_if refused_race.book (in_bucket _ 5) _ 1 1 5 refl,
-  inl (sym second_chain, subst (λ (b : ℕ). Ends b 1 3 (ends.Foreign 0)) (sym second_chain) m),
-)
+at_first : (t0 t1 : ℕ) (end : PassEnd) → Ends 0 t0 t1 end → CanStop (Among refused_race.book) 0 t0 t1 end → Staged 0 t0 t1 end
+at_first t0 t1 end m c = inl (sym first_chain, subst (λ (b : ℕ). Ends b t0 t1 end) (sym first_chain) m, subst (λ (b : ℕ). CanStop (Among refused_race.book) b t0 t1 end) (sym first_chain) c)
 
 dead : Ends 0 4 5 (ends.Dead 1)
 dead = record { change = unhash_d; there = gone_there; sort = refl; meets = record { begun = omega arith; lasting = omega arith } }
 
-foreign : Ends 1 1 3 (ends.Foreign 0)
-foreign = (λ e. absurd (omega (arith, e)), record { change = hash_d; there = d_there; sort = (refl, refl); meets = record { begun = omega arith; lasting = omega arith } })
+-- the one card that stood in the slot began to leave as the lookup began
+none_stayed : (h : Change) → IsLife (Among refused_race.book) h → h.slot ≡ 1 → ¬ (Throughout (Among refused_race.book) h 4 5)
+none_stayed h l s t = elim l.there as (λ _. ⊥) [
+  | inl e ↦ omega (arith, s, ap (λ (x : Change). x.slot) e)
+  | inr b ↦ elim b as (λ _. ⊥) [
+    | inl e ↦ let u = t.still unhash_d gone_there (subst (λ (x : Change). IsTrue (comes_after x unhash_d)) (sym e) refl) in omega (arith, u)
+    | inr d ↦ elim d as (λ _. ⊥) [
+      | inl e ↦ true≢false (sym (ap is_unhash (sym l.hash ∙ ap (λ (x : Change). x.act) e)))
+      | inr n ↦ n
+    ]
+  ]
+]
 
-changed : Ends 0 2 5 (ends.Changed 1)
-changed = record { change = unhash_d; there = gone_there; sort = refl; meets = record { begun = omega arith; lasting = omega arith } }
-
-long : Ends 0 1 3 (ends.Long 3)
-long = (refl, record { change = hash_d; there = d_there; sort = refl; meets = record { begun = omega arith; lasting = omega arith } })
+cause : CanStop (Among refused_race.book) 0 4 5 (ends.Dead 1)
+cause = (
+  inl record { life = hash_d; is = record { there = d_there; hash = refl }; bucket_is = refl; slot_is = refl; stood = stood_if refused_race.book (begin_apart_if refused_race.book refl) hash_d 4 5 refl },
+  none_stayed,
+)
 
 items : AreAnswered (Among refused_race.book) refused_race.shape 0 7 refused_capture.items refused_race.looked
 items = (
-  receipt_of _ refl refl (omega arith) (omega arith) dead (at_first 4 5 (ends.Dead 1) dead) connections,
-  (
-    receipt_of _ refl refl (omega arith) (omega arith) foreign (at_second foreign) listeners,
-    (
-      receipt_of _ refl refl (omega arith) (omega arith) changed (at_first 2 5 (ends.Changed 1) changed) connections,
-      (receipt_of _ refl refl (omega arith) (omega arith) long (at_first 1 3 (ends.Long 3) long) connections, (tt, tt)),
-    ),
-  ),
+  receipt_of _ refl refl (omega arith) (omega arith) dead (at_first 4 5 (ends.Dead 1) dead cause) tt connections,
+  (tt, tt),
 )
 
 shares : AreSharesOf refused_race
 shares = record {
   count = refl;
   each_once = λ f. omega arith;
-  turns = (
-    record { ascend = ((omega arith, tt), (tt, tt)); turns = ((tt, tt), (tt, tt)) },
-    (record { ascend = (tt, tt); turns = (tt, tt) }, (record { ascend = (tt, tt); turns = (tt, tt) }, (record { ascend = (tt, tt); turns = (tt, tt) }, tt))),
-  );
+  turns = (record { ascend = ((omega arith, tt), (tt, tt)); turns = ((tt, tt), (tt, tt)) }, tt);
 }
 
 kept : WasKept (Among refused_race.book) 2 4 (record { wish = wished owner_b; name = name_at 1 0 })
@@ -141,10 +126,13 @@ kept = record {
   is = record { there = a_there; hash = refl };
   name = refl;
   keeps = refl;
-  stood = stood_if refused_race.book (begin_apart_if refused_race.book refl) hash_a 2 4 refl;
+  number = 2;
+  since = omega arith;
+  until = omega arith;
+  stands = stands_if refused_race.book hash_a 2 refl refl;
 }
 
-used : NoneWasFree (Among refused_race.book) 6 7 2 4 refused_race.sightings (record { number = 6; owned = 1; held = 1 })
+used : NoneWasFree (Among refused_race.book) 6 7 2 1 refused_race.sightings (record { number = 6; owned = 1; held = 1 })
 used = record {
   owned = 0 ∷ [];
   held = 1 ∷ [];
@@ -168,7 +156,7 @@ returns c = record {
   book = book;
   serial = serial;
   taken = (tt, (tt, (tt, (tt, (tt, (tt, (tt, (tt, (tt, ((kept, tt), (tt, (tt, (tt, tt)))))))))))));
-  given = (tt, (tt, ((free_if refused_race.book 0 2 _ refl refl, tt), (tt, (tt, ((free_if refused_race.book 2 4 _ refl refl, tt), (tt, (tt, (tt, (tt, (tt, (tt, (tt, tt)))))))))))));
+  given = (tt, (tt, ((free_if refused_race.book _ refl refl refl, tt), (tt, (tt, ((free_if refused_race.book _ refl refl refl, tt), (tt, (tt, (tt, (tt, (tt, (tt, (tt, tt)))))))))))));
   slots = (tt, (tt, (tt, (tt, (tt, (tt, (tt, (tt, (tt, (tt, (tt, (tt, ((used, tt), tt)))))))))))));
   counted = λ h. absurd h.0;
   dumps = (refl, (refl, (refl, (refl, (refl, (refl, (refl, (refl, (refl, (refl, (refl, (refl, (refl, tt)))))))))))));

@@ -4,10 +4,13 @@ use Rattle.jhash_words.specs.Jhash.{jhash_1word, jhash_3words, started_mix, fina
 use Rattle.jhash_words.specs.Places.{tuple_hash, listen_hash}
 use Rattle.sock_card.specs.Rank.{rank}
 use Rattle.chain_book.specs.declared.book.Change.{Change}
-use Rattle.chain_book.specs.Homes.{home, packet_home}
+use Rattle.chain_book.specs.Homes.{home, packet_home, listen_home}
 use Rattle.race_book.specs.Among.{Among}
 use Rattle.race_book.specs.Explained.{IsAtHome, IsOfSlot, MeetsSome, buckets_of}
-use Rattle.race_book.specs.Lives.{Throughout, comes_after}
+use Rattle.race_book.specs.Lives.{Throughout, comes_after, is_hash}
+use Rattle.sock_card.specs.declared.card.Card.{Card}
+use Rattle.race_record.specs.Stages.{LedAstray, StoodThere}
+use Rattle.race_record.specs.Wrong.{hash_late_b}
 use Rattle.race_record.specs.Worked.{first_race, handshake_race, hash_a, hash_r, packet}
 use Rattle.race_record.proofs.Listener.{lives, stays}
 use Rattle.race_record.proofs.rows.wrong_lookups.Goals as goal
@@ -47,6 +50,52 @@ not_there a = elim a as (λ _. ⊥) [
 
 pub returns-clause-bucket : goal.returns-clause-bucket
 returns-clause-bucket c l = not_there (subst (λ (bs : List ℕ). Among bs 2) its_buckets l.items.0.bucket)
+
+-- its chains, in the tables of the listener
+full_chain : packet_home first_race.shape 0 (packet 0x0A000001 80) ≡ 0
+unfolding tuple_hash jhash_3words started_mix final_mix mixed
+full_chain = refl
+
+listen_chain : listen_home first_race.shape 0 0x0A000001 80 0 ≡ 1
+unfolding listen_hash jhash_1word started_mix final_mix mixed
+listen_chain = refl
+
+any_chain : listen_home first_race.shape 0 0 80 0 ≡ 1
+unfolding listen_hash jhash_1word started_mix final_mix mixed
+any_chain = refl
+
+-- nothing was unhashed
+none_astray : (bucket t0 t1 : ℕ) → LedAstray (Among first_race.book) bucket t0 t1 → ⊥
+none_astray bucket t0 t1 s = elim s.ends.there as (λ _. ⊥) [ inl e ↦ true≢false (sym s.ends.after ∙ ap (comes_after s.life) e) | inr n ↦ n ]
+
+-- the listener is in another chain
+none_there : (t0 t1 : ℕ) → StoodThere (Among first_race.book) 0 0 t0 t1 → ⊥
+none_there t0 t1 s = elim s.is.there as (λ _. ⊥) [ inl e ↦ omega (arith, s.bucket_is, ap (λ (x : Change). x.bucket) e) | inr n ↦ n ]
+
+pub returns-clause-dead : goal.returns-clause-dead
+returns-clause-dead c l = ⊎_elim
+    (λ gave. ⊎_elim (λ z. none_there 0 1 (subst (λ (b : ℕ). StoodThere (Among first_race.book) b 0 0 1) full_chain z)) (none_astray _ 0 1) gave.2.0)
+    (λ late. ⊎_elim (λ gave. omega (arith, gave.0, listen_chain)) (λ last. omega (arith, last.4.0, any_chain)) late.4)
+    l.items.0.stages
+
+pub returns-clause-strayed : goal.returns-clause-strayed
+returns-clause-strayed c l = ⊎_elim
+    (λ gave. none_astray _ 0 2 gave.2)
+    (λ late. ⊎_elim (λ gave. none_astray _ late.0 2 gave.2) (λ last. none_astray _ last.0 2 last.4.2) late.4)
+    l.items.0.stages
+
+-- what was found too late is the listener, and the connection's hash had ended
+pub returns-clause-slot : goal.returns-clause-slot
+returns-clause-slot c l = let f = l.items.0.life in elim f.is.there as (λ _. ⊥) [
+  | inl e ↦ let z = f.newest hash_late_b (record { there = inr (inl refl); hash = refl }) (sym (ap (λ (x : Change). x.slot) e)) (omega (arith, ap (λ (x : Change). x.end) e)) in omega (arith, z)
+  | inr b ↦ elim b as (λ _. ⊥) [
+    | inl e ↦ omega (arith, ap (λ (k : Card). k.lport) (sym f.card_is ∙ ap (λ (x : Change). x.card) e))
+    | inr d ↦ elim d as (λ _. ⊥) [
+      | inl e ↦ true≢false (sym (ap is_hash f.is.hash) ∙ ap (λ (x : Change). is_hash x.act) e)
+      | inr n ↦ n
+    ]
+  ]
+]
 
 request_home : IsAtHome handshake_race.shape 0 hash_r
 unfolding home tuple_hash jhash_3words started_mix final_mix mixed

@@ -1,4 +1,4 @@
-use Rattle.std.proofs.Common.{◌≡◌, ℕ, ◌≤◌, IsTrue, ◌==◌, ◌&&◌, true, nat_lt, List, [], ◌∷◌, length, refl, sym, ap, ◌∙◌, subst, arith, inl, inr}
+use Rattle.std.proofs.Common.{◌≡◌, ℕ, ◌≤◌, ◌<◌, IsTrue, ◌==◌, ◌&&◌, true, nat_lt, List, [], ◌∷◌, length, refl, sym, ap, ◌∙◌, subst, arith, inl, inr}
 use Rattle.std.proofs.lemmas.Bool.{true≢false}
 use Rattle.list_words.specs.Lists.{Each}
 use Rattle.sock_card.specs.declared.card.Card.{Card}
@@ -18,7 +18,9 @@ use Rattle.race_record.specs.Deeds.{entered}
 use Rattle.race_record.specs.Lawful.{WasOwned}
 use Rattle.race_record.specs.Worked.{first_bind, card_a, card_e, hash_a, handshake_script}
 use Rattle.race_record.specs.Refused as refused
-use Rattle.race_record.specs.Wrong.{twice_script, second_bind, twins_race, twin_b, kept_race, hash_w, drop_race, unhash_other, gone_race, unhash_gone, unhash_early}
+use Rattle.race_record.specs.Worked as worked
+use Rattle.race_record.proofs.Checks.{stands_if}
+use Rattle.race_record.specs.Wrong.{twice_script, second_bind, twins_race, twin_b, kept_race, hash_w, waiting_race, soon_race, drop_race, unhash_other, gone_race, unhash_gone, unhash_early}
 use Rattle.race_record.proofs.HashedFirst.{ack_hashes_first}
 use Rattle.race_record.proofs.rows.wrong_races.Goals as goal
 
@@ -76,14 +78,14 @@ not_hers o = elim o.is.there as (λ _. ⊥) [
 ]
 
 -- the TIME_WAIT stays
-stays_kept : (u : Change) → Among kept_race.book u → IsTrue (comes_after hash_w u) → 8 ≤ u.begin
-stays_kept u a t = elim a as (λ _. 8 ≤ u.begin) [
+stays_kept : (u : Change) → Among kept_race.book u → IsTrue (comes_after hash_w u) → 6 ≤ u.begin
+stays_kept u a t = elim a as (λ _. 6 ≤ u.begin) [
   | inl e ↦ absurd (true≢false (sym t ∙ ap (comes_after hash_w) e))
-  | inr r ↦ elim r as (λ _. 8 ≤ u.begin) [
+  | inr r ↦ elim r as (λ _. 6 ≤ u.begin) [
     | inl e ↦ absurd (true≢false (sym t ∙ ap (comes_after hash_w) e))
-    | inr s ↦ elim s as (λ _. 8 ≤ u.begin) [
+    | inr s ↦ elim s as (λ _. 6 ≤ u.begin) [
       | inl e ↦ absurd (true≢false (sym t ∙ ap (comes_after hash_w) e))
-      | inr q ↦ elim q as (λ _. 8 ≤ u.begin) [
+      | inr q ↦ elim q as (λ _. 6 ≤ u.begin) [
         | inl e ↦ absurd (true≢false (sym t ∙ ap (comes_after hash_w) e))
         | inr n ↦ absurd n
       ]
@@ -94,6 +96,21 @@ stays_kept u a t = elim a as (λ _. 8 ≤ u.begin) [
 pub returns-clause-kept : goal.returns-clause-kept
 returns-clause-kept c l =
     l.given.1.1.1.1.1.1.0.0.unkept hash_w (record { there = inr (inl refl); hash = refl }) refl refl (record { before = omega arith; still = stays_kept })
+
+-- its TIME_WAIT stands as the newcomer's hash begins
+pub returns-clause-waiting : goal.returns-clause-waiting
+returns-clause-waiting c l =
+    l.given.1.1.1.1.1.0.0.unwaited refl worked.hash_w (record { there = inr (inr (inl refl)); hash = refl }) refl refl
+    (stands_if waiting_race.book worked.hash_w worked.hash_d.begin refl refl)
+
+-- nobody stood so soon
+kept_later : (life : Change) → Among soon_race.book life → life.end < 1 → ⊥
+kept_later life a early = elim a as (λ _. ⊥) [ inl e ↦ omega (arith, early, ap (λ (x : Change). x.end) e) | inr n ↦ n ]
+
+pub returns-clause-soon : goal.returns-clause-soon
+returns-clause-soon c l =
+    let w = l.taken.1.1.1.1.1.0.0 in
+    kept_later w.life w.is.there (let before = w.stands.before in omega (arith, before, w.until))
 
 pub returns-clause-held : goal.returns-clause-held
 returns-clause-held c l = omega (arith, l.counted tt)

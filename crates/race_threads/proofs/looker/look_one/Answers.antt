@@ -5,6 +5,7 @@ use Rattle.shared_demux.specs.Concludes.{whole_to}
 use Rattle.table_rule.specs.Calls.{layout_of, me}
 use Rattle.table_rule.specs.Plays.{Sat}
 use Rattle.table_rule.specs.declared.view.Layout.{Layout}
+use Rattle.race_threads.proofs.Holding.{held_then}
 use Rattle.race_threads.proofs.Looked.{names_bucket}
 use Rattle.race_threads.proofs.Searching.{went}
 use Rattle.race_threads.proofs.Staging.{went_in_stages}
@@ -25,6 +26,7 @@ returns-clause-up g c header is =
     let named = names_bucket slots groups layout packet c.args.passes old c.args.group_passes.now c.look_packet-end.new.group_passes look.end look.t0 whole new e.order in
     let ways = went layout packet c.args.passes old slots groups c.args.group_passes.now c.look_packet-end.new.group_passes look.end look.t0 whole new e.order in
     let staged = went_in_stages layout packet c.args.passes slots groups old c.args.group_passes.now c.look_packet-end.new.group_passes look.end look.t0 whole new e.order in
+    let held = held_then layout packet c.args.passes slots groups old c.args.group_passes.now c.look_packet-end.new.group_passes look.end look.t0 whole new e.order in
     record {
       concluded = e.concluded;
       packet_is = refl;
@@ -37,4 +39,5 @@ returns-clause-up g c header is =
       searched = ways.1;
       after = ways.2;
       stages = subst (λ (l : Layout). WentInStages new.0.read.receipts l.shape l.seed packet look.t0 look.t1 look.end) is staged;
+      held = held;
     }

@@ -26,7 +26,7 @@ loop-command-init g c =
     record {
       running = record {
         section = subst (λ (x : Kept). IsSection t x w) (sym is)
-            (c.section_comes_next.ensures t c.args.header.now c.args.n w c.requires.tables sole.ready c.requires.number (λ some. absurd (some sole.turns.0)) c.requires.unspoken);
+            (c.section_comes_next.ensures t c.args.header.now c.args.n w c.requires.tables sole.ready (omega (arith, c.requires.number)) (λ some. absurd (some sole.turns.0)) c.requires.unspoken);
         sole = sole;
       };
       labels = omega (arith, labels);

@@ -1,4 +1,4 @@
-use Rattle.std.proofs.Common.{◌≡◌, ◌+◌, ℕ, ap, refl}
+use Rattle.std.proofs.Common.{◌≡◌, ◌+◌, ℕ, ap, refl, arith}
 use Rattle.chain_book.specs.declared.shape.Shape.{Shape}
 use Rattle.table_rule.specs.Calls.{layout_of, view}
 use Rattle.table_rule.specs.Passes.{known}
@@ -20,7 +20,7 @@ returns-clause-saw g c =
     let count : ℕ = c.args.shape.now.hash + c.args.shape.now.listen in
     let all : count ≡ bucket_count (layout_of c.args.chains.now) = ap (λ (s : Shape). s.hash + s.listen) c.requires.shape in
     let dump : Dump = record { items = c.list_buckets.new.items; t0 = c.step_clock-t0.result; t1 = c.step_clock-t1.result } in
-    saw_all v u w x c.step_clock-t0.result c.step_clock-t1.result first last (layout_of c.args.chains.now) count all c.new-items.result.items c.list_buckets.new.items.items c.new-items.ensures.items c.in_ok-list_buckets.ensures.lists dump refl refl refl
+    saw_all v u w x c.step_clock-t0.result c.step_clock-t1.result first last (layout_of c.args.chains.now) count all c.new-items.result.items c.list_buckets.new.items.items c.new-items.ensures.items c.in_ok-list_buckets.ensures.lists dump refl refl refl (let seen0 : u.seen ≡ c.step_clock-t0.result = ap (λ (y : View). y.seen) first in omega (arith, c.step_clock-t1.ensures.seen, c.list_buckets.ensures.seen, seen0))
 
 pub returns-clause-own : goal.returns-clause-own
 returns-clause-own g c = λ parts.

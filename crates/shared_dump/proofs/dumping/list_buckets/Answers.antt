@@ -26,7 +26,7 @@ loop-bucket-preserved g c =
     record {
       table = e.table;
       free = ap (λ (x : View). x.chain.locked) e.lists.saw;
-      keeps = keeps_seen v u w c.loop-bucket.bucket e.lists.chain i.keeps e.lists.saw;
+      keeps = keeps_seen v u w c.loop-bucket.bucket e.lists.row i.keeps e.lists.saw;
       seen = ap (λ (x : View). x.seen) e.lists.saw ∙ i.seen;
       lists = lists_more c.loop-bucket.bucket c.args.items.now.items c.reserve.new.self.items c.list_bucket.new.items.items v u w i.keeps i.seen
           (subst (λ (x : List Card). ListsAll c.loop-bucket.bucket c.args.items.now.items x v u) (sym {A = List Card} c.reserve.ensures.items) i.lists) e.lists;

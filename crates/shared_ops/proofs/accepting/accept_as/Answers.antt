@@ -20,7 +20,6 @@ use Rattle.shared_ops.proofs.Goes.{asked_all, begun_not}
 use Rattle.shared_ops.proofs.Inserted.{drawn_four}
 use Rattle.shared_ops.proofs.ConnectGoes.{all_none, hashed_at, stands_still}
 use Rattle.shared_ops.proofs.AcceptGoes.{child_entry, accept_done, accept_refused, child_stands, parent_stands}
-use Rattle.shared_ops.proofs.Lists.{made_none, made_more, given_spares, ended_spares}
 use Rattle.shared_ops.proofs.accepting.accept_as.Goals as goal
 
 pub returns-in-Ok-clause-carried : goal.returns-in-Ok-clause-carried
@@ -114,24 +113,6 @@ returns-in-Err-clause-listener g c =
     let gave = all_none turn.place v w (asked_all turn.place turn.place [] v w (made c.begin_with.new.worker.turns turn) refl made_is (c.give.ensures.gave v c.in_ok-turn.ensures.within)) in
     stands_still l (owner_key l % buckets_of c.args.tables.now) v w gave c.requires.stands
 
-pub returns-in-Ok-clause-spares : goal.returns-in-Ok-clause-spares
-returns-in-Ok-clause-spares g c =
-    let v = turned c.args.worker.now in
-    let within = c.in_ok-turn.ensures.within in
-    let none = made_none (made c.begin_with.new.worker.turns c.in_ok-turn.turn) c.in_ok-turn.ensures.none in
-    let asks = c.inherit.ensures.asks in
-    let p = c.begin_with.new.worker.turns in
-    let q = c.inherit.new.pass in
-    ended_spares c.inherit.new.turn.place (entries_of (made q c.inherit.new.turn)) c.in-Ok.came.replaced v (known c.end_turn.new.pass) (c.end_turn.ensures.gave v (asks.within v within))
-    (made_more c.args.tables.now.buckets p c.in_ok-turn.turn q c.inherit.new.turn _ _ asks none tt)
-
-pub returns-in-Err-clause-spares : goal.returns-in-Err-clause-spares
-returns-in-Err-clause-spares g c =
-    let v = turned c.args.worker.now in
-    let within = c.in_ok-turn.ensures.within in
-    let none = made_none (made c.begin_with.new.worker.turns c.in_ok-turn.turn) c.in_ok-turn.ensures.none in
-    given_spares c.in_ok-turn.turn.place v (known c.give.new.pass) (made c.begin_with.new.worker.turns c.in_ok-turn.turn) (c.give.ensures.gave v within) none
-
 pub returns-in_err-turn-clause-carried : goal.returns-in_err-turn-clause-carried
 returns-in_err-turn-clause-carried g c =
     let a : Owner = c.args.child in
@@ -139,5 +120,5 @@ returns-in_err-turn-clause-carried g c =
     let s = t.chains.layout in
     let old = c.args.worker.now in
     let new = c.begin_with.new.worker in
-    begun_not done refused (buckets_of t) a.name (plans.accept_as s.shape s.seed c.args.listener.now a) (turned old) (turned new) (side_of t.chains old.chain) (side_of t.chains new.chain) _ c.from_residual.result
+    begun_not done refused (buckets_of t) (plans.accept_as s.shape s.seed c.args.listener.now a) (turned old) (turned new) (side_of t.chains old.chain) (side_of t.chains new.chain) _ c.from_residual.result
     c.from_residual.ensures.1 c.begin_with.ensures.side tt c.in_err-turn.ensures.nothing

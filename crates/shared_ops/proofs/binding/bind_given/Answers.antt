@@ -1,4 +1,4 @@
-use Rattle.std.proofs.Common.{◌%◌, ◌∷◌, ◌++◌, [], List, IfOk, OnErr, ap, sym, subst, ◌∙◌}
+use Rattle.std.proofs.Common.{◌%◌, ◌∷◌, ◌++◌, [], List, ap, refl, sym, subst, ◌∙◌}
 use Rattle.sock_card.specs.Conflict.{bind_key}
 use Rattle.turn_table.specs.Passes as words
 use Rattle.turn_table.specs.Passes.{known}
@@ -7,18 +7,15 @@ use Rattle.bind_buckets.specs.declared.request.Request.TheVariants as requests
 use Rattle.bind_buckets.specs.Notes.{Note}
 use Rattle.bind_buckets.specs.Bucket.{entries_of}
 use Rattle.bind_buckets.specs.Answers.{answer_of_bind}
-use Rattle.bind_buckets.specs.OwnTold.{StandsOwn}
 use Rattle.bind_buckets.specs.Turned.{Gave, OneAsked, made}
 use Rattle.flat_list.specs.Owned.{bound_at}
 use Rattle.port_search.proofs.TurnSearch.{gave_none, one_asked, nothing_made}
 use Rattle.table_model.specs.Asking.{asks}
 use Rattle.table_model.specs.Operations.{refused, bind_answered}
 use Rattle.shared_ops.specs.Binding.{bound_to}
-use Rattle.shared_ops.specs.Goes.{CarriedOut}
-use Rattle.shared_ops.specs.Stands.{IsAway}
-use Rattle.shared_ops.proofs.BindGoes.{given_goes, given_stands, given_kept, left_at_once}
-use Rattle.shared_ops.proofs.Knows.{away_on}
-use Rattle.shared_ops.proofs.Lists.{given_spares, made_more, made_none}
+use Rattle.shared_ops.specs.Goes.{Carried}
+use Rattle.shared_ops.proofs.BindGoes.{given_goes}
+use Rattle.shared_ops.proofs.Goes.{stops_nowhere}
 use Rattle.shared_ops.proofs.binding.bind_given.Goals as goal
 
 pub returns-in-Ok-clause-carried : goal.returns-in-Ok-clause-carried
@@ -35,67 +32,20 @@ returns-in-Ok-clause-carried g c = λ s.
     let place = asks_it.place ∙ (c.reserve.ensures.place ∙ c.in-Some.ensures.place) ∙ ap (λ k. k % n) c.bind_key-key.ensures in
     let o = subst (λ (b : Owner). OneAsked (bind_key end.port a.net % n) (requests.Bind b) (answer_of_bind r) v w) c.bound_at-bound_owner.ensures
     (one_asked _ _ _ _ v w _ place made (c.give.ensures.gave v (asks_it.within v c.in-Some.ensures.within))) in
-    subst (CarriedOut {X = Unit {0}} (λ _. bound_to a end.addr end.port) refused n a.name (asks (bind_key end.port a.net) (requests.Bind (bound_at a end.addr end.port)) (bind_answered a end)) v w s s) (sym c.end_of_bind.ensures)
+    subst (Carried {X = Unit {0}} (λ _. bound_to a end.addr end.port) refused n (asks (bind_key end.port a.net) (requests.Bind (bound_at a end.addr end.port)) (bind_answered a end)) v w s s) (sym c.end_of_bind.ensures)
     (given_goes n a v w end r s o)
-
-pub returns-in-Ok-clause-stands : goal.returns-in-Ok-clause-stands
-returns-in-Ok-clause-stands g c = λ away.
-    let v = known c.args.pass.now in
-    let w = known c.give.new.pass in
-    let n = words.places c.args.buckets.now in
-    let a = c.args.owner in
-    let end = c.args.end in
-    let r = c.bind-bound.result in
-    let asks_it = c.bind-bound.ensures.asks in
-    let none = c.reserve.ensures.made ∙ c.in-Some.ensures.none in
-    let made = asks_it.made_is ∙ ap (λ (ms : List Note). entries_of ms ++ record { request = requests.Bind c.bound_at-bound_owner.result; answer = answer_of_bind r } ∷ []) none in
-    let place = asks_it.place ∙ (c.reserve.ensures.place ∙ c.in-Some.ensures.place) ∙ ap (λ k. k % n) c.bind_key-key.ensures in
-    let o = subst (λ (b : Owner). OneAsked (bind_key end.port a.net % n) (requests.Bind b) (answer_of_bind r) v w) c.bound_at-bound_owner.ensures
-    (one_asked _ _ _ _ v w _ place made (c.give.ensures.gave v (asks_it.within v c.in-Some.ensures.within))) in
-    subst (λ q. IfOk q (λ _. StandsOwn (bound_at a end.addr end.port) (bind_key end.port a.net % n) w)) (sym c.end_of_bind.ensures) (given_stands n a v w end r o away)
-
-pub returns-in-Ok-clause-kept : goal.returns-in-Ok-clause-kept
-returns-in-Ok-clause-kept g c = λ away.
-    let v = known c.args.pass.now in
-    let w = known c.give.new.pass in
-    let n = words.places c.args.buckets.now in
-    let a = c.args.owner in
-    let end = c.args.end in
-    let r = c.bind-bound.result in
-    let asks_it = c.bind-bound.ensures.asks in
-    let none = c.reserve.ensures.made ∙ c.in-Some.ensures.none in
-    let made = asks_it.made_is ∙ ap (λ (ms : List Note). entries_of ms ++ record { request = requests.Bind c.bound_at-bound_owner.result; answer = answer_of_bind r } ∷ []) none in
-    let place = asks_it.place ∙ (c.reserve.ensures.place ∙ c.in-Some.ensures.place) ∙ ap (λ k. k % n) c.bind_key-key.ensures in
-    let o = subst (λ (b : Owner). OneAsked (bind_key end.port a.net % n) (requests.Bind b) (answer_of_bind r) v w) c.bound_at-bound_owner.ensures
-    (one_asked _ _ _ _ v w _ place made (c.give.ensures.gave v (asks_it.within v c.in-Some.ensures.within))) in
-    subst (λ q. OnErr q (IsAway a.name w)) (sym c.end_of_bind.ensures) (given_kept n a v w end r o away)
 
 pub returns-in-Err-clause-carried : goal.returns-in-Err-clause-carried
 returns-in-Err-clause-carried g c = λ s.
     let a = c.args.owner in
     let end = c.args.end in
-    left_at_once (words.places c.args.buckets.now) a.name (asks (bind_key end.port a.net) (requests.Bind (bound_at a end.addr end.port)) (bind_answered a end)) (known c.args.pass.now) (known c.give-in-Err.new.pass) s tt
+    stops_nowhere (words.places c.args.buckets.now) (asks (bind_key end.port a.net) (requests.Bind (bound_at a end.addr end.port)) (bind_answered a end)) (known c.args.pass.now) (known c.give-in-Err.new.pass) s s refl tt
     (nothing_made _ _ _ _ (c.reserve.ensures.made ∙ c.in-Some.ensures.none) (c.give-in-Err.ensures.gave (known c.args.pass.now) c.in-Some.ensures.within))
-
-pub returns-in-Err-clause-kept : goal.returns-in-Err-clause-kept
-returns-in-Err-clause-kept g c = λ away.
-    away_on c.args.owner.name (known c.args.pass.now) (known c.give-in-Err.new.pass) [] away
-    (nothing_made _ _ _ _ (c.reserve.ensures.made ∙ c.in-Some.ensures.none) (c.give-in-Err.ensures.gave (known c.args.pass.now) c.in-Some.ensures.within)) tt
 
 pub returns-in_default-clause-carried : goal.returns-in_default-clause-carried
 returns-in_default-clause-carried g c = λ s.
     let a = c.args.owner in
     let end = c.args.end in
     let v = known c.args.pass.now in
-    left_at_once (words.places c.args.buckets.now) a.name (asks (bind_key end.port a.net) (requests.Bind (bound_at a end.addr end.port)) (bind_answered a end)) v (known c.take.new.pass) s tt
+    stops_nowhere (words.places c.args.buckets.now) (asks (bind_key end.port a.net) (requests.Bind (bound_at a end.addr end.port)) (bind_answered a end)) v (known c.take.new.pass) s s refl tt
     (subst (λ w. Gave v w []) (sym c.in_default.ensures.same) (gave_none v))
-
-pub returns-in-Ok-clause-spares : goal.returns-in-Ok-clause-spares
-returns-in-Ok-clause-spares g c =
-    let v = known c.args.pass.now in
-    let asks_it = c.bind-bound.ensures.asks in
-    let t = c.args.buckets.now in
-    let p = c.take.new.pass in
-    let q = c.bind-bound.new.pass in
-    given_spares c.bind-bound.new.turn.place v (known c.give.new.pass) (made q c.bind-bound.new.turn) (c.give.ensures.gave v (asks_it.within v c.in-Some.ensures.within))
-    (made_more t p c.reserve.new.turn q c.bind-bound.new.turn _ _ asks_it (made_none (made p c.reserve.new.turn) (c.reserve.ensures.made ∙ c.in-Some.ensures.none)) tt)

@@ -1,20 +1,15 @@
-use Rattle.std.proofs.Common.{◌≡◌, ◌%◌, Err, IfOk, IfErr, OnErr, sym, subst}
-use Rattle.sock_card.specs.Conflict.{bind_key}
+use Rattle.std.proofs.Common.{◌≡◌, Err, IfOk, IfErr, sym, subst}
 use Rattle.turn_table.specs.Passes as words
 use Rattle.turn_table.specs.Passes.{known}
 use Rattle.sock_card.specs.declared.owner.Owner.{Owner}
-use Rattle.bind_buckets.specs.OwnTold.{StandsOwn}
-use Rattle.flat_list.specs.Owned.{bound_at}
 use Rattle.port_search.specs.declared.ends.SearchEnd.TheVariants as searches
 use Rattle.port_search.specs.Turned.{BindsAt, BindsNowhere, BindsNotYet}
 use Rattle.table_model.specs.declared.operation.OpEnd.TheVariants as errors
 use Rattle.table_model.specs.Asking.{ends}
 use Rattle.table_model.specs.Operations.{bound, refused, search_bind}
 use Rattle.shared_ops.specs.Binding.{bound_to}
-use Rattle.shared_ops.specs.Goes.{CarriedOut, NotBusy}
-use Rattle.shared_ops.specs.Stands.{IsAway}
-use Rattle.shared_ops.proofs.BindGoes.{searched_goes, searched_stands, searched_kept, search_patient}
-use Rattle.shared_ops.proofs.Lists.{search_spares}
+use Rattle.shared_ops.specs.Goes.{Carried, NotBusy}
+use Rattle.shared_ops.proofs.BindGoes.{searched_goes, search_patient}
 use Rattle.shared_ops.proofs.binding.bind_searched.Goals as goal
 
 pub returns-clause-carried : goal.returns-clause-carried
@@ -28,46 +23,12 @@ returns-clause-carried g c = λ s.
     let r = c.find_bind-found.result in
     let e = c.find_bind-found.ensures in
     let is = c.bound_at-bound.ensures in
-    subst (CarriedOut (bound_to a addr) refused n a.name (search_bind a addr (bound a addr) (ends (refused errors.NoPort)) ports) v w s s) (sym c.end_of_search.ensures)
+    subst (Carried (bound_to a addr) refused n (search_bind a addr (bound a addr) (ends (refused errors.NoPort)) ports) v w s s) (sym c.end_of_search.ensures)
     (searched_goes n a v w addr ports r s
     (subst (λ (b : Owner). IfOk r (BindsAt n b ports v w)) is e.bound)
     (subst (λ (b : Owner). r ≡ Err searches.NoPort → BindsNowhere n b ports v w) is e.no_port)
     (subst (λ (b : Owner). r ≡ Err searches.Memory → BindsNotYet n b ports v w) is e.memory)
     (subst (λ (b : Owner). r ≡ Err searches.Busy → BindsNotYet n b ports v w) is e.busy) e.end)
-
-pub returns-clause-stands : goal.returns-clause-stands
-returns-clause-stands g c = λ away.
-    let n = words.places c.args.buckets.now in
-    let v = known c.args.pass.now in
-    let w = known c.find_bind-found.new.pass in
-    let a = c.args.owner in
-    let addr = c.args.addr in
-    let ports = c.args.ports in
-    let r = c.find_bind-found.result in
-    subst (λ q. IfOk q (λ port. StandsOwn (bound_at a addr port) (bind_key port a.net % n) w)) (sym c.end_of_search.ensures)
-    (searched_stands n a v w addr ports r (subst (λ (b : Owner). IfOk r (BindsAt n b ports v w)) c.bound_at-bound.ensures c.find_bind-found.ensures.bound) away)
-
-pub returns-clause-kept : goal.returns-clause-kept
-returns-clause-kept g c = λ away.
-    let n = words.places c.args.buckets.now in
-    let v = known c.args.pass.now in
-    let w = known c.find_bind-found.new.pass in
-    let a = c.args.owner in
-    let addr = c.args.addr in
-    let ports = c.args.ports in
-    let r = c.find_bind-found.result in
-    let e = c.find_bind-found.ensures in
-    let is = c.bound_at-bound.ensures in
-    subst (λ q. OnErr q (IsAway a.name w)) (sym c.end_of_search.ensures)
-    (searched_kept n a v w addr ports r
-    (subst (λ (b : Owner). r ≡ Err searches.NoPort → BindsNowhere n b ports v w) is e.no_port)
-    (subst (λ (b : Owner). r ≡ Err searches.Memory → BindsNotYet n b ports v w) is e.memory)
-    (subst (λ (b : Owner). r ≡ Err searches.Busy → BindsNotYet n b ports v w) is e.busy) e.end away)
-
-pub returns-clause-spares : goal.returns-clause-spares
-returns-clause-spares g c =
-    let e = c.find_bind-found.ensures in
-    search_spares (words.places c.args.buckets.now) c.bound_at-bound.result c.args.ports (known c.args.pass.now) (known c.find_bind-found.new.pass) c.find_bind-found.result e.bound e.no_port e.memory e.busy e.end
 
 pub returns-clause-patient : goal.returns-clause-patient
 returns-clause-patient g c = λ endless.

@@ -21,7 +21,6 @@ use Rattle.shared_ops.specs.Stands.{buckets_of, turned}
 use Rattle.shared_ops.proofs.Goes.{asked_all, begun_not}
 use Rattle.shared_ops.proofs.Inserted.{drawn_four}
 use Rattle.shared_ops.proofs.ConnectGoes.{bound_entry, all_none, connect_done, connect_refused, connect_stands, hashed_at, stands_still}
-use Rattle.shared_ops.proofs.Lists.{made_none, made_more, given_spares, ended_spares}
 use Rattle.shared_ops.proofs.connecting.connect_bound.Goals as goal
 
 abbrev entry : ℕ → Owner → Entry
@@ -107,23 +106,5 @@ returns-in_err-turn-clause-carried g c =
     let l = t.chains.layout in
     let old = c.args.worker.now in
     let new = c.begin_with.new.worker in
-    begun_not done refused (buckets_of t) a.name (plans.connect_bound l.shape l.seed a c.args.moment c.args.rule) (turned old) (turned new) (side_of t.chains old.chain) (side_of t.chains new.chain) _ c.from_residual.result
+    begun_not done refused (buckets_of t) (plans.connect_bound l.shape l.seed a c.args.moment c.args.rule) (turned old) (turned new) (side_of t.chains old.chain) (side_of t.chains new.chain) _ c.from_residual.result
     c.from_residual.ensures.1 c.begin_with.ensures.side tt c.in_err-turn.ensures.nothing
-
-pub returns-in-Ok-clause-spares : goal.returns-in-Ok-clause-spares
-returns-in-Ok-clause-spares g c =
-    let v = turned c.args.worker.now in
-    let within = c.in_ok-turn.ensures.within in
-    let none = made_none (made c.begin_with.new.worker.turns c.in_ok-turn.turn) c.in_ok-turn.ensures.none in
-    let asks = c.connect_bound.ensures.asks in
-    let p = c.begin_with.new.worker.turns in
-    let q = c.connect_bound.new.pass in
-    ended_spares c.connect_bound.new.turn.place (entries_of (made q c.connect_bound.new.turn)) c.in-Ok.came.replaced v (known c.end_turn.new.pass) (c.end_turn.ensures.gave v (asks.within v within))
-    (made_more c.args.tables.now.buckets p c.in_ok-turn.turn q c.connect_bound.new.turn _ _ asks none tt)
-
-pub returns-in-Err-clause-spares : goal.returns-in-Err-clause-spares
-returns-in-Err-clause-spares g c =
-    let v = turned c.args.worker.now in
-    let within = c.in_ok-turn.ensures.within in
-    let none = made_none (made c.begin_with.new.worker.turns c.in_ok-turn.turn) c.in_ok-turn.ensures.none in
-    given_spares c.in_ok-turn.turn.place v (known c.give.new.pass) (made c.begin_with.new.worker.turns c.in_ok-turn.turn) (c.give.ensures.gave v within) none

@@ -20,7 +20,6 @@ use Rattle.shared_ops.proofs.Goes.{asked_all, begun_not}
 use Rattle.shared_ops.proofs.ConnectGoes.{all_none, stands_still}
 use Rattle.shared_ops.proofs.AcceptGoes.{child_entry, child_stands, parent_stands}
 use Rattle.shared_ops.proofs.AckGoes.{ack_done, ack_refused, child_hashed}
-use Rattle.shared_ops.proofs.Lists.{made_none, made_more, given_spares}
 use Rattle.shared_ops.proofs.handshaking.ack_as.Goals as goal
 
 pub returns-in-Ok-clause-carried : goal.returns-in-Ok-clause-carried
@@ -82,18 +81,6 @@ returns-in-Ok-clause-stay g c =
     let t = c.args.tables.now in
     subst (λ (k : Side). OthersStay c.args.request.now.place.slot k.view (side_of t.chains c.hand_over.new.pass).view) c.begin_with.ensures.side c.hand_over.ensures.stay
 
-pub returns-in-Ok-clause-spares : goal.returns-in-Ok-clause-spares
-returns-in-Ok-clause-spares g c =
-    let v = turned c.args.worker.now in
-    let within = c.in_ok-turn.ensures.within in
-    let none = made_none (made c.begin_with.new.worker.turns c.in_ok-turn.turn) c.in_ok-turn.ensures.none in
-    let asks = c.inherit.ensures.asks in
-    let p = c.begin_with.new.worker.turns in
-    let q = c.inherit.new.pass in
-    let turn = c.inherit.new.turn in
-    given_spares turn.place v (known c.give.new.pass) (made q turn) (c.give.ensures.gave v (asks.within v within))
-    (made_more c.args.tables.now.buckets p c.in_ok-turn.turn q turn _ _ asks none tt)
-
 pub returns-in-Err-clause-drawn : goal.returns-in-Err-clause-drawn
 returns-in-Err-clause-drawn g c = λ more has.
     c.hand_over.ensures.share more (subst (λ (s : Side). HasShares (more + 4) s.view) (sym c.begin_with.ensures.side) has)
@@ -123,14 +110,6 @@ returns-in-Err-clause-listener g c =
     let gave = all_none turn.place v w (asked_all turn.place turn.place [] v w (made c.begin_with.new.worker.turns turn) refl made_is (c.give-in-Err.ensures.gave v c.in_ok-turn.ensures.within)) in
     stands_still l (owner_key l % buckets_of c.args.tables.now) v w gave c.requires.stands
 
-pub returns-in-Err-clause-spares : goal.returns-in-Err-clause-spares
-returns-in-Err-clause-spares g c =
-    let v = turned c.args.worker.now in
-    let within = c.in_ok-turn.ensures.within in
-    let turn = c.in_ok-turn.turn in
-    let ms = made c.begin_with.new.worker.turns turn in
-    given_spares turn.place v (known c.give-in-Err.new.pass) ms (c.give-in-Err.ensures.gave v within) (made_none ms c.in_ok-turn.ensures.none)
-
 pub returns-in_err-turn-clause-carried : goal.returns-in_err-turn-clause-carried
 returns-in_err-turn-clause-carried g c =
     let a : Owner = c.args.child in
@@ -138,5 +117,5 @@ returns-in_err-turn-clause-carried g c =
     let s = t.chains.layout in
     let old = c.args.worker.now in
     let new = c.begin_with.new.worker in
-    begun_not done refused (buckets_of t) a.name (plans.ack_as s.shape s.seed c.args.request.now c.args.listener.now a) (turned old) (turned new) (side_of t.chains old.chain) (side_of t.chains new.chain) _ c.from_residual.result
+    begun_not done refused (buckets_of t) (plans.ack_as s.shape s.seed c.args.request.now c.args.listener.now a) (turned old) (turned new) (side_of t.chains old.chain) (side_of t.chains new.chain) _ c.from_residual.result
     c.from_residual.ensures.1 c.begin_with.ensures.side tt c.in_err-turn.ensures.nothing

@@ -7,7 +7,7 @@ use Rattle.table_model.specs.Own.{Mine}
 use Rattle.table_model.specs.Asking.{Asking, ends}
 use Rattle.table_model.specs.Operations.{Did, done, refused, ack, ack_as}
 use Rattle.shared_ops.specs.declared.sock.Sock.{Sock}
-use Rattle.shared_ops.specs.Goes.{Went, CarriedOut}
+use Rattle.shared_ops.specs.Goes.{Went, Carried}
 use Rattle.shared_ops.specs.Handshaking.{mine_found}
 use Rattle.shared_ops.specs.Socks.{FitsState, mine_of}
 use Rattle.shared_ops.specs.Stands.{IsOwner, StandsAs, buckets_of, chained, turned}
@@ -65,9 +65,9 @@ returns-clause-carried g c =
     let child : heir ≡ heir_owner l.owner name r.owner = c.heir_owner-child.ensures ∙ (λ i. heir_owner (owner i) name (own i)) in
     let plan : ack_as s.shape s.seed r l.owner (heir_owner l.owner name r.owner) ≡ ack s.shape s.seed (mine_of c.args.request.now) (mine_found c.args.listener) name =
     ack_plan s.shape s.seed name r l false state isnt ∙ sym (λ i. ack s.shape s.seed (mine_of (c.in-Request.is i)) (mine_found (c.in-Some.is i)) name) in
-    let first = subst (λ (o : Owner). CarriedOut {X = Mine} done refused n heir.name (ack_as s.shape s.seed r o heir) v w k d result) owner c.ack_as.ensures.carried in
-    let second = subst (λ (a : Owner). CarriedOut {X = Mine} done refused n a.name (ack_as s.shape s.seed r l.owner a) v w k d result) child first in
-    subst (λ (p : Asking Did). CarriedOut {X = Mine} done refused n name p v w k d result) plan second
+    let first = subst (λ (o : Owner). Carried {X = Mine} done refused n (ack_as s.shape s.seed r o heir) v w k d result) owner c.ack_as.ensures.carried in
+    let second = subst (λ (a : Owner). Carried {X = Mine} done refused n (ack_as s.shape s.seed r l.owner a) v w k d result) child first in
+    subst (λ (p : Asking Did). Carried {X = Mine} done refused n p v w k d result) plan second
 
 pub returns-clause-listener : goal.returns-clause-listener
 returns-clause-listener g c =

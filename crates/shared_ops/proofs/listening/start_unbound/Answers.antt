@@ -16,7 +16,7 @@ use Rattle.shared_ops.specs.Listens.{TellsAs}
 use Rattle.shared_ops.specs.Stands.{IsThere, buckets_of, chained, turned}
 use Rattle.shared_ops.proofs.AskedFirst.{found_first, found_there}
 use Rattle.shared_ops.proofs.BindGoes.{search_finds, search_fails, search_stops, search_away, stop_away}
-use Rattle.shared_ops.proofs.Goes.{carried_both}
+use Rattle.shared_ops.proofs.Goes.{carried_both, left_of}
 use Rattle.shared_ops.proofs.ListenStands.{taken_stands, taken_kept}
 use Rattle.reuseport_group.specs.Passes as lists
 use Rattle.shared_ops.proofs.Lists.{kept_past, sparing_keeps, bound_spares, nowhere_spares, not_yet_spares}
@@ -178,7 +178,7 @@ returns-in-Err-Memory-clause-carried g c =
     let found : ℕ → Asking Did = listen_found l.shape l.seed a in
     let none : Asking Did = ends (refused errors.NoPort) in
     let at = subst (λ (b : Owner). BindsNotYet n b c.args.ports v u) c.bound_at-wanted.ensures (c.find_bind_turn.ensures.memory (c.in-Err-Memory.is ∙ ap Err c.in-Err-Memory.field-0-is)) in
-    search_stops n a v u a.addr found none c.args.ports (chained t c.args.worker.now) at
+    left_of n a.name (search_bind a a.addr found none c.args.ports) v u (chained t c.args.worker.now) (chained t c.args.worker.now) (search_stops n a v u a.addr found none c.args.ports (chained t c.args.worker.now) at)
 
 pub returns-in-Err-Memory-clause-kept : goal.returns-in-Err-Memory-clause-kept
 returns-in-Err-Memory-clause-kept g c =
@@ -208,7 +208,7 @@ returns-in-Err-Busy-clause-carried g c =
     let found : ℕ → Asking Did = listen_found l.shape l.seed a in
     let none : Asking Did = ends (refused errors.NoPort) in
     let at = subst (λ (b : Owner). BindsNotYet n b c.args.ports v u) c.bound_at-wanted.ensures (c.find_bind_turn.ensures.busy (c.in-Err-Busy.is ∙ ap Err c.in-Err-Busy.field-0-is)) in
-    search_stops n a v u a.addr found none c.args.ports (chained t c.args.worker.now) at
+    left_of n a.name (search_bind a a.addr found none c.args.ports) v u (chained t c.args.worker.now) (chained t c.args.worker.now) (search_stops n a v u a.addr found none c.args.ports (chained t c.args.worker.now) at)
 
 pub returns-in-Err-Busy-clause-kept : goal.returns-in-Err-Busy-clause-kept
 returns-in-Err-Busy-clause-kept g c =

@@ -13,7 +13,6 @@ use Rattle.table_model.specs.Own.{Mine, card_of}
 use Rattle.shared_ops.specs.Stands.{buckets_of}
 use Rattle.shared_ops.proofs.Goes.{asked_all}
 use Rattle.shared_ops.proofs.ReapGoes.{reap_entry, reap_found, reap_none}
-use Rattle.shared_ops.proofs.Lists.{made_none, made_more, given_spares}
 use Rattle.shared_ops.proofs.reaping.reap_in.Goals as goal
 
 pub returns-in-Some-answer-clause-reaps : goal.returns-in-Some-answer-clause-reaps
@@ -40,25 +39,6 @@ returns-in-None-clause-reaps g c = λ v within rest n.
     let all = asked_all place place [] v u (made c.args.worker.now.turns c.args.turn) refl (ap (λ (ms : List Note). entries_of ms) c.requires.made) (c.give-in-None.ensures.gave v within) in
     reap_none (buckets_of t) m rest n v u (side_of t.chains c.args.worker.now.chain) (side_of t.chains c.remove_tw.new.pass) place c.card_as-card.result same (subst (λ r. Reaps c.card_as-card.result r (side_of t.chains c.args.worker.now.chain) (side_of t.chains c.remove_tw.new.pass)) c.in-None.is c.in-Some.ensures.reaps) all
 
-pub returns-in-Some-answer-clause-spares : goal.returns-in-Some-answer-clause-spares
-returns-in-Some-answer-clause-spares g c = λ v within.
-    let p = c.args.worker.now.turns in
-    let asks = c.remove_waiting-known.ensures.asks in
-    let q = c.remove_waiting-known.new.pass in
-    let turn = c.remove_waiting-known.new.turn in
-    given_spares turn.place v (known c.give-in-Some-answer.new.pass) (made q turn) (c.give-in-Some-answer.ensures.gave v (asks.within v within))
-    (made_more c.args.tables.now.buckets p c.args.turn q turn _ _ asks (made_none (made p c.args.turn) c.requires.made) tt)
-
-pub returns-in-None-clause-spares : goal.returns-in-None-clause-spares
-returns-in-None-clause-spares g c = λ v within.
-    let ms = made c.args.worker.now.turns c.args.turn in
-    given_spares c.args.turn.place v (known c.give-in-None.new.pass) ms (c.give-in-None.ensures.gave v within) (made_none ms c.requires.made)
-
 pub returns-in_default-clause-nothing : goal.returns-in_default-clause-nothing
 returns-in_default-clause-nothing g c = λ v within.
     nothing_made c.args.turn.place v (known c.give.new.pass) (made c.args.worker.now.turns c.args.turn) c.requires.made (c.give.ensures.gave v within)
-
-pub returns-in_default-clause-spares : goal.returns-in_default-clause-spares
-returns-in_default-clause-spares g c = λ v within.
-    let ms = made c.args.worker.now.turns c.args.turn in
-    given_spares c.args.turn.place v (known c.give.new.pass) ms (c.give.ensures.gave v within) (made_none ms c.requires.made)

@@ -7,6 +7,7 @@ use Rattle.shared_ops.proofs.CloseGoes.{never_fails, none_listed}
 use Rattle.shared_ops.proofs.ReapGoes.{turn_nothing, turn_reaps}
 use Rattle.reuseport_group.specs.Passes as lists
 use Rattle.shared_ops.proofs.Lists.{sparing_same}
+use Rattle.shared_ops.proofs.Spares.{reaped_so}
 use Rattle.shared_ops.proofs.reaping.reap_one.Goals as goal
 
 pub returns-in_err-turn-clause-listed : goal.returns-in_err-turn-clause-listed
@@ -32,10 +33,18 @@ returns-clause-none g c =
 
 pub returns-clause-listed : goal.returns-clause-listed
 returns-clause-listed g c =
+    let t = c.args.tables.now in
     let v = turned c.args.worker.now in
+    let p = c.begin.new.worker in
     let u = c.reap_in.new.worker in
-    sparing_same (lists.groups c.args.tables.now.groups) v (turned u) c.args.worker.now.groups u.groups (c.reap_in.ensures.groups ∙ c.begin.ensures.groups)
-    (c.reap_in.ensures.spares v c.in_ok-turn.ensures.within)
+    let r = c.reap_in.result in
+    let m = c.args.waiting.now in
+    let n = buckets_of t in
+    let within = c.in_ok-turn.ensures.within in
+    let from = side_of t.chains p.chain in
+    let to = side_of t.chains u.chain in
+    sparing_same (lists.groups t.groups) v (turned u) c.args.worker.now.groups u.groups (c.reap_in.ensures.groups ∙ c.begin.ensures.groups)
+    (reaped_so n m v (turned u) from to r (turn_reaps (turned p) v (turned u) within n m from to r c.reap_in.ensures.reaps) (turn_nothing (turned p) v (turned u) within r c.reap_in.ensures.nothing))
 
 pub returns-clause-patient : goal.returns-clause-patient
 returns-clause-patient g c = λ endless. never_fails c.reap_in.result _ (c.reap_in.ensures.patient endless)

@@ -16,7 +16,6 @@ use Rattle.shared_ops.proofs.Goes.{asked_all, begun_not}
 use Rattle.shared_ops.proofs.Inserted.{drawn_four}
 use Rattle.shared_ops.proofs.ConnectGoes.{all_none}
 use Rattle.shared_ops.proofs.SynGoes.{owners_stay, owners_still, request_hashed, syn_done, syn_refused}
-use Rattle.shared_ops.proofs.Lists.{made_none, given_spares, ended_spares}
 use Rattle.shared_ops.proofs.requesting.syn_as.Goals as goal
 
 pub returns-in-Ok-clause-carried : goal.returns-in-Ok-clause-carried
@@ -86,23 +85,6 @@ returns-in-Err-clause-owners g c =
     let gave = all_none turn.place v w (asked_all turn.place turn.place [] v w (made c.begin.new.worker.turns turn) refl made_is (c.give.ensures.gave v c.in_ok-turn.ensures.within)) in
     owners_still c.args.tables.now v w gave
 
-pub returns-in-Ok-clause-spares : goal.returns-in-Ok-clause-spares
-returns-in-Ok-clause-spares g c =
-    let v = turned c.args.worker.now in
-    let within = c.in_ok-turn.ensures.within in
-    let turn = c.in_ok-turn.turn in
-    let ms = made c.begin.new.worker.turns turn in
-    ended_spares turn.place (entries_of ms) c.in-Ok.came.replaced v (known c.end_turn.new.pass) (c.end_turn.ensures.gave v within)
-    (made_none ms c.in_ok-turn.ensures.none)
-
-pub returns-in-Err-clause-spares : goal.returns-in-Err-clause-spares
-returns-in-Err-clause-spares g c =
-    let v = turned c.args.worker.now in
-    let within = c.in_ok-turn.ensures.within in
-    let turn = c.in_ok-turn.turn in
-    let ms = made c.begin.new.worker.turns turn in
-    given_spares turn.place v (known c.give.new.pass) ms (c.give.ensures.gave v within) (made_none ms c.in_ok-turn.ensures.none)
-
 pub returns-in_err-turn-clause-carried : goal.returns-in_err-turn-clause-carried
 returns-in_err-turn-clause-carried g c =
     let r : Owner = c.args.request in
@@ -110,5 +92,5 @@ returns-in_err-turn-clause-carried g c =
     let s = t.chains.layout in
     let old = c.args.worker.now in
     let new = c.begin.new.worker in
-    begun_not done refused (buckets_of t) r.name (plans.syn_as s.shape s.seed r) (turned old) (turned new) (side_of t.chains old.chain) (side_of t.chains new.chain) _ c.from_residual.result
+    begun_not done refused (buckets_of t) (plans.syn_as s.shape s.seed r) (turned old) (turned new) (side_of t.chains old.chain) (side_of t.chains new.chain) _ c.from_residual.result
     c.from_residual.ensures.1 c.begin.ensures.side tt c.in_err-turn.ensures.nothing

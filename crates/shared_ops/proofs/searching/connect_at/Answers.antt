@@ -12,7 +12,6 @@ use Rattle.shared_ops.specs.Searching.{free_entry, TriesAt}
 use Rattle.shared_ops.specs.Stands.{buckets_of, turned}
 use Rattle.shared_ops.proofs.Goes.{asked_all}
 use Rattle.shared_ops.proofs.SearchGoes.{held_entry, tries_held, tries_not, keeps_from, try_away, still_away}
-use Rattle.shared_ops.proofs.Lists.{made_none, made_more, given_spares}
 use Rattle.shared_ops.proofs.searching.connect_at.Goals as goal
 
 pub returns-in-Ok-clause-drawn : goal.returns-in-Ok-clause-drawn
@@ -83,20 +82,3 @@ returns-in_err-turn-clause-leaves g c =
     let t = c.args.tables.now in
     let new = c.begin.new.worker in
     still_away t c.args.full.name (turned c.args.worker.now) (turned new) (side_of t.chains new.chain) _ c.from_residual.result c.from_residual.ensures.1 c.requires.away c.in_err-turn.ensures.nothing
-
-pub returns-in-Ok-clause-spares : goal.returns-in-Ok-clause-spares
-returns-in-Ok-clause-spares g c =
-    let v = turned c.args.worker.now in
-    let asks = c.in-Ok.ensures.asks in
-    let once = asks.made_is ∙ ap (λ (ms : List Note). entries_of ms ++ free_entry c.args.full ∷ []) c.in_ok-turn.ensures.none in
-    c.connect_in.ensures.spares v (asks.within v c.in_ok-turn.ensures.within) once
-
-pub returns-in-Err-clause-spares : goal.returns-in-Err-clause-spares
-returns-in-Err-clause-spares g c =
-    let v = turned c.args.worker.now in
-    let within = c.in_ok-turn.ensures.within in
-    let none = made_none (made c.begin.new.worker.turns c.in_ok-turn.turn) c.in_ok-turn.ensures.none in
-    let asks = c.in-Err.ensures.asks in
-    let p = c.begin.new.worker.turns in
-    given_spares c.free.new.turn.place v (known c.give.new.pass) (made c.free.new.pass c.free.new.turn) (c.give.ensures.gave v (asks.within v within))
-    (made_more c.args.tables.now.buckets p c.in_ok-turn.turn c.free.new.pass c.free.new.turn _ _ asks none tt)

@@ -15,8 +15,6 @@ use Rattle.shared_ops.proofs.Goes.{asked_all}
 use Rattle.shared_ops.proofs.Inserted.{drawn_four}
 use Rattle.shared_ops.proofs.ConnectGoes.{hashed_at}
 use Rattle.shared_ops.proofs.SearchGoes.{come_entry, tries_done, tries_refused, try_stands, try_away, next_away, next_keeps}
-use Rattle.bind_buckets.specs.Bucket.{entries_of}
-use Rattle.shared_ops.proofs.Lists.{made_only, made_more, given_spares, ended_spares}
 use Rattle.shared_ops.proofs.searching.connect_in.Goals as goal
 
 pub returns-in-Ok-clause-tries : goal.returns-in-Ok-clause-tries
@@ -79,16 +77,3 @@ returns-in-Err-clause-leaves g c = λ v within only away.
     let d = side_of t.chains c.insert.new.pass in
     let all = asked_all c.args.turn.place (owner_key a % n) (free_entry a ∷ []) v w (made c.args.worker.now.turns c.args.turn) c.requires.place only (c.give.ensures.gave v within) in
     subst (TryLeaves t a.name w d) (sym c.next_or.ensures) (next_away t a.name w d c.in-Err.end (try_away (owner_key a % n) a.port a.net a.name _ v w away all))
-
-pub returns-in-Ok-clause-spares : goal.returns-in-Ok-clause-spares
-returns-in-Ok-clause-spares g c = λ v within only.
-    let asks = c.connect_auto.ensures.asks in
-    let p = c.args.worker.now.turns in
-    let q = c.connect_auto.new.pass in
-    ended_spares c.connect_auto.new.turn.place (entries_of (made q c.connect_auto.new.turn)) c.in-Ok.came.replaced v (known c.end_turn.new.pass) (c.end_turn.ensures.gave v (asks.within v within))
-    (made_more c.args.tables.now.buckets p c.args.turn q c.connect_auto.new.turn _ _ asks (made_only (made p c.args.turn) (free_entry c.args.full) only tt) tt)
-
-pub returns-in-Err-clause-spares : goal.returns-in-Err-clause-spares
-returns-in-Err-clause-spares g c = λ v within only.
-    let ms = made c.args.worker.now.turns c.args.turn in
-    given_spares c.args.turn.place v (known c.give.new.pass) ms (c.give.ensures.gave v within) (made_only ms (free_entry c.args.full) only tt)

@@ -4,7 +4,6 @@ use Rattle.table_model.specs.Own.{Mine}
 use Rattle.shared_ops.specs.Searching.{TriesAt, TryLeaves, KeepsDraws, PassesBy}
 use Rattle.shared_ops.specs.Stands.{IsAway, buckets_of, chained, turned}
 use Rattle.shared_ops.proofs.SearchGoes.{seeks, seek_found, seek_on, seek_err, enough, named_at}
-use Rattle.shared_ops.proofs.Lists.{none_spares, spares_both}
 use Rattle.shared_ops.proofs.searching.search_connect.Goals as goal
 
 pub connect_at-requires-clause-draws : goal.connect_at-requires-clause-draws
@@ -36,7 +35,6 @@ loop-port-init g c =
       draws = λ n has. has;
       stay = λ hash place. place;
       groups = refl;
-      spares = none_spares (turned old);
       away = c.requires.away;
       seeking = seeks (buckets_of t) c.args.owner c.args.source c.args.to c.args.moment c.args.rule (turned old) (chained t old) ports c.into_iter-port-iterator.result all;
     }
@@ -79,7 +77,6 @@ loop-port-preserved g c =
       draws = λ m has. keeps m (i.draws m has);
       stay = λ hash place. e.stay hash (i.stay hash place);
       groups = e.groups ∙ i.groups;
-      spares = spares_both (turned old) (turned here) (turned new) i.spares e.spares;
       away = subst (λ name. IsAway name (turned new)) named away;
       seeking = seek_on n c.args.owner c.args.source c.args.to c.args.moment c.args.rule (turned old) (chained t old) c.args.ports c.loop-port.port-iterator c.next.new.self c.in-Some.port c.connected_at-full.result
           (turned here) (turned new) (chained t here) (chained t new) i.seeking refl front c.connected_at-full.ensures tries;
@@ -103,14 +100,3 @@ returns-in-Err-clause-groups g c = c.connect_at.ensures.groups ∙ c.loop-port.i
 
 pub returns-clause-groups : goal.returns-clause-groups
 returns-clause-groups g c = c.loop-port.invariant.groups
-
-pub returns-in-Ok-Some-clause-spares : goal.returns-in-Ok-Some-clause-spares
-returns-in-Ok-Some-clause-spares g c =
-    spares_both (turned c.args.worker.now) (turned c.loop-port.worker) (turned c.connect_at.new.worker) c.loop-port.invariant.spares c.connect_at.ensures.spares
-
-pub returns-in-Err-clause-spares : goal.returns-in-Err-clause-spares
-returns-in-Err-clause-spares g c =
-    spares_both (turned c.args.worker.now) (turned c.loop-port.worker) (turned c.connect_at.new.worker) c.loop-port.invariant.spares c.connect_at.ensures.spares
-
-pub returns-clause-spares : goal.returns-clause-spares
-returns-clause-spares g c = c.loop-port.invariant.spares

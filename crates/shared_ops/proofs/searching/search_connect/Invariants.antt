@@ -2,7 +2,6 @@ use Rattle.std.proofs.Common.{◌≡◌, ℕ, ◌+◌, ◌^◌, ◌≤◌, lengt
 use Rattle.turn_table.specs.Passes as words
 use Rattle.nulls_chain.specs.Changes.{PlacesStay}
 use Rattle.table_rule.specs.Passes as chain_words
-use Rattle.shared_ops.specs.Groups.{GaveSparing}
 use Rattle.shared_ops.specs.Stands.{IsAway, IsReady, MayDraw, buckets_of, chained, turned}
 use Rattle.shared_ops.proofs.SearchGoes.{Seeking}
 use Rattle.shared_ops.proofs.searching.search_connect.Given as goal
@@ -18,7 +17,6 @@ invariant-loop-port g l = record {
   draws : (n : ℕ) → MayDraw n l.fn.worker → MayDraw n l.worker;
   stay : PlacesStay (chain_words.known l.fn.worker.chain.pass) (chain_words.known l.worker.chain.pass);
   groups : l.worker.groups ≡ l.fn.worker.groups;
-  spares : GaveSparing (turned l.fn.worker) (turned l.worker);
   away : IsAway l.owner.name (turned l.worker);
   seeking : Seeking (buckets_of l.tables) l.owner l.source l.to l.moment l.rule (turned l.fn.worker) (chained l.tables l.fn.worker) l.fn.ports l.port-iterator (turned l.worker) (chained l.tables l.worker);
 }

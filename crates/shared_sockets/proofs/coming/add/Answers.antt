@@ -39,7 +39,8 @@ returns-clause-answer g c =
       comes = subst (λ (y : View). HashesTo layout c.args.from b c.args.card.now w.chain.walked c.hash-answer.result y x) is
           (subst (λ (n : ℕ). HashesTo layout c.args.from n c.args.card.now w.chain.walked c.hash-answer.result w x) b1
           (hashes_to layout c.args.from c.walk_to_end.new.locked.bucket c.args.card.now w x c.hash-answer.result said));
-      unlocked = ap (λ (y : Sat). y.0) c.unlock.ensures.view;
+      instant = c.unlock.ensures.view.0;
+      unlocked = ap (λ (y : Sat). y.0) c.unlock.ensures.view.2;
     }
 
 pub returns-clause-alone : goal.returns-clause-alone
@@ -47,7 +48,7 @@ returns-clause-alone g c = adds_alone (layout_of c.args.chains.now) c.args.from 
 
 pub returns-clause-place : goal.returns-clause-place
 returns-clause-place g c =
-    placed_of c.hash-answer.result c.args.card.now (known c.hash-answer.new.pass) (view c.unlock.new.steps) (ap (λ (y : Sat). y.0.book) c.unlock.ensures.view) c.requires.listens c.hash-answer.ensures.place
+    placed_of c.hash-answer.result c.args.card.now (known c.hash-answer.new.pass) (view c.unlock.new.steps) (ap (λ (y : Sat). y.0.book) c.unlock.ensures.view.2) c.requires.listens c.hash-answer.ensures.place
 
 pub returns-clause-stay : goal.returns-clause-stay
 returns-clause-stay g c = λ hash place.
@@ -55,7 +56,7 @@ returns-clause-stay g c = λ hash place.
     let w : View = view c.walk_to_end.new.steps in
     let is : w ≡ record (locking v c.args.bucket) { chain = w.chain } =
     ap (λ (x : Sat). x.0) c.walk_to_end.ensures.kept ∙ ap (λ (x : Sat). record x.0 { chain = w.chain }) c.in_ok-locked.ensures.view in
-    subst (λ (y : View). IsPlace y.book hash) (sym (ap (λ (y : Sat). y.0) c.unlock.ensures.view)) (c.hash-answer.ensures.stay hash (subst (λ (y : View). IsPlace y.book hash) (sym is) place))
+    subst (λ (y : View). IsPlace y.book hash) (sym (ap (λ (y : Sat). y.0) c.unlock.ensures.view.2)) (c.hash-answer.ensures.stay hash (subst (λ (y : View). IsPlace y.book hash) (sym is) place))
 
 pub returns-clause-share : goal.returns-clause-share
 returns-clause-share g c = λ more share.
@@ -63,7 +64,7 @@ returns-clause-share g c = λ more share.
     let w : View = view c.walk_to_end.new.steps in
     let is : w ≡ record (locking v c.args.bucket) { chain = w.chain } =
     ap (λ (x : Sat). x.0) c.walk_to_end.ensures.kept ∙ ap (λ (x : Sat). record x.0 { chain = w.chain }) c.in_ok-locked.ensures.view in
-    subst (HasShares more) (sym (ap (λ (x : Sat). x.0) c.unlock.ensures.view)) (c.hash-answer.ensures.share more (subst (HasShares (more + 2)) (sym is) share))
+    subst (HasShares more) (sym (ap (λ (x : Sat). x.0) c.unlock.ensures.view.2)) (c.hash-answer.ensures.share more (subst (HasShares (more + 2)) (sym is) share))
 
 pub unlock-requires-clause-alone : goal.unlock-requires-clause-alone
 unlock-requires-clause-alone g c = inl (c.hash-answer.ensures.twice (listens_alone c.args.card.now (view c.walk_to_end.new.steps).chain.walked c.requires.listens) ∙ (ap (λ (x : Sat). x.0.twice) c.walk_to_end.ensures.kept ∙ ap (λ (x : Sat). x.0.twice) c.in_ok-locked.ensures.view))

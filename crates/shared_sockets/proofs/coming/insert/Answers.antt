@@ -30,7 +30,8 @@ returns-clause-answer g c =
       left = left;
       comes = subst (λ (x : View). ComesTo layout c.args.from b c.args.new.now w.chain.walked c.admit-answer.result x left) is
           (subst (λ (n : ℕ). ComesTo layout c.args.from n c.args.new.now w.chain.walked c.admit-answer.result w left) b1 c.admit-answer.ensures.comes);
-      unlocked = ap (λ (x : Sat). x.0) c.unlock.ensures.view;
+      instant = c.unlock.ensures.view.0;
+      unlocked = ap (λ (x : Sat). x.0) c.unlock.ensures.view.2;
     }
 
 pub returns-clause-alone : goal.returns-clause-alone
@@ -43,7 +44,7 @@ returns-clause-share g c = λ more share.
     let w : View = view c.survey_chain-survey.new.steps in
     let is : w ≡ record (locking v c.args.bucket) { chain = w.chain } =
     ap (λ (x : Sat). x.0) c.survey_chain-survey.ensures.kept ∙ ap (λ (x : Sat). record x.0 { chain = w.chain }) c.in_ok-locked.ensures.view in
-    subst (HasShares more) (sym (ap (λ (x : Sat). x.0) c.unlock.ensures.view)) (c.admit-answer.ensures.share more (subst (HasShares (more + 4)) (sym is) share))
+    subst (HasShares more) (sym (ap (λ (x : Sat). x.0) c.unlock.ensures.view.2)) (c.admit-answer.ensures.share more (subst (HasShares (more + 4)) (sym is) share))
 
 pub unlock-requires-clause-alone : goal.unlock-requires-clause-alone
 unlock-requires-clause-alone g c = inl (c.admit-answer.ensures.twice ∙ (ap (λ (x : Sat). x.0.twice) c.survey_chain-survey.ensures.kept ∙ ap (λ (x : Sat). x.0.twice) c.in_ok-locked.ensures.view))

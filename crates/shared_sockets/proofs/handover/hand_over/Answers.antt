@@ -41,7 +41,8 @@ returns-clause-answer g c =
       seen = chain_is v u b w.chain.walked lv (subst (λ (n : ℕ). WasChain w.chain.walked n u) b0 (s.sole (ap (λ (y : View). y.chain.met) lv))) s.known.2;
       left = left;
       hands = subst (λ (y : View). HandsTo layout c.args.from p c.args.card.now w.chain.walked c.replace_request-answer.result y left) is c.replace_request-answer.ensures.hands;
-      unlocked = ap (λ (y : Sat). y.0) c.unlock.ensures.view;
+      instant = c.unlock.ensures.view.0;
+      unlocked = ap (λ (y : Sat). y.0) c.unlock.ensures.view.2;
     }
 
 pub returns-clause-alone : goal.returns-clause-alone
@@ -53,7 +54,7 @@ returns-clause-stay g c = λ hash ne place.
     let w : View = view c.walk_to_end.new.steps in
     let is : w ≡ record (locking v c.args.place.bucket) { chain = w.chain } =
     ap (λ (x : Sat). x.0) c.walk_to_end.ensures.kept ∙ ap (λ (x : Sat). record x.0 { chain = w.chain }) c.in_ok-locked.ensures.view in
-    subst (λ (y : View). IsPlace y.book hash) (sym (ap (λ (y : Sat). y.0) c.unlock.ensures.view)) (c.replace_request-answer.ensures.stay hash ne (subst (λ (y : View). IsPlace y.book hash) (sym is) place))
+    subst (λ (y : View). IsPlace y.book hash) (sym (ap (λ (y : Sat). y.0) c.unlock.ensures.view.2)) (c.replace_request-answer.ensures.stay hash ne (subst (λ (y : View). IsPlace y.book hash) (sym is) place))
 
 pub returns-clause-others : goal.returns-clause-others
 returns-clause-others g c = λ hash other place.
@@ -61,7 +62,7 @@ returns-clause-others g c = λ hash other place.
     let w : View = view c.walk_to_end.new.steps in
     let is : w ≡ record (locking v c.args.place.bucket) { chain = w.chain } =
     ap (λ (x : Sat). x.0) c.walk_to_end.ensures.kept ∙ ap (λ (x : Sat). record x.0 { chain = w.chain }) c.in_ok-locked.ensures.view in
-    subst (λ (y : View). IsPlace y.book hash) (sym (ap (λ (y : Sat). y.0) c.unlock.ensures.view)) (c.replace_request-answer.ensures.others hash other (subst (λ (y : View). IsPlace y.book hash) (sym is) place))
+    subst (λ (y : View). IsPlace y.book hash) (sym (ap (λ (y : Sat). y.0) c.unlock.ensures.view.2)) (c.replace_request-answer.ensures.others hash other (subst (λ (y : View). IsPlace y.book hash) (sym is) place))
 
 pub returns-clause-share : goal.returns-clause-share
 returns-clause-share g c = λ more share.
@@ -69,11 +70,11 @@ returns-clause-share g c = λ more share.
     let w : View = view c.walk_to_end.new.steps in
     let is : w ≡ record (locking v c.args.place.bucket) { chain = w.chain } =
     ap (λ (x : Sat). x.0) c.walk_to_end.ensures.kept ∙ ap (λ (x : Sat). record x.0 { chain = w.chain }) c.in_ok-locked.ensures.view in
-    subst (HasShares more) (sym (ap (λ (x : Sat). x.0) c.unlock.ensures.view)) (c.replace_request-answer.ensures.share more (subst (HasShares (more + 4)) (sym is) share))
+    subst (HasShares more) (sym (ap (λ (x : Sat). x.0) c.unlock.ensures.view.2)) (c.replace_request-answer.ensures.share more (subst (HasShares (more + 4)) (sym is) share))
 
 pub returns-clause-newest : goal.returns-clause-newest
 returns-clause-newest g c =
     let v : View = known c.args.pass.now in
     let w : View = view c.walk_to_end.new.steps in
     newest_still c.replace_request-answer.result v w (known c.replace_request-answer.new.pass) (view c.unlock.new.steps)
-    (ap (λ (x : Sat). x.0.book) c.walk_to_end.ensures.kept ∙ ap (λ (x : Sat). x.0.book) c.in_ok-locked.ensures.view) (ap (λ (x : Sat). x.0.book) c.unlock.ensures.view) c.replace_request-answer.ensures.newest
+    (ap (λ (x : Sat). x.0.book) c.walk_to_end.ensures.kept ∙ ap (λ (x : Sat). x.0.book) c.in_ok-locked.ensures.view) (ap (λ (x : Sat). x.0.book) c.unlock.ensures.view.2) c.replace_request-answer.ensures.newest

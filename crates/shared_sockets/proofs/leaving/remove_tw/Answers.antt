@@ -47,7 +47,8 @@ returns-clause-answer g c =
       left = x;
       goes = subst (λ (o : Option Hashed). Goes (walking v b w.chain.walked) x b o) s.surveyed.waiting
           (subst (λ (y : View). Goes y x b found) is (subst (λ (n : ℕ). Goes w x n found) b1 c.take_out.ensures.goes));
-      unlocked = ap (λ (y : Sat). y.0) c.unlock.ensures.view;
+      instant = c.unlock.ensures.view.0;
+      unlocked = ap (λ (y : Sat). y.0) c.unlock.ensures.view.2;
     }
 
 pub returns-clause-alone : goal.returns-clause-alone
@@ -61,7 +62,7 @@ returns-clause-stay g c = λ hash place.
     let is : w ≡ record (locking v c.args.bucket) { chain = w.chain } =
     ap (λ (x : Sat). x.0) s.kept ∙ ap (λ (x : Sat). record x.0 { chain = w.chain }) c.in_ok-locked.ensures.view in
     let listed : PlacesListed w = ⊎_elim (λ z. absurd (omega (arith, z, s.whole.0))) (λ z. z) s.known.3 in
-    subst (λ (y : View). IsPlace y.book hash) (sym (ap (λ (y : Sat). y.0) c.unlock.ensures.view))
+    subst (λ (y : View). IsPlace y.book hash) (sym (ap (λ (y : Sat). y.0) c.unlock.ensures.view.2))
     (stay_of (seeks.Waiting c.args.name) c.survey_chain-survey.result w (known c.take_out.new.pass) s.surveyed s.known.2 c.survey_chain-survey.new.locked.bucket s.at.0.0 s.whole.0 (is_read w.chain.walked s.surveyed.cards) listed s.apart
     c.take_out.ensures.goes c.take_out.ensures.stay hash (subst (λ (y : View). IsPlace y.book hash) (sym is) place))
 
@@ -70,7 +71,7 @@ returns-clause-share g c = λ more share.
     let w : View = view c.survey_chain-survey.new.steps in
     let is : w ≡ record (locking (known c.args.pass.now) c.args.bucket) { chain = w.chain } =
     ap (λ (x : Sat). x.0) c.survey_chain-survey.ensures.kept ∙ ap (λ (x : Sat). record x.0 { chain = w.chain }) c.in_ok-locked.ensures.view in
-    subst (HasShares more) (sym (ap (λ (x : Sat). x.0) c.unlock.ensures.view)) (c.take_out.ensures.share more (subst (HasShares (more + 2)) (sym is) share))
+    subst (HasShares more) (sym (ap (λ (x : Sat). x.0) c.unlock.ensures.view.2)) (c.take_out.ensures.share more (subst (HasShares (more + 2)) (sym is) share))
 
 pub unlock-requires-clause-alone : goal.unlock-requires-clause-alone
 unlock-requires-clause-alone g c = inl (c.take_out.ensures.twice ∙ (ap (λ (x : Sat). x.0.twice) c.survey_chain-survey.ensures.kept ∙ ap (λ (x : Sat). x.0.twice) c.in_ok-locked.ensures.view))

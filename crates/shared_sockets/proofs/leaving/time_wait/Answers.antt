@@ -76,7 +76,8 @@ returns-clause-answer g c =
         rest = c.unhash.ensures.rest;
         saw = c.unhash.ensures.saw;
       };
-      unlocked = ap (λ (y : Sat). y.0) c.unlock.ensures.view;
+      instant = c.unlock.ensures.view.0;
+      unlocked = ap (λ (y : Sat). y.0) c.unlock.ensures.view.2;
     }
 
 pub returns-clause-alone : goal.returns-clause-alone
@@ -88,7 +89,7 @@ returns-clause-stay g c = λ hash ne place.
     let w : View = view c.walk_to_end.new.steps in
     let is : w ≡ record (locking v c.args.place.bucket) { chain = w.chain } =
     ap (λ (x : Sat). x.0) c.walk_to_end.ensures.kept ∙ ap (λ (x : Sat). record x.0 { chain = w.chain }) c.in_ok-locked.ensures.view in
-    subst (λ (y : View). IsPlace y.book hash) (sym (ap (λ (y : Sat). y.0) c.unlock.ensures.view)) (c.unhash.ensures.stay hash ne (c.hash-answer.ensures.stay hash (subst (λ (y : View). IsPlace y.book hash) (sym is) place)))
+    subst (λ (y : View). IsPlace y.book hash) (sym (ap (λ (y : Sat). y.0) c.unlock.ensures.view.2)) (c.unhash.ensures.stay hash ne (c.hash-answer.ensures.stay hash (subst (λ (y : View). IsPlace y.book hash) (sym is) place)))
 
 pub returns-clause-others : goal.returns-clause-others
 returns-clause-others g c = λ hash other place.
@@ -111,7 +112,7 @@ returns-clause-share g c = λ more share.
     let w : View = view c.walk_to_end.new.steps in
     let is : w ≡ record (locking v c.args.place.bucket) { chain = w.chain } =
     ap (λ (x : Sat). x.0) c.walk_to_end.ensures.kept ∙ ap (λ (x : Sat). record x.0 { chain = w.chain }) c.in_ok-locked.ensures.view in
-    subst (HasShares more) (sym (ap (λ (x : Sat). x.0) c.unlock.ensures.view)) (c.unhash.ensures.share more (c.hash-answer.ensures.share (more + 2) (let z = subst (HasShares (more + 4)) (sym is) share in omega (arith, z))))
+    subst (HasShares more) (sym (ap (λ (x : Sat). x.0) c.unlock.ensures.view.2)) (c.unhash.ensures.share more (c.hash-answer.ensures.share (more + 2) (let z = subst (HasShares (more + 4)) (sym is) share in omega (arith, z))))
 
 pub unlock-requires-clause-alone : goal.unlock-requires-clause-alone
 unlock-requires-clause-alone g c = inl (c.unhash.ensures.twice ∙ (c.hash-answer.ensures.twice (alone_where_waits c.args.card.now (view c.walk_to_end.new.steps).chain.walked c.requires.waits) ∙ (ap (λ (x : Sat). x.0.twice) c.walk_to_end.ensures.kept ∙ ap (λ (x : Sat). x.0.twice) c.in_ok-locked.ensures.view)))
