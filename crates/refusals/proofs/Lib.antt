@@ -1,0 +1,7 @@
+pub mod Chains
+pub mod Copied
+pub mod Found
+pub mod Joined
+pub mod Options
+pub mod Whole
+pub mod Words

@@ -1,0 +1,88 @@
+//! The first line of a text that is outside the grammar, and why.
+ghost use Rattle.std.specs.Prelude.{IfOk};
+ghost use Rattle.sock_script.specs.Words as grammar;
+ghost use Rattle.sock_script.specs.Grammar.{IsFirstOutside, IsScript};
+ghost use Rattle.refusals.specs.Reasons.{IsAnswer, IsRefusedFor};
+
+use crate::lines::{lines_of, words_of};
+use crate::reason::{Reason, reason_of};
+use capture_reader::CaptureEnd;
+use flat_list::Script;
+use label_index::LabelSeed;
+use sock_script::parse::parse;
+use sock_script::{Mode, ScriptEnd, capture};
+use std::alloc::{AllocError, Global};
+
+/// A line that is refused, and why.
+#[derive(Drop)]
+pub struct Refusal {
+    /// Its number, from 1.
+    pub number: u64,
+    /// What it says, without its line feed.
+    pub line: Vec<u8>,
+    pub reason: Reason,
+}
+
+/// What keeps a text from being run, if anything does.
+#[derive(Drop)]
+pub enum Answer {
+    /// Nothing does.
+    Sound,
+    /// A line of the script.
+    Refused(Refusal),
+    /// The first bytes of the capture.
+    BadCapture,
+}
+
+/// The refusal of the line of that number, which is the first outside the grammar.
+fn refusal_of(alloc: Global, mode: Mode, text: &[u8], number: u64) -> Result<Refusal, AllocError>
+    requires { IsFirstOutside mode (grammar.lines_of text.now) number }
+    ensures { IfOk result (λ r. IsRefusedFor mode text.now r.number r.line.items r.reason) }
+{
+    let lines = lines_of(alloc, text)?;
+    let line = lines[(number - 1) as usize];
+    let words = words_of(alloc, line)?;
+    let reason = reason_of(alloc, &words)?;
+    Ok(Refusal {
+        number,
+        line: line.to_vec(alloc)?,
+        reason,
+    })
+}
+
+/// What keeps the capture of a script from being read, if anything does.
+fn capture_answer(
+    alloc: Global,
+    mode: Mode,
+    script: &Script,
+    text: &[u8],
+) -> Result<Answer, AllocError>
+    requires { IsScript mode text.now script.now }
+    ensures { IfOk result (IsAnswer mode text.now) }
+{
+    match capture::read(alloc, script, text) {
+        Ok(_) => Ok(Answer::Sound),
+        Err(CaptureEnd::BadHead) => Ok(Answer::BadCapture),
+        Err(CaptureEnd::Memory) => Err(AllocError),
+    }
+}
+
+/// The first line that keeps a text from being a script, and why, or else whether its capture can't be read.
+///
+/// Takes memory for the script and its capture, or for the lines of the text, and time for its bytes.
+pub fn explain(
+    alloc: Global,
+    seed: LabelSeed,
+    mode: Mode,
+    text: &[u8],
+) -> Result<Answer, AllocError>
+    ensures { IfOk result (IsAnswer mode text.now) }
+{
+    match parse(alloc, seed, text, mode) {
+        Ok(script) => capture_answer(alloc, mode, &script, text),
+        Err(ScriptEnd::BadLine(number)) => Ok(Answer::Refused(refusal_of(
+            alloc, mode, text, number,
+        )?)),
+        Err(ScriptEnd::Memory) => Err(AllocError),
+    }
+}

@@ -1,0 +1,5 @@
+-- What the contracts of this program cite.
+pub mod Asked
+pub mod Ends
+pub mod Status
+pub mod Written

@@ -1,0 +1,74 @@
+-- What is written for a text, and which status it gets. Our own rules.
+--
+-- To be read from the end: `IsEnd`, `WritesAnswer`, `WritesFrontOfAnswer` and `Answers` are what contracts cite, and
+-- each stands on those above it.
+use Rattle.std.specs.Prelude.{◌≡◌, ◌^◌, ◌≤◌, ◌<◌, ℕ, List, length, codes, Option}
+use Rattle.std.specs.Io.KnownBytes.{Appends}
+use Rattle.inet_io.specs.Ends.{AppendsFront, ReadsWhole}
+use Rattle.sock_script.specs.declared.parse.Mode.{Mode}
+use Rattle.refusals.specs.declared.reason.Reason.{Reason}
+use Rattle.refusals.specs.Reasons.{IsRefusedFor, IsSound, HasBadCapture}
+use Rattle.refusals.specs.Texts.{refusal_text}
+use Rattle.why.specs.declared.status.Status.{Status}
+use Rattle.why.specs.declared.status.Status.TheVariants.{Done, Usage, BadScript, BadCapture, TooLong, ReadFault, WriteFault, Memory}
+
+-- the most bytes that an input may have
+abbrev pub limit : ℕ
+limit = 2 ^ 24
+
+-- The input was read to its end: it is these bytes, and within the limit.
+pub record ReadsInput (old new : Option (List ℕ)) (bytes : List ℕ) : Type 0 where
+  pub whole : ReadsWhole old new bytes
+  pub within : length bytes ≤ limit
+
+-- what is written where nothing is refused
+unfoldable pub sound_text : List ℕ
+sound_text = codes "no line is refused, and no capture\n"
+
+-- and where the capture is
+unfoldable pub capture_text : List ℕ
+capture_text = codes "bad capture: its first bytes are neither a header of libpcap's format, version 2.4, of Ethernet or raw IP, nor a valid block of pcapng's\n"
+
+-- The answer to these bytes has that status, and this is written: that nothing is refused; or the first line that is,
+-- with the reason; or that the capture is.
+abbrev pub IsAnswer : Mode → List ℕ → Status → List ℕ → Type 0
+IsAnswer mode bytes Done text = IsSound mode bytes × (text ≡ sound_text)
+IsAnswer mode bytes (BadScript n) text =
+    (line : List ℕ) × (reason : Reason) × IsRefusedFor mode bytes n line reason × (text ≡ refusal_text n line reason)
+IsAnswer mode bytes BadCapture text = HasBadCapture mode bytes × (text ≡ capture_text)
+IsAnswer mode bytes _ text = ⊥
+
+-- an answer has that status
+abbrev pub IsEnd : Status → Type 0
+IsEnd Done = Unit {0}
+IsEnd (BadScript n) = Unit {0}
+IsEnd BadCapture = Unit {0}
+IsEnd _ = ⊥
+
+-- The input was read to its end, and written grew by what is written of its answer, which has that status.
+abbrev pub WritesAnswer
+    : Mode → Option (List ℕ) → Option (List ℕ) → Option (List ℕ) → Option (List ℕ) → Status → Type 0
+WritesAnswer mode left left' written written' status =
+    (bytes text : List ℕ) × ReadsInput left left' bytes × IsAnswer mode bytes status text × Appends written written' text
+
+-- The input was read to its end, and written grew by a front of what was to be written, without the last byte.
+abbrev pub WritesFrontOfAnswer : Mode → Option (List ℕ) → Option (List ℕ) → Option (List ℕ) → Option (List ℕ) → Type 0
+WritesFrontOfAnswer mode left left' written written' =
+    (bytes text : List ℕ) × (status : Status) × ReadsInput left left' bytes × IsAnswer mode bytes status text
+    × AppendsFront written written' text
+
+-- these bytes have an answer of that status
+abbrev pub HasAnswer : Mode → List ℕ → Status → Type 0
+HasAnswer mode bytes status = (text : List ℕ) × IsAnswer mode bytes status text
+
+-- These bytes, read so, can get the status: that of their answer, where they are within the limit. A failed read and
+-- want of memory may come whatever they are; a failed write comes once they were read, so within the limit.
+abbrev pub Answers : Mode → List ℕ → Status → Type 0
+Answers mode bytes Done = (length bytes ≤ limit) × HasAnswer mode bytes Done
+Answers mode bytes Usage = ⊥
+Answers mode bytes (BadScript n) = (length bytes ≤ limit) × HasAnswer mode bytes (BadScript n)
+Answers mode bytes BadCapture = (length bytes ≤ limit) × HasAnswer mode bytes BadCapture
+Answers mode bytes TooLong = limit < length bytes
+Answers mode bytes ReadFault = Unit {0}
+Answers mode bytes WriteFault = length bytes ≤ limit
+Answers mode bytes Memory = Unit {0}

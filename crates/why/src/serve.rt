@@ -1,0 +1,109 @@
+//! What is refused of what a source has, over ends that are handed in.
+ghost use Rattle.std.specs.Prelude.{◌≡◌, ◌⊎◌, ◌+◌, ◌≤◌, ◌<◌, ◌++◌, ℕ, List, length, IfOk, IfSome, OnOk};
+ghost use Rattle.inet_io.specs.Ends.{Rose, ReadsMoreThan};
+ghost use Rattle.why.specs.declared.status.Status.{Status as AnyStatus};
+ghost use Rattle.why.specs.Written as spec;
+ghost use Rattle.why.specs.Written.{Answers, IsAnswer, IsEnd, limit, WritesAnswer, WritesFrontOfAnswer};
+
+use crate::status::Status;
+use inet_io::{Failed, ReadEnd, Sink, Source};
+use label_index::LabelSeed;
+use refusals::{Answer, explain, put_refusal};
+use sock_script::Mode;
+use std::alloc::{AllocError, Global};
+
+/// The most bytes that an input may have.
+const LIMIT: usize = 16_777_216;
+
+/// Reads the source to its end, and writes which line of it is refused, and why.
+///
+/// What is written is built whole before the first write, so that only a write that fails leaves a part of it.
+/// Reading takes at most 16,777,217 reads. Where several causes stand, the earlier of a failed read, too long an
+/// input, and a failed write is answered; want of memory may come in place of what a later test would give.
+pub fn serve<S: Source, K: Sink>(
+    alloc: Global,
+    seed: LabelSeed,
+    mode: Mode,
+    source: &mut S,
+    sink: &mut K,
+) -> Status
+    ensures told { IsEnd result → WritesAnswer mode
+        (S.left source.old) (S.left source.new) (K.written sink.old) (K.written sink.new) result }
+    ensures no_usage { result ≡ Status.Usage → ⊥ }
+    ensures too_long { result ≡ Status.TooLong
+        → ReadsMoreThan limit (S.left source.old) (S.left source.new) × (sink.new ≡ sink.old) }
+    ensures read_fault { result ≡ Status.ReadFault
+        → Rose (S.faults source.old) (S.faults source.new) × (sink.new ≡ sink.old) }
+    ensures write_fault { result ≡ Status.WriteFault → Rose (K.faults sink.old) (K.faults sink.new)
+        × WritesFrontOfAnswer mode (S.left source.old) (S.left source.new) (K.written sink.old) (K.written sink.new) }
+    ensures memory { result ≡ Status.Memory → sink.new ≡ sink.old }
+    ensures reads { S.calls source.new ≤ S.calls source.old + limit + 1 }
+    ensures verdict { IfSome (S.left source.old) (λ bytes. Answers mode bytes result) }
+    ensures over_limit { IfSome (S.left source.old) (λ bytes. limit < length bytes
+        → (result ≡ Status.TooLong) ⊎ ((result ≡ Status.ReadFault) ⊎ (result ≡ Status.Memory))) }
+    ensures complete { IfSome (S.left source.old) (λ bytes. (status : AnyStatus) (text : List ℕ)
+        → length bytes ≤ limit → IsAnswer mode bytes status text
+        → ¬ (Rose (S.faults source.old) (S.faults source.new))
+        → ¬ (Rose (K.faults sink.old) (K.faults sink.new))
+        → (result ≡ status) ⊎ (result ≡ Status.Memory)) }
+{
+    let bytes = match inet_io::read_all(alloc, source, LIMIT) {
+        Ok(bytes) => bytes,
+        Err(ReadEnd::Failed) => return Status::ReadFault,
+        Err(ReadEnd::TooLong) => return Status::TooLong,
+        Err(ReadEnd::Memory) => return Status::Memory,
+    };
+    let Ok((status, text)) = answer_of(alloc, seed, mode, &bytes) else {
+        return Status::Memory;
+    };
+    match inet_io::write_all(sink, &text) {
+        Err(Failed) => Status::WriteFault,
+        Ok(()) => status,
+    }
+}
+
+/// Appends what is written where nothing is refused.
+#[tactic(auto, unfolding(crate::specs::Written::sound_text))]
+fn put_sound(out: &mut Vec<u8>) -> Result<(), AllocError>
+    ensures { OnOk result (out.new.items ≡ out.old.items ++ spec.sound_text) }
+{
+    out.extend_from_slice(b"no line is refused, and no capture\n")
+}
+
+/// Appends what is written where the capture is refused.
+#[tactic(auto, unfolding(crate::specs::Written::capture_text))]
+fn put_bad_capture(out: &mut Vec<u8>) -> Result<(), AllocError>
+    ensures { OnOk result (out.new.items ≡ out.old.items ++ spec.capture_text) }
+{
+    out.extend_from_slice(
+        b"bad capture: its first bytes are neither a header of libpcap's format, version 2.4, of Ethernet or raw IP, \
+          nor a valid block of pcapng's\n",
+    )
+}
+
+/// The answer to a text, and what is written of it.
+fn answer_of(
+    alloc: Global,
+    seed: LabelSeed,
+    mode: Mode,
+    bytes: &[u8],
+) -> Result<(Status, Vec<u8>), AllocError>
+    ensures answer { IfOk result (λ r. IsAnswer mode bytes.now r.0 r.1.items) }
+    ensures end { IfOk result (λ r. IsEnd r.0) }
+{
+    let mut out = Vec::new(alloc);
+    match explain(alloc, seed, mode, bytes)? {
+        Answer::Sound => {
+            put_sound(&mut out)?;
+            Ok((Status::Done, out))
+        }
+        Answer::Refused(refusal) => {
+            put_refusal(&mut out, &refusal)?;
+            Ok((Status::BadScript(refusal.number), out))
+        }
+        Answer::BadCapture => {
+            put_bad_capture(&mut out)?;
+            Ok((Status::BadCapture, out))
+        }
+    }
+}
