@@ -1,3 +1,4 @@
 -- What the contracts of this program cite.
+pub mod Ends
 pub mod Status
 pub mod Written

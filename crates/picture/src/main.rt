@@ -13,27 +13,38 @@
 //! | `Refuted(n)` | 10 | the record fails a test, first at line n | its picture |
 #![tactic(auto)]
 
-ghost use Rattle.std.specs.Prelude.{◌≡◌, ◌⊎◌, IfErr};
+ghost use Rattle.std.specs.Prelude.{◌≡◌, ◌⊎◌, length, IfErr, IfOk};
 ghost use Rattle.std.specs.Process.{exit_status};
+ghost use Rattle.std.specs.Vec.Iter.{into_iter_items};
+ghost use Rattle.picture.specs.Ends.{IsEndOf};
 ghost use Rattle.picture.specs.Status.{exit_code};
+ghost use Rattle.picture.specs.declared.status.Status.{Status as AnyStatus};
 ghost use Rattle.picture.specs.declared.status.Status.TheVariants as statuses;
 
 mod serve;
 mod status;
 
-use inet_io::{StdSink, StdSource};
+use inet_io::{Sink, Source, StdSink, StdSource};
 use status::Status;
+use std::alloc::{AllocError, Global};
 use std::env;
-use std::env::Env;
+use std::env::{Args, Env};
 use std::io::ErrorKind;
 use std::process::ExitCode;
+
+/// All words that are left.
+fn collected(alloc: Global, words: Args) -> Result<Vec<String>, AllocError>
+    ensures { IfOk result (λ all. all.items ≡ into_iter_items words) }
+{
+    words.collect(alloc)
+}
 
 /// The words of the command line. One that isn't UTF-8 is a word as others.
 fn words_of(rt: &(impl Env + AllocGlobal)) -> Result<Vec<String>, Status>
     ensures { IfErr result (λ status. (status ≡ statuses.Usage) ⊎ (status ≡ statuses.Memory)) }
 {
     match env::args(rt) {
-        Ok(words) => words.collect(rt.alloc()).map_err(|_| Status::Memory),
+        Ok(words) => collected(rt.alloc(), words).map_err(|_| Status::Memory),
         Err(error) if error.kind() == ErrorKind::OutOfMemory => Err(Status::Memory),
         Err(_) => Err(Status::Usage),
     }
@@ -46,14 +57,37 @@ fn code_of(status: Status) -> ExitCode
     ExitCode::from(status.exit_code())
 }
 
-fn main(rt: HostRuntime) -> ExitCode {
-    match words_of(&rt) {
-        Ok(words) if words.len() > 1 => code_of(Status::Usage),
-        Ok(_) => {
-            let mut source = StdSource::new(rt.stdin());
-            let mut sink = StdSink::new(rt.stdout());
-            code_of(serve::serve(rt.alloc(), &mut source, &mut sink))
-        }
-        Err(status) => code_of(status),
+/// Draws what the source has, if so many words are the program's name alone.
+fn draw<S: Source, K: Sink>(alloc: Global, words: usize, source: &mut S, sink: &mut K) -> Status
+    ensures { IsEndOf words result
+        (S.left source.old) (S.left source.new) (K.written sink.old) (K.written sink.new) }
+{
+    if words > 1 {
+        return Status::Usage;
     }
+    serve::serve(alloc, source, sink)
+}
+
+/// Does so, and gives the exit status of what came of it. Where the words couldn't be had, it is that of the reason.
+fn ended<S: Source, K: Sink>(
+    alloc: Global,
+    words: Result<Vec<String>, Status>,
+    source: &mut S,
+    sink: &mut K,
+) -> ExitCode
+    ensures { (status : AnyStatus) × (exit_status result ≡ exit_code status)
+        × IfErr words (λ reason. status ≡ reason)
+        × IfOk words (λ all. IsEndOf (length all.items) status
+        (S.left source.old) (S.left source.new) (K.written sink.old) (K.written sink.new)) }
+{
+    match words {
+        Ok(words) => code_of(draw(alloc, words.len(), source, sink)),
+        Err(reason) => code_of(reason),
+    }
+}
+
+fn main(rt: HostRuntime) -> ExitCode {
+    let mut source = StdSource::new(rt.stdin());
+    let mut sink = StdSink::new(rt.stdout());
+    ended(rt.alloc(), words_of(&rt), &mut source, &mut sink)
 }
