@@ -6,6 +6,8 @@ proved of it"; docs/inet.1 under RACES and AUDITS.
 
 from __future__ import annotations
 
+from typing import Optional
+
 from .cards import Shape, rank
 from .record import Again, Change, Found, Life, Receipt
 
@@ -13,6 +15,18 @@ from .record import Again, Change, Found, Life, Receipt
 def throughout(life: Life, t0: int, t1: int) -> bool:
     """It was there from before t0 until after t1."""
     return life.hash.end < t0 and not (life.unhash and life.unhash.begin < t1)
+
+
+def stands(life: Life, number: int) -> bool:
+    """It was hashed below the number, and nobody began to unhash it below the number."""
+    return life.hash.end < number and not (life.unhash and life.unhash.begin < number)
+
+
+def picture(lives: list[Life], keys: set, lo: int, hi: int) -> Optional[int]:
+    """The first number from lo to hi at which of these lives exactly those of the keys stand."""
+    turns = {lo} | {c + 1 for h in lives for c in ([h.hash.end] + ([h.unhash.begin] if h.unhash else []))}
+    return next((n for n in sorted(turns) if lo <= n <= hi and keys == {h.key for h in lives if stands(h, n)}), None)
+
 
 
 def meets(change: Change, t0: int, t1: int) -> bool:

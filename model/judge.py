@@ -460,6 +460,13 @@ class Judge:
         for life in self.r.lives:
             if book.throughout(life, dump.t0, dump.t1) and life.key not in keys:
                 self.fault(step.line, f"it leaves out the life of line {life.line}")
+        at: Optional[int] = dump.t0                # a later chain isn't listed at an earlier number
+        for bucket in range(self.r.shape.hash + self.r.shape.listen):
+            mine = {life.key for life in listed if life.bucket == bucket}
+            at = book.picture([life for life in self.r.lives if life.bucket == bucket], mine, at, dump.t1)
+            if at is None:
+                self.fault(step.line, f"chain {bucket} never was so")
+                return
 
     def number_of(self, life: Life) -> int:
         """The number of a life's label in its script."""

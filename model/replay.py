@@ -427,7 +427,7 @@ class Replay:
         step.reaped = int(got[1])
 
     def _dump(self, step: Step, rest: list[ReplyLine]) -> int:
-        """`COUNT t0 T0 t1 T1` and COUNT item lines."""
+        """How many items, with the two loads of the clock, and a line for each item."""
         got = DUMP.fullmatch(step.reply)
         if not got:
             raise self.wrong(step)

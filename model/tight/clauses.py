@@ -11,17 +11,12 @@ from typing import Any, Callable, Iterator, Optional
 
 from .. import book
 from .. import commands as cmd
-from ..cards import (Card, Four, bind_bucket, Kind, Packet, home, packet_buckets, packet_hash, rank, tw_replaceable)
+from ..cards import (Card, Four, bind_bucket, Kind, Packet, home, packet_buckets, packet_hash, rank)
 from ..hashes import scale
 from ..record import Again, Change, Found, Life, Receipt
 from .lawful import Deed, Entry, Lawful, Witness, agree_all, entry_step
 
 Clause = Callable[[Lawful, Witness], bool]
-
-
-def stands(h: Life, c: int) -> bool:
-    """The life is in its chain, and its bucket is at rest, as the clock is c."""
-    return h.hash.end < c and not (h.unhash and h.unhash.begin < c)
 
 
 def own_changes(d: Deed) -> list[tuple[Life, Change]]:
@@ -65,35 +60,6 @@ def bucket_of(l: Lawful, d: Deed) -> Optional[int]:
     if s.four is not None and l.shape.hash == 1:
         return 0
     return None
-
-
-def replaced(l: Lawful, w: Witness) -> bool:
-    """A TIME_WAIT of a four-tuple that is given goes, where it stands as the hash begins, and none else."""
-    for d in w.steps():
-        s = d.step
-        if not s.replaces or not s.ok or d.hashed is None:
-            continue
-        b = d.hashed.hash.begin
-        waits = [h for h in l.r.lives if h.card.kind is Kind.TIME_WAIT
-                 and h.card.four == d.hashed.card.four and stands(h, b) and not kept_wait(l, d, h)]
-        if d.replaced not in waits + [None] or (waits and d.replaced is None):
-            return False
-    return True
-
-
-def kept_wait(l: Lawful, d: Deed, h: Life) -> bool:
-    """A TIME_WAIT that may not be replaced."""
-    return h in list(l.keeps(d, h.card.four))
-
-
-def granted(l: Lawful, w: Witness) -> bool:
-    """Whoever is given a four-tuple: nobody keeps it from it as its hash begins."""
-    for d in w.steps():
-        if d.step.replaces and d.step.ok and d.hashed is not None:
-            b = d.hashed.hash.begin
-            if any(stands(h, b) for h in l.keeps(d, d.hashed.card.four) if h is not d.hashed):
-                return False
-    return True
 
 
 def one_lock(l: Lawful, w: Witness) -> bool:
@@ -309,18 +275,9 @@ def journals(l: Lawful, w: Witness) -> bool:
     return False
 
 
-def snapshot(l: Lawful, w: Witness) -> bool:
-    """A dump has each chain as it was at one clock, the chains in their order."""
-    return pictures(l, w, [])
-
-
 def unlocked(l: Lawful, w: Witness) -> bool:
-    """And at a clock at which nobody had that chain locked for changes."""
-    return pictures(l, w, list(locked_spans(l, w)))
-
-
-def pictures(l: Lawful, w: Witness, spans: list[tuple[int, int, int]]) -> bool:
-    """The chains of each dump."""
+    """A dump has each chain as it was at a clock at which nobody had it locked for changes."""
+    spans = list(locked_spans(l, w))
     for d in w.steps():
         if d.step.dump is None:
             continue
@@ -332,7 +289,7 @@ def pictures(l: Lawful, w: Witness, spans: list[tuple[int, int, int]]) -> bool:
             mine = {h.key for h in items if h.bucket == b}
             for t in range(c, d.step.dump.t1 + 1):
                 busy = any(x[0] == b and x[1] < t <= x[2] for x in spans)
-                if not busy and mine == {h.key for h in l.r.lives if h.bucket == b and stands(h, t)}:
+                if not busy and mine == {h.key for h in l.r.lives if h.bucket == b and book.stands(h, t)}:
                     c = t
                     break
             else:
@@ -571,8 +528,8 @@ def its_slot(l: Lawful, w: Witness) -> bool:
 
 
 CLAUSES: dict[str, Clause] = {
-    "granted": granted, "replaced": replaced, "one lock": one_lock, "taken": taken, "vain": vain, "held": held,
-    "slots": claims, "journals": journals, "snapshot": snapshot, "unlocked": unlocked, "stages": stages,
+    "one lock": one_lock, "taken": taken, "vain": vain, "held": held,
+    "slots": claims, "journals": journals, "unlocked": unlocked, "stages": stages,
     "handover": handover, "matched": matched, "strayed": strayed, "group": grouped, "nearest": nearest,
     "its slot": its_slot,
 }

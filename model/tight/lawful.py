@@ -127,7 +127,27 @@ class Lawful:
         if (isinstance(what.answer, Again)
                 and what.answer.walked not in packet_buckets(item, self.shape, self.seed)):
             return False
-        return book.explained(self.r.lives, what, self.shape) and self.staged(what)
+        return book.explained(self.r.lives, what, self.shape) and self.staged(what) and self.of_its_time(what)
+
+    def of_its_time(self, r: Any) -> bool:
+        """IsOfItsTime: no later life of its slot had been hashed before the lookup."""
+        if not isinstance(r.answer, Found):
+            return True
+        h = self.lives[(r.answer.script, r.answer.label, r.answer.kind)]
+        return book.stood(h, r.t0, r.t1) and not any(
+            g.slot == h.slot and h.hash.end < g.hash.end < r.t0 for g in self.r.lives)
+
+    def caused(self, answer: Any, bucket: int, a: int, b: int) -> bool:
+        """CanStop: what can stop a pass through the chain."""
+        lives = self.r.lives
+        astray = any(h.bucket == bucket and h.unhash and book.meets(h.unhash, a, b) and g.slot == h.slot
+                     and h.unhash.begin < g.hash.end and book.meets(g.hash, a, b)
+                     for h in lives for g in lives)
+        if answer.why != "dead":
+            return astray
+        here = [h for h in lives if h.slot == answer.number]
+        return ((astray or any(h.bucket == bucket and book.stood(h, a, b) for h in here))
+                and not any(book.throughout(h, a, b) for h in here))
 
     def staged(self, r: Any) -> bool:
         """IsInStages: the three lookups one after the other, each in its own chain and part of the span."""
@@ -144,8 +164,9 @@ class Lawful:
                 n = rank(found.card, r.packet)
                 return n >= least and none(bucket, n + 1, a, r.t1)
             if isinstance(r.answer, Again):
-                return r.answer.walked == bucket and book.explained_again(
-                    self.r.lives, Receipt(r.answer, a, r.t1, r.packet), r.answer, self.shape)
+                return (r.answer.walked == bucket and self.caused(r.answer, bucket, a, r.t1)
+                        and book.explained_again(
+                            self.r.lives, Receipt(r.answer, a, r.t1, r.packet), r.answer, self.shape))
             return k == 2 and none(bucket, least, a, r.t1)
 
         def reached(k: int, a: int) -> bool:
@@ -331,7 +352,7 @@ class Lawful:
     def kept(self, d: Deed, four: Any, lo: Optional[int] = None, hi: Optional[int] = None) -> bool:
         """WasKept."""
         lo, hi = d.lo if lo is None else lo, d.hi if hi is None else hi
-        return any(book.stood(h, lo, hi) for h in self.keeps(d, four))
+        return any(book.stands(h, max(h.hash.end + 1, lo)) and max(h.hash.end + 1, lo) <= hi for h in self.keeps(d, four))
 
     def evidence(self, sections: list[list[Deed]]) -> bool:
         """What can be said of each step by itself, between the widest numbers that it may have."""
@@ -352,7 +373,7 @@ class Lawful:
             last = k == len(frees) - 1 and s.refusal != "EADDRNOTAVAIL"
             if e[4] and not last and not self.kept(d, s.four._replace(lport=e[2][0]), lo, hi):
                 return False
-        if s.replaces and s.ok and d.hashed is not None and not self.was_free(d, lo, hi):
+        if s.replaces and s.ok and d.hashed is not None and not self.was_free(d):
             return False
         if s.seen is not None and not self.used(d, max(lo, d.vain or 0), hi):
             return False
@@ -360,13 +381,15 @@ class Lawful:
             return False
         return not isinstance(s.command, cmd.Reap) or self.reaped(d, hi)
 
-    def was_free(self, d: Deed, lo: int, hi: int) -> bool:
-        """WasFree: nobody who keeps the four-tuple was there throughout, nor a TIME_WAIT if none gave way."""
+    def was_free(self, d: Deed) -> bool:
+        """WasFree: as the hash begins nobody stands who keeps the four-tuple, nor a TIME_WAIT if none gives way."""
         assert d.hashed is not None
-        four = d.hashed.card.four
+        four, begin = d.hashed.card.four, d.hashed.hash.begin
         there = [h for h in self.r.lives if h is not d.hashed and h.card.four == four
-                 and h.bucket == d.hashed.bucket and book.throughout(h, lo, hi)]
+                 and h.bucket == d.hashed.bucket and book.stands(h, begin)]
         keeps = list(self.keeps(d, four))
+        if d.replaced is not None and d.replaced not in there:
+            return False
         return not any(h in keeps or (d.replaced is None and h.card.kind is Kind.TIME_WAIT) for h in there)
 
     def reaped(self, d: Deed, hi: int) -> bool:
@@ -415,12 +438,16 @@ class Lawful:
         order = [(h.key[0], self.number(h), h.card.kind) for h in items]
         if any(a >= b for a, b in zip(order, order[1:])):
             return False
-        if not all(book.stood(h, dump.t0, dump.t1) for h in items):
-            return False
         if any((h.bucket, h.slot) == (g.bucket, g.slot) for k, h in enumerate(items)
                for g in items[:k]):
             return False
-        return all(h in items for h in self.r.lives if book.throughout(h, dump.t0, dump.t1))
+        at: Optional[int] = dump.t0                # each chain at the first number that will do
+        for b in range(self.shape.hash + self.shape.listen):
+            mine = {h.key for h in items if h.bucket == b}
+            at = book.picture([h for h in self.r.lives if h.bucket == b], mine, at, dump.t1)
+            if at is None:
+                return False
+        return True
 
     def number(self, h: Life) -> int:
         given = [cmd.given_label(c) for c in self.given.script.sections[h.key[0] - 1]]

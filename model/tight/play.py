@@ -77,7 +77,7 @@ class Tables:
 
 
 # a slot: own, live, count, link, w0, w1, w23   (w0, w1: parts of a card; w23: name, extra)
-OWN, LIVE, COUNT, LINK, W0, W1, W23 = range(7)
+OWN, LIVE, COUNT, LINK, ENDS, PORTS, REST = range(7)
 EMPTY_SLOT = (False, False, 0, 0, None, None, None)
 # a bind bucket: taken, owners, groups, entries
 
@@ -100,7 +100,7 @@ def chain(t: Tables, bucket: int) -> list[int]:
 def card_at(t: Tables, at: int) -> Card:
     """A linked slot's card, as its words say."""
     s = t.slots[at]
-    return card_of_words(s[W0], s[W1], s[W23])
+    return card_of_words(s[ENDS], s[PORTS], s[REST])
 
 
 def card_of_words(w0: tuple, w1: tuple, w23: tuple) -> Card:
@@ -238,11 +238,11 @@ class Section:
         w1 = (card.lport, card.rport, card.dev, card.net, card.kind)
 
         def st0(t: Tables) -> None:
-            setf(t, at, W0, w0)
+            setf(t, at, ENDS, w0)
 
         def st1(t: Tables) -> None:
-            setf(t, at, W1, w1)
-            setf(t, at, W23, (card.name, extra))
+            setf(t, at, PORTS, w1)
+            setf(t, at, REST, (card.name, extra))
 
         def link(t: Tables) -> None:
             setf(t, at, LINK, t.heads[bucket])
@@ -488,7 +488,7 @@ class Section:
             other = card_at(t, at)
             if other.four != card.four:
                 continue
-            stamp = t.slots[at][W23][1]
+            stamp = t.slots[at][REST][1]
             if other.kind is Kind.TIME_WAIT and (always or (connects and tw_replaceable(
                     stamp, self.moment, self.h.twreuse))):
                 waiting = waiting or (at, other)
@@ -888,14 +888,14 @@ class Looker:
                 again = f"long {followed}"
                 break
             at = link // 2
-            w0 = yield (lambda t, at=at: t.slots[at][W0])
-            w1 = yield (lambda t, at=at: t.slots[at][W1])
+            w0 = yield (lambda t, at=at: t.slots[at][ENDS])
+            w1 = yield (lambda t, at=at: t.slots[at][PORTS])
             mine = rank_of_words(w0, w1, packet)
             if mine >= least and mine > best_rank:
                 def take(t: Tables, at: int = at) -> Any:
                     s = t.slots[at]
                     setf(t, at, COUNT, s[COUNT] + 1)
-                    return (s[W0], s[W1], s[W23]) if s[LIVE] else None
+                    return (s[ENDS], s[PORTS], s[REST]) if s[LIVE] else None
                 words = yield take
                 if words is None or rank_of_words(words[0], words[1], packet) != mine:
                     yield self.put(at)
@@ -949,7 +949,7 @@ class Looker:
         def take(t: Tables) -> Any:
             s = t.slots[at]
             setf(t, at, COUNT, s[COUNT] + 1)
-            return (s[W0], s[W1], s[W23]) if s[LIVE] else None
+            return (s[ENDS], s[PORTS], s[REST]) if s[LIVE] else None
         words = yield take
         found = best
         if words is not None:
