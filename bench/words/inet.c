@@ -41,7 +41,7 @@ static struct worker *table_worker(int number)
 {
     struct worker *w = new_worker();
     (void)number;
-    must("inet_tables_worker", inet_tables_worker(&shared, 1000, &w->handle, &w->number));
+    must("inet_tables_worker", inet_tables_worker(&shared, &(struct inet_limits){1000, 0, 0}, &w->handle, &w->number));
     return w;
 }
 

@@ -1,7 +1,7 @@
 ghost use Rattle.std.specs.Prelude.{◌≡◌, ◌<◌, ◌∷◌, [], true, false, IfSome, IfNone};
-ghost use Rattle.table_rule.specs.Calls.{IsOf, view, Becomes, Stays, MayUnlock, layout_of};
+ghost use Rattle.table_rule.specs.Calls.{IsOf, view, Becomes, Stays, MayUnlock, layout_of, Unlocks};
 ghost use Rattle.bucket_locks.specs.Locks.{IsAt, WalkKnown};
-ghost use Rattle.table_rule.specs.Plays.{locking, unlocking};
+ghost use Rattle.table_rule.specs.Plays.{locking};
 ghost use Rattle.table_rule.specs.Words.{bucket_count};
 
 use patience::Patience;
@@ -86,7 +86,7 @@ pub fn unlock(chains: &Chains, steps: &mut Steps, locked: Locked)
         × ((view steps.old).slot.dimmed ≡ []) }
     requires alone { MayUnlock (view steps.old) }
     ensures table { IsOf chains.now steps.new }
-    ensures view { Becomes steps.old steps.new (unlocking (view steps.old)) }
+    ensures view { Unlocks steps.old steps.new }
 {
     chains.step_unlock(steps, locked.bucket);
 }
