@@ -24,14 +24,14 @@ static void must(int error, const char *what) {
     }
 }
 
-static uint64_t nanoseconds(void) {
+static inline uint64_t nanoseconds(void) {
     struct timespec now;
     clock_gettime(CLOCK_MONOTONIC, &now);
     return (uint64_t)now.tv_sec * 1000000000 + (uint64_t)now.tv_nsec;
 }
 
 /* The memory that the process has in use, in KiB, as Linux counts it (VmRSS); 0 elsewhere. */
-static uint64_t memory(void) {
+static inline uint64_t memory(void) {
     char line[256];
     unsigned long long kib = 0;
     FILE *status = fopen("/proc/self/status", "r");
@@ -45,7 +45,7 @@ static uint64_t memory(void) {
 }
 
 /* A listener of the worker's at any address. */
-static uint64_t open_listener(struct inet_tables *tables, uint32_t worker, uint16_t port) {
+static inline uint64_t open_listener(struct inet_tables *tables, uint32_t worker, uint16_t port) {
     uint64_t listener;
     uint16_t bound;
     must(inet_tables_socket(tables, worker, 0, 0, 0, INET_REUSEADDR, &listener), "socket");

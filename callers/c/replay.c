@@ -152,7 +152,7 @@ static void play(FILE *capture) {
 
 static void report(const struct object *it) {
     if (it->peer != 0)
-        printf("%u.%u.%u.%u:%u at port %u: %lu segments, %lu bytes, %s\n", it->peer >> 24, it->peer >> 16 & 255,
+        printf("%u.%u.%u.%u:%u at port %u: segments %lu, bytes %lu, %s\n", it->peer >> 24, it->peer >> 16 & 255,
                it->peer >> 8 & 255, it->peer & 255, it->peer_port, it->port, it->segments, it->bytes,
                it->ended != NULL ? it->ended : "open");
 }
