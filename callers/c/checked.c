@@ -189,6 +189,6 @@ int main(int words, char **word) {
             (unsigned long long)opened, (unsigned long long)checked, (unsigned long long)moving,
             (unsigned long long)early, (unsigned long long)late);
     printf("wrong answers: %llu\n", (unsigned long long)wrong);
-    printf("memory: %s\n", late <= early + early / 50 ? "level" : "GROWS");
+    printf("memory: %s\n", late <= early + 1024 ? "level" : "GROWS");
     return 0;
 }
