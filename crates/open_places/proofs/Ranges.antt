@@ -1,20 +1,17 @@
--- Lists that a function gives, of the numbers in order.
-use Rattle.std.proofs.Common.{◌≡◌, ◌≢◌, ℕ, zero, suc, ◌+◌, ◌<◌, ◌≤◌, true, false, List, [], ◌∷◌, ◌++◌, length, map, Option, Some, None, set, refl, sym, ap, ◌∙◌, arith}
+-- Lists that a function gives, of the numbers in order; and places, each with the cell that a function gives for it.
+use Rattle.std.proofs.Common.{◌≡◌, ◌≢◌, ℕ, zero, suc, ◌+◌, ◌<◌, ◌≤◌, true, false, List, [], ◌∷◌, ◌++◌, length, map, None, set, refl, sym, ap, ◌∙◌, arith}
 use mathlib.Core.Logic.{dite}
 use Rattle.std.proofs.Math.Decide.{dec_le}
 use Rattle.std.specs.List.{range_with_len, slice_index_or}
-use Rattle.std.specs.BTreeMap.{BTreeMap, get, Updates}
-use Rattle.std.specs.Prelude.{is_some, option_and_then, IsSome}
-use Rattle.std.specs.Cmp.{nat_cmp_is}
-use Rattle.std.specs.Ordering.{nat_cmp, is_eq}
-use Rattle.std.specs.declared.cmp.Ordering.TheVariants.{Less, Greater}
-use Rattle.std.proofs.lemmas.Bool.{false≢true}
+use Rattle.std.specs.Option.{option_flatten}
+use Rattle.std.specs.Prelude.{is_some}
 use Rattle.std.proofs.lemmas.List.{get_or_past}
 use Rattle.std.proofs.lemmas.List.FromFn.{map-range_with_len_more, get_or-map-range_with_len, length-map-range_with_len}
-use Rattle.open_places.specs.Cells.{Places, cell_in, places_in, one_more, AreGiven, AreEmpty, AreEmptyFrom}
+use Rattle.open_places.specs.Cells.{Places, one_more}
+use Rattle.open_places.specs.Pages.{Cell, places_of}
 
 module _ {X : Type 0} (f g : ℕ → X) where
-  same_range : (a n : ℕ) → ((j : ℕ) → a ≤ j → j < a + n → g j ≡ f j) → map g (range_with_len a n) ≡ map f (range_with_len a n)
+  pub same_range : (a n : ℕ) → ((j : ℕ) → a ≤ j → j < a + n → g j ≡ f j) → map g (range_with_len a n) ≡ map f (range_with_len a n)
   same_range a zero h = refl
   same_range a (suc n) h =
       let first : g a ≡ f a = h a (omega arith) (omega arith) in
@@ -39,56 +36,53 @@ module _ {X : Type 0} (f g : ℕ → X) where
       ∙ map-range_with_len_more g 0 n n (omega arith)
       ∙ (λ i. same_range 0 n (λ j l b. else j (λ e. omega (arith, b, e))) i ++ at i ∷ [])
 
--- numbers that differ aren't equal in their order
-apart : (a b : ℕ) → a ≢ b → is_eq (nat_cmp a b) ≡ false
-apart a b ne =
-    dite (dec_le (a + 1) b) (λ l. ap is_eq (sym (nat_cmp_is a b Less (omega (arith, l)))))
-    (λ l. dite (dec_le (b + 1) a) (λ g. ap is_eq (sym (nat_cmp_is a b Greater (omega (arith, g))))) (λ g. absurd (ne (omega (arith, l, g)))))
+-- no place from that number on has a cell
+abbrev pub AreGiven : {T : Type 0} → (count : ℕ) (cell : ℕ → Cell T) → Type 0
+AreGiven count cell = (i : ℕ) → count ≤ i → cell i ≡ None
 
-abbrev pub flat : {T : Type 0} → Option (Option T) → Option T
-flat o = option_and_then (λ p. p) o
-
-module _ {T : Type 0} where
-  pub found : (count : ℕ) (m : BTreeMap ℕ (Option T)) (place : ℕ) → AreGiven count m → slice_index_or (places_in count m).cells place None ≡ cell_in m place
-  found count m place given = dite (dec_le count place)
-      (λ l. get_or_past (places_in count m).cells place None (omega (arith, length-map-range_with_len (cell_in m) 0 count, l)) ∙ sym (ap flat (given place l)))
-      (λ l. get_or-map-range_with_len (cell_in m) 0 count place place None (omega (arith, l)) (omega arith))
-
-  pub kept_found : (count : ℕ) (m : BTreeMap ℕ (Option T)) (place : ℕ) → AreGiven count m → slice_index_or (places_in count m).kept place false ≡ is_some (get nat_cmp m place)
-  kept_found count m place given = dite (dec_le count place)
-      (λ l. get_or_past (places_in count m).kept place false (omega (arith, length-map-range_with_len (λ i. is_some (get nat_cmp m i)) 0 count, l)) ∙ sym (ap is_some (given place l)))
-      (λ l. get_or-map-range_with_len (λ i. is_some (get nat_cmp m i)) 0 count place place false (omega (arith, l)) (omega arith))
-
-  pub counted : (count : ℕ) (m : BTreeMap ℕ (Option T)) → (count ≡ length (places_in count m).cells) × (length (places_in count m).kept ≡ length (places_in count m).cells)
-  counted count m =
-      let cells = length-map-range_with_len (cell_in m) 0 count in
-      let kept = length-map-range_with_len (λ i. is_some (get nat_cmp m i)) 0 count in
+module _ {T : Type 0} (count : ℕ) (cell : ℕ → Cell T) where
+  pub counted : (count ≡ length (places_of count cell).cells) × (length (places_of count cell).kept ≡ length (places_of count cell).cells)
+  counted =
+      let cells = length-map-range_with_len (λ i. option_flatten (cell i)) 0 count in
+      let kept = length-map-range_with_len (λ i. is_some (cell i)) 0 count in
       (sym cells, kept ∙ sym cells)
 
-  module _ (m n : BTreeMap ℕ (Option T)) (place : ℕ) (w : Option (Option T)) (updates : Updates nat_cmp m n place w) where
-    here : get nat_cmp n place ≡ w
-    here = updates.1
+  module _ (given : AreGiven count cell) (place : ℕ) where
+    pub found : slice_index_or (places_of count cell).cells place None ≡ option_flatten (cell place)
+    found = dite (dec_le count place)
+        (λ l. get_or_past (places_of count cell).cells place None (omega (arith, length-map-range_with_len (λ i. option_flatten (cell i)) 0 count, l)) ∙ sym (ap option_flatten (given place l)))
+        (λ l. get_or-map-range_with_len (λ i. option_flatten (cell i)) 0 count place place None (omega (arith, l)) (omega arith))
 
-    there : (j : ℕ) → j ≢ place → get nat_cmp n j ≡ get nat_cmp m j
-    there j ne = updates.2 j (apart place j (λ e. ne (sym e)))
+    pub kept_found : slice_index_or (places_of count cell).kept place false ≡ is_some (cell place)
+    kept_found = dite (dec_le count place)
+        (λ l. get_or_past (places_of count cell).kept place false (omega (arith, length-map-range_with_len (λ i. is_some (cell i)) 0 count, l)) ∙ sym (ap is_some (given place l)))
+        (λ l. get_or-map-range_with_len (λ i. is_some (cell i)) 0 count place place false (omega (arith, l)) (omega arith))
 
-    zero_more : 0 + place ≡ place
-    zero_more = omega arith
+-- the same places
+pub same_places : {T : Type 0} (f g : ℕ → Cell T) (n m : ℕ) → m ≡ n → ((j : ℕ) → g j ≡ f j) → places_of m g ≡ places_of n f
+same_places f g n m count same =
+    ap (λ k. places_of k g) count
+    ∙ (λ i. record {
+      cells = same_range (λ j. option_flatten (f j)) (λ j. option_flatten (g j)) 0 n (λ j l b. ap option_flatten (same j)) i;
+      kept = same_range (λ j. is_some (f j)) (λ j. is_some (g j)) 0 n (λ j l b. ap is_some (same j)) i;
+    })
 
-    pub cells_set : (count : ℕ) → (places_in count n).cells ≡ set (places_in count m).cells place (flat w)
-    cells_set count = set_range (cell_in m) (cell_in n) (flat w) 0 count place (ap (cell_in n) zero_more ∙ ap flat here) (λ j ne. ap flat (there j (λ e. ne (e ∙ sym zero_more))))
+-- the cell of one place is another
+module _ {T : Type 0} (f g : ℕ → Cell T) (place : ℕ) (cell : Cell T) (here : g place ≡ cell) (there : (j : ℕ) → j ≢ place → g j ≡ f j) where
+  zero_more : 0 + place ≡ place
+  zero_more = omega arith
 
-    pub kept_set : (count : ℕ) → (places_in count n).kept ≡ set (places_in count m).kept place (is_some w)
-    kept_set count = set_range (λ i. is_some (get nat_cmp m i)) (λ i. is_some (get nat_cmp n i)) (is_some w) 0 count place (ap (λ i. is_some (get nat_cmp n i)) zero_more ∙ ap is_some here) (λ j ne. ap is_some (there j (λ e. ne (e ∙ sym zero_more))))
+  pub cells_set : (count : ℕ) → (places_of count g).cells ≡ set (places_of count f).cells place (option_flatten cell)
+  cells_set count = set_range (λ i. option_flatten (f i)) (λ i. option_flatten (g i)) (option_flatten cell) 0 count place (ap (λ i. option_flatten (g i)) zero_more ∙ ap option_flatten here) (λ j ne. ap option_flatten (there j (λ e. ne (e ∙ sym zero_more))))
 
-    pub cells_more : (count : ℕ) → count ≡ place + 1 → (places_in count n).cells ≡ (places_in place m).cells ++ flat w ∷ []
-    cells_more count more = more_range (cell_in m) (cell_in n) (flat w) place count more (ap flat here) (λ j ne. ap flat (there j ne))
+  pub kept_set : (count : ℕ) → (places_of count g).kept ≡ set (places_of count f).kept place (is_some cell)
+  kept_set count = set_range (λ i. is_some (f i)) (λ i. is_some (g i)) (is_some cell) 0 count place (ap (λ i. is_some (g i)) zero_more ∙ ap is_some here) (λ j ne. ap is_some (there j (λ e. ne (e ∙ sym zero_more))))
 
-    pub kept_more : (count : ℕ) → count ≡ place + 1 → (places_in count n).kept ≡ (places_in place m).kept ++ is_some w ∷ []
-    kept_more count more = more_range (λ i. is_some (get nat_cmp m i)) (λ i. is_some (get nat_cmp n i)) (is_some w) place count more (ap is_some here) (λ j ne. ap is_some (there j ne))
+  pub cells_more : (count : ℕ) → count ≡ place + 1 → (places_of count g).cells ≡ (places_of place f).cells ++ option_flatten cell ∷ []
+  cells_more count more = more_range (λ i. option_flatten (f i)) (λ i. option_flatten (g i)) (option_flatten cell) place count more (ap option_flatten here) (λ j ne. ap option_flatten (there j ne))
 
-    pub given_still : (count : ℕ) → place < count → AreGiven count m → AreGiven count n
-    given_still count l given i past = there i (λ e. omega (arith, e, l, past)) ∙ given i past
+  pub kept_more : (count : ℕ) → count ≡ place + 1 → (places_of count g).kept ≡ (places_of place f).kept ++ is_some cell ∷ []
+  kept_more count more = more_range (λ i. is_some (f i)) (λ i. is_some (g i)) (is_some cell) place count more (ap is_some here) (λ j ne. ap is_some (there j ne))
 
 -- a place that is set to what it has
 pub set_same : {X : Type 0} (xs : List X) (i : ℕ) (d : X) → set xs i (slice_index_or xs i d) ≡ xs
@@ -98,19 +92,6 @@ set_same (x ∷ xs) (suc i) d = ap (λ l. x ∷ l) (set_same xs i d)
 
 pub set_to : {X : Type 0} (xs : List X) (i : ℕ) (d x : X) → slice_index_or xs i d ≡ x → set xs i x ≡ xs
 set_to xs i d x is = ap (set xs i) (sym is) ∙ set_same xs i d
-
-pub none_of : {X : Type 0} (o : Option X) → is_some o ≡ false → o ≡ None
-none_of None h = refl
-none_of (Some x) h = absurd (cc)
-
-module _ {T : Type 0} (count : ℕ) (m : BTreeMap ℕ (Option T)) (place : ℕ) (given : AreGiven count m) where
-  pub kept_below : slice_index_or (places_in count m).kept place false ≡ true → place < count
-  kept_below kept = dite (dec_le count place)
-      (λ l. absurd (false≢true (sym (kept_found count m place given ∙ ap is_some (given place l)) ∙ kept)))
-      (λ l. omega (arith, l))
-
-  pub absent_none : get nat_cmp m place ≡ None → slice_index_or (places_in count m).cells place None ≡ None
-  absent_none none = found count m place given ∙ ap flat none
 
 -- Lists with one item more.
 
@@ -131,36 +112,15 @@ front_of : {X : Type 0} (xs : List X) (last : X) → front (xs ++ last ∷ []) �
 front_of [] last = refl
 front_of (x ∷ xs) last = front_by_of x xs last
 
-pub same_front : {X : Type 0} (xs ys : List X) (x y : X) → xs ++ x ∷ [] ≡ ys ++ y ∷ [] → xs ≡ ys
+same_front : {X : Type 0} (xs ys : List X) (x y : X) → xs ++ x ∷ [] ≡ ys ++ y ∷ [] → xs ≡ ys
 same_front xs ys x y same = sym (front_of xs x) ∙ ap front same ∙ front_of ys y
 
 -- the last place taken back
-module _ {T : Type 0} (m n : BTreeMap ℕ (Option T)) (place : ℕ) (updates : Updates nat_cmp m n place None) (count : ℕ) (more : count ≡ place + 1) where
-  pub taken_back : (before : Places T) → places_in count m ≡ one_more before → places_in place n ≡ before
+module _ {T : Type 0} (f g : ℕ → Cell T) (place count : ℕ) (more : count ≡ place + 1) (others : (j : ℕ) → j ≢ place → g j ≡ f j) where
+  pub taken_back : (before : Places T) → places_of count f ≡ one_more before → places_of place g ≡ before
   taken_back before is =
-      let cells : (places_in count m).cells ≡ (places_in place n).cells ++ cell_in m place ∷ [] = more_range (cell_in n) (cell_in m) (cell_in m place) place count more refl (λ j ne. sym (ap flat (there m n place None updates j ne))) in
-      let kept : (places_in count m).kept ≡ (places_in place n).kept ++ is_some (get nat_cmp m place) ∷ [] = more_range (λ i. is_some (get nat_cmp n i)) (λ i. is_some (get nat_cmp m i)) (is_some (get nat_cmp m place)) place count more refl (λ j ne. sym (ap is_some (there m n place None updates j ne))) in
-      let same_cells : (places_in place n).cells ≡ before.cells = same_front (places_in place n).cells before.cells (cell_in m place) None (sym cells ∙ ap (λ (p : Places T). p.cells) is) in
-      let same_kept : (places_in place n).kept ≡ before.kept = same_front (places_in place n).kept before.kept (is_some (get nat_cmp m place)) true (sym kept ∙ ap (λ (p : Places T). p.kept) is) in
+      let cells = cells_more g f place (f place) refl (λ j ne. sym (others j ne)) count more in
+      let kept = kept_more g f place (f place) refl (λ j ne. sym (others j ne)) count more in
+      let same_cells : (places_of place g).cells ≡ before.cells = same_front (places_of place g).cells before.cells (option_flatten (f place)) None (sym cells ∙ ap (λ (p : Places T). p.cells) is) in
+      let same_kept : (places_of place g).kept ≡ before.kept = same_front (places_of place g).kept before.kept (is_some (f place)) true (sym kept ∙ ap (λ (p : Places T). p.kept) is) in
       λ i. record { cells = same_cells i; kept = same_kept i }
-
--- the first of the kept places from a number on
-module _ {T : Type 0} (count : ℕ) (m : BTreeMap ℕ (Option T)) (given : AreGiven count m) (first : ℕ) where
-  pub none_kept : ((q : ℕ) → first ≤ q → get nat_cmp m q ≡ None) → AreEmptyFrom (places_in count m).cells first
-  none_kept none i l = absent_none count m i given (none i l)
-
-  pub none_past : count ≤ first → AreEmptyFrom (places_in count m).cells first
-  none_past past i l = absent_none count m i given (given i (omega (arith, past, l)))
-
-  none_there : (o : Option (Option T)) → (IsSome o → ⊥) → o ≡ None
-  none_there None none = refl
-  none_there (Some x) none = absurd (none refl)
-
-  pub none_before : (place : ℕ) → ((q : ℕ) → first ≤ q → IsSome (get nat_cmp m q) → place ≤ q) → AreEmpty (places_in count m).cells first place
-  none_before place least i l before =
-      absent_none count m i given (none_there (get nat_cmp m i) (λ some. let le : place ≤ i = least i l some in omega (arith, le, before)))
-
-  pub place_below : (place : ℕ) → IsSome (get nat_cmp m place) → place < count
-  place_below place some = dite (dec_le count place)
-      (λ l. absurd (false≢true (ap is_some (sym (given place l)) ∙ some)))
-      (λ l. omega (arith, l))

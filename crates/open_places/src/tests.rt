@@ -1,6 +1,7 @@
 //! Places with texts, of which one is let go.
 
 use crate::OpenPlaces;
+use std::alloc::AllocError;
 use std::test::Fail;
 
 #[test]
@@ -49,5 +50,61 @@ fn the_next_value_is_found_past_places_that_are_empty_or_gone(rt: HostRuntime) -
     assert_eq!(rt; places.next_full(2), Some(4));
     assert_eq!(rt; places.next_full(5), None);
     assert_eq!(rt; places.next_full(usize::MAX), None);
+    Ok(())
+}
+
+/// Gives a place more, with its own number.
+fn give_number(places: &mut OpenPlaces<usize>) -> Result<(), AllocError> {
+    let place = places.len();
+    places.give()?;
+    places.put(place, place);
+    Ok(())
+}
+
+/// Takes the value out of a place, and lets the place go.
+fn empty(places: &mut OpenPlaces<usize>, place: usize) -> Option<usize> {
+    let value = places.take(place);
+    if places.at(place).is_none() {
+        places.let_go(place);
+    }
+    value
+}
+
+#[test]
+fn values_stand_on_many_pages(rt: HostRuntime) -> Result<(), Fail> {
+    let mut places = OpenPlaces::new(rt.alloc());
+    for _ in 0..100 {
+        give_number(&mut places)?;
+    }
+    assert_eq!(rt; places.len(), 100);
+    for place in 1..96 {
+        assert_eq!(rt; empty(&mut places, place), Some(place));
+    }
+    assert_eq!(rt; places.at(0).copied(), Some(0));
+    assert_eq!(rt; places.at(64).copied(), None);
+    assert_eq!(rt; places.next_full(0), Some(0));
+    assert_eq!(rt; places.next_full(1), Some(96));
+    assert_eq!(rt; places.next_full(97), Some(97));
+    assert_eq!(rt; places.next_full(100), None);
+    assert_eq!(rt; places.take(98), Some(98));
+    assert_eq!(rt; empty(&mut places, 0), Some(0));
+    assert_eq!(rt; places.next_full(0), Some(96));
+    Ok(())
+}
+
+#[test]
+fn a_place_is_taken_back_from_the_page_before(rt: HostRuntime) -> Result<(), Fail> {
+    let mut places = OpenPlaces::new(rt.alloc());
+    for _ in 0..33 {
+        give_number(&mut places)?;
+    }
+    places.take_back();
+    assert_eq!(rt; places.len(), 32);
+    assert_eq!(rt; places.at(31).copied(), Some(31));
+    places.take_back();
+    assert_eq!(rt; places.len(), 31);
+    assert_eq!(rt; places.at(31).copied(), None);
+    give_number(&mut places)?;
+    assert_eq!(rt; places.take(31), Some(31));
     Ok(())
 }

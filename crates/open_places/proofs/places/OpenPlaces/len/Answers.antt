@@ -1,10 +1,9 @@
-use Rattle.std.proofs.Common.{◌≡◌, length, ap, ◌∙◌, subst}
+use Rattle.std.proofs.Common.{length, ap, ◌∙◌, arith}
 use Rattle.open_places.specs.Cells.{Places}
-use Rattle.open_places.proofs.Ranges.{counted}
+use Rattle.open_places.proofs.Pages.{count_of}
 use Rattle.open_places.proofs.places.OpenPlaces.len.Goals as goal
 
 pub returns-clause-cells : goal.returns-clause-cells
-returns-clause-cells g c = (counted c.self.inside.count c.self.inside.kept).0 ∙ ap (λ (p : Places g.row.T.Denot). length p.cells) c.self.view_is
-
-pub returns-clause-kept : goal.returns-clause-kept
-returns-clause-kept g c = subst (λ (p : Places g.row.T.Denot). length p.kept ≡ length p.cells) c.self.view_is (counted c.self.inside.count c.self.inside.kept).1
+returns-clause-cells g c =
+    let count = count_of c.self.inside.earlier c.self.inside.number c.self.inside.last c.self.invariant ∙ ap (λ (p : Places g.row.T.Denot). length p.cells) c.self.view_is in
+    omega (arith, count, c.len.ensures)

@@ -1,15 +1,19 @@
-use Rattle.std.proofs.Common.{None, false, set, ap, ◌∙◌}
-use Rattle.open_places.specs.Cells.{Places}
-use Rattle.open_places.proofs.Ranges.{cells_set, kept_set, set_to}
+use Rattle.std.proofs.Common.{None, refl, arith}
+use Rattle.open_places.proofs.Pages.{earlier_moves, gone_cells, last_moves}
 use Rattle.open_places.proofs.places.OpenPlaces.let_go.Goals as goal
 
-pub returns-clause-same : goal.returns-clause-same
-returns-clause-same g c =
-    cells_set c.self.inside.kept c.remove.new.self c.args.place None c.remove.ensures.updates c.self.inside.count
-    ∙ ap (λ (p : Places g.row.T.Denot). set p.cells c.args.place None) c.self.view_is
-    ∙ set_to c.args.self.now.cells c.args.place None None c.requires.empty
+pub returns-then-place-self-clause-same : goal.returns-then-place-self-clause-same
+returns-then-place-self-clause-same g c =
+    gone_cells c.args.self.now _ c.args.place (last_moves c.self.inside.earlier c.self.inside.number c.self.inside.last c.self.invariant c.args.self.now c.self.view_is c.args.place c.let_go.new.self None (omega (arith, c.if-place-self.true)) c.let_go.ensures (λ none. refl)) c.requires.empty
 
-pub returns-clause-kept : goal.returns-clause-kept
-returns-clause-kept g c =
-    kept_set c.self.inside.kept c.remove.new.self c.args.place None c.remove.ensures.updates c.self.inside.count
-    ∙ ap (λ (p : Places g.row.T.Denot). set p.kept c.args.place false) c.self.view_is
+pub returns-then-place-self-clause-kept : goal.returns-then-place-self-clause-kept
+returns-then-place-self-clause-kept g c =
+    (last_moves c.self.inside.earlier c.self.inside.number c.self.inside.last c.self.invariant c.args.self.now c.self.view_is c.args.place c.let_go.new.self None (omega (arith, c.if-place-self.true)) c.let_go.ensures (λ none. refl)).kept
+
+pub returns-else-place-self-clause-same : goal.returns-else-place-self-clause-same
+returns-else-place-self-clause-same g c =
+    gone_cells c.args.self.now _ c.args.place (earlier_moves c.self.inside.earlier c.self.inside.number c.self.inside.last c.self.invariant c.args.self.now c.self.view_is c.args.place c.let_go_earlier.new.earlier None (omega (arith, c.if-place-self.false)) c.let_go_earlier.ensures (λ none. refl)) c.requires.empty
+
+pub returns-else-place-self-clause-kept : goal.returns-else-place-self-clause-kept
+returns-else-place-self-clause-kept g c =
+    (earlier_moves c.self.inside.earlier c.self.inside.number c.self.inside.last c.self.invariant c.args.self.now c.self.view_is c.args.place c.let_go_earlier.new.earlier None (omega (arith, c.if-place-self.false)) c.let_go_earlier.ensures (λ none. refl)).kept

@@ -2,8 +2,8 @@ use Rattle.std.proofs.Common.{◌≤◌, ◌-◌, length}
 use Rattle.open_places.specs.Cells.{AreEmpty}
 use Rattle.open_places.proofs.places.OpenPlaces.next_full.Given as goal
 
-abbrev pub invariant-loop-place : goal.invariant-loop-place
-invariant-loop-place g l = (l.initial.first ≤ l.from) × AreEmpty l.self.cells l.initial.first l.from
+abbrev pub invariant-loop-from : goal.invariant-loop-from
+invariant-loop-from g l = (l.fn.first ≤ l.from) × AreEmpty l.self.cells l.fn.first l.from
 
-abbrev pub decreases-loop-place : goal.decreases-loop-place
-decreases-loop-place g l = length l.self.cells - l.from
+abbrev pub decreases-loop-from : goal.decreases-loop-from
+decreases-loop-from g l = length l.self.cells - l.from

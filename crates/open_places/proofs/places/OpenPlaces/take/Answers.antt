@@ -1,38 +1,36 @@
-use Rattle.std.proofs.Common.{refl, None, Some, false, set, is_some, ap, sym, subst, ◌∙◌}
-use Rattle.std.specs.Prelude.{IsSome}
-use Rattle.std.specs.List.{slice_index_or}
-use Rattle.open_places.specs.Cells.{Places, places_in}
-use Rattle.open_places.proofs.Ranges.{found, kept_found, absent_none, cells_set, set_to, flat}
+use Rattle.std.proofs.Common.{◌%◌, ap, sym, ◌∙◌, arith}
+use Rattle.open_places.specs.Pages.{cell_on, earlier_cell}
+use Rattle.open_places.proofs.Pages.{earlier_holds, earlier_moves, emptied, last_holds, last_moves, taken_cells, taken_kept, taken_there}
 use Rattle.open_places.proofs.places.OpenPlaces.take.Goals as goal
 
-pub returns-in_err-get_mut-clause-value : goal.returns-in_err-get_mut-clause-value
-returns-in_err-get_mut-clause-value g c =
-    c.from_residual.ensures
-    ∙ sym (absent_none c.self.inside.count c.self.inside.kept c.args.place c.self.invariant (sym c.in_err-get_mut.ensures.value))
-    ∙ ap (λ (p : Places g.row.T.Denot). slice_index_or p.cells c.args.place None) c.self.view_is
+pub returns-then-place-self-clause-value : goal.returns-then-place-self-clause-value
+returns-then-place-self-clause-value g c =
+    c.take.ensures.value ∙ sym (last_holds c.self.inside.earlier c.self.inside.number c.self.inside.last c.self.invariant c.args.self.now c.self.view_is c.args.place (omega (arith, c.if-place-self.true))).value
 
-pub returns-in_err-get_mut-clause-after : goal.returns-in_err-get_mut-clause-after
-returns-in_err-get_mut-clause-after g c =
-    ap (λ m. (places_in c.self.inside.count m).cells) c.get_mut.follows.holds-at-none
-    ∙ ap (λ (p : Places g.row.T.Denot). p.cells) c.self.view_is
-    ∙ sym (set_to c.args.self.now.cells c.args.place None None
-    (sym (ap (λ (p : Places g.row.T.Denot). slice_index_or p.cells c.args.place None) c.self.view_is)
-    ∙ absent_none c.self.inside.count c.self.inside.kept c.args.place c.self.invariant (sym c.in_err-get_mut.ensures.value)))
+pub returns-then-place-self-clause-after : goal.returns-then-place-self-clause-after
+returns-then-place-self-clause-after g c =
+    taken_cells c.args.self.now _ c.args.place (cell_on c.self.inside.last (c.args.place % 32)) (last_moves c.self.inside.earlier c.self.inside.number c.self.inside.last c.self.invariant c.args.self.now c.self.view_is c.args.place c.take.new.self (emptied (cell_on c.self.inside.last (c.args.place % 32))) (omega (arith, c.if-place-self.true)) c.take.ensures.after (λ none. ap emptied none))
 
-pub returns-clause-value : goal.returns-clause-value
-returns-clause-value g c =
-    c.take.ensures.value ∙ ap flat c.in_ok-get_mut.ensures.value
-    ∙ sym (found c.self.inside.count c.self.inside.kept c.args.place c.self.invariant)
-    ∙ ap (λ (p : Places g.row.T.Denot). slice_index_or p.cells c.args.place None) c.self.view_is
+pub returns-then-place-self-clause-kept : goal.returns-then-place-self-clause-kept
+returns-then-place-self-clause-kept g c =
+    taken_kept c.args.self.now _ c.args.place (cell_on c.self.inside.last (c.args.place % 32)) (last_holds c.self.inside.earlier c.self.inside.number c.self.inside.last c.self.invariant c.args.self.now c.self.view_is c.args.place (omega (arith, c.if-place-self.true))) (last_moves c.self.inside.earlier c.self.inside.number c.self.inside.last c.self.invariant c.args.self.now c.self.view_is c.args.place c.take.new.self (emptied (cell_on c.self.inside.last (c.args.place % 32))) (omega (arith, c.if-place-self.true)) c.take.ensures.after (λ none. ap emptied none))
 
-pub returns-clause-after : goal.returns-clause-after
-returns-clause-after g c =
-    cells_set c.self.inside.kept (c.get_mut.follows.lender c.take.new.self) c.args.place (Some c.take.new.self)
-    ((c.get_mut.follows.holds c.take.new.self).3 (subst IsSome c.in_ok-get_mut.ensures.value refl)) c.self.inside.count
-    ∙ ap (λ o. set (places_in c.self.inside.count c.self.inside.kept).cells c.args.place o) c.take.ensures.after
-    ∙ ap (λ (p : Places g.row.T.Denot). set p.cells c.args.place None) c.self.view_is
+pub returns-then-place-self-clause-there : goal.returns-then-place-self-clause-there
+returns-then-place-self-clause-there g c some =
+    taken_there c.args.self.now c.args.self.now c.args.place (cell_on c.self.inside.last (c.args.place % 32)) (last_holds c.self.inside.earlier c.self.inside.number c.self.inside.last c.self.invariant c.args.self.now c.self.view_is c.args.place (omega (arith, c.if-place-self.true))) (λ none. some (c.take.ensures.value ∙ none))
 
-pub returns-clause-there : goal.returns-clause-there
-returns-clause-there g c some =
-    sym (ap (λ (p : Places g.row.T.Denot). slice_index_or p.kept c.args.place false) c.self.view_is)
-    ∙ kept_found c.self.inside.count c.self.inside.kept c.args.place c.self.invariant ∙ sym (ap is_some c.in_ok-get_mut.ensures.value)
+pub returns-else-place-self-clause-value : goal.returns-else-place-self-clause-value
+returns-else-place-self-clause-value g c =
+    c.take_earlier.ensures.value ∙ sym (earlier_holds c.self.inside.earlier c.self.inside.number c.self.inside.last c.self.invariant c.args.self.now c.self.view_is c.args.place (omega (arith, c.if-place-self.false))).value
+
+pub returns-else-place-self-clause-after : goal.returns-else-place-self-clause-after
+returns-else-place-self-clause-after g c =
+    taken_cells c.args.self.now _ c.args.place (earlier_cell c.self.inside.earlier c.args.place) (earlier_moves c.self.inside.earlier c.self.inside.number c.self.inside.last c.self.invariant c.args.self.now c.self.view_is c.args.place c.take_earlier.new.earlier (emptied (earlier_cell c.self.inside.earlier c.args.place)) (omega (arith, c.if-place-self.false)) c.take_earlier.ensures.after (λ none. ap emptied none))
+
+pub returns-else-place-self-clause-kept : goal.returns-else-place-self-clause-kept
+returns-else-place-self-clause-kept g c =
+    taken_kept c.args.self.now _ c.args.place (earlier_cell c.self.inside.earlier c.args.place) (earlier_holds c.self.inside.earlier c.self.inside.number c.self.inside.last c.self.invariant c.args.self.now c.self.view_is c.args.place (omega (arith, c.if-place-self.false))) (earlier_moves c.self.inside.earlier c.self.inside.number c.self.inside.last c.self.invariant c.args.self.now c.self.view_is c.args.place c.take_earlier.new.earlier (emptied (earlier_cell c.self.inside.earlier c.args.place)) (omega (arith, c.if-place-self.false)) c.take_earlier.ensures.after (λ none. ap emptied none))
+
+pub returns-else-place-self-clause-there : goal.returns-else-place-self-clause-there
+returns-else-place-self-clause-there g c some =
+    taken_there c.args.self.now c.args.self.now c.args.place (earlier_cell c.self.inside.earlier c.args.place) (earlier_holds c.self.inside.earlier c.self.inside.number c.self.inside.last c.self.invariant c.args.self.now c.self.view_is c.args.place (omega (arith, c.if-place-self.false))) (λ none. some (c.take_earlier.ensures.value ∙ none))

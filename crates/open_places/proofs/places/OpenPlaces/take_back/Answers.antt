@@ -1,9 +1,28 @@
-use Rattle.std.proofs.Common.{◌≡◌, ◌+◌, [], None, true, ap, ◌∙◌, arith}
-use Rattle.open_places.specs.Cells.{Places, one_more}
-use Rattle.open_places.proofs.Ranges.{taken_back}
+use Rattle.std.proofs.Common.{◌≡◌, ◌+◌, length, ap, sym, ◌∙◌, arith}
+use Rattle.open_places.specs.Pages.{places_on}
+use Rattle.open_places.proofs.Pages.{back_places, back_there, takes_back}
 use Rattle.open_places.proofs.places.OpenPlaces.take_back.Goals as goal
 
-pub returns-in-Some : goal.returns-in-Some
-returns-in-Some g c before is =
-    let more : c.self.inside.count ≡ c.in-Some.count + 1 = omega (arith, c.in-Some.ensures) in
-    taken_back c.self.inside.kept c.remove.new.self c.in-Some.count c.remove.ensures.updates c.self.inside.count more before (c.self.view_is ∙ is)
+pub returns-then-len-gt0 : goal.returns-then-len-gt0
+returns-then-len-gt0 g c before is =
+    let p = c.self.inside in
+    ap (places_on p.earlier p.number) c.take_back.ensures
+    ∙ takes_back p.earlier p.number p.last (omega (arith, c.if-len-gt0.true, c.len.ensures)) before (c.self.view_is ∙ is)
+
+pub returns-in-Some-remove : goal.returns-in-Some-remove
+returns-in-Some-remove g c before is =
+    let p = c.self.inside in
+    let none : length p.last ≡ 0 = omega (arith, c.if-len-gt0.false, c.len.ensures) in
+    let n = c.in-Some.number in
+    let more : p.number ≡ n + 1 = omega (arith, c.in-Some.ensures) in
+    let page = c.in-Some-remove.page in
+    ap (places_on c.remove.new.self n) c.take_back-in-Some-remove.ensures
+    ∙ back_places p.earlier c.remove.new.self p.number n p.last c.self.invariant none more page (sym c.in-Some-remove.ensures.value) c.remove.ensures.updates before (c.self.view_is ∙ is)
+
+pub returns-in_default-remove : goal.returns-in_default-remove
+returns-in_default-remove g c before is =
+    let p = c.self.inside in
+    let none : length p.last ≡ 0 = omega (arith, c.if-len-gt0.false, c.len.ensures) in
+    let n = c.in-Some.number in
+    let more : p.number ≡ n + 1 = omega (arith, c.in-Some.ensures) in
+    absurd (back_there p.earlier c.remove.new.self p.number n p.last c.self.invariant none more before (c.self.view_is ∙ is) (sym c.remove.ensures.value ∙ c.in_default-remove.is))
