@@ -4,6 +4,7 @@ pub mod Asked
 pub mod Stays
 pub mod Rolls
 pub mod Newcomers
+mod NextOver
 mod Searches
 pub mod Closes
 mod Owns

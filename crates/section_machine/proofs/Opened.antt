@@ -5,8 +5,8 @@ use Rattle.std.proofs.Math.Decide.{dec_le}
 use Rattle.std.proofs.lemmas.Bool.{false≢true}
 use Rattle.std.proofs.lemmas.List.{get_or_past}
 use Rattle.std.specs.List.{slice_index_or}
-use Rattle.std.specs.Option.{option_map}
-use Rattle.std.specs.Prelude.{MatchOption}
+use Rattle.std.specs.Option.{SomeIff, option_map}
+use Rattle.std.specs.Prelude.{MatchOption, option_and_then}
 use Rattle.open_places.specs.Cells.{AreEmptyFrom, IsNextFull}
 use Rattle.flat_list.specs.Sections.{name_at}
 use Rattle.table_model.specs.Own.{Mine, Offsets, open_named}
@@ -14,7 +14,7 @@ use Rattle.shared_ops.specs.declared.sock.Sock.{Sock}
 use Rattle.shared_ops.specs.Socks.{mine_of}
 use Rattle.section_machine.specs.Opened.{NoneAbove, IsNextOpen}
 use Rattle.section_machine.specs.Places.{Labelled, HaveNames, KeepsLabels, at_place, mines, own_of, those}
-use Rattle.section_machine.proofs.Places.{named_there}
+use Rattle.section_machine.proofs.Places.{named_there, none_before}
 
 -- what stands at a place, of sockets and of what they are seen as
 
@@ -51,6 +51,10 @@ within cells first place next = dite (dec_le (length cells) place)
 module _ (l : Labelled) (names : HaveNames (name_at l.number) l.places) (moment : ℕ) (offsets : Offsets) (waits : List Mine) where
   at_number : (n : ℕ) → 1 ≤ n → open_named (own_of l moment offsets waits) (l.number * 2 ^ 56 + n) ≡ at_place l.places (n - 1)
   at_number n some = named_there l (l.number * 2 ^ 56 + n) (n - 1) (omega (arith, some)) names
+
+  pub socket_at : (number : ℕ) (place : Option ℕ) → SomeIff place (1 ≤ number) (number - 1) → open_named (own_of l moment offsets waits) (l.number * 2 ^ 56 + number) ≡ option_and_then (at_place l.places) place
+  socket_at number None none = none_before l (l.number * 2 ^ 56 + number) (λ h. none (omega (arith, h))) names
+  socket_at number (Some place) is = at_number number is.0 ∙ ap (at_place l.places) (sym is.1)
 
   pub none_above : (after : ℕ) → AreEmptyFrom l.places after → NoneAbove (own_of l moment offsets waits) after
   none_above after empty n above = at_number n (omega (arith, above)) ∙ empty (n - 1) (omega (arith, above))

@@ -136,6 +136,7 @@ impl Labels {
         ensures socket { option_map (λ (s : Bor Sock). mine_of s.now) result
             ≡ option_and_then (at_place self.now.places) place }
         ensures state { IfSome result (λ s. FitsState s.now) }
+        ensures names { HaveNames (sections.name_at self.now.number) self.now.places }
     {
         let socket = self.sockets.at(place?)?;
         let _owner = socket.owner();

@@ -16,9 +16,12 @@ ghost use Rattle.shared_ops.specs.Socks.{mine_of};
 ghost use Rattle.shared_ops.specs.Stands.{IsReady, turned, chained};
 ghost use Rattle.section_machine.specs.Carried.{Carries, HasEnough, Keeps, Spends};
 ghost use Rattle.section_machine.specs.LeftOff.{LeftOff, IsLeftOff};
+ghost use Rattle.section_machine.specs.Opened as opened;
 ghost use Rattle.section_machine.specs.Opened.{IsNextOpen, NoneAbove};
 ghost use Rattle.section_machine.specs.Sections.{Did, GivesLabels, KeepsHeader, kept};
 ghost use Rattle.section_machine.specs.Standing.{IsSection};
+ghost use Rattle.section_machine.specs.Waits.{IsNextOver, NeverOver};
+ghost use Rattle.std.specs.Option.{option_copied};
 
 use crate::labels::Labels;
 use crate::offsets::Offsets;
@@ -27,7 +30,7 @@ use flat_list::{Command, End, First, Header, Label, Options, Reply};
 use label_index::LabelSeed;
 use patience::Patience;
 use shared_ops::{Cause, OpEnd, Sock, Tables, Unbound, Worker, bind, listen};
-use sock_card::State;
+use sock_card::{Owner, State};
 use std::alloc::{AllocError, Global};
 use std::marker::Model;
 use std::sync::Wait;
@@ -160,6 +163,21 @@ impl Machine {
     {
         let place = self.labels.next_full(after)?;
         Some(place + 1)
+    }
+
+    /// What bind buckets know of the open socket of that number, once it has a port.
+    pub fn owner_of(&self, number: usize) -> Option<&Owner>
+        ensures { option_copied result ≡ opened.owner_of self.now.own number }
+    {
+        let socket = self.labels.at(number.checked_sub(1))?;
+        Some(socket.owner())
+    }
+
+    /// The least moment at which one of its TIME_WAITs has lasted its minute.
+    pub fn next_over(&self) -> Option<u32>
+        ensures { MatchOption result (NeverOver self.now.own.waits) (IsNextOver self.now.own.waits) }
+    {
+        self.waits.next_over()
     }
 
     /// Comes to a moment, in seconds, unless it lies behind.

@@ -1,6 +1,6 @@
 //! The sockets in TIME_WAIT that a section left.
 
-ghost use Rattle.std.specs.Prelude.{◌≡◌, true, ◌+◌, ◌≤◌, [], length, IfOk, IfErr, OnOk, OnErr};
+ghost use Rattle.std.specs.Prelude.{◌≡◌, true, ◌+◌, ◌^◌, ◌≤◌, [], length, IfOk, IfErr, OnOk, OnErr, MatchOption};
 ghost use Rattle.std.specs.VecDeque.{deque_len, deque_capacity};
 ghost use Rattle.turn_table.specs.Passes as words;
 ghost use Rattle.bind_buckets.specs.Turned.{Gave};
@@ -14,7 +14,7 @@ ghost use Rattle.shared_ops.specs.Spends.{Draws};
 ghost use Rattle.shared_ops.specs.Stands.{IsReady, MayDraw, MayEnter, MayTell, StandsAs, buckets_of, chained, turned};
 ghost use Rattle.shared_ops.specs.Closes.{became};
 ghost use Rattle.section_machine.specs.Carried.{Ends, close_answer, is_left_off, waits_by};
-ghost use Rattle.section_machine.specs.Waits.{AreBefore, HasRoomFor};
+ghost use Rattle.section_machine.specs.Waits.{AreBefore, HasRoomFor, IsNextOver, NeverOver};
 
 use flat_list::Reply;
 use patience::Patience;
@@ -85,6 +85,27 @@ fn keep(items: &mut VecDeque<Waiting>, closed: Closed) -> Reply
     }
 }
 
+/// The least moment at which a TIME_WAIT has lasted its minute. All that one says of itself is whether it has lasted at a
+/// moment: so the moments are halved until one is left.
+fn moment_of(waiting: &Waiting) -> Option<u32>
+    ensures { MatchOption result (2 ^ 32 ≤ waiting.now.extra + 60) (λ moment. moment ≡ waiting.now.extra + 60) }
+{
+    if !waiting.is_over(u32::MAX) {
+        return None;
+    }
+    let mut before = 0;
+    let mut over = u32::MAX;
+    while over - before > 1 {
+        let middle = before + (over - before) / 2;
+        if waiting.is_over(middle) {
+            over = middle;
+        } else {
+            before = middle;
+        }
+    }
+    Some(over)
+}
+
 impl Waits {
     /// None yet. It takes no memory.
     pub fn new(alloc: Global) -> Self
@@ -100,6 +121,13 @@ impl Waits {
         ensures { result ≡ length self.now }
     {
         self.items.len()
+    }
+
+    /// The least moment at which one of them has lasted its minute: the first of them is the first to have lasted.
+    pub fn next_over(&self) -> Option<u32>
+        ensures { MatchOption result (NeverOver self.now) (IsNextOver self.now) }
+    {
+        moment_of(self.items.front()?)
     }
 
     /// Closes a socket at that moment, and keeps the TIME_WAIT that it leaves. Where it is left off the socket comes

@@ -11,7 +11,7 @@ use Rattle.shared_ops.specs.declared.tables.Tables.{Tables}
 use Rattle.shared_ops.specs.declared.tables.Worker.{Worker}
 use Rattle.shared_ops.specs.Stands.{MayEnter}
 use Rattle.table_rule.specs.Passes.{known, drawn_by}
-use Rattle.shared_calls.specs.Callings.{IsCalling, HasEntries, HasStamps, calling}
+use Rattle.shared_calls.specs.Callings.{IsCalling, HadEnded, clock_of, HasEntries, HasStamps, calling}
 use Rattle.label_index.specs.Numbers.{labels_to}
 use Rattle.label_index.proofs.Numbers.{length_labels}
 use Rattle.shared_calls.specs.Numbers.{IsNext}
@@ -65,8 +65,8 @@ enough t k w tag command c entries stamps =
 -- the caller may go on
 pub goes_on : {X E : Type 0} (t : Tables) (k l : Kept) (w u : Worker) (tag : ℕ) (command : Command) (r : Result X E) → IsCalling (calling t k w tag) → HasStamps (calling t k w tag) command
     → (nat_lt 0 (length (given_by command)) ≡ true → length k.own.labels + 2 < 2 ^ 56) → IsNext (length k.own.labels + 1) command → IsSection t l u → Spends k l w u → GivesLabels command k.own.labels l.own.labels r
-    → IsCalling (calling t l u tag)
-goes_on t k l w u tag command r c stamps room next section spends gives =
+    → HadEnded (calling t l u tag) (clock_of (calling t l u tag)) → IsCalling (calling t l u tag)
+goes_on t k l w u tag command r c stamps room next section spends gives ended =
     let labels = labels_after command k.own.labels (record { numbered = c.numbered; few = c.few }) room next l.own.labels r gives in
     let part = c.part in
     let drawn = spends.drawn 1 (omega (arith, part, stamps)) in
@@ -75,4 +75,5 @@ goes_on t k l w u tag command r c stamps room next section spends gives =
       numbered = labels.numbered;
       few = labels.few;
       part = omega (arith, drawn);
+      ended = ended;
     }

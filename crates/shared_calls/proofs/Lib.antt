@@ -1,2 +1,6 @@
 mod Numbers
+mod Ended
 mod Callings
+mod Order
+mod LeftOver
+mod Batches

@@ -3,6 +3,9 @@
 -- In two parts: what a caller is between two calls, up to `IsCalling`; and what a call does, from `MayCall` to
 -- `Called`, which is to be read from its end.
 use Rattle.std.specs.Prelude.{◌≡◌, ◌⊎◌, ℕ, ◌+◌, ◌-◌, ◌*◌, ◌<◌, ◌≤◌, ◌^◌, length}
+use Rattle.list_words.specs.Lists.{Each}
+use Rattle.chain_book.specs.declared.book.Change.{Change}
+use Rattle.chain_deeds.specs.Sides.{changes_by}
 use Rattle.flat_list.specs.declared.command.Command.{Command}
 use Rattle.flat_list.specs.declared.command.Command.TheVariants as commands
 use Rattle.flat_list.specs.declared.command.Reply.{Reply}
@@ -11,7 +14,7 @@ use Rattle.flat_calls.specs.declared.outcome.Outcome.TheVariants as outcomes
 use Rattle.shared_ops.specs.declared.tables.Tables.{Tables}
 use Rattle.shared_ops.specs.declared.tables.Worker.{Worker}
 use Rattle.shared_ops.specs.Stands.{MayEnter, turned, chained}
-use Rattle.table_rule.specs.Passes.{known, drawn_by}
+use Rattle.table_rule.specs.Passes.{known, drawn_by, seen_by}
 use Rattle.section_machine.specs.LeftOff.{IsLeftOff}
 use Rattle.section_machine.specs.Sections.{Did, Kept, given_by}
 use Rattle.section_machine.specs.Standing.{IsSection}
@@ -27,12 +30,22 @@ pub record Calling : Type 0 where
 abbrev pub calling : Tables → Kept → Worker → ℕ → Calling
 calling t k w tag = record { tables = t; kept = k; worker = w; tag = tag }
 
--- its section is the worker's, and has its numbers as labels and room for one more; the worker has a part of the clock
+-- what its worker knows of the clock
+abbrev pub clock_of : Calling → ℕ
+clock_of c = seen_by c.worker.chain.pass
+
+-- each change of a chain that its calls made has ended below that number of the clock
+abbrev pub HadEnded : Calling → ℕ → Type 0
+HadEnded c number = Each (λ (x : Change). x.end < number) (changes_by (chained c.tables c.worker))
+
+-- its section is the worker's, and has its numbers as labels and room for one more; the worker has a part of the clock,
+-- and knows it to be above what its changes drew
 pub record IsCalling (c : Calling) : Type 0 where
   pub section : IsSection c.tables c.kept c.worker
   pub numbered : IsNumbered c.kept.own
   pub few : length c.kept.own.labels + 1 < 2 ^ 56
   pub part : 0 < (known c.worker.chain.pass).slot.parts
+  pub ended : HadEnded c (clock_of c)
 
 -- how many entries, and how many numbers of the clock, the command leaves to those that end sockets: these four go on
 -- until the last of them

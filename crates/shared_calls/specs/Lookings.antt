@@ -1,6 +1,6 @@
 -- What a looker of shared tables is between two lookups, and what a lookup leaves: __inet_lookup of
 -- include/net/inet_hashtables.h.
-use Rattle.std.specs.Prelude.{◌≡◌, ℕ, ◌<◌, ◌≤◌}
+use Rattle.std.specs.Prelude.{◌≡◌, ℕ, ◌<◌, ◌≤◌, Option, None, Some}
 use Rattle.sock_card.specs.declared.card.Packet.{Packet}
 use Rattle.chain_book.specs.declared.book.PacketLook.{PacketLook}
 use Rattle.chain_deeds.specs.Sides.{IsResting, HoldsNothing}
@@ -53,3 +53,9 @@ pub record Looks (old new : Looking) (packet : Packet) (passes : ℕ) (look : Pa
   pub order : LooksInOrder old new packet passes look
   pub concluded : Concluded (me old.chain.pass.steps) (receipt_of old packet look) (me new.chain.pass.steps)
   pub known_whole : IsKnownWhole (view old.chain.pass.steps) (receipt_of old packet look)
+
+-- A lookup, where it began once the clock was at that number; one that began before says nothing.
+abbrev pub LooksAfter : Looking → Looking → Packet → (passes after : ℕ) → Option PacketLook → Type 0
+LooksAfter old new packet passes after (Some look) = Looks old new packet passes look × (after ≤ look.t0)
+LooksAfter old new packet passes after None =
+    (look : PacketLook) × Looks old new packet passes look × (look.t0 < after)

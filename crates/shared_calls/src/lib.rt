@@ -17,12 +17,16 @@
 //! [`Limited`] is a caller under limits of its own.
 #![tactic(auto)]
 
+pub mod asked;
+pub mod batch;
 pub mod caller;
 pub mod laws;
 pub mod limited;
 pub mod looker;
 pub mod tables;
 
+pub use asked::Left;
+pub use batch::{Asking, Sighting};
 pub use caller::Caller;
 pub use limited::{Limited, Limits};
 pub use looker::Looker;

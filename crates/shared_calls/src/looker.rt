@@ -1,7 +1,7 @@
 //! A looker: lookups in the shared tables, which lock nothing.
 
 ghost use Rattle.std.specs.Prelude.{◌<◌};
-ghost use Rattle.shared_calls.specs.Lookings.{Looks};
+ghost use Rattle.shared_calls.specs.Lookings.{Looks, LooksAfter};
 
 use chain_book::PacketLook;
 use chain_deeds::ChainPass;
@@ -57,5 +57,16 @@ impl Looker {
             passes,
             &mut Still,
         )
+    }
+
+    /// [`Looker::look`] that began once the clock was at that number; one that began before says nothing. A number that
+    /// somebody knows of the clock never lies behind it, so one that [`Caller::now`](crate::Caller::now) answered
+    /// before this call is reached.
+    pub fn look_after(&mut self, packet: &Packet, passes: u32, after: u64) -> Option<PacketLook>
+        requires { 0 < passes }
+        ensures { LooksAfter self.old self.new packet.now passes after result }
+    {
+        let look = self.look(packet, passes);
+        if look.t0 < after { None } else { Some(look) }
     }
 }

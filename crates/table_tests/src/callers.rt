@@ -2,11 +2,11 @@
 
 use chain_book::{PacketAnswer, PacketLook};
 use flat_calls::outcome::{count_of, end_of, errno_of, leaves_time_wait};
-use flat_calls::{Outcome, commands};
+use flat_calls::{Item, Outcome, commands};
 use flat_list::header::NONE_RESERVED;
 use flat_list::{Command, End, Header, Options, Range, Shape};
 use patience::Tries;
-use shared_calls::{Caller, Limited, Limits, Looker, SharedTables};
+use shared_calls::{Asking, Caller, Left, Limited, Limits, Looker, SharedTables, Sighting};
 use sock_card::{Kind, Packet};
 use std::alloc::{AllocError, Global};
 use std::test::Fail;
@@ -247,5 +247,148 @@ fn who_found_no_slot_looks_for_none_for_so_many_calls(rt: HostRuntime) -> Result
     assert_eq!(rt; errno_of(limited.call(&commands::drop_socket(first))), 0);
     assert_eq!(rt; accept_from(&mut limited, listener, 8).1, 105);
     assert_eq!(rt; accept_from(&mut limited, listener, 8).1, 0);
+    Ok(())
+}
+
+/// What is told of a socket of the first caller's that has that kind, number and other end, at HERE.
+fn item(kind: u32, socket: u64, peer: End) -> Item {
+    Item {
+        kind,
+        worker: 1,
+        socket,
+        addr: HERE.addr,
+        peer_addr: peer.addr,
+        port: HERE.port,
+        peer_port: peer.port,
+        dev: 0,
+        net: 0,
+    }
+}
+
+const NO_END: End = End { addr: 0, port: 0 };
+
+#[test]
+fn an_open_socket_is_told_with_its_ends(rt: HostRuntime) -> Result<(), Fail> {
+    let (_tables, mut caller, _looker) = open(rt.alloc())?;
+    let (socket, _) = bind_here(&mut caller);
+    assert_eq!(rt; caller.socket(socket), Some(item(5, socket, NO_END)));
+    caller.call(&Tries(0), &commands::listen(socket));
+    assert_eq!(rt; caller.socket(socket), Some(item(3, socket, NO_END)));
+    let (child, _) = accept_there(&mut caller, socket);
+    assert_eq!(rt; caller.socket(child), Some(item(1, child, THERE)));
+    let fresh = caller.next_number();
+    assert_eq!(rt; caller.socket(fresh), None);
+    caller.call(&Tries(0), &commands::socket(fresh, PLAIN));
+    let unbound = Item {
+        addr: 0,
+        port: 0,
+        ..item(6, fresh, NO_END)
+    };
+    assert_eq!(rt; caller.socket(fresh), Some(unbound));
+    caller.call(&Tries(0), &commands::drop_socket(child));
+    assert_eq!(rt; caller.socket(child), None);
+    assert_eq!(rt; caller.socket(0), None);
+    assert_eq!(rt; caller.socket(u64::MAX), None);
+    Ok(())
+}
+
+#[test]
+fn what_is_left_goes_down_by_what_was_taken(rt: HostRuntime) -> Result<(), Fail> {
+    let (_tables, mut caller, _looker) = open(rt.alloc())?;
+    let whole = Left {
+        sockets: 0xFF_FFFF_FFFF_FFFE,
+        entries: 0xFFFF_0000_0000,
+        stamps: 0xFFFF_0000_0000,
+        waits: 0,
+    };
+    assert_eq!(rt; caller.left(), whole);
+    let (listener, _) = listen_here(&mut caller);
+    let (child, _) = accept_there(&mut caller, listener);
+    caller.call(&Tries(0), &commands::close(child));
+    let Left {
+        sockets,
+        entries,
+        stamps,
+        waits,
+    } = caller.left();
+    assert_eq!(rt; (sockets, waits), (whole.sockets - 2, 1));
+    // The listener and the child came, the child went and its TIME_WAIT came, which two numbers are kept for.
+    assert_eq!(rt; whole.stamps - stamps, 10);
+    assert_eq!(rt; entries < whole.entries, true);
+    Ok(())
+}
+
+#[test]
+fn the_next_time_wait_to_end_is_the_one_closed_first(rt: HostRuntime) -> Result<(), Fail> {
+    let (mut limited, listener) = listen_limited(rt.alloc(), 0, 0)?;
+    assert_eq!(rt; limited.caller.next_over(), None);
+    assert_eq!(rt; leaves_one(&mut limited, listener, 5), true);
+    limited.call(&Command::At { moment: 45 });
+    assert_eq!(rt; leaves_one(&mut limited, listener, 6), true);
+    assert_eq!(rt; limited.caller.next_over(), Some(60));
+    limited.call(&Command::At { moment: 60 });
+    assert_eq!(rt; count_of(limited.call(&Command::Reap)), 1);
+    assert_eq!(rt; limited.caller.next_over(), Some(105));
+    limited.call(&Command::At {
+        moment: 4_294_967_290,
+    });
+    assert_eq!(rt; count_of(limited.call(&Command::Reap)), 1);
+    assert_eq!(rt; leaves_one(&mut limited, listener, 7), true);
+    assert_eq!(rt; limited.caller.next_over(), None);
+    Ok(())
+}
+
+#[test]
+fn a_lookup_begins_no_earlier_than_its_callers_clock(rt: HostRuntime) -> Result<(), Fail> {
+    let (_tables, mut caller, mut looker) = open(rt.alloc())?;
+    assert_eq!(rt; caller.now(), 0);
+    listen_here(&mut caller);
+    let clock = caller.now();
+    assert_eq!(rt; clock, 2);
+    let began = looker.look_after(&PACKET, 1, clock).map(|look| look.t0);
+    assert_eq!(rt; began, Some(clock));
+    assert_eq!(rt; looker.look_after(&PACKET, 1, clock + 1), None);
+    Ok(())
+}
+
+#[test]
+fn a_batch_of_packets_is_answered_at_their_places(rt: HostRuntime) -> Result<(), Fail> {
+    let (_tables, mut caller, mut looker) = open(rt.alloc())?;
+    let (listener, _) = listen_here(&mut caller);
+    let (child, _) = accept_there(&mut caller, listener);
+    let asked = Asking {
+        src: THERE.addr,
+        dst: HERE.addr,
+        sport: THERE.port,
+        dport: HERE.port,
+        dev: 0,
+        net: 0,
+    };
+    let packets = [
+        asked,
+        Asking { dport: 81, ..asked },
+        Asking { sport: 6, ..asked },
+    ];
+    let nobody = Sighting {
+        kind: 0,
+        worker: 0,
+        socket: 0,
+    };
+    let mut sightings = [nobody, nobody, nobody];
+    looker.sight_all(&packets, 1, caller.now(), &mut sightings);
+    let found = Sighting {
+        kind: 1,
+        worker: 1,
+        socket: child,
+    };
+    let by_listener = Sighting {
+        kind: 3,
+        worker: 1,
+        socket: listener,
+    };
+    assert_eq!(rt; sightings, [found, nobody, by_listener]);
+    looker.sight_all(&packets, 1, caller.now() + 1, &mut sightings);
+    let again = Sighting { kind: 7, ..nobody };
+    assert_eq!(rt; sightings, [again, again, again]);
     Ok(())
 }
