@@ -19,7 +19,8 @@ use Rattle.race_laws.proofs.Handovers.{acks_hand_over}
 use Rattle.race_laws.proofs.Names.{hashed_once, listed_once}
 use Rattle.race_text.specs.Render.{RaceOut, Told, told_text}
 use Rattle.race_text.proofs.Commands.{lawful_text}
-use Rattle.race_threads.specs.Told.{IsToldOf, race_of}
+use Rattle.race_threads.specs.Told.{IsToldBy, race_of}
+use Rattle.race_threads.specs.declared.finish.Ended.{Ended}
 use Rattle.record_reader.specs.declared.audit.Verdict.{Verdict}
 use Rattle.record_reader.specs.declared.audit.Verdict.TheVariants as verdicts
 use Rattle.record_reader.specs.declared.read.ReadEnd.{ReadEnd}
@@ -58,17 +59,17 @@ passes_by : (text : List ℕ) → ((answer : Result Verdict ReadEnd) → IsAnswe
 passes_by text each (outcomes.Judged v) is = yes_status v (each (Ok v) (judged text v is))
 passes_by text each (outcomes.BadLine n) is = absurd (each (Err (ends.BadLine n)) (outside text n is))
 
-module _ (script : Script) (capture : Capture) (lookers passes : ℕ) (t : Told) (is : IsToldOf script capture lookers passes t) where
+module _ (script : Script) (capture : Capture) (lookers passes : ℕ) (e : Ended) (t : Told) (is : IsToldBy script capture lookers passes e t) where
   abbrev race : Race
-  race = race_of script capture lookers passes is.ended is.by.finished t.looked
+  race = race_of script capture lookers passes e is.finished t.looked
 
   -- each change is of one of the slots
   pub fits : FitSlots t.shape.slots t.book
-  fits = subst (λ (s : Told). FitSlots s.shape.slots s.book) (sym is.by.told_is) is.by.lawful.book.slots
+  fits = subst (λ (s : Told). FitSlots s.shape.slots s.book) (sym is.told_is) is.lawful.book.slots
 
   -- and no number stands twice
   pub differ : StampsDiffer t.book
-  differ = subst (λ (s : Told). StampsDiffer s.book) (sym is.by.told_is) (numbers_tell script capture race is.by.lawful).distinct
+  differ = subst (λ (s : Told). StampsDiffer s.book) (sym is.told_is) (numbers_tell script capture race is.lawful).distinct
 
   -- so what is written of the script's commands and of that is what a race writes for these bytes
   pub race_out : (bytes text : List ℕ) → AreBytes bytes → length bytes ≤ 2 ^ 24 → lookers < 2 ^ 64 → passes < 2 ^ 64 → IsSmall script
@@ -81,10 +82,10 @@ module _ (script : Script) (capture : Capture) (lookers passes : ℕ) (t : Told)
         capture,
         race,
         record { script_is = script_is; capture_is = capture_is },
-        is.by.lawful,
-        is.by.finished.lookers_are,
+        is.lawful,
+        is.finished.lookers_are,
         refl,
-        text_is ∙ ap (told_text script.sections) is.by.told_is ∙ lawful_text script capture race is.by.lawful,
+        text_is ∙ ap (told_text script.sections) is.told_is ∙ lawful_text script capture race is.lawful,
       ) in (
         out,
         λ s c r has lawful. says s c r (subst IsSmall (one_script modes.Race bytes script s script_is has.script_is) small) lawful,

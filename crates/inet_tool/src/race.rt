@@ -16,6 +16,8 @@ use inet_io::{Failed, Gate, ReadEnd, Sink, Source};
 use label_index::LabelSeed;
 use race_text::render::render;
 use race_threads::race;
+use race_threads::start::start;
+use race_threads::tell::tell;
 use sock_script::parse::parse;
 use sock_script::{Mode, ScriptEnd, capture};
 use std::alloc::{AllocError, Global};
@@ -109,7 +111,11 @@ fn reply_to<R: Threads + Wait + Sync, G: Gate>(
         Err(CaptureEnd::BadHead) => return refusal(alloc, Fault::Capture),
         Err(CaptureEnd::Memory) => return Err(AllocError),
     };
-    let told = race(rt, alloc, seed, &script, &capture, lookers, passes, gate)?;
+    let (tables, first) = start(alloc, &script)?;
+    let ended = race(
+        rt, alloc, seed, tables, first, &script, &capture, lookers, passes, gate,
+    )?;
+    let told = tell(alloc, &script, &capture, lookers, passes, ended)?;
     let text = render(alloc, &script, &told)?;
     Ok(Reply { text, fault: None })
 }

@@ -6,9 +6,10 @@ use Rattle.turn_table.specs.Journals.{numbers_below}
 use Rattle.bind_buckets.specs.Turned.{View as BindView}
 use Rattle.capture_reader.specs.declared.packet.Item.{Item}
 use Rattle.chain_book.specs.declared.book.Change.{Change}
-use Rattle.chain_deeds.specs.Sides.{change_of}
+use Rattle.chain_deeds.specs.Sides.{IsResting, change_of}
 use Rattle.flat_list.specs.Script.{Script}
 use Rattle.flat_list.specs.declared.command.Reply.{Reply}
+use Rattle.shared_ops.specs.declared.tables.Tables.{Tables}
 use Rattle.socket_list.specs.Listing.{Listing}
 use Rattle.table_rule.specs.Changes.{are_kept}
 use Rattle.table_rule.specs.Closes as closes
@@ -49,6 +50,11 @@ pub record HasFinished (script : Script) (passes : ℕ) (all : List Item) (looke
   pub replied : flat_map replies_in e.outcomes.items ≡ flat_map replied_in says
   pub listed : flat_map listings_in e.outcomes.items ≡ flat_map listed_in says
   pub tells : flat_map told_in e.outcomes.items ≡ flat_map (λ (took : List Look). took) tooks
+
+-- It was left at these tables: the chain pass is one of theirs. A pass that has all parts, as this one has, is the only
+-- one of its table, and knows each change that was made there.
+abbrev pub IsLeftAt : Tables → Ended → Type 0
+IsLeftAt t e = IsResting t.chains e.chain
 
 -- a change that lies in memory is the one that its pass knows
 abbrev pub as_known : Change → Change

@@ -1,6 +1,6 @@
 -- What is reported of a race that was run: our own.
 --
--- To be read from the end: `IsToldOf` is what `race` returns, and each stands on those above it.
+-- To be read from the end: `IsToldBy` is what `tell` returns, and each stands on those above it.
 use Rattle.std.specs.Prelude.{◌≡◌, ℕ, List, map}
 use Rattle.std.specs.List.{flat_map}
 use Rattle.bind_buckets.specs.Closed.{count_in}
@@ -46,8 +46,3 @@ pub record IsToldBy (script : Script) (capture : Capture) (lookers passes : ℕ)
   pub left : IsLeftBy e t
   pub lawful : Lawful script capture (race_of script capture lookers passes e finished t.looked)
   pub told_is : t ≡ told (race_of script capture lookers passes e finished t.looked)
-
--- so it is of one race of the script, with so many lookers and passes, all of whose workers were joined
-pub record IsToldOf (script : Script) (capture : Capture) (lookers passes : ℕ) (t : Told) : Type 0 where
-  pub ended : Ended
-  pub by : IsToldBy script capture lookers passes ended t

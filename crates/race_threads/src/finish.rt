@@ -2,7 +2,7 @@
 //! buckets are taken.
 
 ghost use Rattle.std.specs.Prelude.{◌≡◌, ℕ, ◌+◌, ◌^◌, ◌<◌, length, IfOk};
-ghost use Rattle.race_threads.specs.Finished.{HasFinished};
+ghost use Rattle.race_threads.specs.Finished.{HasFinished, IsLeftAt};
 ghost use Rattle.race_threads.specs.Scripts.{IsForRace};
 ghost use Rattle.race_threads.specs.Shares.{IsFirstPass};
 ghost use Rattle.race_threads.specs.Workers.{AreTables, IsFirst};
@@ -54,10 +54,11 @@ pub fn finish(
     requires draws { IsFirstPass tickets.now (length done.items) draws }
     requires worked { (passes : ℕ)
         × AllWorked script.now passes capture.now.items tables tickets.now (length done.items) done.items }
-    ensures { IfOk result
+    ensures finished { IfOk result
         (λ ended. (passes : ℕ)
         → AllWorked script.now passes capture.now.items tables tickets.now (length done.items) done.items
         → HasFinished script.now passes capture.now.items lookers ended) }
+    ensures left { IfOk result (IsLeftAt tables) }
 {
     let outcomes = gather(alloc, &tables, tickets, &mut first, &mut draws, done)?;
     let _count = tickets.count(&mut draws);

@@ -1,9 +1,10 @@
 //! The race of a script: what its workers did beside each other is one record.
 //!
-//! Our own. [`race`] is all of it. [`start`] makes the tables, [`worker`] splits workers off the first one and takes
-//! them in again, and [`jobs`] hands them out, one for each section and each looker. [`section`] carries a section
-//! out, [`share`] a looker's share of the capture by [`looker`], and [`work`] whichever of both a job is; [`threads`]
-//! does all jobs beside each other. [`finish`] ends the race, and [`tell`] makes of what it left what is written.
+//! Our own. [`start`] makes the tables, [`race`] runs one race at them, and [`tell`] makes of what that left the record.
+//! Of `race`, [`worker`] splits workers off the first one and takes them in again, and [`jobs`] hands them out, one for
+//! each section and each looker. [`section`] carries a section out, [`share`] a looker's share of the capture by
+//! [`looker`], and [`work`] whichever of both a job is; [`threads`] does all jobs beside each other, and [`finish`] ends
+//! the race.
 //!
 //! Lookers draw the capture's items by `tickets`: whoever is free takes the next. Once all passes of tickets are
 //! joined, each item was drawn once (`specs/Shares`), and its answer is put at its place.
@@ -14,7 +15,10 @@
 //! bind buckets are taken, that the record is lawful (`specs/Races`, `specs/Lookers`).
 //!
 //! ```text
-//! let record = race(&rt, alloc, LabelSeed::random(&rt), &script, &capture, lookers, passes, &Open)?;
+//! let (tables, first) = start(alloc, &script)?;
+//! let seed = LabelSeed::random(&rt);
+//! let ended = race(&rt, alloc, seed, tables, first, &script, &capture, lookers, passes, &Open)?;
+//! let record = tell(alloc, &script, &capture, lookers, passes, ended)?;
 //! ```
 #![tactic(auto)]
 

@@ -11,6 +11,7 @@ use crate::jobs::Job;
 use crate::section::{Said, run_section};
 use crate::share::look_share;
 use capture_reader::Capture;
+use crossbeam_utils::CachePadded;
 use flat_list::Script;
 use inet_io::Gate;
 use label_index::LabelSeed;
@@ -20,7 +21,7 @@ use std::sync::Wait;
 use tickets::Tickets;
 
 /// Does a job, beside the others: that of a section by its commands,
-/// and that of a looker by its share of the capture.
+/// and that of a looker by its share of the capture. Its worker is on no cache line with another's meanwhile.
 ///
 /// # Errors
 ///
@@ -46,13 +47,14 @@ pub fn work<R: Wait, G: Gate>(
     ensures { IfOk result (IsWorked script.now passes capture.now.items tables.now tickets.now job.number) }
 {
     let Job {
-        mut worker,
+        worker,
         mut draws,
         number,
         replies,
         listings,
         told,
     } = job;
+    let mut worker = CachePadded::new(worker);
     let sections = script.sections();
     if number < sections.len() {
         let commands = &sections[number];
@@ -68,7 +70,7 @@ pub fn work<R: Wait, G: Gate>(
             gate,
         )?;
         return Ok(Job {
-            worker,
+            worker: worker.into_inner(),
             draws,
             number,
             replies,
@@ -88,7 +90,7 @@ pub fn work<R: Wait, G: Gate>(
         gate,
     )?;
     Ok(Job {
-        worker,
+        worker: worker.into_inner(),
         draws,
         number,
         replies,

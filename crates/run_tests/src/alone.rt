@@ -9,6 +9,8 @@ use label_index::LabelSeed;
 use race_text::Record;
 use race_threads::laws::for_race;
 use race_threads::race;
+use race_threads::start::start;
+use race_threads::tell::tell;
 use sock_card::{Card, Kind};
 use sock_script::parse::{Mode, ScriptEnd, parse};
 use socket_list::{Listing, Span};
@@ -111,7 +113,12 @@ fn raced<R: Threads + Wait + Sync>(rt: &R, alloc: Global, text: &[u8]) -> Result
     for_race();
     let seed = LabelSeed::fixed();
     let script = parse(alloc, seed, text, Mode::Race)?;
-    let record = race(rt, alloc, seed, &script, &Capture::new(alloc), 1, 1, &Open)?;
+    let capture = Capture::new(alloc);
+    let (tables, first) = start(alloc, &script)?;
+    let ended = race(
+        rt, alloc, seed, tables, first, &script, &capture, 1, 1, &Open,
+    )?;
+    let record = tell(alloc, &script, &capture, 1, 1, ended)?;
     Ok(record)
 }
 

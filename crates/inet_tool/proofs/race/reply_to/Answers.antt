@@ -9,21 +9,29 @@ use Rattle.inet_tool.proofs.Faults.{bad_reply}
 use Rattle.inet_tool.proofs.Raced.{differ, fits, race_out}
 use Rattle.inet_tool.proofs.race.reply_to.Goals as goal
 
+pub start-requires : goal.start-requires
+start-requires g c =
+    (scripts_are_for_race c.args.bytes.now c.in-Ok.script c.in-Ok.ensures.script (c.in-Ok.ensures.small c.requires.within)).header
+
 pub race-requires-clause-script : goal.race-requires-clause-script
 race-requires-clause-script g c = λ lives within.
     scripts_are_for_race c.args.bytes.now c.in-Ok.script c.in-Ok.ensures.script (c.in-Ok.ensures.small c.requires.within)
 
+pub tell-requires-clause-script : goal.tell-requires-clause-script
+tell-requires-clause-script g c =
+    scripts_are_for_race c.args.bytes.now c.in-Ok.script c.in-Ok.ensures.script (c.in-Ok.ensures.small c.requires.within)
+
 pub render-requires-clause-slots : goal.render-requires-clause-slots
 render-requires-clause-slots g c =
-    fits c.in-Ok.script c.in-Ok-read.capture c.args.lookers c.args.passes c.in_ok-told.told c.in_ok-told.ensures
+    fits c.in-Ok.script c.in-Ok-read.capture c.args.lookers c.args.passes c.in_ok-ended.ended c.in_ok-told.told c.in_ok-told.ensures
 
 pub render-requires-clause-stamps : goal.render-requires-clause-stamps
 render-requires-clause-stamps g c =
-    differ c.in-Ok.script c.in-Ok-read.capture c.args.lookers c.args.passes c.in_ok-told.told c.in_ok-told.ensures
+    differ c.in-Ok.script c.in-Ok-read.capture c.args.lookers c.args.passes c.in_ok-ended.ended c.in_ok-told.told c.in_ok-told.ensures
 
 pub returns : goal.returns
 returns g c =
-    race_out c.in-Ok.script c.in-Ok-read.capture c.args.lookers c.args.passes c.in_ok-told.told c.in_ok-told.ensures
+    race_out c.in-Ok.script c.in-Ok-read.capture c.args.lookers c.args.passes c.in_ok-ended.ended c.in_ok-told.told c.in_ok-told.ensures
     c.args.bytes.now c.in_ok-text.text.items (λ i. omega (arith, c.type_inv.bytes i)) c.requires.within (omega arith) (omega arith) (c.in-Ok.ensures.small c.requires.within)
     c.in-Ok.ensures.script c.in-Ok-read.ensures.capture c.in_ok-text.ensures
 

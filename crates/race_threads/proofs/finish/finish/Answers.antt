@@ -2,8 +2,8 @@ use Rattle.std.proofs.Common.{refl}
 use Rattle.race_threads.proofs.Finishing.{finished}
 use Rattle.race_threads.proofs.finish.finish.Goals as goal
 
-pub returns : goal.returns
-returns c passes worked =
+pub returns-clause-finished : goal.returns-clause-finished
+returns-clause-finished c passes worked =
     let o = c.in_ok-outcomes.ensures in
     let n = c.now-clock.ensures in
     let b = c.in_ok-buckets.ensures in

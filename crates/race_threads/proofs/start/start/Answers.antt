@@ -1,7 +1,11 @@
-use Rattle.std.proofs.Common.{ap, arith}
+use Rattle.std.proofs.Common.{ap, arith, subst, sym}
 use Rattle.bind_buckets.specs.Turned.{View as BindView}
+use Rattle.flat_list.specs.Fits.{FitsTables}
+use Rattle.flat_list.specs.declared.header.Header.{Header}
 use Rattle.reuseport_group.specs.declared.view.GroupView.{GroupView}
+use Rattle.shared_ops.specs.declared.tables.Tables.{Tables}
 use Rattle.table_rule.specs.declared.view.View.{View}
+use Rattle.race_threads.specs.Workers.{AreTables}
 use Rattle.race_threads.proofs.start.start.Goals as goal
 
 pub returns : goal.returns
@@ -11,8 +15,13 @@ returns c =
     let v = b.pass.2 in
     let x = t.first in
     let l = c.in_ok-groups.ensures in
+    let header = c.header-header.result.now in
+    let fits : FitsTables header = subst FitsTables (sym c.header-header.ensures) c.requires in
+    let given : Tables = record { buckets = c.in_ok-buckets.buckets; chains = c.in_ok-chains.chains; groups = c.in_ok-groups.groups } in
+    let bind = fits.bind in
+    let are : AreTables header given = record { layout = t.layout; buckets = b.places; some = omega (arith, b.places, bind); shared = b.home; keeps = t.keeps } in
     record {
-      tables = record { layout = t.layout; buckets = b.places; some = omega (arith, b.places, c.requires.bind); shared = b.home; keeps = t.keeps };
+      tables = subst (λ (h : Header). AreTables h given) c.header-header.ensures are;
       first = record {
         rest = record {
           turns = b.pass.0;

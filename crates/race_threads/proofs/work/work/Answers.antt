@@ -4,11 +4,13 @@ use Rattle.capture_reader.specs.declared.packet.Item.{Item}
 use Rattle.flat_list.specs.Ports.{size}
 use Rattle.flat_list.specs.declared.header.Header.{Header}
 use Rattle.flat_list.specs.declared.command.Command.{Command}
+use Rattle.shared_ops.specs.declared.tables.Worker.{Worker}
 use Rattle.race_threads.specs.declared.jobs.Job.{Job}
 use Rattle.race_threads.specs.Scripts.{LooksNothingUp}
 use Rattle.flat_list.specs.Fits.{FitsTables}
 use Rattle.race_threads.specs.Lookers.{HasLooked}
 use Rattle.race_threads.specs.Workers.{AreTables, IsFresh, part_of}
+use Rattle.race_threads.specs.Works.{IsWorked}
 use Rattle.race_threads.proofs.Working.{commands_at, count_is, few_in, looks_in, worked_section, worked_looker, told_none, ran}
 use Rattle.race_threads.proofs.work.work.Goals as goal
 
@@ -19,8 +21,10 @@ run_section-requires-clause-tables g c =
 
 pub run_section-requires-clause-worker : goal.run_section-requires-clause-worker
 run_section-requires-clause-worker g c =
-    let it : IsFresh c.header.result.now c.args.tables.now (c.args.job.number + 1) c.args.job.worker =
-    subst (λ (h : Header). IsFresh h c.args.tables.now (c.args.job.number + 1) c.args.job.worker) (sym c.header.ensures) c.requires.ready.fresh in
+    let held = sym (c.deref_mut.ensures.value ∙ c.new-worker.ensures) in
+    let it : IsFresh c.header.result.now c.args.tables.now (c.args.job.number + 1) c.deref_mut.result.now =
+    subst (λ (w : Worker). IsFresh c.header.result.now c.args.tables.now (c.args.job.number + 1) w) held
+    (subst (λ (h : Header). IsFresh h c.args.tables.now (c.args.job.number + 1) c.args.job.worker) (sym c.header.ensures) c.requires.ready.fresh) in
     search rules
 
 pub run_section-requires-clause-number : goal.run_section-requires-clause-number
@@ -57,8 +61,10 @@ run_section-requires-clause-looks g c =
 
 pub look_share-requires-clause-tables : goal.look_share-requires-clause-tables
 look_share-requires-clause-tables g c =
-    let it : (x : Header) × AreTables x c.args.tables.now × (m : ℕ) × IsFresh x c.args.tables.now m c.args.job.worker =
-    (c.args.script.now.header, c.requires.tables, c.args.job.number + 1, c.requires.ready.fresh) in
+    let held = sym (c.deref_mut-2.ensures.value ∙ c.new-worker.ensures) in
+    let fresh = subst (λ (w : Worker). IsFresh c.args.script.now.header c.args.tables.now (c.args.job.number + 1) w) held c.requires.ready.fresh in
+    let it : (x : Header) × AreTables x c.args.tables.now × (m : ℕ) × IsFresh x c.args.tables.now m c.deref_mut-2.result.now =
+    (c.args.script.now.header, c.requires.tables, c.args.job.number + 1, fresh) in
     search rules
 
 pub look_share-requires-clause-tickets : goal.look_share-requires-clause-tickets
@@ -68,21 +74,23 @@ pub returns : goal.returns
 returns g c =
     let e = c.in_ok-told.ensures in
     let count = count_is (λ (v : Vec Command Global). v.items) c.args.script.now c.sections-sections.result.now c.sections-sections.ensures in
-    let j : Job = record { worker = c.look_share.new.worker; draws = c.look_share.new.draws; number = c.args.job.number; replies = c.args.job.replies; listings = c.args.job.listings; told = c.in_ok-told.told } in
-    let looked = subst (λ (l : List Item). HasLooked c.args.script.now.header c.args.passes l (part_of j.worker) j.told.items) c.items.ensures (e.looked c.args.script.now.header c.requires.tables) in
-    worked_looker c.args.script.now c.args.passes c.args.capture.now.items c.args.tables.now c.args.tickets.now c.args.job.number j
+    let j : Worker → Job = λ w. record { worker = w; draws = c.look_share.new.draws; number = c.args.job.number; replies = c.args.job.replies; listings = c.args.job.listings; told = c.in_ok-told.told } in
+    let looked = subst (λ (l : List Item). HasLooked c.args.script.now.header c.args.passes l (part_of c.look_share.new.worker) c.in_ok-told.told.items) c.items.ensures (e.looked c.args.script.now.header c.requires.tables) in
+    let worked = worked_looker c.args.script.now c.args.passes c.args.capture.now.items c.args.tables.now c.args.tickets.now c.args.job.number (j c.look_share.new.worker)
     (record { rest = e.rest; turn_part = e.turn_part; chain_part = e.chain_part; draws = e.draws })
     (omega (arith, count, c.if-number-sections.false))
-    (record { looked = looked; missed = e.missed; replies = c.requires.ready.replies; listings = c.requires.ready.listings })
+    (record { looked = looked; missed = e.missed; replies = c.requires.ready.replies; listings = c.requires.ready.listings }) in
+    subst (λ (w : Worker). IsWorked c.args.script.now c.args.passes c.args.capture.now.items c.args.tables.now c.args.tickets.now c.args.job.number (j w)) (sym c.into_inner-2.ensures) worked
 
 pub returns-then-number-sections : goal.returns-then-number-sections
 returns-then-number-sections g c =
     let e = c.in_ok-replies.ensures in
     let count = count_is (λ (v : Vec Command Global). v.items) c.args.script.now c.sections-sections.result.now c.sections-sections.ensures in
     let is = c.as_slice.ensures.value ∙ commands_at (λ (v : Vec Command Global). v.items) c.args.script.now c.sections-sections.result.now c.args.job.number c.index-sections-number.result c.sections-sections.ensures c.if-number-sections.true c.index-sections-number.is in
-    let j : Job = record { worker = c.run_section.new.worker; draws = c.args.job.draws; number = c.args.job.number; replies = c.in_ok-replies.field-0.replies; listings = c.in_ok-replies.field-0.listings; told = c.args.job.told } in
+    let j : Worker → Job = λ w. record { worker = w; draws = c.args.job.draws; number = c.args.job.number; replies = c.in_ok-replies.field-0.replies; listings = c.in_ok-replies.field-0.listings; told = c.args.job.told } in
     let drawn = told_none c.args.tickets.now c.args.job.draws c.args.job.told.items c.requires.ready.draws c.requires.ready.told in
-    worked_section c.args.script.now c.args.passes c.args.capture.now.items c.args.tables.now c.args.tickets.now c.args.job.number j
+    let worked = worked_section c.args.script.now c.args.passes c.args.capture.now.items c.args.tables.now c.args.tickets.now c.args.job.number (j c.run_section.new.worker)
     (record { rest = e.rest; turn_part = e.turn_part; chain_part = e.chain_part; draws = drawn })
     (omega (arith, count, c.if-number-sections.true))
-    (ran c.header.result.now c.args.script.now.header (c.args.job.number + 1) c.as_slice.result.now (get_or c.args.script.now.sections c.args.job.number []) j c.header.ensures is e.done c.requires.ready.told)
+    (ran c.header.result.now c.args.script.now.header (c.args.job.number + 1) c.as_slice.result.now (get_or c.args.script.now.sections c.args.job.number []) (j c.run_section.new.worker) c.header.ensures is e.done c.requires.ready.told) in
+    subst (λ (w : Worker). IsWorked c.args.script.now c.args.passes c.args.capture.now.items c.args.tables.now c.args.tickets.now c.args.job.number (j w)) (sym c.into_inner.ensures) worked
