@@ -35,7 +35,8 @@ static uint64_t socket_of(uint64_t entry) {
 }
 
 struct actor {
-    struct inet_tables tables;
+    struct inet_worker worker;
+    struct inet_looker looker;
     uint32_t number, moment;
     uint64_t listener, state, opened, checked, moving, wrong;
 };
@@ -61,7 +62,7 @@ static bool again(int error, const char *what) {
 static void open_connection(struct actor *me, _Atomic uint64_t *mine, uint16_t from_port) {
     uint64_t socket = 0;
     atomic_store(mine, entry(COMES, socket_of(atomic_load(mine))));
-    while (again(inet_tables_accept(&me->tables, me->number, me->listener, CLIENTS + me->number, from_port, PROXY,
+    while (again(inet_worker_accept(&me->worker, me->listener, CLIENTS + me->number, from_port, PROXY,
                                     (uint16_t)(8000 + me->number), &socket), "accept")) {}
     atomic_store(mine, entry(STANDS, socket));
     me->opened++;
@@ -71,9 +72,9 @@ static void open_connection(struct actor *me, _Atomic uint64_t *mine, uint16_t f
 static void end_connection(struct actor *me, _Atomic uint64_t *mine, uint64_t socket, bool waits) {
     atomic_store(mine, entry(LEAVES, socket));
     if (!waits) {
-        while (again(inet_tables_drop(&me->tables, me->number, socket), "drop")) {}
+        while (again(inet_worker_drop(&me->worker, socket), "drop")) {}
     } else
-        while (again(inet_tables_close(&me->tables, me->number, socket, &waits), "close")) {}
+        while (again(inet_worker_close(&me->worker, socket, &waits), "close")) {}
     atomic_store(mine, entry(waits ? WAITS : NOBODY, socket));
 }
 
@@ -85,8 +86,8 @@ static void end_waits(struct actor *me) {
         if (what_of(atomic_load(&mine[i])) == WAITS)
             atomic_store(&mine[i], entry(ENDS, socket_of(atomic_load(&mine[i]))));
     me->moment += 60;
-    must(inet_tables_at(&me->tables, me->number, me->moment), "at");
-    while (again(inet_tables_reap(&me->tables, me->number, &count), "reap")) {}
+    must(inet_worker_at(&me->worker, me->moment), "at");
+    while (again(inet_worker_reap(&me->worker, &count), "reap")) {}
     for (int i = 0; i < PORTS; i++)
         if (what_of(atomic_load(&mine[i])) == ENDS)
             atomic_store(&mine[i], entry(NOBODY, socket_of(atomic_load(&mine[i]))));
@@ -128,7 +129,7 @@ static void check(struct actor *me, uint32_t worker, uint32_t port) {
     struct inet_sight sight;
     int error;
     uint64_t before = atomic_load(&record[worker - 1][port]);
-    error = inet_tables_look(&me->tables, CLIENTS + worker, (uint16_t)(FIRST_PORT + port), PROXY,
+    error = inet_looker_look(&me->looker, CLIENTS + worker, (uint16_t)(FIRST_PORT + port), PROXY,
                              (uint16_t)(8000 + worker), 0, 0, &sight);
     uint64_t after = atomic_load(&record[worker - 1][port]);
     if (again(error, "look"))
@@ -150,19 +151,16 @@ static void *watch(void *given) {
 }
 
 static void open_all(void) {
-    struct inet_tables shared = {0};
-    struct inet_sizes sizes = {65536, 256, 4096, 32, 1, 32768, 60999, false};
-    must(inet_tables_share(&shared, &sizes, 1), "share");
-    for (int i = 0; i < WORKERS + LOOKERS; i++) {
-        actors[i].state = (uint64_t)i + 1;
-        if (i >= WORKERS) {
-            must(inet_tables_looker(&shared, &actors[i].tables), "looker");
-            continue;
-        }
-        must(inet_tables_worker(&shared, &LIMITS, &actors[i].tables, &actors[i].number), "worker");
-        actors[i].listener = open_listener(&actors[i].tables, actors[i].number, (uint16_t)(8000 + actors[i].number));
+    struct inet_tables tables = {0};
+    struct inet_sizes sizes = {sizeof sizes, 65536, 256, 4096, 32, 1, 32768, 60999, false};
+    must(inet_tables_new(&tables, &sizes, 1), "new");
+    for (int i = 0; i < WORKERS; i++) {
+        must(inet_tables_worker(&tables, &LIMITS, &actors[i].worker, &actors[i].number), "worker");
+        actors[i].listener = open_listener(&actors[i].worker, (uint16_t)(8000 + actors[i].number));
     }
-    inet_tables_free(&shared);
+    for (int i = WORKERS; i < WORKERS + LOOKERS; i++)
+        must(inet_tables_looker(&tables, &actors[i].looker), "looker");
+    inet_tables_free(&tables);
 }
 
 int main(int words, char **word) {
@@ -170,8 +168,10 @@ int main(int words, char **word) {
     pthread_t threads[WORKERS + LOOKERS];
     uint64_t opened = 0, checked = 0, moving = 0, wrong = 0, early, late;
     open_all();
-    for (int i = 0; i < WORKERS + LOOKERS; i++)
+    for (int i = 0; i < WORKERS + LOOKERS; i++) {
+        actors[i].state = (uint64_t)i + 1;
         must(pthread_create(&threads[i], NULL, i < WORKERS ? work : watch, &actors[i]), "thread");
+    }
     sleep((unsigned)(seconds + 5) / 6);
     early = memory();
     sleep((unsigned)(seconds - (seconds + 5) / 6));
@@ -183,7 +183,8 @@ int main(int words, char **word) {
         checked += actors[i].checked;
         moving += actors[i].moving;
         wrong += actors[i].wrong;
-        inet_tables_free(&actors[i].tables);
+        inet_worker_free(&actors[i].worker);
+        inet_looker_free(&actors[i].looker);
     }
     fprintf(stderr, "%llu connections; %llu answers, %llu while their socket changed; VmRSS %llu, then %llu KiB\n",
             (unsigned long long)opened, (unsigned long long)checked, (unsigned long long)moving,

@@ -15,7 +15,7 @@ enum { CLIENT_PORTS = 60000 };
 static const uint32_t PROXY = 0x0A000001, CLIENTS = 0xC0000200;
 
 /* A call tries so often again for what another worker has. */
-static const struct inet_limits LIMITS = {1000, 0, 0};
+static const struct inet_limits LIMITS = {sizeof(struct inet_limits), 1000, 0, 0};
 
 static void must(int error, const char *what) {
     if (error != 0) {
@@ -45,12 +45,12 @@ static inline uint64_t memory(void) {
 }
 
 /* A listener of the worker's at any address. */
-static inline uint64_t open_listener(struct inet_tables *tables, uint32_t worker, uint16_t port) {
+static inline uint64_t open_listener(struct inet_worker *worker, uint16_t port) {
     uint64_t listener;
     uint16_t bound;
-    must(inet_tables_socket(tables, worker, 0, 0, 0, INET_REUSEADDR, &listener), "socket");
-    must(inet_tables_bind(tables, worker, listener, 0, port, &bound), "bind");
-    must(inet_tables_listen(tables, worker, listener, &bound), "listen");
+    must(inet_worker_socket(worker, 0, 0, 0, INET_REUSEADDR, &listener), "socket");
+    must(inet_worker_bind(worker, listener, 0, port, &bound), "bind");
+    must(inet_worker_listen(worker, listener, &bound), "listen");
     return listener;
 }
 

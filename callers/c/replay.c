@@ -30,8 +30,8 @@ struct object {
 };
 
 static struct object objects[OBJECTS];
-static struct inet_tables tables, looker;
-static uint32_t worker;
+static struct inet_worker worker;
+static struct inet_looker looker;
 
 static void must(int error, const char *what) {
     if (error != 0) {
@@ -40,7 +40,7 @@ static void must(int error, const char *what) {
     }
 }
 
-static unsigned long number(const unsigned char *at, int bytes) {
+static unsigned long big_endian(const unsigned char *at, int bytes) {
     unsigned long all = 0;
     for (int i = 0; i < bytes; i++)
         all = all << 8 | at[i];
@@ -50,20 +50,20 @@ static unsigned long number(const unsigned char *at, int bytes) {
 /* The segment in an Ethernet frame, with one VLAN tag or none; a fragment or a frame that was cut off has none. */
 static bool read_segment(const unsigned char *frame, size_t length, struct segment *it) {
     size_t at = 14;
-    if (length >= 18 && number(frame + 12, 2) == 0x8100)
+    if (length >= 18 && big_endian(frame + 12, 2) == 0x8100)
         at = 18;
-    if (length < at + 20 || number(frame + at - 2, 2) != 0x0800 || frame[at] >> 4 != 4)
+    if (length < at + 20 || big_endian(frame + at - 2, 2) != 0x0800 || frame[at] >> 4 != 4)
         return false;
     const unsigned char *ip = frame + at;
-    size_t head = (ip[0] & 15u) * 4u, whole = number(ip + 2, 2);
-    if (head < 20 || ip[9] != 6 || (number(ip + 6, 2) & 0x3fff) != 0 || length < at + head + 20)
+    size_t head = (ip[0] & 15u) * 4u, whole = big_endian(ip + 2, 2);
+    if (head < 20 || ip[9] != 6 || (big_endian(ip + 6, 2) & 0x3fff) != 0 || length < at + head + 20)
         return false;
     const unsigned char *tcp = ip + head;
     size_t heads = head + (tcp[12] >> 4) * 4u;
-    it->from = (uint32_t)number(ip + 12, 4);
-    it->to = (uint32_t)number(ip + 16, 4);
-    it->from_port = (uint16_t)number(tcp, 2);
-    it->to_port = (uint16_t)number(tcp + 2, 2);
+    it->from = (uint32_t)big_endian(ip + 12, 4);
+    it->to = (uint32_t)big_endian(ip + 16, 4);
+    it->from_port = (uint16_t)big_endian(tcp, 2);
+    it->to_port = (uint16_t)big_endian(tcp + 2, 2);
     it->flags = tcp[13];
     it->bytes = whole > heads ? whole - heads : 0;
     return true;
@@ -81,9 +81,9 @@ static struct object *object_of(uint64_t socket) {
 static void listen_at(uint16_t port) {
     uint64_t listener;
     uint16_t bound;
-    must(inet_tables_socket(&tables, worker, 0, 0, 0, INET_REUSEADDR, &listener), "socket");
-    must(inet_tables_bind(&tables, worker, listener, 0, port, &bound), "bind");
-    must(inet_tables_listen(&tables, worker, listener, &bound), "listen");
+    must(inet_worker_socket(&worker, 0, 0, 0, INET_REUSEADDR, &listener), "socket");
+    must(inet_worker_bind(&worker, listener, 0, port, &bound), "bind");
+    must(inet_worker_listen(&worker, listener, &bound), "listen");
 }
 
 /* A handshake begins: its request has an object, which the connection takes over. */
@@ -91,7 +91,7 @@ static const char *begin(const struct segment *it, uint64_t listener) {
     uint64_t request;
     if ((it->flags & (SYN | ACK | RST | FIN)) != SYN)
         return "a listener, but is no SYN";
-    must(inet_tables_syn(&tables, worker, listener, it->from, it->from_port, it->to, it->to_port, &request), "syn");
+    must(inet_worker_syn(&worker, listener, it->from, it->from_port, it->to, it->to_port, &request), "syn");
     *object_of(request) = (struct object){it->from, it->from_port, it->to_port, 0, 0, NULL};
     return "a listener, and begins a handshake";
 }
@@ -99,13 +99,13 @@ static const char *begin(const struct segment *it, uint64_t listener) {
 static const char *go_on(const struct segment *it, uint64_t request) {
     uint64_t socket;
     if (it->flags & RST) {
-        must(inet_tables_drop(&tables, worker, request), "drop");
+        must(inet_worker_drop(&worker, request), "drop");
         objects[request].ended = "refused";
         return "a request, and ends it";
     }
     if (!(it->flags & ACK))
         return "a request";
-    must(inet_tables_ack(&tables, worker, request, &socket), "ack");
+    must(inet_worker_ack(&worker, request, &socket), "ack");
     *object_of(socket) = objects[request];
     memset(&objects[request], 0, sizeof objects[request]);
     return "a request, and ends the handshake";
@@ -117,9 +117,9 @@ static const char *receive(const struct segment *it, uint64_t socket) {
     mine->segments++;
     mine->bytes += it->bytes;
     if (it->flags & RST)
-        must(inet_tables_drop(&tables, worker, socket), "drop");
+        must(inet_worker_drop(&worker, socket), "drop");
     else if (it->flags & FIN)
-        must(inet_tables_close(&tables, worker, socket, &waits), "close");
+        must(inet_worker_close(&worker, socket, &waits), "close");
     if (it->flags & (RST | FIN))
         mine->ended = it->flags & RST ? "reset" : "closed";
     return "a connection";
@@ -127,7 +127,7 @@ static const char *receive(const struct segment *it, uint64_t socket) {
 
 static const char *take(const struct segment *it) {
     struct inet_sight sight;
-    must(inet_tables_look(&looker, it->from, it->from_port, it->to, it->to_port, 0, 0, &sight), "look");
+    must(inet_looker_look(&looker, it->from, it->from_port, it->to, it->to_port, 0, 0, &sight), "look");
     switch (sight.kind) {
     case INET_LISTENER: return begin(it, sight.socket);
     case INET_REQUEST: return go_on(it, sight.socket);
@@ -158,25 +158,26 @@ static void report(const struct object *it) {
 }
 
 int main(int words, char **word) {
-    struct inet_tables shared = {0};
-    struct inet_sizes sizes = {4096, 16, 4096, 32, 0, 32768, 60999, false};
-    struct inet_limits limits = {0, 0, 0};
+    struct inet_tables tables = {0};
+    struct inet_sizes sizes = {sizeof sizes, 4096, 16, 4096, 32, 0, 32768, 60999, false};
+    struct inet_limits limits = {sizeof limits, 0, 0, 0};
+    uint32_t number;
     FILE *capture = words > 2 ? fopen(word[1], "rb") : NULL;
     if (capture == NULL) {
         fprintf(stderr, "usage: replay CAPTURE PORT..\n");
         return 2;
     }
-    must(inet_tables_share(&shared, &sizes, 1), "share");
-    must(inet_tables_worker(&shared, &limits, &tables, &worker), "worker");
-    must(inet_tables_looker(&shared, &looker), "looker");
+    must(inet_tables_new(&tables, &sizes, 1), "new");
+    must(inet_tables_worker(&tables, &limits, &worker, &number), "worker");
+    must(inet_tables_looker(&tables, &looker), "looker");
     for (int i = 2; i < words; i++)
         listen_at((uint16_t)atoi(word[i]));
     play(capture);
     for (int i = 0; i < OBJECTS; i++)
         report(&objects[i]);
     fclose(capture);
-    inet_tables_free(&shared);
+    inet_worker_free(&worker);
+    inet_looker_free(&looker);
     inet_tables_free(&tables);
-    inet_tables_free(&looker);
     return 0;
 }

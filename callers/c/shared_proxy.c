@@ -14,7 +14,7 @@ enum { CONNECTIONS = 500, PROXY = 0x0A000001 };
 static const uint32_t CLIENTS = 0xC0000200;
 
 /* A call tries so often again for what another worker has. */
-static const struct inet_limits LIMITS = {1000, 0, 0};
+static const struct inet_limits LIMITS = {sizeof(struct inet_limits), 1000, 0, 0};
 
 static void must(int error, const char *what) {
     if (error != 0) {
@@ -45,13 +45,13 @@ static uint16_t port_of(uint32_t worker) {
     return (uint16_t)(8000 + worker);
 }
 
-struct accepter { struct inet_tables tables; uint64_t listener; uint32_t worker, closed, waiting; };
+struct accepter { struct inet_worker worker; uint64_t listener; uint32_t number, closed, waiting; };
 
 static void open_listener(struct accepter *me) {
     uint16_t bound;
-    must(inet_tables_socket(&me->tables, me->worker, 0, 0, 0, INET_REUSEADDR, &me->listener), "socket");
-    must(inet_tables_bind(&me->tables, me->worker, me->listener, PROXY, port_of(me->worker), &bound), "bind");
-    must(inet_tables_listen(&me->tables, me->worker, me->listener, &bound), "listen");
+    must(inet_worker_socket(&me->worker, 0, 0, 0, INET_REUSEADDR, &me->listener), "socket");
+    must(inet_worker_bind(&me->worker, me->listener, PROXY, port_of(me->number), &bound), "bind");
+    must(inet_worker_listen(&me->worker, me->listener, &bound), "listen");
 }
 
 /* The socket's number is that of the call that made it: each call gives another one. */
@@ -59,8 +59,8 @@ static uint64_t accept_from(struct accepter *me, uint16_t from_port) {
     uint64_t socket;
     int error;
     do
-        error = inet_tables_accept(&me->tables, me->worker, me->listener, CLIENTS + me->worker, from_port, PROXY,
-                                   port_of(me->worker), &socket);
+        error = inet_worker_accept(&me->worker, me->listener, CLIENTS + me->number, from_port, PROXY,
+                                   port_of(me->number), &socket);
     while (again(error));
     must(error, "accept");
     return socket;
@@ -70,7 +70,7 @@ static bool close_socket(struct accepter *me, uint64_t socket) {
     bool waits;
     int error;
     do
-        error = inet_tables_close(&me->tables, me->worker, socket, &waits);
+        error = inet_worker_close(&me->worker, socket, &waits);
     while (again(error));
     must(error, "close");
     return waits;
@@ -86,13 +86,13 @@ static void *accept_all(void *given) {
     return NULL;
 }
 
-struct looker { struct inet_tables tables; uint32_t worker, found; };
+struct looker { struct inet_looker handle; uint32_t worker, found; };
 
 static struct inet_sight look(struct looker *me, uint16_t from_port) {
     struct inet_sight sight;
     int error;
     do
-        error = inet_tables_look(&me->tables, CLIENTS + me->worker, from_port, PROXY, port_of(me->worker), 0, 0,
+        error = inet_looker_look(&me->handle, CLIENTS + me->worker, from_port, PROXY, port_of(me->worker), 0, 0,
                                  &sight);
     while (again(error));
     must(error, "look");
@@ -109,82 +109,75 @@ static void *look_all(void *given) {
     return NULL;
 }
 
-static void refusals(struct accepter *one, struct accepter *two) {
+static void refusals(struct accepter *two) {
     uint64_t socket;
     uint16_t bound;
     bool waits;
-    must(inet_tables_socket(&two->tables, 2, 0, 0, 0, 0, &socket), "socket");
+    must(inet_worker_socket(&two->worker, 0, 0, 0, 0, &socket), "socket");
     printf("a port that another worker has: %s\n",
-           name(inet_tables_bind(&two->tables, 2, socket, 0, port_of(1), &bound)));
-    must(inet_tables_drop(&two->tables, 2, socket), "drop");
-    printf("another worker's socket: %s\n", name(inet_tables_close(&two->tables, 1, one->listener, &waits)));
+           name(inet_worker_bind(&two->worker, socket, 0, port_of(1), &bound)));
+    must(inet_worker_drop(&two->worker, socket), "drop");
+    printf("a number of no open socket: %s\n", name(inet_worker_close(&two->worker, socket, &waits)));
 }
 
-/* What a handle holds isn't for each call. */
-static void misused(struct inet_tables *shared, struct accepter *accepter, struct looker *looker) {
-    struct inet_sight sight;
-    struct inet_item item;
+/* A handle holds one worker, and gives it back to its own tables. */
+static void misused(struct inet_tables *tables, struct accepter *accepter) {
     uint32_t number;
-    uint64_t socket, count;
-    printf("a socket of a looker: %s\n", name(inet_tables_socket(&looker->tables, 1, 0, 0, 0, 0, &socket)));
-    printf("a socket of the shared tables: %s\n", name(inet_tables_socket(shared, 1, 0, 0, 0, 0, &socket)));
-    printf("a packet for a worker: %s\n", name(inet_tables_look(&accepter->tables, 1, 1, 1, 1, 0, 0, &sight)));
-    printf("a list of shared tables: %s\n", name(inet_tables_list(shared, &item, 1, &count)));
     printf("a worker into a handle that has one: %s\n",
-           name(inet_tables_worker(shared, &LIMITS, &accepter->tables, &number)));
+           name(inet_tables_worker(tables, &LIMITS, &accepter->worker, &number)));
 }
 
 /* A handshake in two steps: its request takes the packets while it lasts, and then the connection. */
 static void shake_hands(struct accepter *me, struct looker *looker) {
     uint64_t request, socket;
-    must(inet_tables_syn(&me->tables, me->worker, me->listener, CLIENTS + me->worker, 1023, PROXY,
-                         port_of(me->worker), &request),
+    must(inet_worker_syn(&me->worker, me->listener, CLIENTS + me->number, 1023, PROXY,
+                         port_of(me->number), &request),
          "syn");
     struct inet_sight sight = look(looker, 1023);
     printf("a packet of a handshake: %s\n",
            sight.kind == INET_REQUEST && sight.socket == request ? "the request" : "another socket");
-    must(inet_tables_ack(&me->tables, me->worker, request, &socket), "ack");
+    must(inet_worker_ack(&me->worker, request, &socket), "ack");
     sight = look(looker, 1023);
     printf("a packet after it: %s\n",
            sight.kind == INET_CONNECTED && sight.socket == socket ? "the connection" : "another socket");
-    must(inet_tables_drop(&me->tables, me->worker, socket), "drop");
+    must(inet_worker_drop(&me->worker, socket), "drop");
 }
 
 /* The next holder of a worker that was given back closes what its last holder left open, but the listener. */
-static void hand_over(struct inet_tables *shared, struct accepter *me) {
+static void hand_over(struct inet_tables *tables, struct accepter *me) {
     uint64_t socket, dropped = 0;
     accept_from(me, 1021);
     accept_from(me, 1022);
-    must(inet_tables_give_back(shared, &me->tables), "give back");
-    must(inet_tables_worker(shared, &LIMITS, &me->tables, &me->worker), "worker");
-    must(inet_tables_next_open(&me->tables, me->worker, me->listener, &socket), "next open");
+    must(inet_worker_give_back(&me->worker, tables), "give back");
+    must(inet_tables_worker(tables, &LIMITS, &me->worker, &me->number), "worker");
+    must(inet_worker_next_open(&me->worker, me->listener, &socket), "next open");
     while (socket != 0) {
-        must(inet_tables_drop(&me->tables, me->worker, socket), "drop");
+        must(inet_worker_drop(&me->worker, socket), "drop");
         dropped++;
-        must(inet_tables_next_open(&me->tables, me->worker, socket, &socket), "next open");
+        must(inet_worker_next_open(&me->worker, socket, &socket), "next open");
     }
-    printf("worker %u, handed over: %llu connections dropped\n", me->worker, (unsigned long long)dropped);
+    printf("worker %u, handed over: %llu connections dropped\n", me->number, (unsigned long long)dropped);
 }
 
 static void finish(struct accepter *me) {
     uint64_t count;
-    must(inet_tables_at(&me->tables, me->worker, 60), "at");
-    must(inet_tables_reap(&me->tables, me->worker, &count), "reap");
-    printf("worker %u: %llu TIME_WAITs are over after a minute\n", me->worker, (unsigned long long)count);
-    inet_tables_free(&me->tables);
+    must(inet_worker_at(&me->worker, 60), "at");
+    must(inet_worker_reap(&me->worker, &count), "reap");
+    printf("worker %u: %llu TIME_WAITs are over after a minute\n", me->number, (unsigned long long)count);
+    inet_worker_free(&me->worker);
 }
 
 int main(void) {
-    struct inet_sizes sizes = {4096, 16, 256, 32, 7, 32768, 60999, false};
-    struct inet_tables shared = {NULL};
-    must(inet_tables_share(&shared, &sizes, 1), "share");
-    printf("tables in the same handle again: %s\n", name(inet_tables_share(&shared, &sizes, 2)));
+    struct inet_sizes sizes = {sizeof sizes, 4096, 16, 256, 32, 7, 32768, 60999, false};
+    struct inet_tables tables = {NULL};
+    must(inet_tables_new(&tables, &sizes, 1), "new");
+    printf("tables in the same handle again: %s\n", name(inet_tables_new(&tables, &sizes, 2)));
     struct accepter accepters[2] = {{{NULL}, 0, 0, 0, 0}, {{NULL}, 0, 0, 0, 0}};
     struct looker lookers[2] = {{{NULL}, 1, 0}, {{NULL}, 2, 0}};
     pthread_t threads[4];
     for (uint32_t i = 0; i < 2; i++) {
-        must(inet_tables_worker(&shared, &LIMITS, &accepters[i].tables, &accepters[i].worker), "worker");
-        must(inet_tables_looker(&shared, &lookers[i].tables), "looker");
+        must(inet_tables_worker(&tables, &LIMITS, &accepters[i].worker, &accepters[i].number), "worker");
+        must(inet_tables_looker(&tables, &lookers[i].handle), "looker");
         open_listener(&accepters[i]);
     }
     for (uint32_t i = 0; i < 2; i++) {
@@ -195,19 +188,19 @@ int main(void) {
         must(pthread_join(threads[i], NULL), "join");
     for (uint32_t i = 0; i < 2; i++)
         printf("worker %u: %u connections closed, %u in TIME_WAIT; %u of %d packets found a socket of its own\n",
-               accepters[i].worker, accepters[i].closed, accepters[i].waiting, lookers[i].found, CONNECTIONS);
-    refusals(&accepters[0], &accepters[1]);
-    misused(&shared, &accepters[0], &lookers[0]);
+               accepters[i].number, accepters[i].closed, accepters[i].waiting, lookers[i].found, CONNECTIONS);
+    refusals(&accepters[1]);
+    misused(&tables, &accepters[0]);
     shake_hands(&accepters[0], &lookers[0]);
-    hand_over(&shared, &accepters[0]);
-    inet_tables_free(&shared);
+    hand_over(&tables, &accepters[0]);
+    inet_tables_free(&tables);
     finish(&accepters[0]);
     finish(&accepters[1]);
     struct inet_sight sight = look(&lookers[1], 1024);
     printf("a packet when the workers are gone: %s\n",
            sight.kind == INET_LISTENER ? "the listener" : "another socket");
-    inet_tables_free(&lookers[0].tables);
-    inet_tables_free(&lookers[1].tables);
-    printf("a packet when all are gone: %s\n", name(inet_tables_look(&lookers[1].tables, 1, 1, 1, 1, 0, 0, &sight)));
+    inet_looker_free(&lookers[0].handle);
+    inet_looker_free(&lookers[1].handle);
+    printf("a packet when all are gone: %s\n", name(inet_looker_look(&lookers[1].handle, 1, 1, 1, 1, 0, 0, &sight)));
     return 0;
 }

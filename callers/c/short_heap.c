@@ -11,7 +11,7 @@
 
 enum { HOST = 0x0A000001, PEER = 0x0A000002, LEAST = 5 };
 
-static const struct inet_limits LIMITS = {10, 0, 0};
+static const struct inet_limits LIMITS = {sizeof(struct inet_limits), 10, 0, 0};
 
 /* How many allocations are left until the one that fails, or 0 where none is to fail; how many failed, how many blocks
  * are out, and how many bytes were asked for last. */
@@ -65,73 +65,105 @@ static bool again(int error, const char *what) {
 
 #define MAKE(call, what) do {} while (again((call), (what)))
 
-/* A packet finds this kind of socket, whatever failed. */
-static void see(struct inet_tables *looker, uint16_t port, uint32_t kind) {
-    struct inet_sight sight;
-    if (inet_tables_look(looker, PEER, port, HOST, 80, 0, 0, &sight) != 0 || sight.kind != kind) {
+/* A packet of this port is to find this kind of socket, whatever failed. */
+static void is_seen(int error, struct inet_sight sight, uint16_t port, uint32_t kind) {
+    if (error != 0 || sight.kind != kind) {
         fprintf(stderr, "a packet of port %u doesn't find kind %u\n", port, kind);
         exit(1);
     }
 }
 
-/* What a server does, by the handle of a list or of a worker, with packets by that or by a looker. */
-static void serve(struct inet_tables *tables, uint32_t worker, struct inet_tables *looker) {
+static void see_list(struct inet_list *list, uint16_t port, uint32_t kind) {
+    struct inet_sight sight;
+    int error = inet_list_look(list, PEER, port, HOST, 80, 0, 0, &sight);
+    is_seen(error, sight, port, kind);
+}
+
+static void see(struct inet_looker *looker, uint16_t port, uint32_t kind) {
+    struct inet_sight sight;
+    int error = inet_looker_look(looker, PEER, port, HOST, 80, 0, 0, &sight);
+    is_seen(error, sight, port, kind);
+}
+
+/* What a server does, by a list. */
+static void by_list(struct inet_sizes *sizes) {
+    struct inet_list list = {NULL};
+    struct inet_item items[4];
     uint64_t web, in, request, out_socket, count;
     uint32_t addr;
     uint16_t port;
     bool waits;
-    MAKE(inet_tables_socket(tables, worker, 0, 0, 0, INET_REUSEADDR, &web), "socket");
-    MAKE(inet_tables_bind(tables, worker, web, HOST, 80, &port), "bind");
-    see(looker, 1000, INET_NONE);
-    MAKE(inet_tables_listen(tables, worker, web, &port), "listen");
-    see(looker, 1000, INET_LISTENER);
-    MAKE(inet_tables_accept(tables, worker, web, PEER, 1000, HOST, 80, &in), "accept");
-    see(looker, 1000, INET_CONNECTED);
-    MAKE(inet_tables_syn(tables, worker, web, PEER, 1001, HOST, 80, &request), "syn");
-    see(looker, 1001, INET_REQUEST);
-    MAKE(inet_tables_ack(tables, worker, request, &request), "ack");
-    see(looker, 1001, INET_CONNECTED);
-    MAKE(inet_tables_socket(tables, worker, 0, 0, 0, 0, &out_socket), "socket");
-    MAKE(inet_tables_connect(tables, worker, out_socket, HOST, PEER, 443, &addr, &port), "connect");
-    MAKE(inet_tables_close(tables, worker, in, &waits), "close");
-    see(looker, 1000, INET_TIME_WAIT);
-    MAKE(inet_tables_drop(tables, worker, request), "drop");
-    see(looker, 1001, INET_LISTENER);
-    MAKE(inet_tables_at(tables, worker, 60), "at");
-    MAKE(inet_tables_reap(tables, worker, &count), "reap");
-    see(looker, 1000, INET_LISTENER);
-}
-
-static void by_list(struct inet_sizes *sizes) {
-    struct inet_tables list = {NULL};
-    struct inet_item items[4];
-    uint64_t count;
-    MAKE(inet_tables_new(&list, sizes), "new");
-    serve(&list, 1, &list);
-    MAKE(inet_tables_list(&list, items, 4, &count), "list");
+    MAKE(inet_list_new(&list, sizes), "new");
+    MAKE(inet_list_socket(&list, 1, 0, 0, 0, INET_REUSEADDR, &web), "socket");
+    MAKE(inet_list_bind(&list, 1, web, HOST, 80, &port), "bind");
+    see_list(&list, 1000, INET_NONE);
+    MAKE(inet_list_listen(&list, 1, web, &port), "listen");
+    MAKE(inet_list_accept(&list, 1, web, PEER, 1000, HOST, 80, &in), "accept");
+    see_list(&list, 1000, INET_CONNECTED);
+    MAKE(inet_list_syn(&list, 1, web, PEER, 1001, HOST, 80, &request), "syn");
+    MAKE(inet_list_ack(&list, 1, request, &request), "ack");
+    see_list(&list, 1001, INET_CONNECTED);
+    MAKE(inet_list_socket(&list, 1, 0, 0, 0, 0, &out_socket), "socket");
+    MAKE(inet_list_connect(&list, 1, out_socket, HOST, PEER, 443, &addr, &port), "connect");
+    MAKE(inet_list_close(&list, 1, in, &waits), "close");
+    MAKE(inet_list_drop(&list, 1, request), "drop");
+    MAKE(inet_list_at(&list, 1, 60), "at");
+    MAKE(inet_list_reap(&list, 1, &count), "reap");
+    see_list(&list, 1000, INET_LISTENER);
+    MAKE(inet_list_items(&list, items, 4, &count), "items");
     if (count != 2) {
         fprintf(stderr, "%llu sockets in place of 2\n", (unsigned long long)count);
         exit(1);
     }
-    inet_tables_free(&list);
+    inet_list_free(&list);
+}
+
+/* The same by a worker, with packets by a looker. */
+static void serve(struct inet_worker *worker, struct inet_looker *looker) {
+    uint64_t web, in, request, out_socket, count;
+    uint32_t addr;
+    uint16_t port;
+    bool waits;
+    MAKE(inet_worker_socket(worker, 0, 0, 0, INET_REUSEADDR, &web), "socket");
+    MAKE(inet_worker_bind(worker, web, HOST, 80, &port), "bind");
+    see(looker, 1000, INET_NONE);
+    MAKE(inet_worker_listen(worker, web, &port), "listen");
+    see(looker, 1000, INET_LISTENER);
+    MAKE(inet_worker_accept(worker, web, PEER, 1000, HOST, 80, &in), "accept");
+    see(looker, 1000, INET_CONNECTED);
+    MAKE(inet_worker_syn(worker, web, PEER, 1001, HOST, 80, &request), "syn");
+    see(looker, 1001, INET_REQUEST);
+    MAKE(inet_worker_ack(worker, request, &request), "ack");
+    see(looker, 1001, INET_CONNECTED);
+    MAKE(inet_worker_socket(worker, 0, 0, 0, 0, &out_socket), "socket");
+    MAKE(inet_worker_connect(worker, out_socket, HOST, PEER, 443, &addr, &port), "connect");
+    MAKE(inet_worker_close(worker, in, &waits), "close");
+    see(looker, 1000, INET_TIME_WAIT);
+    MAKE(inet_worker_drop(worker, request), "drop");
+    see(looker, 1001, INET_LISTENER);
+    MAKE(inet_worker_at(worker, 60), "at");
+    MAKE(inet_worker_reap(worker, &count), "reap");
+    see(looker, 1000, INET_LISTENER);
 }
 
 static void by_worker(struct inet_sizes *sizes) {
-    struct inet_tables shared = {NULL}, worker = {NULL}, looker = {NULL};
+    struct inet_tables tables = {NULL};
+    struct inet_worker worker = {NULL};
+    struct inet_looker looker = {NULL};
     uint32_t number;
-    MAKE(inet_tables_share(&shared, sizes, 1), "share");
-    MAKE(inet_tables_worker(&shared, &LIMITS, &worker, &number), "worker");
-    MAKE(inet_tables_looker(&shared, &looker), "looker");
-    serve(&worker, number, &looker);
-    inet_tables_free(&shared);
-    inet_tables_free(&worker);
-    inet_tables_free(&looker);
+    MAKE(inet_tables_new(&tables, sizes, 1), "new");
+    MAKE(inet_tables_worker(&tables, &LIMITS, &worker, &number), "worker");
+    MAKE(inet_tables_looker(&tables, &looker), "looker");
+    serve(&worker, &looker);
+    inet_tables_free(&tables);
+    inet_worker_free(&worker);
+    inet_looker_free(&looker);
 }
 
 /* Fails the first allocation, the second, and so on, until all succeed. */
 static void go(const char *what, void (*calls)(struct inet_sizes *)) {
-    struct inet_sizes sizes = {.slots = 64, .bind = 4, .hash = 16, .listen = 4, .seed = 7, .low = 32768, .high = 60999,
-                               .twreuse = false};
+    struct inet_sizes sizes = {.size = sizeof sizes, .slots = 64, .bind = 4, .hash = 16, .listen = 4, .seed = 7,
+                               .low = 32768, .high = 60999, .twreuse = false};
     uint64_t rounds = 0;
     failed = refused = 0;
     do {

@@ -7,7 +7,12 @@
 
 enum { LISTENERS = 64, LOOKUPS = 1000000, FEW = 65536, MANY = 1000000 };
 
-struct tables { struct inet_tables shared, worker, looker; uint32_t number; };
+struct tables {
+    struct inet_tables shared;
+    struct inet_worker worker;
+    struct inet_looker looker;
+    uint32_t number;
+};
 
 struct ends { uint32_t from; uint16_t from_port, port; };
 
@@ -19,10 +24,11 @@ static struct ends ends_of(uint32_t connection) {
 
 /* At least as many buckets as connections, and a tenth more slots. */
 static void open_tables(struct tables *t, uint32_t connections) {
-    struct inet_sizes sizes = {connections + connections / 10 + LISTENERS, 256, 2, 64, 1, 32768, 60999, false};
+    uint32_t slots = connections + connections / 10 + LISTENERS;
+    struct inet_sizes sizes = {sizeof sizes, slots, 256, 2, 64, 1, 32768, 60999, false};
     while (sizes.hash < connections)
         sizes.hash *= 2;
-    must(inet_tables_share(&t->shared, &sizes, 1), "share");
+    must(inet_tables_new(&t->shared, &sizes, 1), "new");
     must(inet_tables_worker(&t->shared, &LIMITS, &t->worker, &t->number), "worker");
     must(inet_tables_looker(&t->shared, &t->looker), "looker");
 }
@@ -30,10 +36,10 @@ static void open_tables(struct tables *t, uint32_t connections) {
 static void accept_all(struct tables *t, uint32_t connections) {
     uint64_t listeners[LISTENERS], socket;
     for (uint32_t i = 0; i < LISTENERS; i++)
-        listeners[i] = open_listener(&t->worker, t->number, (uint16_t)(8000 + i));
+        listeners[i] = open_listener(&t->worker, (uint16_t)(8000 + i));
     for (uint32_t i = 0; i < connections; i++) {
         struct ends e = ends_of(i);
-        must(inet_tables_accept(&t->worker, t->number, listeners[i % LISTENERS], e.from, e.from_port, PROXY, e.port,
+        must(inet_worker_accept(&t->worker, listeners[i % LISTENERS], e.from, e.from_port, PROXY, e.port,
                                 &socket),
              "accept");
     }
@@ -47,7 +53,7 @@ static uint32_t look_at(struct tables *t, uint32_t connections) {
         struct inet_sight sight;
         word = word * 6364136223846793005 + 1442695040888963407;
         struct ends e = ends_of((uint32_t)((word >> 32) % connections));
-        must(inet_tables_look(&t->looker, e.from, e.from_port, PROXY, e.port, 0, 0, &sight), "look");
+        must(inet_looker_look(&t->looker, e.from, e.from_port, PROXY, e.port, 0, 0, &sight), "look");
         found += sight.kind == INET_CONNECTED;
     }
     return found;
@@ -63,14 +69,14 @@ static void measure(uint32_t connections) {
     uint32_t found = look_at(&t, connections);
     uint64_t looked = nanoseconds();
     fprintf(stderr,
-            "%u connections: share %.1f ms; accept %.0f ns; %.0f bytes each of tables, and %.0f of sockets; look %.0f "
+            "%u connections: new %.1f ms; accept %.0f ns; %.0f bytes each of tables, and %.0f of sockets; look %.0f "
             "ns\n",
             connections, (double)(shared - begun) / 1e6, (double)(accepted - shared) / connections,
             (double)(empty - before) * 1024 / connections, (double)(full - empty) * 1024 / connections,
             (double)(looked - accepted) / LOOKUPS);
     printf("%u standing connections: %u of %u lookups found theirs\n", connections, found, (uint32_t)LOOKUPS);
-    inet_tables_free(&t.looker);
-    inet_tables_free(&t.worker);
+    inet_looker_free(&t.looker);
+    inet_worker_free(&t.worker);
     inet_tables_free(&t.shared);
 }
 

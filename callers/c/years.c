@@ -13,10 +13,12 @@
 
 enum { WORKERS = 4, LOOKERS = 2, OPEN = 1000, ERRNOS = 128 };
 
-/* What a thread has done, by what its calls answered (0 where they were done), and its slowest call. */
+/* What a thread has done, by what its calls answered (0 where they were done), and its slowest call. One of
+ * its handles holds nothing. */
 struct actor {
-    struct inet_tables tables;
-    uint32_t worker;
+    struct inet_worker worker;
+    struct inet_looker looker;
+    uint32_t number;
     uint64_t listener, made;
     uint64_t sockets[OPEN];
     _Atomic uint64_t answers[ERRNOS], slowest, strange;
@@ -43,9 +45,9 @@ static void turn_over(struct actor *me) {
     uint64_t at = me->made % OPEN;
     uint16_t from_port = (uint16_t)(1024 + me->made % CLIENT_PORTS);
     if (me->made >= OPEN)
-        while (count(me, inet_tables_drop(&me->tables, me->worker, me->sockets[at])) == EAGAIN) {}
-    while (count(me, inet_tables_accept(&me->tables, me->worker, me->listener, CLIENTS + me->worker, from_port, PROXY,
-                                        (uint16_t)(8000 + me->worker), &me->sockets[at])) == EAGAIN) {}
+        while (count(me, inet_worker_drop(&me->worker, me->sockets[at])) == EAGAIN) {}
+    while (count(me, inet_worker_accept(&me->worker, me->listener, CLIENTS + me->number, from_port, PROXY,
+                                        (uint16_t)(8000 + me->number), &me->sockets[at])) == EAGAIN) {}
     me->made++;
 }
 
@@ -62,7 +64,7 @@ static void look(struct actor *me) {
     struct inet_sight sight;
     uint32_t worker = 1 + (uint32_t)(me->made % WORKERS);
     uint16_t from_port = (uint16_t)(1024 + me->made % CLIENT_PORTS);
-    if (count(me, inet_tables_look(&me->tables, CLIENTS + worker, from_port, PROXY, (uint16_t)(8000 + worker), 0, 0,
+    if (count(me, inet_looker_look(&me->looker, CLIENTS + worker, from_port, PROXY, (uint16_t)(8000 + worker), 0, 0,
                                    &sight)) == 0 &&
         (sight.kind == INET_NONE || sight.worker != worker))
         atomic_fetch_add_explicit(&me->strange, 1, memory_order_relaxed);
@@ -78,16 +80,16 @@ static void *watch(void *given) {
 }
 
 static void open_all(void) {
-    struct inet_tables shared = {0};
-    struct inet_sizes sizes = {65536, 256, 65536, 32, 1, 32768, 60999, false};
-    must(inet_tables_share(&shared, &sizes, 1), "share");
+    struct inet_tables tables = {0};
+    struct inet_sizes sizes = {sizeof sizes, 65536, 256, 65536, 32, 1, 32768, 60999, false};
+    must(inet_tables_new(&tables, &sizes, 1), "new");
     for (int i = 0; i < WORKERS; i++) {
-        must(inet_tables_worker(&shared, &LIMITS, &actors[i].tables, &actors[i].worker), "worker");
-        actors[i].listener = open_listener(&actors[i].tables, actors[i].worker, (uint16_t)(8000 + actors[i].worker));
+        must(inet_tables_worker(&tables, &LIMITS, &actors[i].worker, &actors[i].number), "worker");
+        actors[i].listener = open_listener(&actors[i].worker, (uint16_t)(8000 + actors[i].number));
     }
     for (int i = WORKERS; i < WORKERS + LOOKERS; i++)
-        must(inet_tables_looker(&shared, &actors[i].tables), "looker");
-    inet_tables_free(&shared);
+        must(inet_tables_looker(&tables, &actors[i].looker), "looker");
+    inet_tables_free(&tables);
 }
 
 static uint64_t sum(int first, int end, int error) {
@@ -131,7 +133,8 @@ int main(int words, char **word) {
         }
     for (int i = 0; i < WORKERS + LOOKERS; i++) {
         strange += atomic_load(&actors[i].strange);
-        inet_tables_free(&actors[i].tables);
+        inet_worker_free(&actors[i].worker);
+        inet_looker_free(&actors[i].looker);
     }
     printf("calls refused, but by EAGAIN: %llu\n", (unsigned long long)refused);
     printf("packets that found nobody, or another worker: %llu\n", (unsigned long long)strange);

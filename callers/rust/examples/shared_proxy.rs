@@ -2,7 +2,7 @@
 //! each by a worker of its own, and two look packets up meanwhile, each by a looker of its own. No lock is round any
 //! call. What it prints is the same whichever thread comes first, and what ../../c/shared_proxy.c prints of the same.
 
-use inet_tables::{Errno, Limits, Looker, Options, SharedTables, Sight, Sizes, Socket, Worker};
+use inet_tables::{Errno, Limits, Looker, Options, Sight, Sizes, Socket, Tables, Worker};
 use std::net::{Ipv4Addr, SocketAddrV4};
 use std::thread;
 
@@ -48,13 +48,6 @@ fn accept_all(worker: &mut Worker, listener: Socket) -> Result<(u32, u32), Errno
     Ok((closed, waiting))
 }
 
-/// The socket that takes a packet.
-fn taker(sight: Sight) -> Socket {
-    match sight {
-        Sight::Connected(s) | Sight::TimeWait(s) | Sight::Listener(s) | Sight::Request(s) => s,
-    }
-}
-
 fn look(looker: &mut Looker, worker: u32, port: u16) -> Result<Option<Sight>, Errno> {
     patiently(|| looker.look(client(worker, port), at(worker), 0, 0))
 }
@@ -64,17 +57,13 @@ fn look_all(looker: &mut Looker, worker: u32) -> Result<u32, Errno> {
     let mut found = 0;
     for i in 0..CONNECTIONS {
         let sight = look(looker, worker, 1024 + i)?;
-        found += u32::from(sight.is_some_and(|sight| taker(sight).worker == worker));
+        found += u32::from(sight.is_some_and(|sight| sight.socket().worker == worker));
     }
     Ok(found)
 }
 
 fn name(errno: Errno) -> &'static str {
-    match errno {
-        Errno::EINVAL => "EINVAL",
-        Errno::EADDRINUSE => "EADDRINUSE",
-        _ => "another errno",
-    }
+    errno.name().unwrap_or("another errno")
 }
 
 fn refusals(one: Socket, two: &mut Worker) -> Result<(), Errno> {
@@ -99,12 +88,12 @@ fn shake_hands(worker: &mut Worker, listener: Socket, looker: &mut Looker) -> Re
 }
 
 /// The next holder of a worker that was given back closes what its last holder left open, but the listener.
-fn hand_over(shared: &mut SharedTables, mut worker: Worker, listener: Socket) -> Result<Worker, Errno> {
+fn hand_over(tables: &mut Tables, mut worker: Worker, listener: Socket) -> Result<Worker, Errno> {
     let number = worker.number();
     worker.accept(listener, client(number, 1021), at(number))?;
     worker.accept(listener, client(number, 1022), at(number))?;
-    shared.take_back(worker).map_err(|(errno, _)| errno)?;
-    let mut worker = shared.worker(LIMITS)?;
+    tables.take_back(worker).map_err(|(errno, _)| errno)?;
+    let mut worker = tables.worker(LIMITS)?;
     let (mut dropped, mut last) = (0, listener.number);
     while let Some(socket) = worker.next_open(last)? {
         worker.drop_socket(socket)?;
@@ -122,9 +111,9 @@ fn finish(mut worker: Worker) -> Result<(), Errno> {
 }
 
 fn main() -> Result<(), Errno> {
-    let mut shared = SharedTables::new(&Sizes { slots: 4096, seed: 7, ..Sizes::default() })?;
-    let mut workers = [shared.worker(LIMITS)?, shared.worker(LIMITS)?];
-    let mut lookers = [shared.looker()?, shared.looker()?];
+    let mut tables = Tables::new(&Sizes { slots: 4096, seed: 7, ..Sizes::default() })?;
+    let mut workers = [tables.worker(LIMITS)?, tables.worker(LIMITS)?];
+    let mut lookers = [tables.looker()?, tables.looker()?];
     let [one, two] = &mut workers;
     let listeners = [open_listener(one)?, open_listener(two)?];
     let (accepted, looked) = thread::scope(|scope| {
@@ -149,8 +138,8 @@ fn main() -> Result<(), Errno> {
     let ([mut one, mut two], [mut looker, mut last]) = (workers, lookers);
     refusals(listeners[0], &mut two)?;
     shake_hands(&mut one, listeners[0], &mut looker)?;
-    let one = hand_over(&mut shared, one, listeners[0])?;
-    drop(shared);
+    let one = hand_over(&mut tables, one, listeners[0])?;
+    drop(tables);
     finish(one)?;
     finish(two)?;
     let gone = look(&mut last, 2, 1024)? == Some(Sight::Listener(listeners[1]));

@@ -1,7 +1,7 @@
 //! The library's memory, over malloc, realloc and free: what ../heap.c is for programs in C.
 
 use std::ffi::c_void;
-use std::ptr::{NonNull, null_mut};
+use std::ptr::NonNull;
 
 unsafe extern "C" {
     fn malloc(size: usize) -> *mut c_void;
@@ -18,7 +18,7 @@ pub struct Tried {
 fn told(at: *mut c_void) -> Tried {
     // Where there is no memory, the pointer is to some byte that nobody reads.
     let byte = NonNull::<c_void>::dangling().as_ptr();
-    Tried { ok: at != null_mut(), at: if at.is_null() { byte } else { at } }
+    Tried { ok: !at.is_null(), at: if at.is_null() { byte } else { at } }
 }
 
 // SAFETY: the names are those that the library asks for, and nothing else here has them.

@@ -1,34 +1,42 @@
 //! Linux's TCP socket tables for IPv4 in safe Rust, over the library `inet_c`.
 //!
-//! [`Tables`] are one list of sockets. [`SharedTables`] are for several threads at once: they hand out a [`Worker`]
-//! for each that opens and closes sockets, and a [`Looker`] for each that looks packets up.
+//! A [`List`] is one list of sockets. [`Tables`] are for several threads at once: they hand out a [`Worker`] for each
+//! that opens and closes sockets, and a [`Looker`] for each that looks packets up.
 //!
 //! ../inet_tables.h says what each call does, and what a caller owes. Here the types see to that: each value owns its
 //! handle, so it is made once, at one call at a time, and given up once; it has the calls that are for it alone; and
 //! the numbers that a call writes are its own.
 
+mod errno;
 mod heap;
 mod list;
 mod raw;
 mod shared;
 
-pub use list::Tables;
-pub use shared::{Looker, SharedTables, Worker};
+pub use errno::Errno;
+pub use list::List;
+pub use shared::{Looker, Tables, Worker};
 
-use std::fmt;
 use std::net::SocketAddrV4;
 
 /// The sizes of tables: ../inet_tables.h has their ranges.
-#[repr(C)]
 #[derive(Clone, Copy, Debug)]
 pub struct Sizes {
+    /// How many sockets may be hashed at a time, TIME_WAITs among them.
     pub slots: u32,
+    /// How many bind buckets there are.
     pub bind: u32,
+    /// How many established buckets.
     pub hash: u32,
+    /// How many listening buckets.
     pub listen: u32,
+    /// What searches and hashes start from.
     pub seed: u32,
+    /// The lowest port of searches.
     pub low: u16,
+    /// The highest.
     pub high: u16,
+    /// Whether `connect` may take the place of a TIME_WAIT (tcp_tw_reuse).
     pub twreuse: bool,
 }
 
@@ -40,7 +48,6 @@ impl Default for Sizes {
 }
 
 /// The limits of a worker, by default none, and one try.
-#[repr(C)]
 #[derive(Clone, Copy, Debug, Default)]
 pub struct Limits {
     /// Where another worker has what a call needs, it tries as often again, and then is EAGAIN.
@@ -52,70 +59,121 @@ pub struct Limits {
     pub full_for: u64,
 }
 
-/// A refusal: a number of errno(3).
-#[derive(Clone, Copy, Debug, PartialEq, Eq)]
-pub struct Errno(pub i32);
-
-impl Errno {
-    pub const EBADF: Errno = Errno(9);
-    /// Others were in the way for as often as the call tried: it can be made again.
-    pub const EAGAIN: Errno = Errno(11);
-    pub const ENOMEM: Errno = Errno(12);
-    pub const EINVAL: Errno = Errno(22);
-    pub const ENFILE: Errno = Errno(23);
-    pub const EMFILE: Errno = Errno(24);
-    pub const EOVERFLOW: Errno = Errno(75);
-    pub const EUSERS: Errno = Errno(87);
-    pub const EADDRINUSE: Errno = Errno(98);
-    pub const EADDRNOTAVAIL: Errno = Errno(99);
-    /// One of the worker's last calls was ENFILE, as its limits count them, and this one did not look for a slot.
-    pub const ENOBUFS: Errno = Errno(105);
-    pub const EISCONN: Errno = Errno(106);
-}
-
-impl fmt::Display for Errno {
-    fn fmt(&self, f: &mut fmt::Formatter<'_>) -> fmt::Result {
-        std::io::Error::from_raw_os_error(self.0).fmt(f)
-    }
-}
-
-impl std::error::Error for Errno {}
-
 /// A socket, by its worker and its number.
 #[derive(Clone, Copy, Debug, PartialEq, Eq, Hash)]
 pub struct Socket {
+    /// The number of its worker.
     pub worker: u32,
+    /// Its own number, which no other socket of that worker ever has.
     pub number: u64,
 }
 
-/// What a new socket is: its network namespace, its user, its device (0 for none), and its options.
+/// What a new socket is.
 #[derive(Clone, Copy, Debug, Default)]
 pub struct Options {
+    /// Its network namespace, 0 to 15.
     pub net: u8,
+    /// Its user.
     pub uid: u32,
+    /// Its device, or 0 for none.
     pub dev: u16,
+    /// SO_REUSEADDR.
     pub reuseaddr: bool,
+    /// SO_REUSEPORT.
     pub reuseport: bool,
+    /// IP_BIND_ADDRESS_NO_PORT.
     pub bind_address_no_port: bool,
+}
+
+/// A packet of a batch.
+#[derive(Clone, Copy, Debug, PartialEq, Eq)]
+pub struct Packet {
+    /// Where it comes from.
+    pub from: SocketAddrV4,
+    /// Where it goes.
+    pub to: SocketAddrV4,
+    /// The device by which it came in.
+    pub dev: u16,
+    /// Its network namespace.
+    pub net: u8,
+}
+
+/// The state of an open socket.
+#[derive(Clone, Copy, Debug, PartialEq, Eq)]
+pub enum State {
+    /// It is connected.
+    Connected,
+    /// It listens.
+    Listening,
+    /// It is a request.
+    Request,
+    /// It has a port.
+    Bound,
+    /// It has none.
+    Unbound,
+}
+
+/// An open socket of a worker.
+#[derive(Clone, Copy, Debug, PartialEq, Eq)]
+pub struct Open {
+    /// Its state.
+    pub state: State,
+    /// Its own end; without a port it may have an address.
+    pub own: SocketAddrV4,
+    /// The other's, 0.0.0.0:0 where it has none.
+    pub peer: SocketAddrV4,
+    /// Its device, or 0 for none.
+    pub dev: u16,
+    /// Its network namespace.
+    pub net: u8,
+}
+
+/// What is left to a worker, beside what is kept for calls that end sockets.
+#[derive(Clone, Copy, Debug, PartialEq, Eq)]
+pub struct Left {
+    /// Sockets that it may make.
+    pub sockets: u64,
+    /// Entries of bind buckets, of which a call takes 65,540 at most.
+    pub entries: u64,
+    /// Numbers of the clock, of which a call takes 7 at most.
+    pub stamps: u64,
+    /// Its TIME_WAITs.
+    pub waits: u64,
 }
 
 /// What takes a packet.
 #[derive(Clone, Copy, Debug, PartialEq, Eq)]
 pub enum Sight {
+    /// A connection.
     Connected(Socket),
+    /// What a connection that was closed has left.
     TimeWait(Socket),
+    /// A listener.
     Listener(Socket),
     /// A handshake that isn't over.
     Request(Socket),
 }
 
-/// A socket of a list: its own end and the other's, 0.0.0.0:0 for a listener, its device (0 for none) and its
-/// namespace.
+impl Sight {
+    /// The socket that takes it.
+    pub fn socket(self) -> Socket {
+        match self {
+            Sight::Connected(s) | Sight::TimeWait(s) | Sight::Listener(s) | Sight::Request(s) => s,
+        }
+    }
+}
+
+/// A socket of a list.
 #[derive(Clone, Copy, Debug, PartialEq, Eq)]
 pub struct Item {
+    /// Which it is.
     pub sight: Sight,
+    /// Its own end.
     pub own: SocketAddrV4,
+    /// The other's, 0.0.0.0:0 for a listener.
     pub peer: SocketAddrV4,
+    /// Its device, or 0 for none.
     pub dev: u16,
+    /// Its network namespace.
     pub net: u8,
 }

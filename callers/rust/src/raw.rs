@@ -1,23 +1,53 @@
-//! The handle, the library's exports, and each of its calls: all that is unsafe in this crate but ../src/heap.rs.
+//! The handles, the library's exports, and each of its calls: all that is unsafe in this crate but ../src/heap.rs.
 
-use crate::{Errno, Item, Limits, Options, Sight, Sizes, Socket};
+use crate::{Errno, Item, Left, Limits, Open, Options, Packet, Sight, Sizes, Socket, State};
 use std::ffi::c_void;
 use std::net::{Ipv4Addr, SocketAddrV4};
 use std::ptr::null_mut;
 use std::sync::atomic::{AtomicU64, Ordering};
 
-/// A handle of its own: it is made once, lent to one call at a time, and given up once. Each call writes it, so no two
-/// handles share a cache line.
-#[repr(C, align(128))]
-pub struct Handle {
-    at: *mut c_void,
+#[repr(C)]
+struct RawSizes {
+    size: u32,
+    slots: u32,
+    bind: u32,
+    hash: u32,
+    listen: u32,
+    seed: u32,
+    low: u16,
+    high: u16,
+    twreuse: bool,
 }
 
-// SAFETY: what a handle holds belongs to no thread, and what it shares with other handles is atomic. Whatever brings
-// a value to another thread orders what was done to it before, as a lock does.
-unsafe impl Send for Handle {}
+#[repr(C)]
+struct RawLimits {
+    size: u32,
+    tries: u64,
+    most_waits: u64,
+    full_for: u64,
+}
 
 #[repr(C)]
+#[derive(Default)]
+struct RawLeft {
+    sockets: u64,
+    entries: u64,
+    stamps: u64,
+    waits: u64,
+}
+
+#[repr(C)]
+struct RawPacket {
+    src: u32,
+    dst: u32,
+    sport: u16,
+    dport: u16,
+    dev: u16,
+    net: u8,
+}
+
+#[repr(C)]
+#[derive(Clone, Copy, Default)]
 struct RawSight {
     kind: u32,
     worker: u32,
@@ -40,25 +70,21 @@ struct RawItem {
 
 // `.ci/header` compares these with the exports of crates/inet_c/src, by name, type and order.
 unsafe extern "C" {
-    fn inet_tables_new(tables: &mut Handle, sizes: &Sizes) -> i32;
-    fn inet_tables_share(tables: &mut Handle, sizes: &Sizes, tag: u64) -> i32;
-    fn inet_tables_worker(shared: &mut Handle, limits: &Limits, worker: &mut Handle, number: &mut u32) -> i32;
-    fn inet_tables_looker(shared: &mut Handle, looker: &mut Handle) -> i32;
-    fn inet_tables_give_back(shared: &mut Handle, back: &mut Handle) -> i32;
-    fn inet_tables_free(tables: &mut Handle);
-    fn inet_tables_socket(
-        t: &mut Handle,
-        worker: u32,
-        net: u8,
-        uid: u32,
-        dev: u16,
-        flags: u32,
-        socket: &mut u64,
-    ) -> i32;
-    fn inet_tables_bind(t: &mut Handle, worker: u32, socket: u64, addr: u32, port: u16, bound: &mut u16) -> i32;
-    fn inet_tables_listen(t: &mut Handle, worker: u32, socket: u64, bound: &mut u16) -> i32;
-    fn inet_tables_connect(
-        t: &mut Handle,
+    fn inet_list_new(list: &mut List, sizes: &RawSizes) -> i32;
+    fn inet_list_free(list: &mut List);
+    fn inet_tables_new(tables: &mut Tables, sizes: &RawSizes, tag: u64) -> i32;
+    fn inet_tables_worker(tables: &mut Tables, limits: &RawLimits, worker: &mut Worker, number: &mut u32) -> i32;
+    fn inet_tables_looker(tables: &mut Tables, looker: &mut Looker) -> i32;
+    fn inet_tables_free(tables: &mut Tables);
+    fn inet_worker_give_back(worker: &mut Worker, tables: &mut Tables) -> i32;
+    fn inet_worker_free(worker: &mut Worker);
+    fn inet_looker_give_back(looker: &mut Looker, tables: &mut Tables) -> i32;
+    fn inet_looker_free(looker: &mut Looker);
+    fn inet_list_socket(list: &mut List, worker: u32, net: u8, uid: u32, dev: u16, flags: u32, socket: &mut u64) -> i32;
+    fn inet_list_bind(list: &mut List, worker: u32, socket: u64, addr: u32, port: u16, bound: &mut u16) -> i32;
+    fn inet_list_listen(list: &mut List, worker: u32, socket: u64, bound: &mut u16) -> i32;
+    fn inet_list_connect(
+        list: &mut List,
         worker: u32,
         socket: u64,
         from: u32,
@@ -67,8 +93,8 @@ unsafe extern "C" {
         addr: &mut u32,
         port: &mut u16,
     ) -> i32;
-    fn inet_tables_accept(
-        t: &mut Handle,
+    fn inet_list_accept(
+        list: &mut List,
         worker: u32,
         listener: u64,
         from_addr: u32,
@@ -77,8 +103,8 @@ unsafe extern "C" {
         at_port: u16,
         socket: &mut u64,
     ) -> i32;
-    fn inet_tables_syn(
-        t: &mut Handle,
+    fn inet_list_syn(
+        list: &mut List,
         worker: u32,
         listener: u64,
         from_addr: u32,
@@ -87,14 +113,13 @@ unsafe extern "C" {
         at_port: u16,
         request: &mut u64,
     ) -> i32;
-    fn inet_tables_ack(t: &mut Handle, worker: u32, request: u64, socket: &mut u64) -> i32;
-    fn inet_tables_close(t: &mut Handle, worker: u32, socket: u64, waits: &mut bool) -> i32;
-    fn inet_tables_drop(t: &mut Handle, worker: u32, socket: u64) -> i32;
-    fn inet_tables_next_open(t: &mut Handle, worker: u32, after: u64, socket: &mut u64) -> i32;
-    fn inet_tables_at(t: &mut Handle, worker: u32, moment: u32) -> i32;
-    fn inet_tables_reap(t: &mut Handle, worker: u32, count: &mut u64) -> i32;
-    fn inet_tables_look(
-        t: &mut Handle,
+    fn inet_list_ack(list: &mut List, worker: u32, request: u64, socket: &mut u64) -> i32;
+    fn inet_list_close(list: &mut List, worker: u32, socket: u64, waits: &mut bool) -> i32;
+    fn inet_list_drop(list: &mut List, worker: u32, socket: u64) -> i32;
+    fn inet_list_at(list: &mut List, worker: u32, moment: u32) -> i32;
+    fn inet_list_reap(list: &mut List, worker: u32, count: &mut u64) -> i32;
+    fn inet_list_look(
+        list: &mut List,
         src: u32,
         sport: u16,
         dst: u32,
@@ -103,190 +128,412 @@ unsafe extern "C" {
         net: u8,
         sight: &mut RawSight,
     ) -> i32;
-    fn inet_tables_list(t: &mut Handle, items: *mut RawItem, room: usize, count: &mut u64) -> i32;
+    fn inet_list_items(list: &mut List, items: *mut RawItem, room: usize, count: &mut u64) -> i32;
+    fn inet_worker_socket(worker: &mut Worker, net: u8, uid: u32, dev: u16, flags: u32, socket: &mut u64) -> i32;
+    fn inet_worker_bind(worker: &mut Worker, socket: u64, addr: u32, port: u16, bound: &mut u16) -> i32;
+    fn inet_worker_listen(worker: &mut Worker, socket: u64, bound: &mut u16) -> i32;
+    fn inet_worker_connect(
+        worker: &mut Worker,
+        socket: u64,
+        from: u32,
+        to_addr: u32,
+        to_port: u16,
+        addr: &mut u32,
+        port: &mut u16,
+    ) -> i32;
+    fn inet_worker_accept(
+        worker: &mut Worker,
+        listener: u64,
+        from_addr: u32,
+        from_port: u16,
+        at_addr: u32,
+        at_port: u16,
+        socket: &mut u64,
+    ) -> i32;
+    fn inet_worker_syn(
+        worker: &mut Worker,
+        listener: u64,
+        from_addr: u32,
+        from_port: u16,
+        at_addr: u32,
+        at_port: u16,
+        request: &mut u64,
+    ) -> i32;
+    fn inet_worker_ack(worker: &mut Worker, request: u64, socket: &mut u64) -> i32;
+    fn inet_worker_close(worker: &mut Worker, socket: u64, waits: &mut bool) -> i32;
+    fn inet_worker_drop(worker: &mut Worker, socket: u64) -> i32;
+    fn inet_worker_at(worker: &mut Worker, moment: u32) -> i32;
+    fn inet_worker_reap(worker: &mut Worker, count: &mut u64) -> i32;
+    fn inet_worker_next_open(worker: &mut Worker, after: u64, socket: &mut u64) -> i32;
+    fn inet_worker_ask(worker: &mut Worker, socket: u64, item: &mut RawItem) -> i32;
+    fn inet_worker_left(worker: &mut Worker, left: &mut RawLeft) -> i32;
+    fn inet_worker_next_over(worker: &mut Worker, moment: &mut u64) -> i32;
+    fn inet_worker_now(worker: &mut Worker, clock: &mut u64) -> i32;
+    fn inet_looker_look(
+        looker: &mut Looker,
+        src: u32,
+        sport: u16,
+        dst: u32,
+        dport: u16,
+        dev: u16,
+        net: u8,
+        sight: &mut RawSight,
+    ) -> i32;
+    fn inet_looker_look_all(
+        looker: &mut Looker,
+        packets: *const RawPacket,
+        count: usize,
+        after: u64,
+        sights: *mut RawSight,
+        room: usize,
+    ) -> i32;
 }
+
+/// A handle of its own: it is made once, lent to one call at a time, and given up once. Each call writes it, so no two
+/// handles share a cache line.
+macro_rules! handle {
+    ($name:ident, $free:ident) => {
+        #[repr(C, align(128))]
+        pub struct $name {
+            at: *mut c_void,
+        }
+
+        // SAFETY: what a handle holds belongs to no thread, and what it shares with other handles is atomic. Whatever
+        // brings a value to another thread orders what was done to it before, as a lock does.
+        unsafe impl Send for $name {}
+
+        impl $name {
+            fn empty() -> Self {
+                $name { at: null_mut() }
+            }
+        }
+
+        impl Drop for $name {
+            fn drop(&mut self) {
+                // SAFETY: the handle is this value's, and nobody uses it again.
+                unsafe { $free(self) }
+            }
+        }
+    };
+}
+
+handle!(List, inet_list_free);
+handle!(Tables, inet_tables_free);
+handle!(Worker, inet_worker_free);
+handle!(Looker, inet_looker_free);
 
 fn done(errno: i32) -> Result<(), Errno> {
     if errno == 0 { Ok(()) } else { Err(Errno(errno)) }
 }
 
-impl Handle {
-    fn empty() -> Self {
-        Handle { at: null_mut() }
+impl From<&Sizes> for RawSizes {
+    fn from(sizes: &Sizes) -> Self {
+        let Sizes { slots, bind, hash, listen, seed, low, high, twreuse } = *sizes;
+        RawSizes { size: size_of::<RawSizes>() as u32, slots, bind, hash, listen, seed, low, high, twreuse }
     }
+}
 
-    /// One that holds a list.
-    pub fn list(sizes: &Sizes) -> Result<Self, Errno> {
-        let mut list = Handle::empty();
-        // SAFETY: the handle is zero, and nobody else's.
-        done(unsafe { inet_tables_new(&mut list, sizes) })?;
-        Ok(list)
+impl From<&Limits> for RawLimits {
+    fn from(limits: &Limits) -> Self {
+        let Limits { tries, most_waits, full_for } = *limits;
+        RawLimits { size: size_of::<RawLimits>() as u32, tries, most_waits, full_for }
     }
+}
 
-    /// One that holds shared tables, with a tag of their own.
-    pub fn share(sizes: &Sizes) -> Result<Self, Errno> {
+fn flags_of(options: &Options) -> u32 {
+    u32::from(options.reuseaddr) + 2 * u32::from(options.reuseport) + 4 * u32::from(options.bind_address_no_port)
+}
+
+impl Tables {
+    /// Shared tables, with a tag of their own.
+    pub fn new(sizes: &Sizes) -> Result<Self, Errno> {
         static TAGS: AtomicU64 = AtomicU64::new(0);
-        let mut shared = Handle::empty();
+        let mut tables = Tables::empty();
         let tag = TAGS.fetch_add(1, Ordering::Relaxed);
-        // SAFETY: as above.
-        done(unsafe { inet_tables_share(&mut shared, sizes, tag) })?;
-        Ok(shared)
+        // SAFETY: the handle is zero, and nobody else's.
+        done(unsafe { inet_tables_new(&mut tables, &sizes.into(), tag) })?;
+        Ok(tables)
     }
 
-    /// One that holds a worker of shared tables, with the worker's number.
-    pub fn worker(&mut self, limits: &Limits) -> Result<(Self, u32), Errno> {
-        let mut worker = Handle::empty();
+    /// A worker, with its number.
+    pub fn worker(&mut self, limits: &Limits) -> Result<(Worker, u32), Errno> {
+        let mut worker = Worker::empty();
         let mut number = 0;
         // SAFETY: as above, and this handle is lent to this call alone; so in all calls below.
-        done(unsafe { inet_tables_worker(self, limits, &mut worker, &mut number) })?;
+        done(unsafe { inet_tables_worker(self, &limits.into(), &mut worker, &mut number) })?;
         Ok((worker, number))
     }
 
-    /// One that holds a looker in shared tables.
-    pub fn looker(&mut self) -> Result<Self, Errno> {
-        let mut looker = Handle::empty();
+    pub fn looker(&mut self) -> Result<Looker, Errno> {
+        let mut looker = Looker::empty();
         // SAFETY: see above.
         done(unsafe { inet_tables_looker(self, &mut looker) })?;
         Ok(looker)
     }
 
-    /// Gives the worker or the looker of another handle back, which holds nothing then.
-    pub fn give_back(&mut self, back: &mut Handle) -> Result<(), Errno> {
+    /// Takes what a worker's handle holds, which holds nothing then.
+    pub fn take_back(&mut self, worker: &mut Worker) -> Result<(), Errno> {
         // SAFETY: see above; so is the other handle.
-        done(unsafe { inet_tables_give_back(self, back) })
+        done(unsafe { inet_worker_give_back(worker, self) })
     }
 
-    pub fn socket(&mut self, worker: u32, options: Options) -> Result<Socket, Errno> {
-        let flags = u32::from(options.reuseaddr)
-            + 2 * u32::from(options.reuseport)
-            + 4 * u32::from(options.bind_address_no_port);
+    /// So of a looker.
+    pub fn take_looker_back(&mut self, looker: &mut Looker) -> Result<(), Errno> {
+        // SAFETY: see above.
+        done(unsafe { inet_looker_give_back(looker, self) })
+    }
+}
+
+impl Looker {
+    pub fn look(&mut self, from: SocketAddrV4, to: SocketAddrV4, dev: u16, net: u8) -> Result<Option<Sight>, Errno> {
+        let (src, sport) = numbers(from);
+        let (dst, dport) = numbers(to);
+        let mut sight = RawSight { kind: 0, worker: 0, socket: 0 };
+        // SAFETY: see above.
+        done(unsafe { inet_looker_look(self, src, sport, dst, dport, dev, net, &mut sight) })?;
+        Ok(sight_of(sight.kind, sight.worker, sight.socket))
+    }
+
+    /// For each packet which socket takes it, or EAGAIN.
+    pub fn look_all(&mut self, packets: &[Packet], after: u64) -> Result<Vec<Result<Option<Sight>, Errno>>, Errno> {
+        let packets: Vec<RawPacket> = packets.iter().map(raw_packet).collect();
+        let mut sights = vec![RawSight::default(); packets.len()];
+        // SAFETY: see above; each pointer and the number behind it are of one vector.
+        done(unsafe {
+            inet_looker_look_all(self, packets.as_ptr(), packets.len(), after, sights.as_mut_ptr(), sights.len())
+        })?;
+        Ok(sights.iter().map(told_of).collect())
+    }
+}
+
+impl Worker {
+    pub fn socket(&mut self, options: &Options) -> Result<u64, Errno> {
+        let Options { net, uid, dev, .. } = *options;
         let mut number = 0;
         // SAFETY: see above.
-        done(unsafe { inet_tables_socket(self, worker, options.net, options.uid, options.dev, flags, &mut number) })?;
-        Ok(Socket { worker, number })
+        done(unsafe { inet_worker_socket(self, net, uid, dev, flags_of(options), &mut number) })?;
+        Ok(number)
     }
 
-    pub fn bind(&mut self, s: Socket, end: SocketAddrV4) -> Result<u16, Errno> {
-        let mut port = 0;
+    pub fn bind(&mut self, socket: u64, end: SocketAddrV4) -> Result<u16, Errno> {
+        let (addr, port) = numbers(end);
+        let mut bound = 0;
         // SAFETY: see above.
-        done(unsafe { inet_tables_bind(self, s.worker, s.number, end.ip().to_bits(), end.port(), &mut port) })?;
-        Ok(port)
+        done(unsafe { inet_worker_bind(self, socket, addr, port, &mut bound) })?;
+        Ok(bound)
     }
 
-    pub fn listen(&mut self, s: Socket) -> Result<u16, Errno> {
-        let mut port = 0;
+    pub fn listen(&mut self, socket: u64) -> Result<u16, Errno> {
+        let mut bound = 0;
         // SAFETY: see above.
-        done(unsafe { inet_tables_listen(self, s.worker, s.number, &mut port) })?;
-        Ok(port)
+        done(unsafe { inet_worker_listen(self, socket, &mut bound) })?;
+        Ok(bound)
     }
 
-    pub fn connect(&mut self, s: Socket, from: Option<Ipv4Addr>, to: SocketAddrV4) -> Result<SocketAddrV4, Errno> {
+    pub fn connect(&mut self, socket: u64, from: Option<Ipv4Addr>, to: SocketAddrV4) -> Result<SocketAddrV4, Errno> {
         let from = from.map_or(0, Ipv4Addr::to_bits);
+        let (to_addr, to_port) = numbers(to);
         let (mut addr, mut port) = (0, 0);
         // SAFETY: see above.
-        done(unsafe {
-            inet_tables_connect(self, s.worker, s.number, from, to.ip().to_bits(), to.port(), &mut addr, &mut port)
-        })?;
+        done(unsafe { inet_worker_connect(self, socket, from, to_addr, to_port, &mut addr, &mut port) })?;
         Ok(SocketAddrV4::new(Ipv4Addr::from_bits(addr), port))
     }
 
-    pub fn accept(&mut self, l: Socket, from: SocketAddrV4, at: SocketAddrV4) -> Result<Socket, Errno> {
+    pub fn accept(&mut self, listener: u64, from: SocketAddrV4, at: SocketAddrV4) -> Result<u64, Errno> {
+        let (from_addr, from_port) = numbers(from);
+        let (at_addr, at_port) = numbers(at);
         let mut number = 0;
         // SAFETY: see above.
-        done(unsafe {
-            inet_tables_accept(
-                self,
-                l.worker,
-                l.number,
-                from.ip().to_bits(),
-                from.port(),
-                at.ip().to_bits(),
-                at.port(),
-                &mut number,
-            )
-        })?;
-        Ok(Socket { worker: l.worker, number })
+        done(unsafe { inet_worker_accept(self, listener, from_addr, from_port, at_addr, at_port, &mut number) })?;
+        Ok(number)
     }
 
-    pub fn syn(&mut self, l: Socket, from: SocketAddrV4, at: SocketAddrV4) -> Result<Socket, Errno> {
+    pub fn syn(&mut self, listener: u64, from: SocketAddrV4, at: SocketAddrV4) -> Result<u64, Errno> {
+        let (from_addr, from_port) = numbers(from);
+        let (at_addr, at_port) = numbers(at);
         let mut number = 0;
         // SAFETY: see above.
-        done(unsafe {
-            inet_tables_syn(
-                self,
-                l.worker,
-                l.number,
-                from.ip().to_bits(),
-                from.port(),
-                at.ip().to_bits(),
-                at.port(),
-                &mut number,
-            )
-        })?;
-        Ok(Socket { worker: l.worker, number })
+        done(unsafe { inet_worker_syn(self, listener, from_addr, from_port, at_addr, at_port, &mut number) })?;
+        Ok(number)
     }
 
-    pub fn ack(&mut self, request: Socket) -> Result<Socket, Errno> {
+    pub fn ack(&mut self, request: u64) -> Result<u64, Errno> {
         let mut number = 0;
         // SAFETY: see above.
-        done(unsafe { inet_tables_ack(self, request.worker, request.number, &mut number) })?;
-        Ok(Socket { worker: request.worker, number })
+        done(unsafe { inet_worker_ack(self, request, &mut number) })?;
+        Ok(number)
     }
 
-    pub fn close(&mut self, s: Socket) -> Result<bool, Errno> {
+    pub fn close(&mut self, socket: u64) -> Result<bool, Errno> {
         let mut waits = false;
         // SAFETY: see above.
-        done(unsafe { inet_tables_close(self, s.worker, s.number, &mut waits) })?;
+        done(unsafe { inet_worker_close(self, socket, &mut waits) })?;
         Ok(waits)
     }
 
-    pub fn drop_socket(&mut self, s: Socket) -> Result<(), Errno> {
+    pub fn drop_socket(&mut self, socket: u64) -> Result<(), Errno> {
         // SAFETY: see above.
-        done(unsafe { inet_tables_drop(self, s.worker, s.number) })
+        done(unsafe { inet_worker_drop(self, socket) })
+    }
+
+    pub fn at(&mut self, moment: u32) -> Result<(), Errno> {
+        // SAFETY: see above.
+        done(unsafe { inet_worker_at(self, moment) })
+    }
+
+    pub fn reap(&mut self) -> Result<u64, Errno> {
+        let mut count = 0;
+        // SAFETY: see above.
+        done(unsafe { inet_worker_reap(self, &mut count) })?;
+        Ok(count)
     }
 
     /// The open socket of the lowest number above that one, if there is one.
-    pub fn next_open(&mut self, worker: u32, after: u64) -> Result<Option<Socket>, Errno> {
+    pub fn next_open(&mut self, after: u64) -> Result<Option<u64>, Errno> {
         let mut number = 0;
         // SAFETY: see above.
-        done(unsafe { inet_tables_next_open(self, worker, after, &mut number) })?;
-        Ok((number != 0).then_some(Socket { worker, number }))
+        done(unsafe { inet_worker_next_open(self, after, &mut number) })?;
+        Ok((number != 0).then_some(number))
+    }
+
+    pub fn ask(&mut self, number: u64) -> Result<Open, Errno> {
+        let mut raw = RawItem::default();
+        // SAFETY: see above.
+        done(unsafe { inet_worker_ask(self, number, &mut raw) })?;
+        Ok(open_of(&raw))
+    }
+
+    pub fn left(&mut self) -> Result<Left, Errno> {
+        let mut raw = RawLeft::default();
+        // SAFETY: see above.
+        done(unsafe { inet_worker_left(self, &mut raw) })?;
+        Ok(Left { sockets: raw.sockets, entries: raw.entries, stamps: raw.stamps, waits: raw.waits })
+    }
+
+    /// The moment, if there is one.
+    pub fn next_over(&mut self) -> Result<Option<u32>, Errno> {
+        let mut moment = 0;
+        // SAFETY: see above.
+        done(unsafe { inet_worker_next_over(self, &mut moment) })?;
+        Ok(u32::try_from(moment).ok())
+    }
+
+    pub fn now(&mut self) -> Result<u64, Errno> {
+        let mut clock = 0;
+        // SAFETY: see above.
+        done(unsafe { inet_worker_now(self, &mut clock) })?;
+        Ok(clock)
+    }
+}
+
+impl List {
+    pub fn new(sizes: &Sizes) -> Result<Self, Errno> {
+        let mut list = List::empty();
+        // SAFETY: the handle is zero, and nobody else's.
+        done(unsafe { inet_list_new(&mut list, &sizes.into()) })?;
+        Ok(list)
+    }
+
+    pub fn socket(&mut self, worker: u32, options: &Options) -> Result<u64, Errno> {
+        let Options { net, uid, dev, .. } = *options;
+        let mut number = 0;
+        // SAFETY: see above.
+        done(unsafe { inet_list_socket(self, worker, net, uid, dev, flags_of(options), &mut number) })?;
+        Ok(number)
+    }
+
+    pub fn bind(&mut self, worker: u32, socket: u64, end: SocketAddrV4) -> Result<u16, Errno> {
+        let (addr, port) = numbers(end);
+        let mut bound = 0;
+        // SAFETY: see above.
+        done(unsafe { inet_list_bind(self, worker, socket, addr, port, &mut bound) })?;
+        Ok(bound)
+    }
+
+    pub fn listen(&mut self, worker: u32, socket: u64) -> Result<u16, Errno> {
+        let mut bound = 0;
+        // SAFETY: see above.
+        done(unsafe { inet_list_listen(self, worker, socket, &mut bound) })?;
+        Ok(bound)
+    }
+
+    pub fn connect(
+        &mut self,
+        worker: u32,
+        socket: u64,
+        from: Option<Ipv4Addr>,
+        to: SocketAddrV4,
+    ) -> Result<SocketAddrV4, Errno> {
+        let from = from.map_or(0, Ipv4Addr::to_bits);
+        let (to_addr, to_port) = numbers(to);
+        let (mut addr, mut port) = (0, 0);
+        // SAFETY: see above.
+        done(unsafe { inet_list_connect(self, worker, socket, from, to_addr, to_port, &mut addr, &mut port) })?;
+        Ok(SocketAddrV4::new(Ipv4Addr::from_bits(addr), port))
+    }
+
+    pub fn accept(&mut self, worker: u32, listener: u64, from: SocketAddrV4, at: SocketAddrV4) -> Result<u64, Errno> {
+        let (from_addr, from_port) = numbers(from);
+        let (at_addr, at_port) = numbers(at);
+        let mut number = 0;
+        // SAFETY: see above.
+        done(unsafe { inet_list_accept(self, worker, listener, from_addr, from_port, at_addr, at_port, &mut number) })?;
+        Ok(number)
+    }
+
+    pub fn syn(&mut self, worker: u32, listener: u64, from: SocketAddrV4, at: SocketAddrV4) -> Result<u64, Errno> {
+        let (from_addr, from_port) = numbers(from);
+        let (at_addr, at_port) = numbers(at);
+        let mut number = 0;
+        // SAFETY: see above.
+        done(unsafe { inet_list_syn(self, worker, listener, from_addr, from_port, at_addr, at_port, &mut number) })?;
+        Ok(number)
+    }
+
+    pub fn ack(&mut self, worker: u32, request: u64) -> Result<u64, Errno> {
+        let mut number = 0;
+        // SAFETY: see above.
+        done(unsafe { inet_list_ack(self, worker, request, &mut number) })?;
+        Ok(number)
+    }
+
+    pub fn close(&mut self, worker: u32, socket: u64) -> Result<bool, Errno> {
+        let mut waits = false;
+        // SAFETY: see above.
+        done(unsafe { inet_list_close(self, worker, socket, &mut waits) })?;
+        Ok(waits)
+    }
+
+    pub fn drop_socket(&mut self, worker: u32, socket: u64) -> Result<(), Errno> {
+        // SAFETY: see above.
+        done(unsafe { inet_list_drop(self, worker, socket) })
     }
 
     pub fn at(&mut self, worker: u32, moment: u32) -> Result<(), Errno> {
         // SAFETY: see above.
-        done(unsafe { inet_tables_at(self, worker, moment) })
+        done(unsafe { inet_list_at(self, worker, moment) })
     }
 
     pub fn reap(&mut self, worker: u32) -> Result<u64, Errno> {
         let mut count = 0;
         // SAFETY: see above.
-        done(unsafe { inet_tables_reap(self, worker, &mut count) })?;
+        done(unsafe { inet_list_reap(self, worker, &mut count) })?;
         Ok(count)
     }
 
     pub fn look(&mut self, from: SocketAddrV4, to: SocketAddrV4, dev: u16, net: u8) -> Result<Option<Sight>, Errno> {
+        let (src, sport) = numbers(from);
+        let (dst, dport) = numbers(to);
         let mut sight = RawSight { kind: 0, worker: 0, socket: 0 };
         // SAFETY: see above.
-        done(unsafe {
-            inet_tables_look(
-                self,
-                from.ip().to_bits(),
-                from.port(),
-                to.ip().to_bits(),
-                to.port(),
-                dev,
-                net,
-                &mut sight,
-            )
-        })?;
+        done(unsafe { inet_list_look(self, src, sport, dst, dport, dev, net, &mut sight) })?;
         Ok(sight_of(sight.kind, sight.worker, sight.socket))
     }
 
     fn items_into(&mut self, items: &mut [RawItem]) -> Result<usize, Errno> {
         let mut count = 0;
         // SAFETY: see above; the pointer and the room are of one slice.
-        done(unsafe { inet_tables_list(self, items.as_mut_ptr(), items.len(), &mut count) })?;
+        done(unsafe { inet_list_items(self, items.as_mut_ptr(), items.len(), &mut count) })?;
         Ok(count as usize)
     }
 
@@ -298,11 +545,9 @@ impl Handle {
     }
 }
 
-impl Drop for Handle {
-    fn drop(&mut self) {
-        // SAFETY: the handle is this value's, and nobody uses it again.
-        unsafe { inet_tables_free(self) }
-    }
+/// The address and the port, as the library has them.
+fn numbers(end: SocketAddrV4) -> (u32, u16) {
+    (end.ip().to_bits(), end.port())
 }
 
 fn sight_of(kind: u32, worker: u32, number: u64) -> Option<Sight> {
@@ -313,6 +558,32 @@ fn sight_of(kind: u32, worker: u32, number: u64) -> Option<Sight> {
         3 => Some(Sight::Listener(socket)),
         4 => Some(Sight::Request(socket)),
         _ => None,
+    }
+}
+
+fn told_of(raw: &RawSight) -> Result<Option<Sight>, Errno> {
+    if raw.kind == 7 { Err(Errno::EAGAIN) } else { Ok(sight_of(raw.kind, raw.worker, raw.socket)) }
+}
+
+fn raw_packet(packet: &Packet) -> RawPacket {
+    let (src, sport) = numbers(packet.from);
+    let (dst, dport) = numbers(packet.to);
+    RawPacket { src, dst, sport, dport, dev: packet.dev, net: packet.net }
+}
+
+fn open_of(raw: &RawItem) -> Open {
+    Open {
+        state: match raw.kind {
+            1 => State::Connected,
+            3 => State::Listening,
+            4 => State::Request,
+            5 => State::Bound,
+            _ => State::Unbound,
+        },
+        own: SocketAddrV4::new(Ipv4Addr::from_bits(raw.addr), raw.port),
+        peer: SocketAddrV4::new(Ipv4Addr::from_bits(raw.peer_addr), raw.peer_port),
+        dev: raw.dev,
+        net: raw.net,
     }
 }
 

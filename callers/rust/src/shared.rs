@@ -1,41 +1,38 @@
 //! Tables that threads share, and what they hand out.
 
-use crate::raw::Handle;
-use crate::{Errno, Limits, Options, Sight, Sizes, Socket};
+use crate::{Errno, Left, Limits, Open, Options, Packet, Sight, Sizes, Socket, raw};
 use std::net::{Ipv4Addr, SocketAddrV4};
 
 /// Tables that threads share. They hand out workers and lookers, and go with the last of all these.
-pub struct SharedTables {
-    handle: Handle,
-}
+pub struct Tables(raw::Tables);
 
-impl SharedTables {
+impl Tables {
     /// Tables without sockets. EINVAL: the sizes are none that tables may have; ENOMEM.
     pub fn new(sizes: &Sizes) -> Result<Self, Errno> {
-        Handle::share(sizes).map(|handle| SharedTables { handle })
+        raw::Tables::new(sizes).map(Tables)
     }
 
     /// A worker under these limits: the one that was given back last, with its sockets, or the next. EUSERS: 255 are
     /// out; ENOMEM.
     pub fn worker(&mut self, limits: Limits) -> Result<Worker, Errno> {
-        let (handle, number) = self.handle.worker(&limits)?;
-        Ok(Worker { handle, number })
+        let (handle, number) = self.0.worker(&limits)?;
+        Ok(Worker { handle: Box::new(handle), number })
     }
 
     /// A looker. EUSERS: 16,000 are out; ENOMEM.
     pub fn looker(&mut self) -> Result<Looker, Errno> {
-        self.handle.looker().map(Looker)
+        self.0.looker().map(|handle| Looker(Box::new(handle)))
     }
 
     /// Takes a worker back, with its sockets, for the next who asks for one. EINVAL: it is of other tables, and comes
     /// back.
     pub fn take_back(&mut self, mut worker: Worker) -> Result<(), (Errno, Worker)> {
-        self.handle.give_back(&mut worker.handle).map_err(|errno| (errno, worker))
+        self.0.take_back(&mut worker.handle).map_err(|errno| (errno, worker))
     }
 
     /// Takes a looker back. EINVAL: it is of other tables, and comes back.
     pub fn take_looker_back(&mut self, mut looker: Looker) -> Result<(), (Errno, Looker)> {
-        self.handle.give_back(&mut looker.0).map_err(|errno| (errno, looker))
+        self.0.take_looker_back(&mut looker.0).map_err(|errno| (errno, looker))
     }
 }
 
@@ -45,7 +42,7 @@ impl SharedTables {
 /// call can be made again. A worker that is dropped is lost to its tables, and its sockets stay until they go: it can
 /// be given back in place of that.
 pub struct Worker {
-    handle: Handle,
+    handle: Box<raw::Worker>,
     number: u32,
 }
 
@@ -55,76 +52,112 @@ impl Worker {
         self.number
     }
 
-    /// A new socket.
+    /// The number of a socket of its own; another worker's is EINVAL.
+    fn own(&self, s: Socket) -> Result<u64, Errno> {
+        if s.worker == self.number { Ok(s.number) } else { Err(Errno::EINVAL) }
+    }
+
+    fn named(&self, number: u64) -> Socket {
+        Socket { worker: self.number, number }
+    }
+
+    /// A new socket. EINVAL: there is no such namespace.
     pub fn socket(&mut self, options: Options) -> Result<Socket, Errno> {
-        self.handle.socket(self.number, options)
+        self.handle.socket(&options).map(|number| self.named(number))
     }
 
     /// Binds a socket, and reports its port.
     pub fn bind(&mut self, s: Socket, end: SocketAddrV4) -> Result<u16, Errno> {
-        self.handle.bind(s, end)
+        self.handle.bind(self.own(s)?, end)
     }
 
     /// Lets a socket listen, and reports its port.
     pub fn listen(&mut self, s: Socket) -> Result<u16, Errno> {
-        self.handle.listen(s)
+        self.handle.listen(self.own(s)?)
     }
 
     /// Connects a socket, and reports its own end. `from` is its address, where `bind` hasn't named one.
     pub fn connect(&mut self, s: Socket, from: Option<Ipv4Addr>, to: SocketAddrV4) -> Result<SocketAddrV4, Errno> {
-        self.handle.connect(s, from, to)
+        self.handle.connect(self.own(s)?, from, to)
     }
 
     /// A listener takes a connection from one end at another.
     pub fn accept(&mut self, l: Socket, from: SocketAddrV4, at: SocketAddrV4) -> Result<Socket, Errno> {
-        self.handle.accept(l, from, at)
+        self.handle.accept(self.own(l)?, from, at).map(|number| self.named(number))
     }
 
     /// A handshake with a listener begins, from one end at another.
     pub fn syn(&mut self, l: Socket, from: SocketAddrV4, at: SocketAddrV4) -> Result<Socket, Errno> {
-        self.handle.syn(l, from, at)
+        self.handle.syn(self.own(l)?, from, at).map(|number| self.named(number))
     }
 
     /// A request's handshake is over, and its listener takes the connection, in the request's place.
     pub fn ack(&mut self, request: Socket) -> Result<Socket, Errno> {
-        self.handle.ack(request)
+        self.handle.ack(self.own(request)?).map(|number| self.named(number))
     }
 
     /// Closes a socket, and reports whether a TIME_WAIT stays: none where no slot is free for it, or where the worker
     /// has as many as its limits say.
     pub fn close(&mut self, s: Socket) -> Result<bool, Errno> {
-        self.handle.close(s)
+        self.handle.close(self.own(s)?)
     }
 
     /// Closes a socket without a trace.
     pub fn drop_socket(&mut self, s: Socket) -> Result<(), Errno> {
-        self.handle.drop_socket(s)
+        self.handle.drop_socket(self.own(s)?)
     }
 
     /// The open socket of the lowest number above that one, if there is one: from 0 on each of them in turn. It takes
     /// no memory, and no time for sockets that are gone.
     pub fn next_open(&mut self, after: u64) -> Result<Option<Socket>, Errno> {
-        self.handle.next_open(self.number, after)
+        let next = self.handle.next_open(after)?;
+        Ok(next.map(|number| self.named(number)))
+    }
+
+    /// What an open socket is. EBADF: it isn't open.
+    pub fn ask(&mut self, s: Socket) -> Result<Open, Errno> {
+        self.handle.ask(self.own(s)?)
+    }
+
+    /// What is left to it.
+    pub fn left(&mut self) -> Result<Left, Errno> {
+        self.handle.left()
+    }
+
+    /// The least moment, in seconds, at which one of its TIME_WAITs has lasted its minute.
+    pub fn next_over(&mut self) -> Result<Option<u32>, Errno> {
+        self.handle.next_over()
+    }
+
+    /// The clock as its last call left it. A lookup that begins there or later meets all that its calls did.
+    pub fn now(&mut self) -> Result<u64, Errno> {
+        self.handle.now()
     }
 
     /// Sets the moment, in seconds.
     pub fn at(&mut self, moment: u32) -> Result<(), Errno> {
-        self.handle.at(self.number, moment)
+        self.handle.at(moment)
     }
 
     /// Ends the TIME_WAITs that have lasted 60 seconds, and reports how many. After EAGAIN some of them are over.
     pub fn reap(&mut self) -> Result<u64, Errno> {
-        self.handle.reap(self.number)
+        self.handle.reap()
     }
 }
 
 /// A looker in shared tables: its lookups lock nothing, wait for nobody and take no memory.
-pub struct Looker(Handle);
+pub struct Looker(Box<raw::Looker>);
 
 impl Looker {
     /// Which socket takes a packet that came in at that device in that namespace. EAGAIN: others changed a chain of
-    /// sockets at each of 16 passes through it.
+    /// sockets at each of 16 passes through it; EINVAL: there is no such namespace.
     pub fn look(&mut self, from: SocketAddrV4, to: SocketAddrV4, dev: u16, net: u8) -> Result<Option<Sight>, Errno> {
         self.0.look(from, to, dev, net)
+    }
+
+    /// A lookup for each packet, in their order. EAGAIN of one: as of `look`, or it began before the clock was at
+    /// `after`, which none does once [`Worker::now`] has answered that number.
+    pub fn look_all(&mut self, packets: &[Packet], after: u64) -> Result<Vec<Result<Option<Sight>, Errno>>, Errno> {
+        self.0.look_all(packets, after)
     }
 }

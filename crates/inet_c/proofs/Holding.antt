@@ -1,38 +1,27 @@
 -- What is made in a handle that holds nothing.
 use Rattle.std.proofs.Common.{◌≡◌, ◌↔◌, ◌⊎◌, inl, inr, false, List, [], ◌∷◌, ◌++◌, Option, None, Some, Result, Ok, IsErrOf, is_some, refl, sym, ap, subst, ◌∙◌}
-use Rattle.flat_list.specs.declared.header.Header.{Header}
+use Rattle.crossbeam_utils.specs.Padded.{padded_value}
+use Rattle.crossbeam_utils.specs.declared.cache_padded.CachePadded.{CachePadded}
 use Rattle.shared_calls.specs.Callings.{Calling}
 use Rattle.shared_calls.specs.Lookings.{Looking}
 use Rattle.shared_calls.specs.Sharings.{Sharing, GivesCaller, GivesLooker, TakesBack, TakesLookerBack}
 use Rattle.inet_c.specs.Handed.{Hands, MayMake}
-use Rattle.inet_c.specs.Made.{Holds, Makes, SizesFit}
-use Rattle.inet_c.specs.declared.held.Held.{Held}
-use Rattle.inet_c.specs.declared.held.Held.TheVariants as helds
 use Rattle.inet_c.specs.declared.making.Making.{Making}
-use Rattle.inet_c.specs.declared.making.Making.TheVariants as makings
+use Rattle.inet_c.specs.Owned.{held}
 
-pub holds_nothing : (o : Option Held) → false ≡ is_some o → o ≡ None
+pub holds_nothing : {S : Type 0} → (o : Option (CachePadded S)) → false ≡ is_some o → held o ≡ None
 holds_nothing None same = refl
-holds_nothing (Some held) same = cc
+holds_nothing (Some state) same = cc
 
-pub made_of : (Is : Header → Held → Type 0) (header : Header) (old new : Option Held) (held : Held) (making : Making) → SizesFit header → old ≡ None → Is header held → Holds held new making → Makes Is header old new making
-made_of Is header old new held makings.Made fits none is h = (fits, none, (held, h, is))
-made_of Is header old new held makings.NoMemory fits none is h = (fits, none, h ∙ sym none)
-made_of Is header old new held makings.There fits none is h = absurd h
-made_of Is header old new held makings.Unfit fits none is h = absurd h
-made_of Is header old new held makings.NoTables fits none is h = absurd h
-made_of Is header old new held makings.AllOut fits none is h = absurd h
+-- what a handle holds that was made of a box
+pub holds : {S : Type 0} (o : Option (CachePadded S)) (b : CachePadded S) (x : S) → o ≡ Some b → padded_value b ≡ x → held o ≡ Some x
+holds o b x is same = ap held is ∙ ap Some same
 
--- what shared tables hand out, into a handle that holds nothing
-pub handed : (Is : Sharing → Sharing → Held → Type 0) (All : Sharing → Type 0) (old new : Sharing) (before after : Option Held) (held : Held) → before ≡ None → (All old → ⊥) → Is old new held → after ≡ Some held
-    → Hands Is All (Some (helds.Shared old)) (Some (helds.Shared new)) before after makings.Made
-handed Is All old new before after held none left is out =
-    (none, left, record { old = old; new = new; held = held; from_is = refl; to_is = refl; out_is = out; is = is })
-
--- what was handed out, and isn't held for want of memory
-pub not_held : (Is : Sharing → Sharing → Held → Type 0) (All : Sharing → Type 0) (old new : Sharing) (before after : Option Held) → before ≡ None → (All old → ⊥) → MayMake old new → after ≡ None
-    → Hands Is All (Some (helds.Shared old)) (Some (helds.Shared new)) before after makings.NoMemory
-not_held Is All old new before after none left may out = (none, left, out ∙ sym none, may)
+-- what came of shared tables came of the handle that holds them, and of what the other handle held before
+pub hands_on : {S : Type 0} (Is : Sharing → Sharing → S → Type 0) (All : Sharing → Type 0) (s t : Sharing) (from to : Option Sharing) (old before new : Option S) (making : Making) → Hands Is All (Some s) (Some t) old new making → old ≡ before → from ≡ Some s → to ≡ Some t → Hands Is All from to before new making
+hands_on {S} Is All s t from to old before new making h e f g =
+    subst (λ (x : Option Sharing). Hands Is All x to before new making) (sym f)
+    (subst (λ (y : Option Sharing). Hands Is All (Some s) y before new making) (sym g) (subst (λ (z : Option S). Hands Is All (Some s) (Some t) z new making) e h))
 
 -- something was left to hand out, since it was handed out
 pub some_left : {T E : Type 0} (P : Type 0) (x : T) (e : E) → (let r : Result T E = Ok x in IsErrOf r e ↔ P) → P → ⊥

@@ -1,4 +1,6 @@
 pub mod AsBox
 pub mod Handles
+pub mod Moving
+pub mod Keyless
 pub mod Crossing
 mod Holding

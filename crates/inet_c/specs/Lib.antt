@@ -2,6 +2,7 @@
 pub mod Owned
 pub mod Calls
 pub mod Opened
+pub mod Asked
 pub mod Made
 pub mod Handed
 pub mod Returned

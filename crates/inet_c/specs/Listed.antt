@@ -1,10 +1,9 @@
 -- What a list through a handle reports. Our own.
-use Rattle.std.specs.Prelude.{◌≡◌, ℕ, List, ◌++◌, length, take, drop, Option, None, Some}
+use Rattle.std.specs.Prelude.{◌≡◌, ℕ, ℤ, pos, List, ◌++◌, length, take, drop, Option, None, Some}
 use Rattle.flat_calls.specs.Calls.{Numbered}
 use Rattle.flat_calls.specs.Items.{items_of}
 use Rattle.flat_calls.specs.declared.item.Item.{Item}
-use Rattle.inet_c.specs.declared.held.Held.{Held}
-use Rattle.inet_c.specs.declared.held.Held.TheVariants as helds
+use Rattle.inet_c.specs.declared.errno.TheConstants.{EBADF, ENOMEM}
 use Rattle.inet_c.specs.declared.listing.Telling.{Telling}
 use Rattle.inet_c.specs.declared.listing.Telling.TheVariants as tellings
 
@@ -20,18 +19,12 @@ TellsOf tables old new count tellings.Told =
 TellsOf tables old new count tellings.NoMemory = (new ≡ old) × (count ≡ 0)
 TellsOf tables old new count tellings.NoTables = ⊥
 
--- a list is given so; what else a handle holds is no list, and says so
-abbrev pub ListsIn : Held → List Item → List Item → ℕ → Telling → Type 0
-ListsIn (helds.List tables) old new count telling = TellsOf tables old new count telling
-ListsIn _ old new count telling = (telling ≡ tellings.NoTables) × (new ≡ old) × (count ≡ 0)
+-- a list is given so; a handle that holds none says so
+abbrev pub Tells : Option Numbered → List Item → List Item → ℕ → Telling → Type 0
+Tells None old new count telling = (telling ≡ tellings.NoTables) × (new ≡ old) × (count ≡ 0)
+Tells (Some tables) old new count telling = TellsOf tables old new count telling
 
--- and so does a handle that holds nothing
-abbrev pub ListsOn : Option Held → List Item → List Item → ℕ → Telling → Type 0
-ListsOn None old new count telling = (telling ≡ tellings.NoTables) × (new ≡ old) × (count ≡ 0)
-ListsOn (Some held) old new count telling = ListsIn held old new count telling
-
--- EBADF of a handle without a list, ENOMEM
-abbrev pub errno_of : Telling → ℕ
-errno_of tellings.Told = 0
-errno_of tellings.NoTables = 9
-errno_of tellings.NoMemory = 12
+abbrev pub errno_of : Telling → ℤ
+errno_of tellings.Told = pos 0
+errno_of tellings.NoTables = EBADF
+errno_of tellings.NoMemory = ENOMEM

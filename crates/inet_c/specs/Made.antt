@@ -1,5 +1,5 @@
 -- What tables are made of, and what comes of it. Our own.
-use Rattle.std.specs.Prelude.{◌≡◌, ◌≢◌, ℕ, ◌%◌, ◌^◌, ◌<◌, ◌≤◌, Option, None, Some}
+use Rattle.std.specs.Prelude.{◌≡◌, ◌≢◌, ℤ, pos, ◌%◌, ◌^◌, ◌<◌, ◌≤◌, Option, None, Some}
 use Rattle.chain_book.specs.Shapes.{IsPowerTo}
 use Rattle.chain_book.specs.declared.shape.Shape.{Shape}
 use Rattle.flat_list.specs.declared.header.Header.{Header}
@@ -8,10 +8,10 @@ use Rattle.flat_list.specs.declared.header.TheConstants.{NONE_RESERVED}
 use Rattle.flat_list.specs.Flat.{new_flat}
 use Rattle.flat_list.specs.Ports.{size}
 use Rattle.flat_calls.specs.Calls.{Numbered}
-use Rattle.inet_c.specs.declared.whole.InetSizes.{InetSizes}
-use Rattle.shared_calls.specs.Sharings.{Sharing, IsNew}
-use Rattle.inet_c.specs.declared.held.Held.{Held}
-use Rattle.inet_c.specs.declared.held.Held.TheVariants as helds
+use Rattle.shared_calls.specs.declared.limited.Limits.{Limits}
+use Rattle.inet_c.specs.declared.errno.TheConstants.{EBADF, EBUSY, EINVAL, ENOMEM, EUSERS}
+use Rattle.inet_c.specs.declared.sizes.InetLimits.{InetLimits}
+use Rattle.inet_c.specs.declared.sizes.InetSizes.{InetSizes}
 use Rattle.inet_c.specs.declared.making.Making.{Making}
 use Rattle.inet_c.specs.declared.making.Making.TheVariants as makings
 
@@ -39,44 +39,44 @@ pub record CallersShape (shape : Shape) : Type 0 where
   pub hash : IsPowerTo (2 ^ 24) shape.hash
   pub listen : IsPowerTo (2 ^ 20) shape.listen
 
--- the sizes that tables may have
-pub record SizesFit (header : Header) : Type 0 where
-  pub shape : CallersShape header.shape
-  pub range : PortsFit header.range
+-- the sizes that tables may have, in the struct of this version, which is 32 bytes long
+pub record SizesFit (sizes : InetSizes) : Type 0 where
+  pub size : sizes.size ≡ 32
+  pub shape : CallersShape (header_of sizes).shape
+  pub range : PortsFit (header_of sizes).range
+
+-- the limits that a worker is under, and that the struct is of this version, which is 32 bytes long
+abbrev pub limits_of : InetLimits → Limits
+limits_of limits =
+    record { tries = limits.tries; most_waits = limits.most_waits; full_for = limits.full_for }
+
+abbrev pub LimitsFit : InetLimits → Type 0
+LimitsFit limits = limits.size ≡ 32
 
 -- tables without sockets
 abbrev pub empty_tables : Header → Numbered
 empty_tables header = record { flat = new_flat header; calls = 0 }
 
--- what a handle holds then: a list, or shared tables
-abbrev pub IsList : Header → Held → Type 0
-IsList header held = held ≡ helds.List (empty_tables header)
+-- what a handle holds then: a list
+abbrev pub IsList : Header → Numbered → Type 0
+IsList header list = list ≡ empty_tables header
 
-abbrev pub IsShared : (tag : ℕ) → Header → Held → Type 0
-IsShared tag header held = (tables : Sharing) × (held ≡ helds.Shared tables) × IsNew header tag tables
-
--- what was made is held, if there was memory for it
-abbrev pub Holds : Held → Option Held → Making → Type 0
-Holds held new makings.Made = new ≡ Some held
-Holds held new makings.NoMemory = new ≡ None
-Holds held new _ = ⊥
-
--- What came of the making of tables of that header in a handle: they are made where the sizes fit and it held
+-- What came of the making of tables of those sizes in a handle: they are made where the sizes fit and it held
 -- nothing, or all is as it was. The causes exclude each other; want of memory alone may come or not where tables would.
-abbrev pub Makes : (Header → Held → Type 0) → Header → Option Held → Option Held → Making → Type 0
-Makes Is header old new makings.Made =
-    SizesFit header × (old ≡ None) × ((held : Held) × (new ≡ Some held) × Is header held)
-Makes Is header old new makings.Unfit = (SizesFit header → ⊥) × (new ≡ old)
-Makes Is header old new makings.There = SizesFit header × (old ≢ None) × (new ≡ old)
-Makes Is header old new makings.NoMemory = SizesFit header × (old ≡ None) × (new ≡ old)
-Makes Is header old new _ = ⊥
+abbrev pub Makes : {S : Type 0} → (Header → S → Type 0) → InetSizes → Option S → Option S → Making → Type 0
+Makes {S} Is sizes old new makings.Made =
+    SizesFit sizes × (old ≡ None) × ((state : S) × (new ≡ Some state) × Is (header_of sizes) state)
+Makes Is sizes old new makings.Unfit = (SizesFit sizes → ⊥) × (new ≡ old)
+Makes Is sizes old new makings.There = SizesFit sizes × (old ≢ None) × (new ≡ old)
+Makes Is sizes old new makings.NoMemory = SizesFit sizes × (old ≡ None) × (new ≡ old)
+Makes Is sizes old new _ = ⊥
 
--- EBUSY of a handle that holds something, EINVAL of sizes that don't fit, ENOMEM; EBADF of one that holds no shared
--- tables, and EUSERS where as many were handed out as there may be
-abbrev pub errno_of : Making → ℕ
-errno_of makings.Made = 0
-errno_of makings.NoTables = 9
-errno_of makings.NoMemory = 12
-errno_of makings.There = 16
-errno_of makings.Unfit = 22
-errno_of makings.AllOut = 87
+-- EINVAL of sizes that don't fit, EBUSY of a handle that holds something; EBADF of shared tables that aren't there, and
+-- EUSERS where as many were handed out as there may be
+abbrev pub errno_of : Making → ℤ
+errno_of makings.Made = pos 0
+errno_of makings.NoTables = EBADF
+errno_of makings.NoMemory = ENOMEM
+errno_of makings.There = EBUSY
+errno_of makings.Unfit = EINVAL
+errno_of makings.AllOut = EUSERS

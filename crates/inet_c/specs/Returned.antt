@@ -1,66 +1,34 @@
 -- How workers and lookers are given back to shared tables. Our own.
-use Rattle.std.specs.Prelude.{◌≡◌, ◌⊎◌, ℕ, Option, None, Some}
+use Rattle.std.specs.Prelude.{◌≡◌, ◌⊎◌, ℤ, pos, Option, None, Some}
+use Rattle.shared_calls.specs.Lookings.{Looking}
 use Rattle.shared_calls.specs.Sharings.{Sharing, MayComeBack, LookerMayComeBack, TakesBack, TakesLookerBack}
-use Rattle.inet_c.specs.Handed.{HoldsShared}
-use Rattle.inet_c.specs.declared.held.Held.{Held}
-use Rattle.inet_c.specs.declared.held.Held.TheVariants as helds
+use Rattle.shared_calls.specs.declared.limited.Limited.{Limited}
+use Rattle.inet_c.specs.declared.errno.TheConstants.{EBADF, EINVAL}
 use Rattle.inet_c.specs.declared.returning.Returning.{Returning}
 use Rattle.inet_c.specs.declared.returning.Returning.TheVariants as returnings
 
--- it is a worker or a looker that the tables may take back: it has their tag, and of those that were made one isn't here
-abbrev pub MayReturn : Sharing → Held → Type 0
-MayReturn tables (helds.Worker worker) = MayComeBack tables worker.caller
-MayReturn tables (helds.Looker looker) = LookerMayComeBack tables looker
-MayReturn tables _ = ⊥
+-- What came of it, by what the tables may take and how they take it: it went from its handle, which holds nothing then,
+-- into the tables of the other, or both are as they were. The causes exclude each other.
+abbrev pub Returns : {S : Type 0} → (Sharing → S → Type 0) → (Sharing → Sharing → S → Type 0)
+    → Option Sharing → Option Sharing → Option S → Option S → Returning → Type 0
+Returns May Takes (Some from) (Some to) (Some old) new returnings.Back =
+    May from old × Takes from to old × (new ≡ None)
+Returns May Takes (Some from) to (Some old) new returnings.Strange =
+    (May from old → ⊥) × (to ≡ Some from) × (new ≡ Some old)
+Returns May Takes from to old new returnings.NoTables = ((from ≡ None) ⊎ (old ≡ None)) × (to ≡ from) × (new ≡ old)
+Returns May Takes _ _ _ _ _ = ⊥
 
--- the tables have it with those that wait to be handed out, the last of them first
-abbrev pub TakesIn : Sharing → Sharing → Held → Type 0
-TakesIn old new (helds.Worker worker) = TakesBack old new worker.caller
-TakesIn old new (helds.Looker looker) = TakesLookerBack old new looker
-TakesIn old new _ = ⊥
+-- a worker has the tables' tag, and of those that were made one isn't there; it waits then with those, the last of them
+-- first
+abbrev pub WorkerReturns : Option Sharing → Option Sharing → Option Limited → Option Limited → Returning → Type 0
+WorkerReturns = Returns (λ tables w. MayComeBack tables w.caller) (λ from to w. TakesBack from to w.caller)
 
--- it is a worker or a looker
-abbrev pub IsPart : Held → Type 0
-IsPart (helds.Worker worker) = Unit {0}
-IsPart (helds.Looker looker) = Unit {0}
-IsPart _ = ⊥
+-- so a looker
+abbrev pub LookerReturns : Option Sharing → Option Sharing → Option Looking → Option Looking → Returning → Type 0
+LookerReturns = Returns LookerMayComeBack TakesLookerBack
 
--- a handle holds one
-abbrev pub HoldsPart : Option Held → Type 0
-HoldsPart None = ⊥
-HoldsPart (Some held) = IsPart held
-
--- what one handle held is in the tables of the other
-pub record GivenBack (from to out : Option Held) : Type 0 where
-  pub old : Sharing
-  pub new : Sharing
-  pub held : Held
-  pub from_is : from ≡ Some (helds.Shared old)
-  pub to_is : to ≡ Some (helds.Shared new)
-  pub out_is : out ≡ Some held
-  pub may : MayReturn old held
-  pub takes : TakesIn old new held
-
--- what one handle holds is not for the tables of the other
-pub record IsStrange (from out : Option Held) : Type 0 where
-  pub tables : Sharing
-  pub held : Held
-  pub from_is : from ≡ Some (helds.Shared tables)
-  pub out_is : out ≡ Some held
-  pub part : IsPart held
-  pub no : MayReturn tables held → ⊥
-
--- What came of it: it went from its handle, which holds nothing then, into the tables of the other, or both are as they
--- were. The causes exclude each other.
-abbrev pub Returns : Option Held → Option Held → Option Held → Option Held → Returning → Type 0
-Returns from to old new returnings.Back = GivenBack from to old × (new ≡ None)
-Returns from to old new returnings.NoTables =
-    ((HoldsShared (λ _. Unit {0}) from → ⊥) ⊎ (HoldsPart old → ⊥)) × (to ≡ from) × (new ≡ old)
-Returns from to old new returnings.Strange = IsStrange from old × (to ≡ from) × (new ≡ old)
-
--- EBADF where the one holds no shared tables, or the other neither a worker nor a looker; EINVAL of one that is not
--- theirs
-abbrev pub errno_of : Returning → ℕ
-errno_of returnings.Back = 0
-errno_of returnings.NoTables = 9
-errno_of returnings.Strange = 22
+-- EBADF where a handle holds nothing, EINVAL of what is not theirs
+abbrev pub errno_of : Returning → ℤ
+errno_of returnings.Back = pos 0
+errno_of returnings.NoTables = EBADF
+errno_of returnings.Strange = EINVAL

@@ -1,5 +1,5 @@
 -- What a lookup through a handle reports. Our own.
-use Rattle.std.specs.Prelude.{◌≡◌, ℕ, ◌/◌, ◌%◌, ◌^◌, Option, None, Some}
+use Rattle.std.specs.Prelude.{◌≡◌, ℤ, pos, ◌/◌, ◌%◌, ◌^◌, Option, None, Some}
 use Rattle.sock_card.specs.declared.card.Packet.{Packet}
 use Rattle.chain_book.specs.declared.book.PacketAnswer.{PacketAnswer}
 use Rattle.chain_book.specs.declared.book.PacketAnswer.TheVariants as answers
@@ -8,8 +8,7 @@ use Rattle.flat_calls.specs.Calls.{Numbered}
 use Rattle.flat_calls.specs.Sights.{Finds, kind_of}
 use Rattle.flat_calls.specs.declared.sight.Sight.{Sight}
 use Rattle.shared_calls.specs.Lookings.{Looking, Looks}
-use Rattle.inet_c.specs.declared.held.Held.{Held}
-use Rattle.inet_c.specs.declared.held.Held.TheVariants as helds
+use Rattle.inet_c.specs.declared.errno.TheConstants.{EAGAIN, EBADF}
 use Rattle.inet_c.specs.declared.seen.InetSight.{InetSight}
 
 -- no socket
@@ -28,38 +27,30 @@ told_by (answers.Found card) =
 told_by _ = nobody
 
 -- EAGAIN where others changed the chains at each pass
-abbrev pub errno_by : PacketAnswer → ℕ
-errno_by (answers.Again bucket stop) = 11
-errno_by _ = 0
+abbrev pub errno_by : PacketAnswer → ℤ
+errno_by (answers.Again bucket stop) = EAGAIN
+errno_by _ = pos 0
+
+-- the list finds so
+pub record FindsAs (tables : Numbered) (packet : Packet) (sight : InetSight) : Type 0 where
+  pub found : Option Sight
+  pub finds : Finds tables packet found
+  pub sight_is : sight ≡ told found
+
+-- a list answers so; a handle that holds none finds nothing, and says so by EBADF
+abbrev pub ListLooks : Option Numbered → Packet → InetSight → (errno : ℤ) → Type 0
+ListLooks None packet sight errno = (sight ≡ nobody) × (errno ≡ EBADF)
+ListLooks (Some tables) packet sight errno = FindsAs tables packet sight × (errno ≡ pos 0)
 
 -- a looker looked so, in 16 passes through a chain at most
-pub record LooksAs (old new : Looking) (packet : Packet) (sight : InetSight) (errno : ℕ) : Type 0 where
+pub record LooksAs (old new : Looking) (packet : Packet) (sight : InetSight) (errno : ℤ) : Type 0 where
   pub look : PacketLook
   pub looks : Looks old new packet 16 look
   pub sight_is : sight ≡ told_by look.end
   pub errno_is : errno ≡ errno_by look.end
 
--- the list finds so
-pub record FindsAs (tables : Numbered) (packet : Packet) (sight : InetSight) (errno : ℕ) : Type 0 where
-  pub found : Option Sight
-  pub finds : Finds tables packet found
-  pub sight_is : sight ≡ told found
-  pub errno_is : errno ≡ 0
-
--- nothing is found, and that said by EBADF
-pub record FindsNone (sight : InetSight) (errno : ℕ) : Type 0 where
-  pub sight_is : sight ≡ nobody
-  pub errno_is : errno ≡ 9
-
--- A list or a looker answers so. What else a handle holds finds nothing, and says so.
-abbrev pub LooksIn : Held → Held → Packet → InetSight → ℕ → Type 0
-LooksIn (helds.Looker old) (helds.Looker new) packet sight errno = LooksAs old new packet sight errno
-LooksIn (helds.Looker old) _ packet sight errno = ⊥
-LooksIn (helds.List tables) new packet sight errno = (new ≡ helds.List tables) × FindsAs tables packet sight errno
-LooksIn (helds.Shared tables) new packet sight errno = (new ≡ helds.Shared tables) × FindsNone sight errno
-LooksIn (helds.Worker worker) new packet sight errno = (new ≡ helds.Worker worker) × FindsNone sight errno
-
-abbrev pub LooksOn : Option Held → Option Held → Packet → InetSight → ℕ → Type 0
-LooksOn None new packet sight errno = (new ≡ None) × FindsNone sight errno
-LooksOn (Some old) None packet sight errno = ⊥
-LooksOn (Some old) (Some new) packet sight errno = LooksIn old new packet sight errno
+-- a looker answers so; a handle that holds none finds nothing, and says so by EBADF
+abbrev pub LookerLooks : Option Looking → Option Looking → Packet → InetSight → (errno : ℤ) → Type 0
+LookerLooks None new packet sight errno = (new ≡ None) × (sight ≡ nobody) × (errno ≡ EBADF)
+LookerLooks (Some old) None packet sight errno = ⊥
+LookerLooks (Some old) (Some new) packet sight errno = LooksAs old new packet sight errno

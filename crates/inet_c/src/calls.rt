@@ -1,78 +1,72 @@
 //! Calls through a handle.
 
-ghost use Rattle.std.specs.Prelude.{◌≡◌, ◌+◌, false, length};
+ghost use Rattle.std.specs.Prelude.{◌≡◌, false};
 ghost use Rattle.table_model.specs.Means.{is_lookup};
 ghost use Rattle.shared_calls.specs.Numbers.{IsNext};
 ghost use Rattle.inet_c.specs.Calls as spec;
-ghost use Rattle.inet_c.specs.Calls.{CalledAs, CalledIn, CalledOn};
+ghost use Rattle.inet_c.specs.Calls.{ListCalled, WorkerCalled};
+ghost use Rattle.inet_c.specs.Owned.{held};
 
-use crate::handle::InetTables;
-use crate::held::Held;
+use crate::kinds::{InetList, InetWorker};
 use flat_calls::Outcome;
 use flat_list::Command;
-use shared_calls::Limited;
 use std::alloc::Global;
 
-fn number_in(held: &Held) -> u64
-    ensures { result ≡ spec.number_in held.now }
+/// The number that the list's next socket gets; 0 where there is no list.
+pub fn next_of_list(list: &mut InetList, alloc: Global) -> u64
+    ensures number { result ≡ spec.next_of_list (held list.old.boxed) }
+    ensures same { list.new.boxed ≡ list.old.boxed }
 {
-    match held {
-        Held::List(tables) => tables.next_number(),
-        Held::Worker(worker) => worker.caller.next_number(),
-        Held::Shared(_) | Held::Looker(_) => 0,
-    }
-}
-
-/// The number that the handle's next socket gets.
-pub fn next_number(handle: &mut InetTables, alloc: Global) -> u64
-    ensures number { result ≡ spec.next_number handle.old.held }
-    ensures same { handle.new.held ≡ handle.old.held }
-{
-    match handle.take(alloc) {
+    match list.take(alloc) {
         None => 0,
-        Some(held) => {
-            let number = number_in(&held);
-            *handle = InetTables::of(held);
+        Some(tables) => {
+            let number = tables.next_number();
+            *list = InetList::of(tables);
             number
         }
     }
 }
 
-/// Carries out a command of the worker of that number, if it is that one.
-fn call_as(worker: &mut Limited, number: u32, command: &Command) -> Outcome
-    requires look { is_lookup command.now ≡ false }
-    requires next { IsNext (length worker.old.caller.kept.own.labels + 1) command.now }
-    ensures { CalledAs worker.old worker.new number command.now result }
+/// The number that the worker's next socket gets; 0 where there is no worker.
+pub fn next_of_worker(worker: &mut InetWorker, alloc: Global) -> u64
+    ensures number { result ≡ spec.next_of_worker (held worker.old.boxed) }
+    ensures same { worker.new.boxed ≡ worker.old.boxed }
 {
-    if number != worker.caller.number() {
-        return Outcome::NoWorker;
-    }
-    worker.call(command)
-}
-
-fn call_in(held: &mut Held, worker: u32, command: &Command) -> Outcome
-    requires look { is_lookup command.now ≡ false }
-    requires next { IsNext (spec.number_in held.old) command.now }
-    ensures { CalledIn held.old held.new worker command.now result }
-{
-    match held {
-        Held::List(tables) => tables.call(worker, command),
-        Held::Worker(held) => call_as(held, worker, command),
-        Held::Shared(_) | Held::Looker(_) => Outcome::NoTables,
+    match worker.take(alloc) {
+        None => 0,
+        Some(limited) => {
+            let number = limited.caller.next_number();
+            *worker = InetWorker::of(limited);
+            number
+        }
     }
 }
 
-/// Carries out a command of the worker of that number. One that makes a socket has the next number's label for it.
-pub fn call(handle: &mut InetTables, alloc: Global, worker: u32, command: &Command) -> Outcome
-    requires look { is_lookup command.now ≡ false }
-    requires next { IsNext (spec.next_number handle.old.held) command.now }
-    ensures { CalledOn handle.old.held handle.new.held worker command.now result }
+/// Carries out a command of a list's worker. One that makes a socket has the next number's label for it.
+pub fn call_list(list: &mut InetList, alloc: Global, worker: u32, command: &Command) -> Outcome
+    ensures { ListCalled (held list.old.boxed) (held list.new.boxed) worker command.now result }
 {
-    match handle.take(alloc) {
+    match list.take(alloc) {
         None => Outcome::NoTables,
-        Some(mut held) => {
-            let outcome = call_in(&mut held, worker, command);
-            *handle = InetTables::of(held);
+        Some(mut tables) => {
+            let outcome = tables.call(worker, command);
+            *list = InetList::of(tables);
+            outcome
+        }
+    }
+}
+
+/// Carries out a worker's command. One that makes a socket has the next number's label for it.
+pub fn call_worker(worker: &mut InetWorker, alloc: Global, command: &Command) -> Outcome
+    requires look { is_lookup command.now ≡ false }
+    requires next { IsNext (spec.next_of_worker (held worker.old.boxed)) command.now }
+    ensures { WorkerCalled (held worker.old.boxed) (held worker.new.boxed) command.now result }
+{
+    match worker.take(alloc) {
+        None => Outcome::NoTables,
+        Some(mut limited) => {
+            let outcome = limited.call(command);
+            *worker = InetWorker::of(limited);
             outcome
         }
     }

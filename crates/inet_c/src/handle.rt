@@ -1,87 +1,69 @@
-//! The handle by which C holds tables.
+//! What is held behind a pointer, or nothing where it is null.
 
-ghost use Rattle.std.specs.Prelude.{◌≡◌, Option, None, Some};
+ghost use Rattle.std.specs.Prelude.{◌≡◌, IfErr, IfOk, None, Option, Some};
 ghost use Rattle.std.specs.Option.{option_map};
+ghost use Rattle.crossbeam_utils.specs.Padded.{padded_value};
 ghost use Rattle.inet_c.specs.Owned.{owned};
-ghost use Rattle.inet_c.specs.declared.held.Held.{Held};
 
-use crate::held::Held;
 use crate::parts::Parts;
+use crossbeam_utils::CachePadded;
 use std::alloc::Global;
 use std::marker::Model;
-use std::mem::replace;
 use std::ptr::null_mut;
 
-/// What is held behind a pointer, or nothing where it is null: in C `at` of `struct inet_tables`, whose other bytes the
-/// library neither reads nor writes.
+/// What is held behind a pointer, or nothing where it is null.
 ///
-/// No pointer to a type with parts of its own may cross to C, so this one says nothing of what lies behind it.
-#[repr(C)]
-pub struct InetTables {
-    ptr: *mut u8,
-    alloc: Global,
-    pub ghost held: { Option Held },
+/// No struct with a type parameter may cross to C, so each of [`kinds`](crate::kinds) has these fields of its own.
+pub struct Handle<T> {
+    pub(super) ptr: *mut T,
+    pub(super) alloc: Global,
+    pub ghost held: { Option T },
 }
 
-impl Model for InetTables {
-    ghost also_owns = { λ h. owned h.alloc h.ptr h.held };
+impl<T> Model for Handle<T> {
+    ghost also_owns = { λ h. owned T.row h.alloc h.ptr h.held };
 }
 
-// What lies behind the pointer belongs to no thread, and what it shares with others is atomic.
-unsafe impl Send for InetTables {}
-
-/// Only a value that may go to another thread gets through. A handle goes through it so that this is proved of handles
-/// here, and not first where somebody sends one.
-fn sendable<T: Send>(value: T) -> T
-    ensures { result ≡ value }
-{
-    value
-}
-
-impl InetTables {
+impl<T> Handle<T> {
     /// A handle that holds nothing.
-    fn empty(alloc: Global) -> Self
+    pub fn empty(alloc: Global) -> Self
         ensures { result.held ≡ None }
     {
-        InetTables {
+        Handle {
             ptr: null_mut(),
             alloc,
         }
     }
 
-    fn of_parts(parts: Parts<Held, Global>) -> Self
+    fn of_parts(parts: Parts<T, Global>) -> Self
         ensures { result.held ≡ Some parts.value }
     {
         let Parts { ptr, alloc } = parts;
-        InetTables {
-            ptr: ptr as *mut u8,
-            alloc,
-        }
+        Handle { ptr, alloc }
     }
 
-    fn into_parts(self) -> Option<Parts<Held, Global>>
+    fn into_parts(self) -> Option<Parts<T, Global>>
         ensures { option_map (λ p. p.value) result ≡ self.held }
     {
-        let InetTables { ptr, alloc } = self;
+        let Handle { ptr, alloc } = self;
         if ptr.is_null() {
             None
         } else {
-            Some(Parts {
-                ptr: ptr as *mut Held,
-                alloc,
-            })
+            Some(Parts { ptr, alloc })
         }
     }
 
     /// A handle that holds this.
-    pub fn of(held: Box<Held>) -> Self
+    pub fn of(held: Box<T>) -> Self
+    where
+        T: Drop,
         ensures { result.held ≡ Some held.value }
     {
-        sendable(InetTables::of_parts(Parts::of(held)))
+        Handle::of_parts(Parts::of(held))
     }
 
     /// What the handle holds.
-    pub fn into_box(self) -> Option<Box<Held>>
+    pub fn into_box(self) -> Option<Box<T>>
         ensures { option_map (λ b. b.value) result ≡ self.held }
     {
         match self.into_parts() {
@@ -89,18 +71,16 @@ impl InetTables {
             Some(parts) => Some(parts.into_box()),
         }
     }
-
-    /// Takes out what the handle holds, which holds nothing then.
-    pub fn take(&mut self, alloc: Global) -> Option<Box<Held>>
-        ensures held { option_map (λ b. b.value) result ≡ self.old.held }
-        ensures empty { self.new.held ≡ None }
-    {
-        replace(self, InetTables::empty(alloc)).into_box()
-    }
 }
 
-impl Drop for InetTables {
-    fn drop(self) {
-        drop(self.into_box());
+/// The state in a box, with unused bytes round it, by which no two states share a cache line; for want of memory it
+/// comes back.
+pub fn boxed<T: Drop>(alloc: Global, state: T) -> Result<Box<CachePadded<T>>, T>
+    ensures boxed { IfOk result (λ b. padded_value b.value ≡ state) }
+    ensures back { IfErr result (λ s. s ≡ state) }
+{
+    match Box::new(alloc, CachePadded::new(state)) {
+        Ok(boxed) => Ok(boxed),
+        Err(failed) => Err(failed.value.into_inner()),
     }
 }

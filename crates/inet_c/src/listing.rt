@@ -1,11 +1,12 @@
 //! Lists through a handle.
 
-ghost use Rattle.std.specs.Prelude.{◌≡◌, pos};
+ghost use Rattle.std.specs.Prelude.{◌≡◌};
 ghost use Rattle.inet_c.specs.Listed as spec;
-ghost use Rattle.inet_c.specs.Listed.{ListsIn, ListsOn, TellsOf, written_over};
+ghost use Rattle.inet_c.specs.Listed.{Tells, TellsOf, written_over};
+ghost use Rattle.inet_c.specs.Owned.{held};
 
-use crate::handle::InetTables;
-use crate::held::Held;
+use crate::errno::{EBADF, ENOMEM};
+use crate::kinds::InetList;
 use flat_calls::{Item, Tables};
 use std::alloc::Global;
 
@@ -14,7 +15,7 @@ use std::alloc::Global;
 pub enum Telling {
     /// It is written.
     Told,
-    /// The handle has no list.
+    /// There is no list.
     NoTables,
     /// Memory ran out.
     NoMemory,
@@ -22,12 +23,12 @@ pub enum Telling {
 
 /// The number of errno(3) by which Linux reports it.
 pub fn errno_of(telling: Telling) -> i32
-    ensures { result ≡ pos (spec.errno_of telling) }
+    ensures { result ≡ spec.errno_of telling }
 {
     match telling {
         Telling::Told => 0,
-        Telling::NoTables => 9,
-        Telling::NoMemory => 12,
+        Telling::NoTables => EBADF,
+        Telling::NoMemory => ENOMEM,
     }
 }
 
@@ -56,31 +57,24 @@ fn tell(tables: &Tables, alloc: Global, items: &mut [Item], count: &mut u64) -> 
     }
 }
 
-fn list_in(held: &Held, alloc: Global, items: &mut [Item], count: &mut u64) -> Telling
-    ensures { ListsIn held.now items.old items.new count.new result }
+/// Writes the first of what a list has, as many as fit, and how many they are.
+pub fn list_items(
+    list: &mut InetList,
+    alloc: Global,
+    items: &mut [Item],
+    count: &mut u64,
+) -> Telling
+    ensures same { list.new.boxed ≡ list.old.boxed }
+    ensures tells { Tells (held list.old.boxed) items.old items.new count.new result }
 {
-    match held {
-        Held::List(tables) => tell(tables, alloc, items, count),
-        Held::Shared(_) | Held::Worker(_) | Held::Looker(_) => {
-            *count = 0;
-            Telling::NoTables
-        }
-    }
-}
-
-/// Writes the first of what the handle's list has, as many as fit, and how many they are.
-pub fn list(handle: &mut InetTables, alloc: Global, items: &mut [Item], count: &mut u64) -> Telling
-    ensures same { handle.new.held ≡ handle.old.held }
-    ensures lists { ListsOn handle.old.held items.old items.new count.new result }
-{
-    match handle.take(alloc) {
+    match list.take(alloc) {
         None => {
             *count = 0;
             Telling::NoTables
         }
-        Some(held) => {
-            let telling = list_in(&held, alloc, items, count);
-            *handle = InetTables::of(held);
+        Some(tables) => {
+            let telling = tell(&tables, alloc, items, count);
+            *list = InetList::of(tables);
             telling
         }
     }

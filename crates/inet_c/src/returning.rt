@@ -1,12 +1,12 @@
 //! How workers and lookers are given back to their shared tables.
 
-ghost use Rattle.std.specs.Prelude.{◌≡◌, ◌↔◌, IsTrue, None, Some, pos};
+ghost use Rattle.std.specs.Prelude.{◌≡◌, Some};
+ghost use Rattle.inet_c.specs.Owned.{held};
 ghost use Rattle.inet_c.specs.Returned as spec;
-ghost use Rattle.inet_c.specs.Returned.{IsPart, MayReturn, Returns, TakesIn};
-ghost use Rattle.inet_c.specs.declared.held.Held.TheVariants as helds;
+ghost use Rattle.inet_c.specs.Returned.{LookerReturns, WorkerReturns};
 
-use crate::handle::InetTables;
-use crate::held::Held;
+use crate::errno::{EBADF, EINVAL};
+use crate::kinds::{InetLooker, InetTables, InetWorker};
 use shared_calls::SharedTables;
 use std::alloc::Global;
 
@@ -15,7 +15,7 @@ use std::alloc::Global;
 pub enum Returning {
     /// The tables have it.
     Back,
-    /// The one handle holds no shared tables, or the other neither a worker nor a looker.
+    /// A handle holds nothing.
     NoTables,
     /// It is no worker or looker of these tables.
     Strange,
@@ -23,75 +23,78 @@ pub enum Returning {
 
 /// The number of errno(3) by which Linux reports it.
 pub fn errno_of(returning: Returning) -> i32
-    ensures { result ≡ pos (spec.errno_of returning) }
+    ensures { result ≡ spec.errno_of returning }
 {
     match returning {
         Returning::Back => 0,
-        Returning::NoTables => 9,
-        Returning::Strange => 22,
+        Returning::NoTables => EBADF,
+        Returning::Strange => EINVAL,
     }
 }
 
-fn is_part(held: &Held) -> bool
-    ensures { IsTrue result ↔ IsPart held.now }
-{
-    matches!(held, Held::Worker(_) | Held::Looker(_))
-}
-
-fn may_return(tables: &SharedTables, held: &Held) -> bool
-    ensures { IsTrue result ↔ MayReturn tables.now held.now }
-{
-    match held {
-        Held::Worker(worker) => tables.may_come_back(&worker.caller),
-        Held::Looker(looker) => tables.looker_may_come_back(looker),
-        Held::List(_) | Held::Shared(_) => false,
-    }
-}
-
-/// Puts it with those that wait to be handed out.
-fn take_in(tables: &mut SharedTables, held: Held)
-    requires { MayReturn tables.old held }
-    ensures { TakesIn tables.old tables.new held }
-{
-    match held {
-        Held::Worker(worker) => tables.take_back(worker.caller),
-        Held::Looker(looker) => tables.take_looker_back(looker),
-        Held::List(_) | Held::Shared(_) => unreachable!(),
-    }
-}
-
-fn take_from(tables: &mut SharedTables, alloc: Global, back: &mut InetTables) -> Returning
-    ensures { Returns (Some (helds.Shared tables.old)) (Some (helds.Shared tables.new)) back.old.held back.new.held
+fn take_worker(tables: &mut SharedTables, alloc: Global, worker: &mut InetWorker) -> Returning
+    ensures { WorkerReturns (Some tables.old) (Some tables.new) (held worker.old.boxed) (held worker.new.boxed)
         result }
 {
-    let Some(held) = back.take(alloc) else {
+    let Some(back) = worker.take(alloc) else {
         return Returning::NoTables;
     };
-    if !is_part(&held) {
-        *back = InetTables::of(held);
-        return Returning::NoTables;
-    }
-    if !may_return(tables, &held) {
-        *back = InetTables::of(held);
+    if !tables.may_come_back(&back.caller) {
+        *worker = InetWorker::of(back);
         return Returning::Strange;
     }
-    take_in(tables, Box::into_inner(held));
+    tables.take_back(Box::into_inner(back).into_inner().caller);
     Returning::Back
 }
 
-/// Gives the worker or the looker that a handle holds back to the shared tables of another, for the next who wants one.
-/// The handle holds nothing then. It takes no memory.
-pub fn give_back(handle: &mut InetTables, alloc: Global, back: &mut InetTables) -> Returning
-    ensures { Returns handle.old.held handle.new.held back.old.held back.new.held result }
+fn take_looker(tables: &mut SharedTables, alloc: Global, looker: &mut InetLooker) -> Returning
+    ensures { LookerReturns (Some tables.old) (Some tables.new) (held looker.old.boxed) (held looker.new.boxed)
+        result }
 {
-    match handle.take(alloc) {
+    let Some(back) = looker.take(alloc) else {
+        return Returning::NoTables;
+    };
+    if !tables.looker_may_come_back(&back) {
+        *looker = InetLooker::of(back);
+        return Returning::Strange;
+    }
+    tables.take_looker_back(Box::into_inner(back).into_inner());
+    Returning::Back
+}
+
+/// Gives a worker back to shared tables, for the next who wants one. Its handle holds nothing then. It takes no memory.
+pub fn give_worker_back(
+    worker: &mut InetWorker,
+    alloc: Global,
+    tables: &mut InetTables,
+) -> Returning
+    ensures { WorkerReturns (held tables.old.boxed) (held tables.new.boxed) (held worker.old.boxed)
+        (held worker.new.boxed) result }
+{
+    match tables.take(alloc) {
         None => Returning::NoTables,
-        Some(mut held) => {
-            let returning = match &mut *held {
-                Held::Shared(tables) => take_from(tables, alloc, back),
-                Held::List(_) | Held::Worker { .. } | Held::Looker(_) => Returning::NoTables,
-            };
-            *handle = InetTables::of(held);
+        Some(mut shared) => {
+            let returning = take_worker(&mut shared, alloc, worker);
+            *tables = InetTables::of(shared);
+            returning
+        }
+    }
+}
+
+/// Gives a looker back to shared tables, as a worker is given back.
+pub fn give_looker_back(
+    looker: &mut InetLooker,
+    alloc: Global,
+    tables: &mut InetTables,
+) -> Returning
+    ensures { LookerReturns (held tables.old.boxed) (held tables.new.boxed) (held looker.old.boxed)
+        (held looker.new.boxed) result }
+{
+    match tables.take(alloc) {
+        None => Returning::NoTables,
+        Some(mut shared) => {
+            let returning = take_looker(&mut shared, alloc, looker);
+            *tables = InetTables::of(shared);
             returning
         }
     }

@@ -1,9 +1,24 @@
 //! What the numbers of a call stand for.
 
-ghost use Rattle.std.specs.Prelude.{◌≡◌};
+ghost use Rattle.std.specs.Prelude.{◌≡◌, ◌↔◌, IsTrue};
 ghost use Rattle.inet_c.specs.Words as spec;
+ghost use Rattle.inet_c.specs.Words.{AreOptions, IsNamespace};
 
 use flat_list::Options;
+
+/// Whether there is such a namespace.
+pub fn is_namespace(net: u8) -> bool
+    ensures { IsTrue result ↔ IsNamespace net }
+{
+    net < 16
+}
+
+/// Whether there are such a namespace and such flags.
+pub fn are_options(net: u8, flags: u32) -> bool
+    ensures { IsTrue result ↔ AreOptions net flags }
+{
+    is_namespace(net) && flags < 8
+}
 
 /// The options of a new socket.
 pub fn options(net: u8, uid: u32, dev: u16, flags: u32) -> Options

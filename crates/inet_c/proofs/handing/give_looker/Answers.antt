@@ -1,21 +1,23 @@
-use Rattle.std.proofs.Common.{◌≡◌, refl, sym, subst}
+use Rattle.std.proofs.Common.{rules, ◌≡◌, ◌∙◌, refl, subst}
 use Rattle.shared_calls.specs.Lookings.{Looking}
 use Rattle.shared_calls.specs.Sharings.{HasNoLooker, TakesLookerBack}
 use Rattle.shared_calls.specs.declared.tables.Refused.TheVariants as refusals
-use Rattle.inet_c.specs.Handed.{IsLooker}
-use Rattle.inet_c.specs.declared.held.Held.TheVariants as helds
-use Rattle.inet_c.proofs.Holding.{handed, looker_waits, not_held, some_left}
+use Rattle.inet_c.proofs.Holding.{holds, looker_waits, some_left}
 use Rattle.inet_c.proofs.handing.give_looker.Goals as goal
 
-pub returns-in-Ok-hold_looker : goal.returns-in-Ok-hold_looker
-returns-in-Ok-hold_looker c =
-    let h = c.in-Ok.ensures.hands in let old = c.args.tables.now in let new = c.looker.new.self in
-    handed IsLooker HasNoLooker old new c.args.looker.now.held c.hold_looker.new.handle.held (helds.Looker c.in-Ok.given)
-    c.requires (some_left (HasNoLooker old) c.in-Ok.given refusals.AllOut c.in-Ok.ensures.all_out) (c.in-Ok.given, refl, h) c.in-Ok-hold_looker.ensures.held
+pub returns-in-Ok-boxed : goal.returns-in-Ok-boxed
+returns-in-Ok-boxed c =
+    let given = c.in-Ok.given in (
+      c.requires,
+      some_left (HasNoLooker c.args.tables.now) given refusals.AllOut c.in-Ok.ensures.all_out,
+      (given, holds c.of.result.boxed c.in-Ok-boxed.made.value given c.of.ensures c.in-Ok-boxed.ensures.boxed, c.in-Ok.ensures.hands),
+    )
 
 pub returns-in-Err : goal.returns-in-Err
 returns-in-Err c =
-    let h = c.in-Ok.ensures.hands in let old = c.args.tables.now in let mid = c.looker.new.self in let new = c.take_looker_back.new.self in
-    not_held IsLooker HasNoLooker old new c.args.looker.now.held c.hold_looker.new.handle.held
-    c.requires (some_left (HasNoLooker old) c.in-Ok.given refusals.AllOut c.in-Ok.ensures.all_out)
-    (looker_waits old mid new c.in-Ok.given h (subst (λ (x : Looking). TakesLookerBack mid new x) c.in-Err.ensures.back c.take_looker_back.ensures)) c.in-Err.ensures.none
+    let given = c.in-Ok.given in let mid = c.looker.new.self in let new = c.take_looker_back.new.self in (
+      c.requires,
+      some_left (HasNoLooker c.args.tables.now) given refusals.AllOut c.in-Ok.ensures.all_out,
+      refl,
+      looker_waits c.args.tables.now mid new given c.in-Ok.ensures.hands (subst (λ (l : Looking). TakesLookerBack mid new l) c.in-Err.ensures.back c.take_looker_back.ensures),
+    )

@@ -1,10 +1,17 @@
-use Rattle.std.proofs.Common.{refl}
-use Rattle.inet_c.specs.declared.held.Held.TheVariants as helds
-use Rattle.inet_c.specs.Made.{IsShared}
-use Rattle.inet_c.proofs.Holding.{holds_nothing, made_of}
+use Rattle.std.proofs.Common.{◌≡◌, refl, subst}
+use Rattle.flat_list.specs.declared.header.Header.{Header}
+use Rattle.shared_calls.specs.Sharings.{IsNew}
+use Rattle.inet_c.proofs.Holding.{holds, holds_nothing}
 use Rattle.inet_c.proofs.making.share.Goals as goal
 
-pub returns-in-Ok : goal.returns-in-Ok
-returns-in-Ok c =
-    made_of (IsShared c.args.tag) c.args.header.now c.args.handle.now.held c.hold.new.handle.held (helds.Shared c.in-Ok.tables) c.hold.result
-    (c.if-not-is_header.ensures.sizes.0 refl) (holds_nothing c.args.handle.now.held c.if-is_there.ensures.there) (c.in-Ok.tables, refl, c.in-Ok.ensures) c.hold.ensures
+pub returns-in-Ok-boxed : goal.returns-in-Ok-boxed
+returns-in-Ok-boxed c =
+    let shared = c.in-Ok.shared in (
+      c.if-not-are_sizes.ensures.sizes.0 refl,
+      holds_nothing c.args.tables.now.boxed c.if-is_held.ensures.there,
+      (
+        shared,
+        holds c.of.result.boxed c.in-Ok-boxed.made.value shared c.of.ensures c.in-Ok-boxed.ensures.boxed,
+        subst (λ (h : Header). IsNew h c.args.tag shared) c.header_of.ensures c.in-Ok.ensures,
+      ),
+    )

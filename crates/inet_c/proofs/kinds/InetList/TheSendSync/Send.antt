@@ -1,0 +1,10 @@
+-- Such a handle may go to another thread, as what it holds may.
+use denote.Param.Send.{IsSend, owning_send, sendable}
+use Rattle.crossbeam_utils.specs.contracts.cache_padded.CachePadded as padded
+use Rattle.flat_calls.specs.contracts.tables.Tables as state
+use Rattle.inet_c.proofs.Crossing.{list_send}
+use Rattle.inet_c.proofs.Keyless.{owned_keyless}
+use Rattle.inet_c.specs.contracts.kinds.InetList.{the_row, the_type}
+
+pub send : IsSend the_row
+send = owning_send the_type (search sendable) (λ d. owned_keyless (padded.the_row state.the_row) list_send d.alloc d.ptr d.boxed) (λ k x w. tt)
