@@ -1,6 +1,6 @@
 -- How a process ends, over ends whose bytes can be stated. Our own rule.
 use Rattle.std.specs.Prelude.{◌≡◌, ℕ, List, Option, IfSome}
-use Rattle.sock_script.specs.declared.parse.Mode.{Mode}
+use Rattle.why.specs.declared.input.Input.{Input}
 use Rattle.why.specs.declared.status.Status.{Status}
 use Rattle.why.specs.declared.status.Status.TheVariants.{Usage}
 use Rattle.why.specs.Asked.{AsksFor}
@@ -10,6 +10,6 @@ use Rattle.why.specs.Written.{Answers, IsEnd, WritesAnswer}
 -- and else what the source had left gets its answer.
 pub record IsEndOf (words : List (List ℕ)) (status : Status) (left left' written written' : Option (List ℕ))
     : Type 0 where
-  pub usage : ((mode : Mode) → ¬ (AsksFor mode words)) → status ≡ Usage
-  pub told : (mode : Mode) → AsksFor mode words → IsEnd status → WritesAnswer mode left left' written written' status
-  pub answers : (mode : Mode) → AsksFor mode words → IfSome left (λ bytes. Answers mode bytes status)
+  pub usage : ((input : Input) → ¬ (AsksFor input words)) → status ≡ Usage
+  pub told : (input : Input) → AsksFor input words → IsEnd status → WritesAnswer input left left' written written' status
+  pub answers : (input : Input) → AsksFor input words → IfSome left (λ bytes. Answers input bytes status)

@@ -1,9 +1,9 @@
 //! The program that says why `inet` refuses an input: standard input and output, and the exit status. What it does is
-//! `serve::serve`; its one word is the command of `inet` for which the input is meant, `run` or `race`.
+//! `serve::serve`; its one word is the command of `inet` for which the input is meant, `run`, `race` or `audit`.
 //!
 //! | Status | Exit | When | Written |
 //! |---|---|---|---|
-//! | `Done` | 0 | nothing is refused | a line that says so |
+//! | `Done` | 0 | nothing is refused, and no record refuted | a line that says so |
 //! | `Usage` | 2 | the words are others | nothing, and nothing was read |
 //! | `BadScript(n)` | 3 | line n is the first that is refused | the line, the reason, and the form |
 //! | `BadCapture` | 4 | the capture is refused | a line that says so |
@@ -11,21 +11,25 @@
 //! | `ReadFault` | 6 | only where a read failed | nothing |
 //! | `WriteFault` | 7 | only where a write failed | a front of what was to be written |
 //! | `Memory` | 8 | in place of any other | nothing |
+//! | `BadRecord(n)` | 9 | line n is the first that keeps the text from being a record | the line, the reason, and what may stand there |
+//! | `Refuted(n)` | 10 | the record fails a test, first at line n | the line, the test, the cause, and the lines that have a part in it |
 #![tactic(auto)]
 
 ghost use Rattle.std.specs.Prelude.{◌≡◌, ◌≢◌, ◌⊎◌, map, string_bytes, IfErr, IfNone, IfOk, IfSome};
 ghost use Rattle.std.specs.Process.{exit_status};
 ghost use Rattle.std.specs.Vec.Iter.{into_iter_items};
-ghost use Rattle.sock_script.specs.declared.parse.Mode.{Mode as AnyMode};
-ghost use Rattle.why.specs.Asked.{AsksFor, mode_text};
+ghost use Rattle.why.specs.Asked.{AsksFor, input_text};
 ghost use Rattle.why.specs.Ends.{IsEndOf};
 ghost use Rattle.why.specs.Status.{exit_code};
+ghost use Rattle.why.specs.declared.input.Input.{Input as AnyInput};
 ghost use Rattle.why.specs.declared.status.Status.{Status as AnyStatus};
 ghost use Rattle.why.specs.declared.status.Status.TheVariants as statuses;
 
+mod input;
 mod serve;
 mod status;
 
+use input::Input;
 use inet_io::{Sink, Source, StdSink, StdSource};
 use label_index::LabelSeed;
 use sock_script::Mode;
@@ -54,27 +58,28 @@ fn words_of(rt: &(impl Env + AllocGlobal)) -> Result<Vec<String>, Status>
     }
 }
 
-/// The command of that name, of those for whose inputs the program is.
-fn mode_named(word: &[u8]) -> Option<Mode>
-    ensures some { IfSome result (λ mode. word.now ≡ mode_text mode) }
-    ensures none { IfNone result ((mode : AnyMode) → word.now ≢ mode_text mode) }
+/// For which command of that name an input is meant, of those that the program takes.
+fn input_named(word: &[u8]) -> Option<Input>
+    ensures some { IfSome result (λ input. word.now ≡ input_text input) }
+    ensures none { IfNone result ((input : AnyInput) → word.now ≢ input_text input) }
 {
     match word {
-        b"run" => Some(Mode::Run),
-        b"race" => Some(Mode::Race),
+        b"run" => Some(Input::Script(Mode::Run)),
+        b"race" => Some(Input::Script(Mode::Race)),
+        b"audit" => Some(Input::Record),
         _ => None,
     }
 }
 
 /// What the input is meant for, by the words, the program's name first.
-fn mode_of(words: &[String]) -> Option<Mode>
-    ensures some { IfSome result (λ mode. AsksFor mode (map string_bytes words.now)) }
-    ensures none { IfNone result ((mode : AnyMode) → ¬ (AsksFor mode (map string_bytes words.now))) }
+fn input_of(words: &[String]) -> Option<Input>
+    ensures some { IfSome result (λ input. AsksFor input (map string_bytes words.now)) }
+    ensures none { IfNone result ((input : AnyInput) → ¬ (AsksFor input (map string_bytes words.now))) }
 {
     if words.len() != 2 {
         return None;
     }
-    mode_named(words[1].as_bytes())
+    input_named(words[1].as_bytes())
 }
 
 /// The exit status that the process ends with.
@@ -84,7 +89,7 @@ fn code_of(status: Status) -> ExitCode
     ExitCode::from(status.exit_code())
 }
 
-/// Says what is refused of what the source has, if the words ask for that.
+/// Says what is refused or refuted of what the source has, if the words ask for that.
 fn explained<S: Source, K: Sink>(
     alloc: Global,
     seed: LabelSeed,
@@ -95,8 +100,8 @@ fn explained<S: Source, K: Sink>(
     ensures { IsEndOf (map string_bytes words.now) result
         (S.left source.old) (S.left source.new) (K.written sink.old) (K.written sink.new) }
 {
-    match mode_of(words) {
-        Some(mode) => serve::serve(alloc, seed, mode, source, sink),
+    match input_of(words) {
+        Some(input) => serve::serve(alloc, seed, input, source, sink),
         None => Status::Usage,
     }
 }

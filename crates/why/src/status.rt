@@ -3,7 +3,7 @@
 /// How a call ended. The contract of `serve` says when each comes and what stands then.
 #[derive(Clone, Copy, Debug, PartialEq, Eq)]
 pub enum Status {
-    /// No line is refused, nor the capture.
+    /// No line is refused, nor the capture; or the record passes the audit.
     Done,
     /// The words aren't one of those that the program takes.
     Usage,
@@ -19,6 +19,10 @@ pub enum Status {
     WriteFault,
     /// No memory was left.
     Memory,
+    /// The line of that number, from 1, is the first that keeps the text from being a race's record.
+    BadRecord(u64),
+    /// An audit refutes the record at the line of that number, from 1.
+    Refuted(u64),
 }
 
 impl Status {
@@ -38,6 +42,8 @@ impl Status {
             Status::ReadFault => 6,
             Status::WriteFault => 7,
             Status::Memory => 8,
+            Status::BadRecord(_) => 9,
+            Status::Refuted(_) => 10,
         }
     }
 }

@@ -6,12 +6,12 @@ use Rattle.why.proofs.explained.Goals as goal
 pub returns-in-Some : goal.returns-in-Some
 returns-in-Some g c =
     record {
-      usage = λ none. absurd (none c.in-Some.mode c.in-Some.ensures.some);
-      told = λ mode asks end.
-          let e : c.in-Some.mode ≡ mode = asked_once (map string_bytes c.args.words.now) c.in-Some.mode mode c.in-Some.ensures.some asks in
+      usage = λ none. absurd (none c.in-Some.input c.in-Some.ensures.some);
+      told = λ input asks end.
+          let e : c.in-Some.input ≡ input = asked_once (map string_bytes c.args.words.now) c.in-Some.input input c.in-Some.ensures.some asks in
           rw (← e) (c.serve.ensures.told end);
-      answers = λ mode asks.
-          let e : c.in-Some.mode ≡ mode = asked_once (map string_bytes c.args.words.now) c.in-Some.mode mode c.in-Some.ensures.some asks in
+      answers = λ input asks.
+          let e : c.in-Some.input ≡ input = asked_once (map string_bytes c.args.words.now) c.in-Some.input input c.in-Some.ensures.some asks in
           rw (← e) c.serve.ensures.verdict;
     }
 
@@ -19,6 +19,6 @@ pub returns-in-None : goal.returns-in-None
 returns-in-None g c =
     record {
       usage = λ none. refl;
-      told = λ mode asks end. absurd (c.in-None.ensures.none mode asks);
-      answers = λ mode asks. absurd (c.in-None.ensures.none mode asks);
+      told = λ input asks end. absurd (c.in-None.ensures.none input asks);
+      answers = λ input asks. absurd (c.in-None.ensures.none input asks);
     }
