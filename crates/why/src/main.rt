@@ -29,8 +29,8 @@ mod input;
 mod serve;
 mod status;
 
-use input::Input;
 use inet_io::{Sink, Source, StdSink, StdSource};
+use input::Input;
 use label_index::LabelSeed;
 use sock_script::Mode;
 use status::Status;
