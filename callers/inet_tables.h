@@ -104,7 +104,7 @@ struct inet_packet {
 };
 
 /* What is left to a worker, beside what is kept back for close, drop, at and reap and what its TIME_WAITs will take. A
- * call takes 65,540 entries and 7 stamps at most, and is EOVERFLOW where fewer are left. */
+ * call takes 65,540 entries and 7 stamps at most, and is EOVERFLOW where fewer are left, but for those four. */
 struct inet_left {
     uint64_t sockets; /* that it may make */
     uint64_t entries; /* of bind buckets */
@@ -219,8 +219,8 @@ int inet_looker_look(struct inet_looker *looker, uint32_t src, uint16_t sport, u
                      uint16_t dev, uint8_t net, struct inet_sight *sight);
 /* A lookup for each packet, told at its place. INET_AGAIN: that lookup is to be made again, as after EAGAIN, or it began
  * before the clock was at `after` (0: any), which none does that begins once inet_worker_now has answered that number.
- * So what that worker's calls had hashed by then was met, and what they had unhashed was not. EINVAL: there aren't as
- * many places as packets, and nothing was done. */
+ * So what that worker's calls had hashed by then stood throughout, unless its unhash began meanwhile. EINVAL: there
+ * aren't as many places as packets, and nothing was done. */
 int inet_looker_look_all(struct inet_looker *looker, const struct inet_packet *packets, size_t count, uint64_t after,
                          struct inet_sight *sights, size_t room);
 

@@ -1,5 +1,5 @@
 /* What a worker tells of itself: the state and ends of its sockets, what is left to it, when its next TIME_WAIT ends,
- * and its clock, from which on a batch of lookups meets all that its calls did. */
+ * and its clock, from which on a batch of lookups meets what its calls had hashed. */
 #include <errno.h>
 #include <inttypes.h>
 #include <stdio.h>

@@ -129,7 +129,8 @@ impl Worker {
         self.handle.next_over()
     }
 
-    /// The clock as its last call left it. A lookup that begins there or later meets all that its calls did.
+    /// The clock as its last call left it. A lookup that begins there or later meets what its calls
+    /// had hashed.
     pub fn now(&mut self) -> Result<u64, Errno> {
         self.handle.now()
     }

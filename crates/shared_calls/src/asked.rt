@@ -92,7 +92,7 @@ impl Caller {
     }
 
     /// The clock as its last call left it: each change that its calls made has ended below that number. A lookup that
-    /// begins there or later meets them as done.
+    /// begins there or later meets what they had hashed.
     pub fn now(&self) -> u64
         ensures clock { result ≡ clock_of self.now }
         ensures ended { HadEnded self.now result }
