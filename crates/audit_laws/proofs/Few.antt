@@ -199,7 +199,7 @@ module _ (shape : Shape) (seed : ℕ) where
   f_connect s a source to moment rule ports = f_ends (2 * length ports + 3) (refused errors.IsConn)
 
   f_accept_hashed : (l child : Owner) (o : Outcome) → Few 2 (op.accept_hashed shape seed l child o)
-  f_accept_hashed l child (put slot old) = f_full_then (owner_key l) (requests.Inherit l.name child.name child.addr child.remote child.rport) child slot old
+  f_accept_hashed l child (put slot old) = f_full_then (owner_key l) (requests.Inherit l.name child.name child.mark child.addr child.remote child.rport) child slot old
   f_accept_hashed l child (taken name) = f_ends 2 _
   f_accept_hashed l child (full owned held) = f_ends 2 _
 
@@ -223,7 +223,7 @@ module _ (shape : Shape) (seed : ℕ) where
   f_ack_hashed : (r : Mine) (l child : Owner) (o : Outcome) → Few 2 (op.ack_hashed shape seed r l child o)
   f_ack_hashed r l child (put slot None) =
       let last = ends (done (op.full_in shape seed child slot)) in
-      let inherit = requests.Inherit l.name child.name child.addr child.remote child.rport in
+      let inherit = requests.Inherit l.name child.name child.mark child.addr child.remote child.rport in
       f_unhashes 1 r.place _ (asks (owner_key l) inherit (op.when_done last))
       (f_asks 0 (owner_key l) inherit (op.when_done last) (λ answer. f_done 0 last answer (f_ends 0 _)))
   f_ack_hashed r l child (put slot (Some x)) = f_impossible 2

@@ -49,7 +49,7 @@ use Rattle.shared_ops.proofs.ConnectGoes.{replaced_leads, full_is, gone_quiet, h
 use Rattle.shared_ops.proofs.Knows.{Grows, after, grows, grows_first, grows_rest, gave_first, all_pass, inherits, stands_on}
 
 abbrev pub child_entry : Owner → Owner → Entry
-child_entry l a = record { request = requests.Inherit l.name a.name a.addr a.remote a.rport; answer = answers.Done }
+child_entry l a = record { request = requests.Inherit l.name a.name a.mark a.addr a.remote a.rport; answer = answers.Done }
 
 module _ (count : ℕ) (l a : Owner) (port : owner_key a ≡ owner_key l) (v w : View) (c d : Side) where
   abbrev plan : Asking Did
@@ -71,7 +71,7 @@ module _ (count : ℕ) (l a : Owner) (port : owner_key a ≡ owner_key l) (v w :
       let more = subst (λ r. AreAsked at (gone_of r answer) f.zs) (p.replaced_is ∙ names_of p.old) f.more in
       let last : List Deed = deed_at (owner_key l) f.x ∷ map (deed_at (owner_key l)) f.zs in
       let told : Leads (accept_hashed shape seed l a (put slot old)) last there =
-      by_entry count (owner_key l) (requests.Inherit l.name a.name a.addr a.remote a.rport) answers.Done (when_done (full_done shape seed a slot old)) f.x (map (deed_at (owner_key l)) f.zs) there f.is
+      by_entry count (owner_key l) (requests.Inherit l.name a.name a.mark a.addr a.remote a.rport) answers.Done (when_done (full_done shape seed a slot old)) f.x (map (deed_at (owner_key l)) f.zs) there f.is
       (replaced_leads count (owner_key l) old answer there f.zs (λ x is. keys_of wish p.hash p.old grants x is ∙ port) more) in
       record {
         deeds = inserted wish tried ∷ last;

@@ -64,7 +64,7 @@ module _ (count : ℕ) (r : Mine) (l a : Owner) (v w : View) (c d : Side) where
       let p = takes.replaces in
       let tried : Tried = hashed p.hash None in
       let there : Asking Did = ends (done (full_in shape seed a p.hash.slot)) in
-      let inherits : Asking Did = asks (owner_key l) (requests.Inherit l.name a.name a.addr a.remote a.rport) (when_done there) in
+      let inherits : Asking Did = asks (owner_key l) (requests.Inherit l.name a.name a.mark a.addr a.remote a.rport) (when_done there) in
       let last : List Deed = deed_at (owner_key l) one.x ∷ [] in
       let later : List Deed = left p.unhash ∷ last in
       let all_deeds : List Deed = added (full_card a) tried ∷ later in
@@ -73,7 +73,7 @@ module _ (count : ℕ) (r : Mine) (l a : Owner) (v w : View) (c d : Side) where
         leads = subst (λ (n : Mine). Leads plan all_deeds (ends (done n))) (child_is r a place m c d takes m_is)
             (by_added (full_card a) tried (ack_hashed shape seed r l a) later there p.is
             (by_left r.place (card_of kinds.Request r) inherits p.unhash last there p.goes
-            (by_entry count (owner_key l) (requests.Inherit l.name a.name a.addr a.remote a.rport) answers.Done (when_done there) one.x [] there one.is refl)));
+            (by_entry count (owner_key l) (requests.Inherit l.name a.name a.mark a.addr a.remote a.rport) answers.Done (when_done there) one.x [] there one.is refl)));
         gave = gave_one count (owner_key l) (child_entry l a) v w one;
         does = does_both (added (full_card a) tried ∷ left p.unhash ∷ []) last c d d p.does (does_entry (owner_key l) one.x d);
       }
