@@ -104,23 +104,23 @@ pub ack_answers : (count : ℕ) (p : Asking Did) (v w : View) (c d : Side) (s : 
 ack_answers count p v w c d s (Ok m) k = k
 ack_answers count p v w c d s (Err end) k = same_err {X = Mine} {Y = Sock} done accepted refused count p v w c d end k
 
-module _ (shape : Shape) (seed name : ℕ) where
+module _ (shape : Shape) (seed name mark : ℕ) where
   -- it is no request
-  pub ack_else : (s : Sock) (l : Option Mine) → FitsState s → ((x : Mine) → s ≡ socks.Request x → ⊥) → ack shape seed (mine_of s) l name ≡ ends (refused errors.Inval)
-  ack_else (socks.Unbound m) l fits other = ap (λ (st : State). ack_from shape seed st m l name) fits
-  ack_else (socks.Bound m) l fits other = ap (λ (st : State). ack_from shape seed st m l name) fits
-  ack_else (socks.Listening m) l fits other = ap (λ (st : State). ack_from shape seed st m l name) fits
-  ack_else (socks.Full m) l fits other = ap (λ (st : State). ack_from shape seed st m l name) fits
+  pub ack_else : (s : Sock) (l : Option Mine) → FitsState s → ((x : Mine) → s ≡ socks.Request x → ⊥) → ack shape seed (mine_of s) l name mark ≡ ends (refused errors.Inval)
+  ack_else (socks.Unbound m) l fits other = ap (λ (st : State). ack_from shape seed st m l name mark) fits
+  ack_else (socks.Bound m) l fits other = ap (λ (st : State). ack_from shape seed st m l name mark) fits
+  ack_else (socks.Listening m) l fits other = ap (λ (st : State). ack_from shape seed st m l name mark) fits
+  ack_else (socks.Full m) l fits other = ap (λ (st : State). ack_from shape seed st m l name mark) fits
   ack_else (socks.Request m) l fits other = absurd (other m refl)
 
   -- its plan, by its listener
-  pub ack_is : (r : Mine) (l : Option Mine) → r.owner.state ≡ states.Request → ack_by shape seed r l name ≡ ack shape seed r l name
-  ack_is r l state = sym (ap (λ (st : State). ack_from shape seed st r l name) state)
+  pub ack_is : (r : Mine) (l : Option Mine) → r.owner.state ≡ states.Request → ack_by shape seed r l name mark ≡ ack shape seed r l name mark
+  ack_is r l state = sym (ap (λ (st : State). ack_from shape seed st r l name mark) state)
 
   pub ack_plan : (r l : Mine) (b : Bool) → r.owner.state ≡ states.Request → is_no_ack l.owner r.owner ≡ b
-      → (if b then ends (refused errors.Inval) else ack_as shape seed r l.owner (heir_owner l.owner name r.owner)) ≡ ack shape seed r (Some l) name
+      → (if b then ends (refused errors.Inval) else ack_as shape seed r l.owner (heir_owner l.owner name mark r.owner)) ≡ ack shape seed r (Some l) name mark
   ack_plan r l b state is =
-      sym (ap (λ (x : Bool). if x then ends (refused errors.Inval) else ack_as shape seed r l.owner (heir_owner l.owner name r.owner)) is) ∙ ack_is r (Some l) state
+      sym (ap (λ (x : Bool). if x then ends (refused errors.Inval) else ack_as shape seed r l.owner (heir_owner l.owner name mark r.owner)) is) ∙ ack_is r (Some l) state
 
 -- a listener's card is no request's
 no_request : (m r : Mine) → words_of (packed (card_of kinds.Listen m)) ≡ words_of (packed (card_of kinds.Request r)) → ⊥

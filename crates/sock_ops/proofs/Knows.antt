@@ -374,8 +374,8 @@ found_with name owners more a true found = found_before name owners more a found
 found_with name owners more a false found = found
 
 -- the listener stays
-pub inherits : (l : Owner) (place name local remote rport : ℕ) (v w : View) (x : Placed Entry) → StandsOwn l place v → Grows v w (x ∷ []) → IsAsked place (requests.Inherit l.name name mark local remote rport) answers.Done x → StandsOwn l place w
-inherits l place name local remote rport v w x s g is =
+pub inherits : (l : Owner) (place name mark local remote rport : ℕ) (v w : View) (x : Placed Entry) → StandsOwn l place v → Grows v w (x ∷ []) → IsAsked place (requests.Inherit l.name name mark local remote rport) answers.Done x → StandsOwn l place w
+inherits l place name mark local remote rport v w x s g is =
     let os = told_by s.mine (own_given place v) in
     let request = requests.Inherit l.name name mark local remote rport in
     let t = tells_next l.name place os v w x (tells_of l.name place (Some l) v (known_of l place v s)) g is.place_is
