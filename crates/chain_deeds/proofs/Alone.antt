@@ -9,7 +9,7 @@ use Rattle.table_rule.specs.Sole.{IsNow}
 use Rattle.table_rule.specs.declared.view.View.{View}
 use Rattle.table_rule.specs.declared.view.Layout.{Layout}
 use Rattle.table_rule.specs.declared.view.Seen.{Seen}
-use Rattle.shared_slots.specs.declared.fresh.Full.{Full}
+use Rattle.sock_slots.specs.declared.fresh.Full.{Full}
 use Rattle.nulls_chain.specs.declared.keeping.Place.{Place}
 use Rattle.shared_sockets.specs.Rows.{row_of}
 use Rattle.shared_sockets.specs.Surveys.{keeper_in, waiting_in}

@@ -13,8 +13,8 @@ use Rattle.table_rule.specs.declared.view.Layout.{Layout}
 use Rattle.table_rule.specs.declared.view.Seen.{Seen}
 use Rattle.table_rule.specs.declared.view.Sight.{Sight}
 use Rattle.table_rule.specs.declared.view.View.{View}
-use Rattle.shared_slots.specs.Claims.{sight_by, Read}
-use Rattle.shared_slots.specs.declared.fresh.Full.{Full}
+use Rattle.sock_slots.specs.Claims.{sight_by, Read}
+use Rattle.sock_slots.specs.declared.fresh.Full.{Full}
 use Rattle.nulls_chain.specs.Changes.{Adds, Same, Sees}
 use Rattle.shared_sockets.specs.Rows.{card_words}
 use Rattle.shared_sockets.specs.Comings.{walking, FindsNone}

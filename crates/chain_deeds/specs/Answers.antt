@@ -9,7 +9,7 @@ use Rattle.chain_book.specs.declared.book.Change.{Change}
 use Rattle.table_rule.specs.Calls.{HasShares}
 use Rattle.table_rule.specs.declared.view.View.{View}
 use Rattle.nulls_chain.specs.declared.keeping.Place.{Place}
-use Rattle.shared_slots.specs.declared.fresh.Full.{Full}
+use Rattle.sock_slots.specs.declared.fresh.Full.{Full}
 use Rattle.shared_sockets.specs.Comings.{FourDrawn}
 use Rattle.shared_sockets.specs.declared.coming.Inserted.{Inserted}
 use Rattle.shared_sockets.specs.declared.coming.InsertEnd.{InsertEnd}

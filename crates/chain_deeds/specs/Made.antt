@@ -19,7 +19,7 @@ use Rattle.table_rule.specs.declared.view.Layout.{Layout}
 use Rattle.table_rule.specs.declared.view.Seen.{Seen}
 use Rattle.table_rule.specs.declared.view.Sight.{Sight}
 use Rattle.table_rule.specs.declared.view.View.{View}
-use Rattle.shared_slots.specs.Claims.{Read, slot_in, sight_by, owned_in, held_in, Between}
+use Rattle.sock_slots.specs.Claims.{Read, slot_in, sight_by, owned_in, held_in, Between}
 use Rattle.nulls_chain.specs.Changes.{Sees, AreSettled, IsPlaced}
 use Rattle.nulls_chain.specs.declared.keeping.Place.{Place}
 use Rattle.shared_sockets.specs.Comings.{name_of}

@@ -13,9 +13,9 @@ use super::table::{ChainPass, ChainTable};
 use chain_book::Replace;
 use nulls_chain::Place;
 use patience::Patience;
-use shared_slots::Full;
 use shared_sockets::{InsertEnd, Inserted, Newcomer};
 use sock_card::Card;
+use sock_slots::Full;
 
 /// Hashes a connected socket or a request for one, unless its four-tuple is kept from it at that moment, in seconds.
 ///

@@ -14,8 +14,8 @@ use super::leaving::is_told;
 use super::table::{ChainPass, ChainTable};
 use nulls_chain::Place;
 use patience::Patience;
-use shared_slots::Full;
 use sock_card::Card;
+use sock_slots::Full;
 
 /// Hashes the connected socket that a request was for into its chain, and then takes the request out.
 ///

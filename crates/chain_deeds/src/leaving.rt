@@ -15,8 +15,8 @@ use super::table::{ChainPass, ChainTable};
 use bucket_locks::{Locked, lock};
 use nulls_chain::Place;
 use patience::Patience;
-use shared_slots::Full;
 use sock_card::{Card, pack};
+use sock_slots::Full;
 
 // A card is what its words give.
 pub(crate) fn is_told(card: &Card)

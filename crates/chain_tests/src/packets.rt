@@ -7,9 +7,9 @@ ghost use Rattle.shared_finds.specs.Homes.{IsLaidOut};
 ghost use Rattle.table_rule.specs.Passes.{IsPassOf, known};
 
 use chain_book::{PacketAnswer, PacketLook, Shape};
+use demux::{Lookups, look_packet};
 use null_reader::{Pace, Point};
 use reuseport_group::{GroupPasses, Groups};
-use shared_demux::{Lookups, look_packet};
 use sock_card::Packet;
 use std::process::Abort;
 use std::test::Fail;

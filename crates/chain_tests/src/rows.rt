@@ -11,11 +11,11 @@ ghost use Rattle.chain_tests.specs.Ready.{IsReady, CanLook, CanUnhash};
 
 use crate::sockets::{close, shut};
 use chain_book::{PacketAnswer, Replace, Shape, home};
+use demux::{Lookups, look_packet};
 use null_reader::Still;
 use nulls_chain::Place;
 use patience::Waits;
 use reuseport_group::{GroupPasses, Groups, member_of};
-use shared_demux::{Lookups, look_packet};
 use shared_sockets::{InsertEnd, Newcomer, add, insert, remove_tw};
 use sock_card::{Card, Kind, Packet};
 use std::sync::Wait;

@@ -11,8 +11,8 @@ use Rattle.atomic_table.proofs.shared.Seat.TheSendSync as seat
 use Rattle.atomic_table.proofs.shared.Shared.TheSendSync as shared
 use Rattle.atomic_table.proofs.send_lease.SendLease.TheSendSync as lease
 use Rattle.bind_buckets.proofs.journal.Log.TheLaws.TheKnot as knot
-use Rattle.shared_ops.specs.contracts.tables.Tables as Tables
-use Rattle.shared_ops.proofs.Crossing.{bucket_send, tables_sync}
+use Rattle.sock_ops.specs.contracts.tables.Tables as Tables
+use Rattle.sock_ops.proofs.Crossing.{bucket_send, tables_sync}
 use Rattle.flat_list.proofs.command.Reply.TheSendSync as replies
 use Rattle.flat_list.specs.contracts.script.Script as Script
 use Rattle.flat_list.proofs.script.Script.TheSendSync as scripts

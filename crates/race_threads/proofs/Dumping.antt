@@ -22,9 +22,9 @@ use Rattle.shared_dump.specs.Dumps.{Keeps}
 use Rattle.shared_dump.specs.Rows.{Row}
 use Rattle.shared_dump.specs.Sightings.{sighting, sightings}
 use Rattle.shared_dump.proofs.Seeings.{keeps_same}
-use Rattle.shared_ops.specs.Stands.{chained}
-use Rattle.shared_ops.specs.declared.tables.Tables.{Tables}
-use Rattle.shared_ops.specs.declared.tables.Worker.{Worker}
+use Rattle.sock_ops.specs.Stands.{chained}
+use Rattle.sock_ops.specs.declared.tables.Tables.{Tables}
+use Rattle.sock_ops.specs.declared.tables.Worker.{Worker}
 use Rattle.table_dump.specs.Listings.{IsListing, KeepsAll}
 use Rattle.race_threads.specs.Dumped.{Dumped, Listed, ListsMore, SawAll, SawAs}
 

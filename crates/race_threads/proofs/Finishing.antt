@@ -11,9 +11,9 @@ use Rattle.flat_list.specs.Script.{Script}
 use Rattle.flat_list.specs.declared.command.Command.{Command}
 use Rattle.flat_list.specs.declared.command.Reply.{Reply}
 use Rattle.flat_list.specs.declared.header.Header.{Header}
-use Rattle.shared_ops.specs.Stands.{buckets_of}
-use Rattle.shared_ops.specs.declared.tables.Tables.{Tables}
-use Rattle.shared_ops.specs.declared.tables.Worker.{Worker}
+use Rattle.sock_ops.specs.Stands.{buckets_of}
+use Rattle.sock_ops.specs.declared.tables.Tables.{Tables}
+use Rattle.sock_ops.specs.declared.tables.Worker.{Worker}
 use Rattle.bind_buckets.specs.Closed.{AreLeft, notes_in}
 use Rattle.tickets.specs.Passes.{HasMissed, drawn, parts, tickets}
 use Rattle.tickets.specs.Views.{all_parts}

@@ -12,9 +12,9 @@ use Rattle.null_reader.specs.declared.answers.LookEnd.{LookEnd}
 use Rattle.null_reader.specs.declared.answers.LookEnd.TheVariants as ends
 use Rattle.reuseport_group.specs.declared.pass.GroupPasses.{GroupPasses}
 use Rattle.reuseport_group.specs.declared.choice.Choice.{Choice}
-use Rattle.shared_demux.specs.Chosen.{ByGroup, ChosenBy}
-use Rattle.shared_demux.specs.Concludes.{AfterListener, AfterFull, ByOrder, Concluded, book_end}
-use Rattle.shared_slots.specs.declared.holds.Held.{Held}
+use Rattle.demux.specs.Chosen.{ByGroup, ChosenBy}
+use Rattle.demux.specs.Concludes.{AfterListener, AfterFull, ByOrder, Concluded, book_end}
+use Rattle.sock_slots.specs.declared.holds.Held.{Held}
 use Rattle.shared_finds.specs.Finds.{InOrder}
 use Rattle.shared_finds.specs.Homes.{full_home, exact_home, any_home}
 use Rattle.shared_finds.specs.Stays.{More}

@@ -7,7 +7,7 @@ use Rattle.list_words.proofs.TotalLemmas.{total-append}
 use Rattle.sock_card.specs.declared.card.Card.{Card}
 use Rattle.chain_book.specs.Homes.{home}
 use Rattle.table_rule.specs.declared.view.Sight.{Sight}
-use Rattle.shared_slots.specs.Claims.{sight_by}
+use Rattle.sock_slots.specs.Claims.{sight_by}
 use Rattle.race_book.specs.Among.{Among}
 use Rattle.race_book.proofs.AmongLemmas.{among_left, among_right}
 use Rattle.race_record.specs.Deeds.{Deed, Vain, hashed, kept_out, no_slot, entered, inserted, added, left, reaped, changes_of, given_of, taken_of, vain_of, drawn_of, changes_in, given_in, taken_in, vain_in, drawn_in}

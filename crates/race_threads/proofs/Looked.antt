@@ -14,7 +14,7 @@ use Rattle.flat_list.specs.declared.header.Header.{Header}
 use Rattle.null_reader.specs.declared.answers.LookEnd.{LookEnd}
 use Rattle.null_reader.specs.declared.answers.LookEnd.TheVariants as ends
 use Rattle.reuseport_group.specs.declared.pass.GroupPasses.{GroupPasses}
-use Rattle.shared_demux.specs.Concludes.{Concluded, AfterListener, AfterFull, ByOrder}
+use Rattle.demux.specs.Concludes.{Concluded, AfterListener, AfterFull, ByOrder}
 use Rattle.shared_finds.specs.Finds.{InOrder}
 use Rattle.table_rule.specs.Plays.{Sat}
 use Rattle.table_rule.specs.declared.view.Layout.{Layout}
@@ -212,7 +212,7 @@ after_listener : (slots groups : ℕ) (layout : Layout) (packet : Packet) (passe
 after_listener slots groups layout packet passes m p p' (ends.Found held best) end from to k c n o a = named layout packet end (answers.Found a.0) a.3 tt
 after_listener slots groups layout packet passes m p p' ends.None end from to k c n o a = named layout packet end answers.None a.0 tt
 after_listener slots groups layout packet passes m p p' (ends.Again bucket stop) end from to k c n o a =
-    named layout packet end (answers.Again bucket (Rattle.shared_demux.specs.Concludes.book_end stop)) a.0
+    named layout packet end (answers.Again bucket (Rattle.demux.specs.Concludes.book_end stop)) a.0
     (⊎_elim (λ z. inr (inl z.1.0)) (λ z. inr (inr (inl z.5.0))) o)
 
 after_full : (slots groups : ℕ) (layout : Layout) (packet : Packet) (passes : ℕ) (m : Sat) (p p' : GroupPasses) (look : LookEnd) (end : PacketAnswer) (c : Whole) (k n : Sat)
@@ -221,7 +221,7 @@ after_full : (slots groups : ℕ) (layout : Layout) (packet : Packet) (passes : 
 after_full slots groups layout packet passes m p p' (ends.Found held card) end c k n b a = named layout packet end (answers.Found card) a.1 tt
 after_full slots groups layout packet passes m p p' ends.None end c k n b a = after_listener slots groups layout packet passes k p p' a.0 end a.1 a.2 a.3 c n a.4 a.5
 after_full slots groups layout packet passes m p p' (ends.Again bucket stop) end c k n b a =
-    named layout packet end (answers.Again bucket (Rattle.shared_demux.specs.Concludes.book_end stop)) a.0 (inl (b bucket stop refl))
+    named layout packet end (answers.Again bucket (Rattle.demux.specs.Concludes.book_end stop)) a.0 (inl (b bucket stop refl))
 
 again_there : (layout : Layout) (packet : Packet) (passes : ℕ) (m : Sat) (end : LookEnd) (from to : ℕ) (k : Sat)
     → Rattle.null_reader.specs.Looked.LookedAs (Rattle.shared_finds.specs.Homes.full_home layout packet) packet 5 passes m (Rattle.null_reader.specs.Looked.words_end end) from to k

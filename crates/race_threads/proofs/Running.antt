@@ -24,9 +24,9 @@ use Rattle.table_rule.specs.declared.view.View.{View}
 use Rattle.table_rule.specs.declared.view.ReadView.{ReadView}
 use Rattle.table_rule.specs.declared.view.SlotView.{SlotView}
 use Rattle.chain_deeds.specs.Sides.{Side, IsResting, HoldsNothing}
-use Rattle.shared_ops.specs.declared.tables.Tables.{Tables}
-use Rattle.shared_ops.specs.declared.tables.Worker.{Worker}
-use Rattle.shared_ops.specs.Stands.{HasGroups, IsHashed, MayDraw, chained, place_in, turned}
+use Rattle.sock_ops.specs.declared.tables.Tables.{Tables}
+use Rattle.sock_ops.specs.declared.tables.Worker.{Worker}
+use Rattle.sock_ops.specs.Stands.{HasGroups, IsHashed, MayDraw, chained, place_in, turned}
 use Rattle.table_dump.specs.Listings.{KeepsAll}
 use Rattle.section_machine.specs.Begins.{SectionBegins}
 use Rattle.section_machine.specs.Sections.{Did, Kept, kept}

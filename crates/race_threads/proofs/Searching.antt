@@ -12,8 +12,8 @@ use Rattle.null_reader.specs.declared.answers.PassEnd.{PassEnd as LookStop}
 use Rattle.null_reader.specs.declared.answers.PassEnd.TheVariants as stops
 use Rattle.reuseport_group.specs.declared.pass.GroupPasses.{GroupPasses}
 use Rattle.reuseport_group.specs.declared.choice.Choice.{Choice}
-use Rattle.shared_demux.specs.Chosen.{ByGroup, ChosenBy}
-use Rattle.shared_demux.specs.Concludes.{AfterListener, AfterFull, ByOrder, book_end}
+use Rattle.demux.specs.Chosen.{ByGroup, ChosenBy}
+use Rattle.demux.specs.Concludes.{AfterListener, AfterFull, ByOrder, book_end}
 use Rattle.shared_finds.specs.Finds.{InOrder}
 use Rattle.shared_finds.specs.Homes.{full_home, exact_home, any_home}
 use Rattle.table_rule.specs.Plays.{Sat}

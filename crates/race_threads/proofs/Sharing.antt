@@ -2,9 +2,9 @@
 use Rattle.std.proofs.Common.{ℕ, List, arith}
 use Rattle.capture_reader.specs.declared.packet.Item.{Item}
 use Rattle.flat_list.specs.declared.header.Header.{Header}
-use Rattle.shared_ops.specs.declared.tables.Tables.{Tables}
-use Rattle.shared_ops.specs.declared.tables.Worker.{Worker}
-use Rattle.shared_ops.specs.Stands.{turned}
+use Rattle.sock_ops.specs.declared.tables.Tables.{Tables}
+use Rattle.sock_ops.specs.declared.tables.Worker.{Worker}
+use Rattle.sock_ops.specs.Stands.{turned}
 use Rattle.table_rule.specs.Calls.{me}
 use Rattle.table_rule.specs.Plays.{Sat}
 use Rattle.race_threads.specs.declared.looker.Look.{Look}

@@ -11,7 +11,7 @@ use Rattle.table_rule.specs.declared.view.Layout.{Layout}
 use Rattle.table_rule.specs.declared.view.Seen.{Seen}
 use Rattle.table_rule.specs.declared.view.Sight.{Sight}
 use Rattle.table_rule.specs.declared.view.View.{View}
-use Rattle.shared_slots.specs.Claims.{Read, sight_by}
+use Rattle.sock_slots.specs.Claims.{Read, sight_by}
 use Rattle.nulls_chain.specs.Changes.{Sees, IsSettled, AreSettled}
 use Rattle.shared_sockets.specs.Comings.{name_of}
 use Rattle.shared_sockets.specs.Rows.{row_of, HasCard}

@@ -11,9 +11,9 @@ use Rattle.null_reader.specs.declared.answers.LookEnd.TheVariants as ends
 use Rattle.null_reader.specs.declared.answers.PassEnd.{PassEnd as LookStop}
 use Rattle.reuseport_group.specs.declared.pass.GroupPasses.{GroupPasses}
 use Rattle.reuseport_group.specs.declared.choice.Choice.{Choice}
-use Rattle.shared_demux.specs.Chosen.{ByGroup, ChosenBy}
-use Rattle.shared_demux.specs.Concludes.{AfterListener, AfterFull, ByOrder, book_end}
-use Rattle.shared_slots.specs.declared.holds.Held.{Held}
+use Rattle.demux.specs.Chosen.{ByGroup, ChosenBy}
+use Rattle.demux.specs.Concludes.{AfterListener, AfterFull, ByOrder, book_end}
+use Rattle.sock_slots.specs.declared.holds.Held.{Held}
 use Rattle.shared_finds.specs.Finds.{InOrder, card_rank}
 use Rattle.shared_finds.specs.Homes.{full_home, exact_home, any_home}
 use Rattle.table_rule.specs.Plays.{Sat}

@@ -10,7 +10,7 @@ use Rattle.list_words.specs.Lists.{total}
 use Rattle.list_words.proofs.TotalLemmas.{total-append}
 use Rattle.turn_table.specs.Views.{joined}
 use Rattle.table_rule.specs.Plays.{both}
-use Rattle.shared_ops.specs.declared.tables.Tables.{Tables}
+use Rattle.sock_ops.specs.declared.tables.Tables.{Tables}
 use Rattle.tickets.specs.Passes as draw
 use Rattle.tickets.specs.Views as views
 use Rattle.tickets.specs.declared.pass.TicketPass.{TicketPass}

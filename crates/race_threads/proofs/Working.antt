@@ -5,7 +5,7 @@ use Rattle.capture_reader.specs.declared.packet.Item.{Item}
 use Rattle.flat_list.specs.Script.{Script}
 use Rattle.flat_list.specs.declared.command.Command.{Command}
 use Rattle.flat_list.specs.declared.header.Header.{Header}
-use Rattle.shared_ops.specs.declared.tables.Tables.{Tables}
+use Rattle.sock_ops.specs.declared.tables.Tables.{Tables}
 use Rattle.tickets.specs.declared.pass.TicketPass.{TicketPass}
 use Rattle.tickets.specs.declared.pass.Tickets.{Tickets}
 use Rattle.race_threads.specs.declared.looker.Look.{Look}

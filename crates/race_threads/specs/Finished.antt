@@ -9,7 +9,7 @@ use Rattle.chain_book.specs.declared.book.Change.{Change}
 use Rattle.chain_deeds.specs.Sides.{IsResting, change_of}
 use Rattle.flat_list.specs.Script.{Script}
 use Rattle.flat_list.specs.declared.command.Reply.{Reply}
-use Rattle.shared_ops.specs.declared.tables.Tables.{Tables}
+use Rattle.sock_ops.specs.declared.tables.Tables.{Tables}
 use Rattle.socket_list.specs.Listing.{Listing}
 use Rattle.table_rule.specs.Changes.{are_kept}
 use Rattle.table_rule.specs.Closes as closes

@@ -7,8 +7,8 @@ use Rattle.std.specs.declared.alloc.AllocError.{AllocError}
 use Rattle.list_words.specs.Lists.{SameItems}
 use Rattle.turn_table.specs.Passes as words
 use Rattle.flat_list.specs.declared.header.Header.{Header}
-use Rattle.shared_ops.specs.declared.tables.Tables.{Tables}
-use Rattle.shared_ops.specs.declared.tables.Worker.{Worker}
+use Rattle.sock_ops.specs.declared.tables.Tables.{Tables}
+use Rattle.sock_ops.specs.declared.tables.Worker.{Worker}
 use Rattle.tickets.specs.declared.pass.Tickets.{Tickets}
 use Rattle.race_threads.specs.declared.jobs.Job.{Job}
 use Rattle.race_threads.specs.declared.jobs.Outcome.{Outcome}

@@ -29,7 +29,7 @@ use Rattle.table_rule.specs.declared.view.Receipt.{Receipt as Search}
 use Rattle.table_rule.specs.declared.view.Whole.{Whole}
 use Rattle.table_rule.specs.declared.view.View.{View}
 use Rattle.reuseport_group.specs.declared.pass.GroupPasses.{GroupPasses}
-use Rattle.shared_demux.specs.Concludes.{ByOrder}
+use Rattle.demux.specs.Concludes.{ByOrder}
 use Rattle.race_book.specs.Among.{Among}
 use Rattle.race_book.specs.Explained.{NamesItsBucket}
 use Rattle.race_record.specs.Deeds.{Deed}

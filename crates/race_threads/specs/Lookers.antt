@@ -27,7 +27,7 @@ use Rattle.race_book.specs.Explained.{NamesItsBucket}
 use Rattle.race_record.specs.declared.record.Looked.{Looked}
 use Rattle.race_record.specs.declared.record.Looked.TheVariants as looks
 use Rattle.race_record.specs.Lawful.{Follows, looked_at}
-use Rattle.shared_demux.specs.Concludes.{Concluded}
+use Rattle.demux.specs.Concludes.{Concluded}
 use Rattle.race_threads.specs.declared.looker.Look.{Look}
 use Rattle.race_threads.specs.Joins.{Part}
 use Rattle.race_threads.specs.Races.{HasOnlyLooked, Looks}

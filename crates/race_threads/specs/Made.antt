@@ -15,7 +15,7 @@ use Rattle.table_rule.specs.Sole.{AllSettled}
 use Rattle.table_rule.specs.declared.view.Layout.{Layout}
 use Rattle.table_rule.specs.declared.view.Sight.{Sight}
 use Rattle.table_rule.specs.declared.view.Seen.{Seen}
-use Rattle.shared_slots.specs.Claims.{Read, slot_in, owned_in, held_in, Between}
+use Rattle.sock_slots.specs.Claims.{Read, slot_in, owned_in, held_in, Between}
 use Rattle.nulls_chain.specs.Changes.{Sees}
 use Rattle.shared_sockets.specs.Comings.{name_of}
 use Rattle.shared_sockets.specs.Rows.{row_of, HasCard}

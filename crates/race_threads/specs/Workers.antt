@@ -7,9 +7,9 @@ use Rattle.reuseport_group.specs.Passes as lists
 use Rattle.table_rule.specs.Passes as chain_words
 use Rattle.turn_table.specs.Passes as words
 use Rattle.turn_table.specs.Passes.{IsPassOf, IsFree, known}
-use Rattle.shared_ops.specs.declared.tables.Tables.{Tables}
-use Rattle.shared_ops.specs.declared.tables.Worker.{Worker}
-use Rattle.shared_ops.specs.Stands.{HasGroups, IsReady, buckets_of, turned, chained}
+use Rattle.sock_ops.specs.declared.tables.Tables.{Tables}
+use Rattle.sock_ops.specs.declared.tables.Worker.{Worker}
+use Rattle.sock_ops.specs.Stands.{HasGroups, IsReady, buckets_of, turned, chained}
 use Rattle.race_threads.specs.Joins.{Part, IsBlank}
 use Rattle.race_threads.specs.Sections.{HasNothing, layout_in}
 

@@ -14,7 +14,7 @@ use bind_buckets::{Bucket, turning};
 use capture_reader::Capture;
 use chain_deeds::ChainPass;
 use flat_list::Script;
-use shared_ops::{Tables, Worker};
+use sock_ops::{Tables, Worker};
 use std::alloc::{AllocError, Global};
 use tickets::{TicketPass, Tickets};
 

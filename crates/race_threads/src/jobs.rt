@@ -10,7 +10,7 @@ ghost use Rattle.race_threads.specs.Workers.{AreTables, IsAtRest, IsFirst, part_
 use crate::looker::Look;
 use crate::worker::{join, split};
 use flat_list::Reply;
-use shared_ops::{Tables, Worker};
+use sock_ops::{Tables, Worker};
 use socket_list::Listing;
 use std::alloc::{AllocError, Global};
 use tickets::{TicketPass, Tickets};

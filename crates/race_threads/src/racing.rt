@@ -13,7 +13,7 @@ use capture_reader::Capture;
 use flat_list::Script;
 use inet_io::Gate;
 use label_index::LabelSeed;
-use shared_ops::{Tables, Worker};
+use sock_ops::{Tables, Worker};
 use std::alloc::{AllocError, Global};
 use std::sync::Wait;
 use std::thread::Threads;

@@ -12,7 +12,7 @@ use crate::looker::{Look, look_drawn};
 use capture_reader::Item;
 use inet_io::Gate;
 use null_reader::Still;
-use shared_ops::{Tables, Worker};
+use sock_ops::{Tables, Worker};
 use std::alloc::{AllocError, Global};
 use tickets::{TicketPass, Tickets};
 

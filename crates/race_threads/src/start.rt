@@ -8,7 +8,7 @@ use bind_buckets::{Sharing, turning};
 use chain_deeds::ChainTable;
 use flat_list::Script;
 use reuseport_group::Groups;
-use shared_ops::{Tables, Worker};
+use sock_ops::{Tables, Worker};
 use std::alloc::{AllocError, Global};
 
 /// Empty tables by the script's header, and their first worker.

@@ -15,7 +15,7 @@ use crossbeam_utils::CachePadded;
 use flat_list::Script;
 use inet_io::Gate;
 use label_index::LabelSeed;
-use shared_ops::Tables;
+use sock_ops::Tables;
 use std::alloc::{AllocError, Global};
 use std::sync::Wait;
 use tickets::Tickets;

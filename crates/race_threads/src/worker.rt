@@ -10,7 +10,7 @@ ghost use Rattle.turn_table.specs.Passes as words;
 ghost use Rattle.turn_table.specs.Views.{joined};
 
 use bind_buckets::turning;
-use shared_ops::{Tables, Worker};
+use sock_ops::{Tables, Worker};
 use std::alloc::{AllocError, Global};
 
 /// Splits a worker off the first one, as the next caller.

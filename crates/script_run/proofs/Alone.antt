@@ -29,10 +29,10 @@ use Rattle.chain_deeds.specs.Made.{AllLeave, Made}
 use Rattle.chain_deeds.specs.Sides.{Side, chains_by}
 use Rattle.section_machine.specs.Sections.{Did, Kept}
 use Rattle.section_machine.specs.Standing.{IsSection}
-use Rattle.shared_ops.specs.declared.tables.Tables.{Tables}
-use Rattle.shared_ops.specs.declared.tables.Worker.{Worker}
-use Rattle.shared_ops.specs.Groups.{KeepsLists, ListsArePublished}
-use Rattle.shared_ops.specs.Stands.{IsReady, buckets_of, chained, turned}
+use Rattle.sock_ops.specs.declared.tables.Tables.{Tables}
+use Rattle.sock_ops.specs.declared.tables.Worker.{Worker}
+use Rattle.sock_ops.specs.Groups.{KeepsLists, ListsArePublished}
+use Rattle.sock_ops.specs.Stands.{IsReady, buckets_of, chained, turned}
 use Rattle.script_run.specs.Sole.{IsSole, tables_of}
 use Rattle.script_run.specs.Steps.{IsRunning, RefinesEach}
 

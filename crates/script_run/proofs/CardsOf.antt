@@ -18,7 +18,7 @@ use Rattle.flat_list.specs.Groups.{Group, has_member, bucket_of}
 use Rattle.flat_list.specs.Look.{card_of, cards_of, extra_as, group_of}
 use Rattle.flat_list.specs.Sockets.{kind_of}
 use Rattle.flat_list.specs.Sound.{IsSound, NamesDiffer, IsInOneGroup, IsGroupOf, is_sharing}
-use Rattle.shared_demux.specs.Chosen.{group_as, group_in}
+use Rattle.demux.specs.Chosen.{group_as, group_in}
 use Rattle.table_model.proofs.parts.GroupPlaces.{count_none, one_only}
 use Rattle.flat_list.proofs.CardsOf.{OfSocket, of_socket, says}
 use Rattle.list_words.proofs.Items.{In, each_in, pairs_in, finds, finds_none, found_in}

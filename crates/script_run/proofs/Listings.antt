@@ -20,9 +20,9 @@ use Rattle.flat_list.specs.Sound.{IsSound, NamesDiffer}
 use Rattle.flat_list.specs.declared.command.Command.TheVariants as commands
 use Rattle.shared_dump.specs.Dumps.{cards_from}
 use Rattle.shared_dump.specs.Rows as rows
-use Rattle.shared_ops.specs.Stands.{chained}
-use Rattle.shared_ops.specs.declared.tables.Tables.{Tables}
-use Rattle.shared_ops.specs.declared.tables.Worker.{Worker}
+use Rattle.sock_ops.specs.Stands.{chained}
+use Rattle.sock_ops.specs.declared.tables.Tables.{Tables}
+use Rattle.sock_ops.specs.declared.tables.Worker.{Worker}
 use Rattle.shared_sockets.specs.Alone.{chains_of}
 use Rattle.shared_sockets.specs.Rows.{row_of}
 use Rattle.table_model.specs.Means.{ChainsMean, weigh_cards}

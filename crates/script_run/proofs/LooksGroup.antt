@@ -36,7 +36,7 @@ use Rattle.table_model.proofs.parts.Groups.{read_map}
 use Rattle.list_words.proofs.Items.{In, each_in, in_each, pairs_in, found_in, finds, any_in, place_in}
 use Rattle.chain_book.proofs.HashFits.{hash_fits, scale_below}
 use Rattle.flat_list.proofs.CardsOf.{OfSocket, of_socket, listening_kind, AtOneEnd, by_mates, grouped_shares}
-use Rattle.shared_ops.specs.Groups.{shown, words_in}
+use Rattle.sock_ops.specs.Groups.{shown, words_in}
 use Rattle.script_run.proofs.CardsOf.{cards, HasNumber, same_name}
 use Rattle.script_run.proofs.CardsBest.{named_group}
 use Rattle.script_run.proofs.CardsStand.{in_row, stands_of}

@@ -31,9 +31,9 @@ use Rattle.shared_sockets.specs.Alone.{chains_of}
 use Rattle.section_machine.specs.Carried.{HasEnough, Spends}
 use Rattle.section_machine.specs.Sections.{Kept}
 use Rattle.section_machine.specs.Standing.{IsOpen, IsSection, Roll, StandsIn, roll_of}
-use Rattle.shared_ops.specs.declared.tables.Tables.{Tables}
-use Rattle.shared_ops.specs.declared.tables.Worker.{Worker}
-use Rattle.shared_ops.specs.Stands.{IsHashed, IsReady, MayDraw, buckets_of, chained, place_in, turned}
+use Rattle.sock_ops.specs.declared.tables.Tables.{Tables}
+use Rattle.sock_ops.specs.declared.tables.Worker.{Worker}
+use Rattle.sock_ops.specs.Stands.{IsHashed, IsReady, MayDraw, buckets_of, chained, place_in, turned}
 use Rattle.script_run.specs.Looks.{AnswersItem, Finds, Looked}
 use Rattle.script_run.specs.Sole.{IsSole, tables_of}
 use Rattle.script_run.specs.Steps.{AnswersAll, IsRunning, RefinesEach, RunsEach}

@@ -11,9 +11,9 @@ use Rattle.sock_card.specs.declared.card.Card.{Card}
 use Rattle.sock_card.specs.declared.card.Packet.{Packet}
 use Rattle.sock_card.specs.Words.{packed, unpacked}
 use Rattle.sock_script.specs.Output.{item_reply}
-use Rattle.shared_ops.specs.declared.tables.Tables.{Tables as Shared}
-use Rattle.shared_ops.specs.declared.tables.Worker.{Worker}
-use Rattle.shared_ops.specs.Stands.{chained}
+use Rattle.sock_ops.specs.declared.tables.Tables.{Tables as Shared}
+use Rattle.sock_ops.specs.declared.tables.Worker.{Worker}
+use Rattle.sock_ops.specs.Stands.{chained}
 use Rattle.table_model.specs.Means.{TablesMean, IsShape}
 use Rattle.table_model.specs.Tables.{Tables}
 

@@ -3,10 +3,10 @@
 use Rattle.bind_buckets.specs.Turned.{IsAlone}
 use Rattle.chain_deeds.specs.Sides.{HoldsNothing, chains_by}
 use Rattle.reuseport_group.specs.Passes as lists
-use Rattle.shared_ops.specs.declared.tables.Tables.{Tables}
-use Rattle.shared_ops.specs.declared.tables.Worker.{Worker}
-use Rattle.shared_ops.specs.Groups.{ListsArePublished}
-use Rattle.shared_ops.specs.Stands.{IsReady, buckets_of, turned, chained}
+use Rattle.sock_ops.specs.declared.tables.Tables.{Tables}
+use Rattle.sock_ops.specs.declared.tables.Worker.{Worker}
+use Rattle.sock_ops.specs.Groups.{ListsArePublished}
+use Rattle.sock_ops.specs.Stands.{IsReady, buckets_of, turned, chained}
 use Rattle.table_model.specs.Goes.{tables_by}
 use Rattle.table_model.specs.Tables as plain
 use Rattle.table_rule.specs.Passes as chain_words

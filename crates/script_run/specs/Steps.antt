@@ -14,9 +14,9 @@ use Rattle.flat_list.specs.Step.{step}
 use Rattle.section_machine.specs.Sections.{Kept}
 use Rattle.section_machine.specs.Standing.{IsSection, IsUnspoken}
 use Rattle.socket_list.specs.Listing.{Listing}
-use Rattle.shared_ops.specs.declared.tables.Tables.{Tables as Shared}
-use Rattle.shared_ops.specs.declared.tables.Worker.{Worker}
-use Rattle.shared_ops.specs.Stands.{turned}
+use Rattle.sock_ops.specs.declared.tables.Tables.{Tables as Shared}
+use Rattle.sock_ops.specs.declared.tables.Worker.{Worker}
+use Rattle.sock_ops.specs.Stands.{turned}
 use Rattle.sock_script.specs.Output.{Replies, listings_at}
 use Rattle.sock_script.specs.Steps.{issue, item_shown, RunsCommand, RunsSection}
 use Rattle.table_model.specs.Commands.{answers}

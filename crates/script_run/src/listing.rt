@@ -7,7 +7,7 @@ ghost use Rattle.script_run.specs.Steps.{ListsFor};
 
 use flat_list::KeptCommand;
 use flat_list::kept::Form;
-use shared_ops::{Tables, Worker};
+use sock_ops::{Tables, Worker};
 use socket_list::Listing;
 use std::alloc::{AllocError, Global};
 use std::sync::Wait;

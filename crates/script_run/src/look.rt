@@ -6,10 +6,10 @@ ghost use Rattle.script_run.specs.Looks.{Finds, IsTold, Looked};
 ghost use Rattle.script_run.specs.Sole.{IsSole, tables_of};
 
 use chain_book::PacketAnswer;
+use demux::{Lookups, look_packet};
 use null_reader::Still;
-use shared_demux::{Lookups, look_packet};
-use shared_ops::{Tables, Worker};
 use sock_card::{Card, Packet, pack};
+use sock_ops::{Tables, Worker};
 
 /// The card of an answer, if it found one.
 fn card_of(answer: PacketAnswer) -> Option<Card>

@@ -22,7 +22,7 @@ use flat_list::owned::packet_of;
 use flat_list::{Header, KeptCommand, Reply, Script};
 use label_index::LabelSeed;
 use section_machine::{Machine, laws};
-use shared_ops::{Tables, Worker};
+use sock_ops::{Tables, Worker};
 use sock_script::label::gives_label;
 use sock_script::{Replies, Shown};
 use std::alloc::{AllocError, Global};

@@ -12,7 +12,7 @@ use bind_buckets::{Sharing, turning};
 use chain_deeds::ChainTable;
 use flat_list::Header;
 use reuseport_group::Groups;
-use shared_ops::{Tables, Worker};
+use sock_ops::{Tables, Worker};
 use std::alloc::{AllocError, Global};
 
 /// Empty tables of that header, and the worker that is alone at them. Their chains keep no changes.

@@ -29,9 +29,9 @@ use Rattle.race_record.specs.Deeds.{Deed, entered, inserted, added, left, reaped
 use Rattle.race_record.specs.Goes.{outcome_of, was_there}
 use Rattle.bind_buckets.specs.Turned.{View}
 use Rattle.chain_deeds.specs.Sides.{Side}
-use Rattle.shared_ops.specs.Goes.{Went}
-use Rattle.shared_ops.specs.Leads.{Leads}
-use Rattle.shared_ops.proofs.AcceptGoes.{accepts}
+use Rattle.sock_ops.specs.Goes.{Went}
+use Rattle.sock_ops.specs.Leads.{Leads}
+use Rattle.sock_ops.proofs.AcceptGoes.{accepts}
 
 -- what a plan may ask of bind buckets, what it may take out of chains, and what it may come to
 abbrev pub AllAsk : {R : Type 0} → (Request → Type 0) → (Card → Type 0) → (R → Type 0) → Asking R → Type 0

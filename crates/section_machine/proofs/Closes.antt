@@ -12,9 +12,9 @@ use Rattle.table_model.specs.Asking.{Asking, ends}
 use Rattle.table_model.specs.Own.{Mine}
 use Rattle.table_model.specs.Operations as plans
 use Rattle.table_model.specs.Operations.{gone, waiting, no_slot}
-use Rattle.shared_ops.specs.Closes.{ClosedBy}
-use Rattle.shared_ops.specs.Goes as ops
-use Rattle.shared_ops.specs.Goes.{Went, IsUndecided}
+use Rattle.sock_ops.specs.Closes.{ClosedBy}
+use Rattle.sock_ops.specs.Goes as ops
+use Rattle.sock_ops.specs.Goes.{Went, IsUndecided}
 use Rattle.section_machine.specs.Carried.{is_left_off, waits_by}
 use Rattle.section_machine.specs.Waits.{AreBefore, AreInOrder, HasRoomFor}
 use Rattle.section_machine.proofs.Asked.{asked_so, of_close, of_close_full, IsEnd, HasName, WaitsSince, WaitsFull}

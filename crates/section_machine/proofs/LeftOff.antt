@@ -23,15 +23,15 @@ use Rattle.table_model.specs.Own.{Own, Mine, Offsets, open_socket, open_named as
 use Rattle.table_model.specs.Operations as plans
 use Rattle.table_model.specs.Operations.{Did, refused, kept_waits}
 use Rattle.table_model.specs.Commands.{Replied, answers, plan, bind_command, bind_reply, listen_command, connect_command, connect_reply, connect_rule, accept_command, syn_command, accept_reply, ack_command, ack_reply, close_command, close_reply, drop_command, after_search, searches_port, is_unbound, is_some}
-use Rattle.shared_ops.specs.declared.sock.Sock.{Sock}
-use Rattle.shared_ops.specs.declared.tables.Tables.{Tables}
-use Rattle.shared_ops.specs.declared.tables.Worker.{Worker}
-use Rattle.shared_ops.specs.Goes as ops
-use Rattle.shared_ops.specs.Goes.{Carried, CarriedOut, IsUndecided}
-use Rattle.shared_ops.specs.Leads.{Leads}
-use Rattle.shared_ops.specs.Socks.{mine_of}
-use Rattle.shared_ops.specs.Stands.{buckets_of, turned, chained}
-use Rattle.shared_ops.proofs.Goes.{carried_out, does_none}
+use Rattle.sock_ops.specs.declared.sock.Sock.{Sock}
+use Rattle.sock_ops.specs.declared.tables.Tables.{Tables}
+use Rattle.sock_ops.specs.declared.tables.Worker.{Worker}
+use Rattle.sock_ops.specs.Goes as ops
+use Rattle.sock_ops.specs.Goes.{Carried, CarriedOut, IsUndecided}
+use Rattle.sock_ops.specs.Leads.{Leads}
+use Rattle.sock_ops.specs.Socks.{mine_of}
+use Rattle.sock_ops.specs.Stands.{buckets_of, turned, chained}
+use Rattle.sock_ops.proofs.Goes.{carried_out, does_none}
 use Rattle.section_machine.specs.LeftOff.{IsLeftOff, Leaves, LacksLabel, GivesLabel, GivesBack, StopsReaping, speaker, socket_name, is_of_socket, IsUntouched}
 use Rattle.section_machine.specs.Places.{Labelled, Takes, own_of, with_given, with_place, named_by}
 use Rattle.section_machine.specs.Searches as searches

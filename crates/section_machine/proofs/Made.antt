@@ -11,10 +11,10 @@ use Rattle.table_model.specs.Asking.{ends}
 use Rattle.table_model.specs.Own.{Own, Mine, Offsets, with_label, next_name}
 use Rattle.table_model.specs.Operations.{plain}
 use Rattle.table_model.specs.Commands.{answers, socket_command}
-use Rattle.shared_ops.specs.declared.tables.Tables.{Tables}
-use Rattle.shared_ops.specs.declared.tables.Worker.{Worker}
-use Rattle.shared_ops.specs.Stands.{turned, chained}
-use Rattle.shared_ops.proofs.Goes.{does_none}
+use Rattle.sock_ops.specs.declared.tables.Tables.{Tables}
+use Rattle.sock_ops.specs.declared.tables.Worker.{Worker}
+use Rattle.sock_ops.specs.Stands.{turned, chained}
+use Rattle.sock_ops.proofs.Goes.{does_none}
 use Rattle.section_machine.specs.Carried.{Carries}
 use Rattle.section_machine.specs.Places.{Labelled, with_given, with_place, own_of}
 use Rattle.section_machine.specs.Sections.{Kept, kept}

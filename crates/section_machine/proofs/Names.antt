@@ -18,8 +18,8 @@ use Rattle.bind_buckets.specs.Followed.{told, told_from, speaks_of, is_mine, is_
 use Rattle.bind_buckets.specs.OwnerStep.{has_name}
 use Rattle.bind_buckets.specs.OwnTold.{KeepsOpen, removes_waiting, is_told, own_given, told_next}
 use Rattle.bind_buckets.specs.Turned.{View, Gave}
-use Rattle.shared_ops.specs.Stands.{Knows}
-use Rattle.shared_ops.proofs.Knows.{told_by}
+use Rattle.sock_ops.specs.Stands.{Knows}
+use Rattle.sock_ops.proofs.Knows.{told_by}
 use Rattle.bind_buckets.proofs.Filtered.{find_filtered}
 use Rattle.bind_buckets.proofs.ToldByOwn.{named_mine, told_seen}
 use Rattle.bind_buckets.proofs.OwnTold.{told_push}

@@ -14,9 +14,9 @@ use Rattle.bind_buckets.proofs.OwnTold.{with_name}
 use Rattle.bind_buckets.specs.Turned.{View, Gave}
 use Rattle.chain_deeds.specs.Sides.{Side}
 use Rattle.table_model.specs.Own.{Mine}
-use Rattle.shared_ops.specs.declared.tables.Tables.{Tables}
-use Rattle.shared_ops.specs.There.{IsNew}
-use Rattle.shared_ops.proofs.Knows.{new_away}
+use Rattle.sock_ops.specs.declared.tables.Tables.{Tables}
+use Rattle.sock_ops.specs.There.{IsNew}
+use Rattle.sock_ops.proofs.Knows.{new_away}
 use Rattle.section_machine.specs.Standing.{Roll, IsGiven, IsUngiven, Tells, IsApart, Family, StandsIn, IsOpen, IsUnspoken}
 use Rattle.section_machine.proofs.Names.{Misses, AllKeep, each_given}
 use Rattle.section_machine.proofs.Asked.{IsBirth}

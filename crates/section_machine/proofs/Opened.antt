@@ -10,8 +10,8 @@ use Rattle.std.specs.Prelude.{MatchOption, option_and_then}
 use Rattle.open_places.specs.Cells.{AreEmptyFrom, IsNextFull}
 use Rattle.flat_list.specs.Sections.{name_at}
 use Rattle.table_model.specs.Own.{Mine, Offsets, open_named}
-use Rattle.shared_ops.specs.declared.sock.Sock.{Sock}
-use Rattle.shared_ops.specs.Socks.{mine_of}
+use Rattle.sock_ops.specs.declared.sock.Sock.{Sock}
+use Rattle.sock_ops.specs.Socks.{mine_of}
 use Rattle.section_machine.specs.Opened.{NoneAbove, IsNextOpen}
 use Rattle.section_machine.specs.Places.{Labelled, HaveNames, KeepsLabels, at_place, mines, own_of, those}
 use Rattle.section_machine.proofs.Places.{named_there, none_before}

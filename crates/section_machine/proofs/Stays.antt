@@ -23,10 +23,10 @@ use Rattle.chain_deeds.specs.Sides.{Side}
 use Rattle.chain_deeds.specs.Made.{Does, AllLeave, Spares}
 use Rattle.race_record.specs.Deeds.{Deed, entered, inserted, added, left, reaped}
 use Rattle.table_model.specs.Own.{Mine, is_named, replaced, card_of}
-use Rattle.shared_ops.specs.declared.tables.Tables.{Tables}
-use Rattle.shared_ops.specs.Goes.{GivesUp}
-use Rattle.shared_ops.specs.Stands.{Knows, IsOwner, IsHashed, place_in, buckets_of}
-use Rattle.shared_ops.proofs.Knows.{stands_of, known_of}
+use Rattle.sock_ops.specs.declared.tables.Tables.{Tables}
+use Rattle.sock_ops.specs.Goes.{GivesUp}
+use Rattle.sock_ops.specs.Stands.{Knows, IsOwner, IsHashed, place_in, buckets_of}
+use Rattle.sock_ops.proofs.Knows.{stands_of, known_of}
 use Rattle.section_machine.specs.Standing.{Roll, IsGiven, IsUngiven, Tells, IsApart, Family, StandsIn, IsOpen, IsUnspoken}
 use Rattle.section_machine.proofs.Names.{Misses, AllKeep, AllMiss, known_still}
 use Rattle.section_machine.proofs.Asked.{IsAbout, IsBirth, IsEnd, IsPast, HasName, OnLeft}

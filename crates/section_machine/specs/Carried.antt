@@ -17,10 +17,10 @@ use Rattle.table_model.specs.Asking.{Asking, ends}
 use Rattle.table_model.specs.Own.{Mine}
 use Rattle.table_model.specs.Operations as plans
 use Rattle.table_model.specs.Commands.{Replied, answers}
-use Rattle.shared_ops.specs.declared.tables.Tables.{Tables}
-use Rattle.shared_ops.specs.declared.tables.Worker.{Worker}
-use Rattle.shared_ops.specs.Goes.{Went}
-use Rattle.shared_ops.specs.Stands.{MayEnter, MayDraw, turned, chained}
+use Rattle.sock_ops.specs.declared.tables.Tables.{Tables}
+use Rattle.sock_ops.specs.declared.tables.Worker.{Worker}
+use Rattle.sock_ops.specs.Goes.{Went}
+use Rattle.sock_ops.specs.Stands.{MayEnter, MayDraw, turned, chained}
 use Rattle.section_machine.specs.Sections.{Kept}
 use Rattle.section_machine.specs.Standing.{IsSection}
 

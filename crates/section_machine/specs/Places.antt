@@ -7,8 +7,8 @@ use Rattle.std.specs.Option.{option_map}
 use Rattle.flat_list.specs.Sections.{name_at}
 use Rattle.label_index.specs.Places.{place_in}
 use Rattle.table_model.specs.Own.{Own, Mine, Offsets}
-use Rattle.shared_ops.specs.declared.sock.Sock.{Sock}
-use Rattle.shared_ops.specs.Socks.{mine_of, FitsState}
+use Rattle.sock_ops.specs.declared.sock.Sock.{Sock}
+use Rattle.sock_ops.specs.Socks.{mine_of, FitsState}
 
 -- the sockets of such places
 abbrev pub mines : List (Option Sock) → List (Option Mine)

@@ -7,8 +7,8 @@ ghost use Rattle.table_model.specs.Own as own;
 ghost use Rattle.table_model.specs.Own.{open_socket};
 ghost use Rattle.table_model.specs.Commands as commands;
 ghost use Rattle.table_model.specs.declared.operation.Cause.TheVariants as causes;
-ghost use Rattle.shared_ops.specs.Groups.{KeepsLists};
-ghost use Rattle.shared_ops.specs.Stands.{IsReady};
+ghost use Rattle.sock_ops.specs.Groups.{KeepsLists};
+ghost use Rattle.sock_ops.specs.Stands.{IsReady};
 ghost use Rattle.section_machine.specs.Carried.{Carries, HasEnough, Spends};
 ghost use Rattle.section_machine.specs.LeftOff.{IsLeftOff};
 ghost use Rattle.section_machine.specs.Sections.{GivesLabels, KeepsHeader};
@@ -18,7 +18,7 @@ use crate::machine::{Machine, refusal};
 use crate::meeting::connect_error;
 use flat_list::{End, Label, Reply};
 use patience::Patience;
-use shared_ops::{Cause, Tables, Worker, ack, syn};
+use sock_ops::{Cause, Tables, Worker, ack, syn};
 
 impl Machine {
     /// Begins a handshake with the listener that a label names, by a request under a label of its own, which is given

@@ -10,12 +10,12 @@ ghost use Rattle.table_model.specs.Own.{is_named};
 ghost use Rattle.open_places.specs.Cells.{AreEmptyFrom, IsNextFull};
 ghost use Rattle.section_machine.specs.Places as spec;
 ghost use Rattle.section_machine.specs.Places.{HaveNames, IsKept, IsUnnamed, KeepsLabels, LetsGo, Takes, at_place, those};
-ghost use Rattle.shared_ops.specs.Socks.{FitsState, mine_of};
+ghost use Rattle.sock_ops.specs.Socks.{FitsState, mine_of};
 
 use flat_list::Label;
 use label_index::{LabelIndex, LabelSeed};
 use open_places::OpenPlaces;
-use shared_ops::Sock;
+use sock_ops::Sock;
 use std::alloc::{AllocError, Global};
 use std::marker::Model;
 

@@ -8,9 +8,9 @@ ghost use Rattle.table_model.specs.Own.{open_socket};
 ghost use Rattle.table_model.specs.Commands as commands;
 ghost use Rattle.table_model.specs.declared.operation.Cause.TheVariants as causes;
 ghost use Rattle.table_model.specs.Operations as plans;
-ghost use Rattle.shared_ops.specs.Groups.{KeepsLists};
-ghost use Rattle.shared_ops.specs.Socks.{mine_of};
-ghost use Rattle.shared_ops.specs.Stands.{IsReady};
+ghost use Rattle.sock_ops.specs.Groups.{KeepsLists};
+ghost use Rattle.sock_ops.specs.Socks.{mine_of};
+ghost use Rattle.sock_ops.specs.Stands.{IsReady};
 ghost use Rattle.section_machine.specs.Carried.{Carries, HasEnough, Spends};
 ghost use Rattle.section_machine.specs.LeftOff.{IsLeftOff};
 ghost use Rattle.section_machine.specs.Sections.{GivesLabels, KeepsHeader};
@@ -20,7 +20,7 @@ use crate::machine::{Machine, is_unbound, refusal};
 use chain_book::Replace;
 use flat_list::{End, First, Header, Label, Reply, owned};
 use patience::Patience;
-use shared_ops::{Cause, OpEnd, Sock, Tables, Worker, accept, connect};
+use sock_ops::{Cause, OpEnd, Sock, Tables, Worker, accept, connect};
 
 /// How the refusal of `connect`, `accept`, `syn` or `ack` is called.
 pub(crate) fn connect_error(end: OpEnd) -> Reply

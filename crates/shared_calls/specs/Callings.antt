@@ -11,9 +11,9 @@ use Rattle.flat_list.specs.declared.command.Command.TheVariants as commands
 use Rattle.flat_list.specs.declared.command.Reply.{Reply}
 use Rattle.flat_calls.specs.declared.outcome.Outcome.{Outcome}
 use Rattle.flat_calls.specs.declared.outcome.Outcome.TheVariants as outcomes
-use Rattle.shared_ops.specs.declared.tables.Tables.{Tables}
-use Rattle.shared_ops.specs.declared.tables.Worker.{Worker}
-use Rattle.shared_ops.specs.Stands.{MayEnter, turned, chained}
+use Rattle.sock_ops.specs.declared.tables.Tables.{Tables}
+use Rattle.sock_ops.specs.declared.tables.Worker.{Worker}
+use Rattle.sock_ops.specs.Stands.{MayEnter, turned, chained}
 use Rattle.table_rule.specs.Passes.{known, drawn_by, seen_by}
 use Rattle.section_machine.specs.LeftOff.{IsLeftOff}
 use Rattle.section_machine.specs.Sections.{Did, Kept, given_by}

@@ -7,9 +7,9 @@ use Rattle.chain_deeds.specs.Sides.{IsResting, HoldsNothing}
 use Rattle.chain_deeds.specs.declared.table.ChainPass.{ChainPass}
 use Rattle.reuseport_group.specs.declared.pass.GroupPasses.{GroupPasses}
 use Rattle.reuseport_group.specs.Passes as lists
-use Rattle.shared_demux.specs.Concludes.{ByOrder, Concluded, whole_to}
-use Rattle.shared_ops.specs.Stands.{HasGroups}
-use Rattle.shared_ops.specs.declared.tables.Tables.{Tables}
+use Rattle.demux.specs.Concludes.{ByOrder, Concluded, whole_to}
+use Rattle.sock_ops.specs.Stands.{HasGroups}
+use Rattle.sock_ops.specs.declared.tables.Tables.{Tables}
 use Rattle.table_rule.specs.Alone.{IsKnownWhole}
 use Rattle.table_rule.specs.Calls.{layout_of, me, view}
 use Rattle.table_rule.specs.Passes.{known}

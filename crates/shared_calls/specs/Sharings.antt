@@ -7,9 +7,9 @@ use Rattle.flat_list.specs.declared.header.Header.{Header}
 use Rattle.reuseport_group.specs.Passes as lists
 use Rattle.section_machine.specs.Sections.{kept}
 use Rattle.section_machine.specs.Standing.{AreOf}
-use Rattle.shared_ops.specs.Stands.{HasGroups, turned}
-use Rattle.shared_ops.specs.declared.tables.Tables.{Tables}
-use Rattle.shared_ops.specs.declared.tables.Worker.{Worker}
+use Rattle.sock_ops.specs.Stands.{HasGroups, turned}
+use Rattle.sock_ops.specs.declared.tables.Tables.{Tables}
+use Rattle.sock_ops.specs.declared.tables.Worker.{Worker}
 use Rattle.table_model.specs.Own.{new_own}
 use Rattle.table_rule.specs.Passes.{known}
 use Rattle.table_rule.specs.Rule.{drawn}

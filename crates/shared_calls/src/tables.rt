@@ -11,7 +11,7 @@ use chain_deeds::ChainTable;
 use flat_list::Header;
 use reuseport_group::Groups;
 use section_machine::{Machine, laws};
-use shared_ops::{Tables, Worker};
+use sock_ops::{Tables, Worker};
 use std::alloc::{AllocError, Global};
 use std::marker::Model;
 use std::sync::Arc;

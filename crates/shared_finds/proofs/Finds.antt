@@ -16,7 +16,7 @@ use Rattle.table_rule.specs.declared.view.Stop.{Stop}
 use Rattle.table_rule.specs.declared.view.Layout.{Layout}
 use Rattle.table_rule.specs.declared.view.Reader.{Reader}
 use Rattle.table_rule.specs.declared.view.Receipt.{Receipt}
-use Rattle.shared_slots.specs.declared.holds.Held.{Held}
+use Rattle.sock_slots.specs.declared.holds.Held.{Held}
 use Rattle.null_reader.specs.Looked.{LookedAs, looked_view, stop_of, IsWhole, SoleAs, words_end}
 use Rattle.null_reader.specs.declared.answers.PassEnd.{PassEnd}
 use Rattle.null_reader.specs.declared.answers.LookEnd.{LookEnd}

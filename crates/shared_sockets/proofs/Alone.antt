@@ -17,7 +17,7 @@ use Rattle.table_rule.specs.declared.view.Seen.{Seen}
 use Rattle.table_rule.specs.declared.view.Change.{Change}
 use Rattle.table_rule.proofs.CardSteps.{at_end}
 use Rattle.nulls_chain.specs.Changes.{Adds, Same}
-use Rattle.shared_slots.specs.declared.fresh.Full.{Full}
+use Rattle.sock_slots.specs.declared.fresh.Full.{Full}
 use Rattle.nulls_chain.specs.declared.keeping.Place.{Place}
 use Rattle.shared_sockets.specs.Rows.{row_of, card_words}
 use Rattle.shared_sockets.specs.Surveys.{keeper_in, waiting_in}

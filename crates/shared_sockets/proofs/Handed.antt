@@ -18,7 +18,7 @@ use Rattle.table_rule.specs.Words.{words_of}
 use Rattle.table_rule.specs.Calls.{seen_of, IsIdle, MayUnlock}
 use Rattle.table_rule.specs.declared.view.View.{View}
 use Rattle.table_rule.specs.declared.view.BookView.{BookView}
-use Rattle.shared_slots.specs.declared.fresh.Full.{Full}
+use Rattle.sock_slots.specs.declared.fresh.Full.{Full}
 use Rattle.table_rule.specs.declared.view.Layout.{Layout}
 use Rattle.table_rule.specs.declared.view.Seen.{Seen}
 use Rattle.table_rule.proofs.Lists.{times-else}

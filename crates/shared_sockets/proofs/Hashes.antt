@@ -12,8 +12,8 @@ use Rattle.table_rule.specs.declared.view.View.{View}
 use Rattle.table_rule.specs.declared.view.ChainView.{ChainView}
 use Rattle.table_rule.specs.declared.view.Layout.{Layout}
 use Rattle.table_rule.specs.declared.view.Seen.{Seen}
-use Rattle.shared_slots.specs.Claims.{IsFull}
-use Rattle.shared_slots.specs.declared.fresh.Full.{Full}
+use Rattle.sock_slots.specs.Claims.{IsFull}
+use Rattle.sock_slots.specs.declared.fresh.Full.{Full}
 use Rattle.bucket_locks.specs.Locks.{WalkKnown}
 use Rattle.nulls_chain.specs.Changes.{Adds, Rest, IsAlone, IsPlaced, PlacesStay, hashed, Sees}
 use Rattle.nulls_chain.specs.declared.keeping.Place.{Place}

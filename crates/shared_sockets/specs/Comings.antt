@@ -17,8 +17,8 @@ use Rattle.table_rule.specs.Plays.{without, beginning, dropping_beginning, locki
 use Rattle.table_rule.specs.declared.view.View.{View}
 use Rattle.table_rule.specs.declared.view.Layout.{Layout}
 use Rattle.table_rule.specs.declared.view.Seen.{Seen}
-use Rattle.shared_slots.specs.declared.fresh.Full.{Full}
-use Rattle.shared_slots.specs.Claims.{IsFull}
+use Rattle.sock_slots.specs.declared.fresh.Full.{Full}
+use Rattle.sock_slots.specs.Claims.{IsFull}
 use Rattle.nulls_chain.specs.Changes as changes
 use Rattle.nulls_chain.specs.Changes.{Rest, Sees}
 use Rattle.nulls_chain.specs.declared.keeping.Place.{Place}

@@ -11,7 +11,7 @@ use Rattle.table_rule.specs.Plays.{locking, unlocking}
 use Rattle.table_rule.specs.declared.view.View.{View}
 use Rattle.table_rule.specs.declared.view.Layout.{Layout}
 use Rattle.table_rule.specs.declared.view.Seen.{Seen}
-use Rattle.shared_slots.specs.declared.fresh.Full.{Full}
+use Rattle.sock_slots.specs.declared.fresh.Full.{Full}
 use Rattle.nulls_chain.specs.Changes.{Adds, Sees}
 use Rattle.bucket_locks.specs.declared.locks.Locked.{Locked}
 use Rattle.nulls_chain.specs.declared.keeping.Place.{Place}

@@ -25,8 +25,8 @@ use bucket_locks::{Locked, lock, unlock};
 use chain_book::Hashed;
 use nulls_chain::{Place, hash, unhash_slot, walk_to_end};
 use patience::Patience;
-use shared_slots::Full;
 use sock_card::{Card, pack};
+use sock_slots::Full;
 use table_rule::{Chains, Pass};
 
 /// A card that came: where it stands, and the name of the TIME_WAIT whose place it took.

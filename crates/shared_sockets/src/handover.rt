@@ -19,8 +19,8 @@ use super::coming::is_told;
 use bucket_locks::{Locked, lock, unlock};
 use nulls_chain::{Place, hash, unhash, walk_to_end};
 use patience::Patience;
-use shared_slots::Full;
 use sock_card::Card;
+use sock_slots::Full;
 use table_rule::{Chains, Pass};
 
 // Hashes the socket into its request's chain, which was walked to its end, and then takes the request out.

@@ -18,8 +18,8 @@ use super::survey::{Sought, survey_chain};
 use bucket_locks::{Locked, lock, unlock};
 use nulls_chain::{Place, hash, unhash, walk_to_end};
 use patience::Patience;
-use shared_slots::Full;
 use sock_card::Card;
+use sock_slots::Full;
 use table_rule::{Chains, Pass};
 
 /// Takes out the socket at that place, whose bucket the pass has just locked, and gives the lock back.

@@ -5,9 +5,9 @@ use Rattle.shared_dump.specs.Books.{AreTold}
 use Rattle.shared_dump.specs.Dumps.{Keeps}
 use Rattle.shared_dump.specs.Rows.{Row}
 use Rattle.shared_dump.specs.Sightings.{sightings}
-use Rattle.shared_ops.specs.Stands.{chained}
-use Rattle.shared_ops.specs.declared.tables.Tables.{Tables}
-use Rattle.shared_ops.specs.declared.tables.Worker.{Worker}
+use Rattle.sock_ops.specs.Stands.{chained}
+use Rattle.sock_ops.specs.declared.tables.Tables.{Tables}
+use Rattle.sock_ops.specs.declared.tables.Worker.{Worker}
 use Rattle.socket_list.specs.Listing.{Listing}
 use Rattle.socket_list.specs.Order.{ascending}
 use Rattle.socket_list.specs.declared.listing.Span.{Span}

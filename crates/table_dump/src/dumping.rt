@@ -2,14 +2,14 @@
 
 ghost use Rattle.std.specs.Prelude.{◌≡◌, IfOk};
 ghost use Rattle.shared_dump.specs.Dumps.{cards_from};
-ghost use Rattle.shared_ops.specs.Spends.{Draws};
-ghost use Rattle.shared_ops.specs.Stands.{IsReady, chained};
+ghost use Rattle.sock_ops.specs.Spends.{Draws};
+ghost use Rattle.sock_ops.specs.Stands.{IsReady, chained};
 ghost use Rattle.socket_list.specs.Order.{ascending};
 ghost use Rattle.table_dump.specs.Listings.{IsListing, KeepsAll};
 ghost use Rattle.table_rule.specs.Sole.{IsSole};
 
 use shared_dump::dump_sockets;
-use shared_ops::{Tables, Worker};
+use sock_ops::{Tables, Worker};
 use socket_list::{Listing, Span, in_order};
 use std::alloc::{AllocError, Global};
 use std::sync::Wait;

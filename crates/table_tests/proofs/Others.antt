@@ -30,9 +30,9 @@ use Rattle.table_model.specs.Operations.{Did, refused, when_done, found_next, se
 use Rattle.race_record.specs.Deeds.{Deed, entered, inserted, added, left, reaped, entries_in}
 use Rattle.race_record.specs.Goes.{outcome_of, was_there}
 use Rattle.chain_deeds.specs.Sides.{Side}
-use Rattle.shared_ops.specs.Goes.{Went}
-use Rattle.shared_ops.specs.Leads.{Leads}
-use Rattle.shared_ops.specs.There.{IsNew}
+use Rattle.sock_ops.specs.Goes.{Went}
+use Rattle.sock_ops.specs.Leads.{Leads}
+use Rattle.sock_ops.specs.There.{IsNew}
 
 abbrev pub Misses : ℕ → Request → Type 0
 Misses name request = (not (removes_waiting request) && speaks_of (λ n. n == name) request) ≡ false

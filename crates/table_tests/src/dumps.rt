@@ -1,7 +1,7 @@
 //! What a worker lists of empty tables, and beside a listener.
 
 ghost use Rattle.std.specs.Prelude.{◌≡◌, ◌+◌, ◌<◌, ◌≤◌, ◌^◌, ℕ, length, IfOk};
-ghost use Rattle.shared_ops.specs.Stands.{IsAway, IsReady, MayDraw, MayEnter, StandsAs, chained, turned};
+ghost use Rattle.sock_ops.specs.Stands.{IsAway, IsReady, MayDraw, MayEnter, StandsAs, chained, turned};
 ghost use Rattle.turn_table.specs.Passes as words;
 
 use bind_buckets::{Sharing, turning};
@@ -11,7 +11,7 @@ use flat_list::{First, NONE_RESERVED, Options, Range};
 use patience::Waits;
 use port_search::Ports;
 use reuseport_group::Groups;
-use shared_ops::{Sock, Tables, Unbound, Worker, listen};
+use sock_ops::{Sock, Tables, Unbound, Worker, listen};
 use socket_list::{Listing, Span};
 use std::alloc::{AllocError, Global};
 use std::sync::Wait;

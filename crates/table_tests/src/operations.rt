@@ -2,8 +2,8 @@
 
 ghost use Rattle.std.specs.Prelude.{◌≡◌, ◌+◌, ◌<◌, ◌≤◌, ◌^◌, ℕ, [], length, IfOk};
 ghost use Rattle.turn_table.specs.Passes as words;
-ghost use Rattle.shared_ops.specs.Socks.{mine_of};
-ghost use Rattle.shared_ops.specs.Stands.{HasGroups, IsAway, IsReady, MayDraw, MayEnter, StandsAs, buckets_of, chained, turned};
+ghost use Rattle.sock_ops.specs.Socks.{mine_of};
+ghost use Rattle.sock_ops.specs.Stands.{HasGroups, IsAway, IsReady, MayDraw, MayEnter, StandsAs, buckets_of, chained, turned};
 
 use bind_buckets::{Sharing, turning};
 use chain_book::{Replace, Shape};
@@ -12,15 +12,15 @@ use flat_list::{End, First, NONE_RESERVED, Options, Range};
 use patience::Waits;
 use port_search::Ports;
 use reuseport_group::{GroupPasses, Groups, name_of};
-use shared_ops::binding::bind;
-use shared_ops::connecting::connect;
-use shared_ops::handshaking::ack;
-use shared_ops::leaving::{Closed, Waiting, close, drop_sock};
-use shared_ops::listening::listen;
-use shared_ops::reaping::reap_one;
-use shared_ops::requesting::syn;
-use shared_ops::sock::{Sock, Unbound};
-use shared_ops::tables::{Tables, Worker};
+use sock_ops::binding::bind;
+use sock_ops::connecting::connect;
+use sock_ops::handshaking::ack;
+use sock_ops::leaving::{Closed, Waiting, close, drop_sock};
+use sock_ops::listening::listen;
+use sock_ops::reaping::reap_one;
+use sock_ops::requesting::syn;
+use sock_ops::sock::{Sock, Unbound};
+use sock_ops::tables::{Tables, Worker};
 use std::alloc::{AllocError, Global};
 use std::sync::Wait;
 use std::test::Fail;

@@ -2,7 +2,7 @@
 
 ghost use Rattle.std.specs.Prelude.{◌≡◌, ◌+◌, ◌*◌, ◌<◌, ◌≤◌, ◌^◌, [], false, length, IfOk};
 ghost use Rattle.bind_buckets.specs.Turned.{IsIdle};
-ghost use Rattle.shared_ops.specs.Stands.{MayDraw, MayEnter};
+ghost use Rattle.sock_ops.specs.Stands.{MayDraw, MayEnter};
 ghost use Rattle.section_machine.specs.Standing.{IsSection};
 ghost use Rattle.table_model.specs.Means.{is_lookup};
 ghost use Rattle.list_words.specs.Lists.{Each};
@@ -16,7 +16,7 @@ use label_index::LabelSeed;
 use patience::Tries;
 use reuseport_group::Groups;
 use section_machine::{Machine, laws};
-use shared_ops::{Cause, Tables, Worker};
+use sock_ops::{Cause, Tables, Worker};
 use std::alloc::{AllocError, Global};
 use std::process::Abort;
 use std::test::Fail;

@@ -6,7 +6,7 @@ use Rattle.table_rule.specs.declared.view.View.{View}
 use Rattle.shared_sockets.specs.Comings as spec
 use Rattle.shared_sockets.specs.Alone.{AddsAlone}
 use Rattle.nulls_chain.specs.declared.keeping.Place.{Place}
-use Rattle.shared_slots.specs.declared.fresh.Full.{Full}
+use Rattle.sock_slots.specs.declared.fresh.Full.{Full}
 use Rattle.chain_deeds.specs.Answers.{Adds, RoomBy}
 use Rattle.chain_deeds.specs.declared.table.ChainPass.{ChainPass}
 use Rattle.chain_deeds.proofs.Left.{side}

@@ -1,7 +1,7 @@
 use Rattle.std.proofs.Common.{refl, ap, subst}
 use Rattle.race_book.specs.Explained.{NamesItsBucket}
 use Rattle.reuseport_group.specs.Passes as lists
-use Rattle.shared_demux.specs.Concludes.{whole_to}
+use Rattle.demux.specs.Concludes.{whole_to}
 use Rattle.table_rule.specs.Calls.{layout_of, me}
 use Rattle.table_rule.specs.Plays.{Sat}
 use Rattle.table_rule.specs.declared.view.Layout.{Layout}

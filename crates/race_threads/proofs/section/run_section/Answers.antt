@@ -3,7 +3,7 @@ use Rattle.std.proofs.lemmas.List.{take_more, take_all}
 use Rattle.flat_list.specs.declared.command.Command.{Command}
 use Rattle.section_machine.specs.Sections.{Kept}
 use Rattle.table_model.specs.Means.{is_lookup}
-use Rattle.shared_ops.specs.declared.tables.Worker.{Worker}
+use Rattle.sock_ops.specs.declared.tables.Worker.{Worker}
 use Rattle.turn_table.specs.Passes as words
 use Rattle.race_threads.specs.Said.{said_as}
 use Rattle.race_threads.proofs.Running.{runs_none, runs_more, runs_rest, runs_done, draws_first, draws_same, each_get}

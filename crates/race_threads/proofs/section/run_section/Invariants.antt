@@ -1,6 +1,6 @@
 use Rattle.std.proofs.Common.{◌+◌, ◌*◌, ◌-◌, ◌≤◌, take, length}
 use Rattle.turn_table.specs.Passes as words
-use Rattle.shared_ops.specs.Stands.{MayDraw}
+use Rattle.sock_ops.specs.Stands.{MayDraw}
 use Rattle.race_threads.specs.Said.{said_as}
 use Rattle.race_threads.proofs.Running.{Runs}
 use Rattle.race_threads.proofs.section.run_section.Given as goal

@@ -3,7 +3,7 @@ use Rattle.bind_buckets.specs.Turned.{View as BindView}
 use Rattle.flat_list.specs.Fits.{FitsTables}
 use Rattle.flat_list.specs.declared.header.Header.{Header}
 use Rattle.reuseport_group.specs.declared.view.GroupView.{GroupView}
-use Rattle.shared_ops.specs.declared.tables.Tables.{Tables}
+use Rattle.sock_ops.specs.declared.tables.Tables.{Tables}
 use Rattle.table_rule.specs.declared.view.View.{View}
 use Rattle.race_threads.specs.Workers.{AreTables}
 use Rattle.race_threads.proofs.start.start.Goals as goal

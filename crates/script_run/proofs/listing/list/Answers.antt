@@ -3,7 +3,7 @@ use Rattle.flat_list.specs.declared.command.Command.{Command}
 use Rattle.flat_list.specs.declared.command.Command.TheVariants as commands
 use Rattle.sock_card.specs.declared.card.Card.{Card}
 use Rattle.shared_dump.specs.Dumps.{cards_from}
-use Rattle.shared_ops.specs.Stands.{chained}
+use Rattle.sock_ops.specs.Stands.{chained}
 use Rattle.socket_list.specs.Listing.{Listing}
 use Rattle.socket_list.specs.Order.{ascending}
 use Rattle.script_run.specs.Sole.{tables_of}

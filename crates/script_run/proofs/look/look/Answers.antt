@@ -1,7 +1,7 @@
 use Rattle.std.proofs.Common.{◌≡◌, ◌+◌, ◌^◌, ◌<◌, List, sym, ap, ◌∙◌, subst, arith}
 use Rattle.reuseport_group.specs.Passes as lists
-use Rattle.shared_demux.specs.Concludes.{ByOrder, whole_to}
-use Rattle.shared_ops.specs.Stands.{buckets_of}
+use Rattle.demux.specs.Concludes.{ByOrder, whole_to}
+use Rattle.sock_ops.specs.Stands.{buckets_of}
 use Rattle.shared_sockets.specs.Alone.{chains_of}
 use Rattle.table_model.specs.Goes.{tables_by}
 use Rattle.table_model.specs.Means.{TablesMean}

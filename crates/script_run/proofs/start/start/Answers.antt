@@ -5,7 +5,7 @@ use Rattle.bind_buckets.specs.Turned.{View as BindView}
 use Rattle.reuseport_group.specs.Words.{list_at}
 use Rattle.reuseport_group.specs.declared.view.GroupView.{GroupView}
 use Rattle.section_machine.proofs.Names.{AllMiss}
-use Rattle.shared_ops.specs.Groups.{list_by}
+use Rattle.sock_ops.specs.Groups.{list_by}
 use Rattle.table_model.specs.Goes.{tables_by}
 use Rattle.table_rule.specs.Rule.{drawn}
 use Rattle.table_rule.specs.Sole.{IsNow}

@@ -7,11 +7,11 @@ use Rattle.chain_deeds.specs.declared.table.ChainPass.{ChainPass}
 use Rattle.flat_list.specs.declared.command.End.{End}
 use Rattle.table_model.specs.Own.{Mine}
 use Rattle.table_model.specs.Operations as plans
-use Rattle.shared_ops.specs.declared.sock.Sock.TheVariants as socks
-use Rattle.shared_ops.specs.Socks.{mine_of}
-use Rattle.shared_ops.specs.Stands.{IsAway, MayDraw, buckets_of, chained, turned}
-use Rattle.shared_ops.proofs.BindStands.{bind_stands}
-use Rattle.shared_ops.proofs.Knows.{new_away}
+use Rattle.sock_ops.specs.declared.sock.Sock.TheVariants as socks
+use Rattle.sock_ops.specs.Socks.{mine_of}
+use Rattle.sock_ops.specs.Stands.{IsAway, MayDraw, buckets_of, chained, turned}
+use Rattle.sock_ops.proofs.BindStands.{bind_stands}
+use Rattle.sock_ops.proofs.Knows.{new_away}
 use Rattle.table_tests.proofs.Others.{AllMiss, drop_never, listen_never, missed_new, still_missed, syn_never}
 use Rattle.table_tests.proofs.operations.outlive_listener.Goals as goal
 

@@ -1,8 +1,8 @@
 use Rattle.std.proofs.Common.{◌≡◌, ◌+◌, ◌==◌, ℕ, false, sym, ap, subst, arith}
 use Rattle.flat_list.specs.declared.command.End.{End}
 use Rattle.table_model.specs.Operations as plans
-use Rattle.shared_ops.specs.Socks.{mine_of}
-use Rattle.shared_ops.specs.Stands.{MayDraw, buckets_of, chained, turned}
+use Rattle.sock_ops.specs.Socks.{mine_of}
+use Rattle.sock_ops.specs.Stands.{MayDraw, buckets_of, chained, turned}
 use Rattle.table_tests.proofs.Others.{AllMiss, listen_never, missed_new, still_missed, syn_never}
 use Rattle.table_tests.proofs.operations.shake_hands.Goals as goal
 

@@ -4,7 +4,7 @@ use Rattle.std.proofs.lemmas.List.{map-set}
 use Rattle.std.proofs.Math.ListN.{length-set}
 use Rattle.flat_list.specs.Sections.{name_at}
 use Rattle.section_machine.specs.Places.{Labelled, HaveNames, mines, with_place}
-use Rattle.shared_ops.specs.Socks.{mine_of}
+use Rattle.sock_ops.specs.Socks.{mine_of}
 use Rattle.section_machine.proofs.Places.{names_set}
 use Rattle.section_machine.proofs.labels.Labels.put.Goals as goal
 

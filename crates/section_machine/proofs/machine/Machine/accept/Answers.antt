@@ -7,10 +7,10 @@ use Rattle.table_model.specs.Own.{next_name, with_label}
 use Rattle.table_model.specs.Operations as plans
 use Rattle.table_model.specs.Operations.{done, refused}
 use Rattle.table_model.specs.Commands.{accept_reply, connect_error}
-use Rattle.shared_ops.specs.Accepting.{accepted}
-use Rattle.shared_ops.specs.Socks.{mine_of}
-use Rattle.shared_ops.specs.Stands.{MayTell, buckets_of, turned, chained}
-use Rattle.shared_ops.specs.There.{IsNew}
+use Rattle.sock_ops.specs.Accepting.{accepted}
+use Rattle.sock_ops.specs.Socks.{mine_of}
+use Rattle.sock_ops.specs.Stands.{MayTell, buckets_of, turned, chained}
+use Rattle.sock_ops.specs.There.{IsNew}
 use Rattle.section_machine.specs.Places.{Labelled, own_of, with_place}
 use Rattle.section_machine.specs.Sections.{Kept, kept}
 use Rattle.section_machine.proofs.Children.{accept_asker, accept_asks, child_named, its_off, its_plan, parent_tells, parent_stands, accepts_left, accepts_refused, accepts}

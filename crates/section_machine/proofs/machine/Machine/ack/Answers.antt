@@ -7,11 +7,11 @@ use Rattle.table_model.specs.Own.{is_named, next_name, open_named, with_label}
 use Rattle.table_model.specs.Operations as plans
 use Rattle.table_model.specs.Operations.{Did, done, refused}
 use Rattle.table_model.specs.Commands.{ack_reply, connect_error}
-use Rattle.shared_ops.specs.Accepting.{accepted}
-use Rattle.shared_ops.specs.Handshaking.{mine_found}
-use Rattle.shared_ops.specs.Socks.{mine_of}
-use Rattle.shared_ops.specs.Stands.{MayTell, buckets_of, turned, chained}
-use Rattle.shared_ops.specs.There.{IsNew}
+use Rattle.sock_ops.specs.Accepting.{accepted}
+use Rattle.sock_ops.specs.Handshaking.{mine_found}
+use Rattle.sock_ops.specs.Socks.{mine_of}
+use Rattle.sock_ops.specs.Stands.{MayTell, buckets_of, turned, chained}
+use Rattle.sock_ops.specs.There.{IsNew}
 use Rattle.section_machine.specs.LeftOff.{IsLeftOff}
 use Rattle.section_machine.specs.Places.{Labelled, own_of, those, with_place}
 use Rattle.section_machine.specs.Sections.{Kept, kept}
