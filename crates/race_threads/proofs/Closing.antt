@@ -38,8 +38,8 @@ use Rattle.race_record.specs.Lawful.{EachFrom, AreStepsOf, AreSectionsOf, AreInO
 use Rattle.race_record.proofs.Drawn.{weigh, drawn_weighs}
 use Rattle.race_record.proofs.Gather.{gathered_journals}
 use Rattle.race_record.proofs.Weights.{total_flat}
-use Rattle.chain_deeds.specs.Sides.{change_of}
-use Rattle.chain_deeds.specs.Made.{IsHomeIfHash, HasWords, number_of}
+use Rattle.sock_ops.specs.Sides.{change_of}
+use Rattle.sock_ops.specs.Made.{IsHomeIfHash, HasWords, number_of}
 use Rattle.nulls_chain.proofs.Saw.{are_settled}
 use Rattle.race_threads.specs.Joins.{Part}
 use Rattle.race_threads.specs.Made.{SawFree, SawKeeper, SawNone, IsAny, IsBy, SawNoWait, missed_in}
@@ -47,7 +47,7 @@ use Rattle.race_threads.specs.Races.{SectionDone, AllDone, steps_by, HasEnded, A
 use Rattle.race_threads.specs.Said.{Said}
 use Rattle.race_threads.specs.Sections.{Makes, IsShown, layout_in}
 use Rattle.race_threads.proofs.Dumping.{saw_as_moves}
-use Rattle.chain_deeds.proofs.Seen.{same_sees}
+use Rattle.sock_ops.proofs.Seen.{same_sees}
 use Rattle.race_threads.proofs.Freed.{was_free}
 use Rattle.race_threads.proofs.FromRaw.{AreGood, serial, fits, stamps}
 use Rattle.race_threads.proofs.Listings.{lists}

@@ -12,9 +12,9 @@ use Rattle.table_rule.specs.declared.view.Layout.{Layout}
 use Rattle.table_rule.specs.declared.view.Sight.{Sight}
 use Rattle.table_rule.specs.declared.view.View.{View}
 use Rattle.nulls_chain.specs.Changes.{Sees}
-use Rattle.chain_deeds.specs.Sides.{Side}
+use Rattle.sock_ops.specs.Sides.{Side}
 use Rattle.nulls_chain.proofs.Saw.{are_settled}
-use Rattle.chain_deeds.proofs.Seen.{as_they_were, sees_both}
+use Rattle.sock_ops.proofs.Seen.{as_they_were, sees_both}
 use Rattle.race_book.specs.Among.{Among}
 use Rattle.race_book.proofs.AmongLemmas.{among_right}
 use Rattle.race_record.specs.Record.{Step}

@@ -28,7 +28,7 @@ use Rattle.table_rule.specs.Plays.{seeing}
 use Rattle.table_rule.specs.Sole.{WholeBook}
 use Rattle.table_rule.specs.declared.view.Layout.{Layout}
 use Rattle.table_rule.specs.declared.view.View.{View}
-use Rattle.chain_deeds.specs.Sizes.{IsSized}
+use Rattle.sock_ops.specs.Sizes.{IsSized}
 use Rattle.socket_list.specs.Listing.{Listing}
 use Rattle.race_threads.specs.declared.finish.Ended.{Ended}
 use Rattle.race_threads.specs.declared.jobs.Job.{Job}

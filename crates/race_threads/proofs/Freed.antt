@@ -19,7 +19,7 @@ use Rattle.race_book.specs.Among.{Among}
 use Rattle.race_book.specs.Lives.{IsLife, Throughout}
 use Rattle.race_record.specs.Deeds.{Given}
 use Rattle.race_record.specs.Lawful.{StandsAt, GaveWay, WasFree}
-use Rattle.chain_deeds.specs.Made.{GaveWayIn}
+use Rattle.sock_ops.specs.Made.{GaveWayIn}
 use Rattle.race_threads.specs.Made.{SawFree}
 use Rattle.race_threads.specs.Races.{IsWhole, book_of}
 use Rattle.race_threads.proofs.CardsTold.{same_told}

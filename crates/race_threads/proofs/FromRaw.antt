@@ -49,8 +49,8 @@ use Rattle.race_book.proofs.Listing.{begin_apart}
 use Rattle.race_book.proofs.Checks.{unhash_act}
 use Rattle.race_book.proofs.Twins.{one_home, replay_has_none}
 use Rattle.race_record.specs.Stages.{LedAstray, NoneStayed, CanStop, IsOfItsTime}
-use Rattle.chain_deeds.specs.Sides.{act_of, change_of}
-use Rattle.chain_deeds.specs.Made.{IsHome, IsHomeIfHash, HasWords}
+use Rattle.sock_ops.specs.Sides.{act_of, change_of}
+use Rattle.sock_ops.specs.Made.{IsHome, IsHomeIfHash, HasWords}
 use Rattle.race_threads.specs.Lookers.{IsTold, whole_for}
 use Rattle.race_threads.specs.Races.{IsWhole, book_of}
 use Rattle.race_threads.specs.Sections.{layout_in}

@@ -6,7 +6,7 @@ use Rattle.list_words.proofs.EachLemmas.{each_unmap}
 use Rattle.capture_reader.specs.declared.packet.Item.{Item}
 use Rattle.capture_reader.specs.declared.packet.Item.TheVariants as items
 use Rattle.chain_book.specs.declared.book.Receipt.{Receipt}
-use Rattle.chain_deeds.specs.declared.table.ChainTable.{ChainTable}
+use Rattle.sock_ops.specs.declared.chains.table.ChainTable.{ChainTable}
 use Rattle.race_record.specs.declared.record.Looked.{Looked}
 use Rattle.race_record.specs.declared.record.Looked.TheVariants as looks
 use Rattle.sock_card.specs.declared.card.Packet.{Packet}

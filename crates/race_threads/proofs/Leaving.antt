@@ -11,9 +11,9 @@ use Rattle.sock_slots.specs.Claims.{sight_by}
 use Rattle.race_book.specs.Among.{Among}
 use Rattle.race_book.proofs.AmongLemmas.{among_left, among_right}
 use Rattle.race_record.specs.Deeds.{Deed, Vain, hashed, kept_out, no_slot, entered, inserted, added, left, reaped, changes_of, given_of, taken_of, vain_of, drawn_of, changes_in, given_in, taken_in, vain_in, drawn_in}
-use Rattle.chain_deeds.specs.Sides.{Side}
-use Rattle.chain_deeds.specs.Made.{Made, AllLeave, IsHomeIfHash, number_of, SawNone as MadeNone, SawNoWait as MadeNoWait}
-use Rattle.chain_deeds.proofs.Seen.{sees_both, as_they_were}
+use Rattle.sock_ops.specs.Sides.{Side}
+use Rattle.sock_ops.specs.Made.{Made, AllLeave, IsHomeIfHash, number_of, SawNone as MadeNone, SawNoWait as MadeNoWait}
+use Rattle.sock_ops.proofs.Seen.{sees_both, as_they_were}
 use Rattle.race_threads.specs.Made.{SawFree, SawKeeper, SawNone, SawNoWait, IsAny, MadeAll, missed_of, missed_in}
 use Rattle.race_threads.proofs.Sightings.{Moves, free_moves, keeper_moves, none_moves, no_wait_moves, any_sees, reads_seen}
 
@@ -119,7 +119,7 @@ waits_one (reaped card (Some u)) c e m = tt
 none_made : (c : Side) → MadeAll [] c c
 none_made c = record {
   layout = refl;
-  changes = sym (append-nil (Rattle.chain_deeds.specs.Sides.changes_by c));
+  changes = sym (append-nil (Rattle.sock_ops.specs.Sides.changes_by c));
   homes = tt;
   words = λ w. w;
   lost = λ f. refl;
@@ -154,7 +154,7 @@ module _ (deed : Deed) (deeds : List Deed) (c e d : Side) (m : Made deed c e) (h
   more_made : MadeAll (deed ∷ deeds) c d
   more_made = record {
     layout = h.layout ∙ m.layout;
-    changes = h.changes ∙ ap (λ l. l ++ changes_in deeds) m.changes ∙ append_assoc (Rattle.chain_deeds.specs.Sides.changes_by c) (changes_of deed) (changes_in deeds);
+    changes = h.changes ∙ ap (λ l. l ++ changes_in deeds) m.changes ∙ append_assoc (Rattle.sock_ops.specs.Sides.changes_by c) (changes_of deed) (changes_in deeds);
     homes = each_append (IsHomeIfHash c.layout) (changes_of deed) (changes_in deeds) m.homes (subst (λ l. Each (IsHomeIfHash l) (changes_in deeds)) m.layout h.homes);
     words = λ w. h.words (m.words w);
     lost = λ f. omega (

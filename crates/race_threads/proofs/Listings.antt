@@ -17,8 +17,8 @@ use Rattle.table_rule.specs.declared.view.View.{View}
 use Rattle.shared_dump.specs.Books as books
 use Rattle.shared_dump.specs.Books.{AreTold, life_card}
 use Rattle.shared_dump.specs.Sightings.{sightings}
-use Rattle.chain_deeds.specs.Sides.{change_of}
-use Rattle.chain_deeds.specs.Sizes.{IsSized}
+use Rattle.sock_ops.specs.Sides.{change_of}
+use Rattle.sock_ops.specs.Sizes.{IsSized}
 use Rattle.race_book.specs.Among.{Among}
 use Rattle.race_book.specs.Lives.{IsLife, Stood}
 use Rattle.race_record.specs.Record.{Race, Step}

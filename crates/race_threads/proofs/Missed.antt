@@ -22,7 +22,7 @@ use Rattle.shared_sockets.specs.Rows.{row_of, hashed_in, HasCard}
 use Rattle.race_book.specs.Among.{Among}
 use Rattle.race_book.specs.Lives.{IsLife, Ends, Leaves, ending}
 use Rattle.race_book.proofs.Endings.{ending_ends, no_ending, ends_together}
-use Rattle.chain_deeds.specs.Sides.{change_of}
+use Rattle.sock_ops.specs.Sides.{change_of}
 use Rattle.race_threads.specs.Made.{SawNoWait, IsBy}
 use Rattle.race_threads.specs.Races.{IsWhole, book_of}
 use Rattle.race_threads.specs.Sections.{layout_in}

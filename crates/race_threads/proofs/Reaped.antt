@@ -17,7 +17,7 @@ use Rattle.race_book.proofs.AmongLemmas.{among_either}
 use Rattle.race_book.proofs.Endings.{each_of}
 use Rattle.race_record.specs.Deeds.{changes_in}
 use Rattle.race_record.specs.Record.{Step, deeds_of}
-use Rattle.chain_deeds.specs.Sides.{change_of}
+use Rattle.sock_ops.specs.Sides.{change_of}
 use Rattle.race_threads.specs.Joins.{Part}
 use Rattle.race_threads.specs.Said.{Said}
 use Rattle.race_threads.specs.Races.{SectionDone, AllDone, steps_by, HasEnded, AreReaped, AllReaped, AreFew, Looks, book_of}

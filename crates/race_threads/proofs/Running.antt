@@ -23,7 +23,7 @@ use Rattle.table_rule.specs.declared.view.Layout.{Layout}
 use Rattle.table_rule.specs.declared.view.View.{View}
 use Rattle.table_rule.specs.declared.view.ReadView.{ReadView}
 use Rattle.table_rule.specs.declared.view.SlotView.{SlotView}
-use Rattle.chain_deeds.specs.Sides.{Side, IsResting, HoldsNothing}
+use Rattle.sock_ops.specs.Sides.{Side, IsResting, HoldsNothing}
 use Rattle.sock_ops.specs.declared.tables.Tables.{Tables}
 use Rattle.sock_ops.specs.declared.tables.Worker.{Worker}
 use Rattle.sock_ops.specs.Stands.{HasGroups, IsHashed, MayDraw, chained, place_in, turned}

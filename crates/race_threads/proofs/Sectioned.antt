@@ -28,10 +28,10 @@ use Rattle.race_record.specs.Deeds.{Deed, entry_of, changes_of, vain_of, entries
 use Rattle.race_record.specs.Goes.{Goes}
 use Rattle.race_record.specs.Record.{Step, deeds_of, reply_of}
 use Rattle.race_record.specs.Lawful.{IsSpanned, Precedes, IsCalledBy}
-use Rattle.chain_deeds.specs.Sides.{Side, change_of}
-use Rattle.chain_deeds.specs.Made.{IsHomeIfHash, HasWords, number_of}
+use Rattle.sock_ops.specs.Sides.{Side, change_of}
+use Rattle.sock_ops.specs.Made.{IsHomeIfHash, HasWords, number_of}
 use Rattle.nulls_chain.proofs.Saw.{are_settled}
-use Rattle.chain_deeds.proofs.Seen.{sees_both, same_sees}
+use Rattle.sock_ops.proofs.Seen.{sees_both, same_sees}
 use Rattle.section_machine.specs.Sections.{Did}
 use Rattle.race_threads.specs.Dumped.{Listed}
 use Rattle.race_threads.specs.Made.{SawFree, SawKeeper, SawNone, SawNoWait, IsAny, IsBy, MadeAll, Loads, loaded, missed_in}

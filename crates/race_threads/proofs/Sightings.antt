@@ -18,7 +18,7 @@ use Rattle.shared_sockets.specs.Rows.{row_of, HasCard}
 use Rattle.race_book.specs.Among.{Among}
 use Rattle.race_book.proofs.AmongLemmas.{among_left}
 use Rattle.race_record.specs.Deeds.{Given, Taken, Vain}
-use Rattle.chain_deeds.specs.Made.{GaveWayIn}
+use Rattle.sock_ops.specs.Made.{GaveWayIn}
 use Rattle.race_threads.specs.Made.{SawFree, SawKeeper, SawRead, SawNone, SawNoWait, IsAny, IsBy, listed_by, held_by}
 
 -- Lists

@@ -6,7 +6,7 @@ use Rattle.bind_buckets.specs.Bucket.{Bucket}
 use Rattle.bind_buckets.specs.Closed.{count_in, notes_in}
 use Rattle.capture_reader.specs.Captures.{Capture}
 use Rattle.chain_book.specs.declared.book.Change.{Change}
-use Rattle.chain_deeds.specs.Sides.{change_of}
+use Rattle.sock_ops.specs.Sides.{change_of}
 use Rattle.flat_list.specs.Script.{Script}
 use Rattle.flat_list.specs.declared.header.Header.{Header}
 use Rattle.flat_list.specs.declared.command.Reply.{Reply}

@@ -13,7 +13,7 @@ use Rattle.table_rule.specs.Words.{bucket_count}
 use Rattle.table_rule.specs.declared.view.Layout.{Layout}
 use Rattle.table_rule.specs.declared.view.Sight.{Sight}
 use Rattle.nulls_chain.specs.Changes.{Sees}
-use Rattle.chain_deeds.specs.Sides.{Side}
+use Rattle.sock_ops.specs.Sides.{Side}
 use Rattle.race_book.specs.Among.{Among}
 use Rattle.race_record.specs.Record.{Step}
 use Rattle.shared_dump.specs.Books.{AreTold}

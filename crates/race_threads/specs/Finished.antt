@@ -6,7 +6,7 @@ use Rattle.turn_table.specs.Journals.{numbers_below}
 use Rattle.bind_buckets.specs.Turned.{View as BindView}
 use Rattle.capture_reader.specs.declared.packet.Item.{Item}
 use Rattle.chain_book.specs.declared.book.Change.{Change}
-use Rattle.chain_deeds.specs.Sides.{IsResting, change_of}
+use Rattle.sock_ops.specs.Sides.{IsResting, change_of}
 use Rattle.flat_list.specs.Script.{Script}
 use Rattle.flat_list.specs.declared.command.Reply.{Reply}
 use Rattle.sock_ops.specs.declared.tables.Tables.{Tables}

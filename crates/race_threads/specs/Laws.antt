@@ -36,8 +36,8 @@ use Rattle.race_record.specs.Deeds.{Deed}
 use Rattle.race_record.specs.Lawful.{Lawful}
 use Rattle.race_record.specs.declared.record.Looked.{Looked}
 use Rattle.race_record.specs.declared.record.Looked.TheVariants as looks
-use Rattle.chain_deeds.specs.Sides.{Side}
-use Rattle.chain_deeds.specs.Made.{AllLeave}
+use Rattle.sock_ops.specs.Sides.{Side}
+use Rattle.sock_ops.specs.Made.{AllLeave}
 use Rattle.section_machine.specs.Sections.{Did}
 use Rattle.race_threads.specs.declared.looker.Look.{Look}
 use Rattle.race_threads.specs.Dumped.{Listed}

@@ -3,9 +3,9 @@ use Rattle.std.specs.Prelude.{◌≡◌, ℕ, ◌<◌, List, [], ◌∷◌, ◌+
 use Rattle.bind_buckets.specs.Turned.{View as BindView}
 use Rattle.capture_reader.specs.declared.packet.Item.{Item}
 use Rattle.chain_book.specs.declared.book.Receipt.{Receipt}
-use Rattle.chain_deeds.specs.Sides.{IsResting, HoldsNothing}
-use Rattle.chain_deeds.specs.declared.table.ChainPass.{ChainPass}
-use Rattle.chain_deeds.specs.declared.table.ChainTable.{ChainTable}
+use Rattle.sock_ops.specs.Sides.{IsResting, HoldsNothing}
+use Rattle.sock_ops.specs.declared.chains.table.ChainPass.{ChainPass}
+use Rattle.sock_ops.specs.declared.chains.table.ChainTable.{ChainTable}
 use Rattle.flat_list.specs.declared.header.Header.{Header}
 use Rattle.race_record.specs.declared.record.Looked.{Looked}
 use Rattle.sock_card.specs.declared.card.Packet.{Packet}

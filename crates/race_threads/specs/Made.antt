@@ -21,8 +21,8 @@ use Rattle.shared_sockets.specs.Comings.{name_of}
 use Rattle.shared_sockets.specs.Rows.{row_of, HasCard}
 use Rattle.race_book.specs.Among.{Among}
 use Rattle.race_record.specs.Deeds.{Deed, reaped, Given, Taken, Vain, changes_in, given_in, taken_in, vain_in, drawn_in}
-use Rattle.chain_deeds.specs.Sides.{Side, changes_by}
-use Rattle.chain_deeds.specs.Made.{GaveWayIn, IsHomeIfHash, AllHaveWords, number_of}
+use Rattle.sock_ops.specs.Sides.{Side, changes_by}
+use Rattle.sock_ops.specs.Made.{GaveWayIn, IsHomeIfHash, AllHaveWords, number_of}
 
 -- the slot alone, if it was read as owned, and else none
 abbrev pub listed_by : Read → List Seen

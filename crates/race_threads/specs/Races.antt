@@ -24,8 +24,8 @@ use Rattle.race_record.specs.Goes.{Goes}
 use Rattle.race_record.specs.Record.{Race, Step, Sighting, steps_of, replies_of, listings_of}
 use Rattle.race_record.specs.Lawful.{AreSectionsOf, AreInOrder, AreJournalsOf, IsBookOf, ReapsAll, TakenWereKept, GivenWereFree, SlotsWereUsed, Lists}
 use Rattle.race_record.specs.declared.record.Looked.{Looked}
-use Rattle.chain_deeds.specs.Sides.{change_of}
-use Rattle.chain_deeds.specs.Sizes.{IsSized}
+use Rattle.sock_ops.specs.Sides.{change_of}
+use Rattle.sock_ops.specs.Sizes.{IsSized}
 use Rattle.race_threads.specs.Joins.{Part, Joined}
 use Rattle.race_threads.specs.Said.{Said, replied_in, listed_in}
 use Rattle.race_threads.specs.Sections.{HasDone, layout_in}

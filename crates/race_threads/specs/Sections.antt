@@ -15,8 +15,8 @@ use Rattle.race_record.specs.Deeds.{entries_in, changes_in, given_in, taken_in, 
 use Rattle.race_record.specs.Goes.{Goes}
 use Rattle.race_record.specs.Record.{Step, deeds_of, reply_of}
 use Rattle.race_record.specs.Lawful.{AreInOrder, IsCalledBy}
-use Rattle.chain_deeds.specs.Sides.{Side, changes_by}
-use Rattle.chain_deeds.specs.Made.{IsHomeIfHash, AllHaveWords, number_of}
+use Rattle.sock_ops.specs.Sides.{Side, changes_by}
+use Rattle.sock_ops.specs.Made.{IsHomeIfHash, AllHaveWords, number_of}
 use Rattle.race_threads.specs.Dumped.{SawAs}
 use Rattle.race_threads.specs.Made.{SawFree, SawKeeper, SawNone, IsBy, SawNoWait, missed_in}
 use Rattle.race_threads.specs.Said.{Said}

@@ -1,7 +1,7 @@
 -- What workers are between two calls: our own.
 use Rattle.std.specs.Prelude.{◌≡◌, ℕ, ◌+◌, ◌≤◌, true, []}
 use Rattle.bind_buckets.specs.declared.request.Sharing.TheVariants as sharings
-use Rattle.chain_deeds.specs.Sides.{IsResting, HoldsNothing}
+use Rattle.sock_ops.specs.Sides.{IsResting, HoldsNothing}
 use Rattle.flat_list.specs.declared.header.Header.{Header}
 use Rattle.reuseport_group.specs.Passes as lists
 use Rattle.table_rule.specs.Passes as chain_words

@@ -12,9 +12,8 @@ ghost use Rattle.tickets.specs.Passes.{tickets as tickets_of};
 use crate::jobs::{Job, Outcome, gather};
 use bind_buckets::{Bucket, turning};
 use capture_reader::Capture;
-use chain_deeds::ChainPass;
 use flat_list::Script;
-use sock_ops::{Tables, Worker};
+use sock_ops::{ChainPass, Tables, Worker};
 use std::alloc::{AllocError, Global};
 use tickets::{TicketPass, Tickets};
 

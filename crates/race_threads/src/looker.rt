@@ -11,13 +11,13 @@ ghost use Rattle.tickets.specs.Passes.{HasMissed, tickets as tickets_of};
 
 use capture_reader::Item;
 use chain_book::{PacketAnswer, PacketLook, Receipt};
-use chain_deeds::{ChainPass, ChainTable};
 use demux::{Lookups, look_packet};
 use inet_io::{Gate, Who};
 use null_reader::Pace;
 use race_record::Looked;
 use reuseport_group::{GroupPasses, Groups};
 use sock_card::{Packet, pack};
+use sock_ops::{ChainPass, ChainTable};
 use std::alloc::{AllocError, Global};
 use tickets::{TicketPass, Tickets};
 

@@ -5,10 +5,9 @@ ghost use Rattle.flat_list.specs.Fits.{FitsTables};
 ghost use Rattle.race_threads.specs.Workers.{AreTables, IsFirst};
 
 use bind_buckets::{Sharing, turning};
-use chain_deeds::ChainTable;
 use flat_list::Script;
 use reuseport_group::Groups;
-use sock_ops::{Tables, Worker};
+use sock_ops::{ChainTable, Tables, Worker};
 use std::alloc::{AllocError, Global};
 
 /// Empty tables by the script's header, and their first worker.

@@ -25,8 +25,8 @@ use Rattle.table_model.proofs.commands.Laws.{plans_refine}
 use Rattle.race_record.specs.Deeds.{Deed, entered, inserted, added, left, reaped, entries_in}
 use Rattle.race_record.specs.Laws.{told_of}
 use Rattle.race_record.proofs.Leads.{goes_leads, tells_entries}
-use Rattle.chain_deeds.specs.Made.{AllLeave, Made}
-use Rattle.chain_deeds.specs.Sides.{Side, chains_by}
+use Rattle.sock_ops.specs.Made.{AllLeave, Made}
+use Rattle.sock_ops.specs.Sides.{Side, chains_by}
 use Rattle.section_machine.specs.Sections.{Did, Kept}
 use Rattle.section_machine.specs.Standing.{IsSection}
 use Rattle.sock_ops.specs.declared.tables.Tables.{Tables}
@@ -53,7 +53,7 @@ quiet (deed ∷ deeds) c d l =
     of_made : (x : Deed) (a b : Side) → Made x a b → IsQuiet a b
     of_made x a b m = record { holds = m.holds; read = m.read }
 
-    quiet_one : (x : Deed) (a b : Side) → Rattle.chain_deeds.specs.Made.Leaves x a b → IsQuiet a b
+    quiet_one : (x : Deed) (a b : Side) → Rattle.sock_ops.specs.Made.Leaves x a b → IsQuiet a b
     quiet_one (entered port note) a b m = record { holds = ap (λ (e : Side). e.view.slot.holds) (sym m); read = ap (λ (e : Side). e.view.read) (sym m) }
     quiet_one (inserted wish tried) a b m = of_made (inserted wish tried) a b m
     quiet_one (added card tried) a b m = of_made (added card tried) a b m

@@ -26,7 +26,7 @@ use Rattle.nulls_chain.specs.Changes.{IsPlaced}
 use Rattle.table_rule.specs.declared.view.BookView.{BookView}
 use Rattle.table_model.specs.Own.{Mine}
 use Rattle.table_model.specs.Goes.{tables_by}
-use Rattle.chain_deeds.specs.Sides.{chains_by}
+use Rattle.sock_ops.specs.Sides.{chains_by}
 use Rattle.shared_sockets.specs.Alone.{chains_of}
 use Rattle.section_machine.specs.Carried.{HasEnough, Spends}
 use Rattle.section_machine.specs.Sections.{Kept}

@@ -1,7 +1,7 @@
 -- A worker that is alone at its tables, between two calls, and the tables as it knows them: our own. No public
 -- contract cites this file.
 use Rattle.bind_buckets.specs.Turned.{IsAlone}
-use Rattle.chain_deeds.specs.Sides.{HoldsNothing, chains_by}
+use Rattle.sock_ops.specs.Sides.{HoldsNothing, chains_by}
 use Rattle.reuseport_group.specs.Passes as lists
 use Rattle.sock_ops.specs.declared.tables.Tables.{Tables}
 use Rattle.sock_ops.specs.declared.tables.Worker.{Worker}

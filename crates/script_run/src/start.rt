@@ -9,10 +9,9 @@ ghost use Rattle.section_machine.specs.Standing.{AreOf};
 ghost use Rattle.table_model.specs.Tables.{new_tables};
 
 use bind_buckets::{Sharing, turning};
-use chain_deeds::ChainTable;
 use flat_list::Header;
 use reuseport_group::Groups;
-use sock_ops::{Tables, Worker};
+use sock_ops::{ChainTable, Tables, Worker};
 use std::alloc::{AllocError, Global};
 
 /// Empty tables of that header, and the worker that is alone at them. Their chains keep no changes.

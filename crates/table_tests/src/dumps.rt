@@ -6,12 +6,11 @@ ghost use Rattle.turn_table.specs.Passes as words;
 
 use bind_buckets::{Sharing, turning};
 use chain_book::Shape;
-use chain_deeds::ChainTable;
 use flat_list::{First, NONE_RESERVED, Options, Range};
 use patience::Waits;
 use port_search::Ports;
 use reuseport_group::Groups;
-use sock_ops::{Sock, Tables, Unbound, Worker, listen};
+use sock_ops::{ChainTable, Sock, Tables, Unbound, Worker, listen};
 use socket_list::{Listing, Span};
 use std::alloc::{AllocError, Global};
 use std::sync::Wait;
