@@ -13,9 +13,9 @@ ghost use Rattle.sock_script.specs.Output.{flat_listings, flat_replies};
 ghost use Rattle.sock_script.specs.Shown.{shown};
 ghost use Rattle.sock_script.specs.Steps.{takes_items};
 
-use crate::listing::list;
-use crate::look::look;
-use crate::start::start;
+use crate::script_run::listing::list;
+use crate::script_run::look::look;
+use crate::script_run::start::start;
 use capture_reader::{Capture, Item};
 use flat_list::kept::Form;
 use flat_list::owned::packet_of;
