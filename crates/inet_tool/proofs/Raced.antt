@@ -1,8 +1,8 @@
 -- What a race returns can be written, and its text is one of a lawful record, which passes an audit.
 use Rattle.std.proofs.Common.{◌≡◌, ◌∙◌, ◌<◌, ◌≤◌, ◌^◌, ℕ, List, ap, length, refl, subst, sym}
 use Rattle.std.specs.Prelude.{Result, Ok, Err}
-use Rattle.audit_laws.specs.Laws.{IsAnswer, SaysYes}
-use Rattle.audit_laws.proofs.Whole.{written_passes}
+use Rattle.race_laws.specs.Laws.{IsAnswer, SaysYes}
+use Rattle.race_laws.proofs.audits.Whole.{written_passes}
 use Rattle.capture_reader.specs.Captures.{Capture}
 use Rattle.capture_reader.specs.Grammar.{IsCapture}
 use Rattle.capture_reader.specs.Numbers.{AreBytes}

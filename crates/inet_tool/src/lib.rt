@@ -7,7 +7,7 @@
 //! writes whether it passes the tests of the judge, or where it fails which. The contract of [`inet`] has each status
 //! of the table below, when it comes and what was written then; `main` makes the real ends, calls it and ends with the
 //! status. It stands on `sock_script`, `race_run`, `race_text`, `record_reader` and `inet_io`, on `clap` for the words,
-//! and for what it says of a race on the laws of `race_laws` and `audit_laws`.
+//! and for what it says of a race on the laws of `race_laws`.
 //!
 //! | Status | Exit | When | Written |
 //! |---|---|---|---|
