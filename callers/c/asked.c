@@ -39,6 +39,13 @@ static void look(struct inet_looker *looker, uint64_t after, const char *when) {
         printf(" %s%s", KINDS[sights[i].kind], i + 1 < PACKETS ? "," : "\n");
 }
 
+/* The connection's packet alone. */
+static void look_once(struct inet_looker *looker, uint64_t after, const char *when) {
+    struct inet_sight sight;
+    int error = inet_looker_look(looker, CLIENT, 4000, PROXY, 80, 0, 0, after, &sight);
+    printf("one packet, %s: %s\n", when, KINDS[error == EAGAIN ? INET_AGAIN : (int)sight.kind]);
+}
+
 static void tell_left(struct inet_worker *worker) {
     struct inet_left left;
     uint64_t moment;
@@ -73,6 +80,8 @@ int main(void) {
     must(inet_worker_now(&worker, &clock), "now");
     look(&looker, clock, "from the worker's clock on");
     look(&looker, clock + 1, "from a later clock on");
+    look_once(&looker, clock, "from the worker's clock on");
+    look_once(&looker, clock + 1, "from a later clock on");
     must(inet_worker_close(&worker, socket, &waits), "close");
     tell(&worker, socket);
     tell_left(&worker);

@@ -130,7 +130,7 @@ static void check(struct actor *me, uint32_t worker, uint32_t port) {
     int error;
     uint64_t before = atomic_load(&record[worker - 1][port]);
     error = inet_looker_look(&me->looker, CLIENTS + worker, (uint16_t)(FIRST_PORT + port), PROXY,
-                             (uint16_t)(8000 + worker), 0, 0, &sight);
+                             (uint16_t)(8000 + worker), 0, 0, 0, &sight);
     uint64_t after = atomic_load(&record[worker - 1][port]);
     if (again(error, "look"))
         return;

@@ -127,7 +127,7 @@ static const char *receive(const struct segment *it, uint64_t socket) {
 
 static const char *take(const struct segment *it) {
     struct inet_sight sight;
-    must(inet_looker_look(&looker, it->from, it->from_port, it->to, it->to_port, 0, 0, &sight), "look");
+    must(inet_looker_look(&looker, it->from, it->from_port, it->to, it->to_port, 0, 0, 0, &sight), "look");
     switch (sight.kind) {
     case INET_LISTENER: return begin(it, sight.socket);
     case INET_REQUEST: return go_on(it, sight.socket);

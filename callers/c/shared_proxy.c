@@ -92,7 +92,7 @@ static struct inet_sight look(struct looker *me, uint16_t from_port) {
     struct inet_sight sight;
     int error;
     do
-        error = inet_looker_look(&me->handle, CLIENTS + me->worker, from_port, PROXY, port_of(me->worker), 0, 0,
+        error = inet_looker_look(&me->handle, CLIENTS + me->worker, from_port, PROXY, port_of(me->worker), 0, 0, 0,
                                  &sight);
     while (again(error));
     must(error, "look");
@@ -201,6 +201,6 @@ int main(void) {
            sight.kind == INET_LISTENER ? "the listener" : "another socket");
     inet_looker_free(&lookers[0].handle);
     inet_looker_free(&lookers[1].handle);
-    printf("a packet when all are gone: %s\n", name(inet_looker_look(&lookers[1].handle, 1, 1, 1, 1, 0, 0, &sight)));
+    printf("a packet when all are gone: %s\n", name(inet_looker_look(&lookers[1].handle, 1, 1, 1, 1, 0, 0, 0, &sight)));
     return 0;
 }

@@ -53,7 +53,7 @@ static uint32_t look_at(struct tables *t, uint32_t connections) {
         struct inet_sight sight;
         word = word * 6364136223846793005 + 1442695040888963407;
         struct ends e = ends_of((uint32_t)((word >> 32) % connections));
-        must(inet_looker_look(&t->looker, e.from, e.from_port, PROXY, e.port, 0, 0, &sight), "look");
+        must(inet_looker_look(&t->looker, e.from, e.from_port, PROXY, e.port, 0, 0, 0, &sight), "look");
         found += sight.kind == INET_CONNECTED;
     }
     return found;

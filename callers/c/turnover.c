@@ -54,7 +54,7 @@ static uint32_t take_lookers(struct inet_tables *tables, uint32_t count) {
             uint32_t n = 1 + done % MOST_WORKERS;
             struct inet_sight sight;
             must(inet_tables_looker(tables, &lookers[i]), "looker");
-            must(inet_looker_look(&lookers[i], CLIENTS + n, 1024, PROXY, (uint16_t)(8000 + n), 0, 0, &sight), "look");
+            must(inet_looker_look(&lookers[i], CLIENTS + n, 1024, PROXY, (uint16_t)(8000 + n), 0, 0, 0, &sight), "look");
             found += sight.kind == INET_CONNECTED && sight.worker == n && sight.socket == left[n];
         }
         for (uint32_t i = 0; i < out; i++)

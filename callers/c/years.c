@@ -64,7 +64,7 @@ static void look(struct actor *me) {
     struct inet_sight sight;
     uint32_t worker = 1 + (uint32_t)(me->made % WORKERS);
     uint16_t from_port = (uint16_t)(1024 + me->made % CLIENT_PORTS);
-    if (count(me, inet_looker_look(&me->looker, CLIENTS + worker, from_port, PROXY, (uint16_t)(8000 + worker), 0, 0,
+    if (count(me, inet_looker_look(&me->looker, CLIENTS + worker, from_port, PROXY, (uint16_t)(8000 + worker), 0, 0, 0,
                                    &sight)) == 0 &&
         (sight.kind == INET_NONE || sight.worker != worker))
         atomic_fetch_add_explicit(&me->strange, 1, memory_order_relaxed);

@@ -6,6 +6,15 @@
 //! ../inet_tables.h says what each call does, and what a caller owes. Here the types see to that: each value owns its
 //! handle, so it is made once, at one call at a time, and given up once; it has the calls that are for it alone; and
 //! the numbers that a call writes are its own.
+//!
+//! It takes `core` and `alloc` alone, and with the feature `std`, which is on by default, makes std's errors of its
+//! refusals. The library's memory comes from malloc, realloc and free of the C library.
+#![no_std]
+#![warn(missing_docs)]
+
+extern crate alloc;
+#[cfg(feature = "std")]
+extern crate std;
 
 mod errno;
 mod heap;
@@ -17,7 +26,7 @@ pub use errno::Errno;
 pub use list::List;
 pub use shared::{Looker, Tables, Worker};
 
-use std::net::SocketAddrV4;
+use core::net::SocketAddrV4;
 
 /// The sizes of tables: ../inet_tables.h has their ranges.
 #[derive(Clone, Copy, Debug)]

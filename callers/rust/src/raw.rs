@@ -1,10 +1,12 @@
 //! The handles, the library's exports, and each of its calls: all that is unsafe in this crate but ../src/heap.rs.
 
 use crate::{Errno, Item, Left, Limits, Open, Options, Packet, Sight, Sizes, Socket, State};
-use std::ffi::c_void;
-use std::net::{Ipv4Addr, SocketAddrV4};
-use std::ptr::null_mut;
-use std::sync::atomic::{AtomicU64, Ordering};
+use alloc::vec;
+use alloc::vec::Vec;
+use core::ffi::c_void;
+use core::net::{Ipv4Addr, SocketAddrV4};
+use core::ptr::null_mut;
+use core::sync::atomic::{AtomicU64, Ordering};
 
 #[repr(C)]
 struct RawSizes {
@@ -177,6 +179,7 @@ unsafe extern "C" {
         dport: u16,
         dev: u16,
         net: u8,
+        after: u64,
         sight: &mut RawSight,
     ) -> i32;
     fn inet_looker_look_all(
@@ -285,12 +288,11 @@ impl Tables {
 }
 
 impl Looker {
-    pub fn look(&mut self, from: SocketAddrV4, to: SocketAddrV4, dev: u16, net: u8) -> Result<Option<Sight>, Errno> {
-        let (src, sport) = numbers(from);
-        let (dst, dport) = numbers(to);
+    pub fn look(&mut self, packet: &Packet, after: u64) -> Result<Option<Sight>, Errno> {
+        let RawPacket { src, dst, sport, dport, dev, net } = raw_packet(packet);
         let mut sight = RawSight { kind: 0, worker: 0, socket: 0 };
         // SAFETY: see above.
-        done(unsafe { inet_looker_look(self, src, sport, dst, dport, dev, net, &mut sight) })?;
+        done(unsafe { inet_looker_look(self, src, sport, dst, dport, dev, net, after, &mut sight) })?;
         Ok(sight_of(sight.kind, sight.worker, sight.socket))
     }
 
