@@ -57,6 +57,10 @@ struct inet_sizes {
     uint16_t low;    /* ports of searches: from low, at least 1, */
     uint16_t high;   /* to high, an even number of them */
     bool twreuse;    /* tcp_tw_reuse */
+    bool has_offset; /* each search begins at offset, from low on round the range; else at one that is drawn */
+    uint16_t offset;
+    uint16_t reserved[64];  /* ip_local_reserved_ports: the first */
+    uint8_t reserved_count; /* of these, 64 at most, are kept from searches */
 };
 
 /* The limits of a worker. All 0 but the size: each call tries once, and there is no other limit. */

@@ -60,7 +60,8 @@ int main(void) {
     struct inet_tables tables = {0};
     struct inet_worker worker = {0};
     struct inet_looker looker = {0};
-    struct inet_sizes sizes = {sizeof sizes, 4096, 16, 256, 32, 0, 32768, 60999, false};
+    struct inet_sizes sizes = {.size = sizeof sizes, .slots = 4096, .bind = 16, .hash = 256, .listen = 32, .seed = 0,
+                               .low = 32768, .high = 60999};
     struct inet_limits limits = {sizeof limits, 0, 0, 0};
     uint64_t listener, socket, clock, count;
     uint32_t number;

@@ -168,7 +168,8 @@ static void finish(struct accepter *me) {
 }
 
 int main(void) {
-    struct inet_sizes sizes = {sizeof sizes, 4096, 16, 256, 32, 7, 32768, 60999, false};
+    struct inet_sizes sizes = {.size = sizeof sizes, .slots = 4096, .bind = 16, .hash = 256, .listen = 32, .seed = 7,
+                               .low = 32768, .high = 60999};
     struct inet_tables tables = {NULL};
     must(inet_tables_new(&tables, &sizes, 1), "new");
     printf("tables in the same handle again: %s\n", name(inet_tables_new(&tables, &sizes, 2)));

@@ -25,7 +25,8 @@ static struct ends ends_of(uint32_t connection) {
 /* At least as many buckets as connections, and a tenth more slots. */
 static void open_tables(struct tables *t, uint32_t connections) {
     uint32_t slots = connections + connections / 10 + LISTENERS;
-    struct inet_sizes sizes = {sizeof sizes, slots, 256, 2, 64, 1, 32768, 60999, false};
+    struct inet_sizes sizes = {.size = sizeof sizes, .slots = slots, .bind = 256, .hash = 2, .listen = 64, .seed = 1,
+                               .low = 32768, .high = 60999};
     while (sizes.hash < connections)
         sizes.hash *= 2;
     must(inet_tables_new(&t->shared, &sizes, 1), "new");

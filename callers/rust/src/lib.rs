@@ -47,12 +47,53 @@ pub struct Sizes {
     pub high: u16,
     /// Whether `connect` may take the place of a TIME_WAIT (tcp_tw_reuse).
     pub twreuse: bool,
+    /// Where each search begins, from `low` on round the range; without it at a port that is drawn.
+    pub offset: Option<u16>,
+    /// Ports that no search takes (ip_local_reserved_ports).
+    pub reserved: Reserved,
+}
+
+/// Ports that are kept from searches, 64 at most; by default none.
+#[derive(Clone, Copy, Debug)]
+pub struct Reserved {
+    ports: [u16; 64],
+    count: u8,
+}
+
+impl Reserved {
+    /// No port.
+    pub const NONE: Reserved = Reserved { ports: [0; 64], count: 0 };
+
+    /// These ports, in whatever order. None: they are more than 64.
+    pub fn of(ports: &[u16]) -> Option<Self> {
+        let mut reserved = Reserved::NONE;
+        reserved.ports.get_mut(..ports.len())?.copy_from_slice(ports);
+        reserved.count = ports.len() as u8;
+        Some(reserved)
+    }
+}
+
+impl Default for Reserved {
+    fn default() -> Self {
+        Reserved::NONE
+    }
 }
 
 impl Default for Sizes {
     /// The sizes of a script that names none.
     fn default() -> Self {
-        Sizes { slots: 1024, bind: 16, hash: 256, listen: 32, seed: 0, low: 32768, high: 60999, twreuse: false }
+        Sizes {
+            slots: 1024,
+            bind: 16,
+            hash: 256,
+            listen: 32,
+            seed: 0,
+            low: 32768,
+            high: 60999,
+            twreuse: false,
+            offset: None,
+            reserved: Reserved::NONE,
+        }
     }
 }
 

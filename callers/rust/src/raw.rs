@@ -19,6 +19,10 @@ struct RawSizes {
     low: u16,
     high: u16,
     twreuse: bool,
+    has_offset: bool,
+    offset: u16,
+    reserved: [u16; 64],
+    reserved_count: u8,
 }
 
 #[repr(C)]
@@ -231,8 +235,22 @@ fn done(errno: i32) -> Result<(), Errno> {
 
 impl From<&Sizes> for RawSizes {
     fn from(sizes: &Sizes) -> Self {
-        let Sizes { slots, bind, hash, listen, seed, low, high, twreuse } = *sizes;
-        RawSizes { size: size_of::<RawSizes>() as u32, slots, bind, hash, listen, seed, low, high, twreuse }
+        let Sizes { slots, bind, hash, listen, seed, low, high, twreuse, offset, reserved } = *sizes;
+        RawSizes {
+            size: size_of::<RawSizes>() as u32,
+            slots,
+            bind,
+            hash,
+            listen,
+            seed,
+            low,
+            high,
+            twreuse,
+            has_offset: offset.is_some(),
+            offset: offset.unwrap_or(0),
+            reserved: reserved.ports,
+            reserved_count: reserved.count,
+        }
     }
 }
 

@@ -158,8 +158,8 @@ impl Looker {
         self.0.look(&Packet { from, to, dev, net }, 0)
     }
 
-    /// [`Looker::look`] from a number of the clock on. EAGAIN: as of `look`, or it began before the clock was at `after`,
-    /// which none does once [`Worker::now`] has answered that number.
+    /// [`Looker::look`] from a number of the clock on. EAGAIN: as of `look`, or it began before the clock was at
+    /// `after`, which none does once [`Worker::now`] has answered that number.
     pub fn look_after(&mut self, packet: &Packet, after: u64) -> Result<Option<Sight>, Errno> {
         self.0.look(packet, after)
     }
