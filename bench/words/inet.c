@@ -115,7 +115,7 @@ static int table_look(struct worker *w, uint32_t from, uint16_t from_port, uint3
                       uint32_t *kind)
 {
     struct inet_sight sight;
-    int error = inet_looker_look(&w->looker, from, from_port, at, at_port, 0, 0, &sight);
+    int error = inet_looker_look(&w->looker, from, from_port, at, at_port, 0, 0, 0, &sight);
     *kind = error ? 9 : sight.kind;
     return error;
 }

@@ -54,6 +54,7 @@ fn connected(rport: u16, name: u64) -> Card
         kind: Kind::Full,
         name,
         extra: 0,
+        mark: 0,
     }
 }
 
@@ -64,6 +65,7 @@ fn waiting(rport: u16, name: u64, since: u32) -> Card
     Card {
         kind: Kind::TimeWait,
         extra: since,
+        mark: 0,
         ..connected(rport, name)
     }
 }
@@ -82,6 +84,7 @@ fn listening(local: u32, dev: u16, name: u64, extra: u32) -> Card
         kind: Kind::Listen,
         name,
         extra,
+        mark: 0,
     }
 }
 

@@ -67,6 +67,7 @@ fn connected(name: u64) -> Card
         kind: Kind::Full,
         name,
         extra: 0,
+        mark: 0,
     }
 }
 
@@ -84,6 +85,7 @@ fn waiting(name: u64) -> Card
         kind: Kind::TimeWait,
         name,
         extra: 0,
+        mark: 0,
     }
 }
 
@@ -101,6 +103,7 @@ fn listening(name: u64) -> Card
         kind: Kind::Listen,
         name,
         extra: 0,
+        mark: 0,
     }
 }
 

@@ -24,8 +24,8 @@ use Rattle.table_model.specs.Asking.{Asking, ends}
 use Rattle.table_model.specs.Operations.{Did, done, refused, request_card, request_in, syn, syn_as, syn_hashed}
 use Rattle.race_record.specs.Deeds.{Deed, Tried, Wish, hashed, kept_out, no_slot, inserted}
 use Rattle.race_record.specs.Goes.{outcome_of, hashed_of}
-use Rattle.chain_deeds.specs.Sides.{Side}
-use Rattle.chain_deeds.specs.Made.{Does}
+use Rattle.sock_ops.specs.Sides.{Side}
+use Rattle.sock_ops.specs.Made.{Does}
 use Rattle.sock_ops.specs.Leads.{Leads}
 use Rattle.sock_ops.specs.Goes.{Went, Carried, AreAsked, AskedAll, gone_of}
 use Rattle.sock_ops.specs.Handshaking.{OwnersStay}
@@ -120,6 +120,6 @@ listener_owns t (socks.Listening m) v c fits listens stood = stood.0
 listener_owns t (socks.Full m) v c fits listens stood = stood.0
 listener_owns t (socks.Request m) v c fits listens stood = absurd (let e : states.Request ≡ states.Listening = sym fits ∙ listens in cc)
 
-pub syn_plan : (shape : Shape) (seed : ℕ) (m : Mine) (name : ℕ) (from at : End) → is_no_accept m.owner from at ≡ false → syn_as shape seed (request_owner m.owner name from at) ≡ syn shape seed m name from at
-syn_plan shape seed m name from at isnt =
-    sym (ap (λ b. if b then ends (refused errors.Inval) else syn_as shape seed (request_owner m.owner name from at)) isnt)
+pub syn_plan : (shape : Shape) (seed : ℕ) (m : Mine) (name mark : ℕ) (from at : End) → is_no_accept m.owner from at ≡ false → syn_as shape seed (request_owner m.owner name mark from at) ≡ syn shape seed m name mark from at
+syn_plan shape seed m name mark from at isnt =
+    sym (ap (λ b. if b then ends (refused errors.Inval) else syn_as shape seed (request_owner m.owner name mark from at)) isnt)
