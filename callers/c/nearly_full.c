@@ -20,8 +20,9 @@ struct tables {
 struct timing { uint64_t calls, all, slowest; };
 
 static void open_tables(struct tables *t, uint32_t slots) {
-    struct inet_sizes sizes = {sizeof sizes, slots, 256, 2, 32, 1, 32768, 60999, false};
-    struct inet_limits limits = {sizeof limits, 1000, 0, FULL_FOR};
+    struct inet_sizes sizes = {.size = sizeof sizes, .slots = slots, .bind = 256, .hash = 2, .listen = 32, .seed = 1,
+                               .low = 32768, .high = 60999};
+    struct inet_limits limits = {.size = sizeof limits, .tries = 1000, .full_for = FULL_FOR};
     while (sizes.hash < slots)
         sizes.hash *= 2;
     must(inet_tables_new(&t->shared, &sizes, 1), "new");

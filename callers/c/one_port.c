@@ -73,7 +73,8 @@ static void open_seat(struct inet_tables *tables, struct seat *seat, bool shared
 /* How many calls were refused. */
 static uint64_t measure(int workers, bool shared, int seconds) {
     struct inet_tables tables = {0};
-    struct inet_sizes sizes = {sizeof sizes, 65536, 256, 65536, 32, 1, 32768, 60999, false};
+    struct inet_sizes sizes = {.size = sizeof sizes, .slots = 65536, .bind = 256, .hash = 65536, .listen = 32,
+                               .seed = 1, .low = 32768, .high = 60999};
     uint64_t done = 0, again = 0, refused = 0, begun = nanoseconds();
     must(inet_tables_new(&tables, &sizes, 1), "new");
     for (int i = 0; i < workers; i++)
