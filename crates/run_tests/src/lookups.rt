@@ -7,7 +7,7 @@ use flat_list::{
     Command, End, Header, KeptCommand, Label, NONE_RESERVED, Options, Query, Range, Script, Shape,
 };
 use label_index::LabelSeed;
-use script_run::run;
+use race_run::run;
 use sock_card::{Card, Kind};
 use sock_script::output::text;
 use std::alloc::{AllocError, Global};

@@ -28,7 +28,7 @@ use Rattle.table_model.specs.Operations.{Did, done, refused, Closed, gone, waiti
 use Rattle.race_record.specs.Deeds.{Deed, entered, inserted, added, left, reaped, entries_in}
 use Rattle.race_record.specs.Goes.{outcome_of, was_there}
 use Rattle.bind_buckets.specs.Turned.{View}
-use Rattle.chain_deeds.specs.Sides.{Side}
+use Rattle.sock_ops.specs.Sides.{Side}
 use Rattle.sock_ops.specs.Goes.{Went}
 use Rattle.sock_ops.specs.Leads.{Leads}
 use Rattle.sock_ops.proofs.AcceptGoes.{accepts}

@@ -14,7 +14,7 @@ use Rattle.sock_card.specs.declared.owner.State.TheVariants as states
 use Rattle.turn_table.specs.Passes as words
 use Rattle.bind_buckets.specs.Turned.{View}
 use Rattle.chain_book.specs.declared.shape.Shape.{Shape}
-use Rattle.chain_deeds.specs.Sides.{Side}
+use Rattle.sock_ops.specs.Sides.{Side}
 use Rattle.flat_list.specs.declared.header.Header.{Header}
 use Rattle.flat_list.specs.declared.command.Reply.{Reply}
 use Rattle.flat_list.specs.declared.command.Reply.TheVariants as replies

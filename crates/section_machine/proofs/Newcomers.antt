@@ -12,7 +12,7 @@ use Rattle.bind_buckets.specs.declared.request.Entry.{Entry}
 use Rattle.bind_buckets.specs.OwnTold.{KeepsOpen}
 use Rattle.bind_buckets.proofs.OwnTold.{with_name}
 use Rattle.bind_buckets.specs.Turned.{View, Gave}
-use Rattle.chain_deeds.specs.Sides.{Side}
+use Rattle.sock_ops.specs.Sides.{Side}
 use Rattle.table_model.specs.Own.{Mine}
 use Rattle.sock_ops.specs.declared.tables.Tables.{Tables}
 use Rattle.sock_ops.specs.There.{IsNew}

@@ -6,8 +6,8 @@ use Rattle.list_words.proofs.EachLemmas.{each_push}
 use Rattle.turn_table.specs.Passes as words
 use Rattle.table_rule.specs.Calls.{HasShares}
 use Rattle.bind_buckets.specs.Turned.{Gave}
-use Rattle.chain_deeds.specs.Made.{Does}
-use Rattle.chain_deeds.specs.Sides.{Side}
+use Rattle.sock_ops.specs.Made.{Does}
+use Rattle.sock_ops.specs.Sides.{Side}
 use Rattle.table_model.specs.Asking.{Asking, ends}
 use Rattle.table_model.specs.Own.{Mine, is_over}
 use Rattle.table_model.specs.Operations.{reap, reap_each, kept_waits}

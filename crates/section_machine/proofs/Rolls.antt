@@ -7,8 +7,8 @@ use Rattle.sock_card.specs.declared.owner.State.TheVariants as states
 use Rattle.turn_table.specs.declared.note.Placed.{Placed}
 use Rattle.bind_buckets.specs.declared.request.Entry.{Entry}
 use Rattle.bind_buckets.specs.Turned.{View}
-use Rattle.chain_deeds.specs.Sides.{Side}
-use Rattle.chain_deeds.specs.Made.{Spares}
+use Rattle.sock_ops.specs.Sides.{Side}
+use Rattle.sock_ops.specs.Made.{Spares}
 use Rattle.race_record.specs.Deeds.{Deed}
 use Rattle.table_model.specs.Own.{Mine, is_named, replaced}
 use Rattle.sock_ops.specs.declared.tables.Tables.{Tables}

@@ -13,8 +13,8 @@ use Rattle.flat_list.specs.declared.header.Header.{Header}
 use Rattle.flat_list.specs.declared.command.Reply.{Reply}
 use Rattle.flat_list.specs.declared.command.Reply.TheVariants as replies
 use Rattle.flat_list.specs.Sections.{name_at}
-use Rattle.chain_deeds.specs.Made.{Does}
-use Rattle.chain_deeds.specs.Sides.{Side}
+use Rattle.sock_ops.specs.Made.{Does}
+use Rattle.sock_ops.specs.Sides.{Side}
 use Rattle.port_search.proofs.TurnSearch.{gave_none}
 use Rattle.race_record.specs.Deeds.{Deed, entries_in}
 use Rattle.race_record.specs.Goes.{Goes}

@@ -19,8 +19,8 @@ use Rattle.bind_buckets.specs.Followed.{speaks_of}
 use Rattle.bind_buckets.specs.Turned.{View, Gave}
 use Rattle.chain_book.specs.Homes.{home}
 use Rattle.table_rule.specs.declared.view.Layout.{Layout}
-use Rattle.chain_deeds.specs.Sides.{Side}
-use Rattle.chain_deeds.specs.Made.{Does, AllLeave, Spares}
+use Rattle.sock_ops.specs.Sides.{Side}
+use Rattle.sock_ops.specs.Made.{Does, AllLeave, Spares}
 use Rattle.race_record.specs.Deeds.{Deed, entered, inserted, added, left, reaped}
 use Rattle.table_model.specs.Own.{Mine, is_named, replaced, card_of}
 use Rattle.sock_ops.specs.declared.tables.Tables.{Tables}

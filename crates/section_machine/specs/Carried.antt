@@ -7,8 +7,8 @@ use Rattle.turn_table.specs.Passes as words
 use Rattle.bind_buckets.specs.Turned.{View, Gave}
 use Rattle.flat_list.specs.declared.command.Reply.{Reply}
 use Rattle.flat_list.specs.declared.command.Reply.TheVariants as replies
-use Rattle.chain_deeds.specs.Made.{Does}
-use Rattle.chain_deeds.specs.Sides.{Side}
+use Rattle.sock_ops.specs.Made.{Does}
+use Rattle.sock_ops.specs.Sides.{Side}
 use Rattle.race_record.specs.Deeds.{Deed, entries_in}
 use Rattle.race_record.specs.Goes.{Goes}
 use Rattle.table_model.specs.declared.operation.OpEnd.{OpEnd}

@@ -11,8 +11,8 @@ use Rattle.bind_buckets.specs.Turned.{View, Gave}
 use Rattle.flat_list.specs.declared.command.Command.{Command}
 use Rattle.flat_list.specs.declared.command.Command.TheVariants as commands
 use Rattle.flat_list.specs.declared.header.Header.{Header}
-use Rattle.chain_deeds.specs.Made.{Does}
-use Rattle.chain_deeds.specs.Sides.{Side, changes_by}
+use Rattle.sock_ops.specs.Made.{Does}
+use Rattle.sock_ops.specs.Sides.{Side, changes_by}
 use Rattle.race_record.specs.Deeds.{Deed, entries_in}
 use Rattle.table_model.specs.Asking.{Asking}
 use Rattle.table_model.specs.Operations.{reap, reap_each, source_to}

@@ -11,7 +11,7 @@ use Rattle.turn_table.specs.Passes as words
 use Rattle.bind_buckets.specs.declared.request.Entry.{Entry}
 use Rattle.bind_buckets.specs.OwnTold.{KeepsOpen, is_told}
 use Rattle.bind_buckets.specs.Turned.{View}
-use Rattle.chain_deeds.specs.Sides.{Side}
+use Rattle.sock_ops.specs.Sides.{Side}
 use Rattle.flat_list.specs.declared.header.Header.{Header}
 use Rattle.table_model.specs.Own.{Own, Mine, next_name}
 use Rattle.sock_ops.specs.declared.tables.Tables.{Tables}

@@ -8,7 +8,7 @@ use Rattle.sock_card.specs.declared.owner.Owner.{Owner}
 use Rattle.sock_card.specs.declared.owner.State.{State}
 use Rattle.sock_card.specs.declared.owner.State.TheVariants as states
 use Rattle.chain_book.specs.declared.book.Change.{Change}
-use Rattle.chain_deeds.specs.Sides.{changes_by}
+use Rattle.sock_ops.specs.Sides.{changes_by}
 use Rattle.flat_calls.specs.declared.item.Item.{Item}
 use Rattle.flat_list.specs.declared.command.Command.{Command}
 use Rattle.section_machine.specs.Opened.{owner_of}

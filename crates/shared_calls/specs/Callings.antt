@@ -5,7 +5,7 @@
 use Rattle.std.specs.Prelude.{◌≡◌, ◌⊎◌, ℕ, ◌+◌, ◌-◌, ◌*◌, ◌<◌, ◌≤◌, ◌^◌, length}
 use Rattle.list_words.specs.Lists.{Each}
 use Rattle.chain_book.specs.declared.book.Change.{Change}
-use Rattle.chain_deeds.specs.Sides.{changes_by}
+use Rattle.sock_ops.specs.Sides.{changes_by}
 use Rattle.flat_list.specs.declared.command.Command.{Command}
 use Rattle.flat_list.specs.declared.command.Command.TheVariants as commands
 use Rattle.flat_list.specs.declared.command.Reply.{Reply}

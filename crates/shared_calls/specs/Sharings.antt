@@ -1,7 +1,7 @@
 -- What shared tables are between two calls, and what they hand out: our own.
 use Rattle.std.specs.Prelude.{◌≡◌, ◌⊎◌, ℕ, ◌+◌, ◌<◌, ◌≤◌, List, [], ◌∷◌, ◌++◌, length, false}
 use Rattle.bind_buckets.specs.declared.request.Sharing.TheVariants as sharings
-use Rattle.chain_deeds.specs.Sides.{IsResting, HoldsNothing}
+use Rattle.sock_ops.specs.Sides.{IsResting, HoldsNothing}
 use Rattle.flat_list.specs.Fits.{FitsTables}
 use Rattle.flat_list.specs.declared.header.Header.{Header}
 use Rattle.reuseport_group.specs.Passes as lists

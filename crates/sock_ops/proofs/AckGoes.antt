@@ -23,7 +23,7 @@ use Rattle.table_model.specs.Own.{Mine, card_of}
 use Rattle.table_model.specs.Asking.{Asking, ends, asks}
 use Rattle.table_model.specs.Operations.{Did, done, refused, full_card, full_in, when_done, ack, ack_as, ack_by, ack_from, ack_hashed}
 use Rattle.race_record.specs.Deeds.{Deed, Tried, hashed, no_slot, added, left}
-use Rattle.chain_deeds.specs.Sides.{Side}
+use Rattle.sock_ops.specs.Sides.{Side}
 use Rattle.sock_ops.specs.Leads.{Leads}
 use Rattle.sock_ops.specs.Goes.{Went, Carried, AskedAll}
 use Rattle.sock_ops.specs.Accepting.{accepted}

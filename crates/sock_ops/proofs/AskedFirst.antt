@@ -15,7 +15,7 @@ use Rattle.bind_buckets.specs.Turned.{View, Hash, Pass, Out, Gave, made}
 use Rattle.port_search.proofs.TurnSearch.{gave_both}
 use Rattle.port_search.specs.Search.{at_port}
 use Rattle.port_search.specs.Turned.{BindsAt, BindsIn}
-use Rattle.chain_deeds.specs.Sides.{Side}
+use Rattle.sock_ops.specs.Sides.{Side}
 use Rattle.table_model.specs.declared.operation.OpEnd.{OpEnd}
 use Rattle.table_model.specs.Asking.{Asking}
 use Rattle.table_model.specs.Own.{Mine}

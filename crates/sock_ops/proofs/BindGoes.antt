@@ -26,8 +26,8 @@ use Rattle.table_model.specs.Asking.{Asking, ends, asks}
 use Rattle.table_model.specs.Own.{Mine}
 use Rattle.table_model.specs.Operations.{Did, done, refused, plain, search_bind, found_next, bound, bind_answered, bind_unbound, bind_as, bind}
 use Rattle.race_record.specs.Deeds.{Deed, entries_in}
-use Rattle.chain_deeds.specs.Sides.{Side}
-use Rattle.chain_deeds.specs.Made.{Does}
+use Rattle.sock_ops.specs.Sides.{Side}
+use Rattle.sock_ops.specs.Made.{Does}
 use Rattle.sock_ops.specs.declared.sock.Sock.{Sock}
 use Rattle.sock_ops.specs.Binding.{end_of_bind, end_of_search, bound_to, bound_answer}
 use Rattle.sock_ops.specs.Leads.{Leads}

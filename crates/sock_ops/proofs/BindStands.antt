@@ -22,7 +22,7 @@ use Rattle.table_model.specs.Asking.{Asking, ends, asks, inserts, adds, unhashes
 use Rattle.table_model.specs.Own.{Mine}
 use Rattle.flat_list.specs.Owned.{addressed}
 use Rattle.table_model.specs.Operations.{Did, done, plain, bound, refused, search_bind, found_next, bind_answered, bind_any, bind_as, bind}
-use Rattle.chain_deeds.specs.Sides.{Side}
+use Rattle.sock_ops.specs.Sides.{Side}
 use Rattle.sock_ops.specs.declared.sock.Sock.{Sock}
 use Rattle.sock_ops.specs.declared.sock.Sock.TheVariants as socks
 use Rattle.sock_ops.specs.declared.tables.Tables.{Tables}

@@ -33,9 +33,9 @@ use Rattle.table_model.specs.Operations.{when_done, wait_of, close_full, close_h
 use Rattle.race_record.specs.Deeds.{Deed, Tried, hashed, added, left}
 use Rattle.race_record.specs.Deeds as deeds
 use Rattle.race_record.specs.Goes.{IsUnhashAt}
-use Rattle.chain_deeds.specs.Sides.{Side}
-use Rattle.chain_deeds.specs.Made.{Does}
-use Rattle.chain_deeds.specs.Answers.{Removes}
+use Rattle.sock_ops.specs.Sides.{Side}
+use Rattle.sock_ops.specs.Made.{Does}
+use Rattle.sock_ops.specs.Answers.{Removes}
 use Rattle.port_search.proofs.TurnSearch.{gave_none}
 use Rattle.sock_ops.specs.declared.sock.Sock.{Sock}
 use Rattle.sock_ops.specs.declared.sock.Sock.TheVariants as socks

@@ -29,8 +29,8 @@ use Rattle.table_model.specs.Asking.{Asking, ends}
 use Rattle.table_model.specs.Operations.{Did, done, refused, full_card, full_in, full_done, then_replaced, when_done, connect_hashed, connect_bound}
 use Rattle.race_record.specs.Deeds.{Deed, Tried, hashed, kept_out, no_slot, inserted}
 use Rattle.race_record.specs.Goes.{outcome_of, hashed_of}
-use Rattle.chain_deeds.specs.Sides.{Side}
-use Rattle.chain_deeds.specs.Made.{Does}
+use Rattle.sock_ops.specs.Sides.{Side}
+use Rattle.sock_ops.specs.Made.{Does}
 use Rattle.sock_ops.specs.Leads.{Leads}
 use Rattle.sock_ops.specs.Goes.{Went, Carried, AreAsked, AskedAll, gone_of}
 use Rattle.sock_ops.specs.Hashing.{InsertsAs, PutsIn, wish_for}

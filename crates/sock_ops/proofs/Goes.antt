@@ -31,8 +31,8 @@ use Rattle.race_record.specs.Goes.{Goes, Grants, Admits, IsUnhashAt, outcome_of,
 use Rattle.race_record.specs.Laws.{told_of}
 use Rattle.race_record.proofs.Leads.{tells_entries}
 use Rattle.port_search.proofs.TurnSearch.{gave_none, gave_both}
-use Rattle.chain_deeds.specs.Sides.{Side, chains_by, changes_by}
-use Rattle.chain_deeds.specs.Made.{Does, AllLeave, Spares}
+use Rattle.sock_ops.specs.Sides.{Side, chains_by, changes_by}
+use Rattle.sock_ops.specs.Made.{Does, AllLeave, Spares}
 use Rattle.sock_ops.specs.Leads.{Leads}
 use Rattle.sock_ops.specs.Laws.{ComeAlone}
 use Rattle.sock_ops.specs.Stands.{buckets_of, chained, turned}

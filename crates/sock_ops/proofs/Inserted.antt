@@ -23,9 +23,9 @@ use Rattle.race_record.specs.Deeds.{Wish, Tried, hashed, kept_out, no_slot, inse
 use Rattle.race_record.specs.Goes.{Grants, IsHashOf, outcome_of, hashed_of}
 use Rattle.table_model.specs.declared.operation.OpEnd.{OpEnd}
 use Rattle.table_model.specs.declared.operation.OpEnd.TheVariants as errors
-use Rattle.chain_deeds.specs.Sides.{Side, changes_by}
-use Rattle.chain_deeds.specs.Made.{Does}
-use Rattle.chain_deeds.specs.Answers.{Inserts, IsInserted, DrawnBy, name_in}
+use Rattle.sock_ops.specs.Sides.{Side, changes_by}
+use Rattle.sock_ops.specs.Made.{Does}
+use Rattle.sock_ops.specs.Answers.{Inserts, IsInserted, DrawnBy, name_in}
 use Rattle.shared_sockets.specs.Comings.{FourDrawn}
 use Rattle.sock_ops.specs.declared.hashing.Came.{Came}
 use Rattle.sock_ops.specs.Hashing.{PutsIn, InsertsAs, DrawnAs, insert_error}

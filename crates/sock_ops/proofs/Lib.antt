@@ -22,3 +22,14 @@ pub mod Spares
 mod ListTurns
 mod AskedFirst
 pub mod Crossing
+pub mod Found
+pub mod Seen
+pub mod Stays
+pub mod Left
+pub mod Alone
+pub mod Comes
+pub mod ChainGoes
+pub mod Hands
+pub mod Reaps
+pub mod Rooms
+pub mod Homes

@@ -23,8 +23,8 @@ use Rattle.table_model.specs.Own.{Mine, card_of}
 use Rattle.table_model.specs.Asking.{Asking, ends}
 use Rattle.table_model.specs.Operations.{Did, done, refused, give_up, when_done, listener, listen_at, listen_answered, listen_hashed, listens_in}
 use Rattle.race_record.specs.Deeds.{Deed, Tried, hashed, no_slot, added, entries_in}
-use Rattle.chain_deeds.specs.Sides.{Side, changes_by}
-use Rattle.chain_deeds.specs.Made.{Does}
+use Rattle.sock_ops.specs.Sides.{Side, changes_by}
+use Rattle.sock_ops.specs.Made.{Does}
 use Rattle.sock_ops.specs.declared.sock.Sock.{Sock}
 use Rattle.sock_ops.specs.Leads.{Leads}
 use Rattle.sock_ops.specs.Goes.{Went, LeftOff, GivesUp, CarriedOut, AreAsked, AskedAll, gone_if}

@@ -18,7 +18,7 @@ use Rattle.bind_buckets.specs.Turned.{View, Gave, IsAsked}
 use Rattle.sock_card.specs.declared.card.Kind.TheVariants as kinds
 use Rattle.flat_list.specs.Owned.{bound_at}
 use Rattle.port_search.specs.Turned.{BindsAt}
-use Rattle.chain_deeds.specs.Sides.{Side}
+use Rattle.sock_ops.specs.Sides.{Side}
 use Rattle.table_model.specs.declared.operation.OpEnd.{OpEnd}
 use Rattle.table_model.specs.Own.{Mine}
 use Rattle.sock_ops.specs.declared.sock.Sock.{Sock}

@@ -10,9 +10,9 @@ use Rattle.bind_buckets.specs.declared.request.Answer.{Answer}
 use Rattle.bind_buckets.specs.declared.request.Entry.{Entry}
 use Rattle.bind_buckets.specs.Turned.{View, Gave, Within}
 use Rattle.chain_book.specs.declared.book.Change.{Change}
-use Rattle.chain_deeds.specs.Sides.{Side}
-use Rattle.chain_deeds.specs.Answers.{Reaps, slot_in}
-use Rattle.chain_deeds.specs.Made.{Does}
+use Rattle.sock_ops.specs.Sides.{Side}
+use Rattle.sock_ops.specs.Answers.{Reaps, slot_in}
+use Rattle.sock_ops.specs.Made.{Does}
 use Rattle.table_model.specs.Asking.{Asking, reaps}
 use Rattle.table_model.specs.Own.{Mine, card_of}
 use Rattle.table_model.specs.Operations.{reap_each, reaped_next}

@@ -25,8 +25,8 @@ use Rattle.table_model.specs.Asking.{Asking, ends}
 use Rattle.table_model.specs.Operations.{Did, done, refused, full_card, full_in, full_done, when_done, connect_free, connect_tried, search_connect}
 use Rattle.race_record.specs.Deeds.{Deed, Tried, hashed, kept_out, no_slot, inserted}
 use Rattle.race_record.specs.Goes.{outcome_of, hashed_of}
-use Rattle.chain_deeds.specs.Sides.{Side, changes_by}
-use Rattle.chain_deeds.specs.Made.{Does}
+use Rattle.sock_ops.specs.Sides.{Side, changes_by}
+use Rattle.sock_ops.specs.Made.{Does}
 use Rattle.sock_ops.specs.Leads.{Leads}
 use Rattle.sock_ops.specs.Goes.{Went, Stops, Carried, AreAsked, AskedAll, gone_of}
 use Rattle.sock_ops.specs.Hashing.{InsertsAs, DrawnAs, PutsIn, wish_for}

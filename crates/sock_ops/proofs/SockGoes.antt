@@ -10,7 +10,7 @@ use Rattle.table_model.specs.declared.operation.OpEnd.{OpEnd}
 use Rattle.table_model.specs.Own.{Mine}
 use Rattle.table_model.specs.Asking.{Asking}
 use Rattle.table_model.specs.Operations.{Did, done, refused, connect, connect_from}
-use Rattle.chain_deeds.specs.Sides.{Side}
+use Rattle.sock_ops.specs.Sides.{Side}
 use Rattle.sock_ops.specs.declared.sock.Sock.{Sock}
 use Rattle.sock_ops.specs.Connecting.{connect_answer}
 use Rattle.sock_ops.specs.Goes.{Carried}

@@ -13,7 +13,7 @@ use Rattle.chain_book.specs.declared.outcome.Hashed.{Hashed}
 use Rattle.chain_book.specs.declared.outcome.Replace.{Replace}
 use Rattle.chain_book.specs.declared.shape.Shape.{Shape}
 use Rattle.chain_book.specs.Chains.{Outcome, put, taken, full}
-use Rattle.chain_deeds.specs.Sides.{Side}
+use Rattle.sock_ops.specs.Sides.{Side}
 use Rattle.flat_list.specs.declared.command.End.{End}
 use Rattle.flat_list.specs.Owned.{connected_at, heir_owner, is_no_ack}
 use Rattle.race_record.specs.Deeds.{Deed, entered, inserted, added, left, entries_in}

@@ -24,8 +24,8 @@ use Rattle.table_model.specs.Asking.{Asking, ends}
 use Rattle.table_model.specs.Operations.{Did, done, refused, request_card, request_in, syn, syn_as, syn_hashed}
 use Rattle.race_record.specs.Deeds.{Deed, Tried, Wish, hashed, kept_out, no_slot, inserted}
 use Rattle.race_record.specs.Goes.{outcome_of, hashed_of}
-use Rattle.chain_deeds.specs.Sides.{Side}
-use Rattle.chain_deeds.specs.Made.{Does}
+use Rattle.sock_ops.specs.Sides.{Side}
+use Rattle.sock_ops.specs.Made.{Does}
 use Rattle.sock_ops.specs.Leads.{Leads}
 use Rattle.sock_ops.specs.Goes.{Went, Carried, AreAsked, AskedAll, gone_of}
 use Rattle.sock_ops.specs.Handshaking.{OwnersStay}

@@ -23,8 +23,8 @@ use Rattle.table_model.specs.Asking.{Asking, ends}
 use Rattle.table_model.specs.Operations as plan
 use Rattle.race_record.specs.Deeds.{hashed, no_slot, added, left}
 use Rattle.race_record.specs.Goes.{IsHashOf, IsUnhashAt}
-use Rattle.chain_deeds.specs.Sides.{Side}
-use Rattle.chain_deeds.specs.Made.{Does}
+use Rattle.sock_ops.specs.Sides.{Side}
+use Rattle.sock_ops.specs.Made.{Does}
 use Rattle.sock_ops.specs.declared.sock.Sock.{Sock}
 use Rattle.sock_ops.specs.declared.sock.Sock.TheVariants as socks
 use Rattle.sock_ops.specs.declared.leaving.Closed.{Closed}

@@ -4,7 +4,7 @@ use Rattle.bind_buckets.specs.Turned.{View}
 use Rattle.flat_list.specs.declared.command.End.{End}
 use Rattle.table_model.specs.declared.operation.OpEnd.{OpEnd}
 use Rattle.table_model.specs.Own.{Mine}
-use Rattle.chain_deeds.specs.Sides.{Side}
+use Rattle.sock_ops.specs.Sides.{Side}
 use Rattle.sock_ops.specs.declared.sock.Sock.{Sock}
 use Rattle.sock_ops.specs.declared.sock.Sock.TheVariants as socks
 use Rattle.sock_ops.specs.declared.tables.Tables.{Tables}

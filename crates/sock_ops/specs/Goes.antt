@@ -11,8 +11,8 @@ use Rattle.bind_buckets.specs.declared.request.Request.TheVariants as requests
 use Rattle.bind_buckets.specs.declared.request.Answer.{Answer}
 use Rattle.bind_buckets.specs.declared.request.Answer.TheVariants as answers
 use Rattle.bind_buckets.specs.Turned.{View, Gave, IsAsked}
-use Rattle.chain_deeds.specs.Sides.{Side, chains_by, changes_by}
-use Rattle.chain_deeds.specs.Made.{Does}
+use Rattle.sock_ops.specs.Sides.{Side, chains_by, changes_by}
+use Rattle.sock_ops.specs.Made.{Does}
 use Rattle.table_model.specs.declared.operation.Cause.TheVariants as causes
 use Rattle.table_model.specs.declared.operation.OpEnd.{OpEnd}
 use Rattle.table_model.specs.declared.operation.OpEnd.TheVariants as errors

@@ -4,7 +4,7 @@
 use Rattle.std.specs.Prelude.{ℕ, List, Result, Ok, Err}
 use Rattle.turn_table.specs.Passes as words
 use Rattle.bind_buckets.specs.Turned.{View, IsAlone}
-use Rattle.chain_deeds.specs.Sides.{Side}
+use Rattle.sock_ops.specs.Sides.{Side}
 use Rattle.flat_list.specs.declared.command.End.{End}
 use Rattle.table_model.specs.declared.operation.OpEnd.{OpEnd}
 use Rattle.table_model.specs.Asking.{Asking, ends}

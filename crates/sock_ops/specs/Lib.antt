@@ -1,4 +1,8 @@
 -- What the contracts of this crate and of those above it cite.
+pub mod Sizes
+pub mod Sides
+pub mod Made
+pub mod Answers
 pub mod Socks
 pub mod Stands
 pub mod Spends

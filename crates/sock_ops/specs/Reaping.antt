@@ -2,7 +2,7 @@
 -- That a plan goes on so is our own.
 use Rattle.std.specs.Prelude.{ℕ, ◌+◌, Bool, true, false, List, ◌∷◌}
 use Rattle.bind_buckets.specs.Turned.{View}
-use Rattle.chain_deeds.specs.Sides.{Side}
+use Rattle.sock_ops.specs.Sides.{Side}
 use Rattle.table_model.specs.Own.{Mine}
 use Rattle.table_model.specs.Operations.{reap_each}
 use Rattle.sock_ops.specs.Goes.{Went}

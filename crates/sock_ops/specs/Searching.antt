@@ -13,7 +13,7 @@ use Rattle.table_model.specs.declared.operation.OpEnd.TheVariants as errors
 use Rattle.table_model.specs.Own.{Mine}
 use Rattle.table_model.specs.Asking.{Asking, ends, asks}
 use Rattle.table_model.specs.Operations.{Did, done, refused, connect_free}
-use Rattle.chain_deeds.specs.Sides.{Side, changes_by}
+use Rattle.sock_ops.specs.Sides.{Side, changes_by}
 use Rattle.sock_ops.specs.declared.tables.Tables.{Tables}
 use Rattle.sock_ops.specs.declared.tables.Worker.{Worker}
 use Rattle.sock_ops.specs.Connecting.{StandsFull}

@@ -21,7 +21,7 @@ use Rattle.table_rule.specs.Calls.{HasShares}
 use Rattle.table_rule.specs.Passes as chain_words
 use Rattle.nulls_chain.specs.Changes.{IsPlaced}
 use Rattle.nulls_chain.specs.declared.keeping.Place.{Place}
-use Rattle.chain_deeds.specs.Sides.{Side, IsResting, side_of}
+use Rattle.sock_ops.specs.Sides.{Side, IsResting, side_of}
 use Rattle.table_model.specs.Own.{Mine, card_of}
 use Rattle.sock_ops.specs.declared.sock.Sock.{Sock}
 use Rattle.sock_ops.specs.declared.sock.Sock.TheVariants as socks

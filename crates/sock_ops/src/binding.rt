@@ -7,7 +7,7 @@ ghost use Rattle.turn_table.specs.Passes.{known};
 ghost use Rattle.bind_buckets.specs.Callers.{MayName};
 ghost use Rattle.bind_buckets.specs.Turned.{IsIdle};
 ghost use Rattle.bind_buckets.specs.declared.request.Request.TheVariants as requests;
-ghost use Rattle.chain_deeds.specs.Sides.{Side};
+ghost use Rattle.sock_ops.specs.Sides.{Side};
 ghost use Rattle.flat_list.specs.Owned.{bound_at};
 ghost use Rattle.table_model.specs.Asking.{asks, ends};
 ghost use Rattle.table_model.specs.Operations as plans;

@@ -5,7 +5,7 @@ ghost use Rattle.sock_card.specs.Became as became;
 ghost use Rattle.sock_card.specs.declared.card.Kind.TheVariants as kinds;
 ghost use Rattle.turn_table.specs.Passes as words;
 ghost use Rattle.chain_book.specs.Tuples.{same_cards};
-ghost use Rattle.chain_deeds.specs.Sides.{HasRoom, IsResting, side_of};
+ghost use Rattle.sock_ops.specs.Sides.{HasRoom, IsResting, side_of};
 ghost use Rattle.nulls_chain.specs.Changes.{OthersStay, OtherPlacesStay, PlacesStay};
 ghost use Rattle.shared_sockets.specs.Comings.{FourDrawn};
 ghost use Rattle.table_model.specs.Operations as plans;
@@ -27,13 +27,13 @@ ghost use Rattle.sock_ops.specs.Stands.{buckets_of, chained, place_in, turned};
 ghost use Rattle.sock_ops.specs.There.{IsNew};
 
 use crate::asking;
+use crate::chains::{self, ChainPass, ChainTable};
 use crate::leaving::request_place;
 use crate::room::begin_with;
 use crate::sock::{Connected, Newcomer, Request, Sock};
 use crate::tables::{Tables, Worker};
 use bind_buckets::turning;
 use chain_book::Place;
-use chain_deeds::{ChainPass, ChainTable};
 use flat_list::owned;
 use patience::Patience;
 use sock_card::{Kind, Owner, State};
@@ -62,7 +62,7 @@ fn hand_over<P: Patience>(
     ensures patient { P.endless ≡ true → IfErr result NotBusy }
 {
     let card = owned::card_as(Kind::Full, child, 0);
-    let Some(answer) = chain_deeds::hand_over(chains, patience, pass, request_place(request), &card)
+    let Some(answer) = chains::hand_over(chains, patience, pass, request_place(request), &card)
     else {
         return Err(OpEnd::LeftOff(Cause::Busy));
     };

@@ -2,7 +2,7 @@
 
 ghost use Rattle.std.specs.Prelude.{◌≡◌, true, IfErr};
 ghost use Rattle.chain_book.specs.Tuples.{claims_tuple};
-ghost use Rattle.chain_deeds.specs.Sides.{HasRoom, IsResting, side_of};
+ghost use Rattle.sock_ops.specs.Sides.{HasRoom, IsResting, side_of};
 ghost use Rattle.nulls_chain.specs.Changes.{PlacesStay};
 ghost use Rattle.table_rule.specs.Calls.{HasShares};
 ghost use Rattle.table_rule.specs.Passes.{known};
@@ -10,8 +10,8 @@ ghost use Rattle.sock_ops.specs.Hashing as spec;
 ghost use Rattle.sock_ops.specs.Hashing.{DrawnAs, InsertsAs, request_wish, wish_for, wish_of};
 ghost use Rattle.sock_ops.specs.Goes.{NotBusy};
 
+use crate::chains::{self, ChainPass, ChainTable};
 use chain_book::{Place, Replace};
-use chain_deeds::{ChainPass, ChainTable};
 use flat_list::owned;
 use patience::Patience;
 use shared_sockets::InsertEnd;
@@ -57,7 +57,7 @@ fn insert_card<P: Patience>(
     ensures share { DrawnAs result (known pass.old.pass) (known pass.new.pass) }
     ensures patient { P.endless ≡ true → IfErr result NotBusy }
 {
-    let Some(answer) = chain_deeds::insert(chains, patience, pass, card, moment, rule) else {
+    let Some(answer) = chains::insert(chains, patience, pass, card, moment, rule) else {
         return Err(OpEnd::LeftOff(Cause::Busy));
     };
     match answer {

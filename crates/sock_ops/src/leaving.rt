@@ -13,7 +13,7 @@ ghost use Rattle.shared_sockets.specs.Comings.{FourDrawn};
 ghost use Rattle.bind_buckets.specs.Callers.{MayName};
 ghost use Rattle.bind_buckets.specs.OwnTold.{StandsOwn};
 ghost use Rattle.bind_buckets.specs.Turned.{View, Gave, IsIdle, IsOut, Within, made};
-ghost use Rattle.chain_deeds.specs.Sides.{HasRoom, IsResting, side_of};
+ghost use Rattle.sock_ops.specs.Sides.{HasRoom, IsResting, side_of};
 ghost use Rattle.table_model.specs.Asking.{ends, unhashes};
 ghost use Rattle.table_model.specs.Own.{card_of};
 ghost use Rattle.table_model.specs.Operations as plans;
@@ -27,13 +27,13 @@ ghost use Rattle.sock_ops.specs.Spends.{Draws};
 ghost use Rattle.sock_ops.specs.Stands.{HasGroups, IsHashed, IsOwner, IsReady, IsThere, MayDraw, MayEnter, MayTell, StandsAs, buckets_of, chained, place_in, turned};
 ghost use Rattle.table_model.specs.declared.operation.Cause.TheVariants as causes;
 
+use crate::chains::{self, ChainPass, ChainTable};
 use crate::room::begin_with;
 use crate::sock::{Connected, Listening, Request, Sock};
 use crate::tables::{Tables, Worker};
 use crate::{asking, group_lists};
 use bind_buckets::{Bucket, turning};
 use chain_book::Place;
-use chain_deeds::{ChainPass, ChainTable};
 use flat_list::owned;
 use patience::Patience;
 use reuseport_group::GroupPasses;
@@ -127,7 +127,7 @@ fn replace<P: Patience>(
     ensures stay { OthersStay place.slot (chain_words.known pass.old.pass) (chain_words.known pass.new.pass) }
     ensures share { FourDrawn (chain_words.known pass.old.pass) (chain_words.known pass.new.pass) }
 {
-    match chain_deeds::time_wait(chains, patience, pass, place, card)? {
+    match chains::time_wait(chains, patience, pass, place, card)? {
         Ok(place) => Some(Ok(Place {
             bucket: place.bucket,
             slot: place.slot,
@@ -327,12 +327,8 @@ fn leave_chain<P: Patience>(
     ensures patient { P.endless ≡ true → IfErr result (λ cause. cause ≡ causes.Memory) }
 {
     let mut turn = begin_with(patience, tables, worker, owner, 1)?;
-    let Some(locked) = chain_deeds::lock_chain_of(
-        &tables.chains,
-        patience,
-        &mut worker.chain,
-        &place,
-    ) else {
+    let Some(locked) = chains::lock_chain_of(&tables.chains, patience, &mut worker.chain, &place)
+    else {
         turning::give(&tables.buckets, &mut worker.turns, turn);
         return Err(Cause::Busy);
     };
@@ -343,7 +339,7 @@ fn leave_chain<P: Patience>(
         &mut turn,
         owner,
     );
-    chain_deeds::remove(&tables.chains, &mut worker.chain, locked, place);
+    chains::remove(&tables.chains, &mut worker.chain, locked, place);
     turning::give(&tables.buckets, &mut worker.turns, turn);
     Ok(())
 }
@@ -373,15 +369,11 @@ fn leave_request<P: Patience>(
 {
     worker.chain.reserve(&tables.chains, 1)?;
     let place = request_place(request);
-    let Some(locked) = chain_deeds::lock_chain_of(
-        &tables.chains,
-        patience,
-        &mut worker.chain,
-        &place,
-    ) else {
+    let Some(locked) = chains::lock_chain_of(&tables.chains, patience, &mut worker.chain, &place)
+    else {
         return Err(Cause::Busy);
     };
-    chain_deeds::remove(&tables.chains, &mut worker.chain, locked, place);
+    chains::remove(&tables.chains, &mut worker.chain, locked, place);
     Ok(())
 }
 

@@ -16,7 +16,7 @@ ghost use Rattle.bind_buckets.specs.Answers.{answer_of_end};
 ghost use Rattle.bind_buckets.specs.Bucket.{entries_of, answer_to};
 ghost use Rattle.bind_buckets.specs.Callers.{MayName};
 ghost use Rattle.bind_buckets.specs.Turned.{View, IsIdle, IsOut, Within, made};
-ghost use Rattle.chain_deeds.specs.Sides.{HasRoom, IsResting, side_of};
+ghost use Rattle.sock_ops.specs.Sides.{HasRoom, IsResting, side_of};
 ghost use Rattle.table_model.specs.Asking.{ends};
 ghost use Rattle.table_model.specs.Operations as plans;
 ghost use Rattle.sock_ops.specs.Goes.{AskedAll, CarriedOut, HoldsAfter, NotBusy, gone_if};
@@ -27,13 +27,13 @@ ghost use Rattle.sock_ops.specs.Socks.{mine_of, first_mine, without_socket};
 ghost use Rattle.sock_ops.specs.Stands.{HasGroups, IsAway, IsHashed, IsOwner, IsReady, IsThere, MayDraw, MayEnter, MayTell, StandsAs, buckets_of, chained, turned};
 ghost use Rattle.sock_ops.specs.Spends.{Draws};
 
+use crate::chains::{self, ChainPass, ChainTable};
 use crate::room::begin_with;
 use crate::sock::{Listening, Sock};
 use crate::tables::{Tables, Worker};
 use crate::{asking, group_lists};
 use bind_buckets::{Bucket, ListenEnd, turning};
 use chain_book::Place;
-use chain_deeds::{ChainPass, ChainTable};
 use flat_list::owned;
 use patience::Patience;
 use port_search::turning::find_bind_turn;
@@ -83,7 +83,7 @@ fn hash<P: Patience>(
     ensures share { TwoDrawn (chain_words.known pass.old.pass) (chain_words.known pass.new.pass) }
     ensures patient { P.endless ≡ true → IfErr result NotBusy }
 {
-    let Some(answer) = chain_deeds::add(chains, patience, pass, card) else {
+    let Some(answer) = chains::add(chains, patience, pass, card) else {
         return Err(OpEnd::LeftOff(Cause::Busy));
     };
     match answer {

@@ -4,7 +4,7 @@ ghost use Rattle.std.specs.Prelude.{◌≡◌, ◌+◌, ◌%◌, ◌≤◌, [], 
 ghost use Rattle.sock_card.specs.Conflict.{owner_key};
 ghost use Rattle.turn_table.specs.Passes as words;
 ghost use Rattle.bind_buckets.specs.Turned.{View, Gave, IsOut, Within, made};
-ghost use Rattle.chain_deeds.specs.Sides.{HasRoom, IsResting};
+ghost use Rattle.sock_ops.specs.Sides.{HasRoom, IsResting};
 ghost use Rattle.nulls_chain.specs.Changes.{PlacesStay};
 ghost use Rattle.table_model.specs.Own as own;
 ghost use Rattle.table_model.specs.declared.operation.Cause.TheVariants as causes;
@@ -13,6 +13,7 @@ ghost use Rattle.sock_ops.specs.Reaping.{ReapsOne};
 ghost use Rattle.sock_ops.specs.Spends.{Draws};
 ghost use Rattle.sock_ops.specs.Stands.{HasGroups, IsReady, MayDraw, MayEnter, buckets_of, chained, turned};
 
+use crate::chains;
 use crate::leaving::Waiting;
 use crate::room::begin;
 use crate::tables::{Tables, Worker};
@@ -65,8 +66,7 @@ fn reap_in<P: Patience>(
 {
     let card = owned::card_as(Kind::TimeWait, &waiting.owner, waiting.stamp);
     let mut turn = turn;
-    let Some(answer) = chain_deeds::remove_tw(&tables.chains, patience, &mut worker.chain, &card)
-    else {
+    let Some(answer) = chains::remove_tw(&tables.chains, patience, &mut worker.chain, &card) else {
         turning::give(&tables.buckets, &mut worker.turns, turn);
         return Err(Cause::Busy);
     };

@@ -5,7 +5,7 @@ ghost use Rattle.sock_card.specs.Conflict.{owner_key};
 ghost use Rattle.turn_table.specs.Passes as words;
 ghost use Rattle.bind_buckets.specs.Bucket.{IsSound};
 ghost use Rattle.bind_buckets.specs.Turned.{View, Gave, IsOut, Within, made};
-ghost use Rattle.chain_deeds.specs.Sides.{HasRoom, IsResting, side_of};
+ghost use Rattle.sock_ops.specs.Sides.{HasRoom, IsResting, side_of};
 ghost use Rattle.table_model.specs.declared.operation.Cause.TheVariants as causes;
 ghost use Rattle.sock_ops.specs.Stands.{IsOwner, IsReady, IsThere, buckets_of, turned};
 

@@ -5,7 +5,7 @@ ghost use Rattle.sock_card.specs.Conflict.{owner_key};
 ghost use Rattle.turn_table.specs.Passes as words;
 ghost use Rattle.bind_buckets.specs.Bucket.{CanConnect, entries_of};
 ghost use Rattle.bind_buckets.specs.Turned.{View, IsOut, Within, made};
-ghost use Rattle.chain_deeds.specs.Sides.{HasRoom, IsResting};
+ghost use Rattle.sock_ops.specs.Sides.{HasRoom, IsResting};
 ghost use Rattle.nulls_chain.specs.Changes.{PlacesStay};
 ghost use Rattle.table_model.specs.Operations as plans;
 ghost use Rattle.table_rule.specs.Passes as chain_words;

@@ -1,7 +1,7 @@
 //! The tables that threads share, and a thread's part in them.
 
+use crate::chains::{ChainPass, ChainTable};
 use bind_buckets::Bucket;
-use chain_deeds::{ChainPass, ChainTable};
 use reuseport_group::{GroupPasses, Groups};
 use turn_table::{TurnPass, Turns};
 

@@ -29,7 +29,7 @@ use Rattle.table_model.specs.Operations as plans
 use Rattle.table_model.specs.Operations.{Did, refused, when_done, found_next, search_bind, source_to, then_replaced}
 use Rattle.race_record.specs.Deeds.{Deed, entered, inserted, added, left, reaped, entries_in}
 use Rattle.race_record.specs.Goes.{outcome_of, was_there}
-use Rattle.chain_deeds.specs.Sides.{Side}
+use Rattle.sock_ops.specs.Sides.{Side}
 use Rattle.sock_ops.specs.Goes.{Went}
 use Rattle.sock_ops.specs.Leads.{Leads}
 use Rattle.sock_ops.specs.There.{IsNew}

@@ -1,18 +1,18 @@
 //! Sockets come into a shared table and leave it, by one pass and by two.
 
 ghost use Rattle.std.specs.Prelude.{◌≡◌};
-ghost use Rattle.chain_deeds.specs.Sides.{HasRoom, HoldsNothing, IsResting};
+ghost use Rattle.sock_ops.specs.Sides.{HasRoom, HoldsNothing, IsResting};
 ghost use Rattle.chain_book.specs.Homes.{home};
 ghost use Rattle.table_rule.specs.Calls.{HasShares};
 ghost use Rattle.table_rule.specs.Passes.{known};
 
 use chain_book::{Replace, Shape};
-use chain_deeds::{
-    ChainPass, ChainTable, add, hand_over, insert, lock_chain_of, remove, time_wait,
-};
 use patience::Waits;
 use shared_sockets::InsertEnd;
 use sock_card::{Card, Kind};
+use sock_ops::chains::{
+    ChainPass, ChainTable, add, hand_over, insert, lock_chain_of, remove, time_wait,
+};
 use std::alloc::AllocError;
 use std::sync::Wait;
 use std::test::Fail;

@@ -6,17 +6,16 @@ ghost use Rattle.turn_table.specs.Passes as words;
 
 use bind_buckets::{Sharing, turning};
 use chain_book::Shape;
-use chain_deeds::ChainTable;
 use flat_list::{First, NONE_RESERVED, Options, Range};
 use patience::Waits;
 use port_search::Ports;
+use race_run::dump;
 use reuseport_group::Groups;
-use sock_ops::{Newcomer, Sock, Tables, Unbound, Worker, listen};
+use sock_ops::{ChainTable, Newcomer, Sock, Tables, Unbound, Worker, listen};
 use socket_list::{Listing, Span};
 use std::alloc::{AllocError, Global};
 use std::sync::Wait;
 use std::test::Fail;
-use table_dump::dump;
 
 const PLAIN: Options = Options {
     net: None,

@@ -7,11 +7,11 @@ ghost use Rattle.sock_ops.specs.Stands.{HasGroups, IsAway, IsReady, MayDraw, May
 
 use bind_buckets::{Sharing, turning};
 use chain_book::{Replace, Shape};
-use chain_deeds::ChainTable;
 use flat_list::{End, First, NONE_RESERVED, Options, Range};
 use patience::Waits;
 use port_search::Ports;
 use reuseport_group::{GroupPasses, Groups, name_of};
+use sock_ops::ChainTable;
 use sock_ops::binding::bind;
 use sock_ops::connecting::connect;
 use sock_ops::handshaking::ack;

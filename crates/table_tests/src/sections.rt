@@ -9,14 +9,13 @@ ghost use Rattle.list_words.specs.Lists.{Each};
 
 use bind_buckets::{Bucket, Sharing, turning};
 use chain_book::Shape;
-use chain_deeds::ChainTable;
 use flat_calls::commands;
 use flat_list::{Command, End, Header, NONE_RESERVED, Options, Range, Reply};
 use label_index::LabelSeed;
 use patience::Tries;
 use reuseport_group::Groups;
 use section_machine::{Machine, laws};
-use sock_ops::{Cause, Tables, Worker};
+use sock_ops::{Cause, ChainTable, Tables, Worker};
 use std::alloc::{AllocError, Global};
 use std::process::Abort;
 use std::test::Fail;

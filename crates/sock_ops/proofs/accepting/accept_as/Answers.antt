@@ -12,7 +12,7 @@ use Rattle.table_rule.specs.Passes as chain_words
 use Rattle.table_model.specs.Own.{Mine}
 use Rattle.table_model.specs.Operations as plans
 use Rattle.table_model.specs.Operations.{done, refused}
-use Rattle.chain_deeds.specs.Sides.{Side, side_of}
+use Rattle.sock_ops.specs.Sides.{Side, side_of}
 use Rattle.sock_ops.specs.Goes.{AskedAll, gone_of}
 use Rattle.sock_ops.specs.Hashing.{InsertsAs, PutsIn, wish_for}
 use Rattle.sock_ops.specs.Stands.{buckets_of, turned}

@@ -13,7 +13,7 @@ use Rattle.table_rule.specs.Calls.{HasShares}
 use Rattle.table_model.specs.Own.{Mine}
 use Rattle.table_model.specs.Operations as plans
 use Rattle.table_model.specs.Operations.{done, full_card, refused}
-use Rattle.chain_deeds.specs.Sides.{Side, side_of}
+use Rattle.sock_ops.specs.Sides.{Side, side_of}
 use Rattle.sock_ops.specs.Handshaking.{HandsOver}
 use Rattle.sock_ops.specs.Stands.{buckets_of, place_in, turned}
 use Rattle.sock_ops.proofs.Goes.{asked_all, begun_not}

@@ -3,8 +3,8 @@ use Rattle.table_rule.specs.Passes.{known}
 use Rattle.nulls_chain.specs.Changes.{IsPlaced}
 use Rattle.shared_sockets.specs.declared.coming.Inserted.{Inserted}
 use Rattle.shared_sockets.specs.declared.coming.InsertEnd.{InsertEnd}
-use Rattle.chain_deeds.specs.Answers.{Inserts, DrawnBy}
-use Rattle.chain_deeds.specs.Sides.{side_of}
+use Rattle.sock_ops.specs.Answers.{Inserts, DrawnBy}
+use Rattle.sock_ops.specs.Sides.{side_of}
 use Rattle.sock_ops.specs.Hashing.{InsertsAs, DrawnAs, wish_of}
 use Rattle.sock_ops.proofs.Inserted.{inserted_ok, inserted_err, drawn_err}
 use Rattle.sock_ops.proofs.hashing.insert_card.Goals as goal

@@ -1,7 +1,7 @@
 use Rattle.std.proofs.Common.{◌≡◌, ◌+◌, ◌%◌, OnErr, sym, subst}
 use Rattle.sock_card.specs.Conflict.{owner_key}
 use Rattle.sock_card.specs.declared.card.Kind.TheVariants as kinds
-use Rattle.chain_deeds.specs.Sides.{Side, side_of}
+use Rattle.sock_ops.specs.Sides.{Side, side_of}
 use Rattle.nulls_chain.specs.Changes.{OthersStay}
 use Rattle.table_rule.specs.Calls.{HasShares}
 use Rattle.table_model.specs.Own.{Mine}

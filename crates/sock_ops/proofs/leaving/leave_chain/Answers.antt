@@ -4,8 +4,8 @@ use Rattle.turn_table.specs.Passes.{known}
 use Rattle.bind_buckets.specs.Notes.{Note}
 use Rattle.bind_buckets.specs.Bucket.{entries_of}
 use Rattle.bind_buckets.specs.Turned.{made}
-use Rattle.chain_deeds.specs.Sides.{Side, side_of}
-use Rattle.chain_deeds.specs.Answers.{Removes}
+use Rattle.sock_ops.specs.Sides.{Side, side_of}
+use Rattle.sock_ops.specs.Answers.{Removes}
 use Rattle.nulls_chain.specs.Changes.{OthersStay}
 use Rattle.table_rule.specs.Calls.{HasShares}
 use Rattle.table_rule.specs.Passes as chain_words

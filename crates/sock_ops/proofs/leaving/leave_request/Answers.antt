@@ -8,8 +8,8 @@ use Rattle.table_rule.specs.Passes as chain_words
 use Rattle.table_model.specs.Asking.{ends, unhashes}
 use Rattle.table_model.specs.Own.{Mine, card_of}
 use Rattle.table_model.specs.Operations as plans
-use Rattle.chain_deeds.specs.Answers.{Removes}
-use Rattle.chain_deeds.specs.Sides.{Side, side_of}
+use Rattle.sock_ops.specs.Answers.{Removes}
+use Rattle.sock_ops.specs.Sides.{Side, side_of}
 use Rattle.sock_ops.specs.Closes.{is_gone}
 use Rattle.sock_ops.specs.Stands.{buckets_of, place_in, turned}
 use Rattle.sock_ops.proofs.CloseGoes.{leaves_err, request_leaves}

@@ -10,7 +10,7 @@ use Rattle.bind_buckets.specs.Turned.{made}
 use Rattle.chain_book.specs.Homes.{home}
 use Rattle.flat_list.specs.Owned.{card_as}
 use Rattle.nulls_chain.specs.declared.keeping.Place.{Place as Stood}
-use Rattle.chain_deeds.specs.Sides.{side_of}
+use Rattle.sock_ops.specs.Sides.{side_of}
 use Rattle.table_model.specs.Own.{Mine}
 use Rattle.sock_ops.specs.Closes.{WaitsAs, leave_entry}
 use Rattle.sock_ops.specs.Stands.{buckets_of}

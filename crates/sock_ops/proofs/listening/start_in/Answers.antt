@@ -4,7 +4,7 @@ use Rattle.turn_table.specs.Passes.{known}
 use Rattle.bind_buckets.specs.declared.request.Entry.{Entry}
 use Rattle.bind_buckets.specs.declared.request.Answer.TheVariants as answers
 use Rattle.bind_buckets.specs.Turned.{made}
-use Rattle.chain_deeds.specs.Sides.{side_of}
+use Rattle.sock_ops.specs.Sides.{side_of}
 use Rattle.table_model.specs.Own.{Mine}
 use Rattle.sock_ops.specs.Goes.{gone_if}
 use Rattle.sock_ops.specs.Stands.{buckets_of}

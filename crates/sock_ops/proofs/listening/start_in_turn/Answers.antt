@@ -5,7 +5,7 @@ use Rattle.bind_buckets.specs.Bucket.{entries_of}
 use Rattle.bind_buckets.specs.Answers.{answer_of_end}
 use Rattle.bind_buckets.specs.Turned.{made}
 use Rattle.table_rule.specs.Calls.{HasShares}
-use Rattle.chain_deeds.specs.Sides.{Side, side_of}
+use Rattle.sock_ops.specs.Sides.{Side, side_of}
 use Rattle.table_model.specs.Own.{Mine}
 use Rattle.table_model.specs.Operations.{done, refused, listen_at}
 use Rattle.sock_ops.specs.Goes.{AskedAll, CarriedOut, HoldsAfter, gone_if}

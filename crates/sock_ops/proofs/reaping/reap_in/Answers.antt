@@ -7,8 +7,8 @@ use Rattle.bind_buckets.specs.Notes.{Note}
 use Rattle.bind_buckets.specs.Bucket.{entries_of}
 use Rattle.bind_buckets.specs.Turned.{made}
 use Rattle.port_search.proofs.TurnSearch.{nothing_made}
-use Rattle.chain_deeds.specs.Answers.{Reaps}
-use Rattle.chain_deeds.specs.Sides.{side_of}
+use Rattle.sock_ops.specs.Answers.{Reaps}
+use Rattle.sock_ops.specs.Sides.{side_of}
 use Rattle.table_model.specs.Own.{Mine, card_of}
 use Rattle.sock_ops.specs.Stands.{buckets_of}
 use Rattle.sock_ops.proofs.Goes.{asked_all}

@@ -1,6 +1,6 @@
 use Rattle.std.proofs.Common.{◌+◌, IfOk, ◌∙◌, sym, subst}
 use Rattle.table_rule.specs.Calls.{HasShares}
-use Rattle.chain_deeds.specs.Sides.{Side, side_of}
+use Rattle.sock_ops.specs.Sides.{Side, side_of}
 use Rattle.sock_ops.specs.Reaping.{ReapsOne}
 use Rattle.sock_ops.specs.Stands.{buckets_of, turned}
 use Rattle.sock_ops.proofs.CloseGoes.{never_fails, none_listed}

@@ -8,7 +8,7 @@ use Rattle.table_rule.specs.Calls.{HasShares}
 use Rattle.table_rule.specs.Passes as chain_words
 use Rattle.table_model.specs.Operations as plans
 use Rattle.table_model.specs.Operations.{done, refused}
-use Rattle.chain_deeds.specs.Sides.{Side, side_of}
+use Rattle.sock_ops.specs.Sides.{Side, side_of}
 use Rattle.sock_ops.specs.Goes.{AskedAll, gone_of}
 use Rattle.sock_ops.specs.Hashing.{InsertsAs, PutsIn, request_wish}
 use Rattle.sock_ops.specs.Stands.{buckets_of, turned}

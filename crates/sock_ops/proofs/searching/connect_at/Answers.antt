@@ -6,7 +6,7 @@ use Rattle.bind_buckets.specs.Notes.{Note}
 use Rattle.bind_buckets.specs.Bucket.{entries_of}
 use Rattle.bind_buckets.specs.Turned.{made}
 use Rattle.table_rule.specs.Calls.{HasShares}
-use Rattle.chain_deeds.specs.Sides.{Side, side_of}
+use Rattle.sock_ops.specs.Sides.{Side, side_of}
 use Rattle.sock_ops.specs.declared.tables.Worker.{Worker}
 use Rattle.sock_ops.specs.Searching.{free_entry, TriesAt}
 use Rattle.sock_ops.specs.Stands.{buckets_of, turned}

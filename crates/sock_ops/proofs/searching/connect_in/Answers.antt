@@ -6,7 +6,7 @@ use Rattle.bind_buckets.specs.OwnTold.{StandsOwn}
 use Rattle.bind_buckets.specs.Turned.{made}
 use Rattle.table_rule.specs.Passes as chain_words
 use Rattle.table_model.specs.Own.{Mine}
-use Rattle.chain_deeds.specs.Sides.{side_of}
+use Rattle.sock_ops.specs.Sides.{side_of}
 use Rattle.sock_ops.specs.declared.tables.Worker.{Worker}
 use Rattle.sock_ops.specs.Goes.{AskedAll, gone_of}
 use Rattle.sock_ops.specs.Searching.{KeepsDraws, TriesAt, TryLeaves, free_entry}

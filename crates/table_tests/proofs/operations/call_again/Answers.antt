@@ -3,7 +3,7 @@ use Rattle.sock_card.specs.declared.owner.Owner.{Owner}
 use Rattle.bind_buckets.specs.Callers.{MayName}
 use Rattle.table_rule.specs.Calls.{HasShares}
 use Rattle.table_rule.specs.Passes.{known}
-use Rattle.chain_deeds.specs.declared.table.ChainPass.{ChainPass}
+use Rattle.sock_ops.specs.declared.chains.table.ChainPass.{ChainPass}
 use Rattle.chain_book.specs.declared.outcome.Replace.TheVariants as rules
 use Rattle.flat_list.specs.declared.command.End.{End}
 use Rattle.table_model.specs.Own.{Mine}
