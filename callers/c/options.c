@@ -68,6 +68,11 @@ static void ranges(void) {
     given.high = 60997;
     try_sizes("ports from 60998 to 60997", given);
     given = sizes();
+    given.reserved_count = 64;
+    try_sizes("64 reserved ports", given);
+    given.reserved_count = 65;
+    try_sizes("65 reserved ports", given);
+    given = sizes();
     given.size++;
     try_sizes("a struct of another version", given);
 }
@@ -114,6 +119,22 @@ static void searches(void) {
     uint16_t two = port_of(&list, socket_of(&list, 0, 0, 0, 0), HOST, 0);
     printf("two ports of a search: %u and %u\n", one < two ? one : two, one < two ? two : one);
     printf("a third: %s\n", name(inet_list_bind(&list, 1, socket_of(&list, 0, 0, 0, 0), HOST, 0, &bound)));
+    inet_list_free(&list);
+}
+
+/* Searches begin at an offset, and pass a reserved port by. */
+static void begin_at(uint16_t offset, uint16_t reserved) {
+    struct inet_sizes given = sizes();
+    given.low = 40000;
+    given.high = 40005;
+    given.has_offset = true;
+    given.offset = offset;
+    given.reserved[0] = reserved;
+    given.reserved_count = 1;
+    struct inet_list list = list_of(given);
+    uint16_t one = port_of(&list, socket_of(&list, 0, 0, 0, 0), HOST, 0);
+    uint16_t two = port_of(&list, socket_of(&list, 0, 0, 0, 0), HOST, 0);
+    printf("of 40000 to 40005 without %u, from %u on: %u and %u\n", reserved, offset, one, two);
     inet_list_free(&list);
 }
 
@@ -247,6 +268,8 @@ static void tags(void) {
 int main(void) {
     ranges();
     searches();
+    begin_at(3, 40005);
+    begin_at(1, 40001);
     slots();
     reuse(false);
     reuse(true);

@@ -1,7 +1,7 @@
 //! Each option, size and field of the crate, used so that another one in its place would be told from it. It prints
 //! what ../../c/options.c prints of the same.
 
-use inet_tables::{Errno, Item, Limits, List, Options, Sight, Sizes, Socket, Tables};
+use inet_tables::{Errno, Item, Limits, List, Options, Reserved, Sight, Sizes, Socket, Tables};
 use std::net::{Ipv4Addr, SocketAddrV4};
 
 const LIMITS: Limits = Limits { tries: 10, most_waits: 0, full_for: 0 };
@@ -45,6 +45,10 @@ fn ranges() {
     try_sizes("2^21 listening buckets", Sizes { listen: 1 << 21, ..sizes });
     try_sizes("ports from 60998 to 60999", Sizes { low: 60998, ..sizes });
     try_sizes("ports from 60998 to 60997", Sizes { low: 60998, high: 60997, ..sizes });
+    for count in [64, 65] {
+        let may = Reserved::of(&vec![1; count]).is_some();
+        println!("{count} reserved ports: there may {}", if may { "be" } else { "not be" });
+    }
 }
 
 /// The port of a new socket that is bound to the host.
@@ -76,6 +80,16 @@ fn searches() -> Result<(), Errno> {
     let (one, two) = (searched(&mut list)?, searched(&mut list)?);
     println!("two ports of a search: {} and {}", one.min(two), one.max(two));
     println!("a third: {}", name(searched(&mut list)));
+    Ok(())
+}
+
+/// Searches begin at an offset, and pass a reserved port by.
+fn begin_at(offset: u16, reserved: u16) -> Result<(), Errno> {
+    let kept = Reserved::of(&[reserved]).expect("it is one port");
+    let sizes = Sizes { low: 40000, high: 40005, offset: Some(offset), reserved: kept, ..Sizes::default() };
+    let mut list = List::new(&sizes)?;
+    let (one, two) = (searched(&mut list)?, searched(&mut list)?);
+    println!("of 40000 to 40005 without {reserved}, from {offset} on: {one} and {two}");
     Ok(())
 }
 
@@ -209,6 +223,8 @@ fn main() -> Result<(), Errno> {
     let reuseport = Options { reuseport: true, uid: 7, ..Options::default() };
     ranges();
     searches()?;
+    begin_at(3, 40005)?;
+    begin_at(1, 40001)?;
     slots()?;
     reuse(false)?;
     reuse(true)?;

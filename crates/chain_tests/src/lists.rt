@@ -37,6 +37,7 @@ const CARD: Card = Card {
     kind: Kind::Listen,
     name: 1,
     extra: 0,
+    mark: 0,
 };
 
 // Hashes the card into the chain, which is empty: whether a slot was free.

@@ -55,6 +55,7 @@ fn connected(rport: u16, name: u64) -> Card
         kind: Kind::Full,
         name,
         extra: 0,
+        mark: 0,
     }
 }
 
@@ -65,6 +66,7 @@ fn waiting(rport: u16, name: u64, since: u32) -> Card
     Card {
         kind: Kind::TimeWait,
         extra: since,
+        mark: 0,
         ..connected(rport, name)
     }
 }
@@ -83,6 +85,7 @@ fn listening(local: u32, dev: u16, name: u64, extra: u32) -> Card
         kind: Kind::Listen,
         name,
         extra,
+        mark: 0,
     }
 }
 

@@ -68,6 +68,7 @@ fn connected(name: u64) -> Card
         kind: Kind::Full,
         name,
         extra: 0,
+        mark: 0,
     }
 }
 
@@ -85,6 +86,7 @@ fn waiting(name: u64) -> Card
         kind: Kind::TimeWait,
         name,
         extra: 0,
+        mark: 0,
     }
 }
 
@@ -102,6 +104,7 @@ fn listening(name: u64) -> Card
         kind: Kind::Listen,
         name,
         extra: 0,
+        mark: 0,
     }
 }
 

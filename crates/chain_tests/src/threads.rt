@@ -65,6 +65,7 @@ fn waiting(rport: u16, name: u64) -> Card
         kind: Kind::TimeWait,
         name,
         extra: 0,
+        mark: 0,
     }
 }
 
@@ -83,6 +84,7 @@ fn listening(dev: u16, name: u64) -> Card
         kind: Kind::Listen,
         name,
         extra: 0,
+        mark: 0,
     }
 }
 

@@ -11,15 +11,15 @@ same_ends a b = (a.local == b.local) && ((a.lport == b.lport) && ((a.remote == b
 
 abbrev same_rest : Card → Card → Bool
 same_rest a b =
-    (a.dev == b.dev) && ((a.net == b.net) && (same_kind a.kind b.kind && ((a.name == b.name) && (a.extra == b.extra))))
+    (a.dev == b.dev) && ((a.net == b.net) && (same_kind a.kind b.kind && ((a.name == b.name) && ((a.extra == b.extra) && (a.mark == b.mark)))))
 
 -- all that one says the other says
 abbrev pub is_card : Card → Card → Bool
 is_card a b = same_ends a b && same_rest a b
 
 -- a card, by what it says
-abbrev saying : ℕ → ℕ → ℕ → ℕ → ℕ → ℕ → Kind → ℕ → ℕ → Card
-saying local lport remote rport dev net kind name extra = record {
+abbrev saying : ℕ → ℕ → ℕ → ℕ → ℕ → ℕ → Kind → ℕ → ℕ → ℕ → Card
+saying local lport remote rport dev net kind name extra mark = record {
   local = local;
   lport = lport;
   remote = remote;
@@ -29,6 +29,7 @@ saying local lport remote rport dev net kind name extra = record {
   kind = kind;
   name = name;
   extra = extra;
+  mark = mark;
 }
 
 pub card_is : (a b : Card) → is_card a b ≡ true → a ≡ b
@@ -41,15 +42,17 @@ card_is a b h =
     let n1 = and_parts (a.net == b.net) _ r1.1 in
     let r2 = and_parts (same_kind a.kind b.kind) _ n1.1 in
     let r3 = and_parts (a.name == b.name) _ r2.1 in
-    ap (λ (x : ℕ). saying x a.lport a.remote a.rport a.dev a.net a.kind a.name a.extra) (eqb-true a.local b.local e1.0)
-    ∙ (ap (λ (x : ℕ). saying b.local x a.remote a.rport a.dev a.net a.kind a.name a.extra) (eqb-true a.lport b.lport e2.0)
-    ∙ (ap (λ (x : ℕ). saying b.local b.lport x a.rport a.dev a.net a.kind a.name a.extra) (eqb-true a.remote b.remote e3.0)
-    ∙ (ap (λ (x : ℕ). saying b.local b.lport b.remote x a.dev a.net a.kind a.name a.extra) (eqb-true a.rport b.rport e3.1)
-    ∙ (ap (λ (x : ℕ). saying b.local b.lport b.remote b.rport x a.net a.kind a.name a.extra) (eqb-true a.dev b.dev r1.0)
-    ∙ (ap (λ (x : ℕ). saying b.local b.lport b.remote b.rport b.dev x a.kind a.name a.extra) (eqb-true a.net b.net n1.0)
-    ∙ (ap (λ (x : Kind). saying b.local b.lport b.remote b.rport b.dev b.net x a.name a.extra) (kind_is a.kind b.kind r2.0)
-    ∙ (ap (λ (x : ℕ). saying b.local b.lport b.remote b.rport b.dev b.net b.kind x a.extra) (eqb-true a.name b.name r3.0)
-    ∙ ap (λ (x : ℕ). saying b.local b.lport b.remote b.rport b.dev b.net b.kind b.name x) (eqb-true a.extra b.extra r3.1))))))))
+    let r4 = and_parts (a.extra == b.extra) _ r3.1 in
+    ap (λ (x : ℕ). saying x a.lport a.remote a.rport a.dev a.net a.kind a.name a.extra a.mark) (eqb-true a.local b.local e1.0)
+    ∙ (ap (λ (x : ℕ). saying b.local x a.remote a.rport a.dev a.net a.kind a.name a.extra a.mark) (eqb-true a.lport b.lport e2.0)
+    ∙ (ap (λ (x : ℕ). saying b.local b.lport x a.rport a.dev a.net a.kind a.name a.extra a.mark) (eqb-true a.remote b.remote e3.0)
+    ∙ (ap (λ (x : ℕ). saying b.local b.lport b.remote x a.dev a.net a.kind a.name a.extra a.mark) (eqb-true a.rport b.rport e3.1)
+    ∙ (ap (λ (x : ℕ). saying b.local b.lport b.remote b.rport x a.net a.kind a.name a.extra a.mark) (eqb-true a.dev b.dev r1.0)
+    ∙ (ap (λ (x : ℕ). saying b.local b.lport b.remote b.rport b.dev x a.kind a.name a.extra a.mark) (eqb-true a.net b.net n1.0)
+    ∙ (ap (λ (x : Kind). saying b.local b.lport b.remote b.rport b.dev b.net x a.name a.extra a.mark) (kind_is a.kind b.kind r2.0)
+    ∙ (ap (λ (x : ℕ). saying b.local b.lport b.remote b.rport b.dev b.net b.kind x a.extra a.mark) (eqb-true a.name b.name r3.0)
+    ∙ (ap (λ (x : ℕ). saying b.local b.lport b.remote b.rport b.dev b.net b.kind b.name x a.mark) (eqb-true a.extra b.extra r4.0)
+    ∙ ap (λ (x : ℕ). saying b.local b.lport b.remote b.rport b.dev b.net b.kind b.name b.extra x) (eqb-true a.mark b.mark r4.1)))))))))
 
 pub card_itself : (a : Card) → is_card a a ≡ true
 card_itself a =
@@ -60,4 +63,5 @@ card_itself a =
     (and_from (a.dev == a.dev) _ (eq-eqb a.dev a.dev refl)
     (and_from (a.net == a.net) _ (eq-eqb a.net a.net refl)
     (and_from (same_kind a.kind a.kind) _ (kind_itself a.kind)
-    (and_from (a.name == a.name) _ (eq-eqb a.name a.name refl) (eq-eqb a.extra a.extra refl)))))
+    (and_from (a.name == a.name) _ (eq-eqb a.name a.name refl)
+    (and_from (a.extra == a.extra) _ (eq-eqb a.extra a.extra refl) (eq-eqb a.mark a.mark refl))))))

@@ -70,6 +70,7 @@ listener_at local lport dev net = record {
   kind = kinds.Listen;
   name = 0;
   extra = 0;
+  mark = 0;
 }
 
 -- listeners at one end and device of a namespace match alike

@@ -242,7 +242,7 @@ calm_at own moment false e = record {
 }
 
 pub calm_socket : (own : Own) (label : List ℕ) (options : Options) → AsksCalmly (CalmBy own) (command.socket_command own label options)
-calm_socket own label options = with_its_socket own label (op.plain (new_owner (next_name own) options)) refl
+calm_socket own label options = with_its_socket own label (op.plain (new_owner (next_name own) own.mark options)) refl
 
 pub calm_bind_command : (own : Own) (o : Option Mine) (end : End) → AsksCalmly (CalmBy own) (command.bind_command own o end)
 calm_bind_command own None end = calm_self own
@@ -266,17 +266,17 @@ module _ (header : Header) where
   pub calm_accept_command : (own : Own) (label : List ℕ) (o : Option Mine) (from at : End) → AsksCalmly (CalmBy own) (command.accept_command header (with_label own label) (next_name own) o from at)
   calm_accept_command own label None from at = labelled own label
   calm_accept_command own label (Some l) from at =
-      calm_then (NamedBy (next_name own)) own _ _ (accept_asks IsCalm Leaves (λ card e. e) header.shape header.seed l (next_name own) from at) (calm_accept own label)
+      calm_then (NamedBy (next_name own)) own _ _ (accept_asks IsCalm Leaves (λ card e. e) header.shape header.seed l (next_name own) own.mark from at) (calm_accept own label)
 
   pub calm_syn_command : (own : Own) (label : List ℕ) (o : Option Mine) (from at : End) → AsksCalmly (CalmBy own) (command.syn_command header (with_label own label) (next_name own) o from at)
   calm_syn_command own label None from at = labelled own label
   calm_syn_command own label (Some l) from at =
-      calm_then (NamedBy (next_name own)) own _ _ (syn_asks IsCalm Leaves (λ card e. e) header.shape header.seed l (next_name own) from at) (calm_accept own label)
+      calm_then (NamedBy (next_name own)) own _ _ (syn_asks IsCalm Leaves (λ card e. e) header.shape header.seed l (next_name own) own.mark from at) (calm_accept own label)
 
   pub calm_ack_command : (own : Own) (label : List ℕ) (o : Option Mine) → AsksCalmly (CalmBy own) (command.ack_command header (with_label own label) (next_name own) o)
   calm_ack_command own label None = labelled own label
   calm_ack_command own label (Some r) =
       calm_then (NamedBy (next_name own)) own _ _
-      (ack_asks IsCalm Leaves (λ card e. e) header.shape header.seed r.owner.state r (open_named (with_label own label) r.owner.origin) (next_name own)
+      (ack_asks IsCalm Leaves (λ card e. e) header.shape header.seed r.owner.state r (open_named (with_label own label) r.owner.origin) (next_name own) own.mark
       (may_leave Leaves (λ place card. tt) r (kind_of r.owner.state)))
       (calm_ack own label r.owner.name)

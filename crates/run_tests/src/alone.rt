@@ -149,6 +149,7 @@ const fn listener(section: u32) -> Card
         kind: Kind::Listen,
         name: section as u64 * 0x0100_0000_0000_0000 + 1,
         extra: 0,
+        mark: 0,
     }
 }
 

@@ -108,6 +108,7 @@ fn a_listener_is_listed(rt: HostRuntime) -> Result<(), Fail> {
         kind: Kind::Listen,
         name: 0x0100_0000_0000_0001,
         extra: 0,
+        mark: 0,
     };
     let told = replies
         .listings

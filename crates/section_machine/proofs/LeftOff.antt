@@ -202,18 +202,18 @@ ack_gives request label = record { speaks = λ own. refl; leaves = λ own deeds 
 
 -- what it is by the socket that its other label names
 module _ (header : Header) (own : Own) (m : Mine) (name label : List ℕ) (named : open_socket own name ≡ Some m) where
-  pub accept_plan : (from at : End) → plan header own (commands.Accept name label from at) ≡ and_then (plans.accept header.shape header.seed m (next_name own) from at) (λ did. ends (accept_reply (with_label own label) did))
+  pub accept_plan : (from at : End) → plan header own (commands.Accept name label from at) ≡ and_then (plans.accept header.shape header.seed m (next_name own) own.mark from at) (λ did. ends (accept_reply (with_label own label) did))
   unfolding plan
   accept_plan from at =
       ap (λ (x : Option Mine). accept_command header (with_label own label) (next_name own) x from at) named
 
-  pub syn_plan : (from at : End) → plan header own (commands.Syn name label from at) ≡ and_then (plans.syn header.shape header.seed m (next_name own) from at) (λ did. ends (accept_reply (with_label own label) did))
+  pub syn_plan : (from at : End) → plan header own (commands.Syn name label from at) ≡ and_then (plans.syn header.shape header.seed m (next_name own) own.mark from at) (λ did. ends (accept_reply (with_label own label) did))
   unfolding plan
   syn_plan from at =
       ap (λ (x : Option Mine). syn_command header (with_label own label) (next_name own) x from at) named
 
   pub ack_plan : plan header own (commands.Ack name label)
-      ≡ and_then (plans.ack header.shape header.seed m (socket_of (with_label own label) m.owner.origin) (next_name own)) (λ did. ends (ack_reply (with_label own label) m.owner.name did))
+      ≡ and_then (plans.ack header.shape header.seed m (socket_of (with_label own label) m.owner.origin) (next_name own) own.mark) (λ did. ends (ack_reply (with_label own label) m.owner.name did))
   unfolding plan
   ack_plan = ap (λ (x : Option Mine). ack_command header (with_label own label) (next_name own) x) named
 

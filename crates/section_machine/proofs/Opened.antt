@@ -73,6 +73,7 @@ pub own_kept : (old new : Labelled) → KeepsLabels old new → (moment : ℕ) (
 own_kept old new same moment offsets waits = λ i. record {
   number = same.number i;
   labels = same.labels i;
+  mark = same.mark i;
   moment = moment;
   offsets = offsets;
   sockets = those (same.places i);
@@ -82,6 +83,7 @@ own_kept old new same moment offsets waits = λ i. record {
 pub kept_twice : (a b c : Labelled) → KeepsLabels a b → KeepsLabels b c → KeepsLabels a c
 kept_twice a b c first second = record {
   number = second.number ∙ first.number;
+  mark = second.mark ∙ first.mark;
   labels = second.labels ∙ first.labels;
   places = second.places ∙ first.places;
 }

@@ -53,13 +53,13 @@ impl Machine {
         ensures kept { KeepsHeader self.old self.new }
     {
         let place = self.labels.len();
-        let name = self.labels.next_name();
+        let newcomer = self.labels.newcomer();
         let listener = self.labels.place_of(listener);
         self.labels.give(label)?;
         let Some(socket) = self.labels.at(listener) else {
             return Ok(Reply::Ebadf);
         };
-        match syn(patience, tables, worker, socket, name, from, at) {
+        match syn(patience, tables, worker, socket, newcomer, from, at) {
             Ok(request) => {
                 self.labels.put(place, request);
                 Ok(Reply::Ok)
@@ -97,13 +97,13 @@ impl Machine {
         ensures kept { KeepsHeader self.old self.new }
     {
         let child_place = self.labels.len();
-        let name = self.labels.next_name();
+        let newcomer = self.labels.newcomer();
         self.labels.give(label)?;
         let Some((place, socket)) = self.labels.take(request) else {
             return Ok(Reply::Ebadf);
         };
         let listener = self.labels.named(socket.owner().origin);
-        match ack(patience, tables, worker, socket, listener, name) {
+        match ack(patience, tables, worker, socket, listener, newcomer) {
             Ok(child) => {
                 self.labels.put(child_place, child);
                 Ok(Reply::Ok)

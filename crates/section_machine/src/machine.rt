@@ -216,10 +216,10 @@ impl Machine {
         ensures waits { self.new.own.waits ≡ self.old.own.waits }
     {
         let place = self.labels.len();
-        let name = self.labels.next_name();
+        let newcomer = self.labels.newcomer();
         self.labels.give(label)?;
         self.labels
-            .put(place, Sock::Unbound(Unbound::new(name, options)));
+            .put(place, Sock::Unbound(Unbound::new(newcomer, options)));
         Ok(Reply::Ok)
     }
 

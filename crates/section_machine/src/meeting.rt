@@ -136,13 +136,13 @@ impl Machine {
         ensures kept { KeepsHeader self.old self.new }
     {
         let place = self.labels.len();
-        let name = self.labels.next_name();
+        let newcomer = self.labels.newcomer();
         let listener = self.labels.place_of(listener);
         self.labels.give(label)?;
         let Some(socket) = self.labels.at(listener) else {
             return Ok(Reply::Ebadf);
         };
-        match accept(patience, tables, worker, socket, name, from, at) {
+        match accept(patience, tables, worker, socket, newcomer, from, at) {
             Ok(child) => {
                 self.labels.put(place, child);
                 Ok(Reply::Ok)

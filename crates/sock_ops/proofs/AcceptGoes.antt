@@ -49,7 +49,7 @@ use Rattle.sock_ops.proofs.ConnectGoes.{replaced_leads, full_is, gone_quiet, has
 use Rattle.sock_ops.proofs.Knows.{Grows, after, grows, grows_first, grows_rest, gave_first, all_pass, inherits, stands_on}
 
 abbrev pub child_entry : Owner → Owner → Entry
-child_entry l a = record { request = requests.Inherit l.name a.name a.addr a.remote a.rport; answer = answers.Done }
+child_entry l a = record { request = requests.Inherit l.name a.name a.mark a.addr a.remote a.rport; answer = answers.Done }
 
 module _ (count : ℕ) (l a : Owner) (port : owner_key a ≡ owner_key l) (v w : View) (c d : Side) where
   abbrev plan : Asking Did
@@ -71,7 +71,7 @@ module _ (count : ℕ) (l a : Owner) (port : owner_key a ≡ owner_key l) (v w :
       let more = subst (λ r. AreAsked at (gone_of r answer) f.zs) (p.replaced_is ∙ names_of p.old) f.more in
       let last : List Deed = deed_at (owner_key l) f.x ∷ map (deed_at (owner_key l)) f.zs in
       let told : Leads (accept_hashed shape seed l a (put slot old)) last there =
-      by_entry count (owner_key l) (requests.Inherit l.name a.name a.addr a.remote a.rport) answers.Done (when_done (full_done shape seed a slot old)) f.x (map (deed_at (owner_key l)) f.zs) there f.is
+      by_entry count (owner_key l) (requests.Inherit l.name a.name a.mark a.addr a.remote a.rport) answers.Done (when_done (full_done shape seed a slot old)) f.x (map (deed_at (owner_key l)) f.zs) there f.is
       (replaced_leads count (owner_key l) old answer there f.zs (λ x is. keys_of wish p.hash p.old grants x is ∙ port) more) in
       record {
         deeds = inserted wish tried ∷ last;
@@ -106,11 +106,11 @@ module _ (count : ℕ) (l a : Owner) (port : owner_key a ≡ owner_key l) (v w :
 
 module _ (l a : Owner) (place : ℕ) (v w : View) (replaced : Option ℕ) (answer : Answer) (stands : StandsOwn l place v) (all : AskedAll place (child_entry l a ∷ gone_of replaced answer) v w) where
   -- the child stands
-  pub child_stands : a ≡ child a.name a.addr a.remote a.rport l → MayName v.caller a.name → IsNew a.name v → StandsOwn a place w
+  pub child_stands : a ≡ child a.name a.mark a.addr a.remote a.rport l → MayName v.caller a.name → IsNew a.name v → StandsOwn a place w
   child_stands is may new =
       let f = all_first place (child_entry l a) (gone_of replaced answer) v w all in
       let u = record v { mine = v.mine ++ f.x ∷ []; draws = v.draws + 1 } in
-      let first = own_accepted l place a.name a.addr a.remote a.rport v u stands (record { entry = f.x; asked = f.is; gave = gave_first v w f.x f.zs f.gave }) may (new place) in
+      let first = own_accepted l place a.name a.mark a.addr a.remote a.rport v u stands (record { entry = f.x; asked = f.is; gave = gave_first v w f.x f.zs f.gave }) may (new place) in
       let g = grows v w (f.x ∷ f.zs) f.gave in
       let h = grows_rest v w (f.x ∷ []) f.zs g in
       let rest : Grows u w f.zs = record { mine = h.mine; caller = h.caller; callers = h.callers } in
@@ -122,7 +122,7 @@ module _ (l a : Owner) (place : ℕ) (v w : View) (replaced : Option ℕ) (answe
       let f = all_first place (child_entry l a) (gone_of replaced answer) v w all in
       let g = grows v w (f.x ∷ f.zs) f.gave in
       let u = after v (f.x ∷ []) in
-      let first = inherits l place a.name a.addr a.remote a.rport v u f.x stands (grows_first v w (f.x ∷ []) f.zs g) f.is in
+      let first = inherits l place a.name a.mark a.addr a.remote a.rport v u f.x stands (grows_first v w (f.x ∷ []) f.zs g) f.is in
       stands_on l place u w f.zs first (grows_rest v w (f.x ∷ []) f.zs g) (all_pass place f.zs (gone_quiet place replaced answer f.zs f.more))
 
 first_of_five : (a b c d e : Bool) → (a || b || c || d || e) ≡ false → a ≡ false
@@ -133,9 +133,9 @@ first_of_five false b c d e h = refl
 pub accepts : (l : Owner) (from at : End) → is_no_accept l from at ≡ false → l.state ≡ states.Listening
 accepts l from at isnt = listening_is l.state (not-false (is_listening l.state) (first_of_five _ _ _ _ _ isnt))
 
-pub accept_plan : (shape : Shape) (seed : ℕ) (m : Mine) (name : ℕ) (from at : End) → is_no_accept m.owner from at ≡ false → accept_as shape seed m.owner (child_owner m.owner name from at) ≡ accept shape seed m name from at
-accept_plan shape seed m name from at isnt =
-    sym (ap (λ b. if b then ends (refused errors.Inval) else accept_as shape seed m.owner (child_owner m.owner name from at)) isnt)
+pub accept_plan : (shape : Shape) (seed : ℕ) (m : Mine) (name mark : ℕ) (from at : End) → is_no_accept m.owner from at ≡ false → accept_as shape seed m.owner (child_owner m.owner name mark from at) ≡ accept shape seed m name mark from at
+accept_plan shape seed m name mark from at isnt =
+    sym (ap (λ b. if b then ends (refused errors.Inval) else accept_as shape seed m.owner (child_owner m.owner name mark from at)) isnt)
 
 -- a listener that accepted, or refused to, stands as it did
 pub listener_stands : (t : Tables) (s : Sock) (v w : View) (c d : Side) → FitsState s → (mine_of s).owner.state ≡ states.Listening → d.layout ≡ c.layout → PlacesStay c.view d.view → StandsAs t s v c → IsOwner t (mine_of s).owner w → StandsAs t s w d

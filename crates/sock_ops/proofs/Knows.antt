@@ -374,13 +374,13 @@ found_with name owners more a true found = found_before name owners more a found
 found_with name owners more a false found = found
 
 -- the listener stays
-pub inherits : (l : Owner) (place name local remote rport : ℕ) (v w : View) (x : Placed Entry) → StandsOwn l place v → Grows v w (x ∷ []) → IsAsked place (requests.Inherit l.name name local remote rport) answers.Done x → StandsOwn l place w
-inherits l place name local remote rport v w x s g is =
+pub inherits : (l : Owner) (place name mark local remote rport : ℕ) (v w : View) (x : Placed Entry) → StandsOwn l place v → Grows v w (x ∷ []) → IsAsked place (requests.Inherit l.name name mark local remote rport) answers.Done x → StandsOwn l place w
+inherits l place name mark local remote rport v w x s g is =
     let os = told_by s.mine (own_given place v) in
-    let request = requests.Inherit l.name name local remote rport in
+    let request = requests.Inherit l.name name mark local remote rport in
     let t = tells_next l.name place os v w x (tells_of l.name place (Some l) v (known_of l place v s)) g is.place_is
     (subst (λ (e : Entry). KeepsOpen s.mine e.request) (sym is.entry) (λ said. s.it)) in
     stands_of l place w
     (knows_of l.name place (told_next s.mine os x.note.entry) (Some l) w t
     (ap (find (has_name l.name)) (ap (told_next s.mine os) is.entry)
-    ∙ found_with l.name os (option_to_list (option_map (child name local remote rport) (find (has_name l.name) os))) l (s.mine name) s.told_is))
+    ∙ found_with l.name os (option_to_list (option_map (child name mark local remote rport) (find (has_name l.name) os))) l (s.mine name) s.told_is))

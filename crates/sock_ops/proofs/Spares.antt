@@ -186,21 +186,21 @@ module _ (shape : Shape) (seed : ℕ) where
   handed_spares r l child (taken name) = tt
   handed_spares r l child (full owned held) = tt
 
-  by_spares : (r : Mine) (l : Option Mine) (name : ℕ) → PlanSpares (plans.ack_by shape seed r l name)
-  by_spares r None name = tt
-  by_spares r (Some l) name =
-      either_spares (is_no_ack l.owner r.owner) (ends (refused errors.Inval)) _ tt (handed_spares r l.owner (heir_owner l.owner name r.owner))
+  by_spares : (r : Mine) (l : Option Mine) (name mark : ℕ) → PlanSpares (plans.ack_by shape seed r l name mark)
+  by_spares r None name mark = tt
+  by_spares r (Some l) name mark =
+      either_spares (is_no_ack l.owner r.owner) (ends (refused errors.Inval)) _ tt (handed_spares r l.owner (heir_owner l.owner name mark r.owner))
 
-  from_spares : (state : State) (r : Mine) (l : Option Mine) (name : ℕ) → PlanSpares (plans.ack_from shape seed state r l name)
-  from_spares states.Request r l name = by_spares r l name
-  from_spares states.Unbound r l name = tt
-  from_spares states.Bound r l name = tt
-  from_spares states.Listening r l name = tt
-  from_spares states.Full r l name = tt
-  from_spares states.TimeWait r l name = tt
+  from_spares : (state : State) (r : Mine) (l : Option Mine) (name mark : ℕ) → PlanSpares (plans.ack_from shape seed state r l name mark)
+  from_spares states.Request r l name mark = by_spares r l name mark
+  from_spares states.Unbound r l name mark = tt
+  from_spares states.Bound r l name mark = tt
+  from_spares states.Listening r l name mark = tt
+  from_spares states.Full r l name mark = tt
+  from_spares states.TimeWait r l name mark = tt
 
-  pub ack_spares : (r : Mine) (l : Option Mine) (name : ℕ) → PlanSpares (plans.ack shape seed r l name)
-  ack_spares r l name = from_spares r.owner.state r l name
+  pub ack_spares : (r : Mine) (l : Option Mine) (name mark : ℕ) → PlanSpares (plans.ack shape seed r l name mark)
+  ack_spares r l name mark = from_spares r.owner.state r l name mark
 
 -- one TIME_WAIT that is reaped
 reaped_spares : (w : Mine) (found : Bool) → PlanSpares (plans.reaped_next w 0 (plans.reap_each []) found)

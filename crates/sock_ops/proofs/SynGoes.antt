@@ -120,6 +120,6 @@ listener_owns t (socks.Listening m) v c fits listens stood = stood.0
 listener_owns t (socks.Full m) v c fits listens stood = stood.0
 listener_owns t (socks.Request m) v c fits listens stood = absurd (let e : states.Request ≡ states.Listening = sym fits ∙ listens in cc)
 
-pub syn_plan : (shape : Shape) (seed : ℕ) (m : Mine) (name : ℕ) (from at : End) → is_no_accept m.owner from at ≡ false → syn_as shape seed (request_owner m.owner name from at) ≡ syn shape seed m name from at
-syn_plan shape seed m name from at isnt =
-    sym (ap (λ b. if b then ends (refused errors.Inval) else syn_as shape seed (request_owner m.owner name from at)) isnt)
+pub syn_plan : (shape : Shape) (seed : ℕ) (m : Mine) (name mark : ℕ) (from at : End) → is_no_accept m.owner from at ≡ false → syn_as shape seed (request_owner m.owner name mark from at) ≡ syn shape seed m name mark from at
+syn_plan shape seed m name mark from at isnt =
+    sym (ap (λ b. if b then ends (refused errors.Inval) else syn_as shape seed (request_owner m.owner name mark from at)) isnt)

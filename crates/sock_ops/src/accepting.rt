@@ -20,7 +20,7 @@ use crate::asking;
 use crate::connecting::end_turn;
 use crate::hashing::insert;
 use crate::room::begin_with;
-use crate::sock::{Connected, Sock};
+use crate::sock::{Connected, Newcomer, Sock};
 use crate::tables::{Tables, Worker};
 use bind_buckets::turning;
 use chain_book::Replace;
@@ -46,7 +46,7 @@ fn accept_as<P: Patience>(
     requires new { IsNew child.name (turned worker.old) }
     requires stands { IsOwner tables.now listener.now (turned worker.old) }
     requires listening { listener.now.state ≡ State.Listening }
-    requires child { child ≡ became.child child.name child.addr child.remote child.rport listener.now }
+    requires child { child ≡ became.child child.name child.mark child.addr child.remote child.rport listener.now }
     requires addr { ((listener.now.addr == 0) || (listener.now.addr == child.addr)) ≡ true }
     ensures ready { IsReady tables.now worker.new }
     ensures caller { words.caller worker.new.turns ≡ words.caller worker.old.turns }
@@ -88,7 +88,7 @@ fn accept_as<P: Patience>(
     }
 }
 
-/// The socket of that new name which a listener accepts from one end at another (`inet_accept`). The listener stays as
+/// The socket of that new name, with that mark, which a listener accepts from one end at another (`inet_accept`). The listener stays as
 /// it is; the child keeps its port, and no conflict is looked for. A TIME_WAIT of the four-tuple gives way.
 ///
 /// Its plan goes on so by the answers of the entries that this call gave and by the changes that it made, whoever else
@@ -104,7 +104,7 @@ pub fn accept<P: Patience>(
     tables: &Tables,
     worker: &mut Worker,
     listener: &Sock,
-    name: u64,
+    newcomer: Newcomer,
     from: End,
     at: End,
 ) -> Result<Sock, OpEnd>
@@ -112,8 +112,8 @@ pub fn accept<P: Patience>(
     requires enters { MayEnter 2 worker.old }
     requires draws { MayDraw 4 worker.old }
     requires parent { MayTell worker.old (mine_of listener.now).owner.name }
-    requires may { MayTell worker.old name }
-    requires new { IsNew name (turned worker.old) }
+    requires may { MayTell worker.old newcomer.name }
+    requires new { IsNew newcomer.name (turned worker.old) }
     requires stands { StandsAs tables.now listener.now (turned worker.old) (chained tables.now worker.old) }
     ensures ready { IsReady tables.now worker.new }
     ensures caller { words.caller worker.new.turns ≡ words.caller worker.old.turns }
@@ -123,7 +123,7 @@ pub fn accept<P: Patience>(
     ensures groups { worker.new.groups ≡ worker.old.groups }
     ensures listed { KeepsLists tables.now worker.old worker.new }
     ensures carried { Carried accepted plans.refused (buckets_of tables.now)
-        (plans.accept tables.now.chains.layout.shape tables.now.chains.layout.seed (mine_of listener.now) name from at)
+        (plans.accept tables.now.chains.layout.shape tables.now.chains.layout.seed (mine_of listener.now) newcomer.name newcomer.mark from at)
         (turned worker.old) (turned worker.new) (chained tables.now worker.old) (chained tables.now worker.new) result }
     ensures stands { IfOk result (λ child.
         StandsAs tables.now child (turned worker.new) (chained tables.now worker.new)) }
@@ -134,7 +134,8 @@ pub fn accept<P: Patience>(
     if owned::is_no_accept(&owner, from, at) {
         return Err(OpEnd::Inval);
     }
-    let child = owned::child_owner(owner, name, from, at);
+    let Newcomer { name, mark } = newcomer;
+    let child = owned::child_owner(owner, name, mark, from, at);
     match accept_as(patience, tables, worker, &owner, child) {
         Ok(child) => Ok(Sock::Full(child)),
         Err(end) => Err(end),

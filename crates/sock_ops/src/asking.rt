@@ -120,7 +120,7 @@ pub(crate) fn inherit(
     requires entry { 1 ≤ turn.old.value.value.entries }
     requires newcomer { 1 ≤ turn.old.value.value.newcomers }
     ensures asks { Asks buckets.now pass.old turn.old pass.new turn.new
-        (requests.Inherit listener.now.name child.now.name child.now.addr child.now.remote child.now.rport)
+        (requests.Inherit listener.now.name child.now.name child.now.mark child.now.addr child.now.remote child.now.rport)
         answers.Done }
     ensures entries { turn.new.value.value.entries + 1 ≡ turn.old.value.value.entries }
 {
@@ -130,6 +130,7 @@ pub(crate) fn inherit(
         turn,
         listener.name,
         child.name,
+        child.mark,
         child.addr,
         child.remote,
         child.rport,

@@ -30,7 +30,7 @@ use crate::asking;
 use crate::chains::{self, ChainPass, ChainTable};
 use crate::leaving::request_place;
 use crate::room::begin_with;
-use crate::sock::{Connected, Request, Sock};
+use crate::sock::{Connected, Newcomer, Request, Sock};
 use crate::tables::{Tables, Worker};
 use bind_buckets::turning;
 use chain_book::Place;
@@ -97,7 +97,7 @@ fn ack_as<P: Patience>(
     requires hashed { IsHashed kinds.Request request.now (chained tables.now worker.old) }
     requires stands { IsOwner tables.now listener.now (turned worker.old) }
     requires listening { listener.now.state ≡ State.Listening }
-    requires child { child ≡ became.child child.name child.addr child.remote child.rport listener.now }
+    requires child { child ≡ became.child child.name child.mark child.addr child.remote child.rport listener.now }
     requires addr { ((listener.now.addr == 0) || (listener.now.addr == child.addr)) ≡ true }
     requires tuple { same_cards (full_card child) (card_of kinds.Request request.now) ≡ true }
     ensures ready { IsReady tables.now worker.new }
@@ -144,14 +144,14 @@ fn ack_shared<P: Patience>(
     worker: &mut Worker,
     request: &Sock,
     listener: Option<&Sock>,
-    name: u64,
+    newcomer: Newcomer,
 ) -> Result<Connected, OpEnd>
     requires ready { IsReady tables.now worker.old }
     requires enters { MayEnter 1 worker.old }
     requires draws { MayDraw 4 worker.old }
     requires parent { IfSome listener (λ l. MayTell worker.old (mine_of l.now).owner.name) }
-    requires may { MayTell worker.old name }
-    requires new { IsNew name (turned worker.old) }
+    requires may { MayTell worker.old newcomer.name }
+    requires new { IsNew newcomer.name (turned worker.old) }
     requires request { StandsAs tables.now request.now (turned worker.old) (chained tables.now worker.old) }
     requires stands { IfSome listener (λ l.
         StandsAs tables.now l.now (turned worker.old) (chained tables.now worker.old)) }
@@ -162,7 +162,7 @@ fn ack_shared<P: Patience>(
     ensures groups { worker.new.groups ≡ worker.old.groups }
     ensures carried { Carried plans.done plans.refused (buckets_of tables.now)
         (plans.ack tables.now.chains.layout.shape tables.now.chains.layout.seed (mine_of request.now)
-        (mine_found listener.entry) name)
+        (mine_found listener.entry) newcomer.name newcomer.mark)
         (turned worker.old) (turned worker.new) (chained tables.now worker.old) (chained tables.now worker.new) result }
     ensures stands { IfOk result (StandsFull tables.now (turned worker.new) (chained tables.now worker.new)) }
     ensures listener { IfSome listener.entry (λ l.
@@ -182,7 +182,8 @@ fn ack_shared<P: Patience>(
     if owned::is_no_ack(owner, &request.owner) {
         return Err(OpEnd::Inval);
     }
-    let child = owned::heir_owner(*owner, name, &request.owner);
+    let Newcomer { name, mark } = newcomer;
+    let child = owned::heir_owner(*owner, name, mark, &request.owner);
     ack_as(patience, tables, worker, request, owner, child)
 }
 
@@ -195,7 +196,7 @@ fn ack_answer(request: Sock, child: Result<Connected, OpEnd>) -> Result<Sock, (S
     }
 }
 
-/// The socket of that new name which a listener accepts as a request's handshake is over
+/// The socket of that new name, with that mark, which a listener accepts as a request's handshake is over
 /// (`inet_csk_complete_hashdance`): it is hashed, then the request goes, and then the child comes into the listener's
 /// port. The listener, which stays as it is, is the one by which the request came, if that is open still.
 ///
@@ -213,14 +214,14 @@ pub fn ack<P: Patience>(
     worker: &mut Worker,
     request: Sock,
     listener: Option<&Sock>,
-    name: u64,
+    newcomer: Newcomer,
 ) -> Result<Sock, (Sock, OpEnd)>
     requires ready { IsReady tables.now worker.old }
     requires enters { MayEnter 1 worker.old }
     requires draws { MayDraw 4 worker.old }
     requires parent { IfSome listener (λ l. MayTell worker.old (mine_of l.now).owner.name) }
-    requires may { MayTell worker.old name }
-    requires new { IsNew name (turned worker.old) }
+    requires may { MayTell worker.old newcomer.name }
+    requires new { IsNew newcomer.name (turned worker.old) }
     requires request { StandsAs tables.now request (turned worker.old) (chained tables.now worker.old) }
     requires stands { IfSome listener (λ l.
         StandsAs tables.now l.now (turned worker.old) (chained tables.now worker.old)) }
@@ -232,7 +233,7 @@ pub fn ack<P: Patience>(
     ensures listed { KeepsLists tables.now worker.old worker.new }
     ensures carried { Carried accepted plans.refused (buckets_of tables.now)
         (plans.ack tables.now.chains.layout.shape tables.now.chains.layout.seed (mine_of request)
-        (mine_found listener.entry) name)
+        (mine_found listener.entry) newcomer.name newcomer.mark)
         (turned worker.old) (turned worker.new)
         (chained tables.now worker.old) (chained tables.now worker.new) (without_socket result) }
     ensures stands { IfOk result (λ child.
@@ -244,6 +245,6 @@ pub fn ack<P: Patience>(
     ensures stay { OthersKept request (chained tables.now worker.old).view (chained tables.now worker.new).view }
     ensures patient { P.endless ≡ true → IfErr result (λ refusal. NotBusy refusal.1) }
 {
-    let child = ack_shared(patience, tables, worker, &request, listener, name);
+    let child = ack_shared(patience, tables, worker, &request, listener, newcomer);
     ack_answer(request, child)
 }

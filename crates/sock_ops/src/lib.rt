@@ -12,7 +12,7 @@
 //!
 //! ```text
 //! // `tables` and `worker` are those of a run or of a race.
-//! let socket = Sock::Unbound(Unbound::new(name, options));
+//! let socket = Sock::Unbound(Unbound::new(newcomer, options));
 //! let (socket, port) = bind(&Waits::by(&rt), &tables, &mut worker, socket, end, ports)?;
 //! ```
 #![tactic(auto)]
@@ -44,6 +44,6 @@ pub use leaving::{Closed, Waiting, close, drop_sock};
 pub use listening::listen;
 pub use reaping::reap_one;
 pub use requesting::syn;
-pub use sock::{Bound, Connected, Listening, Request, Sock, Unbound};
+pub use sock::{Bound, Connected, Listening, Newcomer, Request, Sock, Unbound};
 pub use table_model::{Cause, OpEnd};
 pub use tables::{Tables, Worker};

@@ -18,7 +18,7 @@ ghost use Rattle.sock_ops.specs.Stands.{buckets_of, chained, turned};
 use crate::connecting::end_turn;
 use crate::hashing::insert_request;
 use crate::room::begin;
-use crate::sock::{Request, Sock};
+use crate::sock::{Newcomer, Request, Sock};
 use crate::tables::{Tables, Worker};
 use bind_buckets::turning;
 use flat_list::{End, owned};
@@ -64,7 +64,7 @@ fn syn_as<P: Patience>(
     }
 }
 
-/// The request of that name for a handshake with a listener from one end at another (`tcp_conn_request`,
+/// The request of that name, with that mark, for a handshake with a listener from one end at another (`tcp_conn_request`,
 /// `inet_csk_reqsk_queue_hash_add`). The listener stays as it is; the request is in no bind bucket. It keeps its
 /// four-tuple as a full socket does, and a TIME_WAIT of that gives way.
 ///
@@ -81,7 +81,7 @@ pub fn syn<P: Patience>(
     tables: &Tables,
     worker: &mut Worker,
     listener: &Sock,
-    name: u64,
+    newcomer: Newcomer,
     from: End,
     at: End,
 ) -> Result<Sock, OpEnd>
@@ -97,7 +97,7 @@ pub fn syn<P: Patience>(
     ensures groups { worker.new.groups ≡ worker.old.groups }
     ensures listed { KeepsLists tables.now worker.old worker.new }
     ensures carried { Carried accepted plans.refused (buckets_of tables.now)
-        (plans.syn tables.now.chains.layout.shape tables.now.chains.layout.seed (mine_of listener.now) name from at)
+        (plans.syn tables.now.chains.layout.shape tables.now.chains.layout.seed (mine_of listener.now) newcomer.name newcomer.mark from at)
         (turned worker.old) (turned worker.new) (chained tables.now worker.old) (chained tables.now worker.new) result }
     ensures stands { IfOk result (λ request.
         StandsAs tables.now request (turned worker.new) (chained tables.now worker.new)) }
@@ -108,7 +108,8 @@ pub fn syn<P: Patience>(
     if owned::is_no_accept(&owner, from, at) {
         return Err(OpEnd::Inval);
     }
-    let request = owned::request_owner(owner, name, from, at);
+    let Newcomer { name, mark } = newcomer;
+    let request = owned::request_owner(owner, name, mark, from, at);
     match syn_as(patience, tables, worker, request) {
         Ok(request) => Ok(Sock::Request(request)),
         Err(end) => Err(end),

@@ -10,6 +10,13 @@ use flat_list::{End, Options, owned};
 use sock_card::{Owner, State};
 use std::marker::Model;
 
+/// What a socket to come gets of its caller: its name, and its mark.
+#[derive(Clone, Copy, Debug, PartialEq, Eq)]
+pub struct Newcomer {
+    pub name: u64,
+    pub mark: u32,
+}
+
 /// A socket without a port; it may have an address.
 #[derive(Debug, Drop)]
 pub struct Unbound {
@@ -30,12 +37,12 @@ impl Model for Unbound {
 }
 
 impl Unbound {
-    /// A new socket of that name. It takes no memory.
-    pub fn new(name: u64, options: Options) -> Self
-        ensures { result ≡ plain (new_owner name options) }
+    /// A new socket of that name, with that mark. It takes no memory.
+    pub fn new(newcomer: Newcomer, options: Options) -> Self
+        ensures { result ≡ plain (new_owner newcomer.name newcomer.mark options) }
     {
         Unbound {
-            owner: owned::new_owner(name, options),
+            owner: owned::new_owner(newcomer.name, newcomer.mark, options),
         }
     }
 

@@ -113,8 +113,8 @@ module _ (shape : Shape) (seed name : ℕ) where
   syn_if r true = tt
   syn_if r false = syn_hashed_never r
 
-  pub syn_never : (l : Mine) (its : ℕ) (from at : End) → NeverAsks name (plans.syn shape seed l its from at)
-  syn_never l its from at = syn_if (request_owner l.owner its from at) (is_no_accept l.owner from at)
+  pub syn_never : (l : Mine) (its mark : ℕ) (from at : End) → NeverAsks name (plans.syn shape seed l its mark from at)
+  syn_never l its mark from at = syn_if (request_owner l.owner its mark from at) (is_no_accept l.owner from at)
 
   -- of a socket of another name
   module _ (a : Owner) (other : (a.name == name) ≡ false) where

@@ -34,6 +34,7 @@ const FULL: Card = Card {
     kind: Kind::Full,
     name: 1,
     extra: 0,
+    mark: 0,
 };
 
 const WAITING: Card = Card {
@@ -46,6 +47,7 @@ const WAITING: Card = Card {
     kind: Kind::TimeWait,
     name: 1,
     extra: 5,
+    mark: 0,
 };
 
 const REQUEST: Card = Card {
@@ -58,6 +60,7 @@ const REQUEST: Card = Card {
     kind: Kind::Request,
     name: 3,
     extra: 0,
+    mark: 0,
 };
 
 const LISTENER: Card = Card {
@@ -70,6 +73,7 @@ const LISTENER: Card = Card {
     kind: Kind::Listen,
     name: 2,
     extra: 0,
+    mark: 0,
 };
 
 /// What became of a newcomer.

@@ -78,7 +78,7 @@ module _ (sections : List (List Command)) (n : ℕ) where
         let behind = end_text c.local c.lport ∷ end_text c.remote c.rport ∷ dev_words c.dev c.net in
         reply_row n (codes "item") (kind_word c.kind) (name_text name ∷ behind) false low high refl refl
         (words_plain name (card_line sections c) (name_fits section label t.least t.most t.label)
-        (record { local = t.local.addr; lport = t.local.port; remote = t.remote.addr; rport = t.remote.port; dev = t.dev; net = t.net; name = refl; extra = refl }))
+        (record { local = t.local.addr; lport = t.local.port; remote = t.remote.addr; rport = t.remote.port; dev = t.dev; net = t.net; name = refl; extra = refl; mark = refl }))
         (sym (no_reply (name_text name) (end_text c.local c.lport) (end_text c.remote c.rport ∷ dev_words c.dev c.net)
         (name_apart section label 69 (codes "NFILE") t.most t.label (omega arith)) (name_apart section label 111 (codes "k") t.most t.label (omega arith))))
 

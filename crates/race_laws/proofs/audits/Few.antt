@@ -199,13 +199,13 @@ module _ (shape : Shape) (seed : ℕ) where
   f_connect s a source to moment rule ports = f_ends (2 * length ports + 3) (refused errors.IsConn)
 
   f_accept_hashed : (l child : Owner) (o : Outcome) → Few 2 (op.accept_hashed shape seed l child o)
-  f_accept_hashed l child (put slot old) = f_full_then (owner_key l) (requests.Inherit l.name child.name child.addr child.remote child.rport) child slot old
+  f_accept_hashed l child (put slot old) = f_full_then (owner_key l) (requests.Inherit l.name child.name child.mark child.addr child.remote child.rport) child slot old
   f_accept_hashed l child (taken name) = f_ends 2 _
   f_accept_hashed l child (full owned held) = f_ends 2 _
 
-  f_accept : (l : Mine) (name : ℕ) (from at : End) → Few 3 (op.accept shape seed l name from at)
-  f_accept l name from at =
-      let child = child_owner l.owner name from at in
+  f_accept : (l : Mine) (name mark : ℕ) (from at : End) → Few 3 (op.accept shape seed l name mark from at)
+  f_accept l name mark from at =
+      let child = child_owner l.owner name mark from at in
       f_if 3 (is_no_accept l.owner from at) (ends (refused errors.Inval)) (op.accept_as shape seed l.owner child) (f_ends 3 _)
       (f_inserts 2 _ 0 _ (op.accept_hashed shape seed l.owner child) (f_accept_hashed l.owner child))
 
@@ -214,32 +214,32 @@ module _ (shape : Shape) (seed : ℕ) where
   f_syn_hashed r (taken name) = f_ends 1 _
   f_syn_hashed r (full owned held) = f_ends 1 _
 
-  f_syn : (l : Mine) (name : ℕ) (from at : End) → Few 2 (op.syn shape seed l name from at)
-  f_syn l name from at =
-      let r = request_owner l.owner name from at in
+  f_syn : (l : Mine) (name mark : ℕ) (from at : End) → Few 2 (op.syn shape seed l name mark from at)
+  f_syn l name mark from at =
+      let r = request_owner l.owner name mark from at in
       f_if 2 (is_no_accept l.owner from at) (ends (refused errors.Inval)) (op.syn_as shape seed r) (f_ends 2 _)
       (f_inserts 1 _ 0 _ (op.syn_hashed shape seed r) (f_syn_hashed r))
 
   f_ack_hashed : (r : Mine) (l child : Owner) (o : Outcome) → Few 2 (op.ack_hashed shape seed r l child o)
   f_ack_hashed r l child (put slot None) =
       let last = ends (done (op.full_in shape seed child slot)) in
-      let inherit = requests.Inherit l.name child.name child.addr child.remote child.rport in
+      let inherit = requests.Inherit l.name child.name child.mark child.addr child.remote child.rport in
       f_unhashes 1 r.place _ (asks (owner_key l) inherit (op.when_done last))
       (f_asks 0 (owner_key l) inherit (op.when_done last) (λ answer. f_done 0 last answer (f_ends 0 _)))
   f_ack_hashed r l child (put slot (Some x)) = f_impossible 2
   f_ack_hashed r l child (taken name) = f_impossible 2
   f_ack_hashed r l child (full owned held) = f_ends 2 _
 
-  f_ack_by : (r : Mine) (l : Option Mine) (name : ℕ) → Few 3 (op.ack_by shape seed r l name)
-  f_ack_by r None name = f_ends 3 _
-  f_ack_by r (Some l) name =
-      let child = heir_owner l.owner name r.owner in
+  f_ack_by : (r : Mine) (l : Option Mine) (name mark : ℕ) → Few 3 (op.ack_by shape seed r l name mark)
+  f_ack_by r None name mark = f_ends 3 _
+  f_ack_by r (Some l) name mark =
+      let child = heir_owner l.owner name mark r.owner in
       f_if 3 (is_no_ack l.owner r.owner) (ends (refused errors.Inval)) (op.ack_as shape seed r l.owner child) (f_ends 3 _)
       (f_adds 2 _ (op.ack_hashed shape seed r l.owner child) (f_ack_hashed r l.owner child))
 
-  f_ack : (s : State) (r : Mine) (l : Option Mine) (name : ℕ) → Few 3 (op.ack_from shape seed s r l name)
-  f_ack states.Request r l name = f_ack_by r l name
-  f_ack s r l name = f_ends 3 (refused errors.Inval)
+  f_ack : (s : State) (r : Mine) (l : Option Mine) (name mark : ℕ) → Few 3 (op.ack_from shape seed s r l name mark)
+  f_ack states.Request r l name mark = f_ack_by r l name mark
+  f_ack s r l name mark = f_ends 3 (refused errors.Inval)
 
   f_close_hashed : (m w : Mine) (o : Outcome) → Few 2 (op.close_hashed shape seed m w o)
   f_close_hashed m w (put slot None) =
@@ -328,21 +328,21 @@ module _ (header : Header) (ranged : RangeFits header.range) (number count given
 f_accept_command : (header : Header) (own : Own) (k name : ℕ) (o : Option Mine) (from at : End) → 3 ≤ k → Few k (command.accept_command header own name o from at)
 f_accept_command header own k name None from at l = f_ends k _
 f_accept_command header own k name (Some m) from at l =
-    let p = op.accept header.shape header.seed m name from at in
-    f_then k p _ (f_more 3 k p l (f_accept header.shape header.seed m name from at))
+    let p = op.accept header.shape header.seed m name own.mark from at in
+    f_then k p _ (f_more 3 k p l (f_accept header.shape header.seed m name own.mark from at))
 
 f_syn_command : (header : Header) (own : Own) (k name : ℕ) (o : Option Mine) (from at : End) → 3 ≤ k → Few k (command.syn_command header own name o from at)
 f_syn_command header own k name None from at l = f_ends k _
 f_syn_command header own k name (Some m) from at l =
-    let p = op.syn header.shape header.seed m name from at in
-    f_then k p _ (f_more 2 k p (omega (arith, l)) (f_syn header.shape header.seed m name from at))
+    let p = op.syn header.shape header.seed m name own.mark from at in
+    f_then k p _ (f_more 2 k p (omega (arith, l)) (f_syn header.shape header.seed m name own.mark from at))
 
 f_ack_command : (header : Header) (own : Own) (k name : ℕ) (o : Option Mine) → 3 ≤ k → Few k (command.ack_command header own name o)
 f_ack_command header own k name None l = f_ends k _
 f_ack_command header own k name (Some r) l =
     let from = open_named own r.owner.origin in
-    let p = op.ack header.shape header.seed r from name in
-    f_then k p _ (f_more 3 k p l (f_ack header.shape header.seed r.owner.state r from name))
+    let p = op.ack header.shape header.seed r from name own.mark in
+    f_then k p _ (f_more 3 k p l (f_ack header.shape header.seed r.owner.state r from name own.mark))
 
 -- a command does so much at most: each port is tried, or each TIME_WAIT taken out
 pub plan_few : (header : Header) (ranged : RangeFits header.range) (number count given waits : ℕ) (own : Own) → OwnFits header ranged number count given waits own → (c : Command) → Few (131080 + 2 * waits) (plan header own c)

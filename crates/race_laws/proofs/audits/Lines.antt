@@ -134,7 +134,7 @@ module _ (sections : List (List Command)) where
   reply_rows n (steps ∷ rest) = steps_rows n steps ++ reply_rows (n + 1) rest
 
   abbrev pub card_line : Card → Card
-  card_line c = record c { name = 0; extra = 0 }
+  card_line c = record c { name = 0; extra = 0; mark = 0 }
 
   abbrev pub life_line : Life → LifeLine
   life_line l =

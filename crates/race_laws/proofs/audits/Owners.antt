@@ -247,27 +247,27 @@ module _ (number count : ℕ) where
     accepted_fits l child f (taken name) h = tt
     accepted_fits l child f (full owned held) h = h
 
-    child_fits : (l : Owner) (name : ℕ) (from at : End) → OwnerFits l → IsNamed number count name → EndIn from.addr from.port → EndIn at.addr at.port → OwnerFits (child_owner l name from at)
-    child_fits l name from at f n e k = record { local = record { addr = k.addr; port = f.local.port }; remote = e; dev = f.dev; net = f.net; named = n }
+    child_fits : (l : Owner) (name mark : ℕ) (from at : End) → OwnerFits l → IsNamed number count name → EndIn from.addr from.port → EndIn at.addr at.port → OwnerFits (child_owner l name mark from at)
+    child_fits l name mark from at f n e k = record { local = record { addr = k.addr; port = f.local.port }; remote = e; dev = f.dev; net = f.net; named = n }
 
-    pub accept_fits : (l : Mine) (name : ℕ) (from at : End) → OwnerFits l.owner → IsNamed number count name → EndIn from.addr from.port → EndIn at.addr at.port → Didn (accept shape seed l name from at)
-    accept_fits l name from at f n e k =
-        tries_if (asking IsGood) (λ s. DidFits) tt (is_no_accept l.owner from at) (ends (refused errors.Inval)) (accept_as shape seed l.owner (child_owner l.owner name from at)) tt
-        (good kinds.Full (child_owner l.owner name from at) 0 (child_fits l.owner name from at f n e k), accepted_fits l.owner (child_owner l.owner name from at) (child_fits l.owner name from at f n e k))
+    pub accept_fits : (l : Mine) (name mark : ℕ) (from at : End) → OwnerFits l.owner → IsNamed number count name → EndIn from.addr from.port → EndIn at.addr at.port → Didn (accept shape seed l name mark from at)
+    accept_fits l name mark from at f n e k =
+        tries_if (asking IsGood) (λ s. DidFits) tt (is_no_accept l.owner from at) (ends (refused errors.Inval)) (accept_as shape seed l.owner (child_owner l.owner name mark from at)) tt
+        (good kinds.Full (child_owner l.owner name mark from at) 0 (child_fits l.owner name mark from at f n e k), accepted_fits l.owner (child_owner l.owner name mark from at) (child_fits l.owner name mark from at f n e k))
 
-    request_fits : (l : Owner) (name : ℕ) (from at : End) → OwnerFits l → IsNamed number count name → EndIn from.addr from.port → EndIn at.addr at.port → OwnerFits (request_owner l name from at)
-    request_fits l name from at f n e k = let c = child_fits l name from at f n e k in record { local = c.local; remote = c.remote; dev = c.dev; net = c.net; named = c.named }
+    request_fits : (l : Owner) (name mark : ℕ) (from at : End) → OwnerFits l → IsNamed number count name → EndIn from.addr from.port → EndIn at.addr at.port → OwnerFits (request_owner l name mark from at)
+    request_fits l name mark from at f n e k = let c = child_fits l name mark from at f n e k in record { local = c.local; remote = c.remote; dev = c.dev; net = c.net; named = c.named }
 
     requested_fits : (r : Owner) → OwnerFits r → (o : Outcome) → OutcomeFits o → Didn (syn_hashed shape seed r o)
     requested_fits r f (put slot old) h = replaced_then (asking IsGood) (λ s. DidFits) tt old (ends (done (request_in shape seed r slot))) f
     requested_fits r f (taken name) h = tt
     requested_fits r f (full owned held) h = h
 
-    pub syn_fits : (l : Mine) (name : ℕ) (from at : End) → OwnerFits l.owner → IsNamed number count name → EndIn from.addr from.port → EndIn at.addr at.port → Didn (syn shape seed l name from at)
-    syn_fits l name from at f n e k =
-        let r = request_owner l.owner name from at in
+    pub syn_fits : (l : Mine) (name mark : ℕ) (from at : End) → OwnerFits l.owner → IsNamed number count name → EndIn from.addr from.port → EndIn at.addr at.port → Didn (syn shape seed l name mark from at)
+    syn_fits l name mark from at f n e k =
+        let r = request_owner l.owner name mark from at in
         tries_if (asking IsGood) (λ s. DidFits) tt (is_no_accept l.owner from at) (ends (refused errors.Inval)) (syn_as shape seed r) tt
-        (good kinds.Request r 0 (request_fits l.owner name from at f n e k), requested_fits r (request_fits l.owner name from at f n e k))
+        (good kinds.Request r 0 (request_fits l.owner name mark from at f n e k), requested_fits r (request_fits l.owner name mark from at f n e k))
 
     handed_fits : (r : Mine) (l child : Owner) → OwnerFits child → (o : Outcome) → OutcomeFits o → Didn (ack_hashed shape seed r l child o)
     handed_fits r l child f (put slot None) h = whenever_done (asking IsGood) (λ s. DidFits) tt (ends (done (full_in shape seed child slot))) f
@@ -275,22 +275,22 @@ module _ (number count : ℕ) where
     handed_fits r l child f (taken name) h = tt
     handed_fits r l child f (full owned held) h = h
 
-    heir_fits : (l : Owner) (name : ℕ) (r : Owner) → OwnerFits l → IsNamed number count name → OwnerFits r → OwnerFits (heir_owner l name r)
-    heir_fits l name r f n g = child_fits l name (other_end r) (own_end r) f n g.remote g.local
+    heir_fits : (l : Owner) (name mark : ℕ) (r : Owner) → OwnerFits l → IsNamed number count name → OwnerFits r → OwnerFits (heir_owner l name mark r)
+    heir_fits l name mark r f n g = child_fits l name mark (other_end r) (own_end r) f n g.remote g.local
 
-    ack_fits_by : (r : Mine) (l : Option Mine) (name : ℕ) → OwnerFits r.owner → OpenFits l → IsNamed number count name → Didn (ack_by shape seed r l name)
-    ack_fits_by r None name f g n = tt
-    ack_fits_by r (Some l) name f g n =
-        let child = heir_owner l.owner name r.owner in
+    ack_fits_by : (r : Mine) (l : Option Mine) (name mark : ℕ) → OwnerFits r.owner → OpenFits l → IsNamed number count name → Didn (ack_by shape seed r l name mark)
+    ack_fits_by r None name mark f g n = tt
+    ack_fits_by r (Some l) name mark f g n =
+        let child = heir_owner l.owner name mark r.owner in
         tries_if (asking IsGood) (λ s. DidFits) tt (is_no_ack l.owner r.owner) (ends (refused errors.Inval)) (ack_as shape seed r l.owner child) tt
-        (good kinds.Full child 0 (heir_fits l.owner name r.owner g n f), handed_fits r l.owner child (heir_fits l.owner name r.owner g n f))
+        (good kinds.Full child 0 (heir_fits l.owner name mark r.owner g n f), handed_fits r l.owner child (heir_fits l.owner name mark r.owner g n f))
 
-    ack_fits_from : (state : State) (r : Mine) (l : Option Mine) (name : ℕ) → OwnerFits r.owner → OpenFits l → IsNamed number count name → Didn (ack_from shape seed state r l name)
-    ack_fits_from states.Request r l name f g n = ack_fits_by r l name f g n
-    ack_fits_from _ r l name f g n = tt
+    ack_fits_from : (state : State) (r : Mine) (l : Option Mine) (name mark : ℕ) → OwnerFits r.owner → OpenFits l → IsNamed number count name → Didn (ack_from shape seed state r l name mark)
+    ack_fits_from states.Request r l name mark f g n = ack_fits_by r l name mark f g n
+    ack_fits_from _ r l name mark f g n = tt
 
-    pub ack_fits : (r : Mine) (l : Option Mine) (name : ℕ) → OwnerFits r.owner → OpenFits l → IsNamed number count name → Didn (ack shape seed r l name)
-    ack_fits r l name f g n = ack_fits_from r.owner.state r l name f g n
+    pub ack_fits : (r : Mine) (l : Option Mine) (name mark : ℕ) → OwnerFits r.owner → OpenFits l → IsNamed number count name → Didn (ack shape seed r l name mark)
+    ack_fits r l name mark f g n = ack_fits_from r.owner.state r l name mark f g n
 
     closed_fits : (m w : Mine) → OwnerFits w.owner → (o : Outcome) → OutcomeFits o → AskedWell ClosedFits (close_hashed shape seed m w o)
     closed_fits m w f (put slot None) h = whenever_done (asking IsGood) (λ s. ClosedFits) tt (ends (waiting (waits_in shape seed w slot))) f

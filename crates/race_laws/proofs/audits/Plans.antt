@@ -239,16 +239,16 @@ module _ (header : Header) (ranged : RangeFits header.range) (number count : ℕ
       → GoodPlan (λ r. OwnFits given (left + 1) r.own × ReplyFits r.reply) (accept_command header own name o from at)
   accept_plan given left own f name n None h from at e k = (more_left given left own f, tt)
   accept_plan given left own f name n (Some l) h from at e k =
-      asked_then (IsGood number count) (DidFits number count) (λ r. OwnFits given (left + 1) r.own × ReplyFits r.reply) (accept header.shape header.seed l name from at) _
-      (accept_fits number count header.shape header.seed l name from at h n e k)
+      asked_then (IsGood number count) (DidFits number count) (λ r. OwnFits given (left + 1) r.own × ReplyFits r.reply) (accept header.shape header.seed l name own.mark from at) _
+      (accept_fits number count header.shape header.seed l name own.mark from at h n e k)
       (accept_replied given left own f)
 
   syn_plan : (given left : ℕ) (own : Own) → OwnFits given left own → (name : ℕ) → IsNamed number count name → (o : Option Mine) → SomeFits o → (from at : End) → EndIn from.addr from.port → EndIn at.addr at.port
       → GoodPlan (λ r. OwnFits given (left + 1) r.own × ReplyFits r.reply) (syn_command header own name o from at)
   syn_plan given left own f name n None h from at e k = (more_left given left own f, tt)
   syn_plan given left own f name n (Some l) h from at e k =
-      asked_then (IsGood number count) (DidFits number count) (λ r. OwnFits given (left + 1) r.own × ReplyFits r.reply) (syn header.shape header.seed l name from at) _
-      (syn_fits number count header.shape header.seed l name from at h n e k)
+      asked_then (IsGood number count) (DidFits number count) (λ r. OwnFits given (left + 1) r.own × ReplyFits r.reply) (syn header.shape header.seed l name own.mark from at) _
+      (syn_fits number count header.shape header.seed l name own.mark from at h n e k)
       (accept_replied given left own f)
 
   ack_plan : (given left : ℕ) (own : Own) → OwnFits given left own → (name : ℕ) → IsNamed number count name → (o : Option Mine) → SomeFits o
@@ -256,8 +256,8 @@ module _ (header : Header) (ranged : RangeFits header.range) (number count : ℕ
   ack_plan given left own f name n None h = (more_left given left own f, tt)
   ack_plan given left own f name n (Some r) h =
       let from = open_named own r.owner.origin in
-      asked_then (IsGood number count) (DidFits number count) (λ a. OwnFits given (left + 1) a.own × ReplyFits a.reply) (ack header.shape header.seed r from name) _
-      (ack_fits number count header.shape header.seed r from name h (found_fits (is_named r.owner.origin) own.sockets f.sockets) n)
+      asked_then (IsGood number count) (DidFits number count) (λ a. OwnFits given (left + 1) a.own × ReplyFits a.reply) (ack header.shape header.seed r from name own.mark) _
+      (ack_fits number count header.shape header.seed r from name own.mark h (found_fits (is_named r.owner.origin) own.sockets f.sockets) n)
       (ack_replied given left r.owner.name own f)
 
   close_plan : (given left : ℕ) (own : Own) → OwnFits given left own → (o : Option Mine) → SomeFits o → GoodPlan (Kept given left) (close_command header own o)
@@ -300,7 +300,7 @@ module _ (header : Header) (ranged : RangeFits header.range) (number count : ℕ
     is = ap (λ n. name_at n (length own.labels)) f.number_is;
   }
 
-  new_fits : (given left : ℕ) (own : Own) (options : Options) → OwnFits given left own → given + 1 ≤ count → DeviceFits options.dev → NamespaceFits options.net → MineFits (plain (new_owner (next_name own) options))
+  new_fits : (given left : ℕ) (own : Own) (options : Options) → OwnFits given left own → given + 1 ≤ count → DeviceFits options.dev → NamespaceFits options.net → MineFits (plain (new_owner (next_name own) own.mark options))
   new_fits given left own options f l d n = record {
     local = record { addr = omega arith; port = omega arith };
     remote = record { addr = omega arith; port = omega arith };
@@ -311,7 +311,7 @@ module _ (header : Header) (ranged : RangeFits header.range) (number count : ℕ
 
   socket_plan : (given left : ℕ) (own : Own) (label : List ℕ) (options : Options) → OwnFits given left own → given + 1 ≤ count → DeviceFits options.dev → NamespaceFits options.net → GoodPlan (Leaves (commands.Socket label options) given left) (socket_command own label options)
   socket_plan given left own label options f l d n = (
-    more_left (given + 1) left _ (with_new_fits (given + 1) left (with_label own label) (plain (new_owner (next_name own) options)) (with_label_fits given left own label f) (new_fits given left own options f l d n)),
+    more_left (given + 1) left _ (with_new_fits (given + 1) left (with_label own label) (plain (new_owner (next_name own) own.mark options)) (with_label_fits given left own label f) (new_fits given left own options f l d n)),
     tt,
   )
 

@@ -32,7 +32,7 @@ told_end (ends.Long n) = printed_ends.Long n
 module _ (number : ℕ → ℕ) where
   -- a card, but for what no line says of it
   abbrev pub told_card : Card → Card
-  told_card c = record c { name = number c.name; extra = 0 }
+  told_card c = record c { name = number c.name; extra = 0; mark = 0 }
 
   abbrev pub told_life : Life → PrintedLife
   told_life l =

@@ -106,7 +106,7 @@ module _ (shape : Shape) (f : ShapeFits shape) where
           bucket = bucket_below l.hash b.there;
           slot = slot_below l.hash b.there;
           name = name_fits (l.hash.card.name / 2 ^ 56) _ c.least c.most c.label;
-          card = record { local = c.local.addr; lport = c.local.port; remote = c.remote.addr; rport = c.remote.port; dev = c.dev; net = c.net; name = refl; extra = refl };
+          card = record { local = c.local.addr; lport = c.local.port; remote = c.remote.addr; rport = c.remote.port; dev = c.dev; net = c.net; name = refl; extra = refl; mark = refl };
           hash = (begin_below l.hash b.there, end_below l.hash b.there);
           unhash = unhash_in l b l.unhash refl;
         }

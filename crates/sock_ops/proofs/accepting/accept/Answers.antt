@@ -24,9 +24,9 @@ returns-in-Ok-clause-carried g c =
     let seed = t.chains.layout.seed in
     let m : Mine = mine_of c.args.listener.now in
     let owner = c.owner.ensures.owner in
-    let child : c.child_owner-child.result ≡ child_owner m.owner c.args.name c.args.from c.args.at = c.child_owner-child.ensures ∙ ap (λ (o : Owner). child_owner o c.args.name c.args.from c.args.at) owner in
+    let child : c.child_owner-child.result ≡ child_owner m.owner c.args.newcomer.name c.args.newcomer.mark c.args.from c.args.at = c.child_owner-child.ensures ∙ ap (λ (o : Owner). child_owner o c.args.newcomer.name c.args.newcomer.mark c.args.from c.args.at) owner in
     let isnt : is_no_accept m.owner c.args.from c.args.at ≡ false = ap (λ (o : Owner). is_no_accept o c.args.from c.args.at) (sym owner) ∙ sym c.is_no_accept.ensures ∙ c.if-is_no_accept.false in
-    subst (λ (p : Asking Did). Went n p (turned old) (turned new) (chained t old) (chained t new) (ends (done c.in-Ok.child))) (accept_plan shape seed m c.args.name c.args.from c.args.at isnt)
+    subst (λ (p : Asking Did). Went n p (turned old) (turned new) (chained t old) (chained t new) (ends (done c.in-Ok.child))) (accept_plan shape seed m c.args.newcomer.name c.args.newcomer.mark c.args.from c.args.at isnt)
     (subst (λ (a : Owner). Went n (accept_as shape seed m.owner a) (turned old) (turned new) (chained t old) (chained t new) (ends (done c.in-Ok.child))) child
     (subst (λ (o : Owner). Went n (accept_as shape seed o c.child_owner-child.result) (turned old) (turned new) (chained t old) (chained t new) (ends (done c.in-Ok.child))) owner c.in-Ok.ensures.carried))
 
@@ -40,13 +40,13 @@ returns-in-Err-clause-carried g c =
     let seed = t.chains.layout.seed in
     let m : Mine = mine_of c.args.listener.now in
     let owner = c.owner.ensures.owner in
-    let child : c.child_owner-child.result ≡ child_owner m.owner c.args.name c.args.from c.args.at = c.child_owner-child.ensures ∙ ap (λ (o : Owner). child_owner o c.args.name c.args.from c.args.at) owner in
+    let child : c.child_owner-child.result ≡ child_owner m.owner c.args.newcomer.name c.args.newcomer.mark c.args.from c.args.at = c.child_owner-child.ensures ∙ ap (λ (o : Owner). child_owner o c.args.newcomer.name c.args.newcomer.mark c.args.from c.args.at) owner in
     let isnt : is_no_accept m.owner c.args.from c.args.at ≡ false = ap (λ (o : Owner). is_no_accept o c.args.from c.args.at) (sym owner) ∙ sym c.is_no_accept.ensures ∙ c.if-is_no_accept.false in
     let end = c.in-Err.end in
     let first = subst (λ (o : Owner). Carried {X = Mine} done refused n (accept_as shape seed o c.child_owner-child.result) (turned old) (turned new) (chained t old) (chained t new) (Err end)) owner c.in-Err.ensures.carried in
     let second = subst (λ (a : Owner). Carried {X = Mine} done refused n (accept_as shape seed m.owner a) (turned old) (turned new) (chained t old) (chained t new) (Err end)) child first in
-    same_err {X = Mine} {Y = Sock} done accepted refused n (accept shape seed m c.args.name c.args.from c.args.at) (turned old) (turned new) (chained t old) (chained t new) end
-    (subst (λ (p : Asking Did). Carried {X = Mine} done refused n p (turned old) (turned new) (chained t old) (chained t new) (Err end)) (accept_plan shape seed m c.args.name c.args.from c.args.at isnt) second)
+    same_err {X = Mine} {Y = Sock} done accepted refused n (accept shape seed m c.args.newcomer.name c.args.newcomer.mark c.args.from c.args.at) (turned old) (turned new) (chained t old) (chained t new) end
+    (subst (λ (p : Asking Did). Carried {X = Mine} done refused n p (turned old) (turned new) (chained t old) (chained t new) (Err end)) (accept_plan shape seed m c.args.newcomer.name c.args.newcomer.mark c.args.from c.args.at isnt) second)
 
 pub returns-in-Ok-clause-listener : goal.returns-in-Ok-clause-listener
 returns-in-Ok-clause-listener g c =

@@ -15,5 +15,5 @@ returns-clause-asks c =
     let a = c.args.listener.now in
     let f = c.args.child.now in
     let k = c.inherit-known in
-    subst (Asks c.args.buckets.now c.args.pass.now c.args.turn.now k.new.pass k.new.turn (requests.Inherit a.name f.name f.addr f.remote f.rport))
+    subst (Asks c.args.buckets.now c.args.pass.now c.args.turn.now k.new.pass k.new.turn (requests.Inherit a.name f.name f.mark f.addr f.remote f.rport))
     (is_done a.name c.args.turn.now.value.value.held.owners a k.result c.requires.there k.ensures.strange) k.ensures.asks

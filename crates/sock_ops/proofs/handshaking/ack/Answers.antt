@@ -10,5 +10,5 @@ returns-clause-listed g c =
     let l = t.chains.layout in
     let m = mine_of c.args.request in
     let e = c.ack_shared-child.ensures in
-    lists_kept done refused t c.args.worker.now c.ack_shared-child.new.worker (ack l.shape l.seed m (mine_found c.args.listener) c.args.name) c.ack_shared-child.result e.groups
-    (ack_spares l.shape l.seed m (mine_found c.args.listener) c.args.name) e.carried
+    lists_kept done refused t c.args.worker.now c.ack_shared-child.new.worker (ack l.shape l.seed m (mine_found c.args.listener) c.args.newcomer.name c.args.newcomer.mark) c.ack_shared-child.result e.groups
+    (ack_spares l.shape l.seed m (mine_found c.args.listener) c.args.newcomer.name c.args.newcomer.mark) e.carried

@@ -24,7 +24,7 @@ returns-in_default-clause-carried g c =
     let v = turned c.args.worker.now in
     let k = chained t c.args.worker.now in
     let there : Asking Did = ends (refused errors.Inval) in
-    subst (λ (p : Asking Did). Went n p v v k k there) (sym (ack_else s.shape s.seed c.args.name c.args.request.now (mine_found c.args.listener) c.owner-state.ensures.state c.in_default.not-Request)) (went_nowhere n there v k)
+    subst (λ (p : Asking Did). Went n p v v k k there) (sym (ack_else s.shape s.seed c.args.newcomer.name c.args.newcomer.mark c.args.request.now (mine_found c.args.listener) c.owner-state.ensures.state c.in_default.not-Request)) (went_nowhere n there v k)
 
 pub returns-then-is_no_ack-clause-carried : goal.returns-then-is_no_ack-clause-carried
 returns-then-is_no_ack-clause-carried g c =
@@ -40,8 +40,8 @@ returns-then-is_no_ack-clause-carried g c =
     let owner : c.owner-owner.result.now ≡ l.owner = c.owner-owner.ensures.owner in
     let state = subst FitsState c.in-Request.is c.owner-state.ensures.state in
     let is : is_no_ack l.owner r.owner ≡ true = sym (λ i. is_no_ack (owner i) (own i)) ∙ sym c.is_no_ack.ensures ∙ c.if-is_no_ack.true in
-    let plan : there ≡ ack s.shape s.seed (mine_of c.args.request.now) (mine_found c.args.listener) c.args.name =
-    ack_plan s.shape s.seed c.args.name r l true state is ∙ sym (λ i. ack s.shape s.seed (mine_of (c.in-Request.is i)) (mine_found (c.in-Some.is i)) c.args.name) in
+    let plan : there ≡ ack s.shape s.seed (mine_of c.args.request.now) (mine_found c.args.listener) c.args.newcomer.name c.args.newcomer.mark =
+    ack_plan s.shape s.seed c.args.newcomer.name c.args.newcomer.mark r l true state is ∙ sym (λ i. ack s.shape s.seed (mine_of (c.in-Request.is i)) (mine_found (c.in-Some.is i)) c.args.newcomer.name c.args.newcomer.mark) in
     subst (λ (p : Asking Did). Went n p v v k k there) plan (went_nowhere n there v k)
 
 pub returns-clause-carried : goal.returns-clause-carried
@@ -55,16 +55,17 @@ returns-clause-carried g c =
     let d = chained t c.ack_as.new.worker in
     let r : Mine = c.in-Request.request in
     let l : Mine = mine_of c.in-Some.listener.now in
-    let name = c.args.name in
+    let name = c.args.newcomer.name in
+    let mark = c.args.newcomer.mark in
     let heir : Owner = c.heir_owner-child.result in
     let result = c.ack_as.result in
     let own : c.request.inside.owner ≡ r.owner = ap (λ (x : Mine). x.owner) c.request.view_is in
     let owner : c.owner-owner.result.now ≡ l.owner = c.owner-owner.ensures.owner in
     let state = subst FitsState c.in-Request.is c.owner-state.ensures.state in
     let isnt : is_no_ack l.owner r.owner ≡ false = sym (λ i. is_no_ack (owner i) (own i)) ∙ sym c.is_no_ack.ensures ∙ c.if-is_no_ack.false in
-    let child : heir ≡ heir_owner l.owner name r.owner = c.heir_owner-child.ensures ∙ (λ i. heir_owner (owner i) name (own i)) in
-    let plan : ack_as s.shape s.seed r l.owner (heir_owner l.owner name r.owner) ≡ ack s.shape s.seed (mine_of c.args.request.now) (mine_found c.args.listener) name =
-    ack_plan s.shape s.seed name r l false state isnt ∙ sym (λ i. ack s.shape s.seed (mine_of (c.in-Request.is i)) (mine_found (c.in-Some.is i)) name) in
+    let child : heir ≡ heir_owner l.owner name mark r.owner = c.heir_owner-child.ensures ∙ (λ i. heir_owner (owner i) name mark (own i)) in
+    let plan : ack_as s.shape s.seed r l.owner (heir_owner l.owner name mark r.owner) ≡ ack s.shape s.seed (mine_of c.args.request.now) (mine_found c.args.listener) name mark =
+    ack_plan s.shape s.seed name mark r l false state isnt ∙ sym (λ i. ack s.shape s.seed (mine_of (c.in-Request.is i)) (mine_found (c.in-Some.is i)) name mark) in
     let first = subst (λ (o : Owner). Carried {X = Mine} done refused n (ack_as s.shape s.seed r o heir) v w k d result) owner c.ack_as.ensures.carried in
     let second = subst (λ (a : Owner). Carried {X = Mine} done refused n (ack_as s.shape s.seed r l.owner a) v w k d result) child first in
     subst (λ (p : Asking Did). Carried {X = Mine} done refused n p v w k d result) plan second

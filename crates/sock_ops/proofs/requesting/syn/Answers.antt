@@ -25,9 +25,9 @@ returns-in-Ok-clause-carried g c =
     let seed = t.chains.layout.seed in
     let m : Mine = mine_of c.args.listener.now in
     let owner = c.owner.ensures.owner in
-    let request : c.request_owner-request.result ≡ request_owner m.owner c.args.name c.args.from c.args.at = c.request_owner-request.ensures ∙ ap (λ (o : Owner). request_owner o c.args.name c.args.from c.args.at) owner in
+    let request : c.request_owner-request.result ≡ request_owner m.owner c.args.newcomer.name c.args.newcomer.mark c.args.from c.args.at = c.request_owner-request.ensures ∙ ap (λ (o : Owner). request_owner o c.args.newcomer.name c.args.newcomer.mark c.args.from c.args.at) owner in
     let isnt : is_no_accept m.owner c.args.from c.args.at ≡ false = ap (λ (o : Owner). is_no_accept o c.args.from c.args.at) (sym owner) ∙ sym c.is_no_accept.ensures ∙ c.if-is_no_accept.false in
-    subst (λ (p : Asking Did). Went n p (turned old) (turned new) (chained t old) (chained t new) (ends (done c.in-Ok.request))) (syn_plan shape seed m c.args.name c.args.from c.args.at isnt)
+    subst (λ (p : Asking Did). Went n p (turned old) (turned new) (chained t old) (chained t new) (ends (done c.in-Ok.request))) (syn_plan shape seed m c.args.newcomer.name c.args.newcomer.mark c.args.from c.args.at isnt)
     (subst (λ (a : Owner). Went n (syn_as shape seed a) (turned old) (turned new) (chained t old) (chained t new) (ends (done c.in-Ok.request))) request c.in-Ok.ensures.carried)
 
 pub returns-in-Err-clause-carried : goal.returns-in-Err-clause-carried
@@ -40,12 +40,12 @@ returns-in-Err-clause-carried g c =
     let seed = t.chains.layout.seed in
     let m : Mine = mine_of c.args.listener.now in
     let owner = c.owner.ensures.owner in
-    let request : c.request_owner-request.result ≡ request_owner m.owner c.args.name c.args.from c.args.at = c.request_owner-request.ensures ∙ ap (λ (o : Owner). request_owner o c.args.name c.args.from c.args.at) owner in
+    let request : c.request_owner-request.result ≡ request_owner m.owner c.args.newcomer.name c.args.newcomer.mark c.args.from c.args.at = c.request_owner-request.ensures ∙ ap (λ (o : Owner). request_owner o c.args.newcomer.name c.args.newcomer.mark c.args.from c.args.at) owner in
     let isnt : is_no_accept m.owner c.args.from c.args.at ≡ false = ap (λ (o : Owner). is_no_accept o c.args.from c.args.at) (sym owner) ∙ sym c.is_no_accept.ensures ∙ c.if-is_no_accept.false in
     let end = c.in-Err.end in
     let first = subst (λ (a : Owner). Carried {X = Mine} done refused n (syn_as shape seed a) (turned old) (turned new) (chained t old) (chained t new) (Err end)) request c.in-Err.ensures.carried in
-    same_err {X = Mine} {Y = Sock} done accepted refused n (syn shape seed m c.args.name c.args.from c.args.at) (turned old) (turned new) (chained t old) (chained t new) end
-    (subst (λ (p : Asking Did). Carried {X = Mine} done refused n p (turned old) (turned new) (chained t old) (chained t new) (Err end)) (syn_plan shape seed m c.args.name c.args.from c.args.at isnt) first)
+    same_err {X = Mine} {Y = Sock} done accepted refused n (syn shape seed m c.args.newcomer.name c.args.newcomer.mark c.args.from c.args.at) (turned old) (turned new) (chained t old) (chained t new) end
+    (subst (λ (p : Asking Did). Carried {X = Mine} done refused n p (turned old) (turned new) (chained t old) (chained t new) (Err end)) (syn_plan shape seed m c.args.newcomer.name c.args.newcomer.mark c.args.from c.args.at isnt) first)
 
 pub returns-in-Ok-clause-listener : goal.returns-in-Ok-clause-listener
 returns-in-Ok-clause-listener g c =

@@ -47,7 +47,7 @@ connect-requires-clause-stands g c =
     let listened : AllMiss 3 (turned v).mine =
     still_missed 3 n (plans.listen l.shape l.seed (mine_of s) c.ports.result) _ (turned u) (turned v) (chained t u) (chained t v) c.in-Ok.ensures.carried (listen_never l.shape l.seed 3 (mine_of s) other c.ports.result) none in
     let called : AllMiss 3 (turned w).mine =
-    still_missed 3 n (plans.syn l.shape l.seed listening 2 from at) _ (turned v) (turned w) (chained t v) (chained t w) c.in-Ok-syn.ensures.carried (syn_never l.shape l.seed 3 listening 2 from at) listened in
+    still_missed 3 n (plans.syn l.shape l.seed listening 2 0 from at) _ (turned v) (turned w) (chained t v) (chained t w) c.in-Ok-syn.ensures.carried (syn_never l.shape l.seed 3 listening 2 0 from at) listened in
     let dropped : AllMiss 3 (turned x).mine =
     still_missed 3 n (plans.drop listening plans.gone) _ (turned w) (turned x) (chained t w) (chained t x) c.in-Ok-drop_sock.ensures.carried (drop_never l.shape l.seed 3 listening listener plans.gone) called in
     let may : MayName (turned x).caller 3 = λ some. absurd (some (c.drop_sock.ensures.caller ∙ c.syn.ensures.caller ∙ c.listen.ensures.caller ∙ c.requires.first)) in

@@ -36,7 +36,7 @@ ack-requires-clause-new g c =
     let listened : AllMiss 3 (turned v).mine =
     still_missed 3 n (plans.listen l.shape l.seed (mine_of s) c.ports.result) _ (turned u) (turned v) (chained t u) (chained t v) c.in-Ok.ensures.carried (listen_never l.shape l.seed 3 (mine_of s) other c.ports.result) none in
     missed_new 3 (turned w)
-    (still_missed 3 n (plans.syn l.shape l.seed listening 2 from at) _ (turned v) (turned w) (chained t v) (chained t w) c.in-Ok-syn.ensures.carried (syn_never l.shape l.seed 3 listening 2 from at) listened)
+    (still_missed 3 n (plans.syn l.shape l.seed listening 2 0 from at) _ (turned v) (turned w) (chained t v) (chained t w) c.in-Ok-syn.ensures.carried (syn_never l.shape l.seed 3 listening 2 0 from at) listened)
 
 pub close-requires-clause-draws : goal.close-requires-clause-draws
 close-requires-clause-draws g c =
