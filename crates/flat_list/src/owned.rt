@@ -156,13 +156,7 @@ pub fn other_end(owner: &Owner) -> End
 pub fn heir_owner(listener: Owner, name: u64, mark: u32, request: &Owner) -> Owner
     ensures { result ≡ spec.heir_owner listener name mark request.now }
 {
-    child_owner(
-        listener,
-        name,
-        mark,
-        other_end(request),
-        own_end(request),
-    )
+    child_owner(listener, name, mark, other_end(request), own_end(request))
 }
 
 /// Whether this is no listener, or none that could accept at the request's ends in its namespace.
