@@ -4,6 +4,10 @@
 
 static const char *table_name = "the library";
 
+_Static_assert((int)KIND_FULL == (int)INET_CONNECTED && (int)KIND_LISTEN == (int)INET_LISTENER &&
+                   (int)KIND_NONE == (int)INET_NONE,
+               "the driver's kinds are the header's");
+
 /* What a thread has: one of its handles holds nothing. */
 struct worker {
     struct inet_worker worker;

@@ -11,7 +11,7 @@ use Rattle.table_rule.specs.Rule.{drawn}
 use Rattle.table_rule.specs.Sole.{IsNow}
 use Rattle.table_rule.specs.declared.view.Layout.{Layout}
 use Rattle.table_rule.specs.declared.view.View.{View}
-use Rattle.shared_sockets.specs.Alone.{chains_of}
+use Rattle.established.specs.Alone.{chains_of}
 use Rattle.race_run.proofs.Starting.{tables_empty, first_now, none_listed}
 use Rattle.race_run.proofs.script_run.start.start.Goals as goal
 
