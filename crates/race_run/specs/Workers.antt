@@ -1,16 +1,15 @@
 -- What workers are between two calls: our own.
 use Rattle.std.specs.Prelude.{◌≡◌, ℕ, ◌+◌, ◌≤◌, true, []}
 use Rattle.bind_buckets.specs.declared.request.Sharing.TheVariants as sharings
-use Rattle.sock_ops.specs.Sides.{IsResting, HoldsNothing}
 use Rattle.flat_list.specs.declared.header.Header.{Header}
 use Rattle.reuseport_group.specs.Passes as lists
 use Rattle.table_rule.specs.Passes as chain_words
 use Rattle.turn_table.specs.Passes as words
-use Rattle.turn_table.specs.Passes.{IsPassOf, IsFree, known}
+use Rattle.turn_table.specs.Passes.{known}
 use Rattle.sock_ops.specs.declared.tables.Tables.{Tables}
 use Rattle.sock_ops.specs.declared.tables.Worker.{Worker}
 use Rattle.sock_ops.specs.Tables.{IsAtRest}
-use Rattle.sock_ops.specs.Stands.{HasGroups, IsReady, buckets_of, turned, chained}
+use Rattle.sock_ops.specs.Stands.{IsReady, buckets_of, turned, chained}
 use Rattle.race_run.specs.Joins.{Part, IsBlank}
 use Rattle.race_run.specs.Sections.{HasNothing, layout_in}
 
