@@ -2,7 +2,7 @@
 //! each by a worker of its own, and two look packets up meanwhile, each by a looker of its own. No lock is round any
 //! call. What it prints is the same whichever thread comes first, and what ../../c/shared_proxy.c prints of the same.
 
-use inet_tables::{Errno, Limits, Looker, Options, Sight, Sizes, Socket, Tables, Worker};
+use inet_tables::{Errno, Limits, Looker, Options, Packet, Sight, Sizes, Socket, Tables, Worker};
 use std::net::{Ipv4Addr, SocketAddrV4};
 use std::thread;
 
@@ -82,7 +82,9 @@ fn shake_hands(worker: &mut Worker, listener: Socket, looker: &mut Looker) -> Re
     let meanwhile = look(looker, number, 1023)? == Some(Sight::Request(request));
     println!("a packet of a handshake: {}", if meanwhile { "the request" } else { "another socket" });
     let socket = worker.ack(request)?;
-    let after = look(looker, number, 1023)? == Some(Sight::Connected(socket));
+    let packet = Packet { from: client(number, 1023), to: at(number), dev: 0, net: 0 };
+    let clock = worker.now()?;
+    let after = patiently(|| looker.look_after(&packet, clock))? == Some(Sight::Connected(socket));
     println!("a packet after it: {}", if after { "the connection" } else { "another socket" });
     worker.drop_socket(socket)
 }
@@ -104,9 +106,16 @@ fn hand_over(tables: &mut Tables, mut worker: Worker, listener: Socket) -> Resul
     Ok(worker)
 }
 
+/// All TIME_WAITs are over, and go by sixty-four a call, so that none takes long.
 fn finish(mut worker: Worker) -> Result<(), Errno> {
     worker.at(60)?;
-    println!("worker {}: {} TIME_WAITs are over after a minute", worker.number(), worker.reap()?);
+    let (mut all, mut more) = (0, true);
+    while more {
+        let (count, left) = worker.reap_most(64)?;
+        all += count;
+        more = left;
+    }
+    println!("worker {}: {all} TIME_WAITs are over after a minute", worker.number());
     Ok(())
 }
 
