@@ -1,5 +1,5 @@
 -- The reaping of so many TIME_WAITs at most.
-use Rattle.std.proofs.Common.{◌≡◌, ℕ, ◌+◌, ◌≤◌, List, length, Some, None, Result, Ok, Err, refl, sym, ap, ◌∙◌, subst, arith}
+use Rattle.std.proofs.Common.{◌≡◌, ◌≢◌, ℕ, ◌+◌, ◌-◌, ◌≤◌, List, drop, length, Some, None, Result, Ok, Err, refl, sym, ap, ◌∙◌, subst, arith}
 use Rattle.std.specs.Prelude.{IfOk, OnErr}
 use Rattle.turn_table.specs.Passes as words
 use Rattle.flat_list.specs.declared.command.Command.TheVariants as commands
@@ -23,12 +23,25 @@ use Rattle.section_machine.specs.declared.reaping.Gone.{Gone}
 use Rattle.section_machine.specs.declared.reaping.Gone.TheVariants as reapings
 use Rattle.section_machine.proofs.LeftOff.{reap_left, reap_left_behind}
 use Rattle.section_machine.proofs.Reaped.{reaped_so, stopped_so}
-use Rattle.section_machine.proofs.Reaps.{Reaping, reaps_all, keeps_rest, stopped}
+use Rattle.section_machine.proofs.Reaps.{Reaping, heads, reaps_all, keeps_rest, stopped}
 
 -- some were reaped so far, and so many more may be
 pub record Bounded (t : Tables) (old now : Worker) (all left : List Mine) (moment count most more : ℕ) : Type 0 where
   pub reaping : Reaping t old now all left moment count
   pub bound : length all + more ≡ length left + most
+
+-- one more
+one_less : (moment : ℕ) (left rest : List Mine) (w : Mine) → first_over moment left ≡ Some w → rest ≡ drop 1 left → length left ≡ length rest + 1
+one_less moment left rest w first behind =
+    let h = heads moment left w first in
+    let same : rest ≡ h.rest = behind ∙ ap (drop 1) h.is in
+    omega (arith, ap length h.is, ap length same)
+
+pub one_more : (t : Tables) (old now new : Worker) (all left rest : List Mine) (moment count next most more : ℕ) (w : Mine) → Bounded t old now all left moment count most more → more ≢ 0 → first_over moment left ≡ Some w → rest ≡ drop 1 left
+    → Reaping t old new all rest moment next → Bounded t old new all rest moment next most (more - 1)
+one_more t old now new all left rest moment count next most more w b some first behind reaping =
+    let bound = b.bound in
+    record { reaping = reaping; bound = omega (arith, one_less moment left rest w first behind, some) }
 
 -- none that is left is over
 pub first_all : (t : Tables) (old now : Worker) (all left : List Mine) (moment count most more : ℕ) → Bounded t old now all left moment count most more → first_over moment left ≡ None
@@ -37,11 +50,11 @@ first_all t old now all left moment count most more b none =
     (reaps_all t old now all left moment count b.reaping none, keeps_rest t old now all left moment count b.reaping none)
 
 -- the first that is left is over
-pub first_more : (t : Tables) (old now : Worker) (all left : List Mine) (moment count most : ℕ) (w : Mine) → Bounded t old now all left moment count most 0 → first_over moment left ≡ Some w
+pub first_more : (t : Tables) (old now : Worker) (all left : List Mine) (moment count most more : ℕ) (w : Mine) → Bounded t old now all left moment count most more → more ≡ 0 → first_over moment left ≡ Some w
     → ReapsFirst (buckets_of t) all moment (turned old) (turned now) (chained t old) (chained t now) left most (reapings.More count)
-first_more t old now all left moment count most w b first =
+first_more t old now all left moment count most more w b none first =
     let bound = b.bound in
-    (stopped t old now all left moment count w b.reaping first, (refl, omega arith))
+    (stopped t old now all left moment count w b.reaping first, (refl, omega (arith, none)))
 
 -- what a section comes to by it
 module _ (t : Tables) (k : Kept) (header : Header) (l : Labelled) (moment : ℕ) (o : Offsets) (waits after : List Mine) (w u : Worker) (view : kept header (own_of l moment o waits) ≡ k) (section : IsSection t k w)
