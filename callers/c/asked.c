@@ -70,12 +70,12 @@ int main(void) {
     must(inet_tables_new(&tables, &sizes, 1), "new");
     must(inet_tables_worker(&tables, &limits, &worker, &number), "worker");
     must(inet_tables_looker(&tables, &looker), "looker");
-    must(inet_worker_socket(&worker, 0, 0, 0, 0, &listener), "socket");
+    must(inet_worker_socket(&worker, 0, 0, 0, 0, 0, &listener), "socket");
     tell(&worker, listener);
     must(inet_worker_bind(&worker, listener, PROXY, 80, &port), "bind");
     tell(&worker, listener);
     must(inet_worker_listen(&worker, listener, &port), "listen");
-    must(inet_worker_accept(&worker, listener, CLIENT, 4000, PROXY, 80, &socket), "accept");
+    must(inet_worker_accept(&worker, listener, CLIENT, 4000, PROXY, 80, 0, &socket), "accept");
     tell(&worker, listener);
     tell(&worker, socket);
     must(inet_worker_now(&worker, &clock), "now");
@@ -86,7 +86,7 @@ int main(void) {
     must(inet_worker_close(&worker, socket, &waits), "close");
     tell(&worker, socket);
     tell_left(&worker);
-    must(inet_worker_accept(&worker, listener, CLIENT, 4001, PROXY, 80, &socket), "accept");
+    must(inet_worker_accept(&worker, listener, CLIENT, 4001, PROXY, 80, 0, &socket), "accept");
     must(inet_worker_close(&worker, socket, &waits), "close");
     must(inet_worker_at(&worker, 60), "at");
     must(inet_worker_reap_most(&worker, 1, &count, &more), "reap");
