@@ -2,7 +2,6 @@
 use Rattle.std.proofs.Common.{◌≡◌, ℕ, true, false, List, ◌++◌, Result, Ok, Err, inr, sym, ◌∙◌, append-nil}
 use Rattle.std.specs.Prelude.{IfOk, OnErr}
 use Rattle.bind_buckets.specs.Turned.{View}
-use Rattle.flat_calls.specs.declared.outcome.Outcome.{Outcome}
 use Rattle.flat_list.specs.declared.command.Command.TheVariants as commands
 use Rattle.flat_list.specs.declared.header.Header.{Header}
 use Rattle.section_machine.specs.Carried.{Spends}
@@ -17,8 +16,7 @@ use Rattle.sock_ops.specs.Stands.{turned, chained}
 use Rattle.sock_ops.specs.declared.tables.Tables.{Tables}
 use Rattle.sock_ops.specs.declared.tables.Worker.{Worker}
 use Rattle.table_model.specs.Own.{Own}
-use Rattle.shared_calls.specs.Callings.{Calling, HasStamps, IsCalling, Tried, calling}
-use Rattle.shared_calls.specs.Reapings.{Reaps}
+use Rattle.shared_calls.specs.Callings.{HasStamps, IsCalling, calling}
 use Rattle.shared_calls.proofs.Callings.{goes_on}
 use Rattle.shared_calls.proofs.Ended.{AllEnded, ended_deeds}
 
@@ -41,10 +39,3 @@ pub goes_on_reaped : {E : Type 0} (t : Tables) (k l : Kept) (w u : Worker) (tag 
 goes_on_reaped t k l w u tag most r was stamps section spends labels reaps left =
     goes_on t k l w u tag commands.Reap r was stamps (λ e. absurd (let no : false ≡ true = e in cc)) tt section spends (gives_none k.own.labels l.own.labels r labels)
     (ended_by k.header k.own most (turned w) (turned u) (chained t w) (chained t u) l.own r reaps left was.ended)
-
--- what came of it
-pub reaps_so : (old new : Calling) (most : ℕ) (gone : Gone) → Tried old new commands.Reap
-    → ReapsMost old.kept.header old.kept.own most (turned old.worker) (turned new.worker) (chained old.tables old.worker) (chained old.tables new.worker) new.kept.own gone → Reaps old new most (Ok gone)
-reaps_so old new most (reapings.All count) tried did = record { tried = tried; did = did }
-reaps_so old new most (reapings.More count) tried more =
-    record { tried = tried; left = more.0; counted = more.1.0; most_gone = more.1.1 }

@@ -5,30 +5,27 @@ use Rattle.std.specs.Prelude.{◌≡◌, ℕ, ◌+◌, ◌-◌, ◌≤◌, lengt
 use Rattle.flat_calls.specs.declared.outcome.Outcome.{Outcome}
 use Rattle.flat_calls.specs.declared.outcome.Outcome.TheVariants as outcomes
 use Rattle.flat_list.specs.declared.command.Command.TheVariants as commands
-use Rattle.flat_list.specs.declared.command.Reply.TheVariants as replies
-use Rattle.section_machine.specs.LeftOff.{IsLeftOff}
+use Rattle.section_machine.specs.Reaping.{ReapsMost}
 use Rattle.section_machine.specs.declared.reaping.Gone.{Gone}
-use Rattle.section_machine.specs.declared.reaping.Gone.TheVariants as reapings
-use Rattle.shared_calls.specs.Callings.{Calling, Called, Carried, Tried}
+use Rattle.sock_ops.specs.Stands.{turned, chained}
+use Rattle.shared_calls.specs.Callings.{Calling, Called, Tried}
 use Rattle.shared_calls.specs.declared.limited.Limited.{Limited}
 
--- `reap` was left off behind as many TIME_WAITs as there were to be, so many of them still there; the first that is left
--- has lasted its minute
-pub record LeavesMore (old new : Calling) (most count : ℕ) : Type 0 where
+-- `reap` was carried out, or left off behind as many TIME_WAITs as there were to be, since the first that is left has
+-- lasted its minute
+pub record ReapsTo (old new : Calling) (most : ℕ) (gone : Gone) : Type 0 where
   pub tried : Tried old new commands.Reap
-  pub left : IsLeftOff old.tables old.kept commands.Reap new.kept old.worker new.worker
-  pub counted : left.leaves.count ≡ count
-  pub most_gone : length old.kept.own.waits ≡ length new.kept.own.waits + most
+  pub reaps : ReapsMost old.kept.header old.kept.own most (turned old.worker) (turned new.worker)
+      (chained old.tables old.worker) (chained old.tables new.worker) new.kept.own gone
 
 -- the outcome is no reply
 abbrev pub IsNoReply : Outcome → Type 0
 IsNoReply (outcomes.Replied reply) = ⊥
 IsNoReply outcome = Unit {0}
 
--- what came of it: `reap` was carried out, or left off there; or it came to an outcome of `reap` that is no reply
+-- what came of it: that, or an outcome of `reap` that is no reply
 abbrev pub Reaps : Calling → Calling → (most : ℕ) → Result Gone Outcome → Type 0
-Reaps old new most (Ok (reapings.All count)) = Carried old new commands.Reap (replies.Count count)
-Reaps old new most (Ok (reapings.More count)) = LeavesMore old new most count
+Reaps old new most (Ok gone) = ReapsTo old new most gone
 Reaps old new most (Err outcome) = Called old new commands.Reap outcome × IsNoReply outcome
 
 -- so many at most are gone, whatever came of it
