@@ -23,7 +23,7 @@ use Rattle.section_machine.specs.declared.reaping.Gone.{Gone}
 use Rattle.section_machine.specs.declared.reaping.Gone.TheVariants as reapings
 use Rattle.section_machine.proofs.LeftOff.{reap_left, reap_left_behind}
 use Rattle.section_machine.proofs.Reaped.{reaped_so, stopped_so}
-use Rattle.section_machine.proofs.Reaps.{Reaping, heads, reaps_all, keeps_rest, stopped}
+use Rattle.section_machine.proofs.Reaps.{Reaping, heads, reaps_all, keeps_rest}
 
 -- some were reaped so far, and so many more may be
 pub record Bounded (t : Tables) (old now : Worker) (all left : List Mine) (moment count most more : ℕ) : Type 0 where
@@ -53,8 +53,15 @@ first_all t old now all left moment count most more b none =
 pub first_more : (t : Tables) (old now : Worker) (all left : List Mine) (moment count most more : ℕ) (w : Mine) → Bounded t old now all left moment count most more → more ≡ 0 → first_over moment left ≡ Some w
     → ReapsFirst (buckets_of t) all moment (turned old) (turned now) (chained t old) (chained t now) left most (reapings.More count)
 first_more t old now all left moment count most more w b none first =
-    let bound = b.bound in
-    (stopped t old now all left moment count w b.reaping first, (refl, omega (arith, none)))
+    let r = b.reaping in
+    let bound = b.bound in (
+      record {
+        front = record { gone = r.gone; split = r.split; over = r.over; at = w; first = first };
+        reaped = count;
+        went = r.went;
+      },
+      (refl, omega (arith, none)),
+    )
 
 -- what a section comes to by it
 module _ (t : Tables) (k : Kept) (header : Header) (l : Labelled) (moment : ℕ) (o : Offsets) (waits after : List Mine) (w u : Worker) (view : kept header (own_of l moment o waits) ≡ k) (section : IsSection t k w)
