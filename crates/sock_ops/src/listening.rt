@@ -145,18 +145,17 @@ fn start_in<P: Patience>(
     match order::hash(patience, &tables.chains, &mut worker.chain, &card) {
         Ok(hashed) => {
             let mut turn = turn;
-            let place = hashed.place;
             order::join(
                 tables,
                 &mut worker.turns,
                 &mut worker.groups,
                 &mut turn,
                 owner,
-                hashed,
+                &hashed,
                 group,
             );
             turning::give(&tables.buckets, &mut worker.turns, turn);
-            Ok(Listening::at_place(listener, extra, place))
+            Ok(Listening::at_place(listener, extra, hashed.place))
         }
         Err(end) => {
             give_back(

@@ -1,6 +1,6 @@
 //! In which order a call publishes a group's list, changes a chain, and gives a turn back.
 //!
-//! Each of these calls needs what the one before it gives alone, which can't be made elsewhere, copied or let go. So a
+//! Each of these calls needs what the one before it gives alone, which can't be made elsewhere or copied. So a
 //! listener is hashed ([`hash`]) before its group's list is published with it ([`join`]). A list without an owner that
 //! leaves is published ([`leave`]) before its socket is taken out of its chain ([`Unlisted::remove`]), and that is done
 //! before its bucket is given back ([`Unhashed::give`]).
@@ -38,6 +38,7 @@ use table_model::{Cause, OpEnd};
 use turn_table::{Turn, TurnPass, Turns};
 
 /// A listener was hashed, and where.
+#[derive(Drop)]
 pub(crate) struct Hashed {
     pub(crate) place: Place,
     seal: (),
@@ -96,7 +97,7 @@ pub(crate) fn join(
     passes: &mut GroupPasses,
     turn: &mut Turn<Box<Bucket>>,
     owner: &Owner,
-    hashed: Hashed,
+    hashed: &Hashed,
     group: Option<u32>,
 )
     requires out { IsOut tables.now.buckets pass.old turn.old }
@@ -107,14 +108,13 @@ pub(crate) fn join(
     requires entry { 1 ≤ turn.old.value.value.entries }
     requires groups { HasGroups tables.now passes.old }
     ensures asks { Asks tables.now.buckets pass.old turn.old pass.new turn.new
-        (requests.Listen owner.now.name hashed.place.slot) answers.Done }
+        (requests.Listen owner.now.name hashed.now.place.slot) answers.Done }
     ensures sound { IsSound turn.old.value.value × IsSound turn.new.value.value }
     ensures groups { HasGroups tables.now passes.new }
     ensures lists { Follows turn.old.place group turn.old.value.value.held turn.new.value.value.held
         passes.old passes.new }
 {
-    let Hashed { place, seal: () } = hashed;
-    group_lists::join(tables, pass, passes, turn, owner, place.slot, group);
+    group_lists::join(tables, pass, passes, turn, owner, hashed.place.slot, group);
 }
 
 /// [`group_lists::leave`].
