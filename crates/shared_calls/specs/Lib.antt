@@ -8,3 +8,4 @@ pub mod Limits
 pub mod Reapings
 pub mod Order
 pub mod Batches
+pub mod Marks
