@@ -1,6 +1,6 @@
 use Rattle.std.proofs.Common.{arith}
 use Rattle.open_places.proofs.Seeks.{is_next, looked}
-use Rattle.open_places.proofs.places.OpenPlaces.next_full.Goals as goal
+use Rattle.open_places.proofs.paged.Paged.next_full.Goals as goal
 
 pub returns-in-Some : goal.returns-in-Some
 returns-in-Some g c =

@@ -2,7 +2,7 @@ use Rattle.std.proofs.Common.{◌%◌, ap, sym, ◌∙◌, arith}
 use Rattle.std.specs.Option.{option_copied}
 use Rattle.open_places.specs.Pages.{cells_of, value_on}
 use Rattle.open_places.proofs.Pages.{earlier_holds, last_holds}
-use Rattle.open_places.proofs.places.OpenPlaces.at.Goals as goal
+use Rattle.open_places.proofs.paged.Paged.at.Goals as goal
 
 pub returns-then-place-self : goal.returns-then-place-self
 returns-then-place-self g c =

@@ -1,7 +1,7 @@
 use Rattle.std.proofs.Common.{length, ap, ◌∙◌, arith}
 use Rattle.open_places.specs.Cells.{Places}
 use Rattle.open_places.proofs.Pages.{count_of}
-use Rattle.open_places.proofs.places.OpenPlaces.len.Goals as goal
+use Rattle.open_places.proofs.paged.Paged.len.Goals as goal
 
 pub returns-clause-cells : goal.returns-clause-cells
 returns-clause-cells g c =
