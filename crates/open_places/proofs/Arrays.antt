@@ -1,5 +1,5 @@
 -- What places in an array have, and what becomes of them where one cell changes.
-use Rattle.std.proofs.Common.{◌≡◌, ℕ, zero, suc, ◌+◌, ◌-◌, ◌<◌, ◌≤◌, true, false, List, [], ◌∷◌, ◌++◌, length, map, take, Option, Some, None, is_some, set, refl, sym, ap, ◌∙◌, arith}
+use Rattle.std.proofs.Common.{Result, Ok, Err, OnOk, OnErr, subst, ◌≡◌, ℕ, zero, suc, ◌+◌, ◌-◌, ◌<◌, ◌≤◌, true, false, List, [], ◌∷◌, ◌++◌, length, map, take, Option, Some, None, is_some, set, refl, sym, ap, ◌∙◌, arith}
 use Rattle.std.specs.Prelude.{MatchOption}
 use Rattle.std.specs.List.{slice_index_or}
 use Rattle.std.specs.Option.{option_flatten}
@@ -7,7 +7,7 @@ use Rattle.std.proofs.lemmas.List.{length-append, length-map, map-set, take-map}
 use Rattle.open_places.specs.Cells.{Places, AreEmptyFrom, IsNextFull, one_more}
 use Rattle.open_places.specs.Forms.{in_array}
 use Rattle.open_places.specs.Pages.{Cell, HasNoneFrom, IsFirstOn, cell_on, value_on}
-use Rattle.open_places.proofs.Pages.{Becomes, Holds}
+use Rattle.open_places.proofs.Pages.{Becomes, Holds, more_kept}
 
 module _ {T : Type 0} where
   pub array_values : (cells : List (Cell T)) (place : ℕ) → slice_index_or (in_array cells).cells place None ≡ value_on cells place
@@ -78,3 +78,24 @@ array_back cells before is = λ i. record {
   cells = all_but_last option_flatten cells before.cells None (ap (λ (p : Places T). p.cells) is) i;
   kept = all_but_last is_some cells before.kept true (ap (λ (p : Places T). p.kept) is) i;
 }
+
+-- The same, of an array that is seen as those places.
+module _ {T : Type 0} (cells new : List (Cell T)) (now : Places T) where
+  pub array_moves : (place : ℕ) → in_array cells ≡ now → (cell : Cell T) → new ≡ set cells place cell → Becomes now (in_array new) place cell
+  array_moves place is cell sets = subst (λ (p : Places T). Becomes p (in_array new) place cell) is (array_becomes cells new place cell sets)
+
+  module _ {E F : Type 0} (is : in_array cells ≡ now) where
+    pub on_ok_more : (r : Result E F) → OnOk r (new ≡ cells ++ Some None ∷ []) → OnOk r (in_array new ≡ one_more now)
+    on_ok_more (Ok x) more = ap in_array more ∙ array_more cells ∙ ap one_more is
+    on_ok_more (Err e) more = tt
+
+    pub on_ok_kept : (r : Result E F) → OnOk r (new ≡ cells ++ Some None ∷ []) → OnOk r (slice_index_or (in_array new).kept (length now.cells) false ≡ true)
+    on_ok_kept (Ok x) more = more_kept now (in_array new) (ap in_array more ∙ array_more cells ∙ ap one_more is) (subst (λ (p : Places T). length p.kept ≡ length p.cells) is (array_kept_count cells))
+    on_ok_kept (Err e) more = tt
+
+    pub on_err_same : (r : Result E F) → OnErr r (new ≡ cells) → OnErr r (in_array new ≡ now)
+    on_err_same (Ok x) same = tt
+    on_err_same (Err e) same = ap in_array same ∙ is
+
+pub array_holds_now : {T : Type 0} (cells : List (Cell T)) (now : Places T) (place : ℕ) → in_array cells ≡ now → Holds now place (cell_on cells place)
+array_holds_now cells now place is = subst (λ (p : Places _). Holds p place (cell_on cells place)) is (array_holds cells place)

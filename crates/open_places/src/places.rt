@@ -65,6 +65,11 @@ impl<T: Drop> OpenPlaces<T> {
         }
     }
 
+    /// Whether a place that is let go can give memory back.
+    pub fn give_back(&self) -> bool {
+        matches!(self.form, Form::Pages(_))
+    }
+
     /// How many were given.
     pub fn len(&self) -> usize
         ensures cells { result ≡ length self.now.cells }

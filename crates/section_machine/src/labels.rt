@@ -88,6 +88,11 @@ impl Labels {
         self.sockets.reserve(more)
     }
 
+    /// Whether a place that is let go can give memory back.
+    pub(crate) fn give_back(&self) -> bool {
+        self.sockets.give_back()
+    }
+
     /// The section's number.
     pub fn number(&self) -> u32
         ensures { result ≡ self.now.number }
