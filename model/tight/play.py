@@ -6,7 +6,7 @@ the answers that it got. Two orders of steps that come to the same tables and th
 answers are one state, and each state is gone on from once.
 
 The grain, and why no text is lost. The steps are those of the shared tables, in the order of
-crates/{sock_ops,shared_sockets,nulls_chain,null_reader,demux,race_run}.
+crates/{sock_ops,established,listeners,nulls_chain,null_reader,demux,race_run}.
 Steps are put together only where one moves past every step of others: taking a turn or
 a lock moves to the right (nobody else can touch what it guards), giving it moves to the
 left, and reads and writes of what a held turn or lock guards move both ways (Lipton). So

@@ -1,7 +1,9 @@
 //! Each option, size and field of the crate, used so that another one in its place would be told from it. It prints
 //! what ../../c/options.c prints of the same.
 
-use inet_tables::{Errno, Item, Limits, List, Options, Reserved, Sight, Sizes, Socket, Tables};
+use inet_tables::{
+    Errno, Found, Item, Limits, List, Looker, Options, Packet, Reserved, Sight, Sizes, Socket, Tables, Worker,
+};
 use std::net::{Ipv4Addr, SocketAddrV4};
 
 const LIMITS: Limits = Limits { tries: 10, most_waits: 0, full_for: 0 };
@@ -219,6 +221,52 @@ fn tags() -> Result<(), Errno> {
     Ok(())
 }
 
+fn worker_listener(worker: &mut Worker, options: Options) -> Result<Socket, Errno> {
+    let socket = worker.socket(options, 0)?;
+    worker.bind(socket, end(HOST, 80))?;
+    worker.listen(socket)?;
+    Ok(socket)
+}
+
+/// A worker's limits: of two closed connections one waits, and behind a refusal two calls don't look for a slot.
+fn limits() -> Result<(), Errno> {
+    let mut tables = Tables::new(&Sizes { slots: 4, ..Sizes::default() })?;
+    let mut worker = tables.worker(Limits { tries: 5, most_waits: 1, full_for: 2 })?;
+    let web = worker_listener(&mut worker, Options::default())?;
+    let one = worker.accept(web, end(PEER, 1000), end(HOST, 80), 0)?;
+    let two = worker.accept(web, end(PEER, 1001), end(HOST, 80), 0)?;
+    let (first, second) = (worker.close(one)?, worker.close(two)?);
+    println!("one TIME_WAIT at most, two closed: {} and {}", u8::from(first), u8::from(second));
+    print!("four slots, and two calls for which they stay full:");
+    for port in 1002..1008 {
+        print!(" {}", name(worker.accept(web, end(PEER, port), end(HOST, 80), 0)));
+    }
+    println!();
+    Ok(())
+}
+
+/// By a lookup, and by one of a batch.
+fn see_shared(looker: &mut Looker, dev: u16, net: u8) -> Result<(), Errno> {
+    let packet = Packet { from: end(PEER, 1000), to: end(HOST, 80), dev, net };
+    let number = |found: Option<Found>| found.map_or(0, |found| kind(found.sight).0);
+    let one = number(looker.look(packet.from, packet.to, dev, net)?);
+    let many = number(looker.look_all(&[packet], 0)?.remove(0)?);
+    println!("a packet of device {dev} in namespace {net}: kind {one}, and of a batch {many}");
+    Ok(())
+}
+
+/// A worker's socket has a device and a namespace, and a looker's packets have.
+fn shared_devices() -> Result<(), Errno> {
+    let mut tables = Tables::new(&Sizes::default())?;
+    let (mut worker, mut looker) = (tables.worker(Limits::default())?, tables.looker()?);
+    let socket = worker_listener(&mut worker, Options { net: 15, dev: 3, ..Options::default() })?;
+    let open = worker.ask(socket)?;
+    println!("a worker's socket of device {} in namespace {}", open.dev, open.net);
+    see_shared(&mut looker, 3, 15)?;
+    see_shared(&mut looker, 4, 15)?;
+    see_shared(&mut looker, 3, 14)
+}
+
 fn main() -> Result<(), Errno> {
     let reuseport = Options { reuseport: true, uid: 7, ..Options::default() };
     ranges();
@@ -235,5 +283,7 @@ fn main() -> Result<(), Errno> {
     late_port()?;
     devices_and_namespaces()?;
     ends()?;
-    tags()
+    tags()?;
+    limits()?;
+    shared_devices()
 }

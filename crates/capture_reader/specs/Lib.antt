@@ -1,6 +1,7 @@
 -- What the contracts of this crate and of those above it cite.
 pub mod Numbers
 pub mod Header
+pub mod Flaws
 pub mod Items
 pub mod Sections
 pub mod Blocks

@@ -1,11 +1,13 @@
 -- Worked examples of stored packets and of captures, with their bytes: our own.
 --
--- In two parts: stored packets, up to `judged`, and captures, up to `RowsHold`. What a part's rows are made of stands
--- above them.
-use Rattle.std.specs.Prelude.{ℕ, List, [], ◌∷◌, ◌++◌, map, take, replicate, true, false}
+-- In three parts: stored packets, up to `judged`; captures, up to `RowsHold`; and first bytes that begin none, in
+-- `flawed`. What a part's rows are made of stands above them.
+use Rattle.std.specs.Prelude.{ℕ, List, [], ◌∷◌, ◌++◌, map, take, drop, replicate, true, false}
 use Rattle.capture_reader.specs.declared.header.Link.TheVariants as links
 use Rattle.capture_reader.specs.declared.packet.Item.{Item}
 use Rattle.capture_reader.specs.declared.packet.Item.TheVariants as items
+use Rattle.capture_reader.specs.declared.flaw.HeadFlaw.{HeadFlaw}
+use Rattle.capture_reader.specs.Flaws.{head_flaw}
 use Rattle.capture_reader.specs.Items.{item_of}
 use Rattle.capture_reader.specs.Captures.{Capture}
 use Rattle.capture_reader.specs.Grammar.{IsCapture}
@@ -139,3 +141,13 @@ pub record RowsHold : Type 0 where
   -- a packet that has room with its padding, and one that hasn't
   pub room : IsCapture 3 2 (with_interface (packet_block 0 40 72)) (whole (found ∷ []))
   pub no_room : IsCapture 3 2 (with_interface (packet_block 0 41 72)) (cut_after [])
+
+-- What is wrong with these: three bytes; a line feed and a capture; the first bytes of a file of gzip, of the variant
+-- 0xa1b2cd34, and of neither format; a header of 23 bytes, one of version 2.3, and one of link type 113; and a section
+-- of 27 bytes, without its mark, of version 2, and with another length at its front.
+abbrev pub flawed : List HeadFlaw
+flawed =
+    map head_flaw (take 3 file_header ∷ (10 ∷ file_header) ∷ (0x1f ∷ 0x8b ∷ 8 ∷ 0 ∷ []) ∷ (0x34 ∷ 0xcd ∷ 0xb2 ∷ 0xa1 ∷ [])
+    ∷ replicate 4 0 ∷ take 23 file_header ∷ (take 4 file_header ++ 2 ∷ 0 ∷ 3 ∷ 0 ∷ drop 8 file_header)
+    ∷ (take 20 file_header ++ word 113) ∷ take 27 section_block ∷ (take 8 section_block ++ replicate 20 0)
+    ∷ (take 12 section_block ++ 2 ∷ 0 ∷ drop 14 section_block) ∷ (take 4 section_block ++ (word 32 ++ drop 8 section_block)) ∷ [])

@@ -8,7 +8,8 @@
 //! judges each stored packet: a TCP packet over IPv4 gives the ends by which its socket is looked up, every other is
 //! passed over or too short. Link types are Ethernet, with one tag of a VLAN at most, raw IP and IPv4; packets of an
 //! interface of another link type are passed over. Which text is which capture is a grammar, in `specs/Grammar.antt`;
-//! the laws in [`law`] say that each text is one at most.
+//! the laws in [`law`] say that each text is one at most. What is wrong with the first bytes of a text that is none,
+//! [`head_flaw`] says.
 //!
 //! ```text
 //! let capture = packets(alloc, bytes, 0, 0)?;
@@ -22,6 +23,7 @@
 
 mod block;
 pub mod capture;
+mod flaw;
 mod header;
 pub mod law;
 mod number;
@@ -30,4 +32,5 @@ mod record;
 mod section;
 
 pub use capture::{Capture, CaptureEnd, packets};
+pub use flaw::{HeadFlaw, head_flaw};
 pub use packet::Item;

@@ -13,9 +13,9 @@ ghost use Rattle.table_rule.specs.Words.{bucket_count};
 
 use bucket_locks::{lock, unlock};
 use chain_book::{Replace, Shape, home};
+use established::{InsertEnd, Newcomer, hand_over, insert, remove, time_wait};
 use nulls_chain::Place;
 use patience::{Tries, Waits};
-use shared_sockets::{InsertEnd, Newcomer, hand_over, insert, remove, time_wait};
 use sock_card::{Card, Kind};
 use std::alloc::Global;
 use std::process::Abort;

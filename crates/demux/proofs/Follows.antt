@@ -15,11 +15,12 @@ use Rattle.reuseport_group.specs.declared.choice.Choice.{Choice}
 use Rattle.reuseport_group.specs.declared.pass.GroupPasses.{GroupPasses}
 use Rattle.demux.specs.Chosen.{sighted_view, Chosen, ChosenBy, ByGroup}
 use Rattle.demux.specs.Concludes.{Concluded, book_end}
-use Rattle.shared_finds.proofs.Finds.{at_here}
-use Rattle.shared_finds.proofs.Stays.{more_same, more_more, clears_on, clears_up, found_on, found_up, seen_on, stays_same, stays_on, adds_on, seen_later}
-use Rattle.shared_finds.specs.Finds.{card_rank, FindsFull, FindsListener}
-use Rattle.shared_finds.specs.Homes.{IsLaidOut, full_home, exact_home, any_home}
-use Rattle.shared_finds.specs.Stays.{adding, settled_by, More, Adds, Stays, Holds}
+use Rattle.established.proofs.Finds.{at_here}
+use Rattle.established.proofs.Stays.{more_same, more_more, clears_on, clears_up, found_on, found_up, seen_on, stays_same, stays_on, adds_on, seen_later}
+use Rattle.established.specs.Finds.{card_rank, FindsFull}
+use Rattle.listeners.specs.Finds.{FindsListener}
+use Rattle.established.specs.Homes.{IsLaidOut, full_home, exact_home, any_home}
+use Rattle.established.specs.Stays.{adding, settled_by, More, Adds, Stays, Holds}
 use Rattle.sock_slots.specs.declared.holds.Held.{Held}
 use Rattle.sock_card.specs.Words.{packed}
 use Rattle.sock_card.specs.declared.card.Card.{Card}

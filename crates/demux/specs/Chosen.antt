@@ -15,7 +15,7 @@ use Rattle.reuseport_group.specs.Choosing.{Chose}
 use Rattle.reuseport_group.specs.Member.{slot_of, name_of, AreMembers}
 use Rattle.reuseport_group.specs.Passes.{IsSole, known, published, stored}
 use Rattle.reuseport_group.specs.Pick.{pick}
-use Rattle.shared_finds.specs.Finds.{card_rank}
+use Rattle.established.specs.Finds.{card_rank}
 use Rattle.table_rule.specs.Alone.{IsAlone, IsGone, SlotStands}
 use Rattle.table_rule.specs.Plays.{Sat, trying}
 use Rattle.table_rule.specs.Words.{words_of}

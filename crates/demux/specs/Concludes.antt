@@ -16,9 +16,9 @@ use Rattle.null_reader.specs.declared.answers.LookEnd.{LookEnd}
 use Rattle.null_reader.specs.declared.answers.LookEnd.TheVariants as looks
 use Rattle.null_reader.specs.declared.answers.PassEnd.{PassEnd as LookStop}
 use Rattle.null_reader.specs.declared.answers.PassEnd.TheVariants as ends
-use Rattle.shared_finds.specs.Homes.{full_home}
-use Rattle.shared_finds.specs.Stays.{Stays}
-use Rattle.shared_finds.specs.Finds.{InOrder}
+use Rattle.established.specs.Homes.{full_home}
+use Rattle.established.specs.Stays.{Stays}
+use Rattle.listeners.specs.Finds.{InOrder}
 use Rattle.table_rule.specs.Book.{marks}
 use Rattle.table_rule.specs.LookCalls.{place_of}
 use Rattle.table_rule.specs.Plays.{Sat, summing, with_kept, letting_go, drop_at}

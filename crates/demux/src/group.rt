@@ -5,7 +5,7 @@ ghost use Rattle.chain_book.specs.Homes.{packet_hash};
 ghost use Rattle.reuseport_group.specs.Passes.{IsPassOf};
 ghost use Rattle.reuseport_group.specs.Passes as words;
 ghost use Rattle.demux.specs.Chosen.{group_in, sighted_view, StandsThere, Chosen, ByGroup, LeavesLists};
-ghost use Rattle.shared_finds.specs.Finds.{card_rank};
+ghost use Rattle.established.specs.Finds.{card_rank};
 ghost use Rattle.sock_card.specs.Words.{packed};
 ghost use Rattle.table_rule.specs.Alone.{IsGone};
 ghost use Rattle.table_rule.specs.Calls.{IsOf, view, me, layout_of, Becomes};

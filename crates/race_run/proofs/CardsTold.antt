@@ -16,9 +16,9 @@ use Rattle.table_rule.specs.Words.{words_of, card_from}
 use Rattle.table_rule.specs.declared.view.Seen.{Seen}
 use Rattle.race_book.proofs.Twins.{full_is}
 use Rattle.race_run.proofs.Cards.{index_of}
-use Rattle.shared_sockets.proofs.Handed.{words_agree}
-use Rattle.shared_sockets.specs.Comings.{name_of}
-use Rattle.shared_sockets.specs.Rows.{row_of, hashed_in}
+use Rattle.established.proofs.Handed.{words_agree}
+use Rattle.established.specs.Comings.{name_of}
+use Rattle.established.specs.Rows.{row_of, hashed_in}
 
 -- a full card's kind is the least bits of its second word
 full_ports : (w : CardWords) → packed (unpacked w) ≡ w → is_full_kind (unpacked w).kind ≡ true → w.ports % 16 ≡ 1

@@ -14,7 +14,7 @@ use Rattle.table_rule.specs.Beyond.{IsThere, SightTrue, ListedOf}
 use Rattle.table_rule.specs.Words.{card_from}
 use Rattle.table_rule.specs.declared.view.View.{View}
 use Rattle.table_rule.specs.declared.view.Seen.{Seen}
-use Rattle.shared_sockets.specs.Rows.{row_of, hashed_in, HasCard}
+use Rattle.established.specs.Rows.{row_of, hashed_in, HasCard}
 use Rattle.race_book.specs.Among.{Among}
 use Rattle.race_book.specs.Lives.{IsLife, Throughout}
 use Rattle.race_record.specs.Deeds.{Given}

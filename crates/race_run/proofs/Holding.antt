@@ -15,9 +15,9 @@ use Rattle.reuseport_group.specs.declared.choice.Choice.{Choice}
 use Rattle.demux.specs.Chosen.{ByGroup, ChosenBy}
 use Rattle.demux.specs.Concludes.{AfterListener, AfterFull, ByOrder, Concluded, book_end}
 use Rattle.sock_slots.specs.declared.holds.Held.{Held}
-use Rattle.shared_finds.specs.Finds.{InOrder}
-use Rattle.shared_finds.specs.Homes.{full_home, exact_home, any_home}
-use Rattle.shared_finds.specs.Stays.{More}
+use Rattle.listeners.specs.Finds.{InOrder}
+use Rattle.established.specs.Homes.{full_home, exact_home, any_home}
+use Rattle.established.specs.Stays.{More}
 use Rattle.table_rule.specs.Plays.{Sat}
 use Rattle.table_rule.specs.Wholes.{FoundIn, SeenIn}
 use Rattle.table_rule.specs.Words.{words_of}

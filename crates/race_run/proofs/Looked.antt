@@ -15,7 +15,7 @@ use Rattle.null_reader.specs.declared.answers.LookEnd.{LookEnd}
 use Rattle.null_reader.specs.declared.answers.LookEnd.TheVariants as ends
 use Rattle.reuseport_group.specs.declared.pass.GroupPasses.{GroupPasses}
 use Rattle.demux.specs.Concludes.{Concluded, AfterListener, AfterFull, ByOrder}
-use Rattle.shared_finds.specs.Finds.{InOrder}
+use Rattle.listeners.specs.Finds.{InOrder}
 use Rattle.table_rule.specs.Plays.{Sat}
 use Rattle.table_rule.specs.declared.view.Layout.{Layout}
 use Rattle.table_rule.specs.declared.view.ReadView.{ReadView}
@@ -32,7 +32,7 @@ use Rattle.race_run.specs.declared.looker.Look.{Look}
 use Rattle.race_run.specs.Joins.{Part}
 use Rattle.race_run.specs.Lookers.{IsLookup, IsLooked, IsIdle, item_at, Before, HasLooked, HasLookedNothingUp, LookedUp, looking, AllBefore, IsPassedOver, whole_for}
 use Rattle.race_run.specs.Searches.{LooksAfter, AllLookAfter, HasSearched}
-use Rattle.shared_finds.specs.Stays.{More}
+use Rattle.established.specs.Stays.{More}
 use Rattle.race_run.proofs.Holding.{held_more, concluded_more}
 use Rattle.race_run.proofs.Staging.{stages_more}
 use Rattle.race_run.proofs.Weights.{flat_push}
@@ -216,7 +216,7 @@ after_listener slots groups layout packet passes m p p' (ends.Again bucket stop)
     (⊎_elim (λ z. inr (inl z.1.0)) (λ z. inr (inr (inl z.5.0))) o)
 
 after_full : (slots groups : ℕ) (layout : Layout) (packet : Packet) (passes : ℕ) (m : Sat) (p p' : GroupPasses) (look : LookEnd) (end : PacketAnswer) (c : Whole) (k n : Sat)
-    → ((bucket : ℕ) (stop : Rattle.null_reader.specs.declared.answers.PassEnd.PassEnd) → look ≡ ends.Again bucket stop → bucket ≡ Rattle.shared_finds.specs.Homes.full_home layout packet)
+    → ((bucket : ℕ) (stop : Rattle.null_reader.specs.declared.answers.PassEnd.PassEnd) → look ≡ ends.Again bucket stop → bucket ≡ Rattle.established.specs.Homes.full_home layout packet)
     → AfterFull slots groups layout packet passes k p look end p' c n → NamesItsBucket layout.shape layout.seed packet end
 after_full slots groups layout packet passes m p p' (ends.Found held card) end c k n b a = named layout packet end (answers.Found card) a.1 tt
 after_full slots groups layout packet passes m p p' ends.None end c k n b a = after_listener slots groups layout packet passes k p p' a.0 end a.1 a.2 a.3 c n a.4 a.5
@@ -224,10 +224,10 @@ after_full slots groups layout packet passes m p p' (ends.Again bucket stop) end
     named layout packet end (answers.Again bucket (Rattle.demux.specs.Concludes.book_end stop)) a.0 (inl (b bucket stop refl))
 
 again_there : (layout : Layout) (packet : Packet) (passes : ℕ) (m : Sat) (end : LookEnd) (from to : ℕ) (k : Sat)
-    → Rattle.null_reader.specs.Looked.LookedAs (Rattle.shared_finds.specs.Homes.full_home layout packet) packet 5 passes m (Rattle.null_reader.specs.Looked.words_end end) from to k
-    → (bucket : ℕ) (stop : Rattle.null_reader.specs.declared.answers.PassEnd.PassEnd) → end ≡ ends.Again bucket stop → bucket ≡ Rattle.shared_finds.specs.Homes.full_home layout packet
+    → Rattle.null_reader.specs.Looked.LookedAs (Rattle.established.specs.Homes.full_home layout packet) packet 5 passes m (Rattle.null_reader.specs.Looked.words_end end) from to k
+    → (bucket : ℕ) (stop : Rattle.null_reader.specs.declared.answers.PassEnd.PassEnd) → end ≡ ends.Again bucket stop → bucket ≡ Rattle.established.specs.Homes.full_home layout packet
 again_there layout packet passes m end from to k h bucket stop e =
-    let f = subst (λ z. Rattle.null_reader.specs.Looked.LookedAs (Rattle.shared_finds.specs.Homes.full_home layout packet) packet 5 passes m (Rattle.null_reader.specs.Looked.words_end z) from to k) e h in f.0
+    let f = subst (λ z. Rattle.null_reader.specs.Looked.LookedAs (Rattle.established.specs.Homes.full_home layout packet) packet 5 passes m (Rattle.null_reader.specs.Looked.words_end z) from to k) e h in f.0
 
 pub names_bucket : (slots groups : ℕ) (layout : Layout) (packet : Packet) (passes : ℕ) (m : Sat) (p p' : GroupPasses) (end : PacketAnswer) (from : ℕ) (c : Whole) (n : Sat)
     → ByOrder slots groups layout packet passes m p end p' from c n → NamesItsBucket layout.shape layout.seed packet end

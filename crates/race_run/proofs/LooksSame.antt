@@ -41,11 +41,12 @@ use Rattle.reuseport_group.specs.declared.choice.Choice.{Choice}
 use Rattle.reuseport_group.specs.declared.pass.GroupPasses.{GroupPasses}
 use Rattle.demux.specs.Chosen.{group_as, group_in, Chosen, ChosenBy, IsLike, Picked}
 use Rattle.demux.specs.Concludes.{AfterFull, AfterListener, ByOrder, whole_to}
-use Rattle.shared_finds.specs.Finds.{InOrder, card_rank}
-use Rattle.shared_finds.specs.Homes.{full_home}
+use Rattle.established.specs.Finds.{card_rank}
+use Rattle.listeners.specs.Finds.{InOrder}
+use Rattle.established.specs.Homes.{full_home}
 use Rattle.sock_ops.specs.Groups.{list_by, words_in}
 use Rattle.sock_slots.specs.declared.holds.Held.{Held}
-use Rattle.shared_sockets.specs.Alone.{chains_of}
+use Rattle.established.specs.Alone.{chains_of}
 use Rattle.table_model.specs.Goes.{tables_by}
 use Rattle.table_model.specs.Means.{TablesMean, IsShape, count_in_slot}
 use Rattle.table_model.specs.Tables.{Tables}

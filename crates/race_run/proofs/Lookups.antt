@@ -27,7 +27,7 @@ use Rattle.table_rule.specs.declared.view.BookView.{BookView}
 use Rattle.table_model.specs.Own.{Mine}
 use Rattle.table_model.specs.Goes.{tables_by}
 use Rattle.sock_ops.specs.Sides.{chains_by}
-use Rattle.shared_sockets.specs.Alone.{chains_of}
+use Rattle.established.specs.Alone.{chains_of}
 use Rattle.section_machine.specs.Carried.{HasEnough, Spends}
 use Rattle.section_machine.specs.Sections.{Kept}
 use Rattle.section_machine.specs.Standing.{IsOpen, IsSection, Roll, StandsIn, roll_of}

@@ -18,7 +18,7 @@ use Rattle.table_rule.specs.Beyond.{SightTrue, ListedOf}
 use Rattle.table_rule.specs.Words.{card_from}
 use Rattle.table_rule.specs.declared.view.View.{View}
 use Rattle.table_rule.specs.declared.view.Seen.{Seen}
-use Rattle.shared_sockets.specs.Rows.{row_of, hashed_in, HasCard}
+use Rattle.established.specs.Rows.{row_of, hashed_in, HasCard}
 use Rattle.race_book.specs.Among.{Among}
 use Rattle.race_book.specs.Lives.{IsLife, Ends, Leaves, ending}
 use Rattle.race_book.proofs.Endings.{ending_ends, no_ending, ends_together}

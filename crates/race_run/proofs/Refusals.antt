@@ -16,7 +16,7 @@ use Rattle.table_rule.specs.declared.view.View.{View}
 use Rattle.table_rule.specs.declared.view.Sight.{Sight}
 use Rattle.table_rule.specs.declared.view.Seen.{Seen}
 use Rattle.sock_slots.specs.Claims.{Read, slot_in, owned_in, held_in as held_of, Between}
-use Rattle.shared_sockets.specs.Rows.{HasCard}
+use Rattle.established.specs.Rows.{HasCard}
 use Rattle.race_book.specs.Among.{Among}
 use Rattle.race_book.proofs.Joined.{each_flat}
 use Rattle.race_record.specs.Deeds.{Taken, Vain}

@@ -23,8 +23,8 @@ use Rattle.race_run.specs.Rows as rows
 use Rattle.sock_ops.specs.Stands.{chained}
 use Rattle.sock_ops.specs.declared.tables.Tables.{Tables}
 use Rattle.sock_ops.specs.declared.tables.Worker.{Worker}
-use Rattle.shared_sockets.specs.Alone.{chains_of}
-use Rattle.shared_sockets.specs.Rows.{row_of}
+use Rattle.established.specs.Alone.{chains_of}
+use Rattle.established.specs.Rows.{row_of}
 use Rattle.table_model.specs.Means.{ChainsMean, weigh_cards}
 use Rattle.table_rule.specs.Sole.{chain_from}
 use Rattle.table_rule.specs.Words.{bucket_count}

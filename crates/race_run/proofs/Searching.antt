@@ -14,8 +14,8 @@ use Rattle.reuseport_group.specs.declared.pass.GroupPasses.{GroupPasses}
 use Rattle.reuseport_group.specs.declared.choice.Choice.{Choice}
 use Rattle.demux.specs.Chosen.{ByGroup, ChosenBy}
 use Rattle.demux.specs.Concludes.{AfterListener, AfterFull, ByOrder, book_end}
-use Rattle.shared_finds.specs.Finds.{InOrder}
-use Rattle.shared_finds.specs.Homes.{full_home, exact_home, any_home}
+use Rattle.listeners.specs.Finds.{InOrder}
+use Rattle.established.specs.Homes.{full_home, exact_home, any_home}
 use Rattle.table_rule.specs.Plays.{Sat}
 use Rattle.table_rule.specs.Wholes.{stop_of}
 use Rattle.table_rule.specs.declared.view.Layout.{Layout}

@@ -13,8 +13,8 @@ use Rattle.table_rule.specs.declared.view.Sight.{Sight}
 use Rattle.table_rule.specs.declared.view.View.{View}
 use Rattle.sock_slots.specs.Claims.{Read, sight_by}
 use Rattle.nulls_chain.specs.Changes.{Sees, IsSettled, AreSettled}
-use Rattle.shared_sockets.specs.Comings.{name_of}
-use Rattle.shared_sockets.specs.Rows.{row_of, HasCard}
+use Rattle.established.specs.Comings.{name_of}
+use Rattle.established.specs.Rows.{row_of, HasCard}
 use Rattle.race_book.specs.Among.{Among}
 use Rattle.race_book.proofs.AmongLemmas.{among_left}
 use Rattle.race_record.specs.Deeds.{Given, Taken, Vain}

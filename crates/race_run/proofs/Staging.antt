@@ -14,8 +14,9 @@ use Rattle.reuseport_group.specs.declared.choice.Choice.{Choice}
 use Rattle.demux.specs.Chosen.{ByGroup, ChosenBy}
 use Rattle.demux.specs.Concludes.{AfterListener, AfterFull, ByOrder, book_end}
 use Rattle.sock_slots.specs.declared.holds.Held.{Held}
-use Rattle.shared_finds.specs.Finds.{InOrder, card_rank}
-use Rattle.shared_finds.specs.Homes.{full_home, exact_home, any_home}
+use Rattle.established.specs.Finds.{card_rank}
+use Rattle.listeners.specs.Finds.{InOrder}
+use Rattle.established.specs.Homes.{full_home, exact_home, any_home}
 use Rattle.table_rule.specs.Plays.{Sat}
 use Rattle.table_rule.specs.Words.{words_of}
 use Rattle.table_rule.specs.declared.view.Layout.{Layout}

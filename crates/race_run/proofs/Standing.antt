@@ -25,9 +25,9 @@ use Rattle.table_rule.proofs.Replays.{Stays, standing_from, standing_to}
 use Rattle.table_rule.proofs.Replays.{In as Made}
 use Rattle.table_rule.proofs.Serial.{three}
 use Rattle.table_rule.proofs.Summing.{words_rank}
-use Rattle.shared_sockets.specs.Alone.{chains_of}
-use Rattle.shared_sockets.specs.Rows.{hashed_in, row_of}
-use Rattle.shared_sockets.proofs.Rows.{row_at_is}
+use Rattle.established.specs.Alone.{chains_of}
+use Rattle.established.specs.Rows.{hashed_in, row_of}
+use Rattle.established.proofs.Rows.{row_at_is}
 use Rattle.flat_list.specs.Flat.{Flat}
 use Rattle.flat_list.specs.Look.{cards_of}
 use Rattle.table_model.specs.Means.{ChainsMean, IsShape}

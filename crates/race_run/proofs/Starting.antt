@@ -12,8 +12,8 @@ use Rattle.table_rule.specs.Rule as rules
 use Rattle.table_rule.specs.Sole.{IsNow, chain_from, used_in}
 use Rattle.table_rule.specs.declared.view.Change.{Change}
 use Rattle.table_rule.specs.declared.view.Layout.{Layout}
-use Rattle.shared_sockets.specs.Alone.{chains_of}
-use Rattle.shared_sockets.specs.Rows.{row_of}
+use Rattle.established.specs.Alone.{chains_of}
+use Rattle.established.specs.Rows.{row_of}
 use Rattle.sock_ops.specs.Groups.{list_by, shown}
 use Rattle.table_model.specs.Goes.{tables_by}
 use Rattle.table_model.specs.Tables.{new_tables}

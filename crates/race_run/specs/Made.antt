@@ -17,8 +17,8 @@ use Rattle.table_rule.specs.declared.view.Sight.{Sight}
 use Rattle.table_rule.specs.declared.view.Seen.{Seen}
 use Rattle.sock_slots.specs.Claims.{Read, slot_in, owned_in, held_in, Between}
 use Rattle.nulls_chain.specs.Changes.{Sees}
-use Rattle.shared_sockets.specs.Comings.{name_of}
-use Rattle.shared_sockets.specs.Rows.{row_of, HasCard}
+use Rattle.established.specs.Comings.{name_of}
+use Rattle.established.specs.Rows.{row_of, HasCard}
 use Rattle.race_book.specs.Among.{Among}
 use Rattle.race_record.specs.Deeds.{Deed, reaped, Given, Taken, Vain, changes_in, given_in, taken_in, vain_in, drawn_in}
 use Rattle.sock_ops.specs.Sides.{Side, changes_by}

@@ -11,15 +11,15 @@ use Rattle.table_rule.specs.declared.view.Layout.{Layout}
 use Rattle.table_rule.specs.declared.view.Seen.{Seen}
 use Rattle.sock_slots.specs.declared.fresh.Full.{Full}
 use Rattle.nulls_chain.specs.declared.keeping.Place.{Place}
-use Rattle.shared_sockets.specs.Rows.{row_of}
-use Rattle.shared_sockets.specs.Surveys.{keeper_in, waiting_in}
-use Rattle.shared_sockets.specs.Comings.{IsChain}
-use Rattle.shared_sockets.specs.Alone.{chains_of, next_after, IsTold, IsAdded, InsertsAlone, AddsAlone, LeavesAlone, WaitsAlone}
-use Rattle.shared_sockets.specs.declared.survey.Newcomer.{Newcomer}
-use Rattle.shared_sockets.specs.declared.coming.Inserted.{Inserted}
-use Rattle.shared_sockets.specs.declared.coming.InsertEnd.{InsertEnd}
-use Rattle.shared_sockets.specs.declared.coming.InsertEnd.TheVariants as ends
-use Rattle.shared_sockets.proofs.Rows.{row_at_is}
+use Rattle.established.specs.Rows.{row_of}
+use Rattle.established.specs.Surveys.{keeper_in, waiting_in}
+use Rattle.established.specs.Comings.{IsChain}
+use Rattle.established.specs.Alone.{chains_of, next_after, IsTold, IsAdded, InsertsAlone, AddsAlone, LeavesAlone, WaitsAlone}
+use Rattle.established.specs.declared.survey.Newcomer.{Newcomer}
+use Rattle.established.specs.declared.coming.Inserted.{Inserted}
+use Rattle.established.specs.declared.coming.InsertEnd.{InsertEnd}
+use Rattle.established.specs.declared.coming.InsertEnd.TheVariants as ends
+use Rattle.established.proofs.Rows.{row_at_is}
 use Rattle.race_record.specs.Deeds.{Wish, Tried, inserted, added, left}
 use Rattle.race_record.specs.Goes.{outcome_of}
 use Rattle.chain_book.specs.declared.book.Change.{Change}

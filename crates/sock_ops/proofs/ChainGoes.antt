@@ -9,9 +9,9 @@ use Rattle.table_rule.specs.declared.view.Layout.{Layout}
 use Rattle.sock_slots.specs.declared.fresh.Full.{Full}
 use Rattle.nulls_chain.specs.Changes.{OtherPlacesStay}
 use Rattle.nulls_chain.specs.declared.keeping.Place.{Place}
-use Rattle.shared_sockets.specs.Rows.{card_words}
-use Rattle.shared_sockets.specs.Leavings as spec
-use Rattle.shared_sockets.specs.Alone.{LeavesAlone, WaitsAlone}
+use Rattle.established.specs.Rows.{card_words}
+use Rattle.established.specs.Leavings as spec
+use Rattle.established.specs.Alone.{LeavesAlone, WaitsAlone}
 use Rattle.race_record.specs.Deeds.{added, left}
 use Rattle.race_record.specs.Goes.{IsUnhashAt}
 use Rattle.sock_ops.specs.Made.{Made, AnswersAlone}

@@ -19,16 +19,16 @@ use Rattle.table_rule.specs.declared.view.Sight.{Sight}
 use Rattle.sock_slots.specs.declared.fresh.Full.{Full}
 use Rattle.nulls_chain.specs.Changes.{Rest, PlacesStay}
 use Rattle.nulls_chain.specs.declared.keeping.Place.{Place}
-use Rattle.shared_sockets.specs.Rows.{row_of, card_words, HasCard}
-use Rattle.shared_sockets.specs.Surveys.{waiting_in}
-use Rattle.shared_sockets.specs.Comings as spec
-use Rattle.shared_sockets.specs.Comings.{walking, IsChain, Comes, Departs, Goes, Admits, Refuses, FindsNone, HashesTo, name_of}
-use Rattle.shared_sockets.specs.Leavings.{Quiet}
-use Rattle.shared_sockets.specs.Alone.{chains_of, next_after, InsertsAlone, AddsAlone}
-use Rattle.shared_sockets.specs.declared.survey.Newcomer.{Newcomer}
-use Rattle.shared_sockets.specs.declared.coming.Inserted.{Inserted}
-use Rattle.shared_sockets.specs.declared.coming.InsertEnd.{InsertEnd}
-use Rattle.shared_sockets.specs.declared.coming.InsertEnd.TheVariants as ends
+use Rattle.established.specs.Rows.{row_of, card_words, HasCard}
+use Rattle.established.specs.Surveys.{waiting_in}
+use Rattle.established.specs.Comings as spec
+use Rattle.established.specs.Comings.{walking, IsChain, Comes, Departs, Goes, Admits, Refuses, FindsNone, HashesTo, name_of}
+use Rattle.established.specs.Leavings.{Quiet}
+use Rattle.established.specs.Alone.{chains_of, next_after, InsertsAlone, AddsAlone}
+use Rattle.established.specs.declared.survey.Newcomer.{Newcomer}
+use Rattle.established.specs.declared.coming.Inserted.{Inserted}
+use Rattle.established.specs.declared.coming.InsertEnd.{InsertEnd}
+use Rattle.established.specs.declared.coming.InsertEnd.TheVariants as ends
 use Rattle.race_book.proofs.AmongLemmas.{among_left}
 use Rattle.race_record.specs.Deeds.{Wish, Tried, hashed, kept_out, no_slot, inserted, added, Vain}
 use Rattle.race_record.specs.Goes.{Grants, IsHashOf, outcome_of}

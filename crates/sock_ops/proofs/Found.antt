@@ -12,7 +12,7 @@ use Rattle.chain_book.specs.Chains.{keeps, waits}
 use Rattle.table_rule.specs.Beyond.{IsCardWords}
 use Rattle.table_rule.specs.Words.{card_from}
 use Rattle.table_rule.specs.declared.view.Seen.{Seen}
-use Rattle.shared_sockets.specs.Rows.{hashed_in, row_of, HasCard}
+use Rattle.established.specs.Rows.{hashed_in, row_of, HasCard}
 
 -- Cards by their words
 

@@ -16,10 +16,10 @@ use Rattle.table_rule.specs.declared.view.Layout.{Layout}
 use Rattle.sock_slots.specs.declared.fresh.Full.{Full}
 use Rattle.nulls_chain.specs.Changes.{OtherPlacesStay, PlacesStay}
 use Rattle.nulls_chain.specs.declared.keeping.Place.{Place}
-use Rattle.shared_sockets.specs.Comings as comings
-use Rattle.shared_sockets.specs.Handovers as spec
-use Rattle.shared_sockets.specs.Leavings as leavings
-use Rattle.shared_sockets.specs.Alone.{chains_of, next_after, yielded, AddsAlone, HandsAlone, IsAdded, WaitsAlone}
+use Rattle.established.specs.Comings as comings
+use Rattle.established.specs.Handovers as spec
+use Rattle.established.specs.Leavings as leavings
+use Rattle.established.specs.Alone.{chains_of, next_after, yielded, AddsAlone, HandsAlone, IsAdded, WaitsAlone}
 use Rattle.sock_ops.specs.Answers.{HandsOver}
 use Rattle.sock_ops.proofs.Found.{IsTold}
 use Rattle.sock_ops.proofs.Left.{side}

@@ -16,9 +16,9 @@ use Rattle.nulls_chain.specs.Changes.{IsPlaced}
 use Rattle.nulls_chain.specs.declared.keeping.Place.{Place as Keeping}
 use Rattle.table_rule.specs.declared.view.View.{View}
 use Rattle.sock_slots.specs.declared.fresh.Full.{Full}
-use Rattle.shared_sockets.specs.declared.coming.Inserted.{Inserted}
-use Rattle.shared_sockets.specs.declared.coming.InsertEnd.{InsertEnd}
-use Rattle.shared_sockets.specs.declared.coming.InsertEnd.TheVariants as ends
+use Rattle.established.specs.declared.coming.Inserted.{Inserted}
+use Rattle.established.specs.declared.coming.InsertEnd.{InsertEnd}
+use Rattle.established.specs.declared.coming.InsertEnd.TheVariants as ends
 use Rattle.race_record.specs.Deeds.{Wish, Tried, hashed, kept_out, no_slot, inserted}
 use Rattle.race_record.specs.Goes.{Grants, IsHashOf, outcome_of, hashed_of}
 use Rattle.table_model.specs.declared.operation.OpEnd.{OpEnd}
@@ -26,7 +26,7 @@ use Rattle.table_model.specs.declared.operation.OpEnd.TheVariants as errors
 use Rattle.sock_ops.specs.Sides.{Side, changes_by}
 use Rattle.sock_ops.specs.Made.{Does}
 use Rattle.sock_ops.specs.Answers.{Inserts, IsInserted, DrawnBy, name_in}
-use Rattle.shared_sockets.specs.Comings.{FourDrawn}
+use Rattle.established.specs.Comings.{FourDrawn}
 use Rattle.sock_ops.specs.declared.hashing.Came.{Came}
 use Rattle.sock_ops.specs.Hashing.{PutsIn, InsertsAs, DrawnAs, insert_error}
 

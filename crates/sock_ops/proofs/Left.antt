@@ -16,9 +16,9 @@ use Rattle.table_rule.specs.declared.view.View.{View}
 use Rattle.sock_slots.specs.Claims.{sight_by, Read}
 use Rattle.sock_slots.specs.declared.fresh.Full.{Full}
 use Rattle.nulls_chain.specs.Changes.{Adds, Same, Sees}
-use Rattle.shared_sockets.specs.Rows.{card_words}
-use Rattle.shared_sockets.specs.Comings.{walking, FindsNone}
-use Rattle.shared_sockets.specs.Leavings.{Quiet}
+use Rattle.established.specs.Rows.{card_words}
+use Rattle.established.specs.Comings.{walking, FindsNone}
+use Rattle.established.specs.Leavings.{Quiet}
 use Rattle.race_record.specs.Deeds.{Deed, Vain, changes_of, vain_of, drawn_of}
 use Rattle.sock_ops.specs.Sides.{Side, change_of, changes_by}
 use Rattle.sock_ops.specs.Made.{Made, Fits, Shows, IsHomeIfHash, HasWords, AllHaveWords, number_of, SawNone}

@@ -13,12 +13,12 @@ use Rattle.chain_book.specs.Chains.{Chains, row_at, home_in, waits_as, waiting, 
 use Rattle.table_rule.specs.Plays.{sight_of, unlocking}
 use Rattle.table_rule.specs.declared.view.Layout.{Layout}
 use Rattle.table_rule.specs.declared.view.View.{View}
-use Rattle.shared_sockets.specs.Rows.{row_of, card_words}
-use Rattle.shared_sockets.specs.Alone.{chains_of, ReapsAlone}
-use Rattle.shared_sockets.specs.Comings.{walking, Departs, Goes}
-use Rattle.shared_sockets.specs.Leavings as spec
-use Rattle.shared_sockets.specs.Leavings.{slot_of, waiting_as}
-use Rattle.shared_sockets.proofs.Found.{waiting-kind}
+use Rattle.established.specs.Rows.{row_of, card_words}
+use Rattle.established.specs.Alone.{chains_of, ReapsAlone}
+use Rattle.established.specs.Comings.{walking, Departs, Goes}
+use Rattle.established.specs.Leavings as spec
+use Rattle.established.specs.Leavings.{slot_of, waiting_as}
+use Rattle.established.proofs.Found.{waiting-kind}
 use Rattle.table_model.specs.Tables as tables
 use Rattle.table_model.specs.Tables.{was_found}
 use Rattle.race_book.proofs.Checks.{and_left, and_right}

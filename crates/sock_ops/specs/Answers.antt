@@ -10,10 +10,10 @@ use Rattle.table_rule.specs.Calls.{HasShares}
 use Rattle.table_rule.specs.declared.view.View.{View}
 use Rattle.nulls_chain.specs.declared.keeping.Place.{Place}
 use Rattle.sock_slots.specs.declared.fresh.Full.{Full}
-use Rattle.shared_sockets.specs.Comings.{FourDrawn}
-use Rattle.shared_sockets.specs.declared.coming.Inserted.{Inserted}
-use Rattle.shared_sockets.specs.declared.coming.InsertEnd.{InsertEnd}
-use Rattle.shared_sockets.specs.declared.coming.InsertEnd.TheVariants as ends
+use Rattle.established.specs.Comings.{FourDrawn}
+use Rattle.established.specs.declared.coming.Inserted.{Inserted}
+use Rattle.established.specs.declared.coming.InsertEnd.{InsertEnd}
+use Rattle.established.specs.declared.coming.InsertEnd.TheVariants as ends
 use Rattle.race_record.specs.Deeds.{Wish, Tried, hashed, kept_out, no_slot, inserted, added, left, reaped}
 use Rattle.race_record.specs.Goes.{IsUnhashAt}
 use Rattle.sock_ops.specs.declared.chains.table.ChainPass.{ChainPass}

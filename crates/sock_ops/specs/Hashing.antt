@@ -11,9 +11,9 @@ use Rattle.chain_book.specs.Homes.{home}
 use Rattle.nulls_chain.specs.Changes.{IsPlaced}
 use Rattle.table_rule.specs.Calls.{HasShares}
 use Rattle.table_rule.specs.declared.view.View.{View}
-use Rattle.shared_sockets.specs.Comings.{FourDrawn}
-use Rattle.shared_sockets.specs.declared.coming.InsertEnd.{InsertEnd}
-use Rattle.shared_sockets.specs.declared.coming.InsertEnd.TheVariants as inserts
+use Rattle.established.specs.Comings.{FourDrawn}
+use Rattle.established.specs.declared.coming.InsertEnd.{InsertEnd}
+use Rattle.established.specs.declared.coming.InsertEnd.TheVariants as inserts
 use Rattle.race_record.specs.Deeds.{Wish, hashed, kept_out, no_slot, inserted}
 use Rattle.table_model.specs.declared.operation.Cause.TheVariants as causes
 use Rattle.table_model.specs.declared.operation.OpEnd.{OpEnd}

@@ -22,8 +22,8 @@ use Rattle.table_rule.specs.declared.view.View.{View}
 use Rattle.sock_slots.specs.Claims.{Read, slot_in, sight_by, owned_in, held_in, Between}
 use Rattle.nulls_chain.specs.Changes.{Sees, AreSettled, IsPlaced}
 use Rattle.nulls_chain.specs.declared.keeping.Place.{Place}
-use Rattle.shared_sockets.specs.Comings.{name_of}
-use Rattle.shared_sockets.specs.Rows.{row_of, HasCard}
+use Rattle.established.specs.Comings.{name_of}
+use Rattle.established.specs.Rows.{row_of, HasCard}
 use Rattle.table_model.specs.Goes.{AreChains}
 use Rattle.race_book.specs.Among.{Among}
 use Rattle.race_record.specs.Deeds.{Wish, Tried, hashed, kept_out, no_slot, Vain, Deed, entered, inserted, added, left, reaped, changes_of, vain_of, drawn_of}

@@ -16,8 +16,8 @@ use Rattle.table_rule.specs.declared.view.View.{View}
 use Rattle.table_rule.specs.declared.view.Change.{Change as Closed}
 use Rattle.bucket_locks.specs.declared.locks.Locked.{Locked}
 use Rattle.nulls_chain.specs.declared.keeping.Place.{Place}
-use Rattle.shared_sockets.specs.Leavings as locks
-use Rattle.shared_sockets.specs.Alone.{chains_of}
+use Rattle.established.specs.Leavings as locks
+use Rattle.established.specs.Alone.{chains_of}
 use Rattle.sock_ops.specs.declared.chains.table.ChainTable.{ChainTable}
 use Rattle.sock_ops.specs.declared.chains.table.ChainPass.{ChainPass}
 

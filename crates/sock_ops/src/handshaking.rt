@@ -7,7 +7,7 @@ ghost use Rattle.turn_table.specs.Passes as words;
 ghost use Rattle.chain_book.specs.Tuples.{same_cards};
 ghost use Rattle.sock_ops.specs.Sides.{HasRoom, IsResting, side_of};
 ghost use Rattle.nulls_chain.specs.Changes.{OthersStay, OtherPlacesStay, PlacesStay};
-ghost use Rattle.shared_sockets.specs.Comings.{FourDrawn};
+ghost use Rattle.established.specs.Comings.{FourDrawn};
 ghost use Rattle.table_model.specs.Operations as plans;
 ghost use Rattle.table_model.specs.Operations.{full_card};
 ghost use Rattle.table_model.specs.Own.{card_of};

@@ -12,9 +12,9 @@ ghost use Rattle.sock_ops.specs.Goes.{NotBusy};
 
 use crate::chains::{self, ChainPass, ChainTable};
 use chain_book::{Place, Replace};
+use established::InsertEnd;
 use flat_list::owned;
 use patience::Patience;
-use shared_sockets::InsertEnd;
 use sock_card::{Card, Kind, Owner};
 use table_model::{Cause, OpEnd};
 

@@ -9,7 +9,7 @@ ghost use Rattle.table_rule.specs.Passes as chain_words;
 ghost use Rattle.table_rule.specs.Calls.{HasShares};
 ghost use Rattle.chain_book.specs.Homes.{home};
 ghost use Rattle.nulls_chain.specs.Changes.{IsPlaced, OthersStay};
-ghost use Rattle.shared_sockets.specs.Comings.{FourDrawn};
+ghost use Rattle.established.specs.Comings.{FourDrawn};
 ghost use Rattle.bind_buckets.specs.Callers.{MayName};
 ghost use Rattle.bind_buckets.specs.OwnTold.{StandsOwn};
 ghost use Rattle.bind_buckets.specs.Turned.{View, Gave, IsIdle, IsOut, Within, made};

@@ -7,8 +7,8 @@ ghost use Rattle.table_rule.specs.Calls.{HasShares};
 ghost use Rattle.table_rule.specs.Passes.{known};
 
 use chain_book::{Replace, Shape};
+use established::InsertEnd;
 use patience::Waits;
-use shared_sockets::InsertEnd;
 use sock_card::{Card, Kind};
 use sock_ops::chains::{
     ChainPass, ChainTable, add, hand_over, insert, lock_chain_of, remove, time_wait,

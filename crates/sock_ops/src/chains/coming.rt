@@ -11,9 +11,9 @@ ghost use Rattle.table_rule.specs.Passes.{known};
 
 use super::table::{ChainPass, ChainTable};
 use chain_book::Replace;
+use established::{InsertEnd, Inserted, Newcomer};
 use nulls_chain::Place;
 use patience::Patience;
-use shared_sockets::{InsertEnd, Inserted, Newcomer};
 use sock_card::Card;
 use sock_slots::Full;
 
@@ -52,7 +52,7 @@ pub fn insert<P: Patience>(
         moment,
         replace: rule,
     };
-    let answer = shared_sockets::insert(
+    let answer = established::insert(
         &table.chains,
         patience,
         &mut pass.pass,
@@ -93,7 +93,7 @@ pub fn add<P: Patience>(
     ensures had { P.endless ≡ true → IfNone result ⊥ }
 {
     let bucket = table.bucket_of(card);
-    let answer = shared_sockets::add(
+    let answer = listeners::add(
         &table.chains,
         patience,
         &mut pass.pass,

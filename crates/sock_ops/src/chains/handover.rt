@@ -5,7 +5,7 @@ ghost use Rattle.chain_book.specs.Tuples.{same_cards};
 ghost use Rattle.sock_ops.specs.Answers.{HandsOver, RoomBy};
 ghost use Rattle.sock_ops.specs.Sides.{HasRoom, IsAtHome, IsResting, TakesRoom, side_of};
 ghost use Rattle.nulls_chain.specs.Changes.{IsPlaced, OthersStay, OtherPlacesStay, PlacesStay};
-ghost use Rattle.shared_sockets.specs.Comings.{FourDrawn};
+ghost use Rattle.established.specs.Comings.{FourDrawn};
 ghost use Rattle.sock_card.specs.declared.card.Kind.TheVariants as kinds;
 ghost use Rattle.table_rule.specs.Calls.{HasShares};
 ghost use Rattle.table_rule.specs.Passes.{known};
@@ -51,7 +51,7 @@ pub fn hand_over<P: Patience>(
     ensures had { P.endless ≡ true → IfNone result ⊥ }
 {
     is_told(&place.card);
-    let answer = shared_sockets::hand_over(
+    let answer = established::hand_over(
         &table.chains,
         patience,
         &mut pass.pass,

@@ -5,7 +5,7 @@ ghost use Rattle.chain_book.specs.Homes.{home};
 ghost use Rattle.sock_ops.specs.Answers.{Reaps, Removes, Waits};
 ghost use Rattle.sock_ops.specs.Sides.{HasLockSince, HasRoom, IsAtHome, IsResting, Side, TakesRoom, side_of};
 ghost use Rattle.nulls_chain.specs.Changes.{IsPlaced, OthersStay, OtherPlacesStay, PlacesStay, TwoDrawn};
-ghost use Rattle.shared_sockets.specs.Comings.{FourDrawn};
+ghost use Rattle.established.specs.Comings.{FourDrawn};
 ghost use Rattle.sock_card.specs.Words.{packed, unpacked};
 ghost use Rattle.sock_card.specs.declared.card.Kind.TheVariants as kinds;
 ghost use Rattle.table_rule.specs.Calls.{HasShares};
@@ -73,7 +73,7 @@ pub fn remove(table: &ChainTable, pass: &mut ChainPass, locked: Locked, place: P
     ensures room { TakesRoom 1 pass.old pass.new }
 {
     is_told(&place.card);
-    shared_sockets::remove(&table.chains, &mut pass.pass, locked, place);
+    established::remove(&table.chains, &mut pass.pass, locked, place);
 }
 
 /// Hashes the TIME_WAIT of a connected socket into its chain, and then takes that socket out.
@@ -107,7 +107,7 @@ pub fn time_wait<P: Patience>(
     ensures had { P.endless ≡ true → IfNone result ⊥ }
 {
     is_told(&place.card);
-    let answer = shared_sockets::time_wait(
+    let answer = established::time_wait(
         &table.chains,
         patience,
         &mut pass.pass,
@@ -148,5 +148,5 @@ pub fn remove_tw<P: Patience>(
     ensures had { P.endless ≡ true → IfNone result ⊥ }
 {
     let bucket = table.bucket_of(card);
-    shared_sockets::remove_tw(&table.chains, patience, &mut pass.pass, bucket, card.name)
+    established::remove_tw(&table.chains, patience, &mut pass.pass, bucket, card.name)
 }

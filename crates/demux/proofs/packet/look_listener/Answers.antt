@@ -7,7 +7,7 @@ use Rattle.reuseport_group.specs.Passes.{groups}
 use Rattle.demux.proofs.Follows.{laid_as, listener_later, listener_follows, listener_stays, then_none, alone_before, sole_before, known_before}
 use Rattle.demux.proofs.packet.look_listener.Goals as goal
 use Rattle.demux.specs.Concludes.{AfterListener, whole_to}
-use Rattle.shared_finds.specs.Finds.{FindsListener}
+use Rattle.listeners.specs.Finds.{FindsListener}
 use Rattle.table_rule.specs.Calls.{view, me, layout_of}
 
 pub finish-requires-clause-follows : goal.finish-requires-clause-follows

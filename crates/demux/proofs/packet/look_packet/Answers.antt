@@ -6,7 +6,7 @@ use Rattle.reuseport_group.specs.Passes.{groups}
 use Rattle.demux.proofs.Follows.{full_follows, full_later, full_stays, alone_before, sole_before, concluded_on}
 use Rattle.demux.proofs.packet.look_packet.Goals as goal
 use Rattle.demux.specs.Concludes.{AfterFull, ByOrder, Concluded, whole_to}
-use Rattle.shared_finds.specs.Finds.{FindsFull}
+use Rattle.established.specs.Finds.{FindsFull}
 use Rattle.table_rule.specs.Alone.{IsAlone, IsSoleWhole}
 use Rattle.table_rule.specs.Calls.{view, me, layout_of}
 

@@ -1,8 +1,8 @@
 use Rattle.std.proofs.Common.{Err, Result, IfOk, sym, subst}
 use Rattle.table_rule.specs.Passes.{known}
 use Rattle.nulls_chain.specs.Changes.{IsPlaced}
-use Rattle.shared_sockets.specs.declared.coming.Inserted.{Inserted}
-use Rattle.shared_sockets.specs.declared.coming.InsertEnd.{InsertEnd}
+use Rattle.established.specs.declared.coming.Inserted.{Inserted}
+use Rattle.established.specs.declared.coming.InsertEnd.{InsertEnd}
 use Rattle.sock_ops.specs.Answers.{Inserts, DrawnBy}
 use Rattle.sock_ops.specs.Sides.{side_of}
 use Rattle.sock_ops.specs.Hashing.{InsertsAs, DrawnAs, wish_of}

@@ -2,7 +2,7 @@ use Rattle.std.proofs.Common.{◌≡◌, ◌+◌, ◌^◌, ◌<◌, List, sym, a
 use Rattle.reuseport_group.specs.Passes as lists
 use Rattle.demux.specs.Concludes.{ByOrder, whole_to}
 use Rattle.sock_ops.specs.Stands.{buckets_of}
-use Rattle.shared_sockets.specs.Alone.{chains_of}
+use Rattle.established.specs.Alone.{chains_of}
 use Rattle.table_model.specs.Goes.{tables_by}
 use Rattle.table_model.specs.Means.{TablesMean}
 use Rattle.table_rule.specs.Calls.{me}

@@ -3,8 +3,8 @@ use Rattle.table_rule.specs.Calls.{layout_of}
 use Rattle.table_rule.specs.Passes.{known}
 use Rattle.table_rule.specs.declared.view.Layout.{Layout}
 use Rattle.table_rule.specs.declared.view.View.{View}
-use Rattle.shared_sockets.specs.Comings as spec
-use Rattle.shared_sockets.specs.Alone.{AddsAlone}
+use Rattle.established.specs.Comings as spec
+use Rattle.established.specs.Alone.{AddsAlone}
 use Rattle.nulls_chain.specs.declared.keeping.Place.{Place}
 use Rattle.sock_slots.specs.declared.fresh.Full.{Full}
 use Rattle.sock_ops.specs.Answers.{Adds, RoomBy}

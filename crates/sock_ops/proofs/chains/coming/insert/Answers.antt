@@ -3,12 +3,12 @@ use Rattle.table_rule.specs.Calls.{layout_of}
 use Rattle.table_rule.specs.Passes.{known}
 use Rattle.table_rule.specs.declared.view.Layout.{Layout}
 use Rattle.table_rule.specs.declared.view.View.{View}
-use Rattle.shared_sockets.specs.Comings as spec
-use Rattle.shared_sockets.specs.Alone.{InsertsAlone}
-use Rattle.shared_sockets.specs.declared.survey.Newcomer.{Newcomer}
+use Rattle.established.specs.Comings as spec
+use Rattle.established.specs.Alone.{InsertsAlone}
+use Rattle.established.specs.declared.survey.Newcomer.{Newcomer}
 use Rattle.race_record.specs.Deeds.{Wish}
-use Rattle.shared_sockets.specs.declared.coming.Inserted.{Inserted}
-use Rattle.shared_sockets.specs.declared.coming.InsertEnd.{InsertEnd}
+use Rattle.established.specs.declared.coming.Inserted.{Inserted}
+use Rattle.established.specs.declared.coming.InsertEnd.{InsertEnd}
 use Rattle.sock_ops.specs.Answers.{Inserts, RoomBy}
 use Rattle.sock_ops.specs.declared.chains.table.ChainPass.{ChainPass}
 use Rattle.sock_ops.proofs.Left.{side}

@@ -7,8 +7,8 @@ use Rattle.table_rule.specs.declared.view.View.{View}
 use Rattle.sock_slots.specs.declared.fresh.Full.{Full}
 use Rattle.nulls_chain.specs.Changes.{PlacesStay}
 use Rattle.nulls_chain.specs.declared.keeping.Place.{Place}
-use Rattle.shared_sockets.specs.Handovers as spec
-use Rattle.shared_sockets.specs.Alone.{HandsAlone}
+use Rattle.established.specs.Handovers as spec
+use Rattle.established.specs.Alone.{HandsAlone}
 use Rattle.sock_ops.specs.Answers.{HandsOver, RoomBy}
 use Rattle.sock_ops.specs.declared.chains.table.ChainPass.{ChainPass}
 use Rattle.sock_ops.proofs.Homes.{near_of}

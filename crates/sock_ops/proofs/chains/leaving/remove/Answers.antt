@@ -4,7 +4,7 @@ use Rattle.table_rule.specs.Passes.{known}
 use Rattle.table_rule.specs.declared.view.Layout.{Layout}
 use Rattle.table_rule.specs.declared.view.View.{View}
 use Rattle.nulls_chain.specs.Changes.{OtherPlacesStay, OthersStay, TwoDrawn}
-use Rattle.shared_sockets.specs.Alone.{LeavesAlone}
+use Rattle.established.specs.Alone.{LeavesAlone}
 use Rattle.sock_ops.specs.Answers.{Removes}
 use Rattle.sock_ops.specs.Sides.{Side}
 use Rattle.sock_ops.proofs.Homes.{near_of}

@@ -2,7 +2,7 @@ use Rattle.std.proofs.Common.{IfSome, sym, subst}
 use Rattle.table_rule.specs.Passes.{known}
 use Rattle.table_rule.specs.declared.view.Layout.{Layout}
 use Rattle.table_rule.specs.declared.view.View.{View}
-use Rattle.shared_sockets.specs.Alone.{ReapsAlone}
+use Rattle.established.specs.Alone.{ReapsAlone}
 use Rattle.sock_ops.proofs.Reaps.{reaps_if}
 use Rattle.sock_ops.proofs.chains.leaving.remove_tw.Goals as goal
 

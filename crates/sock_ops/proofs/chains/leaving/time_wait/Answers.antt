@@ -3,8 +3,8 @@ use Rattle.table_rule.specs.Calls.{layout_of}
 use Rattle.table_rule.specs.Passes.{known}
 use Rattle.table_rule.specs.declared.view.Layout.{Layout}
 use Rattle.table_rule.specs.declared.view.View.{View}
-use Rattle.shared_sockets.specs.Leavings as spec
-use Rattle.shared_sockets.specs.Alone.{WaitsAlone}
+use Rattle.established.specs.Leavings as spec
+use Rattle.established.specs.Alone.{WaitsAlone}
 use Rattle.sock_ops.specs.Answers.{Waits}
 use Rattle.sock_ops.proofs.Homes.{near_of}
 use Rattle.sock_ops.proofs.Left.{side}
