@@ -74,7 +74,7 @@ all_but_last f xs before y is =
 
 -- the last place taken back
 pub array_back : {T : Type 0} (cells : List (Cell T)) (before : Places T) → in_array cells ≡ one_more before → in_array (take (length cells - 1) cells) ≡ before
-array_back cells before is = λ i. record {
+array_back {T} cells before is = λ i. record {
   cells = all_but_last option_flatten cells before.cells None (ap (λ (p : Places T). p.cells) is) i;
   kept = all_but_last is_some cells before.kept true (ap (λ (p : Places T). p.kept) is) i;
 }
@@ -98,4 +98,4 @@ module _ {T : Type 0} (cells new : List (Cell T)) (now : Places T) where
     on_err_same (Err e) same = ap in_array same ∙ is
 
 pub array_holds_now : {T : Type 0} (cells : List (Cell T)) (now : Places T) (place : ℕ) → in_array cells ≡ now → Holds now place (cell_on cells place)
-array_holds_now cells now place is = subst (λ (p : Places _). Holds p place (cell_on cells place)) is (array_holds cells place)
+array_holds_now {T} cells now place is = subst (λ (p : Places T). Holds p place (cell_on cells place)) is (array_holds cells place)

@@ -4,6 +4,7 @@ ghost use Rattle.std.specs.Prelude.{◌≡◌, ◌≢◌, true, false, length, [
 ghost use Rattle.std.specs.List.{slice_index_or};
 ghost use Rattle.std.specs.Option.{option_copied};
 ghost use Rattle.open_places.specs.Cells.{Places, AreEmptyFrom, IsNextFull, one_more};
+ghost use Rattle.open_places.specs.Forms.{places_in};
 
 use crate::page::Page;
 use crate::paged::Paged;
@@ -17,6 +18,68 @@ pub(crate) enum Form<T: Drop> {
     Array(Page<T>),
     /// By pages, of which those go that have no place that is kept.
     Pages(Paged<T>),
+}
+
+impl<T: Drop> Form<T> {
+    /// Gives a place more. An `Err` changes nothing.
+    fn give(&mut self) -> Result<(), AllocError>
+        ensures given { OnOk result (places_in self.new ≡ one_more (places_in self.old)) }
+        ensures kept { OnOk result
+            (slice_index_or (places_in self.new).kept (length (places_in self.old).cells) false ≡ true) }
+        ensures err { OnErr result (places_in self.new ≡ places_in self.old) }
+    {
+        match self {
+            Form::Array(array) => array.give(),
+            Form::Pages(pages) => pages.give(),
+        }
+    }
+
+    /// Takes the last place back.
+    fn take_back(&mut self)
+        ensures { (before : Places T) → places_in self.old ≡ one_more before → places_in self.new ≡ before }
+    {
+        match self {
+            Form::Array(array) => array.take_back(),
+            Form::Pages(pages) => pages.take_back(),
+        }
+    }
+
+    /// Takes the value out of its place.
+    fn take(&mut self, place: usize) -> Option<T>
+        ensures value { result ≡ slice_index_or (places_in self.old).cells place None }
+        ensures after { (places_in self.new).cells ≡ slice_set (places_in self.old).cells place None }
+        ensures kept { (places_in self.new).kept ≡ (places_in self.old).kept }
+        ensures there { result ≢ None → slice_index_or (places_in self.old).kept place false ≡ true }
+    {
+        match self {
+            Form::Array(array) => array.take(place),
+            Form::Pages(pages) => pages.take(place),
+        }
+    }
+
+    /// Puts a value to a place that is kept.
+    fn put(&mut self, place: usize, value: T)
+        requires kept { slice_index_or (places_in self.old).kept place false ≡ true }
+        ensures put { (places_in self.new).cells ≡ slice_set (places_in self.old).cells place (Some value) }
+        ensures kept { (places_in self.new).kept ≡ (places_in self.old).kept }
+    {
+        match self {
+            Form::Array(array) => array.put(place, value),
+            Form::Pages(pages) => pages.put(place, value),
+        }
+    }
+
+    /// Lets a place go that is empty for good.
+    fn let_go(&mut self, place: usize)
+        requires empty { slice_index_or (places_in self.old).cells place None ≡ None }
+        ensures same { (places_in self.new).cells ≡ (places_in self.old).cells }
+        ensures kept { (places_in self.new).kept ≡ slice_set (places_in self.old).kept place false }
+    {
+        match self {
+            Form::Array(array) => array.let_go(place),
+            Form::Pages(pages) => pages.let_go(place),
+        }
+    }
 }
 
 /// Places, each empty or with a value, in an array or on pages.
@@ -87,20 +150,14 @@ impl<T: Drop> OpenPlaces<T> {
         ensures kept { OnOk result (slice_index_or self.new.kept (length self.old.cells) false ≡ true) }
         ensures err { OnErr result (self.new ≡ self.old) }
     {
-        match &mut self.form {
-            Form::Array(array) => array.give(),
-            Form::Pages(pages) => pages.give(),
-        }
+        self.form.give()
     }
 
     /// Takes the last place back, as if it hadn't been given.
     pub fn take_back(&mut self)
         ensures { (before : Places T) → self.old ≡ one_more before → self.new ≡ before }
     {
-        match &mut self.form {
-            Form::Array(array) => array.take_back(),
-            Form::Pages(pages) => pages.take_back(),
-        }
+        self.form.take_back();
     }
 
     /// The value at a place.
@@ -131,10 +188,7 @@ impl<T: Drop> OpenPlaces<T> {
         ensures kept { self.new.kept ≡ self.old.kept }
         ensures there { result ≢ None → slice_index_or self.old.kept place false ≡ true }
     {
-        match &mut self.form {
-            Form::Array(array) => array.take(place),
-            Form::Pages(pages) => pages.take(place),
-        }
+        self.form.take(place)
     }
 
     /// Puts a value to a place that is kept. It takes no memory.
@@ -143,10 +197,7 @@ impl<T: Drop> OpenPlaces<T> {
         ensures put { self.new.cells ≡ slice_set self.old.cells place (Some value) }
         ensures kept { self.new.kept ≡ self.old.kept }
     {
-        match &mut self.form {
-            Form::Array(array) => array.put(place, value),
-            Form::Pages(pages) => pages.put(place, value),
-        }
+        self.form.put(place, value);
     }
 
     /// Lets a place go that is empty for good.
@@ -155,9 +206,6 @@ impl<T: Drop> OpenPlaces<T> {
         ensures same { self.new.cells ≡ self.old.cells }
         ensures kept { self.new.kept ≡ slice_set self.old.kept place false }
     {
-        match &mut self.form {
-            Form::Array(array) => array.let_go(place),
-            Form::Pages(pages) => pages.let_go(place),
-        }
+        self.form.let_go(place);
     }
 }
