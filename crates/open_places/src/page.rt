@@ -1,4 +1,4 @@
-//! A page: the cells of places that follow each other.
+//! A page: the cells of places that follow each other. An array is one page of any length.
 
 ghost use Rattle.std.specs.Prelude.{◌≡◌, ◌∷◌, ◌++◌, ◌-◌, ◌↔◌, true, IsTrue, length, [], None, Some, is_some, slice_set, take, MatchOption, IfOk, OnOk, OnErr};
 ghost use Rattle.std.specs.Option.{option_copied, option_flatten, option_map};
@@ -7,10 +7,10 @@ ghost use Rattle.open_places.specs.Pages.{HasNoneFrom, IsFirstOn, cell_on, kept_
 use std::alloc::{AllocError, Global};
 use std::marker::Model;
 
-/// How many places a page has.
+/// How many places a page has that others follow.
 pub(crate) const PLACES: usize = 32;
 
-/// The cells of the places of a page that were given.
+/// The cells of the places that were given of a page, or of an array.
 #[derive(Drop)]
 pub(crate) struct Page<T: Drop> {
     /// What each has: nothing once its place is let go, else its value or none.
@@ -70,6 +70,13 @@ impl<T: Drop> Page<T> {
             cells: Vec::with_capacity(alloc, PLACES)?,
             kept: 0,
         })
+    }
+
+    /// Makes room for so many places more.
+    pub(crate) fn reserve(&mut self, more: usize) -> Result<(), AllocError>
+        ensures { self.new ≡ self.old }
+    {
+        self.cells.reserve(more)
     }
 
     /// How many places it has so far.

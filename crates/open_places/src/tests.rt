@@ -6,7 +6,7 @@ use std::test::Fail;
 
 #[test]
 fn a_value_is_where_it_was_put_until_it_is_taken(rt: HostRuntime) -> Result<(), Fail> {
-    let mut places = OpenPlaces::new(rt.alloc());
+    let mut places = OpenPlaces::on_pages(rt.alloc());
     assert_eq!(rt; places.at(0).copied(), None);
     places.give()?;
     places.give()?;
@@ -34,7 +34,7 @@ fn a_value_is_where_it_was_put_until_it_is_taken(rt: HostRuntime) -> Result<(), 
 
 #[test]
 fn the_next_value_is_found_past_places_that_are_empty_or_gone(rt: HostRuntime) -> Result<(), Fail> {
-    let mut places = OpenPlaces::new(rt.alloc());
+    let mut places = OpenPlaces::on_pages(rt.alloc());
     assert_eq!(rt; places.next_full(0), None);
     places.give()?;
     places.give()?;
@@ -50,6 +50,33 @@ fn the_next_value_is_found_past_places_that_are_empty_or_gone(rt: HostRuntime) -
     assert_eq!(rt; places.next_full(2), Some(4));
     assert_eq!(rt; places.next_full(5), None);
     assert_eq!(rt; places.next_full(usize::MAX), None);
+    Ok(())
+}
+
+#[test]
+fn places_in_an_array_are_those_on_pages(rt: HostRuntime) -> Result<(), Fail> {
+    let mut places = OpenPlaces::in_array(rt.alloc());
+    assert_eq!(rt; places.next_full(0), None);
+    places.take_back();
+    assert_eq!(rt; places.len(), 0);
+    places.reserve(40)?;
+    for _ in 0..40 {
+        give_number(&mut places)?;
+    }
+    places.take_back();
+    assert_eq!(rt; places.len(), 39);
+    assert_eq!(rt; places.at(38).copied(), Some(38));
+    assert_eq!(rt; places.at(39).copied(), None);
+    assert_eq!(rt; places.take(39), None);
+    assert_eq!(rt; empty(&mut places, 0), Some(0));
+    assert_eq!(rt; empty(&mut places, 0), None);
+    assert_eq!(rt; places.next_full(0), Some(1));
+    assert_eq!(rt; places.take(1), Some(1));
+    assert_eq!(rt; places.next_full(0), Some(2));
+    places.put(1, 7);
+    assert_eq!(rt; places.next_full(0), Some(1));
+    assert_eq!(rt; places.next_full(39), None);
+    assert_eq!(rt; places.take(1), Some(7));
     Ok(())
 }
 
@@ -72,7 +99,7 @@ fn empty(places: &mut OpenPlaces<usize>, place: usize) -> Option<usize> {
 
 #[test]
 fn values_stand_on_many_pages(rt: HostRuntime) -> Result<(), Fail> {
-    let mut places = OpenPlaces::new(rt.alloc());
+    let mut places = OpenPlaces::on_pages(rt.alloc());
     for _ in 0..100 {
         give_number(&mut places)?;
     }
@@ -94,7 +121,7 @@ fn values_stand_on_many_pages(rt: HostRuntime) -> Result<(), Fail> {
 
 #[test]
 fn a_place_is_taken_back_from_the_page_before(rt: HostRuntime) -> Result<(), Fail> {
-    let mut places = OpenPlaces::new(rt.alloc());
+    let mut places = OpenPlaces::on_pages(rt.alloc());
     for _ in 0..33 {
         give_number(&mut places)?;
     }

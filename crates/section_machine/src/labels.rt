@@ -20,7 +20,8 @@ use std::alloc::{AllocError, Global};
 use std::marker::Model;
 
 /// The labels that a section has given, and at each one's place its socket, while it is open, with the mark of the
-/// sockets to come. A place takes memory from when its label is given until it is let go.
+/// sockets to come. Where labels are numbers, a place takes memory from when its label is given until it is let go; else
+/// for good, as its label does.
 #[derive(Drop)]
 pub struct Labels {
     number: u32,
@@ -62,7 +63,7 @@ impl Labels {
             number,
             mark: 0,
             given: LabelIndex::new(alloc, seed),
-            sockets: OpenPlaces::new(alloc),
+            sockets: OpenPlaces::in_array(alloc),
         }
     }
 
@@ -75,15 +76,21 @@ impl Labels {
             number,
             mark: 0,
             given: LabelIndex::numbered(),
-            sockets: OpenPlaces::new(alloc),
+            sockets: OpenPlaces::on_pages(alloc),
         }
     }
 
-    /// Makes room for so many labels more, but not for their sockets.
+    /// Makes room for so many labels more, and for their sockets, unless the labels are numbers.
     pub(crate) fn reserve(&mut self, more: usize) -> Result<(), AllocError>
         ensures { self.new ≡ self.old }
     {
-        self.given.reserve(more)
+        self.given.reserve(more)?;
+        self.sockets.reserve(more)
+    }
+
+    /// Whether a place that is let go can give memory back.
+    pub(crate) fn give_back(&self) -> bool {
+        self.sockets.give_back()
     }
 
     /// The section's number.

@@ -362,11 +362,14 @@ impl Machine {
         }
     }
 
-    /// Lets the places go that a command leaves empty for good: that of a socket that it ended, and that of a label that
-    /// it gave to none.
+    /// Lets the places go that a command leaves empty for good, where that can give memory back: that of a socket that it
+    /// ended, and that of a label that it gave to none.
     fn let_go(&mut self, command: &Command)
         ensures { self.new ≡ self.old }
     {
+        if !self.labels.give_back() {
+            return;
+        }
         match command {
             Command::Close { label } | Command::Drop { label } => self.labels.let_go_of(label),
             Command::Accept { .. } | Command::Syn { .. } => self.labels.let_go_last(),

@@ -8,7 +8,7 @@ use Rattle.open_places.specs.Cells.{Places, AreEmpty}
 use Rattle.open_places.specs.Pages.{Shows}
 use Rattle.open_places.proofs.Pages.{count_of}
 use Rattle.open_places.proofs.Seeks.{empty_pages, none_there, page_below, shows_earlier, shows_last}
-use Rattle.open_places.proofs.places.OpenPlaces.page_from.Goals as goal
+use Rattle.open_places.proofs.paged.Paged.page_from.Goals as goal
 
 pub returns-in-Some-clause-shows : goal.returns-in-Some-clause-shows
 returns-in-Some-clause-shows g c =

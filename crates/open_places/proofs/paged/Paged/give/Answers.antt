@@ -2,7 +2,7 @@ use Rattle.std.proofs.Common.{◌≡◌, ◌+◌, ◌++◌, ◌∷◌, [], lengt
 use Rattle.open_places.specs.Cells.{Places, one_more}
 use Rattle.open_places.specs.Pages.{places_on}
 use Rattle.open_places.proofs.Pages.{gives_more, kept_count, more_kept, on_err, same_pages, turned_places}
-use Rattle.open_places.proofs.places.OpenPlaces.give.Goals as goal
+use Rattle.open_places.proofs.paged.Paged.give.Goals as goal
 
 pub returns-then-len-lt-PLACES-clause-given : goal.returns-then-len-lt-PLACES-clause-given
 returns-then-len-lt-PLACES-clause-given g c =

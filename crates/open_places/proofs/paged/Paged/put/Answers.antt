@@ -1,7 +1,7 @@
 use Rattle.std.proofs.Common.{Some, is_some, ap, sym, ◌∙◌, arith}
 use Rattle.std.proofs.lemmas.Bool.{false≢true}
 use Rattle.open_places.proofs.Pages.{earlier_holds, earlier_moves, last_holds, last_moves, put_kept}
-use Rattle.open_places.proofs.places.OpenPlaces.put.Goals as goal
+use Rattle.open_places.proofs.paged.Paged.put.Goals as goal
 
 pub put-requires : goal.put-requires
 put-requires g c =

@@ -1,7 +1,7 @@
 use Rattle.std.proofs.Common.{◌%◌, ap, sym, ◌∙◌, arith}
 use Rattle.open_places.specs.Pages.{cell_on, earlier_cell}
 use Rattle.open_places.proofs.Pages.{earlier_holds, earlier_moves, emptied, last_holds, last_moves, taken_cells, taken_kept, taken_there}
-use Rattle.open_places.proofs.places.OpenPlaces.take.Goals as goal
+use Rattle.open_places.proofs.paged.Paged.take.Goals as goal
 
 pub returns-then-place-self-clause-value : goal.returns-then-place-self-clause-value
 returns-then-place-self-clause-value g c =

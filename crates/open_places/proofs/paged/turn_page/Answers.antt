@@ -2,7 +2,7 @@ use Rattle.std.proofs.Common.{ap, sym, ◌∙◌}
 use Rattle.open_places.specs.Pages.{kept_on}
 use Rattle.open_places.proofs.Counts.{none_kept}
 use Rattle.open_places.proofs.Pages.{turns_nothing, turns_page}
-use Rattle.open_places.proofs.places.turn_page.Goals as goal
+use Rattle.open_places.proofs.paged.turn_page.Goals as goal
 
 pub returns-then-is_let_go-clause-turned : goal.returns-then-is_let_go-clause-turned
 returns-then-is_let_go-clause-turned g c =

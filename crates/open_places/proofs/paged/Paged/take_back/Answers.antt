@@ -1,7 +1,7 @@
 use Rattle.std.proofs.Common.{◌≡◌, ◌+◌, length, ap, sym, ◌∙◌, arith}
 use Rattle.open_places.specs.Pages.{places_on}
 use Rattle.open_places.proofs.Pages.{back_places, back_there, takes_back}
-use Rattle.open_places.proofs.places.OpenPlaces.take_back.Goals as goal
+use Rattle.open_places.proofs.paged.Paged.take_back.Goals as goal
 
 pub returns-then-len-gt0 : goal.returns-then-len-gt0
 returns-then-len-gt0 g c before is =

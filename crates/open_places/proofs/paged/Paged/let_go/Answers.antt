@@ -1,6 +1,6 @@
 use Rattle.std.proofs.Common.{None, refl, arith}
 use Rattle.open_places.proofs.Pages.{earlier_moves, gone_cells, last_moves}
-use Rattle.open_places.proofs.places.OpenPlaces.let_go.Goals as goal
+use Rattle.open_places.proofs.paged.Paged.let_go.Goals as goal
 
 pub returns-then-place-self-clause-same : goal.returns-then-place-self-clause-same
 returns-then-place-self-clause-same g c =

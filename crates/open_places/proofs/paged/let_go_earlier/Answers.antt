@@ -1,7 +1,7 @@
 use Rattle.std.proofs.Common.{None, sym, subst, refl}
 use Rattle.std.specs.Prelude.{IsSome}
 use Rattle.open_places.proofs.Pages.{sets_gone, sets_page}
-use Rattle.open_places.proofs.places.let_go_earlier.Goals as goal
+use Rattle.open_places.proofs.paged.let_go_earlier.Goals as goal
 
 pub returns-then-is_let_go : goal.returns-then-is_let_go
 returns-then-is_let_go g c =
