@@ -1,6 +1,7 @@
 use Rattle.std.proofs.Common.{◌≡◌, ℕ, ap, ◌∙◌}
 use Rattle.section_machine.specs.Sections as sections
 use Rattle.section_machine.specs.Sections.{Kept}
+use Rattle.sock_ops.specs.declared.tables.Tables.{Tables}
 use Rattle.sock_ops.specs.declared.tables.Worker.{Worker}
 use Rattle.shared_calls.specs.Callings.{Calling, calling, with_mark}
 use Rattle.shared_calls.proofs.Callings.{goes_on_marked}
@@ -13,7 +14,7 @@ marked t k l w tag mark old is view =
 pub invariant_of-self : goal.invariant_of-self
 invariant_of-self c =
     let m = c.self.inside in
-    goes_on_marked (arc_value m.tables) m.machine c.set_mark.new.self m.worker m.tag c.args.mark c.set_mark.ensures.set c.set_mark.ensures.section c.self.invariant
+    goes_on_marked _ m.machine c.set_mark.new.self m.worker m.tag c.args.mark c.set_mark.ensures.set c.set_mark.ensures.section c.self.invariant
 
 pub returns : goal.returns
 returns c =
