@@ -57,6 +57,10 @@ struct inet_sizes {
     uint16_t low;    /* ports of searches: from low, at least 1, */
     uint16_t high;   /* to high, an even number of them */
     bool twreuse;    /* tcp_tw_reuse */
+    bool has_offset; /* each search begins at offset, from low on round the range; else at one that is drawn */
+    uint16_t offset;
+    uint16_t reserved[64];  /* ip_local_reserved_ports: the first */
+    uint8_t reserved_count; /* of these, 64 at most, are kept from searches */
 };
 
 /* The limits of a worker. All 0 but the size: each call tries once, and there is no other limit. */
@@ -214,13 +218,13 @@ int inet_worker_now(struct inet_worker *worker, uint64_t *clock);
 /* Which socket of the looker's tables takes a packet, by the number of its worker and the one that the worker's call
  * gave. Takes no memory, locks nothing and waits for nobody: what it finds stood hashed at some time between the call's
  * beginning and its end, and nothing that matches better did so all the time. EAGAIN: others changed a chain at each of
- * 16 passes through it, and the call can be made again. A namespace above 15 is EINVAL. */
+ * 16 passes through it, and the call can be made again; or the lookup began before the clock was at `after` (0: any),
+ * which none does that begins once inet_worker_now has answered that number. So what that worker's calls had hashed by
+ * then stood throughout, unless its unhash began meanwhile. A namespace above 15 is EINVAL. */
 int inet_looker_look(struct inet_looker *looker, uint32_t src, uint16_t sport, uint32_t dst, uint16_t dport,
-                     uint16_t dev, uint8_t net, struct inet_sight *sight);
-/* A lookup for each packet, told at its place. INET_AGAIN: that lookup is to be made again, as after EAGAIN, or it
- * began before the clock was at `after` (0: any), which none does that begins once inet_worker_now has answered that
- * number. So what that worker's calls had hashed by then stood throughout, unless its unhash began meanwhile. EINVAL:
- * there aren't as many places as packets, and nothing was done. */
+                     uint16_t dev, uint8_t net, uint64_t after, struct inet_sight *sight);
+/* A lookup for each packet, told at its place. INET_AGAIN: that lookup would be EAGAIN. EINVAL: there aren't as many
+ * places as packets, and nothing was done. */
 int inet_looker_look_all(struct inet_looker *looker, const struct inet_packet *packets, size_t count, uint64_t after,
                          struct inet_sight *sights, size_t room);
 

@@ -4,6 +4,10 @@
 
 static const char *table_name = "the library";
 
+_Static_assert((int)KIND_FULL == (int)INET_CONNECTED && (int)KIND_LISTEN == (int)INET_LISTENER &&
+                   (int)KIND_NONE == (int)INET_NONE,
+               "the driver's kinds are the header's");
+
 /* What a thread has: one of its handles holds nothing. */
 struct worker {
     struct inet_worker worker;
@@ -111,7 +115,7 @@ static int table_look(struct worker *w, uint32_t from, uint16_t from_port, uint3
                       uint32_t *kind)
 {
     struct inet_sight sight;
-    int error = inet_looker_look(&w->looker, from, from_port, at, at_port, 0, 0, &sight);
+    int error = inet_looker_look(&w->looker, from, from_port, at, at_port, 0, 0, 0, &sight);
     *kind = error ? 9 : sight.kind;
     return error;
 }

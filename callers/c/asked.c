@@ -39,6 +39,13 @@ static void look(struct inet_looker *looker, uint64_t after, const char *when) {
         printf(" %s%s", KINDS[sights[i].kind], i + 1 < PACKETS ? "," : "\n");
 }
 
+/* The connection's packet alone. */
+static void look_once(struct inet_looker *looker, uint64_t after, const char *when) {
+    struct inet_sight sight;
+    int error = inet_looker_look(looker, CLIENT, 4000, PROXY, 80, 0, 0, after, &sight);
+    printf("one packet, %s: %s\n", when, KINDS[error == EAGAIN ? INET_AGAIN : (int)sight.kind]);
+}
+
 static void tell_left(struct inet_worker *worker) {
     struct inet_left left;
     uint64_t moment;
@@ -53,7 +60,8 @@ int main(void) {
     struct inet_tables tables = {0};
     struct inet_worker worker = {0};
     struct inet_looker looker = {0};
-    struct inet_sizes sizes = {sizeof sizes, 4096, 16, 256, 32, 0, 32768, 60999, false};
+    struct inet_sizes sizes = {.size = sizeof sizes, .slots = 4096, .bind = 16, .hash = 256, .listen = 32, .seed = 0,
+                               .low = 32768, .high = 60999};
     struct inet_limits limits = {sizeof limits, 0, 0, 0};
     uint64_t listener, socket, clock, count;
     uint32_t number;
@@ -73,6 +81,8 @@ int main(void) {
     must(inet_worker_now(&worker, &clock), "now");
     look(&looker, clock, "from the worker's clock on");
     look(&looker, clock + 1, "from a later clock on");
+    look_once(&looker, clock, "from the worker's clock on");
+    look_once(&looker, clock + 1, "from a later clock on");
     must(inet_worker_close(&worker, socket, &waits), "close");
     tell(&worker, socket);
     tell_left(&worker);

@@ -130,7 +130,7 @@ static void check(struct actor *me, uint32_t worker, uint32_t port) {
     int error;
     uint64_t before = atomic_load(&record[worker - 1][port]);
     error = inet_looker_look(&me->looker, CLIENTS + worker, (uint16_t)(FIRST_PORT + port), PROXY,
-                             (uint16_t)(8000 + worker), 0, 0, &sight);
+                             (uint16_t)(8000 + worker), 0, 0, 0, &sight);
     uint64_t after = atomic_load(&record[worker - 1][port]);
     if (again(error, "look"))
         return;
@@ -152,7 +152,8 @@ static void *watch(void *given) {
 
 static void open_all(void) {
     struct inet_tables tables = {0};
-    struct inet_sizes sizes = {sizeof sizes, 65536, 256, 4096, 32, 1, 32768, 60999, false};
+    struct inet_sizes sizes = {.size = sizeof sizes, .slots = 65536, .bind = 256, .hash = 4096, .listen = 32, .seed = 1,
+                               .low = 32768, .high = 60999};
     must(inet_tables_new(&tables, &sizes, 1), "new");
     for (int i = 0; i < WORKERS; i++) {
         must(inet_tables_worker(&tables, &LIMITS, &actors[i].worker, &actors[i].number), "worker");

@@ -15,6 +15,7 @@ static const char *name(int error) {
     case ENFILE: return "ENFILE";
     case EADDRINUSE: return "EADDRINUSE";
     case EADDRNOTAVAIL: return "EADDRNOTAVAIL";
+    case ENOBUFS: return "ENOBUFS";
     default: return "another errno";
     }
 }
@@ -68,6 +69,11 @@ static void ranges(void) {
     given.high = 60997;
     try_sizes("ports from 60998 to 60997", given);
     given = sizes();
+    given.reserved_count = 64;
+    try_sizes("64 reserved ports", given);
+    given.reserved_count = 65;
+    try_sizes("65 reserved ports", given);
+    given = sizes();
     given.size++;
     try_sizes("a struct of another version", given);
 }
@@ -114,6 +120,22 @@ static void searches(void) {
     uint16_t two = port_of(&list, socket_of(&list, 0, 0, 0, 0), HOST, 0);
     printf("two ports of a search: %u and %u\n", one < two ? one : two, one < two ? two : one);
     printf("a third: %s\n", name(inet_list_bind(&list, 1, socket_of(&list, 0, 0, 0, 0), HOST, 0, &bound)));
+    inet_list_free(&list);
+}
+
+/* Searches begin at an offset, and pass a reserved port by. */
+static void begin_at(uint16_t offset, uint16_t reserved) {
+    struct inet_sizes given = sizes();
+    given.low = 40000;
+    given.high = 40005;
+    given.has_offset = true;
+    given.offset = offset;
+    given.reserved[0] = reserved;
+    given.reserved_count = 1;
+    struct inet_list list = list_of(given);
+    uint16_t one = port_of(&list, socket_of(&list, 0, 0, 0, 0), HOST, 0);
+    uint16_t two = port_of(&list, socket_of(&list, 0, 0, 0, 0), HOST, 0);
+    printf("of 40000 to 40005 without %u, from %u on: %u and %u\n", reserved, offset, one, two);
     inet_list_free(&list);
 }
 
@@ -244,9 +266,77 @@ static void tags(void) {
     inet_tables_free(&two);
 }
 
+static uint64_t worker_listener(struct inet_worker *worker, uint8_t net, uint16_t dev) {
+    uint64_t socket;
+    uint16_t bound;
+    must(inet_worker_socket(worker, net, 0, dev, 0, &socket), "socket");
+    must(inet_worker_bind(worker, socket, HOST, 80, &bound), "bind");
+    must(inet_worker_listen(worker, socket, &bound), "listen");
+    return socket;
+}
+
+/* A worker's limits: of two closed connections one waits, and behind a refusal two calls don't look for a slot. */
+static void limits(void) {
+    struct inet_sizes given = sizes();
+    given.slots = 4;
+    struct inet_tables tables = {NULL};
+    struct inet_worker worker = {NULL};
+    struct inet_limits limits = {.size = sizeof limits, .tries = 5, .most_waits = 1, .full_for = 2};
+    uint64_t closed[2], socket;
+    uint32_t number;
+    bool waits[2];
+    must(inet_tables_new(&tables, &given, 1), "new");
+    must(inet_tables_worker(&tables, &limits, &worker, &number), "worker");
+    uint64_t web = worker_listener(&worker, 0, 0);
+    for (uint16_t i = 0; i < 2; i++)
+        must(inet_worker_accept(&worker, web, PEER, (uint16_t)(1000 + i), HOST, 80, &closed[i]), "accept");
+    for (int i = 0; i < 2; i++)
+        must(inet_worker_close(&worker, closed[i], &waits[i]), "close");
+    printf("one TIME_WAIT at most, two closed: %d and %d\n", waits[0], waits[1]);
+    printf("four slots, and two calls for which they stay full:");
+    for (uint16_t port = 1002; port < 1008; port++)
+        printf(" %s", name(inet_worker_accept(&worker, web, PEER, port, HOST, 80, &socket)));
+    printf("\n");
+    inet_worker_free(&worker);
+    inet_tables_free(&tables);
+}
+
+/* By a lookup, and by one of a batch. */
+static void see_shared(struct inet_looker *looker, uint16_t dev, uint8_t net) {
+    struct inet_packet packet = {.src = PEER, .dst = HOST, .sport = 1000, .dport = 80, .dev = dev, .net = net};
+    struct inet_sight one, many;
+    must(inet_looker_look(looker, PEER, 1000, HOST, 80, dev, net, 0, &one), "look");
+    must(inet_looker_look_all(looker, &packet, 1, 0, &many, 1), "look_all");
+    printf("a packet of device %u in namespace %u: kind %u, and of a batch %u\n", dev, net, one.kind, many.kind);
+}
+
+/* A worker's socket has a device and a namespace, and a looker's packets have. */
+static void shared_devices(void) {
+    struct inet_sizes given = sizes();
+    struct inet_tables tables = {NULL};
+    struct inet_worker worker = {NULL};
+    struct inet_looker looker = {NULL};
+    struct inet_limits limits = {.size = sizeof limits};
+    struct inet_item item;
+    uint32_t number;
+    must(inet_tables_new(&tables, &given, 1), "new");
+    must(inet_tables_worker(&tables, &limits, &worker, &number), "worker");
+    must(inet_tables_looker(&tables, &looker), "looker");
+    must(inet_worker_ask(&worker, worker_listener(&worker, 15, 3), &item), "ask");
+    printf("a worker's socket of device %u in namespace %u\n", item.dev, item.net);
+    see_shared(&looker, 3, 15);
+    see_shared(&looker, 4, 15);
+    see_shared(&looker, 3, 14);
+    inet_looker_free(&looker);
+    inet_worker_free(&worker);
+    inet_tables_free(&tables);
+}
+
 int main(void) {
     ranges();
     searches();
+    begin_at(3, 40005);
+    begin_at(1, 40001);
     slots();
     reuse(false);
     reuse(true);
@@ -258,5 +348,7 @@ int main(void) {
     devices_and_namespaces();
     ends();
     tags();
+    limits();
+    shared_devices();
     return 0;
 }

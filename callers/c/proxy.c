@@ -137,7 +137,8 @@ static void list_left(void) {
 }
 
 int main(void) {
-    struct inet_sizes sizes = {sizeof sizes, 4096, 16, 256, 32, 7, 32768, 60999, false};
+    struct inet_sizes sizes = {.size = sizeof sizes, .slots = 4096, .bind = 16, .hash = 256, .listen = 32, .seed = 7,
+                               .low = 32768, .high = 60999};
     must(inet_list_new(&list, &sizes), "new");
     printf("tables in the same handle again: %s\n",
            inet_list_new(&list, &sizes) == EBUSY ? "EBUSY" : "another errno");

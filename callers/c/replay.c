@@ -127,7 +127,7 @@ static const char *receive(const struct segment *it, uint64_t socket) {
 
 static const char *take(const struct segment *it) {
     struct inet_sight sight;
-    must(inet_looker_look(&looker, it->from, it->from_port, it->to, it->to_port, 0, 0, &sight), "look");
+    must(inet_looker_look(&looker, it->from, it->from_port, it->to, it->to_port, 0, 0, 0, &sight), "look");
     switch (sight.kind) {
     case INET_LISTENER: return begin(it, sight.socket);
     case INET_REQUEST: return go_on(it, sight.socket);
@@ -159,7 +159,8 @@ static void report(const struct object *it) {
 
 int main(int words, char **word) {
     struct inet_tables tables = {0};
-    struct inet_sizes sizes = {sizeof sizes, 4096, 16, 4096, 32, 0, 32768, 60999, false};
+    struct inet_sizes sizes = {.size = sizeof sizes, .slots = 4096, .bind = 16, .hash = 4096, .listen = 32, .seed = 0,
+                               .low = 32768, .high = 60999};
     struct inet_limits limits = {sizeof limits, 0, 0, 0};
     uint32_t number;
     FILE *capture = words > 2 ? fopen(word[1], "rb") : NULL;

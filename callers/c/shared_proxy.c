@@ -92,7 +92,7 @@ static struct inet_sight look(struct looker *me, uint16_t from_port) {
     struct inet_sight sight;
     int error;
     do
-        error = inet_looker_look(&me->handle, CLIENTS + me->worker, from_port, PROXY, port_of(me->worker), 0, 0,
+        error = inet_looker_look(&me->handle, CLIENTS + me->worker, from_port, PROXY, port_of(me->worker), 0, 0, 0,
                                  &sight);
     while (again(error));
     must(error, "look");
@@ -168,7 +168,8 @@ static void finish(struct accepter *me) {
 }
 
 int main(void) {
-    struct inet_sizes sizes = {sizeof sizes, 4096, 16, 256, 32, 7, 32768, 60999, false};
+    struct inet_sizes sizes = {.size = sizeof sizes, .slots = 4096, .bind = 16, .hash = 256, .listen = 32, .seed = 7,
+                               .low = 32768, .high = 60999};
     struct inet_tables tables = {NULL};
     must(inet_tables_new(&tables, &sizes, 1), "new");
     printf("tables in the same handle again: %s\n", name(inet_tables_new(&tables, &sizes, 2)));
@@ -201,6 +202,6 @@ int main(void) {
            sight.kind == INET_LISTENER ? "the listener" : "another socket");
     inet_looker_free(&lookers[0].handle);
     inet_looker_free(&lookers[1].handle);
-    printf("a packet when all are gone: %s\n", name(inet_looker_look(&lookers[1].handle, 1, 1, 1, 1, 0, 0, &sight)));
+    printf("a packet when all are gone: %s\n", name(inet_looker_look(&lookers[1].handle, 1, 1, 1, 1, 0, 0, 0, &sight)));
     return 0;
 }

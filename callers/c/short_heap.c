@@ -81,7 +81,7 @@ static void see_list(struct inet_list *list, uint16_t port, uint32_t kind) {
 
 static void see(struct inet_looker *looker, uint16_t port, uint32_t kind) {
     struct inet_sight sight;
-    int error = inet_looker_look(looker, PEER, port, HOST, 80, 0, 0, &sight);
+    int error = inet_looker_look(looker, PEER, port, HOST, 80, 0, 0, 0, &sight);
     is_seen(error, sight, port, kind);
 }
 

@@ -25,7 +25,8 @@ static struct ends ends_of(uint32_t connection) {
 /* At least as many buckets as connections, and a tenth more slots. */
 static void open_tables(struct tables *t, uint32_t connections) {
     uint32_t slots = connections + connections / 10 + LISTENERS;
-    struct inet_sizes sizes = {sizeof sizes, slots, 256, 2, 64, 1, 32768, 60999, false};
+    struct inet_sizes sizes = {.size = sizeof sizes, .slots = slots, .bind = 256, .hash = 2, .listen = 64, .seed = 1,
+                               .low = 32768, .high = 60999};
     while (sizes.hash < connections)
         sizes.hash *= 2;
     must(inet_tables_new(&t->shared, &sizes, 1), "new");
@@ -53,7 +54,7 @@ static uint32_t look_at(struct tables *t, uint32_t connections) {
         struct inet_sight sight;
         word = word * 6364136223846793005 + 1442695040888963407;
         struct ends e = ends_of((uint32_t)((word >> 32) % connections));
-        must(inet_looker_look(&t->looker, e.from, e.from_port, PROXY, e.port, 0, 0, &sight), "look");
+        must(inet_looker_look(&t->looker, e.from, e.from_port, PROXY, e.port, 0, 0, 0, &sight), "look");
         found += sight.kind == INET_CONNECTED;
     }
     return found;

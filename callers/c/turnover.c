@@ -54,7 +54,8 @@ static uint32_t take_lookers(struct inet_tables *tables, uint32_t count) {
             uint32_t n = 1 + done % MOST_WORKERS;
             struct inet_sight sight;
             must(inet_tables_looker(tables, &lookers[i]), "looker");
-            must(inet_looker_look(&lookers[i], CLIENTS + n, 1024, PROXY, (uint16_t)(8000 + n), 0, 0, &sight), "look");
+            must(inet_looker_look(&lookers[i], CLIENTS + n, 1024, PROXY, (uint16_t)(8000 + n), 0, 0, 0, &sight),
+                 "look");
             found += sight.kind == INET_CONNECTED && sight.worker == n && sight.socket == left[n];
         }
         for (uint32_t i = 0; i < out; i++)
@@ -67,7 +68,8 @@ int main(int words, char **word) {
     uint32_t looker_count = words > 1 ? (uint32_t)strtoul(word[1], NULL, 10) : 100000;
     uint32_t worker_count = words > 2 ? (uint32_t)strtoul(word[2], NULL, 10) : 10000;
     struct inet_tables tables = {0};
-    struct inet_sizes sizes = {sizeof sizes, 1024, 256, 1024, 32, 1, 32768, 60999, false};
+    struct inet_sizes sizes = {.size = sizeof sizes, .slots = 1024, .bind = 256, .hash = 1024, .listen = 32, .seed = 1,
+                               .low = 32768, .high = 60999};
     must(inet_tables_new(&tables, &sizes, 1), "new");
     uint64_t before = memory(), begun = nanoseconds();
     take_workers(&tables, worker_count);

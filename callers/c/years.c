@@ -64,7 +64,7 @@ static void look(struct actor *me) {
     struct inet_sight sight;
     uint32_t worker = 1 + (uint32_t)(me->made % WORKERS);
     uint16_t from_port = (uint16_t)(1024 + me->made % CLIENT_PORTS);
-    if (count(me, inet_looker_look(&me->looker, CLIENTS + worker, from_port, PROXY, (uint16_t)(8000 + worker), 0, 0,
+    if (count(me, inet_looker_look(&me->looker, CLIENTS + worker, from_port, PROXY, (uint16_t)(8000 + worker), 0, 0, 0,
                                    &sight)) == 0 &&
         (sight.kind == INET_NONE || sight.worker != worker))
         atomic_fetch_add_explicit(&me->strange, 1, memory_order_relaxed);
@@ -81,7 +81,8 @@ static void *watch(void *given) {
 
 static void open_all(void) {
     struct inet_tables tables = {0};
-    struct inet_sizes sizes = {sizeof sizes, 65536, 256, 65536, 32, 1, 32768, 60999, false};
+    struct inet_sizes sizes = {.size = sizeof sizes, .slots = 65536, .bind = 256, .hash = 65536, .listen = 32,
+                               .seed = 1, .low = 32768, .high = 60999};
     must(inet_tables_new(&tables, &sizes, 1), "new");
     for (int i = 0; i < WORKERS; i++) {
         must(inet_tables_worker(&tables, &LIMITS, &actors[i].worker, &actors[i].number), "worker");

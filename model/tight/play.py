@@ -6,7 +6,7 @@ the answers that it got. Two orders of steps that come to the same tables and th
 answers are one state, and each state is gone on from once.
 
 The grain, and why no text is lost. The steps are those of the shared tables, in the order of
-crates/{shared_ops,shared_sockets,nulls_chain,null_reader,shared_demux,shared_dump}.
+crates/{sock_ops,established,listeners,nulls_chain,null_reader,demux,race_run}.
 Steps are put together only where one moves past every step of others: taking a turn or
 a lock moves to the right (nobody else can touch what it guards), giving it moves to the
 left, and reads and writes of what a held turn or lock guards move both ways (Lipton). So
@@ -849,7 +849,7 @@ class Section:
 
 
 class Looker:
-    """A looker, in shared_demux's order."""
+    """A looker, in demux's order."""
 
     def __init__(self, play: "Play") -> None:
         self.p, self.h = play, play.header

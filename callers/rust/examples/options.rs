@@ -1,7 +1,9 @@
 //! Each option, size and field of the crate, used so that another one in its place would be told from it. It prints
 //! what ../../c/options.c prints of the same.
 
-use inet_tables::{Errno, Item, Limits, List, Options, Sight, Sizes, Socket, Tables};
+use inet_tables::{
+    Errno, Item, Limits, List, Looker, Options, Packet, Reserved, Sight, Sizes, Socket, Tables, Worker,
+};
 use std::net::{Ipv4Addr, SocketAddrV4};
 
 const LIMITS: Limits = Limits { tries: 10, most_waits: 0, full_for: 0 };
@@ -45,6 +47,10 @@ fn ranges() {
     try_sizes("2^21 listening buckets", Sizes { listen: 1 << 21, ..sizes });
     try_sizes("ports from 60998 to 60999", Sizes { low: 60998, ..sizes });
     try_sizes("ports from 60998 to 60997", Sizes { low: 60998, high: 60997, ..sizes });
+    for count in [64, 65] {
+        let may = Reserved::of(&vec![1; count]).is_some();
+        println!("{count} reserved ports: there may {}", if may { "be" } else { "not be" });
+    }
 }
 
 /// The port of a new socket that is bound to the host.
@@ -76,6 +82,16 @@ fn searches() -> Result<(), Errno> {
     let (one, two) = (searched(&mut list)?, searched(&mut list)?);
     println!("two ports of a search: {} and {}", one.min(two), one.max(two));
     println!("a third: {}", name(searched(&mut list)));
+    Ok(())
+}
+
+/// Searches begin at an offset, and pass a reserved port by.
+fn begin_at(offset: u16, reserved: u16) -> Result<(), Errno> {
+    let kept = Reserved::of(&[reserved]).expect("it is one port");
+    let sizes = Sizes { low: 40000, high: 40005, offset: Some(offset), reserved: kept, ..Sizes::default() };
+    let mut list = List::new(&sizes)?;
+    let (one, two) = (searched(&mut list)?, searched(&mut list)?);
+    println!("of 40000 to 40005 without {reserved}, from {offset} on: {one} and {two}");
     Ok(())
 }
 
@@ -205,10 +221,58 @@ fn tags() -> Result<(), Errno> {
     Ok(())
 }
 
+fn worker_listener(worker: &mut Worker, options: Options) -> Result<Socket, Errno> {
+    let socket = worker.socket(options)?;
+    worker.bind(socket, end(HOST, 80))?;
+    worker.listen(socket)?;
+    Ok(socket)
+}
+
+/// A worker's limits: of two closed connections one waits, and behind a refusal two calls don't look for a slot.
+fn limits() -> Result<(), Errno> {
+    let mut tables = Tables::new(&Sizes { slots: 4, ..Sizes::default() })?;
+    let mut worker = tables.worker(Limits { tries: 5, most_waits: 1, full_for: 2 })?;
+    let web = worker_listener(&mut worker, Options::default())?;
+    let one = worker.accept(web, end(PEER, 1000), end(HOST, 80))?;
+    let two = worker.accept(web, end(PEER, 1001), end(HOST, 80))?;
+    let (first, second) = (worker.close(one)?, worker.close(two)?);
+    println!("one TIME_WAIT at most, two closed: {} and {}", u8::from(first), u8::from(second));
+    print!("four slots, and two calls for which they stay full:");
+    for port in 1002..1008 {
+        print!(" {}", name(worker.accept(web, end(PEER, port), end(HOST, 80))));
+    }
+    println!();
+    Ok(())
+}
+
+/// By a lookup, and by one of a batch.
+fn see_shared(looker: &mut Looker, dev: u16, net: u8) -> Result<(), Errno> {
+    let packet = Packet { from: end(PEER, 1000), to: end(HOST, 80), dev, net };
+    let number = |sight: Option<Sight>| sight.map_or(0, |sight| kind(sight).0);
+    let one = number(looker.look(packet.from, packet.to, dev, net)?);
+    let many = number(looker.look_all(&[packet], 0)?.remove(0)?);
+    println!("a packet of device {dev} in namespace {net}: kind {one}, and of a batch {many}");
+    Ok(())
+}
+
+/// A worker's socket has a device and a namespace, and a looker's packets have.
+fn shared_devices() -> Result<(), Errno> {
+    let mut tables = Tables::new(&Sizes::default())?;
+    let (mut worker, mut looker) = (tables.worker(Limits::default())?, tables.looker()?);
+    let socket = worker_listener(&mut worker, Options { net: 15, dev: 3, ..Options::default() })?;
+    let open = worker.ask(socket)?;
+    println!("a worker's socket of device {} in namespace {}", open.dev, open.net);
+    see_shared(&mut looker, 3, 15)?;
+    see_shared(&mut looker, 4, 15)?;
+    see_shared(&mut looker, 3, 14)
+}
+
 fn main() -> Result<(), Errno> {
     let reuseport = Options { reuseport: true, uid: 7, ..Options::default() };
     ranges();
     searches()?;
+    begin_at(3, 40005)?;
+    begin_at(1, 40001)?;
     slots()?;
     reuse(false)?;
     reuse(true)?;
@@ -219,5 +283,7 @@ fn main() -> Result<(), Errno> {
     late_port()?;
     devices_and_namespaces()?;
     ends()?;
-    tags()
+    tags()?;
+    limits()?;
+    shared_devices()
 }

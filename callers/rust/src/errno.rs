@@ -1,6 +1,6 @@
 //! Refusals.
 
-use std::{error, fmt, io};
+use core::{error, fmt};
 
 /// A refusal: a number of errno(3), as Linux has them on x86-64 and arm64.
 #[derive(Clone, Copy, Debug, PartialEq, Eq, Hash)]
@@ -49,15 +49,20 @@ errnos! {
     EISCONN = 106;
 }
 
-impl From<Errno> for io::Error {
+#[cfg(feature = "std")]
+impl From<Errno> for std::io::Error {
     fn from(errno: Errno) -> Self {
-        io::Error::from_raw_os_error(errno.0)
+        std::io::Error::from_raw_os_error(errno.0)
     }
 }
 
 impl fmt::Display for Errno {
+    /// Its name, or the number of another errno.
     fn fmt(&self, f: &mut fmt::Formatter<'_>) -> fmt::Result {
-        io::Error::from(*self).fmt(f)
+        match self.name() {
+            Some(name) => f.write_str(name),
+            None => write!(f, "errno {}", self.0),
+        }
     }
 }
 

@@ -1,7 +1,7 @@
 //! The library's memory, over malloc, realloc and free: what ../heap.c is for programs in C.
 
-use std::ffi::c_void;
-use std::ptr::NonNull;
+use core::ffi::c_void;
+use core::ptr::NonNull;
 
 unsafe extern "C" {
     fn malloc(size: usize) -> *mut c_void;

@@ -6,6 +6,15 @@
 //! ../inet_tables.h says what each call does, and what a caller owes. Here the types see to that: each value owns its
 //! handle, so it is made once, at one call at a time, and given up once; it has the calls that are for it alone; and
 //! the numbers that a call writes are its own.
+//!
+//! It takes `core` and `alloc` alone, and with the feature `std`, which is on by default, makes std's errors of its
+//! refusals. The library's memory comes from malloc, realloc and free of the C library.
+#![no_std]
+#![warn(missing_docs)]
+
+extern crate alloc;
+#[cfg(feature = "std")]
+extern crate std;
 
 mod errno;
 mod heap;
@@ -17,7 +26,7 @@ pub use errno::Errno;
 pub use list::List;
 pub use shared::{Looker, Tables, Worker};
 
-use std::net::SocketAddrV4;
+use core::net::SocketAddrV4;
 
 /// The sizes of tables: ../inet_tables.h has their ranges.
 #[derive(Clone, Copy, Debug)]
@@ -38,12 +47,53 @@ pub struct Sizes {
     pub high: u16,
     /// Whether `connect` may take the place of a TIME_WAIT (tcp_tw_reuse).
     pub twreuse: bool,
+    /// Where each search begins, from `low` on round the range; without it at a port that is drawn.
+    pub offset: Option<u16>,
+    /// Ports that no search takes (ip_local_reserved_ports).
+    pub reserved: Reserved,
+}
+
+/// Ports that are kept from searches, 64 at most; by default none.
+#[derive(Clone, Copy, Debug)]
+pub struct Reserved {
+    ports: [u16; 64],
+    count: u8,
+}
+
+impl Reserved {
+    /// No port.
+    pub const NONE: Reserved = Reserved { ports: [0; 64], count: 0 };
+
+    /// These ports, in whatever order. None: they are more than 64.
+    pub fn of(ports: &[u16]) -> Option<Self> {
+        let mut reserved = Reserved::NONE;
+        reserved.ports.get_mut(..ports.len())?.copy_from_slice(ports);
+        reserved.count = ports.len() as u8;
+        Some(reserved)
+    }
+}
+
+impl Default for Reserved {
+    fn default() -> Self {
+        Reserved::NONE
+    }
 }
 
 impl Default for Sizes {
     /// The sizes of a script that names none.
     fn default() -> Self {
-        Sizes { slots: 1024, bind: 16, hash: 256, listen: 32, seed: 0, low: 32768, high: 60999, twreuse: false }
+        Sizes {
+            slots: 1024,
+            bind: 16,
+            hash: 256,
+            listen: 32,
+            seed: 0,
+            low: 32768,
+            high: 60999,
+            twreuse: false,
+            offset: None,
+            reserved: Reserved::NONE,
+        }
     }
 }
 

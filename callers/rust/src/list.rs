@@ -1,7 +1,8 @@
 //! One list of sockets.
 
 use crate::{Errno, Item, Options, Sight, Sizes, Socket, raw};
-use std::net::{Ipv4Addr, SocketAddrV4};
+use alloc::vec::Vec;
+use core::net::{Ipv4Addr, SocketAddrV4};
 
 /// One list of sockets, with workers 1 to 64.
 pub struct List(raw::List);

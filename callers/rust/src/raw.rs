@@ -1,10 +1,12 @@
 //! The handles, the library's exports, and each of its calls: all that is unsafe in this crate but ../src/heap.rs.
 
 use crate::{Errno, Item, Left, Limits, Open, Options, Packet, Sight, Sizes, Socket, State};
-use std::ffi::c_void;
-use std::net::{Ipv4Addr, SocketAddrV4};
-use std::ptr::null_mut;
-use std::sync::atomic::{AtomicU64, Ordering};
+use alloc::vec;
+use alloc::vec::Vec;
+use core::ffi::c_void;
+use core::net::{Ipv4Addr, SocketAddrV4};
+use core::ptr::null_mut;
+use core::sync::atomic::{AtomicU64, Ordering};
 
 #[repr(C)]
 struct RawSizes {
@@ -17,6 +19,10 @@ struct RawSizes {
     low: u16,
     high: u16,
     twreuse: bool,
+    has_offset: bool,
+    offset: u16,
+    reserved: [u16; 64],
+    reserved_count: u8,
 }
 
 #[repr(C)]
@@ -177,6 +183,7 @@ unsafe extern "C" {
         dport: u16,
         dev: u16,
         net: u8,
+        after: u64,
         sight: &mut RawSight,
     ) -> i32;
     fn inet_looker_look_all(
@@ -228,8 +235,22 @@ fn done(errno: i32) -> Result<(), Errno> {
 
 impl From<&Sizes> for RawSizes {
     fn from(sizes: &Sizes) -> Self {
-        let Sizes { slots, bind, hash, listen, seed, low, high, twreuse } = *sizes;
-        RawSizes { size: size_of::<RawSizes>() as u32, slots, bind, hash, listen, seed, low, high, twreuse }
+        let Sizes { slots, bind, hash, listen, seed, low, high, twreuse, offset, reserved } = *sizes;
+        RawSizes {
+            size: size_of::<RawSizes>() as u32,
+            slots,
+            bind,
+            hash,
+            listen,
+            seed,
+            low,
+            high,
+            twreuse,
+            has_offset: offset.is_some(),
+            offset: offset.unwrap_or(0),
+            reserved: reserved.ports,
+            reserved_count: reserved.count,
+        }
     }
 }
 
@@ -285,12 +306,11 @@ impl Tables {
 }
 
 impl Looker {
-    pub fn look(&mut self, from: SocketAddrV4, to: SocketAddrV4, dev: u16, net: u8) -> Result<Option<Sight>, Errno> {
-        let (src, sport) = numbers(from);
-        let (dst, dport) = numbers(to);
+    pub fn look(&mut self, packet: &Packet, after: u64) -> Result<Option<Sight>, Errno> {
+        let RawPacket { src, dst, sport, dport, dev, net } = raw_packet(packet);
         let mut sight = RawSight { kind: 0, worker: 0, socket: 0 };
         // SAFETY: see above.
-        done(unsafe { inet_looker_look(self, src, sport, dst, dport, dev, net, &mut sight) })?;
+        done(unsafe { inet_looker_look(self, src, sport, dst, dport, dev, net, after, &mut sight) })?;
         Ok(sight_of(sight.kind, sight.worker, sight.socket))
     }
 

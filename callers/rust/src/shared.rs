@@ -1,7 +1,9 @@
 //! Tables that threads share, and what they hand out.
 
 use crate::{Errno, Left, Limits, Open, Options, Packet, Sight, Sizes, Socket, raw};
-use std::net::{Ipv4Addr, SocketAddrV4};
+use alloc::boxed::Box;
+use alloc::vec::Vec;
+use core::net::{Ipv4Addr, SocketAddrV4};
 
 /// Tables that threads share. They hand out workers and lookers, and go with the last of all these.
 pub struct Tables(raw::Tables);
@@ -153,11 +155,16 @@ impl Looker {
     /// Which socket takes a packet that came in at that device in that namespace. EAGAIN: others changed a chain of
     /// sockets at each of 16 passes through it; EINVAL: there is no such namespace.
     pub fn look(&mut self, from: SocketAddrV4, to: SocketAddrV4, dev: u16, net: u8) -> Result<Option<Sight>, Errno> {
-        self.0.look(from, to, dev, net)
+        self.0.look(&Packet { from, to, dev, net }, 0)
     }
 
-    /// A lookup for each packet, in their order. EAGAIN of one: as of `look`, or it began before the clock was at
+    /// [`Looker::look`] from a number of the clock on. EAGAIN: as of `look`, or it began before the clock was at
     /// `after`, which none does once [`Worker::now`] has answered that number.
+    pub fn look_after(&mut self, packet: &Packet, after: u64) -> Result<Option<Sight>, Errno> {
+        self.0.look(packet, after)
+    }
+
+    /// [`Looker::look_after`] for each packet, in their order.
     pub fn look_all(&mut self, packets: &[Packet], after: u64) -> Result<Vec<Result<Option<Sight>, Errno>>, Errno> {
         self.0.look_all(packets, after)
     }

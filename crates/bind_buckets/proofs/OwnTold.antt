@@ -55,9 +55,9 @@ drop_open : (is : Owner → Bool) (owners : List Owner) → NoneWait owners → 
 drop_open is [] n = tt
 drop_open is (x ∷ xs) n = drop_by x xs (drop_first is xs) (is x) n.0 n.1 (drop_open is xs n.1)
 
-child_open : (name local remote rport : ℕ) (o : Option Owner) → NoneWait (option_to_list (option_map (child name local remote rport) o))
-child_open name local remote rport None = tt
-child_open name local remote rport (Some a) = (refl, tt)
+child_open : (name mark local remote rport : ℕ) (o : Option Owner) → NoneWait (option_to_list (option_map (child name mark local remote rport) o))
+child_open name mark local remote rport None = tt
+child_open name mark local remote rport (Some a) = (refl, tt)
 
 stays_by : (x : Owner) (xs : List Owner) (p q : Bool) → q ≡ false → cond (p && q) xs (x ∷ xs) ≡ x ∷ xs
 stays_by x xs true true e = absurd (false≢true (sym e))
@@ -80,8 +80,8 @@ module _ (mine : ℕ → Bool) where
   done_open (requests.ConnectAuto a) owners about keeps n = each_push Open owners a n (keeps about)
   done_open (requests.ConnectBound name local remote rport) owners about keeps n =
       change_open (has_name name) (connected local remote rport) owners (λ a. refl) n
-  done_open (requests.Inherit parent name local remote rport) owners about keeps n =
-      each_append Open owners _ n (child_open name local remote rport (find (has_name parent) owners))
+  done_open (requests.Inherit parent name mark local remote rport) owners about keeps n =
+      each_append Open owners _ n (child_open name mark local remote rport (find (has_name parent) owners))
   done_open (requests.ToTimeWait name) owners about keeps n = absurd (false≢true (sym keeps ∙ about))
   done_open (requests.Remove name) owners about keeps n = drop_open (has_name name) owners n
   done_open (requests.RemoveWaiting name) owners about keeps n = drop_open (waits_as name) owners n
@@ -111,14 +111,14 @@ module _ (mine : ℕ → Bool) where
       (λ os m. skip es os m keeps.1)
 
   keeps_whole : (request : Request) → KeepsOpen mine request → IsWhole mine request
-  keeps_whole (requests.Inherit parent name local remote rport) keeps = keeps
+  keeps_whole (requests.Inherit parent name mark local remote rport) keeps = keeps
   keeps_whole _ keeps = tt
 
   unspoken : (request : Request) → not (removes_waiting request) && speaks_of mine request ≡ false → KeepsOpen mine request
   unspoken (requests.Bind a) none = λ said. absurd (false≢true (sym none ∙ said))
   unspoken (requests.BindAuto a) none = λ said. absurd (false≢true (sym none ∙ said))
   unspoken (requests.ConnectAuto a) none = λ said. absurd (false≢true (sym none ∙ said))
-  unspoken (requests.Inherit parent name local remote rport) none = λ said. absurd (false≢true (sym none ∙ said))
+  unspoken (requests.Inherit parent name mark local remote rport) none = λ said. absurd (false≢true (sym none ∙ said))
   unspoken (requests.ToTimeWait name) none = none
   unspoken _ none = tt
 
@@ -134,7 +134,7 @@ module _ (mine : ℕ → Bool) where
     asker who (requests.Free port net) some more may said = absurd (false≢true said)
     asker who (requests.ConnectAuto a) some more may said = same_section who a.name some more may.0 said
     asker who (requests.ConnectBound name local remote rport) some more may said = same_section who name some more may.0 said
-    asker who (requests.Inherit parent name local remote rport) some more may said = same_section who name some more may.1.0 said
+    asker who (requests.Inherit parent name mark local remote rport) some more may said = same_section who name some more may.1.0 said
     asker who (requests.ToTimeWait name) some more may said = same_section who name some more may.0 said
     asker who (requests.Remove name) some more may said = same_section who name some more may.0 said
     asker who (requests.RemoveWaiting name) some more may said = absurd (false≢true said)
@@ -392,7 +392,7 @@ module _ (mine : ℕ → Bool) (name : ℕ) where
   same_speaks (requests.Free port net) none = refl
   same_speaks (requests.ConnectAuto a) none = or_none (mine a.name) _ none
   same_speaks (requests.ConnectBound n local remote rport) none = or_none (mine n) _ none
-  same_speaks (requests.Inherit parent n local remote rport) none = or_none (mine n) _ none
+  same_speaks (requests.Inherit parent n mark local remote rport) none = or_none (mine n) _ none
   same_speaks (requests.ToTimeWait n) none = or_none (mine n) _ none
   same_speaks (requests.Remove n) none = or_none (mine n) _ none
   same_speaks (requests.RemoveWaiting n) none = refl
@@ -401,7 +401,7 @@ module _ (mine : ℕ → Bool) (name : ℕ) where
   keeps_more (requests.Bind a) none k = λ said. k (sym (or_none (mine a.name) _ none) ∙ said)
   keeps_more (requests.BindAuto a) none k = λ said. k (sym (or_none (mine a.name) _ none) ∙ said)
   keeps_more (requests.ConnectAuto a) none k = λ said. k (sym (or_none (mine a.name) _ none) ∙ said)
-  keeps_more (requests.Inherit parent n local remote rport) none k =
+  keeps_more (requests.Inherit parent n mark local remote rport) none k =
       λ said. or_first (mine parent) _ (k (sym (or_none (mine n) _ none) ∙ said))
   keeps_more (requests.ToTimeWait n) none k = or_none (mine n) _ none ∙ k
   keeps_more _ none k = tt
@@ -429,7 +429,7 @@ module _ (mine : ℕ → Bool) (name : ℕ) where
       about_by x.entry (filter (is_told mine) (entries_of xs)) (removes_waiting x.entry.request) (speaks_of it x.entry.request) (speaks_of mine x.entry.request) refl refl none.0 (none_about xs none.1)
 
   not_child : (request : Request) → not (removes_waiting request) && speaks_of it request ≡ false → IsWhole it request
-  not_child (requests.Inherit parent n local remote rport) none = λ said. absurd (false≢true (sym none ∙ said))
+  not_child (requests.Inherit parent n mark local remote rport) none = λ said. absurd (false≢true (sym none ∙ said))
   not_child _ none = tt
 
   all_whole : (notes : List Note) → Each (λ (x : Note). is_told it x.entry ≡ false) notes → Each (λ (e : Entry). IsWhole it e.request) (entries_of notes)
@@ -458,12 +458,12 @@ of_either c mine name n false true p q own may h = subst (MayName c) (sym (eqb-t
 of_either c mine name n false false p q own may h = absurd (false≢true h)
 
 pub own_accepted : OwnAccepted
-own_accepted p place name local remote rport v w s o may none =
-    let same = given_here place place (requests.Inherit p.name name local remote rport) answers.Done v w o refl in
+own_accepted p place name mark local remote rport v w s o may none =
+    let same = given_here place place (requests.Inherit p.name name mark local remote rport) answers.Done v w o refl in
     let notes = own_given place v in
     let more = with_name s.mine name in
-    let request = requests.Inherit p.name name local remote rport in
-    let b = child name local remote rport p in
+    let request = requests.Inherit p.name name mark local remote rport in
+    let b = child name mark local remote rport p in
     let old = told_from [] (filter (is_told s.mine) (entries_of notes)) in
     let said : more name ≡ true = or_second (s.mine name) (name == name) (eq-eqb name name refl) in
     record {
@@ -478,7 +478,7 @@ own_accepted p place name local remote rport v w s o may none =
           ∙ ap (find (has_name name)) (told_push more notes o.entry.note)
           ∙ ap (λ es. find (has_name name) (told_next more (told_from [] es) o.entry.note.entry)) (same_told_more s.mine name notes none)
           ∙ ap (λ (e : Entry). find (has_name name) (told_next more old e)) o.asked.entry
-          ∙ ap (λ t. find (has_name name) (cond t (old ++ option_to_list (option_map (child name local remote rport) (find (has_name p.name) old))) old)) said
-          ∙ ap (λ f. find (has_name name) (old ++ option_to_list (option_map (child name local remote rport) f))) s.told_is
+          ∙ ap (λ t. find (has_name name) (cond t (old ++ option_to_list (option_map (child name mark local remote rport) (find (has_name p.name) old))) old)) said
+          ∙ ap (λ f. find (has_name name) (old ++ option_to_list (option_map (child name mark local remote rport) f))) s.told_is
           ∙ found_last name old b (nobody s.mine name notes none) refl;
     }

@@ -60,8 +60,8 @@ narrows_connected local remote rport a s = record {
   waiting = ap is_time_wait s.state;
 }
 
-narrows_child : (name local remote rport : ℕ) (a : Owner) → StandsAt states.Listening local a → Narrows (child name local remote rport a) a
-narrows_child name local remote rport a s = record {
+narrows_child : (name mark local remote rport : ℕ) (a : Owner) → StandsAt states.Listening local a → Narrows (child name mark local remote rport a) a
+narrows_child name mark local remote rport a s = record {
   port = refl;
   net = refl;
   dev = refl;
@@ -102,12 +102,12 @@ listening_agrees owners name a none p found =
     (each_weaken (λ b. refuses a b ≡ false) (Agree (as_listener a)) (drop_first (has_name name) owners)
     (λ b r. agrees_unless_refused (as_listener a) b (refuses_as_listener a b ∙ r)) (each_unless_found (refuses a) (drop_first (has_name name) owners) none))
 
-child_agrees : (owners : List Owner) (parent name local remote rport : ℕ) (a : Owner) → StandsAt states.Listening local a → OwnersAgree owners → find (has_name parent) owners ≡ Some a → OwnersAgree (owners ++ child name local remote rport a ∷ [])
-child_agrees owners parent name local remote rport a s p found =
-    let c = child name local remote rport a in
+child_agrees : (owners : List Owner) (parent name mark local remote rport : ℕ) (a : Owner) → StandsAt states.Listening local a → OwnersAgree owners → find (has_name parent) owners ≡ Some a → OwnersAgree (owners ++ child name mark local remote rport a ∷ [])
+child_agrees owners parent name mark local remote rport a s p found =
+    let c = child name mark local remote rport a in
     pairs_push Agree owners c p
     (each_weaken (λ b. (b ≡ a) ⊎ Agree a b) (λ b. Agree b c) owners
-    (λ b. ⊎_elim (λ same. agrees_by_origin b c (ap (λ (o : Owner). o.origin) same)) (λ r. swapped c b (agrees_where_narrowed c a b (narrows_child name local remote rport a s) r)))
+    (λ b. ⊎_elim (λ same. agrees_by_origin b c (ap (λ (o : Owner). o.origin) same)) (λ r. swapped c b (agrees_where_narrowed c a b (narrows_child name mark local remote rport a s) r)))
     (pairs_found Agree (has_name parent) owners a swapped p found))
 
 -- the one that is found stands so
@@ -137,10 +137,10 @@ step_agrees b (requests.ConnectBound name local remote rport) allowed p =
     spoken_keeps OwnersAgree h name (λ _. changed h name f h.groups) (find (has_name name) h.owners) p
     (λ a e. changed_agrees f h.owners name a
     (λ c. agrees_where_narrowed (f a) a c (narrows_connected local remote rport a (stands states.Bound local _ a e allowed))) p e)
-step_agrees b (requests.Inherit parent name local remote rport) allowed p =
+step_agrees b (requests.Inherit parent name mark local remote rport) allowed p =
     let h = b.held in
-    spoken_keeps OwnersAgree h parent (λ listener. with_owner h (child name local remote rport listener)) (find (has_name parent) h.owners) p
-    (λ a e. child_agrees h.owners parent name local remote rport a (stands states.Listening local _ a e allowed) p e)
+    spoken_keeps OwnersAgree h parent (λ listener. with_owner h (child name mark local remote rport listener)) (find (has_name parent) h.owners) p
+    (λ a e. child_agrees h.owners parent name mark local remote rport a (stands states.Listening local _ a e allowed) p e)
 step_agrees b (requests.ToTimeWait name) allowed p =
     let h = b.held in
     spoken_keeps OwnersAgree h name (λ _. changed h name as_waiting h.groups) (find (has_name name) h.owners) p
@@ -181,10 +181,10 @@ step_keys b (requests.ConnectBound name local remote rport) allowed p =
     let f = connected local remote rport in
     spoken_keeps (KeysOf b) h name (λ _. changed h name f h.groups) (find (has_name name) h.owners) p
     (λ a e. each_change (has_name name) (HasKey b) f h.owners (λ x q. q) p)
-step_keys b (requests.Inherit parent name local remote rport) allowed p =
+step_keys b (requests.Inherit parent name mark local remote rport) allowed p =
     let h = b.held in
-    spoken_keeps (KeysOf b) h parent (λ listener. with_owner h (child name local remote rport listener)) (find (has_name parent) h.owners) p
-    (λ a e. each_push (HasKey b) h.owners (child name local remote rport a) p (each_found (HasKey b) (has_name parent) h.owners a p e))
+    spoken_keeps (KeysOf b) h parent (λ listener. with_owner h (child name mark local remote rport listener)) (find (has_name parent) h.owners) p
+    (λ a e. each_push (HasKey b) h.owners (child name mark local remote rport a) p (each_found (HasKey b) (has_name parent) h.owners a p e))
 step_keys b (requests.ToTimeWait name) allowed p =
     let h = b.held in
     spoken_keeps (KeysOf b) h name (λ _. changed h name as_waiting h.groups) (find (has_name name) h.owners) p

@@ -80,9 +80,9 @@ step_fits b (requests.ConnectAuto a) allowed p = p
 step_fits b (requests.ConnectBound name local remote rport) allowed p =
     let h = b.held in
     spoken_keeps (Each Fits) h name (λ _. changed h name (connected local remote rport) h.groups) (find (has_name name) h.owners) p (λ a e. p)
-step_fits b (requests.Inherit parent name local remote rport) allowed p =
+step_fits b (requests.Inherit parent name mark local remote rport) allowed p =
     let h = b.held in
-    spoken_keeps (Each Fits) h parent (λ listener. with_owner h (child name local remote rport listener)) (find (has_name parent) h.owners) p (λ a e. p)
+    spoken_keeps (Each Fits) h parent (λ listener. with_owner h (child name mark local remote rport listener)) (find (has_name parent) h.owners) p (λ a e. p)
 step_fits b (requests.ToTimeWait name) allowed p =
     let h = b.held in
     spoken_keeps (Each Fits) h name (λ _. changed h name as_waiting h.groups) (find (has_name name) h.owners) p (λ a e. p)
@@ -128,9 +128,9 @@ step_places b (requests.ConnectAuto a) p = p
 step_places b (requests.ConnectBound name local remote rport) p =
     let h = b.held in
     spoken_keeps HasPlaces h name (λ _. changed h name (connected local remote rport) h.groups) (find (has_name name) h.owners) p (λ a e. p)
-step_places b (requests.Inherit parent name local remote rport) p =
+step_places b (requests.Inherit parent name mark local remote rport) p =
     let h = b.held in
-    spoken_keeps HasPlaces h parent (λ listener. with_owner h (child name local remote rport listener)) (find (has_name parent) h.owners) p (λ a e. p)
+    spoken_keeps HasPlaces h parent (λ listener. with_owner h (child name mark local remote rport listener)) (find (has_name parent) h.owners) p (λ a e. p)
 step_places b (requests.ToTimeWait name) p =
     let h = b.held in
     spoken_keeps HasPlaces h name (λ _. changed h name as_waiting h.groups) (find (has_name name) h.owners) p (λ a e. p)

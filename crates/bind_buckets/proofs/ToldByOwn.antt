@@ -48,9 +48,9 @@ connect_told : (h : Held) (name local remote rport : ℕ) (o : Option Owner) →
 connect_told h name local remote rport None = refl
 connect_told h name local remote rport (Some a) = refl
 
-inherit_told : (h : Held) (parent name local remote rport : ℕ) (o : Option Owner) → find (has_name parent) h.owners ≡ o → let after = spoken h parent o (λ listener. with_owner h (child name local remote rport listener)) in after.held.owners ≡ told h.owners (requests.Inherit parent name local remote rport) after.answer
-inherit_told h parent name local remote rport None q = refl
-inherit_told h parent name local remote rport (Some a) q = rw q refl
+inherit_told : (h : Held) (parent name mark local remote rport : ℕ) (o : Option Owner) → find (has_name parent) h.owners ≡ o → let after = spoken h parent o (λ listener. with_owner h (child name mark local remote rport listener)) in after.held.owners ≡ told h.owners (requests.Inherit parent name mark local remote rport) after.answer
+inherit_told h parent name mark local remote rport None q = refl
+inherit_told h parent name mark local remote rport (Some a) q = rw q refl
 
 remove_told : (h : Held) (name : ℕ) (o : Option Owner) → let after = spoken h name o (λ _. removed h name) in after.held.owners ≡ told h.owners (requests.Remove name) after.answer
 remove_told h name None = refl
@@ -75,8 +75,8 @@ step_told n h (requests.Free port net) = free_told h.owners port net (free_answe
 step_told n h (requests.ConnectAuto a) = refl
 step_told n h (requests.ConnectBound name local remote rport) =
     connect_told h name local remote rport (find (has_name name) h.owners)
-step_told n h (requests.Inherit parent name local remote rport) =
-    inherit_told h parent name local remote rport (find (has_name parent) h.owners) refl
+step_told n h (requests.Inherit parent name mark local remote rport) =
+    inherit_told h parent name mark local remote rport (find (has_name parent) h.owners) refl
 step_told n h (requests.ToTimeWait name) = wait_told h name (find (has_name name) h.owners)
 step_told n h (requests.Remove name) = remove_told h name (find (has_name name) h.owners)
 step_told n h (requests.RemoveWaiting name) = reaped_told h name (find (waits_as name) h.owners)
@@ -124,20 +124,20 @@ module _ (mine : ℕ → Bool) where
   Seen request answer owners =
       filter m (told owners request answer) ≡ cond (speaks_of mine request) (told (filter m owners) request answer) (filter m owners)
 
-  child_seen : (owners : List Owner) (name local remote rport : ℕ) (o : Option Owner) → mine name ≡ true → let own = option_to_list (option_map (child name local remote rport) o) in filter m (owners ++ own) ≡ filter m owners ++ own
-  child_seen owners name local remote rport None q = filter-append m owners []
-  child_seen owners name local remote rport (Some a) q = push_by owners (child name local remote rport a) true q
+  child_seen : (owners : List Owner) (name mark local remote rport : ℕ) (o : Option Owner) → mine name ≡ true → let own = option_to_list (option_map (child name mark local remote rport) o) in filter m (owners ++ own) ≡ filter m owners ++ own
+  child_seen owners name mark local remote rport None q = filter-append m owners []
+  child_seen owners name mark local remote rport (Some a) q = push_by owners (child name mark local remote rport a) true q
 
-  child_unseen : (owners : List Owner) (name local remote rport : ℕ) (o : Option Owner) → mine name ≡ false → filter m (owners ++ option_to_list (option_map (child name local remote rport) o)) ≡ filter m owners
-  child_unseen owners name local remote rport None q = ap (filter m) (append-nil owners)
-  child_unseen owners name local remote rport (Some a) q = push_by owners (child name local remote rport a) false q
+  child_unseen : (owners : List Owner) (name mark local remote rport : ℕ) (o : Option Owner) → mine name ≡ false → filter m (owners ++ option_to_list (option_map (child name mark local remote rport) o)) ≡ filter m owners
+  child_unseen owners name mark local remote rport None q = ap (filter m) (append-nil owners)
+  child_unseen owners name mark local remote rport (Some a) q = push_by owners (child name mark local remote rport a) false q
 
-  inherit_seen : (owners : List Owner) (parent name local remote rport : ℕ) (b : Bool) → mine name ≡ b → (mine name ≡ true → mine parent ≡ true) → filter m (done_by owners (requests.Inherit parent name local remote rport)) ≡ cond b (done_by (filter m owners) (requests.Inherit parent name local remote rport)) (filter m owners)
-  inherit_seen owners parent name local remote rport true q whole =
+  inherit_seen : (owners : List Owner) (parent name mark local remote rport : ℕ) (b : Bool) → mine name ≡ b → (mine name ≡ true → mine parent ≡ true) → filter m (done_by owners (requests.Inherit parent name mark local remote rport)) ≡ cond b (done_by (filter m owners) (requests.Inherit parent name mark local remote rport)) (filter m owners)
+  inherit_seen owners parent name mark local remote rport true q whole =
       rw (← find_filtered m (has_name parent) (named_mine parent true (whole q)) owners)
-      (child_seen owners name local remote rport (find (has_name parent) owners) q)
-  inherit_seen owners parent name local remote rport false q whole =
-      child_unseen owners name local remote rport (find (has_name parent) owners) q
+      (child_seen owners name mark local remote rport (find (has_name parent) owners) q)
+  inherit_seen owners parent name mark local remote rport false q whole =
+      child_unseen owners name mark local remote rport (find (has_name parent) owners) q
 
   done_seen : (request : Request) (owners : List Owner) → IsWhole mine request → Seen request answers.Done owners
   done_seen (requests.Bind a) owners whole = push_by owners a (m a) refl
@@ -148,8 +148,8 @@ module _ (mine : ℕ → Bool) where
   done_seen (requests.ConnectAuto a) owners whole = push_by owners a (m a) refl
   done_seen (requests.ConnectBound name local remote rport) owners whole =
       change_seen (connected local remote rport) owners name (mine name) (λ a. refl) refl
-  done_seen (requests.Inherit parent name local remote rport) owners whole =
-      inherit_seen owners parent name local remote rport (mine name) refl whole
+  done_seen (requests.Inherit parent name mark local remote rport) owners whole =
+      inherit_seen owners parent name mark local remote rport (mine name) refl whole
   done_seen (requests.ToTimeWait name) owners whole = change_seen as_waiting owners name (mine name) (λ a. refl) refl
   done_seen (requests.Remove name) owners whole = drop_seen owners name (mine name) refl
   done_seen (requests.RemoveWaiting name) owners whole = waiting_drop_seen owners name (mine name) refl

@@ -78,7 +78,7 @@ abbrev pub brings_owner : Request → Bool
 brings_owner (requests.Bind a) = true
 brings_owner (requests.BindAuto a) = true
 brings_owner (requests.ConnectAuto a) = true
-brings_owner (requests.Inherit parent name local remote rport) = true
+brings_owner (requests.Inherit parent name mark local remote rport) = true
 brings_owner _ = false
 
 -- there is room for a call: for its entry, unless an owner goes by it, and for the owner that may come by it
@@ -126,7 +126,7 @@ IsAllowed b (requests.Listen name slot) = CanListen b name
 IsAllowed b (requests.Free port net) = Unit {0}
 IsAllowed b (requests.ConnectAuto a) = ComesByConnect b a
 IsAllowed b (requests.ConnectBound name local remote rport) = NamesOne states.Bound local name b
-IsAllowed b (requests.Inherit parent name local remote rport) = NamesOne states.Listening local parent b
+IsAllowed b (requests.Inherit parent name mark local remote rport) = NamesOne states.Listening local parent b
 IsAllowed b (requests.ToTimeWait name) = Unit {0}
 IsAllowed b (requests.Remove name) = Unit {0}
 IsAllowed b (requests.RemoveWaiting name) = Unit {0}

@@ -23,8 +23,8 @@ done_by owners (requests.Free port net) = owners
 done_by owners (requests.ConnectAuto a) = owners ++ a ∷ []
 done_by owners (requests.ConnectBound name local remote rport) =
     change_first (has_name name) (connected local remote rport) owners
-done_by owners (requests.Inherit parent name local remote rport) =
-    owners ++ option_to_list (option_map (child name local remote rport) (find (has_name parent) owners))
+done_by owners (requests.Inherit parent name mark local remote rport) =
+    owners ++ option_to_list (option_map (child name mark local remote rport) (find (has_name parent) owners))
 done_by owners (requests.ToTimeWait name) = change_first (has_name name) as_waiting owners
 done_by owners (requests.Remove name) = drop_first (has_name name) owners
 done_by owners (requests.RemoveWaiting name) = drop_first (waits_as name) owners
@@ -47,14 +47,14 @@ speaks_of mine (requests.Listen name slot) = mine name
 speaks_of mine (requests.Free port net) = false
 speaks_of mine (requests.ConnectAuto a) = mine a.name
 speaks_of mine (requests.ConnectBound name local remote rport) = mine name
-speaks_of mine (requests.Inherit parent name local remote rport) = mine name
+speaks_of mine (requests.Inherit parent name mark local remote rport) = mine name
 speaks_of mine (requests.ToTimeWait name) = mine name
 speaks_of mine (requests.Remove name) = mine name
 speaks_of mine (requests.RemoveWaiting name) = mine name
 
 -- among the names that are looked at, a child's has its parent's beside it
 abbrev pub IsWhole : (ℕ → Bool) → Request → Type 0
-IsWhole mine (requests.Inherit parent name local remote rport) = mine name ≡ true → mine parent ≡ true
+IsWhole mine (requests.Inherit parent name mark local remote rport) = mine name ≡ true → mine parent ≡ true
 IsWhole mine _ = Unit {0}
 
 abbrev pub is_mine : (ℕ → Bool) → Owner → Bool

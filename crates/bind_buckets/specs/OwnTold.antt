@@ -37,7 +37,7 @@ abbrev pub KeepsOpen : (ℕ → Bool) → Request → Type 0
 KeepsOpen mine (requests.Bind a) = mine a.name ≡ true → is_time_wait a.state ≡ false
 KeepsOpen mine (requests.BindAuto a) = mine a.name ≡ true → is_time_wait a.state ≡ false
 KeepsOpen mine (requests.ConnectAuto a) = mine a.name ≡ true → is_time_wait a.state ≡ false
-KeepsOpen mine (requests.Inherit parent name local remote rport) = mine name ≡ true → mine parent ≡ true
+KeepsOpen mine (requests.Inherit parent name mark local remote rport) = mine name ≡ true → mine parent ≡ true
 KeepsOpen mine (requests.ToTimeWait name) = mine name ≡ false
 KeepsOpen mine _ = Unit {0}
 
@@ -130,7 +130,7 @@ OwnGoesOn =
 -- a socket that a listener of the caller's own accepted stands, too
 abbrev pub OwnAccepted : Type 0
 OwnAccepted =
-    (p : Owner) (place name local remote rport : ℕ) (v w : View) → StandsOwn p place v
-    → OneAsked place (requests.Inherit p.name name local remote rport) answers.Done v w → MayName v.caller name
+    (p : Owner) (place name mark local remote rport : ℕ) (v w : View) → StandsOwn p place v
+    → OneAsked place (requests.Inherit p.name name mark local remote rport) answers.Done v w → MayName v.caller name
     → Each (λ (x : Note). is_told (λ n. n == name) x.entry ≡ false) (own_given place v)
-    → StandsOwn (child name local remote rport p) place w
+    → StandsOwn (child name mark local remote rport p) place w

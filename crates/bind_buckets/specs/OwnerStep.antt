@@ -150,8 +150,8 @@ owner_step number h (requests.Free port net) = kept h (free_answer (find (holds 
 owner_step number h (requests.ConnectAuto a) = with_owner h a
 owner_step number h (requests.ConnectBound name local remote rport) =
     named h name (λ _. changed h name (connected local remote rport) h.groups)
-owner_step number h (requests.Inherit parent name local remote rport) =
-    named h parent (λ listener. with_owner h (child name local remote rport listener))
+owner_step number h (requests.Inherit parent name mark local remote rport) =
+    named h parent (λ listener. with_owner h (child name mark local remote rport listener))
 owner_step number h (requests.ToTimeWait name) = named h name (λ _. changed h name as_waiting h.groups)
 owner_step number h (requests.Remove name) = named h name (λ _. removed h name)
 owner_step number h (requests.RemoveWaiting name) =

@@ -34,6 +34,7 @@ bound name uid reuseaddr reuseport =
       dev = 0;
       net = 0;
       uid = uid;
+      mark = 0;
       reuseaddr = reuseaddr;
       reuseport = reuseport;
       noport = false;
@@ -56,7 +57,7 @@ beside_child reuseaddr =
     takes 1 1 reuseaddr false
     ∷ requests.MayListen 1
     ∷ requests.Listen 1 7
-    ∷ requests.Inherit 1 2 0x0A000001 0x0A000002 1000
+    ∷ requests.Inherit 1 2 0 0x0A000001 0x0A000002 1000
     ∷ requests.Remove 1
     ∷ takes 3 1 reuseaddr false
     ∷ requests.MayListen 3

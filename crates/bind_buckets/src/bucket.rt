@@ -412,7 +412,7 @@ impl Bucket {
         }))
     }
 
-    /// Takes in the socket of that name, which the listener `parent`, at any address or at `local`,
+    /// Takes in the socket of that name and that mark, which the listener `parent`, at any address or at `local`,
     /// accepted there (`__inet_inherit_port`): all else is as the listener has it, its origin too.
     ///
     /// No conflict is looked for. Constant cost.
@@ -420,6 +420,7 @@ impl Bucket {
         &mut self,
         parent: u64,
         name: u64,
+        mark: u32,
         local: u32,
         remote: u32,
         rport: u16,
@@ -427,11 +428,11 @@ impl Bucket {
         requires entry { 1 ≤ self.old.entries }
         requires newcomer { 1 ≤ self.old.newcomers }
         requires listening { NamesOne State.Listening local parent self.old }
-        ensures after { self.new ≡ called self.old (Request.Inherit parent name local remote rport) }
+        ensures after { self.new ≡ called self.old (Request.Inherit parent name mark local remote rport) }
         ensures answer { answer_of_name result
-            ≡ answer_to self.old (Request.Inherit parent name local remote rport) }
+            ≡ answer_to self.old (Request.Inherit parent name mark local remote rport) }
         ensures inherited { OnOk result (IfSome (find (has_name parent) self.old.held.owners)
-            (λ listener. self.new.held ≡ with_last self.old.held (child name local remote rport listener))) }
+            (λ listener. self.new.held ≡ with_last self.old.held (child name mark local remote rport listener))) }
         ensures kept { OnErr result (self.new.held ≡ self.old.held) }
         ensures strange { KnowsOrSays parent self.old.held.owners result }
         ensures entries { self.new.entries + 1 ≡ self.old.entries }
@@ -440,6 +441,7 @@ impl Bucket {
         name_result(self.carry_out(Request::Inherit {
             parent,
             name,
+            mark,
             local,
             remote,
             rport,

@@ -119,17 +119,25 @@ impl Held {
         }
     }
 
-    fn inherit(&mut self, parent: u64, name: u64, local: u32, remote: u32, rport: u16) -> Answer
+    fn inherit(
+        &mut self,
+        parent: u64,
+        name: u64,
+        mark: u32,
+        local: u32,
+        remote: u32,
+        rport: u16,
+    ) -> Answer
         requires { 1 ≤ self.old.owners.room }
         ensures step { IsStep
             (spec.named (held_by self.old) parent
-            (λ listener. spec.with_owner (held_by self.old) (became.child name local remote rport listener)))
+            (λ listener. spec.with_owner (held_by self.old) (became.child name mark local remote rport listener)))
             self.new result }
         ensures room { IsRoomLeft self.old.owners self.new.owners }
     {
         match self.owners.named(parent).copied() {
             None => Answer::Strange(parent),
-            Some(listener) => self.admit(child(listener, name, local, remote, rport)),
+            Some(listener) => self.admit(child(listener, name, mark, local, remote, rport)),
         }
     }
 
@@ -297,10 +305,11 @@ impl Held {
             Request::Inherit {
                 parent,
                 name,
+                mark,
                 local,
                 remote,
                 rport,
-            } => self.inherit(parent, name, local, remote, rport),
+            } => self.inherit(parent, name, mark, local, remote, rport),
             Request::ToTimeWait { name } => self.to_time_wait(name),
             Request::Remove { name } => self.remove(name),
             Request::RemoveWaiting { name } => self.remove_waiting(name),

@@ -38,10 +38,11 @@ pub enum Request {
         remote: u32,
         rport: u16,
     },
-    /// Takes in the socket of that name, which the listener `parent` accepted.
+    /// Takes in the socket of that name and that mark, which the listener `parent` accepted.
     Inherit {
         parent: u64,
         name: u64,
+        mark: u32,
         local: u32,
         remote: u32,
         rport: u16,

@@ -355,6 +355,7 @@ pub fn inherit(
     turn: &mut Turn<Box<Bucket>>,
     parent: u64,
     name: u64,
+    mark: u32,
     local: u32,
     remote: u32,
     rport: u16,
@@ -366,7 +367,7 @@ pub fn inherit(
     requires entry { 1 ≤ turn.old.value.value.entries }
     requires newcomer { 1 ≤ turn.old.value.value.newcomers }
     requires listening { NamesOne State.Listening local parent turn.old.value.value }
-    ensures asks { Asks turns.now pass.old turn.old pass.new turn.new (Request.Inherit parent name local remote rport)
+    ensures asks { Asks turns.now pass.old turn.old pass.new turn.new (Request.Inherit parent name mark local remote rport)
         (answer_of_name result) }
     ensures strange { KnowsOrSays parent turn.old.value.value.held.owners result }
     ensures entries { turn.new.value.value.entries + 1 ≡ turn.old.value.value.entries }
@@ -375,6 +376,7 @@ pub fn inherit(
     let request = Request::Inherit {
         parent,
         name,
+        mark,
         local,
         remote,
         rport,

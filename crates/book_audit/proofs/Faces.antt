@@ -43,13 +43,13 @@ module _ (stays : List Stay) (look : PrintedLook) (least : ℕ) (low : 0 < least
   connected_is : (c : Card) (d : ℕ) → has_tuple c P ≡ true → c.dev ≡ d → face_as kinds.Full c ≡ connected_face P d
   connected_is c d e q =
       let t : PartsAgree (tuple_of c) (packet_tuple P) = parts_agree (tuple_of c) (packet_tuple P) e in
-      λ i. record { local = t.local i; lport = t.lport i; remote = t.remote i; rport = t.rport i; dev = q i; net = t.net i; kind = kinds.Full; name = 0; extra = 0 }
+      λ i. record { local = t.local i; lport = t.lport i; remote = t.remote i; rport = t.rport i; dev = q i; net = t.net i; kind = kinds.Full; name = 0; extra = 0; mark = 0 }
 
   listening_is : (c : Card) (a d : ℕ) → c.kind ≡ kinds.Listen → takes_port c P ≡ true → c.local ≡ a → c.dev ≡ d → face_as kinds.Listen c ≡ listening_face P a d
   listening_is c a d k e p q =
       let n : c.net ≡ P.net = eqb-true c.net P.net (and_left (c.net == P.net) (c.lport == P.dport) e) in
       let t : c.lport ≡ P.dport = eqb-true c.lport P.dport (and_right (c.net == P.net) (c.lport == P.dport) e) in
-      λ i. record { local = p i; lport = t i; remote = 0; rport = 0; dev = q i; net = n i; kind = k i; name = 0; extra = 0 }
+      λ i. record { local = p i; lport = t i; remote = 0; rport = 0; dev = q i; net = n i; kind = k i; name = 0; extra = 0; mark = 0 }
 
   module _ (plain : GoneFrom 5 (connected_face P 0)) (here : GoneFrom 5 (connected_face P P.dev)) (exact_here : (P.dev == 0) ≡ false → GoneFrom 4 (listening_face P P.dst P.dev)) (exact : GoneFrom 3 (listening_face P P.dst 0)) (any_here : (P.dev == 0) ≡ false → GoneFrom 2 (listening_face P 0 P.dev)) (any : GoneFrom 1 (listening_face P 0 0)) where
     by_tuple : (c : Card) (b : Bool) → (has_tuple c P && takes_device c P) ≡ b → least ≤ (if b then 5 else 0) → GoneAt stays look (face_as kinds.Full c)

@@ -21,8 +21,8 @@ use Rattle.book_audit.specs.Stays.{is_below, begin_of}
 -- what lookups compare of a card: of a connected socket or a request its four-tuple and device, of a listener its own
 -- end and device
 abbrev pub face_as : Kind → Card → Card
-face_as kinds.Listen c = record c { remote = 0; rport = 0; name = 0; extra = 0 }
-face_as _ c = record c { kind = kinds.Full; name = 0; extra = 0 }
+face_as kinds.Listen c = record c { remote = 0; rport = 0; name = 0; extra = 0; mark = 0 }
+face_as _ c = record c { kind = kinds.Full; name = 0; extra = 0; mark = 0 }
 
 abbrev pub face : Card → Card
 face c = face_as c.kind c
@@ -39,6 +39,7 @@ connected_face p dev = record {
   kind = kinds.Full;
   name = 0;
   extra = 0;
+  mark = 0;
 }
 
 -- a listener that takes it, at that address and with that device
@@ -53,6 +54,7 @@ listening_face p local dev = record {
   kind = kinds.Listen;
   name = 0;
   extra = 0;
+  mark = 0;
 }
 
 -- the life among those of its card's face, once it is in and until it is on its way out

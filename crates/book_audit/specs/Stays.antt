@@ -69,7 +69,7 @@ begin_of (Some s) = Some s.begin
 
 -- a full card of the same four-tuple that says no more
 abbrev pub bare : Card → Card
-bare c = record c { dev = 0; kind = kinds.Full; name = 0; extra = 0 }
+bare c = record c { dev = 0; kind = kinds.Full; name = 0; extra = 0; mark = 0 }
 
 -- the words that a four-tuple makes
 abbrev pub tuple_words : Card → CardWords

@@ -124,6 +124,7 @@ fn tuple_words(card: &Card) -> CardWords
         kind: Kind::Full,
         name: 0,
         extra: 0,
+        mark: 0,
         ..*card
     })
 }

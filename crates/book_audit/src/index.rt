@@ -57,12 +57,14 @@ fn face(card: &Card) -> Card
             rport: 0,
             name: 0,
             extra: 0,
+            mark: 0,
             ..*card
         },
         Kind::Full | Kind::TimeWait | Kind::Request => Card {
             kind: Kind::Full,
             name: 0,
             extra: 0,
+            mark: 0,
             ..*card
         },
     }
@@ -182,6 +184,7 @@ fn connected(packet: &Packet, dev: u16) -> Card
         kind: Kind::Full,
         name: 0,
         extra: 0,
+        mark: 0,
     }
 }
 
@@ -198,6 +201,7 @@ fn listening(packet: &Packet, local: u32, dev: u16) -> Card
         kind: Kind::Listen,
         name: 0,
         extra: 0,
+        mark: 0,
     }
 }
 

@@ -15,8 +15,8 @@ use null_reader::answers::Look;
 use null_reader::{LookEnd, Pace, PassEnd, look};
 use nulls_chain::{Halt, Place, hash_with, unhash_tw, unhash_with, walk, walk_to_end};
 use patience::Waits;
-use shared_slots::{Full, claim, put, write_card};
 use sock_card::{Card, Packet, pack};
+use sock_slots::{Full, claim, put, write_card};
 use std::sync::Wait;
 use table_rule::{Chains, Pass, Steps};
 

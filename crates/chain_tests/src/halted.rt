@@ -36,6 +36,7 @@ const CARD: Card = Card {
     kind: Kind::Listen,
     name: 1,
     extra: 0,
+    mark: 0,
 };
 
 const PACKET: Packet = Packet {

@@ -13,9 +13,9 @@ ghost use Rattle.table_rule.specs.Words.{bucket_count};
 
 use bucket_locks::{lock, unlock};
 use chain_book::{Replace, Shape, home};
+use established::{InsertEnd, Newcomer, hand_over, insert, remove, time_wait};
 use nulls_chain::Place;
 use patience::{Tries, Waits};
-use shared_sockets::{InsertEnd, Newcomer, hand_over, insert, remove, time_wait};
 use sock_card::{Card, Kind};
 use std::alloc::Global;
 use std::process::Abort;
@@ -40,6 +40,7 @@ const FULL: Card = Card {
     kind: Kind::Full,
     name: 1,
     extra: 0,
+    mark: 0,
 };
 
 const WAITING: Card = Card {
@@ -52,6 +53,7 @@ const WAITING: Card = Card {
     kind: Kind::TimeWait,
     name: 1,
     extra: 5,
+    mark: 0,
 };
 
 const REQUEST: Card = Card {
@@ -64,6 +66,7 @@ const REQUEST: Card = Card {
     kind: Kind::Request,
     name: 2,
     extra: 0,
+    mark: 0,
 };
 
 /// What became of a newcomer: 0 where its four-tuple is kept from it, 1 where it came, 2 where a TIME_WAIT gave way to

@@ -13,7 +13,7 @@ use bucket_locks::{Locked, lock, unlock};
 use chain_book::{Shape, home};
 use nulls_chain::{hash, walk};
 use patience::Waits;
-use shared_dump::dump_sockets;
+use race_run::chain_dump::dump_sockets;
 use sock_card::{Card, Kind};
 use std::process::Abort;
 use std::sync::Wait;
@@ -37,6 +37,7 @@ const CARD: Card = Card {
     kind: Kind::Listen,
     name: 1,
     extra: 0,
+    mark: 0,
 };
 
 // Hashes the card into the chain, which is empty: whether a slot was free.

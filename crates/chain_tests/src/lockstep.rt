@@ -86,6 +86,7 @@ fn listener(lport: u16, dev: u16, name: u64) -> Card
         kind: Kind::Listen,
         name,
         extra: 0,
+        mark: 0,
     }
 }
 

@@ -70,6 +70,7 @@ fn waiting(rport: u16, name: u64) -> Card
         kind: Kind::TimeWait,
         name,
         extra: 0,
+        mark: 0,
     }
 }
 
@@ -90,6 +91,7 @@ fn card_of(socket: Socket) -> Card
             kind: Kind::Listen,
             name: 4,
             extra: 0,
+            mark: 0,
         },
     }
 }

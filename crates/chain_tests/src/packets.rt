@@ -3,13 +3,13 @@
 ghost use Rattle.std.specs.Prelude.{◌≡◌, ◌<◌, []};
 ghost use Rattle.null_reader.specs.Looked.{HasTwo};
 ghost use Rattle.reuseport_group.specs.Passes as group_words;
-ghost use Rattle.shared_finds.specs.Homes.{IsLaidOut};
+ghost use Rattle.established.specs.Homes.{IsLaidOut};
 ghost use Rattle.table_rule.specs.Passes.{IsPassOf, known};
 
 use chain_book::{PacketAnswer, PacketLook, Shape};
+use demux::{Lookups, look_packet};
 use null_reader::{Pace, Point};
 use reuseport_group::{GroupPasses, Groups};
-use shared_demux::{Lookups, look_packet};
 use sock_card::Packet;
 use std::process::Abort;
 use std::test::Fail;

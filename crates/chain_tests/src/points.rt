@@ -40,6 +40,7 @@ const EXACT: Card = Card {
     kind: Kind::Listen,
     name: 1,
     extra: 0,
+    mark: 0,
 };
 
 /// One at any address, of a lower rank, which comes second and takes slot 1, so that a walk meets it first.
@@ -53,6 +54,7 @@ const ANY: Card = Card {
     kind: Kind::Listen,
     name: 2,
     extra: 0,
+    mark: 0,
 };
 
 const PACKET: Packet = Packet {

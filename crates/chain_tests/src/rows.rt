@@ -3,7 +3,7 @@
 ghost use Rattle.std.specs.Prelude.{◌≡◌, ◌+◌, ◌<◌, ◌≤◌, ◌^◌, ℕ, length, IfSome};
 ghost use Rattle.chain_book.specs.Homes.{home};
 ghost use Rattle.reuseport_group.specs.Passes as group_words;
-ghost use Rattle.shared_finds.specs.Homes.{IsLaidOut};
+ghost use Rattle.established.specs.Homes.{IsLaidOut};
 ghost use Rattle.sock_card.specs.declared.card.Kind.TheVariants as kinds;
 ghost use Rattle.table_rule.specs.Calls.{IsOf, view, layout_of};
 ghost use Rattle.table_rule.specs.Words.{bucket_count};
@@ -11,12 +11,13 @@ ghost use Rattle.chain_tests.specs.Ready.{IsReady, CanLook, CanUnhash};
 
 use crate::sockets::{close, shut};
 use chain_book::{PacketAnswer, Replace, Shape, home};
+use demux::{Lookups, look_packet};
+use established::{InsertEnd, Newcomer, insert, remove_tw};
+use listeners::add;
 use null_reader::Still;
 use nulls_chain::Place;
 use patience::Waits;
 use reuseport_group::{GroupPasses, Groups, member_of};
-use shared_demux::{Lookups, look_packet};
-use shared_sockets::{InsertEnd, Newcomer, add, insert, remove_tw};
 use sock_card::{Card, Kind, Packet};
 use std::sync::Wait;
 use std::test::Fail;
@@ -54,6 +55,7 @@ fn connected(rport: u16, name: u64) -> Card
         kind: Kind::Full,
         name,
         extra: 0,
+        mark: 0,
     }
 }
 
@@ -64,6 +66,7 @@ fn waiting(rport: u16, name: u64, since: u32) -> Card
     Card {
         kind: Kind::TimeWait,
         extra: since,
+        mark: 0,
         ..connected(rport, name)
     }
 }
@@ -82,6 +85,7 @@ fn listening(local: u32, dev: u16, name: u64, extra: u32) -> Card
         kind: Kind::Listen,
         name,
         extra,
+        mark: 0,
     }
 }
 

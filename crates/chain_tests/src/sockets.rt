@@ -14,11 +14,12 @@ use crate::judge::{Done, Looked, gather, unexplained};
 use crate::pause::{Course, Pause, course_of, meet};
 use bucket_locks::lock;
 use chain_book::{Replace, Shape, home};
+use demux::{Lookups, look_packet};
+use established::{Newcomer, insert, remove, remove_tw, time_wait};
+use listeners::add;
 use nulls_chain::Place;
 use patience::Waits;
 use reuseport_group::{GroupPasses, Groups};
-use shared_demux::{Lookups, look_packet};
-use shared_sockets::{Newcomer, add, insert, remove, remove_tw, time_wait};
 use sock_card::{Card, Kind, Packet};
 use std::alloc::{AllocError, Global};
 use std::process::Abort;
@@ -67,6 +68,7 @@ fn connected(name: u64) -> Card
         kind: Kind::Full,
         name,
         extra: 0,
+        mark: 0,
     }
 }
 
@@ -84,6 +86,7 @@ fn waiting(name: u64) -> Card
         kind: Kind::TimeWait,
         name,
         extra: 0,
+        mark: 0,
     }
 }
 
@@ -101,6 +104,7 @@ fn listening(name: u64) -> Card
         kind: Kind::Listen,
         name,
         extra: 0,
+        mark: 0,
     }
 }
 

@@ -15,8 +15,8 @@ use crate::pause::{Course, Pause, course_of, meet};
 use chain_book::{PacketAnswer, PacketLook, PassEnd as End, Shape, home, listen_home, packet_home};
 use null_reader::answers::Look;
 use null_reader::{LookEnd, PassEnd, look};
-use shared_slots::put;
 use sock_card::{Card, Kind, Packet};
+use sock_slots::put;
 use std::alloc::{AllocError, Global};
 use std::process::Abort;
 use std::sync::Wait;
@@ -65,6 +65,7 @@ fn waiting(rport: u16, name: u64) -> Card
         kind: Kind::TimeWait,
         name,
         extra: 0,
+        mark: 0,
     }
 }
 
@@ -83,6 +84,7 @@ fn listening(dev: u16, name: u64) -> Card
         kind: Kind::Listen,
         name,
         extra: 0,
+        mark: 0,
     }
 }
 

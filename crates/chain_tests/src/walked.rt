@@ -37,6 +37,7 @@ const EARLIER: Card = Card {
     kind: Kind::TimeWait,
     name: 1,
     extra: 0,
+    mark: 0,
 };
 
 /// and one that comes after it.
@@ -50,6 +51,7 @@ const LATER: Card = Card {
     kind: Kind::TimeWait,
     name: 2,
     extra: 0,
+    mark: 0,
 };
 
 /// Hashes the two cards, and takes the earlier one out: the names in the chain before that and after it.

@@ -36,6 +36,7 @@ const CARD: Card = Card {
     kind: Kind::Listen,
     name: 1,
     extra: 0,
+    mark: 0,
 };
 
 // Hashes the card into the chain, which is empty, and unhashes it: the slot that it had.

@@ -98,13 +98,13 @@ abbrev pub connect : Flat → ℕ → Option Socket → Option ℕ → End → O
 connect flat n None from to = unchanged flat replies.Ebadf
 connect flat n (Some s) from to = connect_socket flat n s s.owner.state from to
 
--- the socket of that name which a listener accepts
+-- the socket of that name which a listener accepts; commands of a script give no marks
 abbrev pub child_of : Socket → ℕ → End → End → Socket
-child_of l name from at = record { owner = child_owner l.owner name from at; stamp = 0; named = true }
+child_of l name from at = record { owner = child_owner l.owner name 0 from at; stamp = 0; named = true }
 
 -- the request of that name for a handshake with a listener
 abbrev pub request_of : Socket → ℕ → End → End → Socket
-request_of l name from at = record { owner = request_owner l.owner name from at; stamp = 0; named = true }
+request_of l name from at = record { owner = request_owner l.owner name 0 from at; stamp = 0; named = true }
 
 -- the newcomer comes beside its listener, and in the place of a TIME_WAIT of its four-tuple; no conflict of owners is
 -- looked for
@@ -130,7 +130,7 @@ syn flat name (Some l) from at =
 
 -- the socket of that name which a request's listener accepts when its handshake is over
 abbrev pub heir_of : Socket → ℕ → Socket → Socket
-heir_of l name r = record { owner = heir_owner l.owner name r.owner; stamp = 0; named = true }
+heir_of l name r = record { owner = heir_owner l.owner name 0 r.owner; stamp = 0; named = true }
 
 -- the list without the request
 abbrev pub without_request : Flat → Socket → Flat

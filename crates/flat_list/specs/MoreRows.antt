@@ -53,6 +53,7 @@ found_on kind name end remote dev stamp =
       kind = kind;
       name = name;
       extra = stamp;
+      mark = 0;
     }))
 
 -- a socket that listens in a group of its own port
@@ -369,6 +370,7 @@ found_in net kind name end remote =
       kind = kind;
       name = name;
       extra = 0;
+      mark = 0;
     }))
 
 -- sockets meet, and packets find them, in one namespace alone; an accepted socket and a TIME_WAIT are in that of the

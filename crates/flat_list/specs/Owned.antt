@@ -17,9 +17,9 @@ use Rattle.flat_list.specs.declared.command.End.{End}
 use Rattle.flat_list.specs.declared.command.Query.{Query}
 use Rattle.flat_list.specs.declared.owned.Options.{Options}
 
--- as `socket` makes it: without an end, its origin its own name
-abbrev pub new_owner : ℕ → Options → Owner
-new_owner name options =
+-- as `socket` makes it, of that name and with that mark: without an end, its origin its own name
+abbrev pub new_owner : ℕ → ℕ → Options → Owner
+new_owner name mark options =
     record {
       name = name;
       origin = name;
@@ -30,6 +30,7 @@ new_owner name options =
       dev = unwrap_or options.dev 0;
       net = unwrap_or options.net 0;
       uid = unwrap_or options.uid 0;
+      mark = mark;
       reuseaddr = options.reuseaddr;
       reuseport = options.reuseport;
       noport = options.noport;
@@ -53,15 +54,15 @@ connected_to a source to = connected source to.addr to.port a
 abbrev pub connected_at : Owner → ℕ → ℕ → End → Owner
 connected_at a source port to = record (connected_to a source to) { port = port; by_connect = true }
 
--- the socket of that name which a listener accepts from one end at another: full,
+-- the socket of that name, with that mark, which a listener accepts from one end at another: full,
 -- and all else as the listener has it, its origin too
-abbrev pub child_owner : Owner → ℕ → End → End → Owner
-child_owner l name from at = child name at.addr from.addr from.port l
+abbrev pub child_owner : Owner → ℕ → ℕ → End → End → Owner
+child_owner l name mark from at = child name mark at.addr from.addr from.port l
 
--- the request of that name for a handshake with a listener from one end at another: as the child would be,
--- but that it isn't full
-abbrev pub request_owner : Owner → ℕ → End → End → Owner
-request_owner l name from at = as_request (child_owner l name from at)
+-- the request of that name, with that mark, for a handshake with a listener from one end at another: as the child
+-- would be, but that it isn't full
+abbrev pub request_owner : Owner → ℕ → ℕ → End → End → Owner
+request_owner l name mark from at = as_request (child_owner l name mark from at)
 
 -- the source of `connect` for a socket bound to addr, or to none where that is 0.0.0.0: that address, or where it is
 -- 0.0.0.0 the one named; none where none is named, or another than the bound one
@@ -87,15 +88,16 @@ own_end a = record { addr = a.addr; port = a.port }
 abbrev pub other_end : Owner → End
 other_end a = record { addr = a.remote; port = a.rport }
 
--- the socket of that name which a listener accepts when a request's handshake is over: at the request's ends
-abbrev pub heir_owner : Owner → ℕ → Owner → Owner
-heir_owner l name r = child_owner l name (other_end r) (own_end r)
+-- the socket of that name, with that mark, which a listener accepts when a request's handshake is over: at the
+-- request's ends
+abbrev pub heir_owner : Owner → ℕ → ℕ → Owner → Owner
+heir_owner l name mark r = child_owner l name mark (other_end r) (own_end r)
 
 -- this is no listener, or none that could accept at the request's ends in its namespace
 abbrev pub is_no_ack : Owner → Owner → Bool
 is_no_ack l r = is_no_accept l (other_end r) (own_end r) || not (l.net == r.net)
 
--- the card of that kind under which lookups see it
+-- the card of that kind under which lookups see it, with its mark
 abbrev pub card_as : Kind → Owner → ℕ → Card
 card_as kind a extra =
     record {
@@ -108,6 +110,7 @@ card_as kind a extra =
       kind = kind;
       name = a.name;
       extra = extra;
+      mark = a.mark;
     }
 
 -- the packet that the words of `look` describe

@@ -160,6 +160,7 @@ found kind name end remote =
       kind = kind;
       name = name;
       extra = 0;
+      mark = 0;
     }))
 
 abbrev pub nowhere : End
@@ -178,6 +179,7 @@ found_in_group name end dev number =
       kind = kinds.Listen;
       name = name;
       extra = number + 1;
+      mark = 0;
     }))
 
 -- a packet from an end to another, that comes in by a device, or by none

@@ -29,9 +29,9 @@ use Rattle.flat_list.specs.Owned.{new_owner, addressed, bound_at, packet_asked}
 use Rattle.flat_list.specs.Sections.{next_name, moment_of, with_moment}
 use Rattle.flat_list.specs.Sockets.{is_refused, is_overlapped, mate_of, is_expired}
 
--- a socket as `socket` makes it
+-- a socket as `socket` makes it; a command of a script gives no mark
 abbrev pub new_socket : ℕ → Options → Socket
-new_socket name options = record { owner = new_owner name options; stamp = 0; named = true }
+new_socket name options = record { owner = new_owner name 0 options; stamp = 0; named = true }
 
 -- `socket`: one more socket, and one more label in the section
 abbrev pub socket : Flat → ℕ → List ℕ → Options → Outcome

@@ -18,9 +18,9 @@ pub struct Options {
     pub noport: bool,
 }
 
-/// The owner that `socket` makes: without an end, and its origin its own name.
-pub fn new_owner(name: u64, options: Options) -> Owner
-    ensures { result ≡ spec.new_owner name options }
+/// The owner that `socket` makes, with that mark: without an end, and its origin its own name.
+pub fn new_owner(name: u64, mark: u32, options: Options) -> Owner
+    ensures { result ≡ spec.new_owner name mark options }
 {
     Owner {
         name,
@@ -32,6 +32,7 @@ pub fn new_owner(name: u64, options: Options) -> Owner
         dev: options.dev.unwrap_or(0),
         net: options.net.unwrap_or(0),
         uid: options.uid.unwrap_or(0),
+        mark,
         reuseaddr: options.reuseaddr,
         reuseport: options.reuseport,
         noport: options.noport,
@@ -82,21 +83,21 @@ pub fn connected_at(owner: Owner, source: u32, port: u16, to: End) -> Owner
     }
 }
 
-/// The owner of that name which a listener accepts from one end at another.
+/// The owner of that name, with that mark, which a listener accepts from one end at another.
 ///
 /// It keeps the listener's port, origin, device, namespace, user and options.
-pub fn child_owner(listener: Owner, name: u64, from: End, at: End) -> Owner
-    ensures { result ≡ spec.child_owner listener name from at }
+pub fn child_owner(listener: Owner, name: u64, mark: u32, from: End, at: End) -> Owner
+    ensures { result ≡ spec.child_owner listener name mark from at }
 {
-    child(listener, name, at.addr, from.addr, from.port)
+    child(listener, name, mark, at.addr, from.addr, from.port)
 }
 
-/// The request of that name for a handshake with a listener from one end at another: what the child would be,
-/// but that it isn't full.
-pub fn request_owner(listener: Owner, name: u64, from: End, at: End) -> Owner
-    ensures { result ≡ spec.request_owner listener name from at }
+/// The request of that name, with that mark, for a handshake with a listener from one end at another: what the child
+/// would be, but that it isn't full.
+pub fn request_owner(listener: Owner, name: u64, mark: u32, from: End, at: End) -> Owner
+    ensures { result ≡ spec.request_owner listener name mark from at }
 {
-    as_request(child_owner(listener, name, from, at))
+    as_request(child_owner(listener, name, mark, from, at))
 }
 
 /// The source that `connect` takes for a socket bound to `addr`, 0.0.0.0 if it is bound to none, if it can take one.
@@ -150,11 +151,12 @@ pub fn other_end(owner: &Owner) -> End
     }
 }
 
-/// The owner of that name which a listener accepts when the handshake of a request is over, at the request's ends.
-pub fn heir_owner(listener: Owner, name: u64, request: &Owner) -> Owner
-    ensures { result ≡ spec.heir_owner listener name request.now }
+/// The owner of that name, with that mark, which a listener accepts when the handshake of a request is over, at the
+/// request's ends.
+pub fn heir_owner(listener: Owner, name: u64, mark: u32, request: &Owner) -> Owner
+    ensures { result ≡ spec.heir_owner listener name mark request.now }
 {
-    child_owner(listener, name, other_end(request), own_end(request))
+    child_owner(listener, name, mark, other_end(request), own_end(request))
 }
 
 /// Whether this is no listener, or none that could accept at the request's ends in its namespace.
@@ -164,7 +166,7 @@ pub fn is_no_ack(listener: &Owner, request: &Owner) -> bool
     is_no_accept(listener, other_end(request), own_end(request)) || listener.net != request.net
 }
 
-/// The card of that kind under which lookups see the owner.
+/// The card of that kind under which lookups see the owner, with its mark.
 ///
 /// `extra` is a listener's group and 1, the stamp of a TIME_WAIT, else 0.
 pub fn card_as(kind: Kind, owner: &Owner, extra: u32) -> Card
@@ -180,6 +182,7 @@ pub fn card_as(kind: Kind, owner: &Owner, extra: u32) -> Card
         kind,
         name: owner.name,
         extra,
+        mark: owner.mark,
     }
 }
 

@@ -20,7 +20,7 @@ pub fn new_socket(name: u64, options: Options) -> Socket
     ensures { result ≡ spec.new_socket name options }
 {
     Socket {
-        owner: owned::new_owner(name, options),
+        owner: owned::new_owner(name, 0, options),
         stamp: 0,
         named: true,
     }
@@ -88,7 +88,7 @@ pub fn child_of(listener: Socket, name: u64, from: End, at: End) -> Socket
     ensures { result ≡ connect_spec.child_of listener name from at }
 {
     Socket {
-        owner: owned::child_owner(listener.owner, name, from, at),
+        owner: owned::child_owner(listener.owner, name, 0, from, at),
         stamp: 0,
         named: true,
     }
@@ -99,7 +99,7 @@ pub fn request_of(listener: Socket, name: u64, from: End, at: End) -> Socket
     ensures { result ≡ connect_spec.request_of listener name from at }
 {
     Socket {
-        owner: owned::request_owner(listener.owner, name, from, at),
+        owner: owned::request_owner(listener.owner, name, 0, from, at),
         stamp: 0,
         named: true,
     }
@@ -110,7 +110,7 @@ pub fn heir_of(listener: Socket, name: u64, request: &Socket) -> Socket
     ensures { result ≡ connect_spec.heir_of listener name request.now }
 {
     Socket {
-        owner: owned::heir_owner(listener.owner, name, &request.owner),
+        owner: owned::heir_owner(listener.owner, name, 0, &request.owner),
         stamp: 0,
         named: true,
     }

@@ -22,9 +22,9 @@ use Rattle.shared_calls.specs.contracts.caller.Caller as Caller
 use Rattle.shared_calls.specs.contracts.limited.Limited as Limited
 use Rattle.shared_calls.specs.contracts.looker.Looker as Looker
 use Rattle.shared_calls.specs.contracts.tables.SharedTables as SharedTables
-use Rattle.shared_ops.proofs.Crossing.{bucket_send, tables_sync}
-use Rattle.shared_ops.proofs.sock.Sock.TheSendSync as sock
-use Rattle.shared_ops.specs.contracts.tables.Tables as Tables
+use Rattle.sock_ops.proofs.Crossing.{bucket_send, tables_sync}
+use Rattle.sock_ops.proofs.sock.Sock.TheSendSync as sock
+use Rattle.sock_ops.specs.contracts.tables.Tables as Tables
 
 tables_send : IsSend Tables.the_row
 tables_send = search (shared.the_send, lease.the_send, bucket_send, crosses, knot.crosses, sendable) depth 60 fits 400000

@@ -1,10 +1,9 @@
 -- What tables are made of, and what comes of it. Our own.
-use Rattle.std.specs.Prelude.{◌≡◌, ◌≢◌, ℤ, pos, ◌%◌, ◌^◌, ◌<◌, ◌≤◌, Option, None, Some}
+use Rattle.std.specs.Prelude.{◌≡◌, ◌≢◌, ℕ, ℤ, pos, ◌%◌, ◌^◌, ◌<◌, ◌≤◌, Option, None, Some, if◌then◌else◌}
 use Rattle.chain_book.specs.Shapes.{IsPowerTo}
 use Rattle.chain_book.specs.declared.shape.Shape.{Shape}
 use Rattle.flat_list.specs.declared.header.Header.{Header}
 use Rattle.flat_list.specs.declared.header.Range.{Range}
-use Rattle.flat_list.specs.declared.header.TheConstants.{NONE_RESERVED}
 use Rattle.flat_list.specs.Flat.{new_flat}
 use Rattle.flat_list.specs.Ports.{size}
 use Rattle.flat_calls.specs.Calls.{Numbered}
@@ -15,14 +14,18 @@ use Rattle.inet_c.specs.declared.sizes.InetSizes.{InetSizes}
 use Rattle.inet_c.specs.declared.making.Making.{Making}
 use Rattle.inet_c.specs.declared.making.Making.TheVariants as makings
 
--- the header of a script that names these sizes, reserves no port and names no offset
+-- where each search begins, if that is fixed
+abbrev pub offset_of : InetSizes → Option ℕ
+offset_of sizes = if sizes.has_offset then Some sizes.offset else None
+
+-- the header of a script that names these sizes
 abbrev pub header_of : InetSizes → Header
 header_of sizes =
     record {
       shape = record { slots = sizes.slots; bind = sizes.bind; hash = sizes.hash; listen = sizes.listen };
-      range = record { low = sizes.low; high = sizes.high; reserved = NONE_RESERVED };
+      range = record { low = sizes.low; high = sizes.high; reserved = record { ports = sizes.reserved; count = sizes.reserved_count } };
       seed = sizes.seed;
-      offset = None;
+      offset = offset_of sizes;
       twreuse = sizes.twreuse;
     }
 
@@ -39,9 +42,10 @@ pub record CallersShape (shape : Shape) : Type 0 where
   pub hash : IsPowerTo (2 ^ 24) shape.hash
   pub listen : IsPowerTo (2 ^ 20) shape.listen
 
--- the sizes that tables may have, in the struct of this version, which is 32 bytes long
+-- the sizes that tables may have, in the struct of this version, which is 164 bytes long; 64 ports at most are reserved
 pub record SizesFit (sizes : InetSizes) : Type 0 where
-  pub size : sizes.size ≡ 32
+  pub size : sizes.size ≡ 164
+  pub reserved : sizes.reserved_count ≤ 64
   pub shape : CallersShape (header_of sizes).shape
   pub range : PortsFit (header_of sizes).range
 

@@ -1,5 +1,5 @@
 -- What a lookup through a handle reports. Our own.
-use Rattle.std.specs.Prelude.{◌≡◌, ℤ, pos, ◌/◌, ◌%◌, ◌^◌, Option, None, Some}
+use Rattle.std.specs.Prelude.{◌≡◌, ℕ, ℤ, pos, ◌/◌, ◌%◌, ◌^◌, Option, None, Some}
 use Rattle.sock_card.specs.declared.card.Packet.{Packet}
 use Rattle.chain_book.specs.declared.book.PacketAnswer.{PacketAnswer}
 use Rattle.chain_book.specs.declared.book.PacketAnswer.TheVariants as answers
@@ -7,7 +7,7 @@ use Rattle.chain_book.specs.declared.book.PacketLook.{PacketLook}
 use Rattle.flat_calls.specs.Calls.{Numbered}
 use Rattle.flat_calls.specs.Sights.{Finds, kind_of}
 use Rattle.flat_calls.specs.declared.sight.Sight.{Sight}
-use Rattle.shared_calls.specs.Lookings.{Looking, Looks}
+use Rattle.shared_calls.specs.Lookings.{Looking, LooksAfter}
 use Rattle.inet_c.specs.declared.errno.TheConstants.{EAGAIN, EBADF}
 use Rattle.inet_c.specs.declared.seen.InetSight.{InetSight}
 
@@ -31,6 +31,15 @@ abbrev pub errno_by : PacketAnswer → ℤ
 errno_by (answers.Again bucket stop) = EAGAIN
 errno_by _ = pos 0
 
+-- so of a lookup; one that began too early says nothing, by EAGAIN
+abbrev pub told_of : Option PacketLook → InetSight
+told_of None = nobody
+told_of (Some look) = told_by look.end
+
+abbrev pub errno_of : Option PacketLook → ℤ
+errno_of None = EAGAIN
+errno_of (Some look) = errno_by look.end
+
 -- the list finds so
 pub record FindsAs (tables : Numbered) (packet : Packet) (sight : InetSight) : Type 0 where
   pub found : Option Sight
@@ -42,15 +51,15 @@ abbrev pub ListLooks : Option Numbered → Packet → InetSight → (errno : ℤ
 ListLooks None packet sight errno = (sight ≡ nobody) × (errno ≡ EBADF)
 ListLooks (Some tables) packet sight errno = FindsAs tables packet sight × (errno ≡ pos 0)
 
--- a looker looked so, in 16 passes through a chain at most
-pub record LooksAs (old new : Looking) (packet : Packet) (sight : InetSight) (errno : ℤ) : Type 0 where
-  pub look : PacketLook
-  pub looks : Looks old new packet 16 look
-  pub sight_is : sight ≡ told_by look.end
-  pub errno_is : errno ≡ errno_by look.end
+-- a looker looked so, in 16 passes through a chain at most, once the clock was at that number
+pub record LooksAs (old new : Looking) (packet : Packet) (after : ℕ) (sight : InetSight) (errno : ℤ) : Type 0 where
+  pub found : Option PacketLook
+  pub looks : LooksAfter old new packet 16 after found
+  pub sight_is : sight ≡ told_of found
+  pub errno_is : errno ≡ errno_of found
 
 -- a looker answers so; a handle that holds none finds nothing, and says so by EBADF
-abbrev pub LookerLooks : Option Looking → Option Looking → Packet → InetSight → (errno : ℤ) → Type 0
-LookerLooks None new packet sight errno = (new ≡ None) × (sight ≡ nobody) × (errno ≡ EBADF)
-LookerLooks (Some old) None packet sight errno = ⊥
-LookerLooks (Some old) (Some new) packet sight errno = LooksAs old new packet sight errno
+abbrev pub LookerLooks : Option Looking → Option Looking → Packet → (after : ℕ) → InetSight → (errno : ℤ) → Type 0
+LookerLooks None new packet after sight errno = (new ≡ None) × (sight ≡ nobody) × (errno ≡ EBADF)
+LookerLooks (Some old) None packet after sight errno = ⊥
+LookerLooks (Some old) (Some new) packet after sight errno = LooksAs old new packet after sight errno

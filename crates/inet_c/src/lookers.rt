@@ -40,7 +40,8 @@ pub extern "C" fn inet_looker_free(looker: &mut InetLooker, alloc: Global)
 }
 
 /// Which socket takes a packet from `src` and `sport` to `dst` and `dport` that came in at device `dev` in network
-/// namespace `net`.
+/// namespace `net`. EAGAIN where others changed a chain at each pass, or where the lookup began before the clock was at
+/// `after`.
 #[unsafe(no_mangle)]
 pub extern "C" fn inet_looker_look(
     looker: &mut InetLooker,
@@ -51,12 +52,13 @@ pub extern "C" fn inet_looker_look(
     dport: u16,
     dev: u16,
     net: u8,
+    after: u64,
     sight: &mut InetSight,
 ) -> i32
     ensures unfit { (IsNamespace net → ⊥)
         → (result ≡ EINVAL) × (sight.new ≡ nobody) × (looker.new.boxed ≡ looker.old.boxed) }
     ensures looks { IsNamespace net → LookerLooks (held looker.old.boxed) (held looker.new.boxed)
-        (record { src = src; sport = sport; dst = dst; dport = dport; dev = dev; net = net }) sight.new result }
+        (record { src = src; sport = sport; dst = dst; dport = dport; dev = dev; net = net }) after sight.new result }
 {
     if !words::is_namespace(net) {
         *sight = NOBODY;
@@ -70,7 +72,7 @@ pub extern "C" fn inet_looker_look(
         dev,
         net,
     };
-    look_by(looker, alloc, &packet, sight)
+    look_by(looker, alloc, &packet, after, sight)
 }
 
 /// Which sockets take these packets, each as `inet_looker_look` has it, at the packet's place: kind 7 where that would be

@@ -71,6 +71,17 @@ fn told_by(answer: &PacketAnswer) -> (InetSight, i32)
     }
 }
 
+/// What a looker's lookup says, or one that began too early.
+fn told_of(found: &Option<PacketLook>) -> (InetSight, i32)
+    ensures sight { result.0 ≡ spec.told_of found.now }
+    ensures errno { result.1 ≡ spec.errno_of found.now }
+{
+    match found {
+        Some(look) => told_by(&look.end),
+        None => (NOBODY, EAGAIN),
+    }
+}
+
 /// Looks a packet up in a list, and answers 0, or EBADF where there is none.
 pub fn look_in_list(
     list: &mut InetList,
@@ -94,15 +105,16 @@ pub fn look_in_list(
     }
 }
 
-/// Looks a packet up by a looker, and answers 0, EAGAIN where others changed the chains each time, or EBADF where there
-/// is none.
+/// Looks a packet up by a looker, and answers 0, EAGAIN where others changed the chains each time or the lookup began
+/// before the clock was at `after`, or EBADF where there is none.
 pub fn look_by(
     looker: &mut InetLooker,
     alloc: Global,
     packet: &Packet,
+    after: u64,
     sight: &mut InetSight,
 ) -> i32
-    ensures { LookerLooks (held looker.old.boxed) (held looker.new.boxed) packet.now sight.new result }
+    ensures { LookerLooks (held looker.old.boxed) (held looker.new.boxed) packet.now after sight.new result }
 {
     match looker.take(alloc) {
         None => {
@@ -110,8 +122,8 @@ pub fn look_by(
             EBADF
         }
         Some(mut held) => {
-            let PacketLook { end, .. } = held.look(packet, PASSES);
-            let (told, errno) = told_by(&end);
+            let found = held.look_after(packet, PASSES, after);
+            let (told, errno) = told_of(&found);
             *sight = told;
             *looker = InetLooker::of(held);
             errno

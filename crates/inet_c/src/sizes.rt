@@ -8,17 +8,20 @@ ghost use Rattle.flat_list.specs.Fits.{FitsTables};
 ghost use Rattle.inet_c.specs.Made as spec;
 ghost use Rattle.inet_c.specs.Made.{CallersShape, LimitsFit, PortsFit, SizesFit};
 
-use flat_list::header::NONE_RESERVED;
-use flat_list::{Header, Range, Shape};
+use flat_list::{Header, Range, Reserved, Shape};
 use shared_calls::Limits;
 
-/// The size of [`InetSizes`] in bytes, and that of [`InetLimits`].
-const SIZE: u32 = 32;
+/// The size of [`InetSizes`] in bytes.
+const SIZES: u32 = 164;
 
-/// The sizes of tables: `size` is 32, `slots` 1 to 2^24; `bind`, `hash` and `listen` are powers of two to 256, 2^24 and
+/// The size of [`InetLimits`] in bytes.
+const LIMITS: u32 = 32;
+
+/// The sizes of tables: `size` is 164, `slots` 1 to 2^24; `bind`, `hash` and `listen` are powers of two to 256, 2^24 and
 /// 2^20. `low` to `high` are the ports of searches, an even number of them, from 1 on. Searches begin at numbers that a
-/// generator draws, started from `seed`. `twreuse` lets `connect` take the place of a TIME_WAIT of its four-tuple,
-/// closed earlier.
+/// generator draws, started from `seed`, or with `has_offset` all at `offset`. `twreuse` lets `connect` take the place
+/// of a TIME_WAIT of its four-tuple, closed earlier. The first `reserved_count` ports of `reserved`, 64 at most, are kept
+/// from searches.
 #[repr(C)]
 #[derive(Clone, Copy, Debug, PartialEq, Eq)]
 pub struct InetSizes {
@@ -31,6 +34,10 @@ pub struct InetSizes {
     pub low: u16,
     pub high: u16,
     pub twreuse: bool,
+    pub has_offset: bool,
+    pub offset: u16,
+    pub reserved: [u16; 64],
+    pub reserved_count: u8,
 }
 
 /// The limits of a worker, as [`Limits`] has them; `size` is 32.
@@ -41,6 +48,17 @@ pub struct InetLimits {
     pub tries: u64,
     pub most_waits: u64,
     pub full_for: u64,
+}
+
+/// Where each search begins, if that is fixed.
+fn offset_of(sizes: &InetSizes) -> Option<u16>
+    ensures { result ≡ spec.offset_of sizes.now }
+{
+    if sizes.has_offset {
+        Some(sizes.offset)
+    } else {
+        None
+    }
 }
 
 /// The header of a script that names these sizes.
@@ -57,10 +75,13 @@ pub fn header_of(sizes: &InetSizes) -> Header
         range: Range {
             low: sizes.low,
             high: sizes.high,
-            reserved: NONE_RESERVED,
+            reserved: Reserved {
+                ports: sizes.reserved,
+                count: sizes.reserved_count,
+            },
         },
         seed: sizes.seed,
-        offset: None,
+        offset: offset_of(sizes),
         twreuse: sizes.twreuse,
     }
 }
@@ -113,12 +134,12 @@ pub fn are_sizes(sizes: &InetSizes) -> bool
     ensures sizes { IsTrue result ↔ SizesFit sizes.now }
     ensures fits { IsTrue result → FitsTables (spec.header_of sizes.now) }
 {
-    sizes.size == SIZE && is_header(&header_of(sizes))
+    sizes.size == SIZES && sizes.reserved_count <= 64 && is_header(&header_of(sizes))
 }
 
 /// Whether the limits are those of this version.
 pub fn are_limits(limits: &InetLimits) -> bool
     ensures { IsTrue result ↔ LimitsFit limits.now }
 {
-    limits.size == SIZE
+    limits.size == LIMITS
 }

@@ -1,8 +1,8 @@
 -- What a race returns can be written, and its text is one of a lawful record, which passes an audit.
 use Rattle.std.proofs.Common.{◌≡◌, ◌∙◌, ◌<◌, ◌≤◌, ◌^◌, ℕ, List, ap, length, refl, subst, sym}
 use Rattle.std.specs.Prelude.{Result, Ok, Err}
-use Rattle.audit_laws.specs.Laws.{IsAnswer, SaysYes}
-use Rattle.audit_laws.proofs.Whole.{written_passes}
+use Rattle.race_laws.specs.Laws.{IsAnswer, SaysYes}
+use Rattle.race_laws.proofs.audits.Whole.{written_passes}
 use Rattle.capture_reader.specs.Captures.{Capture}
 use Rattle.capture_reader.specs.Grammar.{IsCapture}
 use Rattle.capture_reader.specs.Numbers.{AreBytes}
@@ -19,8 +19,8 @@ use Rattle.race_laws.proofs.Handovers.{acks_hand_over}
 use Rattle.race_laws.proofs.Names.{hashed_once, listed_once}
 use Rattle.race_text.specs.Render.{RaceOut, Told, told_text}
 use Rattle.race_text.proofs.Commands.{lawful_text}
-use Rattle.race_threads.specs.Told.{IsToldBy, race_of}
-use Rattle.race_threads.specs.declared.finish.Ended.{Ended}
+use Rattle.race_run.specs.Told.{IsToldBy, race_of}
+use Rattle.race_run.specs.declared.finish.Ended.{Ended}
 use Rattle.record_reader.specs.declared.audit.Verdict.{Verdict}
 use Rattle.record_reader.specs.declared.audit.Verdict.TheVariants as verdicts
 use Rattle.record_reader.specs.declared.read.ReadEnd.{ReadEnd}

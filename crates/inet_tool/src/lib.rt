@@ -1,13 +1,13 @@
 //! The top call: all that the program does, over ends that are handed in.
 //!
 //! `inet run` reads a script, with a capture at its end or without, runs its sections one after the other over the
-//! socket tables, and writes the reply of each command and what each packet finds. `inet race` reads one too, runs
-//! its sections and looks its packets up beside each other, and writes the record of that. `inet make` reads nothing,
-//! runs a generated script, and writes how many of its commands were done. `inet audit` reads the record of a race,
-//! and writes whether it passes the tests of the judge, or where it fails which. The contract of [`inet`] has each
-//! status of the table below, when it comes and what was written then; `main` makes the real ends, calls it and ends
-//! with the status. It stands on `sock_script`, `script_run`, `race_threads`, `race_text`, `record_reader` and
-//! `inet_io`, on `clap` for the words, and for what it says of a race on the laws of `race_laws` and `audit_laws`.
+//! socket tables, and writes the reply of each command and what each packet finds. `inet race` reads one too, runs its
+//! sections and looks its packets up beside each other, and writes the record of that. `inet make` reads nothing, runs
+//! a generated script, and writes how many of its commands were done. `inet audit` reads the record of a race, and
+//! writes whether it passes the tests of the judge, or where it fails which. The contract of [`inet`] has each status
+//! of the table below, when it comes and what was written then; `main` makes the real ends, calls it and ends with the
+//! status. It stands on `sock_script`, `race_run`, `race_text`, `record_reader` and `inet_io`, on `clap` for the words,
+//! and for what it says of a race on the laws of `race_laws`.
 //!
 //! | Status | Exit | When | Written |
 //! |---|---|---|---|

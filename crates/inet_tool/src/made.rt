@@ -4,7 +4,7 @@ ghost use Rattle.inet_tool.specs.Table.{CountsMade};
 
 use capture_reader::Capture;
 use label_index::LabelSeed;
-use script_run::run;
+use race_run::run;
 use sock_script::{Counts, make};
 use std::alloc::{AllocError, Global};
 use std::sync::Wait;

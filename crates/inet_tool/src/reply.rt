@@ -6,7 +6,7 @@ ghost use Rattle.inet_tool.specs.Table.{limit, IsReply, IsRunOf, fault_text};
 use crate::fault::Fault;
 use capture_reader::CaptureEnd;
 use label_index::LabelSeed;
-use script_run::run;
+use race_run::run;
 use sock_script::parse::parse;
 use sock_script::{Mode, ScriptEnd, capture, output};
 use std::alloc::{AllocError, Global};

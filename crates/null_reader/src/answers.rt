@@ -1,7 +1,7 @@
 //! What a lookup reports as it goes, and what it answers.
 
-use shared_slots::Held;
 use sock_card::{Card, CardWords};
+use sock_slots::Held;
 
 /// A step of a lookup that is to come, by the slot that it is on.
 #[derive(Clone, Copy)]

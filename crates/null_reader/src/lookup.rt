@@ -9,8 +9,8 @@ ghost use Rattle.table_rule.specs.Plays.{Sat, with_kept, letting_go, drop_at};
 ghost use Rattle.table_rule.specs.Words.{bucket_count};
 
 use super::answers::{Best, Pace, PassEnd, Point, Turn, WordsEnd, WordsLook};
-use shared_slots::Held;
 use sock_card::{CardWords, Packet, word_rank};
+use sock_slots::Held;
 use table_rule::{Chains, First, LEAST_LIVE, Second, Steps};
 
 // How well the card that begins with these words fits a packet.

@@ -10,8 +10,8 @@ use Rattle.table_rule.specs.CardsOk.{tuple, bears, claims, has_tuple, may_claim,
 use Rattle.table_rule.specs.Plays.{advancing, beginning, dropping_beginning}
 use Rattle.nulls_chain.specs.Changes.{going, Apart, IsAlone, HasNoTwin, Stands, Adds, Rest, TwoDrawn}
 use Rattle.bucket_locks.specs.Locks.{IsAt}
-use Rattle.shared_slots.specs.Claims.{IsFull, sight_by}
-use Rattle.shared_slots.specs.declared.fresh.Full.{Full}
+use Rattle.sock_slots.specs.Claims.{IsFull, sight_by}
+use Rattle.sock_slots.specs.declared.fresh.Full.{Full}
 use Rattle.table_rule.specs.Calls.{seen_of}
 use Rattle.table_rule.specs.declared.view.View.{View}
 use Rattle.table_rule.specs.declared.view.ChainView.{ChainView}

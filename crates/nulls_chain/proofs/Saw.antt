@@ -3,8 +3,8 @@ use Rattle.std.proofs.lemmas.List.{append-nil}
 use Rattle.std.proofs.Common.{◌≡◌, ℕ, ◌≤◌, List, [], ◌∷◌, ◌++◌, inl, inr, ⊎_elim, cond, Bool, eq-eqb, ne_eqb, sym, refl, ap, ◌∙◌, arith, map, ◌<◌, append_assoc}
 use mathlib.Core.Logic.{dite}
 use native.Mathlib.Decide.{ℕ_discrete}
-use Rattle.shared_slots.specs.Claims.{IsFull, sight_by}
-use Rattle.shared_slots.specs.declared.fresh.Full.{Full}
+use Rattle.sock_slots.specs.Claims.{IsFull, sight_by}
+use Rattle.sock_slots.specs.declared.fresh.Full.{Full}
 use Rattle.table_rule.specs.Book.{open-end}
 use Rattle.table_rule.specs.Plays.{settled, settled_one, sight_at, beginning, dropping_beginning}
 use Rattle.table_rule.specs.declared.view.Layout.{Layout}

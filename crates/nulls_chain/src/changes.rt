@@ -8,13 +8,13 @@ ghost use Rattle.table_rule.specs.Calls.{IsOf, IsIdle, IsHashOf, IsUnhashOf, Has
 ghost use Rattle.table_rule.specs.Words.{words_of, home_of, bucket_count};
 ghost use Rattle.bucket_locks.specs.Locks.{IsAt};
 ghost use Rattle.nulls_chain.specs.Changes.{HasNoTwin, IsAlone, hashed, Stands, AddsAt, Rest, Sees};
-ghost use Rattle.shared_slots.specs.Claims.{IsFull};
+ghost use Rattle.sock_slots.specs.Claims.{IsFull};
 ghost use Rattle.table_rule.specs.Plays.{beginning, dropping_beginning, without, carding, card_in};
 
 use super::halting::{Halt, Turning};
 use bucket_locks::Locked;
-use shared_slots::{Full, claim, write_card};
 use sock_card::CardWords;
+use sock_slots::{Full, claim, write_card};
 use table_rule::{Chains, Steps};
 
 // A card was hashed into this slot; the numbers of its beginning and its end.

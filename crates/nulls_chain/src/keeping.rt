@@ -11,7 +11,7 @@ ghost use Rattle.table_rule.specs.Passes.{IsPassOf, known};
 ghost use Rattle.table_rule.specs.Words.{words_of};
 ghost use Rattle.table_rule.specs.Plays.{beginning, dropping_beginning, without, card_in};
 ghost use Rattle.bucket_locks.specs.Locks.{IsAt, WalkKnown};
-ghost use Rattle.shared_slots.specs.Claims.{IsFull};
+ghost use Rattle.sock_slots.specs.Claims.{IsFull};
 ghost use Rattle.nulls_chain.specs.Changes.{HasNoTwin, IsAlone, hashed, Adds, Rest, Sees, PlacesStay, OthersStay, TwoDrawn, IsPlaced, IsPlacedBy};
 
 use super::changes::{hash_numbered, unhash_numbered};
@@ -19,8 +19,8 @@ use super::finding::slot_before;
 use super::halting::{Halt, Unhalted};
 use bucket_locks::Locked;
 use chain_book::{Act, Change};
-use shared_slots::Full;
 use sock_card::{Card, pack};
+use sock_slots::Full;
 use table_rule::{Chains, Pass};
 
 /// Where a card stands that a pass hashed: the bucket, the slot, and the card,

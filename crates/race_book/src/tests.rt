@@ -20,6 +20,7 @@ const CARD: Card = Card {
     kind: Kind::Full,
     name: 0x100_0001,
     extra: 0,
+    mark: 0,
 };
 
 /// It is put into slot 0, and stays there.

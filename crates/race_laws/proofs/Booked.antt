@@ -23,7 +23,7 @@ act_by acts.Unhash acts.Hash e = absurd (omega (arith, e))
 abbrev facts : Change → List ℕ
 facts c =
     c.bucket ∷ c.slot ∷ c.begin ∷ c.end ∷ act_number c.act ∷ c.card.local ∷ c.card.lport ∷ c.card.remote ∷ c.card.rport
-    ∷ c.card.dev ∷ c.card.net ∷ number_of c.card.kind ∷ c.card.name ∷ c.card.extra ∷ []
+    ∷ c.card.dev ∷ c.card.net ∷ number_of c.card.kind ∷ c.card.name ∷ c.card.extra ∷ c.card.mark ∷ []
 
 told_by : (c d : Change) → facts c ≡ facts d → c ≡ d
 told_by c d e =
@@ -41,6 +41,7 @@ told_by c d e =
         kind = kind_by c.card.kind d.card.kind (at 11) i;
         name = at 12 i;
         extra = at 13 i;
+        mark = at 14 i;
       };
       act = act_by c.act d.act (at 4) i;
       begin = at 2 i;

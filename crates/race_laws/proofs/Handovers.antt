@@ -47,58 +47,59 @@ record Handed (deeds : List Deed) : Type 0 where
   request : Mine
   listener : Owner
   name : ℕ
+  mark : ℕ
   wish : Card
   hash : Change
   unhash : Change
   rest : List Deed
   are : deeds ≡ added wish (hashed hash None) ∷ left unhash ∷ rest
-  came : IsHashOf (full_card (heir_owner listener name request.owner)) hash
+  came : IsHashOf (full_card (heir_owner listener name mark request.owner)) hash
   went : IsUnhashAt request.place (card_of kinds.Request request) unhash
   fits : is_no_ack listener request.owner ≡ false
 
 -- The plan
 
 module _ (shape : Shape) (seed : ℕ) (m : Mine) where
-  hashed_then : (r : Mine) (l : Owner) (name : ℕ) (wish : Card) (h : Change) (deeds : List Deed) → is_no_ack l r.owner ≡ false → IsHashOf (full_card (heir_owner l name r.owner)) h
-      → Goes (op.ack_hashed shape seed r l (heir_owner l name r.owner) (Rattle.chain_book.specs.Chains.put h.slot None)) deeds (done m) → Handed (added wish (hashed h None) ∷ deeds)
-  hashed_then r l name wish h (left u ∷ deeds) fits came g = record { request = r; listener = l; name = name; wish = wish; hash = h; unhash = u; rest = deeds; are = refl; came = came; went = g.0; fits = fits }
-  hashed_then r l name wish h [] fits came g = absurd g
-  hashed_then r l name wish h (entered p note ∷ deeds) fits came g = absurd g
-  hashed_then r l name wish h (inserted w tried ∷ deeds) fits came g = absurd g
-  hashed_then r l name wish h (added c tried ∷ deeds) fits came g = absurd g
-  hashed_then r l name wish h (reaped c u ∷ deeds) fits came g = absurd g
+  hashed_then : (r : Mine) (l : Owner) (name mark : ℕ) (wish : Card) (h : Change) (deeds : List Deed) → is_no_ack l r.owner ≡ false → IsHashOf (full_card (heir_owner l name mark r.owner)) h
+      → Goes (op.ack_hashed shape seed r l (heir_owner l name mark r.owner) (Rattle.chain_book.specs.Chains.put h.slot None)) deeds (done m) → Handed (added wish (hashed h None) ∷ deeds)
+  hashed_then r l name mark wish h (left u ∷ deeds) fits came g = record { request = r; listener = l; name = name; mark = mark; wish = wish; hash = h; unhash = u; rest = deeds; are = refl; came = came; went = g.0; fits = fits }
+  hashed_then r l name mark wish h [] fits came g = absurd g
+  hashed_then r l name mark wish h (entered p note ∷ deeds) fits came g = absurd g
+  hashed_then r l name mark wish h (inserted w tried ∷ deeds) fits came g = absurd g
+  hashed_then r l name mark wish h (added c tried ∷ deeds) fits came g = absurd g
+  hashed_then r l name mark wish h (reaped c u ∷ deeds) fits came g = absurd g
 
   no_done : (end : OpEnd) (deeds : List Deed) → Goes (ends (refused end)) deeds (done m) → ⊥
   no_done end [] g = absurd (cc)
   no_done end (d ∷ deeds) g = g
 
-  as_handed : (r : Mine) (l : Owner) (name : ℕ) (deeds : List Deed) → is_no_ack l r.owner ≡ false → Goes (op.ack_as shape seed r l (heir_owner l name r.owner)) deeds (done m) → Handed deeds
-  as_handed r l name (added c (hashed h None) ∷ deeds) fits g = hashed_then r l name c h deeds fits g.1 g.2
-  as_handed r l name (added c (hashed h (Some u)) ∷ deeds) fits g = absurd g.1
-  as_handed r l name (added c (kept_out n) ∷ deeds) fits g = absurd g.1
-  as_handed r l name (added c (no_slot n owned held) ∷ deeds) fits g = absurd (no_done (errors.Full owned held) deeds g.2)
-  as_handed r l name [] fits g = absurd g
-  as_handed r l name (entered p note ∷ deeds) fits g = absurd g
-  as_handed r l name (inserted w tried ∷ deeds) fits g = absurd g
-  as_handed r l name (left u ∷ deeds) fits g = absurd g
-  as_handed r l name (reaped c u ∷ deeds) fits g = absurd g
+  as_handed : (r : Mine) (l : Owner) (name mark : ℕ) (deeds : List Deed) → is_no_ack l r.owner ≡ false → Goes (op.ack_as shape seed r l (heir_owner l name mark r.owner)) deeds (done m) → Handed deeds
+  as_handed r l name mark (added c (hashed h None) ∷ deeds) fits g = hashed_then r l name mark c h deeds fits g.1 g.2
+  as_handed r l name mark (added c (hashed h (Some u)) ∷ deeds) fits g = absurd g.1
+  as_handed r l name mark (added c (kept_out n) ∷ deeds) fits g = absurd g.1
+  as_handed r l name mark (added c (no_slot n owned held) ∷ deeds) fits g = absurd (no_done (errors.Full owned held) deeds g.2)
+  as_handed r l name mark [] fits g = absurd g
+  as_handed r l name mark (entered p note ∷ deeds) fits g = absurd g
+  as_handed r l name mark (inserted w tried ∷ deeds) fits g = absurd g
+  as_handed r l name mark (left u ∷ deeds) fits g = absurd g
+  as_handed r l name mark (reaped c u ∷ deeds) fits g = absurd g
 
-  if_handed : (r l : Mine) (name : ℕ) (deeds : List Deed) (b : Bool) → is_no_ack l.owner r.owner ≡ b
-      → Goes (if b then ends (refused errors.Inval) else op.ack_as shape seed r l.owner (heir_owner l.owner name r.owner)) deeds (done m) → Handed deeds
-  if_handed r l name deeds true e g = absurd (no_done errors.Inval deeds g)
-  if_handed r l name deeds false e g = as_handed r l.owner name deeds e g
+  if_handed : (r l : Mine) (name mark : ℕ) (deeds : List Deed) (b : Bool) → is_no_ack l.owner r.owner ≡ b
+      → Goes (if b then ends (refused errors.Inval) else op.ack_as shape seed r l.owner (heir_owner l.owner name mark r.owner)) deeds (done m) → Handed deeds
+  if_handed r l name mark deeds true e g = absurd (no_done errors.Inval deeds g)
+  if_handed r l name mark deeds false e g = as_handed r l.owner name mark deeds e g
 
-  by_handed : (r : Mine) (l : Option Mine) (name : ℕ) (deeds : List Deed) → Goes (op.ack_by shape seed r l name) deeds (done m) → Handed deeds
-  by_handed r None name deeds g = absurd (no_done errors.Inval deeds g)
-  by_handed r (Some l) name deeds g = if_handed r l name deeds (is_no_ack l.owner r.owner) refl g
+  by_handed : (r : Mine) (l : Option Mine) (name mark : ℕ) (deeds : List Deed) → Goes (op.ack_by shape seed r l name mark) deeds (done m) → Handed deeds
+  by_handed r None name mark deeds g = absurd (no_done errors.Inval deeds g)
+  by_handed r (Some l) name mark deeds g = if_handed r l name mark deeds (is_no_ack l.owner r.owner) refl g
 
-  state_handed : (s : State) (r : Mine) (l : Option Mine) (name : ℕ) (deeds : List Deed) → Goes (op.ack_from shape seed s r l name) deeds (done m) → Handed deeds
-  state_handed states.Request r l name deeds g = by_handed r l name deeds g
-  state_handed states.Unbound r l name deeds g = absurd (no_done errors.Inval deeds g)
-  state_handed states.Bound r l name deeds g = absurd (no_done errors.Inval deeds g)
-  state_handed states.Listening r l name deeds g = absurd (no_done errors.Inval deeds g)
-  state_handed states.Full r l name deeds g = absurd (no_done errors.Inval deeds g)
-  state_handed states.TimeWait r l name deeds g = absurd (no_done errors.Inval deeds g)
+  state_handed : (s : State) (r : Mine) (l : Option Mine) (name mark : ℕ) (deeds : List Deed) → Goes (op.ack_from shape seed s r l name mark) deeds (done m) → Handed deeds
+  state_handed states.Request r l name mark deeds g = by_handed r l name mark deeds g
+  state_handed states.Unbound r l name mark deeds g = absurd (no_done errors.Inval deeds g)
+  state_handed states.Bound r l name mark deeds g = absurd (no_done errors.Inval deeds g)
+  state_handed states.Listening r l name mark deeds g = absurd (no_done errors.Inval deeds g)
+  state_handed states.Full r l name mark deeds g = absurd (no_done errors.Inval deeds g)
+  state_handed states.TimeWait r l name mark deeds g = absurd (no_done errors.Inval deeds g)
 
 -- no refusal is called Ok
 no_ok : (end : OpEnd) → replies.Ok ≡ command.connect_error end → ⊥
@@ -117,6 +118,7 @@ more_handed first rest h = record {
   request = h.request;
   listener = h.listener;
   name = h.name;
+  mark = h.mark;
   wish = h.wish;
   hash = h.hash;
   unhash = h.unhash;
@@ -132,9 +134,9 @@ module _ (header : Header) (own next : Own) (name : ℕ) where
   did_ok gone end [] g = no_ok end (ap (λ (r : Replied). r.reply) g)
   did_ok gone end (d ∷ rest) g = g
 
-  did_handed : (r : Mine) (first rest : List Deed) (did : Did) → Goes (op.ack header.shape header.seed r (open_named own r.owner.origin) name) first did
+  did_handed : (r : Mine) (first rest : List Deed) (did : Did) → Goes (op.ack header.shape header.seed r (open_named own r.owner.origin) name own.mark) first did
       → Goes (ends (command.ack_reply own r.owner.name did)) rest (answers next replies.Ok) → Handed (first ++ rest)
-  did_handed r first rest (done m) g h = more_handed first rest (state_handed header.shape header.seed m r.owner.state r (open_named own r.owner.origin) name first g)
+  did_handed r first rest (done m) g h = more_handed first rest (state_handed header.shape header.seed m r.owner.state r (open_named own r.owner.origin) name own.mark first g)
   did_handed r first rest (refused end) g h = absurd (did_ok r.owner.name end rest h)
 
   none_ok : (deeds : List Deed) → Goes (command.replies_at_once own replies.Ebadf) deeds (answers next replies.Ok) → ⊥
@@ -145,8 +147,8 @@ module _ (header : Header) (own next : Own) (name : ℕ) where
   command_handed None deeds g = absurd (none_ok deeds g)
   command_handed (Some r) deeds g =
       let reply : Did → Rattle.table_model.specs.Asking.Asking Replied = λ did. ends (command.ack_reply own r.owner.name did) in
-      let two : InTwo reply (op.ack header.shape header.seed r (open_named own r.owner.origin) name) deeds (answers next replies.Ok) =
-      goes_apart reply (op.ack header.shape header.seed r (open_named own r.owner.origin) name) deeds (answers next replies.Ok) g in
+      let two : InTwo reply (op.ack header.shape header.seed r (open_named own r.owner.origin) name own.mark) deeds (answers next replies.Ok) =
+      goes_apart reply (op.ack header.shape header.seed r (open_named own r.owner.origin) name own.mark) deeds (answers next replies.Ok) g in
       subst Handed (sym two.joined) (did_handed r two.first two.rest two.did two.goes two.then_)
 
 -- Of what the plan did
@@ -166,8 +168,8 @@ fits_of l r e =
     let four = or_parts (not (is_listening l.state)) (not (at.port == l.port)) three.0 in
     record { net = eqb-true l.net r.net (not-false (l.net == r.net) both.1); port = sym (eqb-true r.port l.port (not-false (r.port == l.port) four.1)) }
 
-one_tuple : (l : Owner) (name : ℕ) (r : Mine) → Fits l r.owner → same_cards (full_card (heir_owner l name r.owner)) (card_of kinds.Request r) ≡ true
-one_tuple l name r f =
+one_tuple : (l : Owner) (name mark : ℕ) (r : Mine) → Fits l r.owner → same_cards (full_card (heir_owner l name mark r.owner)) (card_of kinds.Request r) ≡ true
+one_tuple l name mark r f =
     let o = r.owner in
     and_from ((l.net == o.net) && (o.addr == o.addr) && (l.port == o.port) && (o.remote == o.remote)) (o.rport == o.rport)
     (and_from ((l.net == o.net) && (o.addr == o.addr) && (l.port == o.port)) (o.remote == o.remote)
@@ -175,9 +177,9 @@ one_tuple l name r f =
     (and_from (l.net == o.net) (o.addr == o.addr) (eq-eqb l.net o.net f.net) (eq-eqb o.addr o.addr refl))
     (eq-eqb l.port o.port f.port)) (eq-eqb o.remote o.remote refl)) (eq-eqb o.rport o.rport refl)
 
-one_home : (shape : Shape) (seed : ℕ) (l : Owner) (name : ℕ) (r : Mine) → Fits l r.owner → home shape seed (full_card (heir_owner l name r.owner)) ≡ home shape seed (card_of kinds.Request r)
+one_home : (shape : Shape) (seed : ℕ) (l : Owner) (name mark : ℕ) (r : Mine) → Fits l r.owner → home shape seed (full_card (heir_owner l name mark r.owner)) ≡ home shape seed (card_of kinds.Request r)
 unfolding home
-one_home shape seed l name r f = λ i. tuple_home shape seed r.owner.addr (f.port i) r.owner.remote r.owner.rport (f.net i)
+one_home shape seed l name mark r f = λ i. tuple_home shape seed r.owner.addr (f.port i) r.owner.remote r.owner.rport (f.net i)
 
 module _ (In : Change → Type 0) (shape : Shape) (seed : ℕ) (serial : IsSerial In shape seed) where
   handed_over : (deeds : List Deed) → Handed deeds → Pairs (λ (n m : ℕ). n < m) (drawn_in deeds) → ((c : Change) → Among (changes_in deeds) c → In c) → HandsOver In deeds
@@ -196,8 +198,8 @@ module _ (In : Change → Type 0) (shape : Shape) (seed : ℕ) (serial : IsSeria
         unhash = h.unhash;
         ends = one.ends;
         did = (child, gone);
-        tuple = ap (λ (c : Card). same_cards c one.life.card) h.came.card_is ∙ ap (same_cards (full_card (heir_owner h.listener h.name h.request.owner))) card ∙ one_tuple h.listener h.name h.request fits;
-        bucket = serial.homes h.hash (there h.hash child) ∙ ap (home shape seed) h.came.card_is ∙ one_home shape seed h.listener h.name h.request fits ∙ ap (home shape seed) (sym card) ∙ sym (serial.homes one.life one.is.there);
+        tuple = ap (λ (c : Card). same_cards c one.life.card) h.came.card_is ∙ ap (same_cards (full_card (heir_owner h.listener h.name h.mark h.request.owner))) card ∙ one_tuple h.listener h.name h.mark h.request fits;
+        bucket = serial.homes h.hash (there h.hash child) ∙ ap (home shape seed) h.came.card_is ∙ one_home shape seed h.listener h.name h.mark h.request fits ∙ ap (home shape seed) (sym card) ∙ sym (serial.homes one.life one.is.there);
         order = drawn.1.0.0;
       }
 

@@ -7,3 +7,9 @@ pub mod Steps
 pub mod Names
 pub mod Booked
 pub mod Handovers
+pub mod Played
+pub mod Alone
+pub mod Told
+pub mod Turned
+pub mod Sole
+pub mod audits

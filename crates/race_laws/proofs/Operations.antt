@@ -167,10 +167,10 @@ module _ (shape : Shape) (seed : ℕ) where
   accepted name l child is kind (taken other) = tt
   accepted name l child is kind (full owned held) = tt
 
-  pub accepts : (l : Mine) (name : ℕ) (from at : End) → Hashes (Brings name) None (op.accept shape seed l name from at)
-  accepts l name from at =
-      tries_if hashing (Brings name) None (is_no_accept l.owner from at) (ends (refused errors.Inval)) (op.accept_as shape seed l.owner (child_owner l.owner name from at)) tt
-      (refl, accepted name l.owner (child_owner l.owner name from at) refl refl)
+  pub accepts : (l : Mine) (name mark : ℕ) (from at : End) → Hashes (Brings name) None (op.accept shape seed l name mark from at)
+  accepts l name mark from at =
+      tries_if hashing (Brings name) None (is_no_accept l.owner from at) (ends (refused errors.Inval)) (op.accept_as shape seed l.owner (child_owner l.owner name mark from at)) tt
+      (refl, accepted name l.owner (child_owner l.owner name mark from at) refl refl)
 
   asked_in : (name : ℕ) (r : Owner) → r.name ≡ name → kind_of r.state ≡ Some kinds.Request → (o : Outcome) → Hashes (Brings name) (hashed_by (op.request_card r) o) (op.syn_hashed shape seed r o)
   asked_in name r is kind (put slot old) =
@@ -178,10 +178,10 @@ module _ (shape : Shape) (seed : ℕ) where
   asked_in name r is kind (taken other) = tt
   asked_in name r is kind (full owned held) = tt
 
-  pub syns : (l : Mine) (name : ℕ) (from at : End) → Hashes (Brings name) None (op.syn shape seed l name from at)
-  syns l name from at =
-      tries_if hashing (Brings name) None (is_no_accept l.owner from at) (ends (refused errors.Inval)) (op.syn_as shape seed (request_owner l.owner name from at)) tt
-      (refl, asked_in name (request_owner l.owner name from at) refl refl)
+  pub syns : (l : Mine) (name mark : ℕ) (from at : End) → Hashes (Brings name) None (op.syn shape seed l name mark from at)
+  syns l name mark from at =
+      tries_if hashing (Brings name) None (is_no_accept l.owner from at) (ends (refused errors.Inval)) (op.syn_as shape seed (request_owner l.owner name mark from at)) tt
+      (refl, asked_in name (request_owner l.owner name mark from at) refl refl)
 
   inherited : (name : ℕ) (r : Mine) (l child : Owner) → child.name ≡ name → kind_of child.state ≡ Some kinds.Full → (o : Outcome) → Hashes (Brings name) (hashed_by (op.full_card child) o) (op.ack_hashed shape seed r l child o)
   inherited name r l child is kind (put slot None) =
@@ -190,18 +190,18 @@ module _ (shape : Shape) (seed : ℕ) where
   inherited name r l child is kind (taken other) = tt
   inherited name r l child is kind (full owned held) = tt
 
-  acked_by : (r : Mine) (l : Option Mine) (name : ℕ) → Hashes (Brings name) None (op.ack_by shape seed r l name)
-  acked_by r None name = tt
-  acked_by r (Some l) name =
-      tries_if hashing (Brings name) None (is_no_ack l.owner r.owner) (ends (refused errors.Inval)) (op.ack_as shape seed r l.owner (heir_owner l.owner name r.owner)) tt
-      (refl, inherited name r l.owner (heir_owner l.owner name r.owner) refl refl)
+  acked_by : (r : Mine) (l : Option Mine) (name mark : ℕ) → Hashes (Brings name) None (op.ack_by shape seed r l name mark)
+  acked_by r None name mark = tt
+  acked_by r (Some l) name mark =
+      tries_if hashing (Brings name) None (is_no_ack l.owner r.owner) (ends (refused errors.Inval)) (op.ack_as shape seed r l.owner (heir_owner l.owner name mark r.owner)) tt
+      (refl, inherited name r l.owner (heir_owner l.owner name mark r.owner) refl refl)
 
-  acked_from : (state : State) (r : Mine) (l : Option Mine) (name : ℕ) → Hashes (Brings name) None (op.ack_from shape seed state r l name)
-  acked_from states.Request r l name = acked_by r l name
-  acked_from _ r l name = tt
+  acked_from : (state : State) (r : Mine) (l : Option Mine) (name mark : ℕ) → Hashes (Brings name) None (op.ack_from shape seed state r l name mark)
+  acked_from states.Request r l name mark = acked_by r l name mark
+  acked_from _ r l name mark = tt
 
-  pub acks : (r : Mine) (l : Option Mine) (name : ℕ) → Hashes (Brings name) None (op.ack shape seed r l name)
-  acks r l name = acked_from r.owner.state r l name
+  pub acks : (r : Mine) (l : Option Mine) (name mark : ℕ) → Hashes (Brings name) None (op.ack shape seed r l name mark)
+  acks r l name mark = acked_from r.owner.state r l name mark
 
   waits : (m w : Mine) → HasLeft m (card_of kinds.TimeWait w) → (o : Outcome) → Hashes (Closes m) (hashed_by (card_of kinds.TimeWait w) o) (op.close_hashed shape seed m w o)
   waits m w h (put slot None) =

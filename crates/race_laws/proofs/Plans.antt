@@ -166,7 +166,7 @@ module _ (number : ℕ) where
       own = record {
         number_is = h.number_is;
         given_is = given_one own label h;
-        kept = made number given f own.sockets (op.plain (new_owner (next_name own) options)) h.kept (next_is own h);
+        kept = made number given f own.sockets (op.plain (new_owner (next_name own) own.mark options)) h.kept (next_is own h);
       };
     }
 
@@ -189,20 +189,20 @@ module _ (number : ℕ) where
       accept_plan : (own : Own) → OwnKept given f own → (label : List ℕ) (o : Option Mine) (from at : End) → GoodPlan (command.accept_command header (with_label own label) (next_name own) o from at)
       accept_plan own h label None from at = no_other own h label
       accept_plan own h label (Some l) from at =
-          tries_then hashing (Brings (next_name own)) (Leaves given f) (op.accept header.shape header.seed l (next_name own) from at) _ None
-          (accepts header.shape header.seed l (next_name own) from at) (accept_replied own label h)
+          tries_then hashing (Brings (next_name own)) (Leaves given f) (op.accept header.shape header.seed l (next_name own) own.mark from at) _ None
+          (accepts header.shape header.seed l (next_name own) own.mark from at) (accept_replied own label h)
 
       syn_plan : (own : Own) → OwnKept given f own → (label : List ℕ) (o : Option Mine) (from at : End) → GoodPlan (command.syn_command header (with_label own label) (next_name own) o from at)
       syn_plan own h label None from at = no_other own h label
       syn_plan own h label (Some l) from at =
-          tries_then hashing (Brings (next_name own)) (Leaves given f) (op.syn header.shape header.seed l (next_name own) from at) _ None
-          (syns header.shape header.seed l (next_name own) from at) (accept_replied own label h)
+          tries_then hashing (Brings (next_name own)) (Leaves given f) (op.syn header.shape header.seed l (next_name own) own.mark from at) _ None
+          (syns header.shape header.seed l (next_name own) own.mark from at) (accept_replied own label h)
 
       ack_plan : (own : Own) → OwnKept given f own → (label : List ℕ) (o : Option Mine) → GoodPlan (command.ack_command header (with_label own label) (next_name own) o)
       ack_plan own h label None = no_other own h label
       ack_plan own h label (Some r) =
-          tries_then hashing (Brings (next_name own)) (Leaves given f) (op.ack header.shape header.seed r (open_named (with_label own label) r.owner.origin) (next_name own)) _ None
-          (acks header.shape header.seed r (open_named (with_label own label) r.owner.origin) (next_name own)) (ack_replied own label r.owner.name h)
+          tries_then hashing (Brings (next_name own)) (Leaves given f) (op.ack header.shape header.seed r (open_named (with_label own label) r.owner.origin) (next_name own) own.mark) _ None
+          (acks header.shape header.seed r (open_named (with_label own label) r.owner.origin) (next_name own) own.mark) (ack_replied own label r.owner.name h)
 
       close_plan : (own : Own) → OwnKept given f own → (o : Option Mine) → SomeOpen given f o → GoodPlan (command.close_command header own o)
       close_plan own h None k = unchanged own _ h refl

@@ -24,27 +24,27 @@ module _ (header : Header) (reply : Did → Replied) where
   abbrev Replies : Asking Did → Type 0
   Replies p = HashesFirst (and_then p (λ did. ends (reply did)))
 
-  unless : (r l : Mine) (name : ℕ) (b : Bool) → Replies (if b then ends (refused errors.Inval) else op.ack_as header.shape header.seed r l.owner (heir_owner l.owner name r.owner))
-  unless r l name true u deeds result g = g
-  unless r l name false u deeds result g = g
+  unless : (r l : Mine) (name mark : ℕ) (b : Bool) → Replies (if b then ends (refused errors.Inval) else op.ack_as header.shape header.seed r l.owner (heir_owner l.owner name mark r.owner))
+  unless r l name mark true u deeds result g = g
+  unless r l name mark false u deeds result g = g
 
-  by_listener : (r : Mine) (l : Option Mine) (name : ℕ) → Replies (op.ack_by header.shape header.seed r l name)
-  by_listener r None name u deeds result g = g
-  by_listener r (Some l) name u deeds result g = unless r l name (is_no_ack l.owner r.owner) u deeds result g
+  by_listener : (r : Mine) (l : Option Mine) (name mark : ℕ) → Replies (op.ack_by header.shape header.seed r l name mark)
+  by_listener r None name mark u deeds result g = g
+  by_listener r (Some l) name mark u deeds result g = unless r l name mark (is_no_ack l.owner r.owner) u deeds result g
 
-  of_state : (s : State) (r : Mine) (l : Option Mine) (name : ℕ) → Replies (op.ack_from header.shape header.seed s r l name)
-  of_state states.Request r l name u deeds result g = by_listener r l name u deeds result g
-  of_state states.Unbound r l name u deeds result g = g
-  of_state states.Bound r l name u deeds result g = g
-  of_state states.Listening r l name u deeds result g = g
-  of_state states.Full r l name u deeds result g = g
-  of_state states.TimeWait r l name u deeds result g = g
+  of_state : (s : State) (r : Mine) (l : Option Mine) (name mark : ℕ) → Replies (op.ack_from header.shape header.seed s r l name mark)
+  of_state states.Request r l name mark u deeds result g = by_listener r l name mark u deeds result g
+  of_state states.Unbound r l name mark u deeds result g = g
+  of_state states.Bound r l name mark u deeds result g = g
+  of_state states.Listening r l name mark u deeds result g = g
+  of_state states.Full r l name mark u deeds result g = g
+  of_state states.TimeWait r l name mark u deeds result g = g
 
 module _ (header : Header) where
   of_socket : (own : Own) (name : ℕ) (r : Option Mine) → HashesFirst (command.ack_command header own name r)
   of_socket own name None u deeds result g = g
   of_socket own name (Some r) u deeds result g =
-      of_state header (command.ack_reply own r.owner.name) r.owner.state r (open_named own r.owner.origin) name u deeds result g
+      of_state header (command.ack_reply own r.owner.name) r.owner.state r (open_named own r.owner.origin) name own.mark u deeds result g
 
   pub ack_hashes_first : (own : Own) (request label : List ℕ) → HashesFirst (plan header own (commands.Ack request label))
   unfolding plan

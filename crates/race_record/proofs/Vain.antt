@@ -177,9 +177,9 @@ module _ (shape : Shape) (seed : ℕ) where
   accept_hashed l child (taken name) = refl
   accept_hashed l child (full owned held) = refl
 
-  accept_vains : (l : Mine) (name : ℕ) (from at : End) → Vains 0 told_did (op.accept shape seed l name from at)
-  accept_vains l name from at =
-      let child = child_owner l.owner name from at in
+  accept_vains : (l : Mine) (name mark : ℕ) (from at : End) → Vains 0 told_did (op.accept shape seed l name mark from at)
+  accept_vains l name mark from at =
+      let child = child_owner l.owner name mark from at in
       tries_if counting (IsTold told_did) 0 (is_no_accept l.owner from at) (ends (refused errors.Inval)) (op.accept_as shape seed l.owner child) refl (tt, accept_hashed l.owner child)
 
   syn_hashed : (r : Owner) (o : Outcome) → Vains (vain_by 0 o) told_did (op.syn_hashed shape seed r o)
@@ -187,9 +187,9 @@ module _ (shape : Shape) (seed : ℕ) where
   syn_hashed r (taken name) = refl
   syn_hashed r (full owned held) = refl
 
-  syn_vains : (l : Mine) (name : ℕ) (from at : End) → Vains 0 told_did (op.syn shape seed l name from at)
-  syn_vains l name from at =
-      let r = request_owner l.owner name from at in
+  syn_vains : (l : Mine) (name mark : ℕ) (from at : End) → Vains 0 told_did (op.syn shape seed l name mark from at)
+  syn_vains l name mark from at =
+      let r = request_owner l.owner name mark from at in
       tries_if counting (IsTold told_did) 0 (is_no_accept l.owner from at) (ends (refused errors.Inval)) (op.syn_as shape seed r) refl (tt, syn_hashed r)
 
   ack_hashed : (r : Mine) (l child : Owner) (o : Outcome) → Vains (vain_by 0 o) told_did (op.ack_hashed shape seed r l child o)
@@ -198,15 +198,15 @@ module _ (shape : Shape) (seed : ℕ) where
   ack_hashed r l child (taken name) = tt
   ack_hashed r l child (full owned held) = refl
 
-  ack_by : (r : Mine) (o : Option Mine) (name : ℕ) → Vains 0 told_did (op.ack_by shape seed r o name)
-  ack_by r None name = refl
-  ack_by r (Some l) name =
-      let child = heir_owner l.owner name r.owner in
+  ack_by : (r : Mine) (o : Option Mine) (name mark : ℕ) → Vains 0 told_did (op.ack_by shape seed r o name mark)
+  ack_by r None name mark = refl
+  ack_by r (Some l) name mark =
+      let child = heir_owner l.owner name mark r.owner in
       tries_if counting (IsTold told_did) 0 (is_no_ack l.owner r.owner) (ends (refused errors.Inval)) (op.ack_as shape seed r l.owner child) refl (tt, ack_hashed r l.owner child)
 
-  ack_vains : (s : State) (r : Mine) (o : Option Mine) (name : ℕ) → Vains 0 told_did (op.ack_from shape seed s r o name)
-  ack_vains states.Request r o name = ack_by r o name
-  ack_vains _ r o name = refl
+  ack_vains : (s : State) (r : Mine) (o : Option Mine) (name mark : ℕ) → Vains 0 told_did (op.ack_from shape seed s r o name mark)
+  ack_vains states.Request r o name mark = ack_by r o name mark
+  ack_vains _ r o name mark = refl
 
   close_hashed : (m w : Mine) (o : Outcome) → Vains (vain_by 0 o) told_closed (op.close_hashed shape seed m w o)
   close_hashed m w (put slot None) = whenever_done counting (IsTold told_closed) 0 (ends (waiting (op.waits_in shape seed w slot))) refl
@@ -296,18 +296,18 @@ module _ (header : Header) where
   accept_command : (own : Own) (name : ℕ) (o : Option Mine) (from at : End) → Vains 0 told_reply (command.accept_command header own name o from at)
   accept_command own name None from at = refl
   accept_command own name (Some l) from at =
-      replied told_did (op.accept header.shape header.seed l name from at) (command.accept_reply own) (accept_vains header.shape header.seed l name from at) (same_accept own)
+      replied told_did (op.accept header.shape header.seed l name own.mark from at) (command.accept_reply own) (accept_vains header.shape header.seed l name own.mark from at) (same_accept own)
 
   syn_command : (own : Own) (name : ℕ) (o : Option Mine) (from at : End) → Vains 0 told_reply (command.syn_command header own name o from at)
   syn_command own name None from at = refl
   syn_command own name (Some l) from at =
-      replied told_did (op.syn header.shape header.seed l name from at) (command.accept_reply own) (syn_vains header.shape header.seed l name from at) (same_accept own)
+      replied told_did (op.syn header.shape header.seed l name own.mark from at) (command.accept_reply own) (syn_vains header.shape header.seed l name own.mark from at) (same_accept own)
 
   ack_command : (own : Own) (name : ℕ) (o : Option Mine) → Vains 0 told_reply (command.ack_command header own name o)
   ack_command own name None = refl
   ack_command own name (Some r) =
       let listener : Option Mine = open_named own r.owner.origin in
-      replied told_did (op.ack header.shape header.seed r listener name) (command.ack_reply own r.owner.name) (ack_vains header.shape header.seed r.owner.state r listener name) (same_ack own r.owner.name)
+      replied told_did (op.ack header.shape header.seed r listener name own.mark) (command.ack_reply own r.owner.name) (ack_vains header.shape header.seed r.owner.state r listener name own.mark) (same_ack own r.owner.name)
 
   close_command : (own : Own) (o : Option Mine) → Vains 0 told_reply (command.close_command header own o)
   close_command own None = refl

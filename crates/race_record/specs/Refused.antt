@@ -55,7 +55,7 @@ refused_capture =
 
 abbrev pub reusing : ℕ → Owner
 reusing name =
-    bound_at (new_owner name (record plain { reuseaddr = true })) 0x0A000001 90
+    bound_at (new_owner name 0 (record plain { reuseaddr = true })) 0x0A000001 90
 
 abbrev pub full_card : Owner → Card
 full_card owner = card_as kinds.Full (connected_to owner 0x0A000001 (two 80)) 0

@@ -53,7 +53,7 @@ step command reply deeds from to =
 -- the owner that a socket of that name is once it is bound to that end
 abbrev pub bound : ℕ → ℕ → ℕ → Owner
 bound name addr port =
-    bound_at (new_owner name plain) addr port
+    bound_at (new_owner name 0 plain) addr port
 
 -- the listener of section 1, and its hash
 abbrev pub owner_a : Owner
@@ -175,10 +175,10 @@ second_capture =
     }
 
 abbrev pub owner_b : Owner
-owner_b = child_owner (as_listener owner_a) (name_at 1 1) (two 1000) (one 80)
+owner_b = child_owner (as_listener owner_a) (name_at 1 1) 0 (two 1000) (one 80)
 
 abbrev pub owner_d : Owner
-owner_d = child_owner (as_listener owner_a) (name_at 1 2) (two 1000) (one 80)
+owner_d = child_owner (as_listener owner_a) (name_at 1 2) 0 (two 1000) (one 80)
 
 abbrev pub owner_e : Owner
 owner_e = bound (name_at 2 0) 0 90
@@ -230,7 +230,7 @@ abbrev pub may_e : Note Entry
 may_e = note 4 2 (requests.MayListen (name_at 2 0)) (answers.Group None)
 
 abbrev pub inherit_b : Note Entry
-inherit_b = note 5 1 (requests.Inherit (name_at 1 0) (name_at 1 1) 0x0A000001 0x0A000002 1000) answers.Done
+inherit_b = note 5 1 (requests.Inherit (name_at 1 0) (name_at 1 1) 0 0x0A000001 0x0A000002 1000) answers.Done
 
 abbrev pub listen_e : Note Entry
 listen_e = note 6 2 (requests.Listen (name_at 2 0) 2) answers.Done
@@ -239,7 +239,7 @@ abbrev pub waits_b : Note Entry
 waits_b = note 7 1 (requests.ToTimeWait (name_at 1 1)) answers.Done
 
 abbrev pub inherit_d : Note Entry
-inherit_d = note 8 1 (requests.Inherit (name_at 1 0) (name_at 1 2) 0x0A000001 0x0A000002 1000) answers.Done
+inherit_d = note 8 1 (requests.Inherit (name_at 1 0) (name_at 1 2) 0 0x0A000001 0x0A000002 1000) answers.Done
 
 abbrev pub gone_b : Note Entry
 gone_b = note 9 1 (requests.RemoveWaiting (name_at 1 1)) answers.Done
@@ -314,7 +314,7 @@ handshake_capture =
     record { items = items.Packet (packet 0x0A000001 80) ∷ items.Packet (packet 0x0A000001 80) ∷ []; cut = false }
 
 abbrev pub card_r : Card
-card_r = card_as kinds.Request (request_owner (as_listener owner_a) (name_at 1 1) (two 1000) (one 80)) 0
+card_r = card_as kinds.Request (request_owner (as_listener owner_a) (name_at 1 1) 0 (two 1000) (one 80)) 0
 
 abbrev pub hash_r : Change
 hash_r = change 0 1 card_r acts.Hash 2 3
@@ -326,7 +326,7 @@ abbrev pub unhash_r : Change
 unhash_r = change 0 1 card_r acts.Unhash 6 7
 
 abbrev pub inherit_child : Note Entry
-inherit_child = note 3 1 (requests.Inherit (name_at 1 0) (name_at 1 2) 0x0A000001 0x0A000002 1000) answers.Done
+inherit_child = note 3 1 (requests.Inherit (name_at 1 0) (name_at 1 2) 0 0x0A000001 0x0A000002 1000) answers.Done
 
 -- the steps of the handshake, where `ack` did that
 abbrev pub acknowledged_by : List Deed → List (List Step)

@@ -106,7 +106,8 @@ card_told m n a b xs ys fm fn fa fb lx ly e =
     let dev = number a.dev b.dev (omega (arith, fa.dev)) (omega (arith, fb.dev)) ed in
     let net = net_told a.net b.net xs ys fa.net fb.net lx ly en in
     let name : a.name ≡ b.name = fa.name ∙ sym fb.name in
-    let extra : a.extra ≡ b.extra = fa.extra ∙ sym fb.extra in (
+    let extra : a.extra ≡ b.extra = fa.extra ∙ sym fb.extra in
+    let mark : a.mark ≡ b.mark = fa.mark ∙ sym fb.mark in (
       one_name m n fm fn em,
       (λ i. record {
         local = local.0 i;
@@ -118,6 +119,7 @@ card_told m n a b xs ys fm fn fa fb lx ly e =
         kind = kind i;
         name = name i;
         extra = extra i;
+        mark = mark i;
       }),
       net.1,
     )

@@ -110,6 +110,7 @@ pub record CardFits (card : Card) : Type 0 where
   pub net : card.net < 16
   pub name : card.name ≡ 0
   pub extra : card.extra ≡ 0
+  pub mark : card.mark ≡ 0
 
 abbrev pub SpanFits : Span → Type 0
 SpanFits s = Fits s.begin × Fits s.end

@@ -253,6 +253,7 @@ fn card_first<'a>(words: &'a [&'a [u8]]) -> Option<(Name, Card, &'a [&'a [u8]])>
         kind,
         name: 0,
         extra: 0,
+        mark: 0,
     };
     Some((name, card, words))
 }

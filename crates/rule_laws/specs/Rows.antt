@@ -28,6 +28,7 @@ found_beside name end net number =
       kind = kinds.Listen;
       name = name;
       extra = number + 1;
+      mark = 0;
     }))
 
 -- listeners of two namespaces are in two groups

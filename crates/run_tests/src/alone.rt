@@ -6,11 +6,11 @@ use capture_reader::Capture;
 use flat_list::{End, Reply};
 use inet_io::Open;
 use label_index::LabelSeed;
+use race_run::laws::for_race;
+use race_run::race;
+use race_run::start::start;
+use race_run::tell::tell;
 use race_text::Record;
-use race_threads::laws::for_race;
-use race_threads::race;
-use race_threads::start::start;
-use race_threads::tell::tell;
 use sock_card::{Card, Kind};
 use sock_script::parse::{Mode, ScriptEnd, parse};
 use socket_list::{Listing, Span};
@@ -149,6 +149,7 @@ const fn listener(section: u32) -> Card
         kind: Kind::Listen,
         name: section as u64 * 0x0100_0000_0000_0000 + 1,
         extra: 0,
+        mark: 0,
     }
 }
 

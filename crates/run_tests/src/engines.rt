@@ -48,7 +48,7 @@ fn reply_alike<R: Wait>(rt: &R, alloc: Global, text: &[u8]) -> Result<bool, Allo
         return Ok(false);
     };
     let by_list = run::replies(alloc, &script, capture.items())?;
-    let by_tables = script_run::run(rt, alloc, seed, &script, &capture)?;
+    let by_tables = race_run::run(rt, alloc, seed, &script, &capture)?;
     let list_text = text_of(alloc, &script, &capture, &by_list)?;
     let table_text = text_of(alloc, &script, &capture, &by_tables)?;
     Ok(list_text.as_slice() == table_text.as_slice())

@@ -7,7 +7,7 @@ use flat_list::{
     Command, End, Header, KeptCommand, Label, NONE_RESERVED, Options, Query, Range, Script, Shape,
 };
 use label_index::LabelSeed;
-use script_run::run;
+use race_run::run;
 use sock_card::{Card, Kind};
 use sock_script::output::text;
 use std::alloc::{AllocError, Global};
@@ -108,6 +108,7 @@ fn a_listener_is_listed(rt: HostRuntime) -> Result<(), Fail> {
         kind: Kind::Listen,
         name: 0x0100_0000_0000_0001,
         extra: 0,
+        mark: 0,
     };
     let told = replies
         .listings

@@ -28,10 +28,10 @@ use Rattle.table_model.specs.Operations.{Did, done, refused, Closed, gone, waiti
 use Rattle.race_record.specs.Deeds.{Deed, entered, inserted, added, left, reaped, entries_in}
 use Rattle.race_record.specs.Goes.{outcome_of, was_there}
 use Rattle.bind_buckets.specs.Turned.{View}
-use Rattle.chain_deeds.specs.Sides.{Side}
-use Rattle.shared_ops.specs.Goes.{Went}
-use Rattle.shared_ops.specs.Leads.{Leads}
-use Rattle.shared_ops.proofs.AcceptGoes.{accepts}
+use Rattle.sock_ops.specs.Sides.{Side}
+use Rattle.sock_ops.specs.Goes.{Went}
+use Rattle.sock_ops.specs.Leads.{Leads}
+use Rattle.sock_ops.proofs.AcceptGoes.{accepts}
 
 -- what a plan may ask of bind buckets, what it may take out of chains, and what it may come to
 abbrev pub AllAsk : {R : Type 0} → (Request → Type 0) → (Card → Type 0) → (R → Type 0) → Asking R → Type 0
@@ -84,7 +84,7 @@ IsAbout name (requests.Listen n slot) = n ≡ name
 IsAbout name (requests.Free port net) = Unit {0}
 IsAbout name (requests.ConnectAuto a) = (a.name ≡ name) × (is_time_wait a.state ≡ false)
 IsAbout name (requests.ConnectBound n local remote rport) = n ≡ name
-IsAbout name (requests.Inherit parent n local remote rport) = ⊥
+IsAbout name (requests.Inherit parent n mark local remote rport) = ⊥
 IsAbout name (requests.ToTimeWait n) = ⊥
 IsAbout name (requests.Remove n) = n ≡ name
 IsAbout name (requests.RemoveWaiting n) = Unit {0}
@@ -324,13 +324,13 @@ module _ (shape : Shape) (seed : ℕ) where
   neither true q e = e
   neither false q e = refl
 
-  of_accept_if : (l : Mine) (name : ℕ) (from at : End) (b : Bool) → (b ≡ false → l.owner.state ≡ states.Listening) → IsBirthOf l.owner name (cond b (ends (refused errors.Inval)) (plans.accept_as shape seed l.owner (child_owner l.owner name from at)))
-  of_accept_if l name from at true e = tt
-  of_accept_if l name from at false e = of_accept_hashed l.owner (child_owner l.owner name from at) (e refl)
+  of_accept_if : (l : Mine) (name mark : ℕ) (from at : End) (b : Bool) → (b ≡ false → l.owner.state ≡ states.Listening) → IsBirthOf l.owner name (cond b (ends (refused errors.Inval)) (plans.accept_as shape seed l.owner (child_owner l.owner name mark from at)))
+  of_accept_if l name mark from at true e = tt
+  of_accept_if l name mark from at false e = of_accept_hashed l.owner (child_owner l.owner name mark from at) (e refl)
 
-  pub of_accept : (l : Mine) (name : ℕ) (from at : End) → IsBirthOf l.owner name (plans.accept shape seed l name from at)
-  of_accept l name from at =
-      of_accept_if l name from at (is_no_accept l.owner from at) (accepts l.owner from at)
+  pub of_accept : (l : Mine) (name mark : ℕ) (from at : End) → IsBirthOf l.owner name (plans.accept shape seed l name mark from at)
+  of_accept l name mark from at =
+      of_accept_if l name mark from at (is_no_accept l.owner from at) (accepts l.owner from at)
 
   of_syn_hashed : (l r : Owner) → l.state ≡ states.Listening → (o : Outcome) → IsBirthOf l r.name (plans.syn_hashed shape seed r o)
   of_syn_hashed l r e (put slot old) =
@@ -338,12 +338,12 @@ module _ (shape : Shape) (seed : ℕ) where
   of_syn_hashed l r e (taken n) = tt
   of_syn_hashed l r e (full owned held) = tt
 
-  of_syn_if : (l : Mine) (name : ℕ) (from at : End) (b : Bool) → (b ≡ false → l.owner.state ≡ states.Listening) → IsBirthOf l.owner name (cond b (ends (refused errors.Inval)) (plans.syn_as shape seed (request_owner l.owner name from at)))
-  of_syn_if l name from at true e = tt
-  of_syn_if l name from at false e = of_syn_hashed l.owner (request_owner l.owner name from at) (e refl)
+  of_syn_if : (l : Mine) (name mark : ℕ) (from at : End) (b : Bool) → (b ≡ false → l.owner.state ≡ states.Listening) → IsBirthOf l.owner name (cond b (ends (refused errors.Inval)) (plans.syn_as shape seed (request_owner l.owner name mark from at)))
+  of_syn_if l name mark from at true e = tt
+  of_syn_if l name mark from at false e = of_syn_hashed l.owner (request_owner l.owner name mark from at) (e refl)
 
-  pub of_syn : (l : Mine) (name : ℕ) (from at : End) → IsBirthOf l.owner name (plans.syn shape seed l name from at)
-  of_syn l name from at = of_syn_if l name from at (is_no_accept l.owner from at) (accepts l.owner from at)
+  pub of_syn : (l : Mine) (name mark : ℕ) (from at : End) → IsBirthOf l.owner name (plans.syn shape seed l name mark from at)
+  of_syn l name mark from at = of_syn_if l name mark from at (is_no_accept l.owner from at) (accepts l.owner from at)
 
   -- A request in whose place a child comes
 
@@ -360,25 +360,25 @@ module _ (shape : Shape) (seed : ℕ) where
   of_ack_hashed r l a e (taken n) = tt
   of_ack_hashed r l a e (full owned held) = tt
 
-  of_ack_if : (r l : Mine) (name : ℕ) (b : Bool) → (b ≡ false → l.owner.state ≡ states.Listening) → IsHeirOf r (Some l) name (cond b (ends (refused errors.Inval)) (plans.ack_as shape seed r l.owner (heir_owner l.owner name r.owner)))
-  of_ack_if r l name true e = tt
-  of_ack_if r l name false e = of_ack_hashed r l (heir_owner l.owner name r.owner) (e refl)
+  of_ack_if : (r l : Mine) (name mark : ℕ) (b : Bool) → (b ≡ false → l.owner.state ≡ states.Listening) → IsHeirOf r (Some l) name (cond b (ends (refused errors.Inval)) (plans.ack_as shape seed r l.owner (heir_owner l.owner name mark r.owner)))
+  of_ack_if r l name mark true e = tt
+  of_ack_if r l name mark false e = of_ack_hashed r l (heir_owner l.owner name mark r.owner) (e refl)
 
-  of_ack_by : (r : Mine) (l : Option Mine) (name : ℕ) → IsHeirOf r l name (plans.ack_by shape seed r l name)
-  of_ack_by r None name = tt
-  of_ack_by r (Some l) name =
-      of_ack_if r l name (is_no_ack l.owner r.owner) (λ e. accepts l.owner (other_end r.owner) (own_end r.owner) (neither _ _ e))
+  of_ack_by : (r : Mine) (l : Option Mine) (name mark : ℕ) → IsHeirOf r l name (plans.ack_by shape seed r l name mark)
+  of_ack_by r None name mark = tt
+  of_ack_by r (Some l) name mark =
+      of_ack_if r l name mark (is_no_ack l.owner r.owner) (λ e. accepts l.owner (other_end r.owner) (own_end r.owner) (neither _ _ e))
 
-  of_ack_from : (r : Mine) (l : Option Mine) (name : ℕ) (state : State) → IsHeirOf r l name (plans.ack_from shape seed state r l name)
-  of_ack_from r l name states.Request = of_ack_by r l name
-  of_ack_from r l name states.Unbound = tt
-  of_ack_from r l name states.Bound = tt
-  of_ack_from r l name states.Listening = tt
-  of_ack_from r l name states.Full = tt
-  of_ack_from r l name states.TimeWait = tt
+  of_ack_from : (r : Mine) (l : Option Mine) (name mark : ℕ) (state : State) → IsHeirOf r l name (plans.ack_from shape seed state r l name mark)
+  of_ack_from r l name mark states.Request = of_ack_by r l name mark
+  of_ack_from r l name mark states.Unbound = tt
+  of_ack_from r l name mark states.Bound = tt
+  of_ack_from r l name mark states.Listening = tt
+  of_ack_from r l name mark states.Full = tt
+  of_ack_from r l name mark states.TimeWait = tt
 
-  pub of_ack : (r : Mine) (l : Option Mine) (name : ℕ) → IsHeirOf r l name (plans.ack shape seed r l name)
-  of_ack r l name = of_ack_from r l name r.owner.state
+  pub of_ack : (r : Mine) (l : Option Mine) (name mark : ℕ) → IsHeirOf r l name (plans.ack shape seed r l name mark)
+  of_ack r l name mark = of_ack_from r l name mark r.owner.state
 
 -- Sockets that go
 

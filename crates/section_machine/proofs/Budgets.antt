@@ -2,7 +2,7 @@
 use Rattle.std.proofs.Common.{◌≡◌, ℕ, ◌+◌, ◌*◌, ◌≤◌, length, arith}
 use Rattle.section_machine.specs.Carried.{HasEnough, MayCarry, MayGoOn, Spends}
 use Rattle.section_machine.specs.Sections.{Kept}
-use Rattle.shared_ops.specs.declared.tables.Worker.{Worker}
+use Rattle.sock_ops.specs.declared.tables.Worker.{Worker}
 
 -- a section begins, with no TIME_WAIT of its own
 pub go_on_first : (n : ℕ) (k : Kept) (w : Worker) → length k.own.waits ≡ 0 → MayCarry n w → MayGoOn n k w

@@ -4,7 +4,7 @@ use Rattle.std.specs.Prelude.{option_and_then}
 use Rattle.turn_table.specs.Passes as words
 use Rattle.bind_buckets.specs.Turned.{View}
 use Rattle.chain_book.specs.declared.shape.Shape.{Shape}
-use Rattle.chain_deeds.specs.Sides.{Side}
+use Rattle.sock_ops.specs.Sides.{Side}
 use Rattle.flat_list.specs.declared.header.Header.{Header}
 use Rattle.flat_list.specs.declared.command.End.{End}
 use Rattle.flat_list.specs.declared.command.Reply.{Reply}
@@ -19,14 +19,14 @@ use Rattle.table_model.specs.Own.{Own, Mine, Offsets, next_name, open_socket, wi
 use Rattle.table_model.specs.Operations as plans
 use Rattle.table_model.specs.Operations.{Did, done, refused}
 use Rattle.table_model.specs.Commands.{Replied, answers, accept_command, syn_command, accept_reply, connect_error}
-use Rattle.shared_ops.specs.declared.sock.Sock.{Sock}
-use Rattle.shared_ops.specs.declared.tables.Tables.{Tables}
-use Rattle.shared_ops.specs.declared.tables.Worker.{Worker}
-use Rattle.shared_ops.specs.Goes as ops
-use Rattle.shared_ops.specs.Accepting.{accepted}
-use Rattle.shared_ops.specs.Goes.{Went, Carried}
-use Rattle.shared_ops.specs.Socks.{mine_of, FitsState}
-use Rattle.shared_ops.specs.Stands.{IsReady, MayTell, StandsAs, buckets_of, turned, chained}
+use Rattle.sock_ops.specs.declared.sock.Sock.{Sock}
+use Rattle.sock_ops.specs.declared.tables.Tables.{Tables}
+use Rattle.sock_ops.specs.declared.tables.Worker.{Worker}
+use Rattle.sock_ops.specs.Goes as ops
+use Rattle.sock_ops.specs.Accepting.{accepted}
+use Rattle.sock_ops.specs.Goes.{Went, Carried}
+use Rattle.sock_ops.specs.Socks.{mine_of, FitsState}
+use Rattle.sock_ops.specs.Stands.{IsReady, MayTell, StandsAs, buckets_of, turned, chained}
 use Rattle.section_machine.specs.Carried.{Carries}
 use Rattle.section_machine.specs.Places.{Labelled, at_place, named_by, with_place, own_of}
 use Rattle.section_machine.specs.Sections.{Kept, kept}
@@ -39,59 +39,60 @@ use Rattle.section_machine.proofs.Rolls.{labelled, socket_more}
 use Rattle.section_machine.proofs.Settled.{of_header, then_ends, stands_typed}
 use Rattle.section_machine.proofs.Stays.{GoesOn, asks_back, may_tell}
 
--- what is asked with a listener for a socket of that name
+-- what is asked with a listener for a socket of that name, with that mark
 abbrev pub Plan : Type 0
-Plan = Shape → ℕ → Mine → ℕ → Asking Did
+Plan = Shape → ℕ → Mine → ℕ → ℕ → Asking Did
 
 -- the command asks so, once its label is given
 pub record AsksSo (p : Plan) (asker : Asker) : Type 0 where
-  pub births : (shape : Shape) (seed : ℕ) (l : Mine) (name : ℕ) → IsBirthOf shape seed l.owner name (p shape seed l name)
+  pub births : (shape : Shape) (seed : ℕ) (l : Mine) (name mark : ℕ) → IsBirthOf shape seed l.owner name (p shape seed l name mark)
   pub none : (h : Header) (x : Own) (n : ℕ) → asker h x n None ≡ ends (answers x replies.Ebadf)
-  pub some : (h : Header) (x : Own) (n : ℕ) (l : Mine) → asker h x n (Some l) ≡ and_then (p h.shape h.seed l n) (λ did. ends (accept_reply x did))
+  pub some : (h : Header) (x : Own) (n : ℕ) (l : Mine) → asker h x n (Some l) ≡ and_then (p h.shape h.seed l n x.mark) (λ did. ends (accept_reply x did))
 
 module _ (from at : End) where
   abbrev pub accept_of : Plan
-  accept_of shape seed l name = plans.accept shape seed l name from at
+  accept_of shape seed l name mark = plans.accept shape seed l name mark from at
 
   abbrev pub accept_asker : Asker
   accept_asker h x n o = accept_command h x n o from at
 
   pub accept_asks : AsksSo accept_of accept_asker
   accept_asks =
-      record { births = λ shape seed l name. of_accept shape seed l name from at; none = λ h x n. refl; some = λ h x n l. refl }
+      record { births = λ shape seed l name mark. of_accept shape seed l name mark from at; none = λ h x n. refl; some = λ h x n l. refl }
 
   abbrev pub syn_of : Plan
-  syn_of shape seed l name = plans.syn shape seed l name from at
+  syn_of shape seed l name mark = plans.syn shape seed l name mark from at
 
   abbrev pub syn_asker : Asker
   syn_asker h x n o = syn_command h x n o from at
 
   pub syn_asks : AsksSo syn_of syn_asker
   syn_asks =
-      record { births = λ shape seed l name. of_syn shape seed l name from at; none = λ h x n. refl; some = λ h x n l. refl }
+      record { births = λ shape seed l name mark. of_syn shape seed l name mark from at; none = λ h x n. refl; some = λ h x n l. refl }
 
 module _ {p : Plan} {asker : Asker} (so : AsksSo p asker) where
   -- it has the name that it was to have
-  pub child_named : (shape : Shape) (seed : ℕ) (l m : Mine) (name count : ℕ) (v u : View) (c d : Side) → Went count (p shape seed l name) v u c d (ends (done m)) → m.owner.name ≡ name
-  child_named shape seed l m name count v u c d went =
-      (asked_so (IsBirth l.owner.name name) (λ _. ⊥) (ChildOf shape seed l.owner name) count (p shape seed l name) (ends (done m)) went.deeds went.leads (so.births shape seed l name)).left.0
+  pub child_named : (shape : Shape) (seed : ℕ) (l m : Mine) (name mark count : ℕ) (v u : View) (c d : Side) → Went count (p shape seed l name mark) v u c d (ends (done m)) → m.owner.name ≡ name
+  child_named shape seed l m name mark count v u c d went =
+      (asked_so (IsBirth l.owner.name name) (λ _. ⊥) (ChildOf shape seed l.owner name) count (p shape seed l name mark) (ends (done m)) went.deeds went.leads (so.births shape seed l name mark)).left.0
 
   -- the plan by the header, with the name of the next label
-  pub its_plan : (t : Tables) (k : Kept) (header : Header) (own : Own) (w : Worker) → kept header own ≡ k → IsSection t k w → (u : Worker) (l : Mine) (name : ℕ) (did : Did) → name ≡ next_name own
-      → Went (buckets_of t) (p t.chains.layout.shape t.chains.layout.seed l name) (turned w) (turned u) (chained t w) (chained t u) (ends did)
-      → Went header.shape.bind (p header.shape header.seed l (next_name own)) (turned w) (turned u) (chained t w) (chained t u) (ends did)
-  its_plan t k header own w view section u l name did is went =
-      subst (λ (n : ℕ). Went header.shape.bind (p header.shape header.seed l n) (turned w) (turned u) (chained t w) (chained t u) (ends did)) is
-      (of_header header t (λ (shape : Shape) (seed : ℕ). p shape seed l name) (turned w) (turned u) (chained t w) (chained t u) (ends did) (subst (λ (x : Kept). AreOf x.header t) (sym view) section.tables) went)
+  pub its_plan : (t : Tables) (k : Kept) (header : Header) (own : Own) (w : Worker) → kept header own ≡ k → IsSection t k w → (u : Worker) (l : Mine) (name mark : ℕ) (did : Did) → name ≡ next_name own → mark ≡ own.mark
+      → Went (buckets_of t) (p t.chains.layout.shape t.chains.layout.seed l name mark) (turned w) (turned u) (chained t w) (chained t u) (ends did)
+      → Went header.shape.bind (p header.shape header.seed l (next_name own) own.mark) (turned w) (turned u) (chained t w) (chained t u) (ends did)
+  its_plan t k header own w view section u l name mark did is marked went =
+      subst (λ (q : Asking Did). Went header.shape.bind q (turned w) (turned u) (chained t w) (chained t u) (ends did)) (λ i. p header.shape header.seed l (is i) (marked i))
+      (of_header header t (λ (shape : Shape) (seed : ℕ). p shape seed l name mark) (turned w) (turned u) (chained t w) (chained t u) (ends did) (subst (λ (x : Kept). AreOf x.header t) (sym view) section.tables) went)
 
   -- and where it is left off
-  pub its_off : (t : Tables) (k : Kept) (header : Header) (own : Own) (w : Worker) → kept header own ≡ k → IsSection t k w → (u : Worker) (l : Mine) (name : ℕ) (end : OpEnd) (cause : Cause) → name ≡ next_name own → end ≡ errors.LeftOff cause
-      → Carried accepted refused (buckets_of t) (p t.chains.layout.shape t.chains.layout.seed l name) (turned w) (turned u) (chained t w) (chained t u) (Err end)
-      → ops.LeftOff header.shape.bind (next_name own) (p header.shape header.seed l (next_name own)) (turned w) (turned u) (chained t w) (chained t u)
-  its_off t k header own w view section u l name end cause is off carried =
-      subst (λ (n : ℕ). ops.LeftOff header.shape.bind n (p header.shape header.seed l n) (turned w) (turned u) (chained t w) (chained t u)) is
-      (off_as accepted header t (λ (shape : Shape) (seed : ℕ). p shape seed l name) (p t.chains.layout.shape t.chains.layout.seed l name) name (turned w) (turned u) (chained t w) (chained t u) end cause
-      (subst (λ (x : Kept). AreOf x.header t) (sym view) section.tables) refl off carried)
+  pub its_off : (t : Tables) (k : Kept) (header : Header) (own : Own) (w : Worker) → kept header own ≡ k → IsSection t k w → (u : Worker) (l : Mine) (name mark : ℕ) (end : OpEnd) (cause : Cause) → name ≡ next_name own → mark ≡ own.mark → end ≡ errors.LeftOff cause
+      → Carried accepted refused (buckets_of t) (p t.chains.layout.shape t.chains.layout.seed l name mark) (turned w) (turned u) (chained t w) (chained t u) (Err end)
+      → ops.LeftOff header.shape.bind (next_name own) (p header.shape header.seed l (next_name own) own.mark) (turned w) (turned u) (chained t w) (chained t u)
+  its_off t k header own w view section u l name mark end cause is marked off carried =
+      subst (λ (n : ℕ). ops.LeftOff header.shape.bind n (p header.shape header.seed l n own.mark) (turned w) (turned u) (chained t w) (chained t u)) is
+      (subst (λ (m : ℕ). ops.LeftOff header.shape.bind name (p header.shape header.seed l name m) (turned w) (turned u) (chained t w) (chained t u)) marked
+      (off_as accepted header t (λ (shape : Shape) (seed : ℕ). p shape seed l name mark) (p t.chains.layout.shape t.chains.layout.seed l name mark) name (turned w) (turned u) (chained t w) (chained t u) end cause
+      (subst (λ (x : Kept). AreOf x.header t) (sym view) section.tables) refl off carried))
 
 -- what was found stands at some place
 pub found_at : (l : Labelled) (p : Option ℕ) (m : Mine) → option_and_then (at_place l.places) p ≡ Some m → (i : ℕ) × (at_place l.places i ≡ Some m)
@@ -131,14 +132,14 @@ module _ {t : Tables} {k : Kept} {header : Header} {l l1 : Labelled} {moment : �
 
   module _ {p : Plan} {asker : Asker} (so : AsksSo p asker) (u : Worker) (ready : IsReady t u) (caller : words.caller u.turns ≡ words.caller w.turns) where
     abbrev plan : Asking Did
-    plan = p header.shape header.seed m name
+    plan = p header.shape header.seed m name own.mark
 
     abbrev WentTo : Did → Type 0
     WentTo did = Went header.shape.bind plan (turned w) (turned u) (chained t w) (chained t u) (ends did)
 
     asked : (did : Did) (went : WentTo did) → AskedSo (IsBirth m.owner.name name) (λ _. ⊥) (ChildOf header.shape header.seed m.owner name) header.shape.bind went.deeds (ends did)
     asked did went =
-        asked_so (IsBirth m.owner.name name) (λ _. ⊥) (ChildOf header.shape header.seed m.owner name) header.shape.bind plan (ends did) went.deeds went.leads (so.births header.shape header.seed m name)
+        asked_so (IsBirth m.owner.name name) (λ _. ⊥) (ChildOf header.shape header.seed m.owner name) header.shape.bind plan (ends did) went.deeds went.leads (so.births header.shape header.seed m name own.mark)
 
     on : (did : Did) (went : WentTo did) → GoesOn (turned w) (turned u) (chained t w) (chained t u) (entries_in header.shape.bind went.deeds) went.deeds
     on did went = record { gave = went.gave; does = went.does }
@@ -164,7 +165,7 @@ module _ {t : Tables} {k : Kept} {header : Header} {l l1 : Labelled} {moment : �
     -- it was left off
     pub accepts_left : ops.LeftOff header.shape.bind name plan (turned w) (turned u) (chained t w) (chained t u) → IsSection t (kept header (own_of l1 moment o waits)) u
     accepts_left off =
-        let a = asked_so (IsBirth m.owner.name name) (λ _. ⊥) (ChildOf header.shape header.seed m.owner name) header.shape.bind plan off.rest off.deeds off.leads (so.births header.shape header.seed m name) in
+        let a = asked_so (IsBirth m.owner.name name) (λ _. ⊥) (ChildOf header.shape header.seed m.owner name) header.shape.bind plan off.rest off.deeds off.leads (so.births header.shape header.seed m name own.mark) in
         let entries = entries_in header.shape.bind off.deeds in
         let now = labelled t roll (turned w) (turned u) (chained t w) (chained t u) (entries ++ off.back) off.deeds (record { gave = off.gave; does = off.does }) (was g).tells (stand g) (next_name more) name (ungiven g) (later g)
         m.owner.name (asks_back (IsBirth m.owner.name name) header.shape.bind name entries off.back refl off.gives a.entries) a.unhashed in

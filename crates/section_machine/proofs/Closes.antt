@@ -5,16 +5,16 @@ use Rattle.sock_card.specs.declared.owner.State.{State}
 use Rattle.sock_card.specs.declared.owner.State.TheVariants as states
 use Rattle.bind_buckets.specs.Turned.{View}
 use Rattle.chain_book.specs.declared.shape.Shape.{Shape}
-use Rattle.chain_deeds.specs.Sides.{Side}
+use Rattle.sock_ops.specs.Sides.{Side}
 use Rattle.table_model.specs.declared.operation.OpEnd.{OpEnd}
 use Rattle.table_model.specs.declared.operation.OpEnd.TheVariants as errors
 use Rattle.table_model.specs.Asking.{Asking, ends}
 use Rattle.table_model.specs.Own.{Mine}
 use Rattle.table_model.specs.Operations as plans
 use Rattle.table_model.specs.Operations.{gone, waiting, no_slot}
-use Rattle.shared_ops.specs.Closes.{ClosedBy}
-use Rattle.shared_ops.specs.Goes as ops
-use Rattle.shared_ops.specs.Goes.{Went, IsUndecided}
+use Rattle.sock_ops.specs.Closes.{ClosedBy}
+use Rattle.sock_ops.specs.Goes as ops
+use Rattle.sock_ops.specs.Goes.{Went, IsUndecided}
 use Rattle.section_machine.specs.Carried.{is_left_off, waits_by}
 use Rattle.section_machine.specs.Waits.{AreBefore, AreInOrder, HasRoomFor}
 use Rattle.section_machine.proofs.Asked.{asked_so, of_close, of_close_full, IsEnd, HasName, WaitsSince, WaitsFull}

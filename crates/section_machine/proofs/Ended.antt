@@ -17,12 +17,12 @@ use Rattle.sock_card.specs.declared.card.Kind.TheVariants as kinds
 use Rattle.table_model.specs.Operations as plans
 use Rattle.table_model.specs.Operations.{Closed, gone, waiting, no_slot, when_done}
 use Rattle.table_model.specs.Commands.{Replied, answers, close_command, close_reply, drop_command}
-use Rattle.shared_ops.specs.declared.sock.Sock.{Sock}
-use Rattle.shared_ops.specs.declared.tables.Tables.{Tables}
-use Rattle.shared_ops.specs.declared.tables.Worker.{Worker}
-use Rattle.shared_ops.specs.Goes.{Went}
-use Rattle.shared_ops.specs.Socks.{mine_of}
-use Rattle.shared_ops.specs.Stands.{IsReady, buckets_of, turned, chained}
+use Rattle.sock_ops.specs.declared.sock.Sock.{Sock}
+use Rattle.sock_ops.specs.declared.tables.Tables.{Tables}
+use Rattle.sock_ops.specs.declared.tables.Worker.{Worker}
+use Rattle.sock_ops.specs.Goes.{Went}
+use Rattle.sock_ops.specs.Socks.{mine_of}
+use Rattle.sock_ops.specs.Stands.{IsReady, buckets_of, turned, chained}
 use Rattle.section_machine.specs.Carried.{Carries, Ends, close_answer, waits_by}
 use Rattle.section_machine.specs.Places.{Labelled, Takes, own_of}
 use Rattle.section_machine.specs.Sections.{Kept, kept}

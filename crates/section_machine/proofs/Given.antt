@@ -14,13 +14,13 @@ use Rattle.port_search.proofs.TurnSearch.{gave_none}
 use Rattle.table_model.specs.Asking.{Asking, ends}
 use Rattle.table_model.specs.Own.{Own, Mine, Offsets, next_name, open_socket, with_label}
 use Rattle.table_model.specs.Commands.{Replied, answers}
-use Rattle.shared_ops.specs.declared.sock.Sock.{Sock}
-use Rattle.shared_ops.specs.declared.tables.Tables.{Tables}
-use Rattle.shared_ops.specs.declared.tables.Worker.{Worker}
-use Rattle.shared_ops.specs.Socks.{mine_of, FitsState}
-use Rattle.shared_ops.specs.Stands.{IsReady, MayTell, StandsAs, turned, chained}
-use Rattle.shared_ops.specs.There.{IsNew}
-use Rattle.shared_ops.proofs.Goes.{does_none}
+use Rattle.sock_ops.specs.declared.sock.Sock.{Sock}
+use Rattle.sock_ops.specs.declared.tables.Tables.{Tables}
+use Rattle.sock_ops.specs.declared.tables.Worker.{Worker}
+use Rattle.sock_ops.specs.Socks.{mine_of, FitsState}
+use Rattle.sock_ops.specs.Stands.{IsReady, MayTell, StandsAs, turned, chained}
+use Rattle.sock_ops.specs.There.{IsNew}
+use Rattle.sock_ops.proofs.Goes.{does_none}
 use Rattle.section_machine.specs.Carried.{Carries}
 use Rattle.section_machine.specs.Places.{Labelled, named_by, with_given, own_of}
 use Rattle.section_machine.specs.Sections.{Kept, kept}

@@ -8,7 +8,7 @@ use Rattle.table_model.specs.declared.operation.Cause.TheVariants as causes
 use Rattle.table_model.specs.declared.operation.OpEnd.{OpEnd}
 use Rattle.table_model.specs.declared.operation.OpEnd.TheVariants as errors
 use Rattle.table_model.specs.Own.{Mine, Offsets}
-use Rattle.shared_ops.specs.Goes.{NotBusy}
+use Rattle.sock_ops.specs.Goes.{NotBusy}
 use Rattle.section_machine.specs.Places.{Labelled, own_of, with_place, with_given}
 use Rattle.section_machine.specs.Sections.{Kept, kept, given_by, GivesLabels}
 

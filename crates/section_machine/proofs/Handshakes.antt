@@ -14,7 +14,7 @@ use Rattle.sock_card.specs.declared.owner.State.TheVariants as states
 use Rattle.turn_table.specs.Passes as words
 use Rattle.bind_buckets.specs.Turned.{View}
 use Rattle.chain_book.specs.declared.shape.Shape.{Shape}
-use Rattle.chain_deeds.specs.Sides.{Side}
+use Rattle.sock_ops.specs.Sides.{Side}
 use Rattle.flat_list.specs.declared.header.Header.{Header}
 use Rattle.flat_list.specs.declared.command.Reply.{Reply}
 use Rattle.flat_list.specs.declared.command.Reply.TheVariants as replies
@@ -29,14 +29,14 @@ use Rattle.table_model.specs.Own.{Own, Mine, Offsets, is_named, replaced, next_n
 use Rattle.table_model.specs.Operations as plans
 use Rattle.table_model.specs.Operations.{Did, done, refused}
 use Rattle.table_model.specs.Commands.{answers, ack_command, ack_reply, connect_error}
-use Rattle.shared_ops.specs.declared.sock.Sock.{Sock}
-use Rattle.shared_ops.specs.declared.tables.Tables.{Tables}
-use Rattle.shared_ops.specs.declared.tables.Worker.{Worker}
-use Rattle.shared_ops.specs.Goes as ops
-use Rattle.shared_ops.specs.Accepting.{accepted}
-use Rattle.shared_ops.specs.Goes.{Went, Carried}
-use Rattle.shared_ops.specs.Socks.{mine_of, FitsState}
-use Rattle.shared_ops.specs.Stands.{IsReady, MayTell, StandsAs, buckets_of, turned, chained}
+use Rattle.sock_ops.specs.declared.sock.Sock.{Sock}
+use Rattle.sock_ops.specs.declared.tables.Tables.{Tables}
+use Rattle.sock_ops.specs.declared.tables.Worker.{Worker}
+use Rattle.sock_ops.specs.Goes as ops
+use Rattle.sock_ops.specs.Accepting.{accepted}
+use Rattle.sock_ops.specs.Goes.{Went, Carried}
+use Rattle.sock_ops.specs.Socks.{mine_of, FitsState}
+use Rattle.sock_ops.specs.Stands.{IsReady, MayTell, StandsAs, buckets_of, turned, chained}
 use Rattle.section_machine.specs.Carried.{Carries}
 use Rattle.section_machine.specs.Places.{Labelled, Takes, IsUnnamed, at_place, those, with_given, with_place, own_of}
 use Rattle.section_machine.specs.Sections.{Kept, kept}
@@ -58,12 +58,12 @@ no_listener : (l r : Owner) → l.state ≡ states.Request → is_no_ack l r ≡
 no_listener l r e =
     or_left _ _ (or_left _ _ (or_left _ _ (or_left _ _ (or_left _ _ (ap (λ (state : State). not (is_listening state)) e)))))
 
-module _ (shape : Shape) (seed : ℕ) (r : Mine) (name : ℕ) where
+module _ (shape : Shape) (seed : ℕ) (r : Mine) (name mark : ℕ) where
   -- where no other socket is found, `ack` is refused
-  refused_by_itself : (x : Option Mine) (state : State) → r.owner.state ≡ state → ((l : Mine) → x ≡ Some l → l ≡ r) → plans.ack_from shape seed state r x name ≡ ends (refused errors.Inval)
+  refused_by_itself : (x : Option Mine) (state : State) → r.owner.state ≡ state → ((l : Mine) → x ≡ Some l → l ≡ r) → plans.ack_from shape seed state r x name mark ≡ ends (refused errors.Inval)
   refused_by_itself None states.Request e same = refl
   refused_by_itself (Some l) states.Request e same =
-      ap (λ (b : Bool). cond b (ends (refused errors.Inval)) (plans.ack_as shape seed r l.owner (heir_owner l.owner name r.owner)))
+      ap (λ (b : Bool). cond b (ends (refused errors.Inval)) (plans.ack_as shape seed r l.owner (heir_owner l.owner name mark r.owner)))
       (no_listener l.owner r.owner (ap (λ (m : Mine). m.owner.state) (same l refl) ∙ e))
   refused_by_itself x states.Unbound e same = refl
   refused_by_itself x states.Bound e same = refl
@@ -85,7 +85,7 @@ module _ (shape : Shape) (seed : ℕ) (r : Mine) (name : ℕ) where
   is_other x = not (is_named r.owner.name x)
 
   without_by : (ms : List Mine) (b : Bool) → (origin == r.owner.name) ≡ b → Each IsItIfNamed ms
-      → plans.ack shape seed r (find (is_named origin) (filter is_other ms)) name ≡ plans.ack shape seed r (find (is_named origin) ms) name
+      → plans.ack shape seed r (find (is_named origin) (filter is_other ms)) name mark ≡ plans.ack shape seed r (find (is_named origin) ms) name mark
   without_by ms true e only =
       let own : origin ≡ r.owner.name = eqb-true origin r.owner.name e in
       let rest = filter is_other ms in
@@ -94,16 +94,16 @@ module _ (shape : Shape) (seed : ℕ) (r : Mine) (name : ℕ) where
   without_by ms false e only =
       let differ : (x : Mine) → is_named origin x ≡ true → is_other x ≡ true =
       λ x is. ap not (ne_eqb x.owner.name r.owner.name (λ same. eqb-false origin r.owner.name e (sym (eqb-true x.owner.name origin is) ∙ same))) in
-      ap (λ (l : Option Mine). plans.ack shape seed r l name) (sym (find_filtered is_other (is_named origin) differ ms))
+      ap (λ (l : Option Mine). plans.ack shape seed r l name mark) (sym (find_filtered is_other (is_named origin) differ ms))
 
   -- so its listener may be looked for among the others
-  pub ack_without : (ms : List Mine) → Each IsItIfNamed ms → plans.ack shape seed r (find (is_named origin) (filter is_other ms)) name ≡ plans.ack shape seed r (find (is_named origin) ms) name
+  pub ack_without : (ms : List Mine) → Each IsItIfNamed ms → plans.ack shape seed r (find (is_named origin) (filter is_other ms)) name mark ≡ plans.ack shape seed r (find (is_named origin) ms) name mark
   ack_without ms only = without_by ms (origin == r.owner.name) refl only
 
 -- the child has the name that it was to have
-pub heir_named : (shape : Shape) (seed : ℕ) (r m : Mine) (l : Option Mine) (name count : ℕ) (v u : View) (c d : Side) → Went count (plans.ack shape seed r l name) v u c d (ends (done m)) → m.owner.name ≡ name
-heir_named shape seed r m l name count v u c d went =
-    (asked_so (IsBirth (name_or_none l) name) (HasName r.owner.name) (HeirBy l name) count (plans.ack shape seed r l name) (ends (done m)) went.deeds went.leads (of_ack shape seed r l name)).left.named
+pub heir_named : (shape : Shape) (seed : ℕ) (r m : Mine) (l : Option Mine) (name mark count : ℕ) (v u : View) (c d : Side) → Went count (plans.ack shape seed r l name mark) v u c d (ends (done m)) → m.owner.name ≡ name
+heir_named shape seed r m l name mark count v u c d went =
+    (asked_so (IsBirth (name_or_none l) name) (HasName r.owner.name) (HeirBy l name) count (plans.ack shape seed r l name mark) (ends (done m)) went.deeds went.leads (of_ack shape seed r l name mark)).left.named
 
 abbrev pub ack_asker : Asker
 ack_asker h x n o = ack_command h x n o
@@ -190,27 +190,27 @@ module _ {t : Tables} {k : Kept} {header : Header} {l l1 : Labelled} {moment : �
   abbrev parent : Option Mine
   parent = open_named more m.owner.origin
 
-  pub same_plan : (shape : Shape) (seed n : ℕ) (x : Option Mine) → n ≡ name → x ≡ found → plans.ack shape seed m x n ≡ plans.ack shape seed m parent name
-  same_plan shape seed n x named is =
-      ap (λ (y : ℕ). plans.ack shape seed m x y) named
-      ∙ (ap (λ (y : Option Mine). plans.ack shape seed m y name) (is ∙ ap (find (is_named m.owner.origin)) others_are)
-      ∙ ack_without shape seed m name own.sockets (only_one l i m g.before.names here))
+  pub same_plan : (shape : Shape) (seed n mark : ℕ) (x : Option Mine) → n ≡ name → mark ≡ own.mark → x ≡ found → plans.ack shape seed m x n mark ≡ plans.ack shape seed m parent name own.mark
+  same_plan shape seed n mark x named marked is =
+      (λ i. plans.ack shape seed m x (named i) (marked i))
+      ∙ (ap (λ (y : Option Mine). plans.ack shape seed m y name own.mark) (is ∙ ap (find (is_named m.owner.origin)) others_are)
+      ∙ ack_without shape seed m name own.mark own.sockets (only_one l i m g.before.names here))
 
   -- by the header
-  pub its_plan : (u : Worker) (n : ℕ) (x : Option Mine) (did : Did) → n ≡ name → x ≡ found → Went (buckets_of t) (plans.ack t.chains.layout.shape t.chains.layout.seed m x n) (turned w) (turned u) (chained t w) (chained t u) (ends did)
-      → Went header.shape.bind (plans.ack header.shape header.seed m parent name) (turned w) (turned u) (chained t w) (chained t u) (ends did)
-  its_plan u n x did named is went =
-      subst (λ (p : Asking Did). Went header.shape.bind p (turned w) (turned u) (chained t w) (chained t u) (ends did)) (same_plan header.shape header.seed n x named is)
-      (of_header header t (λ (shape : Shape) (seed : ℕ). plans.ack shape seed m x n) (turned w) (turned u) (chained t w) (chained t u) (ends did) (was g).tables went)
+  pub its_plan : (u : Worker) (n mark : ℕ) (x : Option Mine) (did : Did) → n ≡ name → mark ≡ own.mark → x ≡ found → Went (buckets_of t) (plans.ack t.chains.layout.shape t.chains.layout.seed m x n mark) (turned w) (turned u) (chained t w) (chained t u) (ends did)
+      → Went header.shape.bind (plans.ack header.shape header.seed m parent name own.mark) (turned w) (turned u) (chained t w) (chained t u) (ends did)
+  its_plan u n mark x did named marked is went =
+      subst (λ (p : Asking Did). Went header.shape.bind p (turned w) (turned u) (chained t w) (chained t u) (ends did)) (same_plan header.shape header.seed n mark x named marked is)
+      (of_header header t (λ (shape : Shape) (seed : ℕ). plans.ack shape seed m x n mark) (turned w) (turned u) (chained t w) (chained t u) (ends did) (was g).tables went)
 
   -- and where it is left off
-  pub its_off : (u : Worker) (n : ℕ) (x : Option Mine) (end : OpEnd) (cause : Cause) → n ≡ name → x ≡ found → end ≡ errors.LeftOff cause
-      → Carried accepted refused (buckets_of t) (plans.ack t.chains.layout.shape t.chains.layout.seed m x n) (turned w) (turned u) (chained t w) (chained t u) (Err end)
-      → ops.LeftOff header.shape.bind name (plans.ack header.shape header.seed m parent name) (turned w) (turned u) (chained t w) (chained t u)
-  its_off u n x end cause named is off carried =
-      subst (λ (p : Asking Did). ops.LeftOff header.shape.bind name p (turned w) (turned u) (chained t w) (chained t u)) (same_plan header.shape header.seed n x named is)
-      (subst (λ (b : ℕ). ops.LeftOff header.shape.bind b (plans.ack header.shape header.seed m x n) (turned w) (turned u) (chained t w) (chained t u)) named
-      (off_as accepted header t (λ (shape : Shape) (seed : ℕ). plans.ack shape seed m x n) (plans.ack t.chains.layout.shape t.chains.layout.seed m x n) n (turned w) (turned u) (chained t w) (chained t u) end cause (was g).tables refl off carried))
+  pub its_off : (u : Worker) (n mark : ℕ) (x : Option Mine) (end : OpEnd) (cause : Cause) → n ≡ name → mark ≡ own.mark → x ≡ found → end ≡ errors.LeftOff cause
+      → Carried accepted refused (buckets_of t) (plans.ack t.chains.layout.shape t.chains.layout.seed m x n mark) (turned w) (turned u) (chained t w) (chained t u) (Err end)
+      → ops.LeftOff header.shape.bind name (plans.ack header.shape header.seed m parent name own.mark) (turned w) (turned u) (chained t w) (chained t u)
+  its_off u n mark x end cause named marked is off carried =
+      subst (λ (p : Asking Did). ops.LeftOff header.shape.bind name p (turned w) (turned u) (chained t w) (chained t u)) (same_plan header.shape header.seed n mark x named marked is)
+      (subst (λ (b : ℕ). ops.LeftOff header.shape.bind b (plans.ack header.shape header.seed m x n mark) (turned w) (turned u) (chained t w) (chained t u)) named
+      (off_as accepted header t (λ (shape : Shape) (seed : ℕ). plans.ack shape seed m x n mark) (plans.ack t.chains.layout.shape t.chains.layout.seed m x n mark) n (turned w) (turned u) (chained t w) (chained t u) end cause (was g).tables refl off carried))
 
   -- the request is back at its place
 
@@ -233,14 +233,14 @@ module _ {t : Tables} {k : Kept} {header : Header} {l l1 : Labelled} {moment : �
 
   module _ (u : Worker) (ready : IsReady t u) (caller : words.caller u.turns ≡ words.caller w.turns) where
     abbrev plan : Asking Did
-    plan = plans.ack header.shape header.seed m parent name
+    plan = plans.ack header.shape header.seed m parent name own.mark
 
     abbrev WentTo : Did → Type 0
     WentTo did = Went header.shape.bind plan (turned w) (turned u) (chained t w) (chained t u) (ends did)
 
     asked : (did : Did) (went : WentTo did) → AskedSo (IsBirth (name_or_none parent) name) (HasName m.owner.name) (HeirBy parent name) header.shape.bind went.deeds (ends did)
     asked did went =
-        asked_so (IsBirth (name_or_none parent) name) (HasName m.owner.name) (HeirBy parent name) header.shape.bind plan (ends did) went.deeds went.leads (of_ack header.shape header.seed m parent name)
+        asked_so (IsBirth (name_or_none parent) name) (HasName m.owner.name) (HeirBy parent name) header.shape.bind plan (ends did) went.deeds went.leads (of_ack header.shape header.seed m parent name own.mark)
 
     on : (did : Did) (went : WentTo did) → GoesOn (turned w) (turned u) (chained t w) (chained t u) (entries_in header.shape.bind went.deeds) went.deeds
     on did went = record { gave = went.gave; does = went.does }
@@ -269,7 +269,7 @@ module _ {t : Tables} {k : Kept} {header : Header} {l l1 : Labelled} {moment : �
         → IsSection t (kept header (own_of l3 moment o waits)) u
     acks_left l3 off stands put =
         let P = IsBirth (name_or_none parent) name in
-        let a = asked_so P (HasName m.owner.name) (HeirBy parent name) header.shape.bind plan off.rest off.deeds off.leads (of_ack header.shape header.seed m parent name) in
+        let a = asked_so P (HasName m.owner.name) (HeirBy parent name) header.shape.bind plan off.rest off.deeds off.leads (of_ack header.shape header.seed m parent name own.mark) in
         let entries = entries_in header.shape.bind off.deeds in
         let now = still_there t roll (turned w) (turned u) (chained t w) (chained t u) (entries ++ off.back) off.deeds (record { gave = off.gave; does = off.does }) (was g).tells (stand g) (next_name more) name (ungiven g) (later g)
         (name_or_none parent) (asks_back P header.shape.bind name entries off.back refl off.gives a.entries) m there a.unhashed stands in

@@ -5,7 +5,7 @@ use Rattle.turn_table.specs.declared.note.Placed.{Placed}
 use Rattle.bind_buckets.specs.declared.request.Entry.{Entry}
 use Rattle.bind_buckets.specs.Turned.{View, Gave}
 use Rattle.chain_book.specs.declared.shape.Shape.{Shape}
-use Rattle.chain_deeds.specs.Sides.{Side}
+use Rattle.sock_ops.specs.Sides.{Side}
 use Rattle.flat_list.specs.declared.command.Command.{Command}
 use Rattle.flat_list.specs.declared.command.Command.TheVariants as commands
 use Rattle.flat_list.specs.declared.command.End.{End}
@@ -23,15 +23,15 @@ use Rattle.table_model.specs.Own.{Own, Mine, Offsets, open_socket, open_named as
 use Rattle.table_model.specs.Operations as plans
 use Rattle.table_model.specs.Operations.{Did, refused, kept_waits}
 use Rattle.table_model.specs.Commands.{Replied, answers, plan, bind_command, bind_reply, listen_command, connect_command, connect_reply, connect_rule, accept_command, syn_command, accept_reply, ack_command, ack_reply, close_command, close_reply, drop_command, after_search, searches_port, is_unbound, is_some}
-use Rattle.shared_ops.specs.declared.sock.Sock.{Sock}
-use Rattle.shared_ops.specs.declared.tables.Tables.{Tables}
-use Rattle.shared_ops.specs.declared.tables.Worker.{Worker}
-use Rattle.shared_ops.specs.Goes as ops
-use Rattle.shared_ops.specs.Goes.{Carried, CarriedOut, IsUndecided}
-use Rattle.shared_ops.specs.Leads.{Leads}
-use Rattle.shared_ops.specs.Socks.{mine_of}
-use Rattle.shared_ops.specs.Stands.{buckets_of, turned, chained}
-use Rattle.shared_ops.proofs.Goes.{carried_out, does_none}
+use Rattle.sock_ops.specs.declared.sock.Sock.{Sock}
+use Rattle.sock_ops.specs.declared.tables.Tables.{Tables}
+use Rattle.sock_ops.specs.declared.tables.Worker.{Worker}
+use Rattle.sock_ops.specs.Goes as ops
+use Rattle.sock_ops.specs.Goes.{Carried, CarriedOut, IsUndecided}
+use Rattle.sock_ops.specs.Leads.{Leads}
+use Rattle.sock_ops.specs.Socks.{mine_of}
+use Rattle.sock_ops.specs.Stands.{buckets_of, turned, chained}
+use Rattle.sock_ops.proofs.Goes.{carried_out, does_none}
 use Rattle.section_machine.specs.LeftOff.{IsLeftOff, Leaves, LacksLabel, GivesLabel, GivesBack, StopsReaping, speaker, socket_name, is_of_socket, IsUntouched}
 use Rattle.section_machine.specs.Places.{Labelled, Takes, own_of, with_given, with_place, named_by}
 use Rattle.section_machine.specs.Searches as searches
@@ -202,18 +202,18 @@ ack_gives request label = record { speaks = λ own. refl; leaves = λ own deeds 
 
 -- what it is by the socket that its other label names
 module _ (header : Header) (own : Own) (m : Mine) (name label : List ℕ) (named : open_socket own name ≡ Some m) where
-  pub accept_plan : (from at : End) → plan header own (commands.Accept name label from at) ≡ and_then (plans.accept header.shape header.seed m (next_name own) from at) (λ did. ends (accept_reply (with_label own label) did))
+  pub accept_plan : (from at : End) → plan header own (commands.Accept name label from at) ≡ and_then (plans.accept header.shape header.seed m (next_name own) own.mark from at) (λ did. ends (accept_reply (with_label own label) did))
   unfolding plan
   accept_plan from at =
       ap (λ (x : Option Mine). accept_command header (with_label own label) (next_name own) x from at) named
 
-  pub syn_plan : (from at : End) → plan header own (commands.Syn name label from at) ≡ and_then (plans.syn header.shape header.seed m (next_name own) from at) (λ did. ends (accept_reply (with_label own label) did))
+  pub syn_plan : (from at : End) → plan header own (commands.Syn name label from at) ≡ and_then (plans.syn header.shape header.seed m (next_name own) own.mark from at) (λ did. ends (accept_reply (with_label own label) did))
   unfolding plan
   syn_plan from at =
       ap (λ (x : Option Mine). syn_command header (with_label own label) (next_name own) x from at) named
 
   pub ack_plan : plan header own (commands.Ack name label)
-      ≡ and_then (plans.ack header.shape header.seed m (socket_of (with_label own label) m.owner.origin) (next_name own)) (λ did. ends (ack_reply (with_label own label) m.owner.name did))
+      ≡ and_then (plans.ack header.shape header.seed m (socket_of (with_label own label) m.owner.origin) (next_name own) own.mark) (λ did. ends (ack_reply (with_label own label) m.owner.name did))
   unfolding plan
   ack_plan = ap (λ (x : Option Mine). ack_command header (with_label own label) (next_name own) x) named
 

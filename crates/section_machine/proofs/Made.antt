@@ -11,10 +11,10 @@ use Rattle.table_model.specs.Asking.{ends}
 use Rattle.table_model.specs.Own.{Own, Mine, Offsets, with_label, next_name}
 use Rattle.table_model.specs.Operations.{plain}
 use Rattle.table_model.specs.Commands.{answers, socket_command}
-use Rattle.shared_ops.specs.declared.tables.Tables.{Tables}
-use Rattle.shared_ops.specs.declared.tables.Worker.{Worker}
-use Rattle.shared_ops.specs.Stands.{turned, chained}
-use Rattle.shared_ops.proofs.Goes.{does_none}
+use Rattle.sock_ops.specs.declared.tables.Tables.{Tables}
+use Rattle.sock_ops.specs.declared.tables.Worker.{Worker}
+use Rattle.sock_ops.specs.Stands.{turned, chained}
+use Rattle.sock_ops.proofs.Goes.{does_none}
 use Rattle.section_machine.specs.Carried.{Carries}
 use Rattle.section_machine.specs.Places.{Labelled, with_given, with_place, own_of}
 use Rattle.section_machine.specs.Sections.{Kept, kept}
@@ -33,12 +33,12 @@ next_rises own label = omega (arith, length-append own.labels (label ∷ []))
 
 -- a new socket
 pub made : (t : Tables) (k : Kept) (header : Header) (l l1 l2 : Labelled) (moment : ℕ) (o : Offsets) (waits : List Mine) (label : List ℕ) (options : Options) (w : Worker) → kept header (own_of l moment o waits) ≡ k
-    → length l.places ≡ length l.labels → l1 ≡ with_given l label → l2 ≡ with_place l1 (length l.labels) (Some (plain (new_owner (name_at l.number (length l.labels)) options))) → length k.own.labels + 1 < 2 ^ 56 → IsSection t k w
+    → length l.places ≡ length l.labels → l1 ≡ with_given l label → l2 ≡ with_place l1 (length l.labels) (Some (plain (new_owner (name_at l.number (length l.labels)) l.mark options))) → length k.own.labels + 1 < 2 ^ 56 → IsSection t k w
     → Carries t k (socket_command k.own label options) (kept header (own_of l2 moment o waits)) w w replies.Ok
 made t k header l l1 l2 moment o waits label options w view count given is few section =
     let own = own_of l moment o waits in
     let name = name_at l.number (length l.labels) in
-    let m : Mine = plain (new_owner name options) in
+    let m : Mine = plain (new_owner name l.mark options) in
     let was : IsSection t (kept header own) w = subst (λ (x : Kept). IsSection t x w) (sym view) section in
     let room : length l.labels + 1 < 2 ^ 56 = subst (λ (x : Kept). length x.own.labels + 1 < 2 ^ 56) (sym view) few in
     let un = next_ungiven own in

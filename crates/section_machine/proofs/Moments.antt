@@ -6,8 +6,8 @@ use Rattle.flat_list.specs.declared.command.Reply.TheVariants as replies
 use Rattle.table_model.specs.Asking.{ends}
 use Rattle.table_model.specs.Own.{Mine, Offsets}
 use Rattle.table_model.specs.Commands.{answers, at_command}
-use Rattle.shared_ops.specs.declared.tables.Tables.{Tables}
-use Rattle.shared_ops.specs.declared.tables.Worker.{Worker}
+use Rattle.sock_ops.specs.declared.tables.Tables.{Tables}
+use Rattle.sock_ops.specs.declared.tables.Worker.{Worker}
 use Rattle.section_machine.specs.Carried.{Carries}
 use Rattle.section_machine.specs.Places.{Labelled, own_of}
 use Rattle.section_machine.specs.Sections.{Kept, kept}

@@ -18,8 +18,8 @@ use Rattle.bind_buckets.specs.Followed.{told, told_from, speaks_of, is_mine, is_
 use Rattle.bind_buckets.specs.OwnerStep.{has_name}
 use Rattle.bind_buckets.specs.OwnTold.{KeepsOpen, removes_waiting, is_told, own_given, told_next}
 use Rattle.bind_buckets.specs.Turned.{View, Gave}
-use Rattle.shared_ops.specs.Stands.{Knows}
-use Rattle.shared_ops.proofs.Knows.{told_by}
+use Rattle.sock_ops.specs.Stands.{Knows}
+use Rattle.sock_ops.proofs.Knows.{told_by}
 use Rattle.bind_buckets.proofs.Filtered.{find_filtered}
 use Rattle.bind_buckets.proofs.ToldByOwn.{named_mine, told_seen}
 use Rattle.bind_buckets.proofs.OwnTold.{told_push}
@@ -38,7 +38,7 @@ speaks_both set mine ours (requests.Listen name slot) meet = meet name
 speaks_both set mine ours (requests.Free port net) meet = refl
 speaks_both set mine ours (requests.ConnectAuto a) meet = meet a.name
 speaks_both set mine ours (requests.ConnectBound name local remote rport) meet = meet name
-speaks_both set mine ours (requests.Inherit parent name local remote rport) meet = meet name
+speaks_both set mine ours (requests.Inherit parent name mark local remote rport) meet = meet name
 speaks_both set mine ours (requests.ToTimeWait name) meet = meet name
 speaks_both set mine ours (requests.Remove name) meet = meet name
 speaks_both set mine ours (requests.RemoveWaiting name) meet = meet name
@@ -50,7 +50,7 @@ turned false true = refl
 turned false false = refl
 
 whole_both : (set mine ours : ℕ → Bool) (request : Request) → IsMeet set mine ours → KeepsOpen mine request → KeepsOpen ours request → IsWhole set request
-whole_both set mine ours (requests.Inherit parent name local remote rport) meet k h =
+whole_both set mine ours (requests.Inherit parent name mark local remote rport) meet k h =
     λ said. let parts = and_parts (mine name) (ours name) (sym (meet name) ∙ said) in
     meet parent ∙ both_true (mine parent) (ours parent) (k parts.0) (h parts.1)
 whole_both set mine ours _ meet k h = tt
@@ -95,7 +95,7 @@ abbrev pub Misses : ℕ → Entry → Type 0
 Misses name e = is_told (λ n. n == name) e ≡ false
 
 unspoken_whole : (mine : ℕ → Bool) (request : Request) → speaks_of mine request ≡ false → IsWhole mine request
-unspoken_whole mine (requests.Inherit parent name local remote rport) none = λ said. absurd (false≢true (sym none ∙ said))
+unspoken_whole mine (requests.Inherit parent name mark local remote rport) none = λ said. absurd (false≢true (sym none ∙ said))
 unspoken_whole mine _ none = tt
 
 first_stays : (name : ℕ) (owners : List Owner) (e : Entry) → speaks_of (λ n. n == name) e.request ≡ false → find (has_name name) (told owners e.request e.answer) ≡ find (has_name name) owners

@@ -12,11 +12,11 @@ use Rattle.bind_buckets.specs.declared.request.Entry.{Entry}
 use Rattle.bind_buckets.specs.OwnTold.{KeepsOpen}
 use Rattle.bind_buckets.proofs.OwnTold.{with_name}
 use Rattle.bind_buckets.specs.Turned.{View, Gave}
-use Rattle.chain_deeds.specs.Sides.{Side}
+use Rattle.sock_ops.specs.Sides.{Side}
 use Rattle.table_model.specs.Own.{Mine}
-use Rattle.shared_ops.specs.declared.tables.Tables.{Tables}
-use Rattle.shared_ops.specs.There.{IsNew}
-use Rattle.shared_ops.proofs.Knows.{new_away}
+use Rattle.sock_ops.specs.declared.tables.Tables.{Tables}
+use Rattle.sock_ops.specs.There.{IsNew}
+use Rattle.sock_ops.proofs.Knows.{new_away}
 use Rattle.section_machine.specs.Standing.{Roll, IsGiven, IsUngiven, Tells, IsApart, Family, StandsIn, IsOpen, IsUnspoken}
 use Rattle.section_machine.proofs.Names.{Misses, AllKeep, each_given}
 use Rattle.section_machine.proofs.Asked.{IsBirth}
@@ -27,7 +27,7 @@ unspoken_keeps : (name : ℕ) (request : Request) → Missed name request → Ke
 unspoken_keeps name (requests.Bind a) none = λ said. absurd (false≢true (sym none ∙ said))
 unspoken_keeps name (requests.BindAuto a) none = λ said. absurd (false≢true (sym none ∙ said))
 unspoken_keeps name (requests.ConnectAuto a) none = λ said. absurd (false≢true (sym none ∙ said))
-unspoken_keeps name (requests.Inherit parent n local remote rport) none = λ said. absurd (false≢true (sym none ∙ said))
+unspoken_keeps name (requests.Inherit parent n mark local remote rport) none = λ said. absurd (false≢true (sym none ∙ said))
 unspoken_keeps name (requests.ToTimeWait n) none = none
 unspoken_keeps name _ none = tt
 
@@ -77,7 +77,7 @@ module _ (mine : ℕ → Bool) (name : ℕ) where
   with_keeps (requests.Bind a) keeps none = λ said. by_or (mine a.name) (a.name == name) said keeps (λ is. absurd (false≢true (sym none ∙ is)))
   with_keeps (requests.BindAuto a) keeps none = λ said. by_or (mine a.name) (a.name == name) said keeps (λ is. absurd (false≢true (sym none ∙ is)))
   with_keeps (requests.ConnectAuto a) keeps none = λ said. by_or (mine a.name) (a.name == name) said keeps (λ is. absurd (false≢true (sym none ∙ is)))
-  with_keeps (requests.Inherit parent n local remote rport) keeps none =
+  with_keeps (requests.Inherit parent n mark local remote rport) keeps none =
       λ said. by_or (mine n) (n == name) said (λ own. or_left (mine parent) (parent == name) (keeps own)) (λ is. absurd (false≢true (sym none ∙ is)))
   with_keeps (requests.ToTimeWait n) keeps none = or_none (mine n) (n == name) keeps none
   with_keeps _ keeps none = tt

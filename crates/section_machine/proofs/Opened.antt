@@ -10,8 +10,8 @@ use Rattle.std.specs.Prelude.{MatchOption, option_and_then}
 use Rattle.open_places.specs.Cells.{AreEmptyFrom, IsNextFull}
 use Rattle.flat_list.specs.Sections.{name_at}
 use Rattle.table_model.specs.Own.{Mine, Offsets, open_named}
-use Rattle.shared_ops.specs.declared.sock.Sock.{Sock}
-use Rattle.shared_ops.specs.Socks.{mine_of}
+use Rattle.sock_ops.specs.declared.sock.Sock.{Sock}
+use Rattle.sock_ops.specs.Socks.{mine_of}
 use Rattle.section_machine.specs.Opened.{NoneAbove, IsNextOpen}
 use Rattle.section_machine.specs.Places.{Labelled, HaveNames, KeepsLabels, at_place, mines, own_of, those}
 use Rattle.section_machine.proofs.Places.{named_there, none_before}
@@ -73,6 +73,7 @@ pub own_kept : (old new : Labelled) → KeepsLabels old new → (moment : ℕ) (
 own_kept old new same moment offsets waits = λ i. record {
   number = same.number i;
   labels = same.labels i;
+  mark = same.mark i;
   moment = moment;
   offsets = offsets;
   sockets = those (same.places i);
@@ -82,6 +83,7 @@ own_kept old new same moment offsets waits = λ i. record {
 pub kept_twice : (a b c : Labelled) → KeepsLabels a b → KeepsLabels b c → KeepsLabels a c
 kept_twice a b c first second = record {
   number = second.number ∙ first.number;
+  mark = second.mark ∙ first.mark;
   labels = second.labels ∙ first.labels;
   places = second.places ∙ first.places;
 }

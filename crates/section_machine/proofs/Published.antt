@@ -1,10 +1,10 @@
 -- Whose worker keeps its lists of groups published.
 use Rattle.reuseport_group.specs.Passes as lists
-use Rattle.shared_ops.specs.declared.tables.Tables.{Tables}
-use Rattle.shared_ops.specs.declared.tables.Worker.{Worker}
-use Rattle.shared_ops.specs.Groups.{KeepsLists}
-use Rattle.shared_ops.specs.Stands.{turned}
-use Rattle.shared_ops.proofs.Listed.{same_keeps, keeps_both}
+use Rattle.sock_ops.specs.declared.tables.Tables.{Tables}
+use Rattle.sock_ops.specs.declared.tables.Worker.{Worker}
+use Rattle.sock_ops.specs.Groups.{KeepsLists}
+use Rattle.sock_ops.specs.Stands.{turned}
+use Rattle.sock_ops.proofs.Listed.{same_keeps, keeps_both}
 
 -- one that does nothing
 pub rests_listed : (t : Tables) (w : Worker) → KeepsLists t w w

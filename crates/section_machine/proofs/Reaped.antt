@@ -9,10 +9,10 @@ use Rattle.table_model.specs.Asking.{Asking, ends}
 use Rattle.table_model.specs.Own.{Own, Mine, Offsets, is_over}
 use Rattle.table_model.specs.Operations.{reap, reap_each, reaped_next, kept_waits}
 use Rattle.table_model.specs.Commands.{answers, reap_command}
-use Rattle.shared_ops.specs.declared.tables.Tables.{Tables}
-use Rattle.shared_ops.specs.declared.tables.Worker.{Worker}
-use Rattle.shared_ops.specs.Goes.{Went}
-use Rattle.shared_ops.specs.Stands.{IsReady, MayDraw, buckets_of, turned, chained}
+use Rattle.sock_ops.specs.declared.tables.Tables.{Tables}
+use Rattle.sock_ops.specs.declared.tables.Worker.{Worker}
+use Rattle.sock_ops.specs.Goes.{Went}
+use Rattle.sock_ops.specs.Stands.{IsReady, MayDraw, buckets_of, turned, chained}
 use Rattle.section_machine.specs.Carried.{Carries, Spends}
 use Rattle.section_machine.specs.LeftOff.{StopsReaping}
 use Rattle.section_machine.specs.Places.{Labelled, own_of}

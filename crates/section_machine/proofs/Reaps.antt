@@ -6,19 +6,19 @@ use Rattle.list_words.proofs.EachLemmas.{each_push}
 use Rattle.turn_table.specs.Passes as words
 use Rattle.table_rule.specs.Calls.{HasShares}
 use Rattle.bind_buckets.specs.Turned.{Gave}
-use Rattle.chain_deeds.specs.Made.{Does}
-use Rattle.chain_deeds.specs.Sides.{Side}
+use Rattle.sock_ops.specs.Made.{Does}
+use Rattle.sock_ops.specs.Sides.{Side}
 use Rattle.table_model.specs.Asking.{Asking, ends}
 use Rattle.table_model.specs.Own.{Mine, is_over}
 use Rattle.table_model.specs.Operations.{reap, reap_each, kept_waits}
-use Rattle.shared_ops.specs.declared.tables.Tables.{Tables}
-use Rattle.shared_ops.specs.declared.tables.Worker.{Worker}
-use Rattle.shared_ops.specs.Goes.{Went}
-use Rattle.shared_ops.specs.Groups.{KeepsLists}
-use Rattle.shared_ops.specs.Reaping.{ReapsOne, counted}
-use Rattle.shared_ops.specs.Spends.{Draws}
-use Rattle.shared_ops.specs.Stands.{IsReady, MayDraw, MayEnter, buckets_of, turned, chained}
-use Rattle.shared_ops.proofs.Goes.{does_none, went_both, went_nowhere}
+use Rattle.sock_ops.specs.declared.tables.Tables.{Tables}
+use Rattle.sock_ops.specs.declared.tables.Worker.{Worker}
+use Rattle.sock_ops.specs.Goes.{Went}
+use Rattle.sock_ops.specs.Groups.{KeepsLists}
+use Rattle.sock_ops.specs.Reaping.{ReapsOne, counted}
+use Rattle.sock_ops.specs.Spends.{Draws}
+use Rattle.sock_ops.specs.Stands.{IsReady, MayDraw, MayEnter, buckets_of, turned, chained}
+use Rattle.sock_ops.proofs.Goes.{does_none, went_both, went_nowhere}
 use Rattle.section_machine.specs.LeftOff.{StopsReaping}
 use Rattle.section_machine.specs.Waits.{AreBefore, AreInOrder, first_over}
 use Rattle.section_machine.proofs.Published.{rests_listed, goes_listed}

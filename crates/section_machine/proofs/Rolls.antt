@@ -7,11 +7,11 @@ use Rattle.sock_card.specs.declared.owner.State.TheVariants as states
 use Rattle.turn_table.specs.declared.note.Placed.{Placed}
 use Rattle.bind_buckets.specs.declared.request.Entry.{Entry}
 use Rattle.bind_buckets.specs.Turned.{View}
-use Rattle.chain_deeds.specs.Sides.{Side}
-use Rattle.chain_deeds.specs.Made.{Spares}
+use Rattle.sock_ops.specs.Sides.{Side}
+use Rattle.sock_ops.specs.Made.{Spares}
 use Rattle.race_record.specs.Deeds.{Deed}
 use Rattle.table_model.specs.Own.{Mine, is_named, replaced}
-use Rattle.shared_ops.specs.declared.tables.Tables.{Tables}
+use Rattle.sock_ops.specs.declared.tables.Tables.{Tables}
 use Rattle.section_machine.specs.Standing.{Roll, IsGiven, IsUngiven, Tells, IsApart, Family, StandsIn, IsOpen, AllOpen, IsUnspoken}
 use Rattle.section_machine.proofs.Asked.{IsAbout, IsBirth, IsEnd, IsPast, HasName, OnLeft}
 use Rattle.section_machine.proofs.Stays.{Asks, GoesOn, Grows, about_pass, birth_pass, end_pass, past_pass, about_keep, birth_keep, spared, none_left, family_on, other_on, unspoken_on, no_name, given_differs, miss_of, each_replaced, each_without}

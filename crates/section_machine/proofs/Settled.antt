@@ -13,8 +13,8 @@ use Rattle.flat_list.specs.declared.header.Header.{Header}
 use Rattle.flat_list.specs.declared.command.Reply.{Reply}
 use Rattle.flat_list.specs.declared.command.Reply.TheVariants as replies
 use Rattle.flat_list.specs.Sections.{name_at}
-use Rattle.chain_deeds.specs.Made.{Does}
-use Rattle.chain_deeds.specs.Sides.{Side}
+use Rattle.sock_ops.specs.Made.{Does}
+use Rattle.sock_ops.specs.Sides.{Side}
 use Rattle.port_search.proofs.TurnSearch.{gave_none}
 use Rattle.race_record.specs.Deeds.{Deed, entries_in}
 use Rattle.race_record.specs.Goes.{Goes}
@@ -25,15 +25,15 @@ use Rattle.table_model.specs.Asking.{Asking, ends, and_then}
 use Rattle.table_model.specs.Own.{Own, Mine, Offsets, with_socket, open_socket}
 use Rattle.table_model.specs.Operations.{Did, done, refused}
 use Rattle.table_model.specs.Commands.{Replied, answers, after_search}
-use Rattle.shared_ops.specs.declared.sock.Sock.{Sock}
-use Rattle.shared_ops.specs.declared.sock.Sock.TheVariants as socks
-use Rattle.shared_ops.specs.declared.tables.Tables.{Tables}
-use Rattle.shared_ops.specs.declared.tables.Worker.{Worker}
-use Rattle.shared_ops.specs.Goes as ops
-use Rattle.shared_ops.specs.Goes.{Went, Carried, CarriedOut}
-use Rattle.shared_ops.specs.Socks.{mine_of, FitsState}
-use Rattle.shared_ops.specs.Stands.{IsReady, MayTell, StandsAs, buckets_of, turned, chained}
-use Rattle.shared_ops.proofs.Goes.{goes_by, does_none}
+use Rattle.sock_ops.specs.declared.sock.Sock.{Sock}
+use Rattle.sock_ops.specs.declared.sock.Sock.TheVariants as socks
+use Rattle.sock_ops.specs.declared.tables.Tables.{Tables}
+use Rattle.sock_ops.specs.declared.tables.Worker.{Worker}
+use Rattle.sock_ops.specs.Goes as ops
+use Rattle.sock_ops.specs.Goes.{Went, Carried, CarriedOut}
+use Rattle.sock_ops.specs.Socks.{mine_of, FitsState}
+use Rattle.sock_ops.specs.Stands.{IsReady, MayTell, StandsAs, buckets_of, turned, chained}
+use Rattle.sock_ops.proofs.Goes.{goes_by, does_none}
 use Rattle.section_machine.specs.Carried.{Carries, is_left_off}
 use Rattle.section_machine.specs.Places.{Labelled, HaveNames, at_place, those, IsUnnamed, Takes, with_place, own_of}
 use Rattle.section_machine.specs.Searches as searches

@@ -2,9 +2,9 @@
 use Rattle.std.proofs.Common.{◌≡◌, ℕ, ◌+◌, ◌*◌, ◌≤◌, List, length, ap, arith}
 use Rattle.turn_table.specs.Passes as words
 use Rattle.table_model.specs.Own.{Mine}
-use Rattle.shared_ops.specs.declared.tables.Worker.{Worker}
-use Rattle.shared_ops.specs.Spends.{Draws}
-use Rattle.shared_ops.specs.Stands.{MayEnter, MayDraw}
+use Rattle.sock_ops.specs.declared.tables.Worker.{Worker}
+use Rattle.sock_ops.specs.Spends.{Draws}
+use Rattle.sock_ops.specs.Stands.{MayEnter, MayDraw}
 use Rattle.section_machine.specs.Carried.{HasEnough, Spends}
 use Rattle.section_machine.specs.Sections.{Kept}
 

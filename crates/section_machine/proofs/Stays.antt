@@ -19,14 +19,14 @@ use Rattle.bind_buckets.specs.Followed.{speaks_of}
 use Rattle.bind_buckets.specs.Turned.{View, Gave}
 use Rattle.chain_book.specs.Homes.{home}
 use Rattle.table_rule.specs.declared.view.Layout.{Layout}
-use Rattle.chain_deeds.specs.Sides.{Side}
-use Rattle.chain_deeds.specs.Made.{Does, AllLeave, Spares}
+use Rattle.sock_ops.specs.Sides.{Side}
+use Rattle.sock_ops.specs.Made.{Does, AllLeave, Spares}
 use Rattle.race_record.specs.Deeds.{Deed, entered, inserted, added, left, reaped}
 use Rattle.table_model.specs.Own.{Mine, is_named, replaced, card_of}
-use Rattle.shared_ops.specs.declared.tables.Tables.{Tables}
-use Rattle.shared_ops.specs.Goes.{GivesUp}
-use Rattle.shared_ops.specs.Stands.{Knows, IsOwner, IsHashed, place_in, buckets_of}
-use Rattle.shared_ops.proofs.Knows.{stands_of, known_of}
+use Rattle.sock_ops.specs.declared.tables.Tables.{Tables}
+use Rattle.sock_ops.specs.Goes.{GivesUp}
+use Rattle.sock_ops.specs.Stands.{Knows, IsOwner, IsHashed, place_in, buckets_of}
+use Rattle.sock_ops.proofs.Knows.{stands_of, known_of}
 use Rattle.section_machine.specs.Standing.{Roll, IsGiven, IsUngiven, Tells, IsApart, Family, StandsIn, IsOpen, IsUnspoken}
 use Rattle.section_machine.proofs.Names.{Misses, AllKeep, AllMiss, known_still}
 use Rattle.section_machine.proofs.Asked.{IsAbout, IsBirth, IsEnd, IsPast, HasName, OnLeft}
@@ -47,7 +47,7 @@ about_misses b a (requests.Listen n slot) ne h = other n b a h ne
 about_misses b a (requests.Free port net) ne h = refl
 about_misses b a (requests.ConnectAuto x) ne h = other x.name b a h.0 ne
 about_misses b a (requests.ConnectBound n local remote rport) ne h = other n b a h ne
-about_misses b a (requests.Inherit parent n local remote rport) ne h = absurd h
+about_misses b a (requests.Inherit parent n mark local remote rport) ne h = absurd h
 about_misses b a (requests.ToTimeWait n) ne h = absurd h
 about_misses b a (requests.Remove n) ne h = other n b a h ne
 about_misses b a (requests.RemoveWaiting n) ne h = refl
@@ -60,19 +60,19 @@ about_keeps mine b (requests.MayListen n) h = tt
 about_keeps mine b (requests.Listen n slot) h = tt
 about_keeps mine b (requests.Free port net) h = tt
 about_keeps mine b (requests.ConnectBound n local remote rport) h = tt
-about_keeps mine b (requests.Inherit parent n local remote rport) h = absurd h
+about_keeps mine b (requests.Inherit parent n mark local remote rport) h = absurd h
 about_keeps mine b (requests.ToTimeWait n) h = absurd h
 about_keeps mine b (requests.Remove n) h = tt
 about_keeps mine b (requests.RemoveWaiting n) h = tt
 
 birth_misses : (p b a : ℕ) (request : Request) → b ≢ a → IsBirth p b request → Missed a request
-birth_misses p b a (requests.Inherit parent n local remote rport) ne h = other n b a h.1 ne
+birth_misses p b a (requests.Inherit parent n mark local remote rport) ne h = other n b a h.1 ne
 birth_misses p b a (requests.Remove n) ne h = other n b a h ne
 birth_misses p b a (requests.RemoveWaiting n) ne h = refl
 birth_misses p b a _ ne h = absurd h
 
 birth_keeps : (mine : ℕ → Bool) (p b : ℕ) (request : Request) → (mine b ≡ true → mine p ≡ true) → IsBirth p b request → KeepsOpen mine request
-birth_keeps mine p b (requests.Inherit parent n local remote rport) beside h =
+birth_keeps mine p b (requests.Inherit parent n mark local remote rport) beside h =
     λ said. ap mine h.0 ∙ beside (sym (ap mine h.1) ∙ said)
 birth_keeps mine p b (requests.Remove n) beside h = tt
 birth_keeps mine p b (requests.RemoveWaiting n) beside h = tt

@@ -4,9 +4,9 @@ use Rattle.std.specs.Prelude.{IfOk, OnErr}
 use Rattle.flat_list.specs.declared.command.Command.{Command}
 use Rattle.flat_list.specs.declared.command.Reply.{Reply}
 use Rattle.table_model.specs.Commands.{plan}
-use Rattle.shared_ops.specs.declared.tables.Tables.{Tables}
-use Rattle.shared_ops.specs.declared.tables.Worker.{Worker}
-use Rattle.shared_ops.specs.Stands.{turned, chained}
+use Rattle.sock_ops.specs.declared.tables.Tables.{Tables}
+use Rattle.sock_ops.specs.declared.tables.Worker.{Worker}
+use Rattle.sock_ops.specs.Stands.{turned, chained}
 use Rattle.section_machine.specs.Carried.{Carries}
 use Rattle.section_machine.specs.Sections.{Kept, Did}
 use Rattle.section_machine.specs.Standing.{IsSection}

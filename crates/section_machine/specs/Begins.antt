@@ -3,9 +3,9 @@ use Rattle.std.specs.Prelude.{◌≡◌, ℕ, ◌*◌, ◌≤◌, ◌^◌, []}
 use Rattle.turn_table.specs.Passes as words
 use Rattle.flat_list.specs.declared.header.Header.{Header}
 use Rattle.table_model.specs.Own.{new_own}
-use Rattle.shared_ops.specs.declared.tables.Tables.{Tables}
-use Rattle.shared_ops.specs.declared.tables.Worker.{Worker}
-use Rattle.shared_ops.specs.Stands.{IsReady, turned}
+use Rattle.sock_ops.specs.declared.tables.Tables.{Tables}
+use Rattle.sock_ops.specs.declared.tables.Worker.{Worker}
+use Rattle.sock_ops.specs.Stands.{IsReady, turned}
 use Rattle.section_machine.specs.Sections.{kept}
 use Rattle.section_machine.specs.Standing.{AreOf, IsSection, IsUnspoken, Tells}
 

@@ -7,8 +7,8 @@ use Rattle.turn_table.specs.Passes as words
 use Rattle.bind_buckets.specs.Turned.{View, Gave}
 use Rattle.flat_list.specs.declared.command.Reply.{Reply}
 use Rattle.flat_list.specs.declared.command.Reply.TheVariants as replies
-use Rattle.chain_deeds.specs.Made.{Does}
-use Rattle.chain_deeds.specs.Sides.{Side}
+use Rattle.sock_ops.specs.Made.{Does}
+use Rattle.sock_ops.specs.Sides.{Side}
 use Rattle.race_record.specs.Deeds.{Deed, entries_in}
 use Rattle.race_record.specs.Goes.{Goes}
 use Rattle.table_model.specs.declared.operation.OpEnd.{OpEnd}
@@ -17,10 +17,10 @@ use Rattle.table_model.specs.Asking.{Asking, ends}
 use Rattle.table_model.specs.Own.{Mine}
 use Rattle.table_model.specs.Operations as plans
 use Rattle.table_model.specs.Commands.{Replied, answers}
-use Rattle.shared_ops.specs.declared.tables.Tables.{Tables}
-use Rattle.shared_ops.specs.declared.tables.Worker.{Worker}
-use Rattle.shared_ops.specs.Goes.{Went}
-use Rattle.shared_ops.specs.Stands.{MayEnter, MayDraw, turned, chained}
+use Rattle.sock_ops.specs.declared.tables.Tables.{Tables}
+use Rattle.sock_ops.specs.declared.tables.Worker.{Worker}
+use Rattle.sock_ops.specs.Goes.{Went}
+use Rattle.sock_ops.specs.Stands.{MayEnter, MayDraw, turned, chained}
 use Rattle.section_machine.specs.Sections.{Kept}
 use Rattle.section_machine.specs.Standing.{IsSection}
 

@@ -2,7 +2,7 @@
 -- does.
 use Rattle.std.specs.Prelude.{◌≡◌, ℕ, ◌<◌, ◌≤◌, ◌^◌, List, length, Option}
 use Rattle.flat_list.specs.Sections.{name_at}
-use Rattle.shared_ops.specs.declared.sock.Sock.{Sock}
+use Rattle.sock_ops.specs.declared.sock.Sock.{Sock}
 use Rattle.section_machine.specs.Places.{HaveNames, mines}
 
 -- names fit, and each label has a place, where its socket has its name

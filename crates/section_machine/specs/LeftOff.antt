@@ -11,18 +11,18 @@ use Rattle.bind_buckets.specs.Turned.{View, Gave}
 use Rattle.flat_list.specs.declared.command.Command.{Command}
 use Rattle.flat_list.specs.declared.command.Command.TheVariants as commands
 use Rattle.flat_list.specs.declared.header.Header.{Header}
-use Rattle.chain_deeds.specs.Made.{Does}
-use Rattle.chain_deeds.specs.Sides.{Side, changes_by}
+use Rattle.sock_ops.specs.Made.{Does}
+use Rattle.sock_ops.specs.Sides.{Side, changes_by}
 use Rattle.race_record.specs.Deeds.{Deed, entries_in}
 use Rattle.table_model.specs.Asking.{Asking}
 use Rattle.table_model.specs.Operations.{reap, reap_each, source_to}
 use Rattle.table_model.specs.Commands.{Replied, plan, after_search, searches_port, is_unbound, is_some}
 use Rattle.table_model.specs.Own.{Own, Mine, open_socket, next_name, with_label, is_over}
-use Rattle.shared_ops.specs.declared.tables.Tables.{Tables}
-use Rattle.shared_ops.specs.declared.tables.Worker.{Worker}
-use Rattle.shared_ops.specs.Goes.{Went, GivesUp, IsUndecided}
-use Rattle.shared_ops.specs.Leads.{Leads}
-use Rattle.shared_ops.specs.Stands.{turned, chained}
+use Rattle.sock_ops.specs.declared.tables.Tables.{Tables}
+use Rattle.sock_ops.specs.declared.tables.Worker.{Worker}
+use Rattle.sock_ops.specs.Goes.{Went, GivesUp, IsUndecided}
+use Rattle.sock_ops.specs.Leads.{Leads}
+use Rattle.sock_ops.specs.Stands.{turned, chained}
 use Rattle.section_machine.specs.Sections.{Kept}
 use Rattle.section_machine.specs.Waits.{first_over}
 

@@ -7,8 +7,8 @@ use Rattle.std.specs.Option.{option_map}
 use Rattle.flat_list.specs.Sections.{name_at}
 use Rattle.label_index.specs.Places.{place_in}
 use Rattle.table_model.specs.Own.{Own, Mine, Offsets}
-use Rattle.shared_ops.specs.declared.sock.Sock.{Sock}
-use Rattle.shared_ops.specs.Socks.{mine_of, FitsState}
+use Rattle.sock_ops.specs.declared.sock.Sock.{Sock}
+use Rattle.sock_ops.specs.Socks.{mine_of, FitsState}
 
 -- the sockets of such places
 abbrev pub mines : List (Option Sock) → List (Option Mine)
@@ -26,17 +26,18 @@ those places = filter_map (λ (o : Option Mine). o) places
 abbrev pub HaveNames : (ℕ → ℕ) → List (Option Mine) → Type 0
 HaveNames name places = (i : ℕ) → IfSome (at_place places i) (λ (m : Mine). m.owner.name ≡ name i)
 
--- a section's number, its labels in the order in which they were given, and at each one's place its socket, while it
--- is open; and which places are kept, so that a socket may come there
+-- a section's number, the mark of the sockets to come, its labels in the order in which they were given, and at each
+-- one's place its socket, while it is open; and which places are kept, so that a socket may come there
 pub record Labelled : Type 0 where
   pub number : ℕ
+  pub mark : ℕ
   pub labels : List (List ℕ)
   pub places : List (Option Mine)
   pub kept : List Bool
 
 -- of a section that has given none
 abbrev pub no_labels : ℕ → Labelled
-no_labels n = record { number = n; labels = []; places = []; kept = [] }
+no_labels n = record { number = n; mark = 0; labels = []; places = []; kept = [] }
 
 -- a socket may come to that place
 abbrev pub IsKept : Labelled → ℕ → Type 0
@@ -50,6 +51,10 @@ named_by l label = option_and_then (at_place l.places) (place_in l.labels label)
 abbrev pub with_place : Labelled → ℕ → Option Mine → Labelled
 with_place l i o = record l { places = slice_set l.places i o }
 
+-- sockets to come get that mark
+abbrev pub with_mark : Labelled → ℕ → Labelled
+with_mark l mark = record l { mark = mark }
+
 -- one label more, without a socket so far
 abbrev pub with_given : Labelled → List ℕ → Labelled
 with_given l label =
@@ -58,6 +63,7 @@ with_given l label =
 -- labels and sockets are as they were, whatever is kept
 pub record KeepsLabels (old new : Labelled) : Type 0 where
   pub number : new.number ≡ old.number
+  pub mark : new.mark ≡ old.mark
   pub labels : new.labels ≡ old.labels
   pub places : new.places ≡ old.places
 
@@ -87,6 +93,7 @@ own_of l moment offsets waits =
     record {
       number = l.number;
       labels = l.labels;
+      mark = l.mark;
       moment = moment;
       offsets = offsets;
       sockets = those l.places;

@@ -5,8 +5,8 @@ use Rattle.flat_list.specs.declared.command.Command.{Command}
 use Rattle.flat_list.specs.declared.command.Command.TheVariants as commands
 use Rattle.flat_list.specs.declared.command.Reply.{Reply}
 use Rattle.flat_list.specs.declared.header.Header.{Header}
-use Rattle.chain_deeds.specs.Made.{Does}
-use Rattle.chain_deeds.specs.Sides.{Side}
+use Rattle.sock_ops.specs.Made.{Does}
+use Rattle.sock_ops.specs.Sides.{Side}
 use Rattle.race_record.specs.Deeds.{Deed, entries_in}
 use Rattle.race_record.specs.Goes.{Goes}
 use Rattle.table_model.specs.Commands.{plan, answers}

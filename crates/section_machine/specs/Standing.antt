@@ -11,12 +11,12 @@ use Rattle.turn_table.specs.Passes as words
 use Rattle.bind_buckets.specs.declared.request.Entry.{Entry}
 use Rattle.bind_buckets.specs.OwnTold.{KeepsOpen, is_told}
 use Rattle.bind_buckets.specs.Turned.{View}
-use Rattle.chain_deeds.specs.Sides.{Side}
+use Rattle.sock_ops.specs.Sides.{Side}
 use Rattle.flat_list.specs.declared.header.Header.{Header}
 use Rattle.table_model.specs.Own.{Own, Mine, next_name}
-use Rattle.shared_ops.specs.declared.tables.Tables.{Tables}
-use Rattle.shared_ops.specs.declared.tables.Worker.{Worker}
-use Rattle.shared_ops.specs.Stands.{IsReady, IsAway, IsOwner, IsHashed, buckets_of, turned, chained}
+use Rattle.sock_ops.specs.declared.tables.Tables.{Tables}
+use Rattle.sock_ops.specs.declared.tables.Worker.{Worker}
+use Rattle.sock_ops.specs.Stands.{IsReady, IsAway, IsOwner, IsHashed, buckets_of, turned, chained}
 use Rattle.section_machine.specs.Sections.{Kept}
 
 -- Of a section, what it rests on that its sockets stand: its number, the name that its next label will stand for, and

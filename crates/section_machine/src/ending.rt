@@ -6,8 +6,8 @@ ghost use Rattle.flat_list.specs.declared.command.Command.TheVariants as variant
 ghost use Rattle.table_model.specs.Own.{open_socket};
 ghost use Rattle.table_model.specs.Commands as commands;
 ghost use Rattle.table_model.specs.declared.operation.Cause.TheVariants as causes;
-ghost use Rattle.shared_ops.specs.Groups.{KeepsLists};
-ghost use Rattle.shared_ops.specs.Stands.{IsReady};
+ghost use Rattle.sock_ops.specs.Groups.{KeepsLists};
+ghost use Rattle.sock_ops.specs.Stands.{IsReady};
 ghost use Rattle.section_machine.specs.Carried.{Carries, HasEnough, Spends};
 ghost use Rattle.section_machine.specs.LeftOff.{IsLeftOff};
 ghost use Rattle.section_machine.specs.Sections.{GivesLabels, KeepsHeader};
@@ -17,7 +17,7 @@ use crate::machine::Machine;
 use crate::waits::cause_of;
 use flat_list::{Label, Reply};
 use patience::Patience;
-use shared_ops::{Cause, Tables, Worker, drop_sock};
+use sock_ops::{Cause, Tables, Worker, drop_sock};
 
 impl Machine {
     /// Closes the socket that a label names. Where it is left off the socket stays.

@@ -7,8 +7,8 @@ ghost use Rattle.table_model.specs.Own as own;
 ghost use Rattle.table_model.specs.Own.{open_socket};
 ghost use Rattle.table_model.specs.Commands as commands;
 ghost use Rattle.table_model.specs.declared.operation.Cause.TheVariants as causes;
-ghost use Rattle.shared_ops.specs.Groups.{KeepsLists};
-ghost use Rattle.shared_ops.specs.Stands.{IsReady};
+ghost use Rattle.sock_ops.specs.Groups.{KeepsLists};
+ghost use Rattle.sock_ops.specs.Stands.{IsReady};
 ghost use Rattle.section_machine.specs.Carried.{Carries, HasEnough, Spends};
 ghost use Rattle.section_machine.specs.LeftOff.{IsLeftOff};
 ghost use Rattle.section_machine.specs.Sections.{GivesLabels, KeepsHeader};
@@ -18,7 +18,7 @@ use crate::machine::{Machine, refusal};
 use crate::meeting::connect_error;
 use flat_list::{End, Label, Reply};
 use patience::Patience;
-use shared_ops::{Cause, Tables, Worker, ack, syn};
+use sock_ops::{Cause, Tables, Worker, ack, syn};
 
 impl Machine {
     /// Begins a handshake with the listener that a label names, by a request under a label of its own, which is given
@@ -53,13 +53,13 @@ impl Machine {
         ensures kept { KeepsHeader self.old self.new }
     {
         let place = self.labels.len();
-        let name = self.labels.next_name();
+        let newcomer = self.labels.newcomer();
         let listener = self.labels.place_of(listener);
         self.labels.give(label)?;
         let Some(socket) = self.labels.at(listener) else {
             return Ok(Reply::Ebadf);
         };
-        match syn(patience, tables, worker, socket, name, from, at) {
+        match syn(patience, tables, worker, socket, newcomer, from, at) {
             Ok(request) => {
                 self.labels.put(place, request);
                 Ok(Reply::Ok)
@@ -97,13 +97,13 @@ impl Machine {
         ensures kept { KeepsHeader self.old self.new }
     {
         let child_place = self.labels.len();
-        let name = self.labels.next_name();
+        let newcomer = self.labels.newcomer();
         self.labels.give(label)?;
         let Some((place, socket)) = self.labels.take(request) else {
             return Ok(Reply::Ebadf);
         };
         let listener = self.labels.named(socket.owner().origin);
-        match ack(patience, tables, worker, socket, listener, name) {
+        match ack(patience, tables, worker, socket, listener, newcomer) {
             Ok(child) => {
                 self.labels.put(child_place, child);
                 Ok(Reply::Ok)

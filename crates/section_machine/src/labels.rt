@@ -10,20 +10,21 @@ ghost use Rattle.table_model.specs.Own.{is_named};
 ghost use Rattle.open_places.specs.Cells.{AreEmptyFrom, IsNextFull};
 ghost use Rattle.section_machine.specs.Places as spec;
 ghost use Rattle.section_machine.specs.Places.{HaveNames, IsKept, IsUnnamed, KeepsLabels, LetsGo, Takes, at_place, those};
-ghost use Rattle.shared_ops.specs.Socks.{FitsState, mine_of};
+ghost use Rattle.sock_ops.specs.Socks.{FitsState, mine_of};
 
 use flat_list::Label;
 use label_index::{LabelIndex, LabelSeed};
 use open_places::OpenPlaces;
-use shared_ops::Sock;
+use sock_ops::{Newcomer, Sock};
 use std::alloc::{AllocError, Global};
 use std::marker::Model;
 
-/// The labels that a section has given, and at each one's place its socket, while it is open. A place
-/// takes memory from when its label is given until it is let go.
+/// The labels that a section has given, and at each one's place its socket, while it is open, with the mark of the
+/// sockets to come. A place takes memory from when its label is given until it is let go.
 #[derive(Drop)]
 pub struct Labels {
     number: u32,
+    mark: u32,
     given: LabelIndex,
     sockets: OpenPlaces<Sock>,
 }
@@ -35,7 +36,7 @@ impl Model for Labels {
     ghost Value = { Labelled };
 
     ghost view = { λ l. record
-        { number = l.number; labels = l.given; places = mines l.sockets.cells; kept = l.sockets.kept } };
+        { number = l.number; mark = l.mark; labels = l.given; places = mines l.sockets.cells; kept = l.sockets.kept } };
 
     ghost invariant = { λ l. AreLabels l.number l.given l.sockets.cells };
 }
@@ -59,6 +60,7 @@ impl Labels {
     {
         Labels {
             number,
+            mark: 0,
             given: LabelIndex::new(alloc, seed),
             sockets: OpenPlaces::new(alloc),
         }
@@ -71,6 +73,7 @@ impl Labels {
     {
         Labels {
             number,
+            mark: 0,
             given: LabelIndex::numbered(),
             sockets: OpenPlaces::new(alloc),
         }
@@ -90,6 +93,13 @@ impl Labels {
         self.number
     }
 
+    /// Sets the mark of the sockets to come.
+    pub(crate) fn set_mark(&mut self, mark: u32)
+        ensures { self.new ≡ spec.with_mark self.old mark }
+    {
+        self.mark = mark;
+    }
+
     /// How many labels it has given.
     pub fn len(&self) -> usize
         ensures labels { result ≡ length self.now.labels }
@@ -99,12 +109,16 @@ impl Labels {
         self.given.len()
     }
 
-    /// The name that the next label will stand for.
-    pub fn next_name(&self) -> u64
+    /// What the socket of the next label gets: the name that the label will stand for, and the mark.
+    pub fn newcomer(&self) -> Newcomer
         requires { length self.now.labels + 1 < 2 ^ 56 }
-        ensures { result ≡ sections.name_at self.now.number (length self.now.labels) }
+        ensures name { result.name ≡ sections.name_at self.now.number (length self.now.labels) }
+        ensures mark { result.mark ≡ self.now.mark }
     {
-        u64::from(self.number) * 0x100_0000_0000_0000 + self.given.len() as u64 + 1
+        Newcomer {
+            name: u64::from(self.number) * 0x100_0000_0000_0000 + self.given.len() as u64 + 1,
+            mark: self.mark,
+        }
     }
 
     /// Gives a label, which names no open socket so far. An `Err` changes nothing.

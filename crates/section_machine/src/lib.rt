@@ -2,7 +2,7 @@
 //!
 //! A [`Machine`] is what a section has for itself: [`Labels`] with the sockets that they name, [`Waits`] for the
 //! sockets in TIME_WAIT that it left, [`Offsets`] for where its searches begin, and its moment. [`Machine::try_step`]
-//! carries out one command, any but a lookup, by the operations of shared_ops on the worker that it is handed, and
+//! carries out one command, any but a lookup, by the operations of sock_ops on the worker that it is handed, and
 //! gives the reply. It wants the turn of one bucket and the lock of one chain at a time, for each of which it tries as
 //! long as its caller's patience lasts; [`Machine::step`] waits for good.
 //!

@@ -11,9 +11,9 @@ ghost use Rattle.table_model.specs.Commands as commands;
 ghost use Rattle.table_model.specs.Means.{is_lookup};
 ghost use Rattle.table_model.specs.declared.operation.Cause.TheVariants as causes;
 ghost use Rattle.table_model.specs.declared.operation.OpEnd.TheVariants as errors;
-ghost use Rattle.shared_ops.specs.Groups.{KeepsLists};
-ghost use Rattle.shared_ops.specs.Socks.{mine_of};
-ghost use Rattle.shared_ops.specs.Stands.{IsReady, turned, chained};
+ghost use Rattle.sock_ops.specs.Groups.{KeepsLists};
+ghost use Rattle.sock_ops.specs.Socks.{mine_of};
+ghost use Rattle.sock_ops.specs.Stands.{IsReady, turned, chained};
 ghost use Rattle.section_machine.specs.Carried.{Carries, HasEnough, Keeps, Spends};
 ghost use Rattle.section_machine.specs.LeftOff.{LeftOff, IsLeftOff};
 ghost use Rattle.section_machine.specs.Opened as opened;
@@ -29,8 +29,8 @@ use crate::waits::Waits;
 use flat_list::{Command, End, First, Header, Label, Options, Reply};
 use label_index::LabelSeed;
 use patience::Patience;
-use shared_ops::{Cause, OpEnd, Sock, Tables, Unbound, Worker, bind, listen};
 use sock_card::{Owner, State};
+use sock_ops::{Cause, OpEnd, Sock, Tables, Unbound, Worker, bind, listen};
 use std::alloc::{AllocError, Global};
 use std::marker::Model;
 use std::sync::Wait;
@@ -216,10 +216,10 @@ impl Machine {
         ensures waits { self.new.own.waits ≡ self.old.own.waits }
     {
         let place = self.labels.len();
-        let name = self.labels.next_name();
+        let newcomer = self.labels.newcomer();
         self.labels.give(label)?;
         self.labels
-            .put(place, Sock::Unbound(Unbound::new(name, options)));
+            .put(place, Sock::Unbound(Unbound::new(newcomer, options)));
         Ok(Reply::Ok)
     }
 

@@ -8,9 +8,9 @@ ghost use Rattle.table_model.specs.Own.{open_socket};
 ghost use Rattle.table_model.specs.Commands as commands;
 ghost use Rattle.table_model.specs.declared.operation.Cause.TheVariants as causes;
 ghost use Rattle.table_model.specs.Operations as plans;
-ghost use Rattle.shared_ops.specs.Groups.{KeepsLists};
-ghost use Rattle.shared_ops.specs.Socks.{mine_of};
-ghost use Rattle.shared_ops.specs.Stands.{IsReady};
+ghost use Rattle.sock_ops.specs.Groups.{KeepsLists};
+ghost use Rattle.sock_ops.specs.Socks.{mine_of};
+ghost use Rattle.sock_ops.specs.Stands.{IsReady};
 ghost use Rattle.section_machine.specs.Carried.{Carries, HasEnough, Spends};
 ghost use Rattle.section_machine.specs.LeftOff.{IsLeftOff};
 ghost use Rattle.section_machine.specs.Sections.{GivesLabels, KeepsHeader};
@@ -20,7 +20,7 @@ use crate::machine::{Machine, is_unbound, refusal};
 use chain_book::Replace;
 use flat_list::{End, First, Header, Label, Reply, owned};
 use patience::Patience;
-use shared_ops::{Cause, OpEnd, Sock, Tables, Worker, accept, connect};
+use sock_ops::{Cause, OpEnd, Sock, Tables, Worker, accept, connect};
 
 /// How the refusal of `connect`, `accept`, `syn` or `ack` is called.
 pub(crate) fn connect_error(end: OpEnd) -> Reply
@@ -136,13 +136,13 @@ impl Machine {
         ensures kept { KeepsHeader self.old self.new }
     {
         let place = self.labels.len();
-        let name = self.labels.next_name();
+        let newcomer = self.labels.newcomer();
         let listener = self.labels.place_of(listener);
         self.labels.give(label)?;
         let Some(socket) = self.labels.at(listener) else {
             return Ok(Reply::Ebadf);
         };
-        match accept(patience, tables, worker, socket, name, from, at) {
+        match accept(patience, tables, worker, socket, newcomer, from, at) {
             Ok(child) => {
                 self.labels.put(place, child);
                 Ok(Reply::Ok)

@@ -6,17 +6,17 @@ ghost use Rattle.turn_table.specs.Passes as words;
 ghost use Rattle.table_model.specs.Asking.{ends};
 ghost use Rattle.table_model.specs.Operations as plans;
 ghost use Rattle.table_model.specs.declared.operation.Cause.TheVariants as causes;
-ghost use Rattle.shared_ops.specs.Goes.{Went};
-ghost use Rattle.shared_ops.specs.Groups.{KeepsLists};
-ghost use Rattle.shared_ops.specs.Reaping as spec;
-ghost use Rattle.shared_ops.specs.Stands.{IsReady, MayDraw, MayEnter, buckets_of, chained, turned};
+ghost use Rattle.sock_ops.specs.Goes.{Went};
+ghost use Rattle.sock_ops.specs.Groups.{KeepsLists};
+ghost use Rattle.sock_ops.specs.Reaping as spec;
+ghost use Rattle.sock_ops.specs.Stands.{IsReady, MayDraw, MayEnter, buckets_of, chained, turned};
 ghost use Rattle.section_machine.specs.LeftOff.{StopsReaping};
 ghost use Rattle.section_machine.specs.Waits as waits_spec;
 ghost use Rattle.section_machine.specs.Waits.{AreBefore, AreInOrder};
 
 use crate::waits::Waits;
 use patience::Patience;
-use shared_ops::{Cause, Tables, Waiting, Worker, reap_one};
+use sock_ops::{Cause, Tables, Waiting, Worker, reap_one};
 use std::collections::VecDeque;
 
 /// The first TIME_WAIT, if it has lasted its minute at that moment.

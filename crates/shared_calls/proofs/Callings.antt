@@ -7,9 +7,9 @@ use Rattle.flat_list.specs.declared.command.Command.TheVariants as commands
 use Rattle.section_machine.specs.Carried.{HasEnough, Spends}
 use Rattle.section_machine.specs.Sections.{Kept, GivesLabels, given_by}
 use Rattle.section_machine.specs.Standing.{IsSection}
-use Rattle.shared_ops.specs.declared.tables.Tables.{Tables}
-use Rattle.shared_ops.specs.declared.tables.Worker.{Worker}
-use Rattle.shared_ops.specs.Stands.{MayEnter}
+use Rattle.sock_ops.specs.declared.tables.Tables.{Tables}
+use Rattle.sock_ops.specs.declared.tables.Worker.{Worker}
+use Rattle.sock_ops.specs.Stands.{MayEnter}
 use Rattle.table_rule.specs.Passes.{known, drawn_by}
 use Rattle.shared_calls.specs.Callings.{IsCalling, HadEnded, clock_of, HasEntries, HasStamps, calling}
 use Rattle.label_index.specs.Numbers.{labels_to}

@@ -5,10 +5,10 @@ use Rattle.list_words.specs.Lists.{Each}
 use Rattle.list_words.proofs.EachLemmas.{each_append, each_weaken}
 use Rattle.bind_buckets.specs.Turned.{View}
 use Rattle.chain_book.specs.declared.book.Change.{Change}
-use Rattle.chain_deeds.specs.Made.{AllLeave, Made}
-use Rattle.chain_deeds.specs.Sides.{Side, changes_by, change_of, side_of}
-use Rattle.chain_deeds.specs.declared.table.ChainPass.{ChainPass}
-use Rattle.chain_deeds.specs.declared.table.ChainTable.{ChainTable}
+use Rattle.sock_ops.specs.Made.{AllLeave, Made}
+use Rattle.sock_ops.specs.Sides.{Side, changes_by, change_of, side_of}
+use Rattle.sock_ops.specs.declared.chains.table.ChainPass.{ChainPass}
+use Rattle.sock_ops.specs.declared.chains.table.ChainTable.{ChainTable}
 use Rattle.flat_list.specs.declared.command.Command.{Command}
 use Rattle.flat_list.specs.declared.command.Reply.{Reply}
 use Rattle.flat_list.specs.declared.header.Header.{Header}

@@ -5,7 +5,7 @@ use lib.ListN.{get_elem?}
 use Rattle.list_words.specs.Lists.{Each}
 use Rattle.list_words.proofs.EachLemmas.{each_unmap}
 use Rattle.chain_book.specs.declared.book.Change.{Change as Told}
-use Rattle.chain_deeds.specs.Sides.{change_of}
+use Rattle.sock_ops.specs.Sides.{change_of}
 use Rattle.table_rule.specs.Passes.{changed_by}
 use Rattle.table_rule.specs.declared.view.Change.{Change}
 use Rattle.shared_calls.specs.Order.{MeetsAsDone}

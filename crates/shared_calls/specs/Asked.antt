@@ -8,12 +8,12 @@ use Rattle.sock_card.specs.declared.owner.Owner.{Owner}
 use Rattle.sock_card.specs.declared.owner.State.{State}
 use Rattle.sock_card.specs.declared.owner.State.TheVariants as states
 use Rattle.chain_book.specs.declared.book.Change.{Change}
-use Rattle.chain_deeds.specs.Sides.{changes_by}
+use Rattle.sock_ops.specs.Sides.{changes_by}
 use Rattle.flat_calls.specs.declared.item.Item.{Item}
 use Rattle.flat_list.specs.declared.command.Command.{Command}
 use Rattle.section_machine.specs.Opened.{owner_of}
 use Rattle.section_machine.specs.Sections.{given_by}
-use Rattle.shared_ops.specs.Stands.{chained}
+use Rattle.sock_ops.specs.Stands.{chained}
 use Rattle.table_model.specs.Own.{Own}
 use Rattle.table_rule.specs.Passes.{drawn_by}
 use Rattle.turn_table.specs.Passes as words

@@ -5,15 +5,15 @@
 use Rattle.std.specs.Prelude.{◌≡◌, ◌⊎◌, ℕ, ◌+◌, ◌-◌, ◌*◌, ◌<◌, ◌≤◌, ◌^◌, length}
 use Rattle.list_words.specs.Lists.{Each}
 use Rattle.chain_book.specs.declared.book.Change.{Change}
-use Rattle.chain_deeds.specs.Sides.{changes_by}
+use Rattle.sock_ops.specs.Sides.{changes_by}
 use Rattle.flat_list.specs.declared.command.Command.{Command}
 use Rattle.flat_list.specs.declared.command.Command.TheVariants as commands
 use Rattle.flat_list.specs.declared.command.Reply.{Reply}
 use Rattle.flat_calls.specs.declared.outcome.Outcome.{Outcome}
 use Rattle.flat_calls.specs.declared.outcome.Outcome.TheVariants as outcomes
-use Rattle.shared_ops.specs.declared.tables.Tables.{Tables}
-use Rattle.shared_ops.specs.declared.tables.Worker.{Worker}
-use Rattle.shared_ops.specs.Stands.{MayEnter, turned, chained}
+use Rattle.sock_ops.specs.declared.tables.Tables.{Tables}
+use Rattle.sock_ops.specs.declared.tables.Worker.{Worker}
+use Rattle.sock_ops.specs.Stands.{MayEnter, turned, chained}
 use Rattle.table_rule.specs.Passes.{known, drawn_by, seen_by}
 use Rattle.section_machine.specs.LeftOff.{IsLeftOff}
 use Rattle.section_machine.specs.Sections.{Did, Kept, given_by}

@@ -3,13 +3,13 @@
 use Rattle.std.specs.Prelude.{◌≡◌, ℕ, ◌<◌, ◌≤◌, Option, None, Some}
 use Rattle.sock_card.specs.declared.card.Packet.{Packet}
 use Rattle.chain_book.specs.declared.book.PacketLook.{PacketLook}
-use Rattle.chain_deeds.specs.Sides.{IsResting, HoldsNothing}
-use Rattle.chain_deeds.specs.declared.table.ChainPass.{ChainPass}
+use Rattle.sock_ops.specs.Sides.{IsResting, HoldsNothing}
+use Rattle.sock_ops.specs.declared.chains.table.ChainPass.{ChainPass}
 use Rattle.reuseport_group.specs.declared.pass.GroupPasses.{GroupPasses}
 use Rattle.reuseport_group.specs.Passes as lists
-use Rattle.shared_demux.specs.Concludes.{ByOrder, Concluded, whole_to}
-use Rattle.shared_ops.specs.Stands.{HasGroups}
-use Rattle.shared_ops.specs.declared.tables.Tables.{Tables}
+use Rattle.demux.specs.Concludes.{ByOrder, Concluded, whole_to}
+use Rattle.sock_ops.specs.Stands.{HasGroups}
+use Rattle.sock_ops.specs.declared.tables.Tables.{Tables}
 use Rattle.table_rule.specs.Alone.{IsKnownWhole}
 use Rattle.table_rule.specs.Calls.{layout_of, me, view}
 use Rattle.table_rule.specs.Passes.{known}

@@ -1,15 +1,15 @@
 -- What shared tables are between two calls, and what they hand out: our own.
 use Rattle.std.specs.Prelude.{◌≡◌, ◌⊎◌, ℕ, ◌+◌, ◌<◌, ◌≤◌, List, [], ◌∷◌, ◌++◌, length, false}
 use Rattle.bind_buckets.specs.declared.request.Sharing.TheVariants as sharings
-use Rattle.chain_deeds.specs.Sides.{IsResting, HoldsNothing}
+use Rattle.sock_ops.specs.Sides.{IsResting, HoldsNothing}
 use Rattle.flat_list.specs.Fits.{FitsTables}
 use Rattle.flat_list.specs.declared.header.Header.{Header}
 use Rattle.reuseport_group.specs.Passes as lists
 use Rattle.section_machine.specs.Sections.{kept}
 use Rattle.section_machine.specs.Standing.{AreOf}
-use Rattle.shared_ops.specs.Stands.{HasGroups, turned}
-use Rattle.shared_ops.specs.declared.tables.Tables.{Tables}
-use Rattle.shared_ops.specs.declared.tables.Worker.{Worker}
+use Rattle.sock_ops.specs.Stands.{HasGroups, turned}
+use Rattle.sock_ops.specs.declared.tables.Tables.{Tables}
+use Rattle.sock_ops.specs.declared.tables.Worker.{Worker}
 use Rattle.table_model.specs.Own.{new_own}
 use Rattle.table_rule.specs.Passes.{known}
 use Rattle.table_rule.specs.Rule.{drawn}

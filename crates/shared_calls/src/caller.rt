@@ -9,13 +9,13 @@ ghost use Rattle.shared_calls.specs.Callings.{Called, IsNoWait};
 ghost use Rattle.shared_calls.specs.Numbers.{IsNext};
 ghost use Rattle.table_rule.specs.Passes.{drawn_by};
 ghost use Rattle.turn_table.specs.Passes.{IsPassOf};
-ghost use Rattle.shared_ops.specs.Stands.{MayEnter};
+ghost use Rattle.sock_ops.specs.Stands.{MayEnter};
 
 use flat_calls::Outcome;
 use flat_list::Command;
 use patience::Patience;
 use section_machine::Machine;
-use shared_ops::{Cause, Tables, Worker};
+use sock_ops::{Cause, Tables, Worker};
 use std::marker::Model;
 use std::sync::Arc;
 

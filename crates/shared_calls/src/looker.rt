@@ -4,12 +4,11 @@ ghost use Rattle.std.specs.Prelude.{◌<◌};
 ghost use Rattle.shared_calls.specs.Lookings.{Looks, LooksAfter};
 
 use chain_book::PacketLook;
-use chain_deeds::ChainPass;
+use demux::{Lookups, look_packet};
 use null_reader::Still;
 use reuseport_group::GroupPasses;
-use shared_demux::{Lookups, look_packet};
-use shared_ops::Tables;
 use sock_card::Packet;
+use sock_ops::{ChainPass, Tables};
 use std::marker::Model;
 use std::sync::Arc;
 

@@ -7,11 +7,10 @@ ghost use Rattle.shared_calls.specs.Sharings.{GivesCaller, GivesLooker, HasNoCal
 use crate::caller::Caller;
 use crate::looker::Looker;
 use bind_buckets::{Sharing, turning};
-use chain_deeds::ChainTable;
 use flat_list::Header;
 use reuseport_group::Groups;
 use section_machine::{Machine, laws};
-use shared_ops::{Tables, Worker};
+use sock_ops::{ChainTable, Tables, Worker};
 use std::alloc::{AllocError, Global};
 use std::marker::Model;
 use std::sync::Arc;

@@ -19,13 +19,13 @@ number_of kinds.Request = 4
 abbrev pub kind_at : ℕ → Kind
 kind_at n = cond (n == 2) kinds.TimeWait (cond (n == 3) kinds.Listen (cond (n == 4) kinds.Request kinds.Full))
 
--- both addresses; both ports, the device, the namespace and the kind; the name; what it says besides
+-- both addresses; both ports, the device, the namespace and the kind; the name; the mark and what it says besides
 abbrev pub packed : Card → CardWords
 packed c = record {
   ends = c.local * 2 ^ 32 + c.remote;
   ports = c.lport * 2 ^ 48 + c.rport * 2 ^ 32 + c.dev * 2 ^ 16 + c.net * 2 ^ 4 + number_of c.kind;
   name = c.name;
-  extra = c.extra;
+  extra = c.mark * 2 ^ 32 + c.extra;
 }
 
 -- the card that these words say
@@ -40,6 +40,7 @@ unpacked w = record {
   kind = kind_at (w.ports % 2 ^ 4);
   name = w.name;
   extra = w.extra % 2 ^ 32;
+  mark = w.extra / 2 ^ 32;
 }
 
 -- a card that begins with these words

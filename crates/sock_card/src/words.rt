@@ -8,7 +8,8 @@ use super::card::{Card, Kind, Packet, rank};
 /// A card as four words of a table keep it.
 ///
 /// `ends` is the local address above the remote one; `ports` has from the highest bit down the local port, the remote
-/// port and the device (16 bits each), 4 bits of 0, the namespace (8 bits) and the kind's number (4 bits).
+/// port and the device (16 bits each), 4 bits of 0, the namespace (8 bits) and the kind's number (4 bits); `extra` is
+/// the mark above what the card says besides.
 #[derive(Clone, Copy, Debug, PartialEq, Eq)]
 pub struct CardWords {
     pub ends: u64,
@@ -61,12 +62,11 @@ pub fn pack(card: &Card) -> CardWords
             + u64::from(card.net) * NAMESPACE
             + number_of(card.kind),
         name: card.name,
-        extra: u64::from(card.extra),
+        extra: u64::from(card.mark) * UPPER + u64::from(card.extra),
     }
 }
 
-/// The card that four words say. A number that is no kind's is read as Full, and of what is said besides
-/// the lower 32 bits are read, so that all words say a card.
+/// The card that four words say. A number that is no kind's is read as Full, so that all words say a card.
 pub fn unpack(words: &CardWords) -> Card
     ensures { result ≡ spec.unpacked words.now }
 {
@@ -86,6 +86,7 @@ pub fn unpack(words: &CardWords) -> Card
         kind: kind_at(ports % NAMESPACE),
         name,
         extra: (extra % UPPER) as u32,
+        mark: (extra / UPPER) as u32,
     }
 }
 

@@ -41,6 +41,7 @@ card_by x y h = λ i. record {
   kind = kind_by x.kind y.kind (alone x y h (λ c. number_of c.kind)) i;
   name = alone x y h (λ c. c.name) i;
   extra = alone x y h (λ c. c.extra) i;
+  mark = alone x y h (λ c. c.mark) i;
 }
 
 one_by : (xs ys : List Card) → SameItems xs ys → length xs ≤ 1 → xs ≡ ys

@@ -119,7 +119,7 @@ reap_command own =
 
 abbrev pub socket_command : Own → List ℕ → Options → Asking Replied
 socket_command own label options =
-    replies_at_once (with_new (with_label own label) (plain (new_owner (next_name own) options))) replies.Ok
+    replies_at_once (with_new (with_label own label) (plain (new_owner (next_name own) own.mark options))) replies.Ok
 
 module _ (header : Header) where
   abbrev pub listen_command : Own → Option Mine → Asking Replied
@@ -141,19 +141,19 @@ module _ (header : Header) where
   abbrev pub accept_command : Own → ℕ → Option Mine → End → End → Asking Replied
   accept_command own name None from at = replies_at_once own replies.Ebadf
   accept_command own name (Some l) from at =
-      and_then (accept header.shape header.seed l name from at) (λ did. ends (accept_reply own did))
+      and_then (accept header.shape header.seed l name own.mark from at) (λ did. ends (accept_reply own did))
 
   -- once the request's label is given
   abbrev pub syn_command : Own → ℕ → Option Mine → End → End → Asking Replied
   syn_command own name None from at = replies_at_once own replies.Ebadf
   syn_command own name (Some l) from at =
-      and_then (syn header.shape header.seed l name from at) (λ did. ends (accept_reply own did))
+      and_then (syn header.shape header.seed l name own.mark from at) (λ did. ends (accept_reply own did))
 
   -- once the child's label is given
   abbrev pub ack_command : Own → ℕ → Option Mine → Asking Replied
   ack_command own name None = replies_at_once own replies.Ebadf
   ack_command own name (Some r) =
-      and_then (ack header.shape header.seed r (open_named own r.owner.origin) name)
+      and_then (ack header.shape header.seed r (open_named own r.owner.origin) name own.mark)
       (λ did. ends (ack_reply own r.owner.name did))
 
   abbrev pub close_command : Own → Option Mine → Asking Replied

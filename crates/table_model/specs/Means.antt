@@ -142,10 +142,11 @@ abbrev pub section_as : Own → Section
 section_as own =
     record { number = own.number; labels = own.labels; moment = own.moment; generator = own.offsets.generator }
 
--- what a section knows of itself is what the list says of it: its open sockets are those of the list, each stands in
--- its place, and the TIME_WAITs that it left are those of the list, but for such as were replaced
+-- what a section knows of itself is what the list says of it: it gives no marks, its open sockets are those of the list,
+-- each stands in its place, and the TIME_WAITs that it left are those of the list, but for such as were replaced
 pub record OwnMeans (n : ℕ) (own : Own) (t : Tables) (flat : Flat) : Type 0 where
   pub number : own.number ≡ n
+  pub unmarked : own.mark ≡ 0
   pub section : section_as own ≡ section_of flat.header n flat.sections
   pub range : own.offsets.range ≡ flat.header.range
   pub offset : own.offsets.offset ≡ flat.header.offset

@@ -252,7 +252,7 @@ module _ (shape : Shape) (seed : ℕ) where
 
   abbrev pub accept_hashed : Owner → Owner → Outcome → Asking Did
   accept_hashed l child (put slot old) =
-      asks (owner_key l) (requests.Inherit l.name child.name child.addr child.remote child.rport)
+      asks (owner_key l) (requests.Inherit l.name child.name child.mark child.addr child.remote child.rport)
       (when_done (full_done child slot old))
   accept_hashed l child (taken name) = ends (refused (errors.Taken name))
   accept_hashed l child (full owned held) = ends (refused (errors.Full owned held))
@@ -260,11 +260,11 @@ module _ (shape : Shape) (seed : ℕ) where
   abbrev pub accept_as : Owner → Owner → Asking Did
   accept_as l child = inserts (full_card child) 0 rules.Always (accept_hashed l child)
 
-  -- `accept` of a socket of that name from one end at another
-  abbrev pub accept : Mine → ℕ → End → End → Asking Did
-  accept l name from at =
+  -- `accept` of a socket of that name, with that mark, from one end at another
+  abbrev pub accept : Mine → ℕ → ℕ → End → End → Asking Did
+  accept l name mark from at =
       if is_no_accept l.owner from at then ends (refused errors.Inval)
-      else accept_as l.owner (child_owner l.owner name from at)
+      else accept_as l.owner (child_owner l.owner name mark from at)
 
   -- a request that is hashed in that slot
   abbrev pub request_in : Owner → ℕ → Mine
@@ -278,17 +278,17 @@ module _ (shape : Shape) (seed : ℕ) where
   abbrev pub syn_as : Owner → Asking Did
   syn_as r = inserts (request_card r) 0 rules.Always (syn_hashed r)
 
-  -- `syn`: a request of that name for a handshake with the listener from one end at another
-  abbrev pub syn : Mine → ℕ → End → End → Asking Did
-  syn l name from at =
+  -- `syn`: a request of that name, with that mark, for a handshake with the listener from one end at another
+  abbrev pub syn : Mine → ℕ → ℕ → End → End → Asking Did
+  syn l name mark from at =
       if is_no_accept l.owner from at then ends (refused errors.Inval)
-      else syn_as (request_owner l.owner name from at)
+      else syn_as (request_owner l.owner name mark from at)
 
   -- the child stands before the request is gone, and then it comes to its listener's port
   abbrev pub ack_hashed : Mine → Owner → Owner → Outcome → Asking Did
   ack_hashed r l child (put slot None) =
       unhashes r.place (card_of kinds.Request r)
-      (asks (owner_key l) (requests.Inherit l.name child.name child.addr child.remote child.rport)
+      (asks (owner_key l) (requests.Inherit l.name child.name child.mark child.addr child.remote child.rport)
       (when_done (ends (done (full_in child slot)))))
   ack_hashed r l child (full owned held) = ends (refused (errors.Full owned held))
   ack_hashed r l child _ = impossible
@@ -297,19 +297,19 @@ module _ (shape : Shape) (seed : ℕ) where
   ack_as r l child = adds (full_card child) (ack_hashed r l child)
 
   -- by the listener, where it is open still
-  abbrev pub ack_by : Mine → Option Mine → ℕ → Asking Did
-  ack_by r None name = ends (refused errors.Inval)
-  ack_by r (Some l) name =
+  abbrev pub ack_by : Mine → Option Mine → ℕ → ℕ → Asking Did
+  ack_by r None name mark = ends (refused errors.Inval)
+  ack_by r (Some l) name mark =
       if is_no_ack l.owner r.owner then ends (refused errors.Inval)
-      else ack_as r l.owner (heir_owner l.owner name r.owner)
+      else ack_as r l.owner (heir_owner l.owner name mark r.owner)
 
-  -- `ack` of a socket in that state: the child of that name comes in the place of a request
-  abbrev pub ack_from : State → Mine → Option Mine → ℕ → Asking Did
-  ack_from states.Request r l name = ack_by r l name
-  ack_from _ r l name = ends (refused errors.Inval)
+  -- `ack` of a socket in that state: the child of that name, with that mark, comes in the place of a request
+  abbrev pub ack_from : State → Mine → Option Mine → ℕ → ℕ → Asking Did
+  ack_from states.Request r l name mark = ack_by r l name mark
+  ack_from _ r l name mark = ends (refused errors.Inval)
 
-  abbrev pub ack : Mine → Option Mine → ℕ → Asking Did
-  ack r l name = ack_from r.owner.state r l name
+  abbrev pub ack : Mine → Option Mine → ℕ → ℕ → Asking Did
+  ack r l name mark = ack_from r.owner.state r l name mark
 
   abbrev pub waits_in : Mine → ℕ → Mine
   waits_in w slot = record w { place = place_of (card_of kinds.TimeWait w) slot }

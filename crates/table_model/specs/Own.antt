@@ -30,11 +30,12 @@ pub record Offsets : Type 0 where
   pub offset : Option ℕ
   pub generator : Lcg
 
--- the section's number, its labels in the order in which they were given, its moment, its offsets, its open sockets,
--- and the TIME_WAITs that it left, in the order in which they were closed
+-- the section's number, its labels in the order in which they were given, the mark of the sockets that it makes, its
+-- moment, its offsets, its open sockets, and the TIME_WAITs that it left, in the order in which they were closed
 pub record Own : Type 0 where
   pub number : ℕ
   pub labels : List (List ℕ)
+  pub mark : ℕ
   pub moment : ℕ
   pub offsets : Offsets
   pub sockets : List Mine
@@ -50,7 +51,15 @@ new_offsets header n =
 
 abbrev pub new_own : Header → ℕ → Own
 new_own header n =
-    record { number = n; labels = []; moment = 0; offsets = new_offsets header n; sockets = []; waits = [] }
+    record {
+      number = n;
+      labels = [];
+      mark = 0;
+      moment = 0;
+      offsets = new_offsets header n;
+      sockets = [];
+      waits = [];
+    }
 
 -- where the next search begins in the range
 abbrev pub offset_of : Offsets → ℕ

@@ -29,10 +29,10 @@ use Rattle.table_model.specs.Operations as plans
 use Rattle.table_model.specs.Operations.{Did, refused, when_done, found_next, search_bind, source_to, then_replaced}
 use Rattle.race_record.specs.Deeds.{Deed, entered, inserted, added, left, reaped, entries_in}
 use Rattle.race_record.specs.Goes.{outcome_of, was_there}
-use Rattle.chain_deeds.specs.Sides.{Side}
-use Rattle.shared_ops.specs.Goes.{Went}
-use Rattle.shared_ops.specs.Leads.{Leads}
-use Rattle.shared_ops.specs.There.{IsNew}
+use Rattle.sock_ops.specs.Sides.{Side}
+use Rattle.sock_ops.specs.Goes.{Went}
+use Rattle.sock_ops.specs.Leads.{Leads}
+use Rattle.sock_ops.specs.There.{IsNew}
 
 abbrev pub Misses : ℕ → Request → Type 0
 Misses name request = (not (removes_waiting request) && speaks_of (λ n. n == name) request) ≡ false
@@ -113,8 +113,8 @@ module _ (shape : Shape) (seed name : ℕ) where
   syn_if r true = tt
   syn_if r false = syn_hashed_never r
 
-  pub syn_never : (l : Mine) (its : ℕ) (from at : End) → NeverAsks name (plans.syn shape seed l its from at)
-  syn_never l its from at = syn_if (request_owner l.owner its from at) (is_no_accept l.owner from at)
+  pub syn_never : (l : Mine) (its mark : ℕ) (from at : End) → NeverAsks name (plans.syn shape seed l its mark from at)
+  syn_never l its mark from at = syn_if (request_owner l.owner its mark from at) (is_no_accept l.owner from at)
 
   -- of a socket of another name
   module _ (a : Owner) (other : (a.name == name) ≡ false) where

@@ -22,6 +22,7 @@ fn socket(name: u64, port: u16) -> Owner {
         dev: 0,
         net: 0,
         uid: 1,
+        mark: 0,
         reuseaddr: false,
         reuseport: false,
         noport: false,
@@ -118,7 +119,7 @@ fn accept(bucket: &mut Bucket, parent: u64, name: u64) -> Result<Answer, AllocEr
     bucket.reserve()?;
     match bucket.owner(parent).copied() {
         Some(listener) if matches!(listener.state, State::Listening) && listener.addr == HERE => {
-            Ok(answer_of_name(bucket.inherit(parent, name, HERE, THERE, 1000)))
+            Ok(answer_of_name(bucket.inherit(parent, name, 0, HERE, THERE, 1000)))
         }
         _ => Ok(Answer::Strange(parent)),
     }

@@ -1,18 +1,18 @@
 //! Sockets come into a shared table and leave it, by one pass and by two.
 
 ghost use Rattle.std.specs.Prelude.{◌≡◌};
-ghost use Rattle.chain_deeds.specs.Sides.{HasRoom, HoldsNothing, IsResting};
+ghost use Rattle.sock_ops.specs.Sides.{HasRoom, HoldsNothing, IsResting};
 ghost use Rattle.chain_book.specs.Homes.{home};
 ghost use Rattle.table_rule.specs.Calls.{HasShares};
 ghost use Rattle.table_rule.specs.Passes.{known};
 
 use chain_book::{Replace, Shape};
-use chain_deeds::{
+use established::InsertEnd;
+use patience::Waits;
+use sock_card::{Card, Kind};
+use sock_ops::chains::{
     ChainPass, ChainTable, add, hand_over, insert, lock_chain_of, remove, time_wait,
 };
-use patience::Waits;
-use shared_sockets::InsertEnd;
-use sock_card::{Card, Kind};
 use std::alloc::AllocError;
 use std::sync::Wait;
 use std::test::Fail;
@@ -34,6 +34,7 @@ const FULL: Card = Card {
     kind: Kind::Full,
     name: 1,
     extra: 0,
+    mark: 0,
 };
 
 const WAITING: Card = Card {
@@ -46,6 +47,7 @@ const WAITING: Card = Card {
     kind: Kind::TimeWait,
     name: 1,
     extra: 5,
+    mark: 0,
 };
 
 const REQUEST: Card = Card {
@@ -58,6 +60,7 @@ const REQUEST: Card = Card {
     kind: Kind::Request,
     name: 3,
     extra: 0,
+    mark: 0,
 };
 
 const LISTENER: Card = Card {
@@ -70,6 +73,7 @@ const LISTENER: Card = Card {
     kind: Kind::Listen,
     name: 2,
     extra: 0,
+    mark: 0,
 };
 
 /// What became of a newcomer.

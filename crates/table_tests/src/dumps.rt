@@ -1,22 +1,21 @@
 //! What a worker lists of empty tables, and beside a listener.
 
 ghost use Rattle.std.specs.Prelude.{◌≡◌, ◌+◌, ◌<◌, ◌≤◌, ◌^◌, ℕ, length, IfOk};
-ghost use Rattle.shared_ops.specs.Stands.{IsAway, IsReady, MayDraw, MayEnter, StandsAs, chained, turned};
+ghost use Rattle.sock_ops.specs.Stands.{IsAway, IsReady, MayDraw, MayEnter, StandsAs, chained, turned};
 ghost use Rattle.turn_table.specs.Passes as words;
 
 use bind_buckets::{Sharing, turning};
 use chain_book::Shape;
-use chain_deeds::ChainTable;
 use flat_list::{First, NONE_RESERVED, Options, Range};
 use patience::Waits;
 use port_search::Ports;
+use race_run::dump;
 use reuseport_group::Groups;
-use shared_ops::{Sock, Tables, Unbound, Worker, listen};
+use sock_ops::{ChainTable, Newcomer, Sock, Tables, Unbound, Worker, listen};
 use socket_list::{Listing, Span};
 use std::alloc::{AllocError, Global};
 use std::sync::Wait;
 use std::test::Fail;
-use table_dump::dump;
 
 const PLAIN: Options = Options {
     net: None,
@@ -104,7 +103,7 @@ fn empty_tables_have_no_sockets(rt: HostRuntime) -> Result<(), Fail> {
 fn a_listener_is_listed(rt: HostRuntime) -> Result<(), Fail> {
     let alloc = rt.alloc();
     let (tables, mut worker) = empty(alloc)?;
-    let socket = Sock::Unbound(Unbound::new(1, PLAIN));
+    let socket = Sock::Unbound(Unbound::new(Newcomer { name: 1, mark: 0 }, PLAIN));
     let listing = listen_and_dump(&rt, alloc, &tables, &mut worker, socket)?;
     let told = listing.map(|l| (l.cards.len(), l.span));
     assert_eq!(rt; told, Some((1, Some(Span { t0: 2, t1: 2 }))));

@@ -2,25 +2,25 @@
 
 ghost use Rattle.std.specs.Prelude.{◌≡◌, ◌+◌, ◌<◌, ◌≤◌, ◌^◌, ℕ, [], length, IfOk};
 ghost use Rattle.turn_table.specs.Passes as words;
-ghost use Rattle.shared_ops.specs.Socks.{mine_of};
-ghost use Rattle.shared_ops.specs.Stands.{HasGroups, IsAway, IsReady, MayDraw, MayEnter, StandsAs, buckets_of, chained, turned};
+ghost use Rattle.sock_ops.specs.Socks.{mine_of};
+ghost use Rattle.sock_ops.specs.Stands.{HasGroups, IsAway, IsReady, MayDraw, MayEnter, StandsAs, buckets_of, chained, turned};
 
 use bind_buckets::{Sharing, turning};
 use chain_book::{Replace, Shape};
-use chain_deeds::ChainTable;
 use flat_list::{End, First, NONE_RESERVED, Options, Range};
 use patience::Waits;
 use port_search::Ports;
 use reuseport_group::{GroupPasses, Groups, name_of};
-use shared_ops::binding::bind;
-use shared_ops::connecting::connect;
-use shared_ops::handshaking::ack;
-use shared_ops::leaving::{Closed, Waiting, close, drop_sock};
-use shared_ops::listening::listen;
-use shared_ops::reaping::reap_one;
-use shared_ops::requesting::syn;
-use shared_ops::sock::{Sock, Unbound};
-use shared_ops::tables::{Tables, Worker};
+use sock_ops::ChainTable;
+use sock_ops::binding::bind;
+use sock_ops::connecting::connect;
+use sock_ops::handshaking::ack;
+use sock_ops::leaving::{Closed, Waiting, close, drop_sock};
+use sock_ops::listening::listen;
+use sock_ops::reaping::reap_one;
+use sock_ops::requesting::syn;
+use sock_ops::sock::{Newcomer, Sock, Unbound};
+use sock_ops::tables::{Tables, Worker};
 use std::alloc::{AllocError, Global};
 use std::sync::Wait;
 use std::test::Fail;
@@ -49,6 +49,12 @@ const CLIENT: End = End {
     addr: 0x0A00_0003,
     port: 1000,
 };
+
+const FIRST: Newcomer = Newcomer { name: 1, mark: 0 };
+
+const SECOND: Newcomer = Newcomer { name: 2, mark: 0 };
+
+const THIRD: Newcomer = Newcomer { name: 3, mark: 0 };
 
 /// Empty tables with so many slots, and a worker that is alone at them.
 fn empty(alloc: Global, slots: u32) -> Result<(Tables, Worker), AllocError>
@@ -271,10 +277,10 @@ fn shake_hands<R: Wait>(rt: &R, tables: &Tables, worker: &mut Worker, socket: So
         addr: WEB.addr,
         port,
     };
-    let Ok(request) = syn(&waits, tables, worker, &listener, 2, CLIENT, at) else {
+    let Ok(request) = syn(&waits, tables, worker, &listener, SECOND, CLIENT, at) else {
         return Went::Never;
     };
-    match ack(&waits, tables, worker, request, Some(&listener), 3) {
+    match ack(&waits, tables, worker, request, Some(&listener), THIRD) {
         Ok(child) => match close(&waits, tables, worker, child, 5) {
             Ok(Closed::TimeWait(_)) => Went::Waits,
             _ => Went::Never,
@@ -304,7 +310,7 @@ fn outlive_listener<R: Wait>(rt: &R, tables: &Tables, worker: &mut Worker, socke
         addr: WEB.addr,
         port,
     };
-    let Ok(_request) = syn(&waits, tables, worker, &listener, 2, CLIENT, at) else {
+    let Ok(_request) = syn(&waits, tables, worker, &listener, SECOND, CLIENT, at) else {
         return Went::Never;
     };
     if listener.owner().name != 1 {
@@ -313,7 +319,7 @@ fn outlive_listener<R: Wait>(rt: &R, tables: &Tables, worker: &mut Worker, socke
     let Ok(()) = drop_sock(&waits, tables, worker, listener) else {
         return Went::Never;
     };
-    let other = Sock::Unbound(Unbound::new(3, PLAIN));
+    let other = Sock::Unbound(Unbound::new(THIRD, PLAIN));
     let Ok((bound, _)) = bind(&waits, tables, worker, other, at, ports()) else {
         return Went::Never;
     };
@@ -367,7 +373,7 @@ fn call_again<R: Wait>(rt: &R, tables: &Tables, worker: &mut Worker, socket: Soc
     let Ok(Closed::TimeWait(waiting)) = close(&waits, tables, worker, full, 5) else {
         return Went::Never;
     };
-    let other = Sock::Unbound(Unbound::new(2, REUSING));
+    let other = Sock::Unbound(Unbound::new(SECOND, REUSING));
     let Ok((bound, _)) = bind(&waits, tables, worker, other, at, ports()) else {
         return Went::Never;
     };
@@ -377,7 +383,7 @@ fn call_again<R: Wait>(rt: &R, tables: &Tables, worker: &mut Worker, socket: Soc
     let Ok((listener, _)) = listen(&waits, tables, worker, bound, ports()) else {
         return Went::Never;
     };
-    let request = syn(&waits, tables, worker, &listener, 3, CLIENT, at);
+    let request = syn(&waits, tables, worker, &listener, THIRD, CLIENT, at);
     match (request, reap_one(&waits, tables, worker, &waiting)) {
         (Ok(_), Ok(false)) => Went::Replaced,
         _ => Went::Never,
@@ -387,7 +393,7 @@ fn call_again<R: Wait>(rt: &R, tables: &Tables, worker: &mut Worker, socket: Soc
 #[test]
 fn a_listener_comes_and_goes(rt: HostRuntime) -> Result<(), Fail> {
     let (tables, mut worker) = empty(rt.alloc(), 4)?;
-    let socket = Sock::Unbound(Unbound::new(1, PLAIN));
+    let socket = Sock::Unbound(Unbound::new(FIRST, PLAIN));
     let went = listen_and_close(&rt, &tables, &mut worker, socket);
     assert_eq!(rt; went, Went::From(40000));
     Ok(())
@@ -396,7 +402,7 @@ fn a_listener_comes_and_goes(rt: HostRuntime) -> Result<(), Fail> {
 #[test]
 fn a_listener_is_dropped(rt: HostRuntime) -> Result<(), Fail> {
     let (tables, mut worker) = empty(rt.alloc(), 4)?;
-    let socket = Sock::Unbound(Unbound::new(1, PLAIN));
+    let socket = Sock::Unbound(Unbound::new(FIRST, PLAIN));
     let went = listen_and_drop(&rt, &tables, &mut worker, socket);
     assert_eq!(rt; went, Went::From(40000));
     Ok(())
@@ -409,7 +415,7 @@ fn a_member_is_chosen_until_it_goes(rt: HostRuntime) -> Result<(), Fail> {
         reuseport: true,
         ..PLAIN
     };
-    let socket = Sock::Unbound(Unbound::new(1, options));
+    let socket = Sock::Unbound(Unbound::new(FIRST, options));
     let (before, after) = choose_around(&rt, &tables, &mut worker, socket);
     assert_eq!(rt; before, Some(1));
     assert_eq!(rt; after, None);
@@ -419,7 +425,7 @@ fn a_member_is_chosen_until_it_goes(rt: HostRuntime) -> Result<(), Fail> {
 #[test]
 fn a_connection_waits_in_the_end(rt: HostRuntime) -> Result<(), Fail> {
     let (tables, mut worker) = empty(rt.alloc(), 4)?;
-    let socket = Sock::Unbound(Unbound::new(1, PLAIN));
+    let socket = Sock::Unbound(Unbound::new(FIRST, PLAIN));
     let went = connect_and_close(&rt, &tables, &mut worker, socket);
     assert_eq!(rt; went, Went::Waits);
     Ok(())
@@ -428,7 +434,7 @@ fn a_connection_waits_in_the_end(rt: HostRuntime) -> Result<(), Fail> {
 #[test]
 fn a_connection_goes_where_no_slot_is_free(rt: HostRuntime) -> Result<(), Fail> {
     let (tables, mut worker) = empty(rt.alloc(), 1)?;
-    let socket = Sock::Unbound(Unbound::new(1, PLAIN));
+    let socket = Sock::Unbound(Unbound::new(FIRST, PLAIN));
     let went = connect_and_close(&rt, &tables, &mut worker, socket);
     assert_eq!(rt; went, Went::NoSlot(1, 0));
     Ok(())
@@ -437,7 +443,7 @@ fn a_connection_goes_where_no_slot_is_free(rt: HostRuntime) -> Result<(), Fail> 
 #[test]
 fn a_wait_is_reaped_once(rt: HostRuntime) -> Result<(), Fail> {
     let (tables, mut worker) = empty(rt.alloc(), 4)?;
-    let socket = Sock::Unbound(Unbound::new(1, PLAIN));
+    let socket = Sock::Unbound(Unbound::new(FIRST, PLAIN));
     let went = connect_and_reap(&rt, &tables, &mut worker, socket);
     assert_eq!(rt; went, Went::Reaped);
     Ok(())
@@ -446,7 +452,7 @@ fn a_wait_is_reaped_once(rt: HostRuntime) -> Result<(), Fail> {
 #[test]
 fn a_child_comes_in_its_requests_place(rt: HostRuntime) -> Result<(), Fail> {
     let (tables, mut worker) = empty(rt.alloc(), 4)?;
-    let socket = Sock::Unbound(Unbound::new(1, PLAIN));
+    let socket = Sock::Unbound(Unbound::new(FIRST, PLAIN));
     let went = shake_hands(&rt, &tables, &mut worker, socket);
     assert_eq!(rt; went, Went::Waits);
     Ok(())
@@ -455,7 +461,7 @@ fn a_child_comes_in_its_requests_place(rt: HostRuntime) -> Result<(), Fail> {
 #[test]
 fn a_request_stands_where_no_slot_is_free_for_its_child(rt: HostRuntime) -> Result<(), Fail> {
     let (tables, mut worker) = empty(rt.alloc(), 2)?;
-    let socket = Sock::Unbound(Unbound::new(1, PLAIN));
+    let socket = Sock::Unbound(Unbound::new(FIRST, PLAIN));
     let went = shake_hands(&rt, &tables, &mut worker, socket);
     assert_eq!(rt; went, Went::NoSlot(2, 0));
     Ok(())
@@ -464,7 +470,7 @@ fn a_request_stands_where_no_slot_is_free_for_its_child(rt: HostRuntime) -> Resu
 #[test]
 fn a_request_keeps_its_four_tuple(rt: HostRuntime) -> Result<(), Fail> {
     let (tables, mut worker) = empty(rt.alloc(), 4)?;
-    let socket = Sock::Unbound(Unbound::new(1, PLAIN));
+    let socket = Sock::Unbound(Unbound::new(FIRST, PLAIN));
     let went = outlive_listener(&rt, &tables, &mut worker, socket);
     assert_eq!(rt; went, Went::Taken(2));
     Ok(())
@@ -473,7 +479,7 @@ fn a_request_keeps_its_four_tuple(rt: HostRuntime) -> Result<(), Fail> {
 #[test]
 fn a_time_wait_gives_way_to_a_request(rt: HostRuntime) -> Result<(), Fail> {
     let (tables, mut worker) = empty(rt.alloc(), 4)?;
-    let socket = Sock::Unbound(Unbound::new(1, REUSING));
+    let socket = Sock::Unbound(Unbound::new(FIRST, REUSING));
     let went = call_again(&rt, &tables, &mut worker, socket);
     assert_eq!(rt; went, Went::Replaced);
     Ok(())

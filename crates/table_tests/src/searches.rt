@@ -32,6 +32,7 @@ fn socket(name: u64, net: u8) -> Owner
         dev: 0,
         net,
         uid: 0,
+        mark: 0,
         reuseaddr: true,
         reuseport: true,
         noport: false,

@@ -2,21 +2,20 @@
 
 ghost use Rattle.std.specs.Prelude.{◌≡◌, ◌+◌, ◌*◌, ◌<◌, ◌≤◌, ◌^◌, [], false, length, IfOk};
 ghost use Rattle.bind_buckets.specs.Turned.{IsIdle};
-ghost use Rattle.shared_ops.specs.Stands.{MayDraw, MayEnter};
+ghost use Rattle.sock_ops.specs.Stands.{MayDraw, MayEnter};
 ghost use Rattle.section_machine.specs.Standing.{IsSection};
 ghost use Rattle.table_model.specs.Means.{is_lookup};
 ghost use Rattle.list_words.specs.Lists.{Each};
 
 use bind_buckets::{Bucket, Sharing, turning};
 use chain_book::Shape;
-use chain_deeds::ChainTable;
 use flat_calls::commands;
 use flat_list::{Command, End, Header, NONE_RESERVED, Options, Range, Reply};
 use label_index::LabelSeed;
 use patience::Tries;
 use reuseport_group::Groups;
 use section_machine::{Machine, laws};
-use shared_ops::{Cause, Tables, Worker};
+use sock_ops::{Cause, ChainTable, Tables, Worker};
 use std::alloc::{AllocError, Global};
 use std::process::Abort;
 use std::test::Fail;

@@ -24,6 +24,7 @@ fn socket(name: u64, port: u16, uid: u32) -> Owner {
         dev: 0,
         net: 0,
         uid,
+        mark: 0,
         reuseaddr: false,
         reuseport: true,
         noport: false,

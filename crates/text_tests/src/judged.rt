@@ -30,6 +30,7 @@ const LISTENER: Card = Card {
     kind: Kind::Listen,
     name: 0x0100_0000_0000_0001,
     extra: 0,
+    mark: 0,
 };
 
 /// A connection from 10.0.0.2:1000 to it.
@@ -43,6 +44,7 @@ const CONNECTION: Card = Card {
     kind: Kind::Full,
     name: 0x0100_0000_0000_0002,
     extra: 0,
+    mark: 0,
 };
 
 /// The name of the request by which it comes.

@@ -50,6 +50,7 @@ fn listener(net: u8) -> Card {
         kind: Kind::Listen,
         name: 0x0100_0000_0000_0001,
         extra: 0,
+        mark: 0,
     }
 }
 

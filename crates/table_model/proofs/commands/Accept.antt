@@ -42,15 +42,15 @@ accepts_own l from at h =
 
 module _ (n : ℕ) (own : Own) (t : Tables) (flat : Flat) (h : Means n own t flat) (l : Socket) (listed : Listed l.owner.name flat.sockets l) (label : List ℕ) (from at : End) where
   abbrev child : ℕ → Owner
-  child name = child_owner l.owner name from at
+  child name = child_owner l.owner name 0 from at
 
   abbrev inherit : ℕ → Request
-  inherit name = requests.Inherit l.owner.name name at.addr from.addr from.port
+  inherit name = requests.Inherit l.owner.name name 0 at.addr from.addr from.port
 
   -- the child comes to its listener's port
   inherits : (name : ℕ) → is_no_accept l.owner from at ≡ false → IsDone t.buckets (owner_key l.owner) (inherit name) (with_sockets flat (flat.sockets ++ flat_connect.child_of l name from at ∷ []))
   inherits name accepts =
-      inherit_asked t.buckets flat h.tables.owners h.shape.bind h.sound.names l.owner.name l listed (accepts_own l.owner from at accepts) name at.addr from.addr from.port
+      inherit_asked t.buckets flat h.tables.owners h.shape.bind h.sound.names l.owner.name l listed (accepts_own l.owner from at accepts) name 0 at.addr from.addr from.port
       (flat_connect.child_of l name from at) refl
 
   abbrev plan_as : ℕ → Asking Did

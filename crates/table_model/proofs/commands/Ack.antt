@@ -90,12 +90,12 @@ module _ (n : ℕ) (own : Own) (t : Tables) (flat : Flat) (h : Means n own t fla
     child k = flat_connect.heir_of l k r
 
     abbrev inherit : ℕ → Request
-    inherit k = requests.Inherit l.owner.name k r.owner.addr r.owner.remote r.owner.rport
+    inherit k = requests.Inherit l.owner.name k 0 r.owner.addr r.owner.remote r.owner.rport
 
     -- the child comes to its listener's port
     inherits : (k : ℕ) → IsDone t.buckets (owner_key l.owner) (inherit k) (with_sockets flat (flat.sockets ++ child k ∷ []))
     inherits k =
-        inherit_asked t.buckets flat h.tables.owners h.shape.bind h.sound.names l.owner.name l listed (acks_own l.owner r.owner accepts) k r.owner.addr r.owner.remote r.owner.rport (child k) refl
+        inherit_asked t.buckets flat h.tables.owners h.shape.bind h.sound.names l.owner.name l listed (acks_own l.owner r.owner accepts) k 0 r.owner.addr r.owner.remote r.owner.rport (child k) refl
 
     abbrev hands : ℕ → Asking Did
     hands k = ack_as flat.header.shape flat.header.seed m l.owner (child k).owner
@@ -225,11 +225,11 @@ module _ (n : ℕ) (own : Own) (t : Tables) (flat : Flat) (h : Means n own t fla
       hands_over = by_slot (free_slot t.chains.slots) refl
 
   abbrev plan_by : ℕ → Option Mine → Asking Replied
-  plan_by k o = and_then (ack_by flat.header.shape flat.header.seed m o k) (λ did. ends (reply did))
+  plan_by k o = and_then (ack_by flat.header.shape flat.header.seed m o k 0) (λ did. ends (reply did))
 
   -- by the listener's owner
   abbrev plan_at : ℕ → Owner → Asking Replied
-  plan_at k l = unless n own t flat h label reply (is_no_ack l r.owner) (ack_as flat.header.shape flat.header.seed m l (heir_owner l k r.owner))
+  plan_at k l = unless n own t flat h label reply (is_no_ack l r.owner) (ack_as flat.header.shape flat.header.seed m l (heir_owner l k 0 r.owner))
 
   not_so : Carried n t (ends (reply (refused errors.Inval))) (unchanged given_so replies.Einval)
   not_so = record { ended = record { tables = t; result = reply (refused errors.Inval) }; runs = refl; reply = refl; means = refused_means n own t flat h label }
@@ -240,13 +240,13 @@ module _ (n : ℕ) (own : Own) (t : Tables) (flat : Flat) (h : Means n own t fla
   listener_by is few (Some x) (Some l) both =
       let k : ℕ = new_name n own t flat h in
       subst (λ (a : Owner). Carried n t (plan_at k a) (flat_connect.ack_by given_so k r (Some l))) (sym both.same)
-      (carried_unless n own t flat h label reply refl (is_no_ack l.owner r.owner) (ack_as flat.header.shape flat.header.seed m l.owner (heir_owner l.owner k r.owner))
+      (carried_unless n own t flat h label reply refl (is_no_ack l.owner r.owner) (ack_as flat.header.shape flat.header.seed m l.owner (heir_owner l.owner k 0 r.owner))
       (flat_connect.hand_over given_so r (flat_connect.heir_of l k r)) (λ accepts. hands_over is l both.listed accepts few))
   listener_by is few None (Some l) both = absurd both
   listener_by is few (Some x) None both = absurd both
 
   abbrev plan_as : ℕ → State → Asking Replied
-  plan_as k state = and_then (ack_from flat.header.shape flat.header.seed state m (open_named labelled_own r.owner.origin) k) (λ did. ends (reply did))
+  plan_as k state = and_then (ack_from flat.header.shape flat.header.seed state m (open_named labelled_own r.owner.origin) k 0) (λ did. ends (reply did))
 
   by_state : length own.labels + 1 < 2 ^ 56 → (state : State) → r.owner.state ≡ state
       → Carried n t (plan_as (new_name n own t flat h) state) (flat_connect.ack_socket given_so n (new_name n own t flat h) r state)
@@ -272,7 +272,7 @@ module _ (n : ℕ) (own : Own) (t : Tables) (flat : Flat) (h : Means n own t fla
   listener_ends is k None None both = ends_not
   listener_ends is k (Some x) (Some l) both =
       subst (λ (a : Owner). Ended_so (plan_at k a)) (sym both.same)
-      (ends_unless n own t flat h label reply (is_no_ack l.owner r.owner) (ack_as flat.header.shape flat.header.seed m l.owner (heir_owner l.owner k r.owner))
+      (ends_unless n own t flat h label reply (is_no_ack l.owner r.owner) (ack_as flat.header.shape flat.header.seed m l.owner (heir_owner l.owner k 0 r.owner))
       (λ accepts. hands_ends is l both.listed accepts k))
   listener_ends is k None (Some l) both = absurd both
   listener_ends is k (Some x) None both = absurd both

@@ -248,9 +248,9 @@ module _ (Hashes : Card → Type 0) (Leaves : Place → Card → Type 0) (awake 
     accept_hashed_asks l child (taken name) = tt
     accept_hashed_asks l child (full owned held) = tt
 
-    pub accept_asks : (l : Mine) (name : ℕ) (from at : End) → As (NamedBy name) (op.accept shape seed l name from at)
-    accept_asks l name from at =
-        let child : Owner = child_owner l.owner name from at in
+    pub accept_asks : (l : Mine) (name mark : ℕ) (from at : End) → As (NamedBy name) (op.accept shape seed l name mark from at)
+    accept_asks l name mark from at =
+        let child : Owner = child_owner l.owner name mark from at in
         cond_both (is_no_accept l.owner from at) (ends (refused errors.Inval)) (op.accept_as shape seed l.owner child) (As (NamedBy name)) (λ _. tt)
         (λ _. (awake (op.full_card child) refl, accept_hashed_asks l.owner child))
 
@@ -259,9 +259,9 @@ module _ (Hashes : Card → Type 0) (Leaves : Place → Card → Type 0) (awake 
     syn_hashed_asks r (taken name) = tt
     syn_hashed_asks r (full owned held) = tt
 
-    pub syn_asks : (l : Mine) (name : ℕ) (from at : End) → As (NamedBy name) (op.syn shape seed l name from at)
-    syn_asks l name from at =
-        let r : Owner = request_owner l.owner name from at in
+    pub syn_asks : (l : Mine) (name mark : ℕ) (from at : End) → As (NamedBy name) (op.syn shape seed l name mark from at)
+    syn_asks l name mark from at =
+        let r : Owner = request_owner l.owner name mark from at in
         cond_both (is_no_accept l.owner from at) (ends (refused errors.Inval)) (op.syn_as shape seed r) (As (NamedBy name)) (λ _. tt)
         (λ _. (awake (op.request_card r) refl, syn_hashed_asks r))
 
@@ -272,20 +272,20 @@ module _ (Hashes : Card → Type 0) (Leaves : Place → Card → Type 0) (awake 
     ack_hashed_asks r l child leaves (full owned held) = tt
     ack_hashed_asks r l child leaves (taken name) = tt
 
-    ack_by_asks : (r : Mine) (l : Option Mine) (name : ℕ) → Leaves r.place (card_of kinds.Request r) → As (NamedBy name) (op.ack_by shape seed r l name)
-    ack_by_asks r None name leaves = tt
-    ack_by_asks r (Some l) name leaves =
-        let child : Owner = heir_owner l.owner name r.owner in
+    ack_by_asks : (r : Mine) (l : Option Mine) (name mark : ℕ) → Leaves r.place (card_of kinds.Request r) → As (NamedBy name) (op.ack_by shape seed r l name mark)
+    ack_by_asks r None name mark leaves = tt
+    ack_by_asks r (Some l) name mark leaves =
+        let child : Owner = heir_owner l.owner name mark r.owner in
         cond_both (is_no_ack l.owner r.owner) (ends (refused errors.Inval)) (op.ack_as shape seed r l.owner child) (As (NamedBy name)) (λ _. tt)
         (λ _. (awake (op.full_card child) refl, ack_hashed_asks r l.owner child leaves))
 
-    pub ack_asks : (state : State) (r : Mine) (l : Option Mine) (name : ℕ) → MayLeave Leaves r (kind_of state) → As (NamedBy name) (op.ack_from shape seed state r l name)
-    ack_asks states.Request r l name leaves = ack_by_asks r l name leaves
-    ack_asks states.Unbound r l name leaves = tt
-    ack_asks states.Bound r l name leaves = tt
-    ack_asks states.Listening r l name leaves = tt
-    ack_asks states.Full r l name leaves = tt
-    ack_asks states.TimeWait r l name leaves = tt
+    pub ack_asks : (state : State) (r : Mine) (l : Option Mine) (name mark : ℕ) → MayLeave Leaves r (kind_of state) → As (NamedBy name) (op.ack_from shape seed state r l name mark)
+    ack_asks states.Request r l name mark leaves = ack_by_asks r l name mark leaves
+    ack_asks states.Unbound r l name mark leaves = tt
+    ack_asks states.Bound r l name mark leaves = tt
+    ack_asks states.Listening r l name mark leaves = tt
+    ack_asks states.Full r l name mark leaves = tt
+    ack_asks states.TimeWait r l name mark leaves = tt
 
   -- and a TIME_WAIT may be hashed too
   module _ (waits : (card : Card) → Hashes card) where
@@ -333,16 +333,16 @@ module _ (Hashes : Card → Type 0) (Leaves : Place → Card → Type 0) (awake 
 
       accept_command_asks : (labelled : Own) (name : ℕ) (o : Option Mine) (from at : End) → As AnyReply (command.accept_command header labelled name o from at)
       accept_command_asks labelled name None from at = tt
-      accept_command_asks labelled name (Some l) from at = replied (NamedBy name) _ _ (accept_asks header.shape header.seed l name from at)
+      accept_command_asks labelled name (Some l) from at = replied (NamedBy name) _ _ (accept_asks header.shape header.seed l name labelled.mark from at)
 
       syn_command_asks : (labelled : Own) (name : ℕ) (o : Option Mine) (from at : End) → As AnyReply (command.syn_command header labelled name o from at)
       syn_command_asks labelled name None from at = tt
-      syn_command_asks labelled name (Some l) from at = replied (NamedBy name) _ _ (syn_asks header.shape header.seed l name from at)
+      syn_command_asks labelled name (Some l) from at = replied (NamedBy name) _ _ (syn_asks header.shape header.seed l name labelled.mark from at)
 
       ack_command_asks : (labelled : Own) (name : ℕ) (o : Option Mine) → OpenMayLeave Leaves o → As AnyReply (command.ack_command header labelled name o)
       ack_command_asks labelled name None leaves = tt
       ack_command_asks labelled name (Some r) leaves =
-          replied (NamedBy name) _ _ (ack_asks header.shape header.seed r.owner.state r (open_named labelled r.owner.origin) name leaves)
+          replied (NamedBy name) _ _ (ack_asks header.shape header.seed r.owner.state r (open_named labelled r.owner.origin) name labelled.mark leaves)
 
       close_command_asks : (o : Option Mine) → OpenMayLeave Leaves o → As AnyReply (command.close_command header own o)
       close_command_asks None leaves = tt

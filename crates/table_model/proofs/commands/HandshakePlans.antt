@@ -10,12 +10,13 @@ use Rattle.flat_list.specs.Outcome.{Outcome}
 use Rattle.flat_list.specs.Outcome as outcome
 use Rattle.flat_list.specs.Sections.{next_name}
 use Rattle.flat_list.specs.Step.{step}
-use Rattle.table_model.specs.Asking.{Asking}
+use Rattle.table_model.specs.Asking.{Asking, and_then, ends}
 use Rattle.table_model.specs.Tables.{Tables, Ended, run}
 use Rattle.table_model.specs.Own as own_words
 use Rattle.table_model.specs.Own.{Own, Mine, open_socket, with_label}
 use Rattle.table_model.specs.Operations.{plain}
-use Rattle.table_model.specs.Commands.{Replied, plan, accept_command, syn_command, ack_command}
+use Rattle.table_model.specs.Operations as op
+use Rattle.table_model.specs.Commands.{Replied, accept_reply, ack_reply, plan, accept_command, syn_command, ack_command}
 use Rattle.table_model.specs.Means.{Means}
 use Rattle.table_model.proofs.parts.OpenSocket.{IsOpen, OpenBoth, open_both, OpenThere, open_there}
 use Rattle.table_model.proofs.commands.Accept.{accept_here, accept_here_ends}
@@ -70,32 +71,40 @@ module _ (n : ℕ) (own : Own) (t : Tables) (flat : Flat) (h : Means n own t fla
           → Carried n t (accept_command flat.header labelled name (Some m) from at) (flat_connect.accept given_so name (Some s) from at)
       accept_open few m s is =
           subst (λ (a : Owner). Carried n t (accept_command flat.header labelled name (Some (plain a)) from at) (flat_connect.accept given_so name (Some s) from at)) (sym is.same)
-          (accept_here n own t flat h s is.listed label from at few)
+          (subst (λ (mark : ℕ). Carried n t (and_then (op.accept flat.header.shape flat.header.seed (plain s.owner) name mark from at) (λ did. ends (accept_reply labelled did))) (flat_connect.accept given_so name (Some s) from at)) (sym h.own_is.unmarked)
+          (accept_here n own t flat h s is.listed label from at few))
 
       accept_open_ends : (k : ℕ) (m : Mine) (s : Socket) → IsOpen n t flat m s → EndsSo (accept_command flat.header labelled k (Some m) from at)
       accept_open_ends k m s is =
-          subst (λ (a : Owner). EndsSo (accept_command flat.header labelled k (Some (plain a)) from at)) (sym is.same) (accept_here_ends n own t flat h s is.listed label from at k)
+          subst (λ (a : Owner). EndsSo (accept_command flat.header labelled k (Some (plain a)) from at)) (sym is.same)
+          (subst (λ (mark : ℕ). EndsSo (and_then (op.accept flat.header.shape flat.header.seed (plain s.owner) k mark from at) (λ did. ends (accept_reply labelled did)))) (sym h.own_is.unmarked)
+          (accept_here_ends n own t flat h s is.listed label from at k))
 
       syn_open : length own.labels + 1 < 2 ^ 56 → (m : Mine) (s : Socket) → IsOpen n t flat m s
           → Carried n t (syn_command flat.header labelled name (Some m) from at) (flat_connect.syn given_so name (Some s) from at)
       syn_open few m s is =
           subst (λ (a : Owner). Carried n t (syn_command flat.header labelled name (Some (plain a)) from at) (flat_connect.syn given_so name (Some s) from at)) (sym is.same)
-          (syn_here n own t flat h s label from at few)
+          (subst (λ (mark : ℕ). Carried n t (and_then (op.syn flat.header.shape flat.header.seed (plain s.owner) name mark from at) (λ did. ends (accept_reply labelled did))) (flat_connect.syn given_so name (Some s) from at)) (sym h.own_is.unmarked)
+          (syn_here n own t flat h s label from at few))
 
       syn_open_ends : (k : ℕ) (m : Mine) (s : Socket) → IsOpen n t flat m s → EndsSo (syn_command flat.header labelled k (Some m) from at)
       syn_open_ends k m s is =
-          subst (λ (a : Owner). EndsSo (syn_command flat.header labelled k (Some (plain a)) from at)) (sym is.same) (syn_here_ends n own t flat h s label from at k)
+          subst (λ (a : Owner). EndsSo (syn_command flat.header labelled k (Some (plain a)) from at)) (sym is.same)
+          (subst (λ (mark : ℕ). EndsSo (and_then (op.syn flat.header.shape flat.header.seed (plain s.owner) k mark from at) (λ did. ends (accept_reply labelled did)))) (sym h.own_is.unmarked)
+          (syn_here_ends n own t flat h s label from at k))
 
     ack_open : length own.labels + 1 < 2 ^ 56 → (m : Mine) (s : Socket) → IsOpen n t flat m s
         → Carried n t (ack_command flat.header labelled name (Some m)) (flat_connect.ack given_so n name (Some s))
     ack_open few m s is =
         subst (λ (x : Mine). Carried n t (ack_command flat.header labelled name (Some x)) (flat_connect.ack given_so n name (Some s))) (λ i. record m { owner = sym is.same i })
-        (acked n own t flat h label s m.extra m.place is.listed is.mine (stands_so n t flat m s is) few)
+        (subst (λ (mark : ℕ). Carried n t (and_then (op.ack flat.header.shape flat.header.seed (record m { owner = s.owner }) (own_words.open_named labelled s.owner.origin) name mark) (λ did. ends (ack_reply labelled s.owner.name did))) (flat_connect.ack given_so n name (Some s))) (sym h.own_is.unmarked)
+        (acked n own t flat h label s m.extra m.place is.listed is.mine (stands_so n t flat m s is) few))
 
     ack_open_ends : (k : ℕ) (m : Mine) (s : Socket) → IsOpen n t flat m s → EndsSo (ack_command flat.header labelled k (Some m))
     ack_open_ends k m s is =
         subst (λ (x : Mine). EndsSo (ack_command flat.header labelled k (Some x))) (λ i. record m { owner = sym is.same i })
-        (acked_ends n own t flat h label s m.extra m.place is.listed is.mine (stands_so n t flat m s is) k)
+        (subst (λ (mark : ℕ). EndsSo (and_then (op.ack flat.header.shape flat.header.seed (record m { owner = s.owner }) (own_words.open_named labelled s.owner.origin) k mark) (λ did. ends (ack_reply labelled s.owner.name did)))) (sym h.own_is.unmarked)
+        (acked_ends n own t flat h label s m.extra m.place is.listed is.mine (stands_so n t flat m s is) k))
 
   -- `accept` beside the list's
   pub accept_carried : (listener label : List ℕ) (from at : End) → length own.labels + 1 < 2 ^ 56

@@ -91,25 +91,25 @@ module _ (n : ℕ) (own : Own) (t : Tables) (flat : Flat) (h : Means n own t fla
           groups = groups_kept t t.buckets given after refl refl m.groups;
         }
 
-    socket_means : IsSound after → Means n (with_new (with_label own label) (plain (new_owner name options))) t after
+    socket_means : IsSound after → Means n (with_new (with_label own label) (plain (new_owner name 0 options))) t after
     socket_means sound = record {
       shape = h.shape;
       sound = sound;
       tables = socket_tables;
-      own_is = own_new n (with_label own label) t t given new (plain (new_owner name options)) (own_label n own t flat h.own_is label one_more) refl of_section refl
+      own_is = own_new n (with_label own label) t t given new (plain (new_owner name 0 options)) (own_label n own t flat h.own_is label one_more) refl of_section refl
           (pairs_last NamesDiffer flat.sockets new sound.names)
           (each_weaken (λ (w : Mine). IsNameOf n (length own.labels) w.owner.name) (λ (w : Mine). w.owner.name ≢ name) own.waits (λ w g. given_before n (length own.labels) w.owner.name g) h.own_is.given)
           tt h.own_is.stand;
     }
 
-    abbrev socket_as : ℕ → ℕ → Type 0
-    socket_as k j =
-        Carried n t (replies_at_once (with_new (with_label own label) (plain (new_owner k options))) replies.Ok)
+    abbrev socket_as : ℕ → ℕ → ℕ → Type 0
+    socket_as mark k j =
+        Carried n t (replies_at_once (with_new (with_label own label) (plain (new_owner k mark options))) replies.Ok)
         (record { flat = with_sections (with_sockets flat (flat.sockets ++ new_socket j options ∷ [])) (with_given flat.header n label flat.sections); reply = replies.Ok })
 
-    socket_here : socket_as name name
+    socket_here : socket_as 0 name name
     socket_here = record {
-      ended = record { tables = t; result = answers (with_new (with_label own label) (plain (new_owner name options))) replies.Ok };
+      ended = record { tables = t; result = answers (with_new (with_label own label) (plain (new_owner name 0 options))) replies.Ok };
       runs = refl;
       reply = refl;
       means = socket_means;
@@ -120,4 +120,5 @@ module _ (n : ℕ) (own : Own) (t : Tables) (flat : Flat) (h : Means n own t fla
     socket_mine =
         let own_name : own_words.next_name own ≡ name = ap (λ (k : ℕ). name_at k (length own.labels)) h.own_is.number in
         let flat_name : next_name n flat.sections ≡ name = ap (λ (l : List (List ℕ)). name_at n (length l)) (same_labels n own t flat h.own_is) in
-        subst (λ (k : ℕ). socket_as k (next_name n flat.sections)) (sym own_name) (subst (socket_as name) (sym flat_name) socket_here)
+        subst (λ (k : ℕ). socket_as own.mark k (next_name n flat.sections)) (sym own_name)
+        (subst (socket_as own.mark name) (sym flat_name) (subst (λ (mark : ℕ). socket_as mark name name) (sym h.own_is.unmarked) socket_here))

@@ -21,7 +21,7 @@ use Rattle.table_model.proofs.commands.Newcomer.{arrives_portless}
 
 module _ (n : ℕ) (own : Own) (t : Tables) (flat : Flat) (h : Means n own t flat) (l : Socket) (label : List ℕ) (from at : End) where
   abbrev request : ℕ → Owner
-  request name = request_owner l.owner name from at
+  request name = request_owner l.owner name 0 from at
 
   abbrev plan_as : ℕ → Asking Did
   plan_as name = syn_as flat.header.shape flat.header.seed (request name)

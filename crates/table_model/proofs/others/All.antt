@@ -216,6 +216,7 @@ module _ (n m : ℕ) (own other : Own) (t : Tables) (flat : Flat) (command : Com
       let rest : Rest m other left.sockets = step_rest n m apart other t flat theirs.own_is theirs.sound command few_labels in
       record {
         number = theirs.own_is.number;
+        unmarked = theirs.own_is.unmarked;
         section = theirs.own_is.section ∙ sym section_stays;
         range = theirs.own_is.range ∙ sym (ap (λ (header : Header). header.range) header_stays);
         offset = theirs.own_is.offset ∙ sym (ap (λ (header : Header). header.offset) header_stays);

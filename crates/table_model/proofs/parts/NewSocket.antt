@@ -71,6 +71,7 @@ pub own_new : (n : ℕ) (own : Own) (t t' : Tables) (flat : Flat) (s : Socket) (
     → OwnMeans n (with_new own m) t' (with_sockets flat (flat.sockets ++ s ∷ []))
 own_new n own t t' flat s m h same mine awake apart waits_apart stands others = record {
   number = h.number;
+  unmarked = h.unmarked;
   section = h.section;
   range = h.range;
   offset = h.offset;

@@ -101,6 +101,7 @@ pub own_put : (n : ℕ) (own : Own) (t t' : Tables) (flat : Flat) (new s : Socke
     → OwnMeans n (with_socket own m) t' (with_sockets flat (put new flat.sockets))
 own_put n own t t' flat new s m h names at mine same was is stands others = record {
   number = h.number;
+  unmarked = h.unmarked;
   section = h.section;
   range = h.range;
   offset = h.offset;

@@ -31,6 +31,7 @@ AllStand own t = Each (λ (x : Mine). StandsAs t.chains x (kind_of x.owner.state
 pub own_there : (n : ℕ) (own : Own) (t t' : Tables) (flat : Flat) → OwnMeans n own t flat → AllStand own t' → OwnMeans n own t' flat
 own_there n own t t' flat h stands = record {
   number = h.number;
+  unmarked = h.unmarked;
   section = h.section;
   range = h.range;
   offset = h.offset;

@@ -171,6 +171,7 @@ module _ (n : ℕ) (own : Own) (t : Tables) (flat : Flat) (h : OwnMeans n own t 
       → OwnMeans n (own_words.without own name) t' (record flat { sockets = without name flat.sockets; groups = groups })
   own_gone t' groups stand = record {
     number = h.number;
+    unmarked = h.unmarked;
     section = h.section;
     range = h.range;
     offset = h.offset;
@@ -204,6 +205,7 @@ module _ (n : ℕ) (own : Own) (t : Tables) (flat : Flat) (h : OwnMeans n own t 
       let w_name : w.owner.name ≡ name = ap (λ (o : Owner). o.name) same in
       record {
         number = h.number;
+        unmarked = h.unmarked;
         section = h.section;
         range = h.range;
         offset = h.offset;

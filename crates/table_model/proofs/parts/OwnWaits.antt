@@ -78,6 +78,7 @@ module _ (n : ℕ) (own : Own) (t t' : Tables) (flat : Flat) (h : OwnMeans n own
   pub own_wait_gone : Each (λ (m : Mine). StandsAs t'.chains m (kind_of m.owner.state)) own.sockets → OwnMeans n own t' (record flat { sockets = without k flat.sockets })
   own_wait_gone stands = record {
     number = h.number;
+    unmarked = h.unmarked;
     section = h.section;
     range = h.range;
     offset = h.offset;

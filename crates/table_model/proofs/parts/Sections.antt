@@ -41,6 +41,7 @@ module _ (n : ℕ) (own : Own) (t : Tables) (flat : Flat) (h : OwnMeans n own t 
   pub own_moment : (moment : ℕ) → OwnMeans n (record own { moment = moment }) t (with_sections flat (with_moment flat.header n moment flat.sections))
   own_moment moment = record {
     number = h.number;
+    unmarked = h.unmarked;
     section = changed_section (at_moment moment) (λ s. refl);
     range = h.range;
     offset = h.offset;
@@ -55,6 +56,7 @@ module _ (n : ℕ) (own : Own) (t : Tables) (flat : Flat) (h : OwnMeans n own t 
   pub own_label : (label : List ℕ) → length (own.labels ++ label ∷ []) ≡ length own.labels + 1 → OwnMeans n (own_words.with_label own label) t (with_sections flat (with_given flat.header n label flat.sections))
   own_label label more = record {
     number = h.number;
+    unmarked = h.unmarked;
     section = changed_section (with_label label) (λ s. refl);
     range = h.range;
     offset = h.offset;
@@ -86,6 +88,7 @@ module _ (n : ℕ) (own : Own) (t : Tables) (flat : Flat) (h : OwnMeans n own t 
       ap (λ (x : Option ℕ). option_map_or (λ (offset : ℕ). own.offsets) x (record own.offsets { generator = (pcg32 own.offsets.generator).1 })) e in
       subst (λ (x : Offsets). OwnMeans n (with_offsets own x) t (draw flat n None).flat) (sym past) record {
         number = h.number;
+        unmarked = h.unmarked;
         section = changed_section past_word (λ s. refl);
         range = h.range;
         offset = h.offset;

@@ -107,6 +107,7 @@ starts_meant n t flat positive shape sound means begins =
       tables = means;
       own_is = record {
         number = refl;
+        unmarked = refl;
         section = sym begins;
         range = refl;
         offset = refl;

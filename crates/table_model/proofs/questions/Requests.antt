@@ -78,9 +78,9 @@ module _ (n : ℕ) (h : Held) where
     unfolding owner_step
     connect_bound_step local remote rport = ap (λ (o : Option Owner). spoken h name o (λ _. changed h name (connected local remote rport) h.groups)) at
 
-    inherit_step : (new local remote rport : ℕ) → owner_step n h (requests.Inherit name new local remote rport) ≡ with_owner h (child new local remote rport a)
+    inherit_step : (new mark local remote rport : ℕ) → owner_step n h (requests.Inherit name new mark local remote rport) ≡ with_owner h (child new mark local remote rport a)
     unfolding owner_step
-    inherit_step new local remote rport = ap (λ (o : Option Owner). spoken h name o (λ l. with_owner h (child new local remote rport l))) at
+    inherit_step new mark local remote rport = ap (λ (o : Option Owner). spoken h name o (λ l. with_owner h (child new mark local remote rport l))) at
 
     to_time_wait_step : owner_step n h (requests.ToTimeWait name) ≡ changed h name as_waiting h.groups
     unfolding owner_step
@@ -238,12 +238,12 @@ module _ (buckets : List Standing) (flat : Flat) (om : OwnersMean buckets flat) 
           (becomes_named as_waiting new e refl) (becomes_owner as_waiting new e refl) (λ a. refl)
 
       -- a listener's child comes beside it
-      pub inherit_asked : (child_name local remote rport : ℕ) (new : Socket) → new.owner ≡ child child_name local remote rport s.owner
-          → IsDone buckets its_port (requests.Inherit name child_name local remote rport) (with_sockets flat (flat.sockets ++ new ∷ []))
-      inherit_asked child_name local remote rport new e =
-          let request : Request = requests.Inherit name child_name local remote rport in
+      pub inherit_asked : (child_name mark local remote rport : ℕ) (new : Socket) → new.owner ≡ child child_name mark local remote rport s.owner
+          → IsDone buckets its_port (requests.Inherit name child_name mark local remote rport) (with_sockets flat (flat.sockets ++ new ∷ []))
+      inherit_asked child_name mark local remote rport new e =
+          let request : Request = requests.Inherit name child_name mark local remote rport in
           let is : step_at buckets flat om some its_port request ≡ with_owner there new.owner =
-          inherit_step (its_port % length buckets) there name s.owner its_first child_name local remote rport ∙ ap (with_owner there) (sym e) in
+          inherit_step (its_port % length buckets) there name s.owner its_first child_name mark local remote rport ∙ ap (with_owner there) (sym e) in
           record {
             answer = ap (λ (x : After). x.answer) is;
             left = record {

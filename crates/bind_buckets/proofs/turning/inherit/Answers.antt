@@ -12,13 +12,13 @@ pub name_result-requires : goal.name_result-requires
 unfolding owner_step
 name_result-requires c =
     let h = c.args.turn.now.value.value.held in
-    rw c.ask.ensures.answer (name_answers h c.args.parent (λ listener. with_owner h (child c.args.name c.args.local c.args.remote c.args.rport listener)) (λ a. refl) (find (has_name c.args.parent) h.owners))
+    rw c.ask.ensures.answer (name_answers h c.args.parent (λ listener. with_owner h (child c.args.name c.args.mark c.args.local c.args.remote c.args.rport listener)) (λ a. refl) (find (has_name c.args.parent) h.owners))
 
 pub returns-clause-strange : goal.returns-clause-strange
 unfolding owner_step
 returns-clause-strange c =
     let h = c.args.turn.now.value.value.held in
-    strange_by h c.args.parent (λ listener. with_owner h (child c.args.name c.args.local c.args.remote c.args.rport listener)) (λ a. refl) (find (has_name c.args.parent) h.owners) c.name_result.result refl (c.name_result.ensures ∙ c.ask.ensures.answer)
+    strange_by h c.args.parent (λ listener. with_owner h (child c.args.name c.args.mark c.args.local c.args.remote c.args.rport listener)) (λ a. refl) (find (has_name c.args.parent) h.owners) c.name_result.result refl (c.name_result.ensures ∙ c.ask.ensures.answer)
 
 pub returns-clause-entries : goal.returns-clause-entries
 unfolding owner_step
@@ -26,7 +26,7 @@ returns-clause-entries c =
     let b = c.args.turn.now.value.value in
     let h = b.held in
     rw c.ask.ensures.asks.value
-    (spoken_used h c.args.parent (λ listener. with_owner h (child c.args.name c.args.local c.args.remote c.args.rport listener)) b.entries (find (has_name c.args.parent) h.owners) (λ a. omega (arith, longer h.owners (child c.args.name c.args.local c.args.remote c.args.rport a))) c.requires.entry)
+    (spoken_used h c.args.parent (λ listener. with_owner h (child c.args.name c.args.mark c.args.local c.args.remote c.args.rport listener)) b.entries (find (has_name c.args.parent) h.owners) (λ a. omega (arith, longer h.owners (child c.args.name c.args.mark c.args.local c.args.remote c.args.rport a))) c.requires.entry)
 
 pub returns-clause-newcomers : goal.returns-clause-newcomers
 unfolding owner_step
@@ -34,7 +34,7 @@ returns-clause-newcomers c =
     let b = c.args.turn.now.value.value in
     let h = b.held in
     rw c.ask.ensures.asks.value
-    (spoken_came h c.args.parent (λ listener. with_owner h (child c.args.name c.args.local c.args.remote c.args.rport listener)) b.newcomers (find (has_name c.args.parent) h.owners) c.name_result.result (λ a. refl) (λ a. omega (arith, longer h.owners (child c.args.name c.args.local c.args.remote c.args.rport a))) c.requires.newcomer (c.name_result.ensures ∙ c.ask.ensures.answer))
+    (spoken_came h c.args.parent (λ listener. with_owner h (child c.args.name c.args.mark c.args.local c.args.remote c.args.rport listener)) b.newcomers (find (has_name c.args.parent) h.owners) c.name_result.result (λ a. refl) (λ a. omega (arith, longer h.owners (child c.args.name c.args.mark c.args.local c.args.remote c.args.rport a))) c.requires.newcomer (c.name_result.ensures ∙ c.ask.ensures.answer))
 
 pub returns-clause-asks : goal.returns-clause-asks
-returns-clause-asks c = subst (Asks c.args.turns.now c.args.pass.now c.args.turn.now c.ask.new.pass c.ask.new.turn (requests.Inherit c.args.parent c.args.name c.args.local c.args.remote c.args.rport)) (sym c.name_result.ensures) c.ask.ensures.asks
+returns-clause-asks c = subst (Asks c.args.turns.now c.args.pass.now c.args.turn.now c.ask.new.pass c.ask.new.turn (requests.Inherit c.args.parent c.args.name c.args.mark c.args.local c.args.remote c.args.rport)) (sym c.name_result.ensures) c.ask.ensures.asks

@@ -1,7 +1,7 @@
 use Rattle.std.proofs.Common.{rules, arith, ◌≡◌}
 use Rattle.std.specs.Prelude.{Err}
 use Rattle.capture_reader.specs.declared.capture.CaptureEnd.TheVariants as ends
-use Rattle.race_threads.proofs.ForRace.{scripts_are_for_race}
+use Rattle.race_run.proofs.ForRace.{scripts_are_for_race}
 use Rattle.inet_tool.specs.declared.fault.Fault.TheVariants as faults
 use Rattle.inet_tool.specs.Races.{IsRaceOf}
 use Rattle.sock_script.specs.declared.parse.Mode.TheVariants as modes

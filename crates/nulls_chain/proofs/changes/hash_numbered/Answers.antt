@@ -2,13 +2,13 @@ use Rattle.std.proofs.Common.{rules, ◌≡◌, ◌++◌, map, ◌∙◌, ℕ, [
 use Rattle.table_rule.specs.Plays.{Sat, beginning, first_of, settled, sight_at}
 use Rattle.table_rule.specs.declared.view.Sight.{Sight}
 use Rattle.table_rule.specs.declared.view.View.{View}
-use Rattle.shared_slots.specs.Claims.{IsFull, sight_by}
+use Rattle.sock_slots.specs.Claims.{IsFull, sight_by}
 use Rattle.nulls_chain.proofs.Saw.{saw, saw_at, saw_none}
 use Rattle.table_rule.specs.Book.{open-end}
 use Rattle.table_rule.specs.declared.view.Change.{Change}
 use Rattle.table_rule.specs.Owners.{IsPlace}
 use Rattle.table_rule.specs.Sole.{IsBare, FirstFree, AllUsed}
-use Rattle.shared_slots.proofs.Tries.{bare_began}
+use Rattle.sock_slots.proofs.Tries.{bare_began}
 use Rattle.nulls_chain.proofs.changes.hash_numbered.Goals as goal
 use Rattle.table_rule.specs.Calls.{view, layout_of}
 use Rattle.table_rule.specs.Words.{words_of}

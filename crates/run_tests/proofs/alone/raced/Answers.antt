@@ -1,4 +1,4 @@
-use Rattle.race_threads.proofs.ForRace.{scripts_are_for_race}
+use Rattle.race_run.proofs.ForRace.{scripts_are_for_race}
 use Rattle.run_tests.proofs.alone.raced.Goals as goal
 
 pub start-requires : goal.start-requires

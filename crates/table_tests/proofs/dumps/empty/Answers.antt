@@ -2,8 +2,8 @@ use Rattle.std.proofs.Common.{refl, subst, sym}
 use Rattle.turn_table.specs.Views.{first}
 use Rattle.bind_buckets.specs.declared.request.Sharing.TheVariants as sharings
 use Rattle.bind_buckets.specs.Turned.{View}
-use Rattle.shared_ops.specs.Stands.{IsAway}
-use Rattle.shared_ops.proofs.Knows.{new_away}
+use Rattle.sock_ops.specs.Stands.{IsAway}
+use Rattle.sock_ops.proofs.Knows.{new_away}
 use Rattle.table_tests.proofs.dumps.empty.Goals as goal
 
 pub returns-clause-away : goal.returns-clause-away

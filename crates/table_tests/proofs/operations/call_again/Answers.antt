@@ -3,16 +3,16 @@ use Rattle.sock_card.specs.declared.owner.Owner.{Owner}
 use Rattle.bind_buckets.specs.Callers.{MayName}
 use Rattle.table_rule.specs.Calls.{HasShares}
 use Rattle.table_rule.specs.Passes.{known}
-use Rattle.chain_deeds.specs.declared.table.ChainPass.{ChainPass}
+use Rattle.sock_ops.specs.declared.chains.table.ChainPass.{ChainPass}
 use Rattle.chain_book.specs.declared.outcome.Replace.TheVariants as rules
 use Rattle.flat_list.specs.declared.command.End.{End}
 use Rattle.table_model.specs.Own.{Mine}
 use Rattle.table_model.specs.Operations as plans
-use Rattle.shared_ops.specs.declared.sock.Sock.TheVariants as socks
-use Rattle.shared_ops.specs.Socks.{mine_of}
-use Rattle.shared_ops.specs.Stands.{IsAway, MayDraw, buckets_of, chained, turned}
-use Rattle.shared_ops.proofs.BindStands.{bind_stands}
-use Rattle.shared_ops.proofs.Knows.{new_away}
+use Rattle.sock_ops.specs.declared.sock.Sock.TheVariants as socks
+use Rattle.sock_ops.specs.Socks.{mine_of}
+use Rattle.sock_ops.specs.Stands.{IsAway, MayDraw, buckets_of, chained, turned}
+use Rattle.sock_ops.proofs.BindStands.{bind_stands}
+use Rattle.sock_ops.proofs.Knows.{new_away}
 use Rattle.table_tests.proofs.Others.{AllMiss, close_never, connect_never, missed_new, still_missed}
 use Rattle.table_tests.proofs.operations.call_again.Goals as goal
 

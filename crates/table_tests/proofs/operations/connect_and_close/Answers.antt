@@ -1,5 +1,5 @@
 use Rattle.std.proofs.Common.{◌+◌, arith}
-use Rattle.shared_ops.specs.Stands.{MayDraw}
+use Rattle.sock_ops.specs.Stands.{MayDraw}
 use Rattle.table_tests.proofs.operations.connect_and_close.Goals as goal
 
 pub close-requires-clause-draws : goal.close-requires-clause-draws

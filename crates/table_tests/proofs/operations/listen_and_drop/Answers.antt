@@ -1,5 +1,5 @@
 use Rattle.std.proofs.Common.{◌+◌, arith}
-use Rattle.shared_ops.specs.Stands.{MayDraw}
+use Rattle.sock_ops.specs.Stands.{MayDraw}
 use Rattle.table_tests.proofs.operations.listen_and_drop.Goals as goal
 
 pub drop_sock-requires-clause-draws : goal.drop_sock-requires-clause-draws

@@ -3,15 +3,15 @@ use Rattle.sock_card.specs.declared.owner.Owner.{Owner}
 use Rattle.bind_buckets.specs.Callers.{MayName}
 use Rattle.table_rule.specs.Calls.{HasShares}
 use Rattle.table_rule.specs.Passes.{known}
-use Rattle.chain_deeds.specs.declared.table.ChainPass.{ChainPass}
+use Rattle.sock_ops.specs.declared.chains.table.ChainPass.{ChainPass}
 use Rattle.flat_list.specs.declared.command.End.{End}
 use Rattle.table_model.specs.Own.{Mine}
 use Rattle.table_model.specs.Operations as plans
-use Rattle.shared_ops.specs.declared.sock.Sock.TheVariants as socks
-use Rattle.shared_ops.specs.Socks.{mine_of}
-use Rattle.shared_ops.specs.Stands.{IsAway, MayDraw, buckets_of, chained, turned}
-use Rattle.shared_ops.proofs.BindStands.{bind_stands}
-use Rattle.shared_ops.proofs.Knows.{new_away}
+use Rattle.sock_ops.specs.declared.sock.Sock.TheVariants as socks
+use Rattle.sock_ops.specs.Socks.{mine_of}
+use Rattle.sock_ops.specs.Stands.{IsAway, MayDraw, buckets_of, chained, turned}
+use Rattle.sock_ops.proofs.BindStands.{bind_stands}
+use Rattle.sock_ops.proofs.Knows.{new_away}
 use Rattle.table_tests.proofs.Others.{AllMiss, drop_never, listen_never, missed_new, still_missed, syn_never}
 use Rattle.table_tests.proofs.operations.outlive_listener.Goals as goal
 
@@ -47,7 +47,7 @@ connect-requires-clause-stands g c =
     let listened : AllMiss 3 (turned v).mine =
     still_missed 3 n (plans.listen l.shape l.seed (mine_of s) c.ports.result) _ (turned u) (turned v) (chained t u) (chained t v) c.in-Ok.ensures.carried (listen_never l.shape l.seed 3 (mine_of s) other c.ports.result) none in
     let called : AllMiss 3 (turned w).mine =
-    still_missed 3 n (plans.syn l.shape l.seed listening 2 from at) _ (turned v) (turned w) (chained t v) (chained t w) c.in-Ok-syn.ensures.carried (syn_never l.shape l.seed 3 listening 2 from at) listened in
+    still_missed 3 n (plans.syn l.shape l.seed listening 2 0 from at) _ (turned v) (turned w) (chained t v) (chained t w) c.in-Ok-syn.ensures.carried (syn_never l.shape l.seed 3 listening 2 0 from at) listened in
     let dropped : AllMiss 3 (turned x).mine =
     still_missed 3 n (plans.drop listening plans.gone) _ (turned w) (turned x) (chained t w) (chained t x) c.in-Ok-drop_sock.ensures.carried (drop_never l.shape l.seed 3 listening listener plans.gone) called in
     let may : MayName (turned x).caller 3 = λ some. absurd (some (c.drop_sock.ensures.caller ∙ c.syn.ensures.caller ∙ c.listen.ensures.caller ∙ c.requires.first)) in

@@ -1,5 +1,5 @@
 use Rattle.std.proofs.Common.{◌+◌, arith}
-use Rattle.shared_ops.specs.Stands.{MayDraw}
+use Rattle.sock_ops.specs.Stands.{MayDraw}
 use Rattle.table_tests.proofs.operations.reap_twice.Goals as goal
 
 pub reap_one-second-requires-clause-draws : goal.reap_one-second-requires-clause-draws

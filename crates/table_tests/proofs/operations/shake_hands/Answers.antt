@@ -1,8 +1,8 @@
 use Rattle.std.proofs.Common.{◌≡◌, ◌+◌, ◌==◌, ℕ, false, sym, ap, subst, arith}
 use Rattle.flat_list.specs.declared.command.End.{End}
 use Rattle.table_model.specs.Operations as plans
-use Rattle.shared_ops.specs.Socks.{mine_of}
-use Rattle.shared_ops.specs.Stands.{MayDraw, buckets_of, chained, turned}
+use Rattle.sock_ops.specs.Socks.{mine_of}
+use Rattle.sock_ops.specs.Stands.{MayDraw, buckets_of, chained, turned}
 use Rattle.table_tests.proofs.Others.{AllMiss, listen_never, missed_new, still_missed, syn_never}
 use Rattle.table_tests.proofs.operations.shake_hands.Goals as goal
 
@@ -36,7 +36,7 @@ ack-requires-clause-new g c =
     let listened : AllMiss 3 (turned v).mine =
     still_missed 3 n (plans.listen l.shape l.seed (mine_of s) c.ports.result) _ (turned u) (turned v) (chained t u) (chained t v) c.in-Ok.ensures.carried (listen_never l.shape l.seed 3 (mine_of s) other c.ports.result) none in
     missed_new 3 (turned w)
-    (still_missed 3 n (plans.syn l.shape l.seed listening 2 from at) _ (turned v) (turned w) (chained t v) (chained t w) c.in-Ok-syn.ensures.carried (syn_never l.shape l.seed 3 listening 2 from at) listened)
+    (still_missed 3 n (plans.syn l.shape l.seed listening 2 0 from at) _ (turned v) (turned w) (chained t v) (chained t w) c.in-Ok-syn.ensures.carried (syn_never l.shape l.seed 3 listening 2 0 from at) listened)
 
 pub close-requires-clause-draws : goal.close-requires-clause-draws
 close-requires-clause-draws g c =

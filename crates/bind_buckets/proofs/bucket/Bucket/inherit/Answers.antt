@@ -9,14 +9,14 @@ pub name_result-requires : goal.name_result-requires
 unfolding owner_step
 name_result-requires c =
     let h = c.args.self.now.held in
-    rw c.carry_out.ensures.answer (name_answers h c.args.parent (λ listener. with_owner h (child c.args.name c.args.local c.args.remote c.args.rport listener)) (λ a. refl) (find (has_name c.args.parent) h.owners))
+    rw c.carry_out.ensures.answer (name_answers h c.args.parent (λ listener. with_owner h (child c.args.name c.args.mark c.args.local c.args.remote c.args.rport listener)) (λ a. refl) (find (has_name c.args.parent) h.owners))
 
 pub returns-clause-inherited : goal.returns-clause-inherited
 unfolding owner_step
 returns-clause-inherited c =
     let h = c.args.self.now.held in
     rw c.carry_out.ensures.after
-    (spoken_ok h c.args.parent (λ listener. with_owner h (child c.args.name c.args.local c.args.remote c.args.rport listener)) (λ a. refl) (λ (after : After). IfSome (find (has_name c.args.parent) h.owners) (λ listener. after.held ≡ with_last h (child c.args.name c.args.local c.args.remote c.args.rport listener)))
+    (spoken_ok h c.args.parent (λ listener. with_owner h (child c.args.name c.args.mark c.args.local c.args.remote c.args.rport listener)) (λ a. refl) (λ (after : After). IfSome (find (has_name c.args.parent) h.owners) (λ listener. after.held ≡ with_last h (child c.args.name c.args.mark c.args.local c.args.remote c.args.rport listener)))
     (find (has_name c.args.parent) h.owners) c.name_result.result (λ a q. rw q refl) (c.name_result.ensures ∙ c.carry_out.ensures.answer))
 
 pub returns-clause-kept : goal.returns-clause-kept
@@ -24,13 +24,13 @@ unfolding owner_step
 returns-clause-kept c =
     let h = c.args.self.now.held in
     rw c.carry_out.ensures.after
-    (spoken_err h c.args.parent (λ listener. with_owner h (child c.args.name c.args.local c.args.remote c.args.rport listener)) (λ a. refl) (find (has_name c.args.parent) h.owners) c.name_result.result (c.name_result.ensures ∙ c.carry_out.ensures.answer))
+    (spoken_err h c.args.parent (λ listener. with_owner h (child c.args.name c.args.mark c.args.local c.args.remote c.args.rport listener)) (λ a. refl) (find (has_name c.args.parent) h.owners) c.name_result.result (c.name_result.ensures ∙ c.carry_out.ensures.answer))
 
 pub returns-clause-strange : goal.returns-clause-strange
 unfolding owner_step
 returns-clause-strange c =
     let h = c.args.self.now.held in
-    strange_by h c.args.parent (λ listener. with_owner h (child c.args.name c.args.local c.args.remote c.args.rport listener)) (λ a. refl) (find (has_name c.args.parent) h.owners) c.name_result.result refl (c.name_result.ensures ∙ c.carry_out.ensures.answer)
+    strange_by h c.args.parent (λ listener. with_owner h (child c.args.name c.args.mark c.args.local c.args.remote c.args.rport listener)) (λ a. refl) (find (has_name c.args.parent) h.owners) c.name_result.result refl (c.name_result.ensures ∙ c.carry_out.ensures.answer)
 
 pub returns-clause-entries : goal.returns-clause-entries
 unfolding owner_step
@@ -38,7 +38,7 @@ returns-clause-entries c =
     let b = c.args.self.now in
     let h = b.held in
     rw c.carry_out.ensures.after
-    (spoken_used h c.args.parent (λ listener. with_owner h (child c.args.name c.args.local c.args.remote c.args.rport listener)) b.entries (find (has_name c.args.parent) h.owners) (λ a. omega (arith, longer h.owners (child c.args.name c.args.local c.args.remote c.args.rport a))) c.requires.entry)
+    (spoken_used h c.args.parent (λ listener. with_owner h (child c.args.name c.args.mark c.args.local c.args.remote c.args.rport listener)) b.entries (find (has_name c.args.parent) h.owners) (λ a. omega (arith, longer h.owners (child c.args.name c.args.mark c.args.local c.args.remote c.args.rport a))) c.requires.entry)
 
 pub returns-clause-newcomers : goal.returns-clause-newcomers
 unfolding owner_step
@@ -46,4 +46,4 @@ returns-clause-newcomers c =
     let b = c.args.self.now in
     let h = b.held in
     rw c.carry_out.ensures.after
-    (spoken_came h c.args.parent (λ listener. with_owner h (child c.args.name c.args.local c.args.remote c.args.rport listener)) b.newcomers (find (has_name c.args.parent) h.owners) c.name_result.result (λ a. refl) (λ a. omega (arith, longer h.owners (child c.args.name c.args.local c.args.remote c.args.rport a))) c.requires.newcomer (c.name_result.ensures ∙ c.carry_out.ensures.answer))
+    (spoken_came h c.args.parent (λ listener. with_owner h (child c.args.name c.args.mark c.args.local c.args.remote c.args.rport listener)) b.newcomers (find (has_name c.args.parent) h.owners) c.name_result.result (λ a. refl) (λ a. omega (arith, longer h.owners (child c.args.name c.args.mark c.args.local c.args.remote c.args.rport a))) c.requires.newcomer (c.name_result.ensures ∙ c.carry_out.ensures.answer))

@@ -7,7 +7,7 @@ use Rattle.section_machine.proofs.labels.Labels.place_named.Goals as goal
 
 pub returns-in_err-place-clause-socket : goal.returns-in_err-place-clause-socket
 returns-in_err-place-clause-socket c =
-    let l : Labelled = record { number = c.self.inside.number; labels = c.self.inside.given; places = mines c.self.inside.sockets.cells; kept = c.self.inside.sockets.kept } in
+    let l : Labelled = record { number = c.self.inside.number; mark = c.self.inside.mark; labels = c.self.inside.given; places = mines c.self.inside.sockets.cells; kept = c.self.inside.sockets.kept } in
     ap (option_and_then (at_place c.args.self.now.places)) c.from_residual.ensures
     ∙ sym (subst (λ (x : Labelled). find (is_named c.args.name) (those x.places) ≡ None) c.self.view_is (none_before l c.args.name (λ h. c.in_err-place.ensures (omega (arith, c.from.ensures, h))) c.self.invariant.names))
 

@@ -4,7 +4,7 @@ use Rattle.std.proofs.lemmas.List.{map-set}
 use Rattle.std.proofs.Math.ListN.{length-set}
 use Rattle.flat_list.specs.Sections.{name_at}
 use Rattle.section_machine.specs.Places.{Labelled, HaveNames, mines, with_place}
-use Rattle.shared_ops.specs.Socks.{mine_of}
+use Rattle.sock_ops.specs.Socks.{mine_of}
 use Rattle.section_machine.proofs.Places.{names_set}
 use Rattle.section_machine.proofs.labels.Labels.put.Goals as goal
 
@@ -25,5 +25,5 @@ invariant_of-self c = record {
 pub returns-clause-put : goal.returns-clause-put
 returns-clause-put c =
     let places = ap mines c.put.ensures.put ∙ map-set (option_map mine_of) c.self.inside.sockets.cells c.args.place (Some c.args.socket) in
-    (λ i. record { number = c.self.inside.number; labels = c.self.inside.given; places = places i; kept = c.put.ensures.kept i })
+    (λ i. record { number = c.self.inside.number; mark = c.self.inside.mark; labels = c.self.inside.given; places = places i; kept = c.put.ensures.kept i })
     ∙ ap (λ (l : Labelled). with_place l c.args.place (Some (mine_of c.args.socket))) c.self.view_is

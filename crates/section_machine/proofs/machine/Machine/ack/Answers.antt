@@ -7,11 +7,11 @@ use Rattle.table_model.specs.Own.{is_named, next_name, open_named, with_label}
 use Rattle.table_model.specs.Operations as plans
 use Rattle.table_model.specs.Operations.{Did, done, refused}
 use Rattle.table_model.specs.Commands.{ack_reply, connect_error}
-use Rattle.shared_ops.specs.Accepting.{accepted}
-use Rattle.shared_ops.specs.Handshaking.{mine_found}
-use Rattle.shared_ops.specs.Socks.{mine_of}
-use Rattle.shared_ops.specs.Stands.{MayTell, buckets_of, turned, chained}
-use Rattle.shared_ops.specs.There.{IsNew}
+use Rattle.sock_ops.specs.Accepting.{accepted}
+use Rattle.sock_ops.specs.Handshaking.{mine_found}
+use Rattle.sock_ops.specs.Socks.{mine_of}
+use Rattle.sock_ops.specs.Stands.{MayTell, buckets_of, turned, chained}
+use Rattle.sock_ops.specs.There.{IsNew}
 use Rattle.section_machine.specs.LeftOff.{IsLeftOff}
 use Rattle.section_machine.specs.Places.{Labelled, own_of, those, with_place}
 use Rattle.section_machine.specs.Sections.{Kept, kept}
@@ -41,13 +41,13 @@ pub ack-requires-clause-may : goal.ack-requires-clause-may
 ack-requires-clause-may g c =
     let gives : Giving c.args.tables.now c.args.self.now c.self.inside.header c.self.inside.labels c.give.new.self c.self.inside.moment c.self.inside.offsets c.self.inside.waits c.args.label c.args.worker.now =
     record { before = record { view = c.self.view_is; names = c.len-child_place.ensures.names }; section = c.requires.section; room = c.requires.room; count = c.len-child_place.ensures.places; given = c.in_ok-give.ensures.given } in
-    subst (MayTell c.args.worker.now) (sym c.next_name-name.ensures) (new_tells gives)
+    subst (MayTell c.args.worker.now) (sym c.newcomer-newcomer.ensures.name) (new_tells gives)
 
 pub ack-requires-clause-new : goal.ack-requires-clause-new
 ack-requires-clause-new g c =
     let gives : Giving c.args.tables.now c.args.self.now c.self.inside.header c.self.inside.labels c.give.new.self c.self.inside.moment c.self.inside.offsets c.self.inside.waits c.args.label c.args.worker.now =
     record { before = record { view = c.self.view_is; names = c.len-child_place.ensures.names }; section = c.requires.section; room = c.requires.room; count = c.len-child_place.ensures.places; given = c.in_ok-give.ensures.given } in
-    subst (λ (n : ℕ). IsNew n (turned c.args.worker.now)) (sym c.next_name-name.ensures) (is_new gives)
+    subst (λ (n : ℕ). IsNew n (turned c.args.worker.now)) (sym c.newcomer-newcomer.ensures.name) (is_new gives)
 
 pub ack-requires-clause-request : goal.ack-requires-clause-request
 ack-requires-clause-request g c =
@@ -66,8 +66,8 @@ ack-requires-clause-stands g c =
 pub put-requires-clause-name : goal.put-requires-clause-name
 put-requires-clause-name g c =
     let layout = c.args.tables.now.chains.layout in
-    heir_named layout.shape layout.seed (mine_of c.in-Some.socket) (mine_of c.in-Ok.child) (mine_found c.named-listener.result) c.next_name-name.result _ _ _ _ _ c.in-Ok.ensures.carried
-    ∙ (c.next_name-name.ensures
+    heir_named layout.shape layout.seed (mine_of c.in-Some.socket) (mine_of c.in-Ok.child) (mine_found c.named-listener.result) c.newcomer-newcomer.result.name c.newcomer-newcomer.result.mark _ _ _ _ _ c.in-Ok.ensures.carried
+    ∙ (c.newcomer-newcomer.ensures.name
     ∙ (ap (name_at c.self.inside.labels.number) (sym c.len-child_place.ensures.labels)
     ∙ ap (λ (l : Labelled). name_at l.number c.len-child_place.result) (sym (c.in-Some.ensures.cases.after ∙ ap (λ (l : Labelled). with_place l c.in-Some.place None) c.in_ok-give.ensures.given))))
 
@@ -80,7 +80,7 @@ returns-in-Ok-clause-carried g c =
     acks gives c.take.new.self c.args.request.now c.in-Some.place c.in-Some.socket c.in-Some.ensures.cases
     u c.ack.ensures.ready c.ack.ensures.caller c.in-Ok.child c.put.new.self
     (its_plan gives c.take.new.self c.args.request.now c.in-Some.place c.in-Some.socket c.in-Some.ensures.cases
-    u c.next_name-name.result (mine_found c.named-listener.result) (done child) c.next_name-name.ensures
+    u c.newcomer-newcomer.result.name c.newcomer-newcomer.result.mark (mine_found c.named-listener.result) (done child) c.newcomer-newcomer.ensures.name c.newcomer-newcomer.ensures.mark
     (c.named-listener.ensures.socket ∙ ap (λ (a : Owner). find (is_named a.origin) (those c.take.new.self.places)) c.owner.ensures.owner)
     c.in-Ok.ensures.carried)
     c.put.ensures.state c.in-Ok.ensures.stands (c.put.ensures.put ∙ ap (λ (i : ℕ). with_place c.take.new.self i (Some child)) c.len-child_place.ensures.labels)
@@ -95,7 +95,7 @@ returns-in_ok-refusal-in-Err-clause-carried g c =
     acks_refused gives c.take.new.self c.args.request.now c.in-Some.place c.in-Some.socket c.in-Some.ensures.cases
     u c.ack.ensures.ready c.ack.ensures.caller c.in-Err.end c.connect_error.result c.put-in-Err.new.self
     (its_plan gives c.take.new.self c.args.request.now c.in-Some.place c.in-Some.socket c.in-Some.ensures.cases
-    u c.next_name-name.result (mine_found c.named-listener.result) (refused c.in-Err.end) c.next_name-name.ensures
+    u c.newcomer-newcomer.result.name c.newcomer-newcomer.result.mark (mine_found c.named-listener.result) (refused c.in-Err.end) c.newcomer-newcomer.ensures.name c.newcomer-newcomer.ensures.mark
     (c.named-listener.ensures.socket ∙ ap (λ (a : Owner). find (is_named a.origin) (those c.take.new.self.places)) c.owner.ensures.owner)
     (refused_went accepted (buckets_of t) _ (turned w) (turned u) (chained t w) (chained t u) c.in-Err.end c.in_ok-refusal-in-Err.ensures.kept.told c.in-Err.ensures.carried))
     (typed_stands t c.in-Some.socket (turned u) (chained t u) c.in-Some.ensures.cases.state c.in-Err.ensures.kept)
@@ -132,7 +132,7 @@ returns-in_err-refusal-in-Err-clause-left g c =
     let m = mine_of c.in-Some.socket in
     let own = own_of l c.self.inside.moment c.self.inside.offsets c.self.inside.waits in
     let more = with_label own c.args.label in
-    let name = c.next_name-name.result in
+    let name = c.newcomer-newcomer.result.name in
     let found = mine_found c.named-listener.result in
     let gives : Giving c.args.tables.now c.args.self.now c.self.inside.header c.self.inside.labels c.give.new.self c.self.inside.moment c.self.inside.offsets c.self.inside.waits c.args.label c.args.worker.now =
     record { before = record { view = c.self.view_is; names = c.len-child_place.ensures.names }; section = c.requires.section; room = c.requires.room; count = c.len-child_place.ensures.places; given = c.in_ok-give.ensures.given } in
@@ -141,10 +141,10 @@ returns-in_err-refusal-in-Err-clause-left g c =
     (sym (put_again gives c.take.new.self c.args.request.now c.in-Some.place c.in-Some.socket c.in-Some.ensures.cases c.put-in-Err.new.self
     (c.put-in-Err.ensures.put ∙ ap (λ x. with_place c.take.new.self c.in-Some.place (Some (mine_of x))) c.in-Err.ensures.back)))
     (label_left (ack_gives c.args.request.now c.args.label) t c.args.self.now h l c.give.new.self c.self.inside.moment c.self.inside.offsets c.self.inside.waits w gives.before c.args.request.now m
-    (plans.ack h.shape h.seed m (open_named more m.owner.origin) (next_name own)) (λ did. ends (ack_reply more m.owner.name did)) u c.in_ok-give.ensures.given
+    (plans.ack h.shape h.seed m (open_named more m.owner.origin) (next_name own) own.mark) (λ did. ends (ack_reply more m.owner.name did)) u c.in_ok-give.ensures.given
     (sym (named_again l c.give.new.self c.args.label c.args.request.now gives.count gives.given) ∙ c.in-Some.ensures.cases.named)
     (λ is. ack_plan h own m c.args.request.now c.args.label is)
-    (its_off gives c.take.new.self c.args.request.now c.in-Some.place c.in-Some.socket c.in-Some.ensures.cases u c.next_name-name.result (mine_found c.named-listener.result) c.in-Err.end _ c.next_name-name.ensures
+    (its_off gives c.take.new.self c.args.request.now c.in-Some.place c.in-Some.socket c.in-Some.ensures.cases u c.newcomer-newcomer.result.name c.newcomer-newcomer.result.mark (mine_found c.named-listener.result) c.in-Err.end _ c.newcomer-newcomer.ensures.name c.newcomer-newcomer.ensures.mark
     (c.named-listener.ensures.socket ∙ ap (λ (a : Owner). find (is_named a.origin) (those c.take.new.self.places)) c.owner.ensures.owner)
     c.in_err-refusal-in-Err.ensures.left c.in-Err.ensures.carried)))
 
@@ -162,7 +162,7 @@ returns-in_err-refusal-in-Err-clause-section g c =
     record { before = record { view = c.self.view_is; names = c.len-child_place.ensures.names }; section = c.requires.section; room = c.requires.room; count = c.len-child_place.ensures.places; given = c.in_ok-give.ensures.given } in
     on_err c.from_residual-in_err-refusal-in-Err.result
     (acks_left gives c.take.new.self c.args.request.now c.in-Some.place c.in-Some.socket c.in-Some.ensures.cases u c.ack.ensures.ready c.ack.ensures.caller c.put-in-Err.new.self
-    (its_off gives c.take.new.self c.args.request.now c.in-Some.place c.in-Some.socket c.in-Some.ensures.cases u c.next_name-name.result (mine_found c.named-listener.result) c.in-Err.end _ c.next_name-name.ensures
+    (its_off gives c.take.new.self c.args.request.now c.in-Some.place c.in-Some.socket c.in-Some.ensures.cases u c.newcomer-newcomer.result.name c.newcomer-newcomer.result.mark (mine_found c.named-listener.result) c.in-Err.end _ c.newcomer-newcomer.ensures.name c.newcomer-newcomer.ensures.mark
     (c.named-listener.ensures.socket ∙ ap (λ (a : Owner). find (is_named a.origin) (those c.take.new.self.places)) c.owner.ensures.owner)
     c.in_err-refusal-in-Err.ensures.left c.in-Err.ensures.carried)
     (typed_stands t c.in-Some.socket (turned u) (chained t u) c.in-Some.ensures.cases.state c.in-Err.ensures.kept)

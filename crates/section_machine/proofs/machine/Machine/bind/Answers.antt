@@ -8,10 +8,10 @@ use Rattle.table_model.specs.Own.{with_socket, ports_of}
 use Rattle.table_model.specs.Operations as plan
 use Rattle.table_model.specs.Operations.{Did, done, refused}
 use Rattle.table_model.specs.Commands.{answers, after_search, bind_command, bind_reply, bind_error, searches_port}
-use Rattle.shared_ops.specs.Goes.{Went}
-use Rattle.shared_ops.specs.Socks.{mine_of, first_mine}
-use Rattle.shared_ops.specs.Stands.{buckets_of, turned, chained}
-use Rattle.shared_ops.proofs.BindStands.{bind_stands}
+use Rattle.sock_ops.specs.Goes.{Went}
+use Rattle.sock_ops.specs.Socks.{mine_of, first_mine}
+use Rattle.sock_ops.specs.Stands.{buckets_of, turned, chained}
+use Rattle.sock_ops.proofs.BindStands.{bind_stands}
 use Rattle.section_machine.specs.Places.{Labelled, own_of, with_place}
 use Rattle.section_machine.specs.Sections.{Kept}
 use Rattle.section_machine.specs.Searches as searches

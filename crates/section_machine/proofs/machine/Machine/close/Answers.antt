@@ -3,9 +3,9 @@ use Rattle.flat_list.specs.declared.command.Command.TheVariants as commands
 use Rattle.table_model.specs.Own.{Mine}
 use Rattle.table_model.specs.Operations as plan
 use Rattle.table_model.specs.Asking.{ends}
-use Rattle.shared_ops.specs.Stands.{turned, chained}
+use Rattle.sock_ops.specs.Stands.{turned, chained}
 use Rattle.table_model.specs.Commands.{close_command, close_reply}
-use Rattle.shared_ops.specs.Socks.{mine_of}
+use Rattle.sock_ops.specs.Socks.{mine_of}
 use Rattle.section_machine.specs.LeftOff.{IsLeftOff}
 use Rattle.section_machine.specs.Places.{Labelled, own_of, with_place}
 use Rattle.section_machine.specs.Sections.{Kept, kept}

@@ -2,12 +2,12 @@ use Rattle.std.proofs.Common.{false, length, arith, Some, inr, refl, sym, ap, â—
 use Rattle.flat_list.specs.declared.command.Command.TheVariants as commands
 use Rattle.table_model.specs.Operations as plan
 use Rattle.table_model.specs.Asking.{ends}
-use Rattle.shared_ops.specs.Stands.{buckets_of, turned, chained}
+use Rattle.sock_ops.specs.Stands.{buckets_of, turned, chained}
 use Rattle.flat_list.specs.declared.command.Reply.TheVariants as replies
 use Rattle.table_model.specs.Own.{without}
-use Rattle.shared_ops.specs.Closes.{is_gone}
+use Rattle.sock_ops.specs.Closes.{is_gone}
 use Rattle.table_model.specs.Commands.{drop_command, answers}
-use Rattle.shared_ops.specs.Socks.{mine_of}
+use Rattle.sock_ops.specs.Socks.{mine_of}
 use Rattle.section_machine.specs.Places.{Labelled, own_of, with_place}
 use Rattle.section_machine.specs.Sections.{Kept, kept}
 use Rattle.section_machine.proofs.Closes.{closed_off, unclosed_left}

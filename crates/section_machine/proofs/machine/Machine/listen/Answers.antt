@@ -8,9 +8,9 @@ use Rattle.table_model.specs.Own.{with_socket, ports_of}
 use Rattle.table_model.specs.Operations as plan
 use Rattle.table_model.specs.Operations.{Did, done, refused}
 use Rattle.table_model.specs.Commands.{answers, after_search, listen_command, bind_reply, bind_error, is_unbound}
-use Rattle.shared_ops.specs.Goes.{Went}
-use Rattle.shared_ops.specs.Socks.{mine_of, first_mine}
-use Rattle.shared_ops.specs.Stands.{buckets_of, turned, chained}
+use Rattle.sock_ops.specs.Goes.{Went}
+use Rattle.sock_ops.specs.Socks.{mine_of, first_mine}
+use Rattle.sock_ops.specs.Stands.{buckets_of, turned, chained}
 use Rattle.section_machine.specs.Places.{Labelled, with_place}
 use Rattle.section_machine.specs.Searches as searches
 use Rattle.section_machine.proofs.Asked.{of_listen, still_named}

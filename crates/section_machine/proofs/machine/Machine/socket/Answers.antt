@@ -14,7 +14,7 @@ returns-clause-carried c =
     c.self.view_is c.len-place.ensures.places c.in_ok-give.ensures.given
     (c.put.ensures.put
     ∙ (ap (λ (i : ℕ). with_place c.give.new.self i (Some c.new.result)) c.len-place.ensures.labels
-    ∙ ap (λ (m : Mine). with_place c.give.new.self (length c.self.inside.labels.labels) (Some m)) (c.new.ensures ∙ ap (λ (n : ℕ). plain (new_owner n c.args.options)) c.next_name-name.ensures)))
+    ∙ ap (λ (m : Mine). with_place c.give.new.self (length c.self.inside.labels.labels) (Some m)) (c.new.ensures ∙ (λ i. plain (new_owner (c.newcomer-newcomer.ensures.name i) (c.newcomer-newcomer.ensures.mark i) c.args.options)))))
     c.requires.room c.requires.section
 
 pub returns-clause-gives : goal.returns-clause-gives

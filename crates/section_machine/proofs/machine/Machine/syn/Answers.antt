@@ -7,9 +7,9 @@ use Rattle.table_model.specs.Own.{next_name, with_label}
 use Rattle.table_model.specs.Operations as plans
 use Rattle.table_model.specs.Operations.{done, refused}
 use Rattle.table_model.specs.Commands.{accept_reply, connect_error}
-use Rattle.shared_ops.specs.Accepting.{accepted}
-use Rattle.shared_ops.specs.Socks.{mine_of}
-use Rattle.shared_ops.specs.Stands.{buckets_of, turned, chained}
+use Rattle.sock_ops.specs.Accepting.{accepted}
+use Rattle.sock_ops.specs.Socks.{mine_of}
+use Rattle.sock_ops.specs.Stands.{buckets_of, turned, chained}
 use Rattle.section_machine.specs.Places.{Labelled, own_of, with_place}
 use Rattle.section_machine.specs.Sections.{Kept, kept}
 use Rattle.section_machine.proofs.Children.{syn_asker, syn_asks, child_named, its_off, its_plan, parent_stands, accepts_left, accepts_refused, accepts}
@@ -38,8 +38,8 @@ syn-requires-clause-stands g c =
 pub put-requires-clause-name : goal.put-requires-clause-name
 put-requires-clause-name g c =
     let layout = c.args.tables.now.chains.layout in
-    child_named (syn_asks c.args.from c.args.at) layout.shape layout.seed (mine_of c.in-Some.socket.now) (mine_of c.in-Ok.request) c.next_name-name.result _ _ _ _ _ c.in-Ok.ensures.carried
-    ∙ (c.next_name-name.ensures
+    child_named (syn_asks c.args.from c.args.at) layout.shape layout.seed (mine_of c.in-Some.socket.now) (mine_of c.in-Ok.request) c.newcomer-newcomer.result.name c.newcomer-newcomer.result.mark _ _ _ _ _ c.in-Ok.ensures.carried
+    ∙ (c.newcomer-newcomer.ensures.name
     ∙ (ap (name_at c.self.inside.labels.number) (sym c.len-place.ensures.labels) ∙ ap (λ (l : Labelled). name_at l.number c.len-place.result) (sym c.in_ok-give.ensures.given)))
 
 pub returns-in-Ok-clause-carried : goal.returns-in-Ok-clause-carried
@@ -53,8 +53,8 @@ returns-in-Ok-clause-carried g c =
     accepts gives c.args.listener.now c.in-Some.socket.now
     (sym (found_named c.self.inside.labels c.give.new.self c.args.label c.place_of-listener.result c.args.listener.now c.in_ok-give.ensures.given c.place_of-listener.ensures.place) ∙ sym c.in-Some.ensures.socket) c.in-Some.ensures.state
     (syn_asks c.args.from c.args.at) u c.syn.ensures.ready c.syn.ensures.caller c.in-Ok.request c.put.new.self
-    (its_plan (syn_asks c.args.from c.args.at) c.args.tables.now c.args.self.now c.self.inside.header (own_of c.self.inside.labels c.self.inside.moment c.self.inside.offsets c.self.inside.waits) w c.self.view_is c.requires.section u m c.next_name-name.result (done child)
-    c.next_name-name.ensures c.in-Ok.ensures.carried)
+    (its_plan (syn_asks c.args.from c.args.at) c.args.tables.now c.args.self.now c.self.inside.header (own_of c.self.inside.labels c.self.inside.moment c.self.inside.offsets c.self.inside.waits) w c.self.view_is c.requires.section u m c.newcomer-newcomer.result.name c.newcomer-newcomer.result.mark (done child)
+    c.newcomer-newcomer.ensures.name c.newcomer-newcomer.ensures.mark c.in-Ok.ensures.carried)
     c.put.ensures.state c.in-Ok.ensures.stands (c.put.ensures.put ∙ ap (λ (i : ℕ). with_place c.give.new.self i (Some child)) c.len-place.ensures.labels)
 
 pub returns-in_ok-refusal-in-Err-clause-carried : goal.returns-in_ok-refusal-in-Err-clause-carried
@@ -68,8 +68,8 @@ returns-in_ok-refusal-in-Err-clause-carried g c =
     accepts_refused gives c.args.listener.now c.in-Some.socket.now
     (sym (found_named c.self.inside.labels c.give.new.self c.args.label c.place_of-listener.result c.args.listener.now c.in_ok-give.ensures.given c.place_of-listener.ensures.place) ∙ sym c.in-Some.ensures.socket) c.in-Some.ensures.state
     (syn_asks c.args.from c.args.at) u c.syn.ensures.ready c.syn.ensures.caller c.in-Err.end c.connect_error.result
-    (its_plan (syn_asks c.args.from c.args.at) t c.args.self.now c.self.inside.header (own_of c.self.inside.labels c.self.inside.moment c.self.inside.offsets c.self.inside.waits) w c.self.view_is c.requires.section u m c.next_name-name.result (refused c.in-Err.end)
-    c.next_name-name.ensures
+    (its_plan (syn_asks c.args.from c.args.at) t c.args.self.now c.self.inside.header (own_of c.self.inside.labels c.self.inside.moment c.self.inside.offsets c.self.inside.waits) w c.self.view_is c.requires.section u m c.newcomer-newcomer.result.name c.newcomer-newcomer.result.mark (refused c.in-Err.end)
+    c.newcomer-newcomer.ensures.name c.newcomer-newcomer.ensures.mark
     (refused_went accepted (buckets_of t) _ (turned w) (turned u) (chained t w) (chained t u) c.in-Err.end c.in_ok-refusal-in-Err.ensures.kept.told c.in-Err.ensures.carried))
     (c.connect_error.ensures ∙ ap connect_error c.in_ok-refusal-in-Err.ensures.kept.same)
 
@@ -105,10 +105,10 @@ returns-in_err-refusal-in-Err-clause-left g c =
     record { before = record { view = c.self.view_is; names = c.len-place.ensures.names }; section = c.requires.section; room = c.requires.room; count = c.len-place.ensures.places; given = c.in_ok-give.ensures.given } in
     on_err c.from_residual-in_err-refusal-in-Err.result
     (label_left (syn_gives c.args.listener.now c.args.label c.args.from c.args.at) t c.args.self.now h l c.give.new.self c.self.inside.moment c.self.inside.offsets c.self.inside.waits w gives.before c.args.listener.now m
-    (plans.syn h.shape h.seed m (next_name own) c.args.from c.args.at) (λ did. ends (accept_reply (with_label own c.args.label) did)) u c.in_ok-give.ensures.given
+    (plans.syn h.shape h.seed m (next_name own) own.mark c.args.from c.args.at) (λ did. ends (accept_reply (with_label own c.args.label) did)) u c.in_ok-give.ensures.given
     (sym (found_named c.self.inside.labels c.give.new.self c.args.label c.place_of-listener.result c.args.listener.now c.in_ok-give.ensures.given c.place_of-listener.ensures.place) ∙ sym c.in-Some.ensures.socket)
     (λ is. syn_plan h own m c.args.listener.now c.args.label is c.args.from c.args.at)
-    (its_off (syn_asks c.args.from c.args.at) t c.args.self.now h own w c.self.view_is c.requires.section u m c.next_name-name.result c.in-Err.end _ c.next_name-name.ensures c.in_err-refusal-in-Err.ensures.left c.in-Err.ensures.carried))
+    (its_off (syn_asks c.args.from c.args.at) t c.args.self.now h own w c.self.view_is c.requires.section u m c.newcomer-newcomer.result.name c.newcomer-newcomer.result.mark c.in-Err.end _ c.newcomer-newcomer.ensures.name c.newcomer-newcomer.ensures.mark c.in_err-refusal-in-Err.ensures.left c.in-Err.ensures.carried))
 
 pub returns-in_err-give-clause-left : goal.returns-in_err-give-clause-left
 returns-in_err-give-clause-left g c =
@@ -130,7 +130,7 @@ returns-in_err-refusal-in-Err-clause-section g c =
     (accepts_left gives c.args.listener.now c.in-Some.socket.now
     (sym (found_named c.self.inside.labels c.give.new.self c.args.label c.place_of-listener.result c.args.listener.now c.in_ok-give.ensures.given c.place_of-listener.ensures.place) ∙ sym c.in-Some.ensures.socket) c.in-Some.ensures.state
     (syn_asks c.args.from c.args.at) u c.syn.ensures.ready c.syn.ensures.caller
-    (its_off (syn_asks c.args.from c.args.at) t c.args.self.now h own w c.self.view_is c.requires.section u m c.next_name-name.result c.in-Err.end _ c.next_name-name.ensures c.in_err-refusal-in-Err.ensures.left c.in-Err.ensures.carried))
+    (its_off (syn_asks c.args.from c.args.at) t c.args.self.now h own w c.self.view_is c.requires.section u m c.newcomer-newcomer.result.name c.newcomer-newcomer.result.mark c.in-Err.end _ c.newcomer-newcomer.ensures.name c.newcomer-newcomer.ensures.mark c.in_err-refusal-in-Err.ensures.left c.in-Err.ensures.carried))
 
 pub returns-in_err-give-clause-section : goal.returns-in_err-give-clause-section
 returns-in_err-give-clause-section g c =

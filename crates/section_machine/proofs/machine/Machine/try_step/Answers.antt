@@ -2,7 +2,7 @@ use Rattle.std.proofs.Common.{sym, subst}
 use Rattle.std.specs.Prelude.{IfOk}
 use Rattle.section_machine.specs.Sections.{Did, Kept}
 use Rattle.section_machine.specs.Standing.{IsSection}
-use Rattle.shared_ops.specs.Stands.{turned, chained}
+use Rattle.sock_ops.specs.Stands.{turned, chained}
 use Rattle.section_machine.proofs.Steps.{did_so, section_so}
 use Rattle.section_machine.proofs.machine.Machine.try_step.Goals as goal
 

@@ -3,10 +3,10 @@ use Rattle.sock_card.specs.declared.owner.Owner.{Owner}
 use Rattle.table_model.specs.Own.{Mine}
 use Rattle.table_model.specs.Operations as plans
 use Rattle.port_search.proofs.TurnSearch.{gave_none}
-use Rattle.shared_ops.specs.Closes.{became}
-use Rattle.shared_ops.specs.Socks.{mine_of}
-use Rattle.shared_ops.specs.Stands.{buckets_of, turned, chained}
-use Rattle.shared_ops.proofs.Goes.{left_there, went_nowhere}
+use Rattle.sock_ops.specs.Closes.{became}
+use Rattle.sock_ops.specs.Socks.{mine_of}
+use Rattle.sock_ops.specs.Stands.{buckets_of, turned, chained}
+use Rattle.sock_ops.proofs.Goes.{left_there, went_nowhere}
 use Rattle.section_machine.specs.Carried.{waits_by}
 use Rattle.section_machine.specs.Waits.{AreBefore, AreInOrder}
 use Rattle.section_machine.proofs.Closes.{closed_off, unclosed_left, has_room, asks_full, since, stays_before, stays_in_order}

@@ -1,6 +1,6 @@
 use Rattle.std.proofs.Common.{◌+◌, ◌*◌, List, length, sym, subst}
 use Rattle.table_model.specs.Own.{Mine}
-use Rattle.shared_ops.specs.Stands.{MayDraw}
+use Rattle.sock_ops.specs.Stands.{MayDraw}
 use Rattle.section_machine.proofs.waits.Waits.reap.Goals as goal
 
 pub returns-clause-drawn : goal.returns-clause-drawn

@@ -1,7 +1,7 @@
 use Rattle.std.proofs.Common.{ℕ, ◌≡◌, ◌+◌, ◌-◌, ◌*◌, ◌<◌, ◌≤◌, ◌^◌, Bool, true, false, nat_lt, length, sym, ◌∙◌, subst, arith}
 use Rattle.section_machine.specs.Sections.{given_by}
-use Rattle.shared_ops.specs.declared.tables.Tables.{Tables}
-use Rattle.shared_ops.specs.Stands.{turned, chained}
+use Rattle.sock_ops.specs.declared.tables.Tables.{Tables}
+use Rattle.sock_ops.specs.Stands.{turned, chained}
 use Rattle.table_rule.specs.Passes.{drawn_by}
 use Rattle.shared_calls.specs.Callings.{Calling, HadEnded, clock_of, HasStamps, IsCalling, calling}
 use Rattle.shared_calls.specs.Numbers.{IsNext}

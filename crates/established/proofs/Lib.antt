@@ -1,0 +1,11 @@
+pub mod Noted
+pub mod Found
+pub mod Admitted
+pub mod Hashes
+pub mod Known
+pub mod Rows
+pub mod Alone
+pub mod Handed
+pub mod Standing
+pub mod Stays
+pub mod Finds

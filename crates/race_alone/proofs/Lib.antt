@@ -1,5 +1,0 @@
-pub mod Played
-pub mod Alone
-pub mod Told
-pub mod Turned
-pub mod Sole

@@ -1,5 +1,0 @@
-use Rattle.race_threads.proofs.ForRace.{scripts_are_for_race}
-use Rattle.race_threads.proofs.laws.for_race.Goals as goal
-
-pub returns : goal.returns
-returns c = scripts_are_for_race

@@ -1,8 +1,0 @@
-use Rattle.race_threads.proofs.Joining.{joins_none, joins_more}
-use Rattle.race_threads.proofs.laws.joins.Goals as goal
-
-pub returns-clause-none : goal.returns-clause-none
-returns-clause-none c = joins_none
-
-pub returns-clause-more : goal.returns-clause-more
-returns-clause-more c = joins_more

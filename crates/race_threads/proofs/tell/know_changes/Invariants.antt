@@ -1,6 +1,0 @@
-use Rattle.std.proofs.Common.{◌≡◌, map, take}
-use Rattle.race_threads.specs.Finished.{as_known}
-use Rattle.race_threads.proofs.tell.know_changes.Given as goal
-
-abbrev pub invariant-loop-change : goal.invariant-loop-change
-invariant-loop-change l = map as_known (take l.change-index l.changes) ≡ take l.change-index l.changes

@@ -1,4 +1,0 @@
-pub mod Cards
-pub mod Seeings
-pub mod Lives
-pub mod Dumped

@@ -1,5 +1,0 @@
-use Rattle.shared_ops.proofs.BindStands as proofs
-use Rattle.shared_ops.proofs.laws.bind_stands.Goals as goal
-
-pub returns : goal.returns
-returns c = proofs.bind_stands

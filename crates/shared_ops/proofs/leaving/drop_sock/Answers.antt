@@ -1,9 +1,0 @@
-use Rattle.std.proofs.Common.{IfErr, sym, subst}
-use Rattle.shared_ops.specs.Closes.{drop_answer}
-use Rattle.shared_ops.specs.Goes.{NotBusy}
-use Rattle.shared_ops.proofs.CloseGoes.{drop_patient}
-use Rattle.shared_ops.proofs.leaving.drop_sock.Goals as goal
-
-pub returns-clause-patient : goal.returns-clause-patient
-returns-clause-patient g c = λ endless.
-    subst (λ r. IfErr r (λ refusal. NotBusy refusal.1)) (sym c.drop_answer.ensures) (drop_patient c.args.socket c.leave-left.result (c.leave-left.ensures.patient endless))
