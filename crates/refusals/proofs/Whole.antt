@@ -16,7 +16,7 @@ use Rattle.line_forms.specs.Wants.{Fit, wants}
 use Rattle.sock_script.specs.declared.line.Line.TheVariants as lines
 use Rattle.sock_script.specs.Forms.{EndFits, ends_words, option_words, namespace_words, user_words, device_words, source_words, flag_words}
 use Rattle.sock_script.proofs.Words.{switch_of, options_of, flag-last, from_noport, from_reuseport, from_reuseaddr, from_device, from_user}
-use Rattle.refusals.specs.Reasons.{HasPorts, IsForm}
+use Rattle.refusals.specs.Ports.{IsForm}
 use Rattle.refusals.proofs.Options.{net_of, uid_of, dev_of, from_of, flag_of}
 
 -- what stands behind a verb fits
@@ -210,6 +210,13 @@ ack_of [] fit = absurd fit
 ack_of (a ∷ []) fit = absurd fit.1
 ack_of (request ∷ label ∷ []) fit = (lines.Command (commands.Ack request label), (refl, (fit.0, fit.1.0)))
 ack_of (a ∷ b ∷ c ∷ ws) fit = absurd fit.1.1
+
+-- The words behind the verb are ports of which more is asked than a range: two behind `range`, and any behind
+-- `reserved`.
+abbrev pub HasPorts : Verb → List (List ℕ) → Type 0
+HasPorts verbs.Range rest = Fit (wants (parts_of verbs.Range) rest) rest
+HasPorts verbs.Reserved rest = Unit {0}
+HasPorts _ rest = ⊥
 
 -- words that fit have a form, or the verb wants ports
 pub fits-form : (verb : Verb) (rest : List (List ℕ)) → Fits verb rest → HasPorts verb rest ⊎ IsForm (verb_text verb ∷ rest)

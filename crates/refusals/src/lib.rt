@@ -22,7 +22,7 @@ pub mod reason;
 pub mod text;
 
 pub use answer::{Answer, Refusal, explain};
-pub use capture::put_flaw;
+pub use capture::put_bad_capture;
 pub use place::Misplace;
 pub use ports::PortsFault;
 pub use reason::{Reason, reason_of};
