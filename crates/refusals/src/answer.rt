@@ -5,7 +5,7 @@ ghost use Rattle.sock_script.specs.Grammar as grammar;
 ghost use Rattle.sock_script.specs.Grammar.{IsFirstOutside, IsScript};
 ghost use Rattle.refusals.specs.Reasons.{IsAnswer, IsRefusedFor};
 
-use crate::lines::{lines_of, words_of};
+use crate::lines::{first_lines, lines_of, words_of};
 use crate::reason::{Reason, reason_of};
 use capture_reader::{HeadFlaw, head_flaw};
 use flat_list::Script;
@@ -44,7 +44,7 @@ fn refusal_of(alloc: Global, mode: Mode, text: &[u8], number: u64) -> Result<Ref
     let place = (number - 1) as usize;
     let line = lines[place];
     let words = words_of(alloc, line)?;
-    let reason = reason_of(alloc, mode, &lines[..place], &words)?;
+    let reason = reason_of(alloc, mode, first_lines(&lines, place), &words)?;
     Ok(Refusal {
         number,
         line: line.to_vec(alloc)?,
