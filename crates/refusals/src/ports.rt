@@ -27,7 +27,7 @@ pub enum PortsFault {
 
 /// The port that a word is.
 fn port_of(word: &[u8]) -> Option<u64>
-    ensures some { IfSome result (λ _. IsOf a_port word.now) }
+    ensures some { IfSome result (λ n. IsOf a_port word.now) }
     ensures none { IfNone result (¬ (IsOf a_port word.now)) }
 {
     get_num(word, 1, 65535)
